@@ -1,0 +1,9 @@
+pub mod CutLemmas
+pub mod JoinedLemmas
+pub mod ShownLemmas
+pub mod PushingLemmas
+pub mod TakingLemmas
+pub mod FeedingLemmas
+pub mod EndingLemmas
+pub mod GrowsLemmas
+pub mod Examples

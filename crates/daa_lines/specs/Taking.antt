@@ -1,0 +1,39 @@
+-- What is taken of a `Lines`.
+use Rattle.std.specs.Prelude.{◌≡◌, ◌<◌, ◌≤◌, ◌+◌, false, [], length, if◌then◌else◌, Option, None, Some}
+use Rattle.std.specs.Borrow.{Fml, MutBor}
+use Rattle.std.specs.Io.BufRead.{Rests}
+use Rattle.daa_lines.specs.LinesOf.{Bytes, long_length}
+use Rattle.daa_lines.specs.Cutting.{Cutting, is_standing}
+use Rattle.daa_lines.specs.declared.lines.Stage.{Stage}
+use Rattle.daa_lines.specs.declared.lines.Stage.TheVariants.{Open, Whole, Long, Skipping}
+use Rattle.daa_lines.specs.declared.lines.Line.{Line}
+use Rattle.daa_lines.specs.declared.lines.Line.TheVariants as line
+use Rattle.daa_lines.specs.contracts.lines.Lines.{the_row}
+
+-- after a whole line another begins, and after a long one its rest is skipped
+abbrev pub stage_after : Stage → Stage
+stage_after Whole = Open
+stage_after Long = Skipping
+stage_after stage = stage
+
+-- the line that stands is taken, if one does
+abbrev pub after_taking : Cutting → Cutting
+after_taking c = if is_standing c.stage
+    then record c { line = []; stage = stage_after c.stage; number = c.number + 1 } else c
+
+-- the line that is handed out is the one that stood
+abbrev pub IsHanded : Cutting → Line → Type 0
+IsHanded c (line.Whole bytes) = (c.stage ≡ Whole) × (bytes.now ≡ c.line) × (length c.line < long_length)
+IsHanded c line.Long = (c.stage ≡ Long) × (length c.line ≡ long_length)
+IsHanded c line.NotYet = is_standing c.stage ≡ false
+
+-- of a line that is not long its bytes are handed out, of a long one that it is long, and of none that there is none yet
+abbrev pub IsLineOf : Option Bytes → Line → Type 0
+IsLineOf (Some bytes) (line.Whole given) = (given.now ≡ bytes) × (length bytes < long_length)
+IsLineOf (Some bytes) line.Long = long_length ≤ length bytes
+IsLineOf None line.NotYet = Unit {0}
+IsLineOf _ _ = ⊥
+
+-- once the line is no longer borrowed, it is taken
+abbrev pub LeavesTaken : MutBor Cutting → Fml
+LeavesTaken lines = Rests the_row lines (λ new. new ≡ after_taking lines.now)

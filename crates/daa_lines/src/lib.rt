@@ -1,0 +1,11 @@
+//! Cuts a stream of bytes into lines, in whatever pieces it comes.
+//! The lines do not depend on how the bytes were cut into pieces.
+#![tactic(auto)]
+
+pub mod laws;
+pub mod lines;
+#[cfg(test)]
+mod tests;
+
+pub use laws::{lines_only_grow, pieces_do_not_matter, stretches_are_the_bytes};
+pub use lines::{Line, Lines, Stage};

@@ -1,0 +1,219 @@
+//! The lines of a stream, one at a time: bytes are fed until a line stands, and the line is taken.
+//! A line ends at a line feed or with the input. One of 256 bytes or more is long: it stands as soon as 256 bytes of it
+//! are there, and the rest of it is skipped.
+
+ghost use Rattle.std.specs.Prelude.{◌≡◌, ◌<◌, ◌≤◌, ◌+◌, ◌^◌, ◌↔◌, ◌⊎◌, ◌++◌, [], ◌∷◌, List, ℕ, length, take, false, true, slice_get};
+ghost use Rattle.daa_lines.specs.LinesOf.{lines_of};
+ghost use Rattle.daa_lines.specs.Cutting.{is_standing, IsSized};
+ghost use Rattle.daa_lines.specs.Stands.{Stands, standing};
+ghost use Rattle.daa_lines.specs.Feeding.{bytes_taken};
+ghost use Rattle.daa_lines.specs.Ending.{after_end};
+ghost use Rattle.daa_lines.specs.Pushing.{after_byte, is_last};
+
+use arrayvec::ArrayVec;
+use std::marker::Model;
+
+/// What the line in hand is.
+#[derive(Clone, Copy, Debug, PartialEq, Eq)]
+pub enum Stage {
+    /// It is still being read, and has fewer than 256 bytes.
+    Open,
+    /// It ended with fewer than 256 bytes, and is not taken yet.
+    Whole,
+    /// 256 bytes of it came with no line feed, and it is not taken yet.
+    Long,
+    /// It was long and is taken; what is left of it is passed over.
+    Skipping,
+}
+
+/// What `take_line` gives.
+#[derive(Clone, Copy, Debug)]
+pub enum Line<'a> {
+    /// A line of at most 255 bytes, without its line feed. A carriage return at its end is kept.
+    Whole(&'a [u8]),
+    /// A line of 256 bytes or more.
+    Long,
+    /// No line stands.
+    NotYet,
+}
+
+/// Cuts a stream of bytes into lines.
+#[derive(Drop)]
+pub struct Lines {
+    line: ArrayVec<u8, 256>,
+    // The bytes in `line` are of a line that was taken: it may still be borrowed then, so the next byte clears it.
+    stale: bool,
+    stage: Stage,
+    ended: bool,
+    fed: u64,
+    number: u64,
+}
+
+impl Model for Lines {
+    ghost use Rattle.std.specs.Prelude.{◌≤◌, ◌≡◌, ◌+◌, true, false};
+    ghost use Rattle.daa_lines.specs.Cutting.{Cutting, IsSized, held, owed, is_standing};
+
+    ghost Value = { Cutting };
+
+    ghost view = { λ s. record { line = held s.stale s.line.items; stage = s.stage; ended = s.ended; fed = s.fed; number = s.number } };
+
+    ghost invariant = { λ s. IsSized s.stage (held s.stale s.line.items) × (is_standing s.stage ≡ true → s.stale ≡ false) × (s.number + owed s.stage (held s.stale s.line.items) ≤ s.fed) };
+}
+
+impl Lines {
+    ghost use Rattle.daa_lines.specs.Taking.{LeavesTaken, IsHanded, IsLineOf, after_taking};
+    ghost use Rattle.std.specs.Borrow.{sem};
+
+    /// The lines of an input of which nothing was fed yet.
+    pub fn new() -> Self
+        ensures stands { Stands [] [] result }
+        ensures free { is_standing result.stage ≡ false }
+        ensures going { result.ended ≡ false }
+    {
+        Lines {
+            line: ArrayVec::new(),
+            stale: false,
+            stage: Stage::Open,
+            ended: false,
+            fed: 0,
+            number: 0,
+        }
+    }
+
+    /// Takes one byte, and answers whether no other may be taken for now.
+    #[tactic(auto, unfolding(crate::specs::Pushing::after_byte))]
+    fn push(&mut self, byte: u8) -> bool
+        requires free { is_standing self.old.stage ≡ false }
+        requires going { self.old.ended ≡ false }
+        requires room { self.old.fed < 2 ^ 63 }
+        ensures value { self.new ≡ after_byte self.old byte }
+        ensures last { result ≡ is_last self.old byte }
+        ensures sized { IsSized self.old.stage self.old.line }
+    {
+        if self.stale {
+            self.line.clear();
+            self.stale = false;
+        }
+        if self.stage == Stage::Skipping {
+            if byte == b'\n' {
+                self.stage = Stage::Open;
+            }
+        } else if byte == b'\n' {
+            self.stage = Stage::Whole;
+        } else {
+            self.line.push(byte);
+            if self.line.is_full() {
+                self.stage = Stage::Long;
+            }
+        }
+        self.fed += 1;
+        byte == b'\n' || self.stands()
+    }
+
+    /// Whether a line stands that is not taken yet.
+    fn stands(&self) -> bool
+        ensures { result ≡ is_standing self.now.stage }
+    {
+        matches!(self.stage, Stage::Whole | Stage::Long)
+    }
+
+    /// Takes the first bytes of the piece, and answers how many: those up to and with the next line feed, but of a line
+    /// no more than its first 256, and none while a line stands that is not taken yet. The rest of a long line is taken
+    /// up to and with its line feed. `end` must not have been called, and fewer than 2^63 bytes be fed in all.
+    #[tactic(auto, unfolding(crate::specs::Pushing::after_byte))]
+    pub fn feed(&mut self, piece: &[u8]) -> usize
+        requires going { self.old.ended ≡ false }
+        requires room { self.old.fed + length piece.now < 2 ^ 63 }
+        ensures taken { result ≡ bytes_taken self.old.stage self.old.line piece.now }
+        ensures nothing { (result ≡ 0) ↔ ((is_standing self.old.stage ≡ true) ⊎ (piece.now ≡ [])) }
+        ensures moved { is_standing self.old.stage ≡ false → 0 < length piece.now → 0 < result }
+        ensures within { result ≤ length piece.now }
+
+        ensures kept { (bytes : List ℕ) (taken : List (List ℕ)) → Stands bytes taken self.old
+            → Stands (bytes ++ take result piece.now) taken self.new }
+        ensures fed { self.new.fed ≡ self.old.fed + result }
+        ensures number { self.new.number ≡ self.old.number }
+        ensures going { self.new.ended ≡ false }
+    {
+        if self.stands() {
+            return 0;
+        }
+        for (i, byte) in piece.iter().enumerate() {
+            if self.push(*byte) {
+                return i + 1;
+            }
+        }
+        piece.len()
+    }
+
+    /// Takes the line that stands, if one does: `NotYet` comes exactly where none does, and `Long` exactly where the
+    /// line has 256 bytes or more.
+    pub fn take_line(&mut self) -> Line<'_>
+        ensures* after { sem 𝓛 (LeavesTaken self.entry) }
+        ensures handed { IsHanded self.old result }
+        ensures long { (result ≡ Line.Long) ↔ (self.old.stage ≡ Stage.Long) }
+        ensures not_yet { (result ≡ Line.NotYet) ↔ (is_standing self.old.stage ≡ false) }
+        ensures line { (bytes : List ℕ) (taken : List (List ℕ)) → Stands bytes taken self.old
+            → IsLineOf (slice_get (lines_of bytes self.old.ended) (length taken)) result }
+        ensures kept { (bytes : List ℕ) (taken : List (List ℕ)) → Stands bytes taken self.old
+            → Stands bytes (taken ++ standing self.old.stage self.old.line) (after_taking self.old) }
+    {
+        match self.stage {
+            Stage::Whole => {
+                self.stage = Stage::Open;
+                self.stale = true;
+                self.number += 1;
+                Line::Whole(self.line.as_slice())
+            }
+            Stage::Long => {
+                self.stage = Stage::Skipping;
+                self.stale = true;
+                self.number += 1;
+                Line::Long
+            }
+            Stage::Open | Stage::Skipping => Line::NotYet,
+        }
+    }
+
+    /// Ends the input.
+    fn finish(&mut self)
+        ensures value { self.new ≡ after_end self.old }
+        ensures sized { IsSized self.old.stage self.old.line }
+    {
+        if self.ended {
+            return;
+        }
+        if self.stage == Stage::Open && !self.stale && !self.line.is_empty() {
+            self.stage = Stage::Whole;
+        }
+        self.ended = true;
+    }
+
+    /// The input is over: a rest that is not empty becomes a whole line. What is left of a long line that was taken
+    /// becomes none, and a second call changes nothing.
+    pub fn end(&mut self)
+        ensures value { self.new ≡ after_end self.old }
+        ensures kept { (bytes : List ℕ) (taken : List (List ℕ)) → Stands bytes taken self.old
+            → Stands bytes taken self.new }
+        ensures ended { self.new.ended ≡ true }
+        ensures fed { self.new.fed ≡ self.old.fed }
+        ensures number { self.new.number ≡ self.old.number }
+    {
+        self.finish();
+    }
+
+    /// How many bytes `feed` took so far.
+    pub fn fed(&self) -> u64
+        ensures { result ≡ self.now.fed }
+    {
+        self.fed
+    }
+
+    /// The number of the line last taken, 0 before the first. Numbers count from 1.
+    pub fn number(&self) -> u64
+        ensures value { result ≡ self.now.number }
+        ensures within { result ≤ self.now.fed }
+    {
+        self.number
+    }
+}
