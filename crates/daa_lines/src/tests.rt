@@ -2,7 +2,7 @@
 
 ghost use Rattle.std.specs.Prelude.{◌≡◌, ◌<◌, false};
 
-use crate::{Line, Lines};
+use crate::{Line, Lines, Stage};
 use std::alloc::{AllocError, Global};
 use std::process::Abort;
 use std::test::Fail;
@@ -220,4 +220,14 @@ fn a_line_that_stands_at_the_end_stands_on(rt: HostRuntime) {
     lines.end();
     assert!(rt; is_whole(lines.take_line(), b"a"));
     assert!(rt; matches!(lines.take_line(), Line::NotYet));
+}
+
+fn may_be_sent<T: Send>() {}
+
+// The check refuses a type that may not be sent between threads.
+#[test]
+fn values_may_be_sent() {
+    may_be_sent::<Lines>();
+    may_be_sent::<Line<'static>>();
+    may_be_sent::<Stage>();
 }

@@ -1,0 +1,10 @@
+pub mod Faults
+pub mod Pieces
+pub mod Shelf
+pub mod MemSource
+pub mod MemSink
+pub mod MemShelf
+pub mod CalmSource
+pub mod StdSource
+pub mod StdSink
+pub mod FileShelf

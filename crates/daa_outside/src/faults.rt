@@ -1,0 +1,15 @@
+//! What an object outside answers where it fails, and the counter that goes with it.
+
+ghost use Rattle.std.specs.Prelude.{◌≡◌};
+ghost use Rattle.daa_outside.specs.Faults.{one_more};
+
+/// A call to the outside did not succeed. It comes only where that object's count of faults rose.
+#[derive(Clone, Copy, Debug, PartialEq, Eq)]
+pub struct Failed;
+
+/// The counter after one more, which stops at the greatest number.
+pub(crate) fn counted(count: u64) -> u64
+    ensures { result ≡ one_more count }
+{
+    count.saturating_add(1)
+}

@@ -1,0 +1,15 @@
+//! A gate that each worker passes before it answers a unit.
+
+/// A place that may hold a worker for a while. Several workers may use it at once. All that is
+/// promised of a call is that it returns.
+pub trait Gate: Sync {
+    fn pass(&self, worker: u32, unit: u32);
+}
+
+/// The gate that lets all pass.
+#[derive(Clone, Copy, Debug)]
+pub struct Open;
+
+impl Gate for Open {
+    fn pass(&self, _worker: u32, _unit: u32) {}
+}

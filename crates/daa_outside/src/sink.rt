@@ -1,0 +1,27 @@
+//! Output, in pieces.
+
+ghost use Rattle.std.specs.Prelude.{◌≤◌, ◌<◌, ℕ, List, Option, length, take, IfOk, OnErr};
+ghost use Rattle.std.specs.Io.KnownBytes.{Appends, Keeps};
+ghost use Rattle.daa_outside.specs.Faults.{HasRisen};
+
+use crate::faults::Failed;
+
+/// Something that bytes are written to.
+pub trait Sink {
+    // The bytes that it took so far, where it tells them.
+    ghost taken: { Self → Option (List ℕ) };
+
+    // How many of its calls failed.
+    ghost faults: { Self → ℕ };
+
+    /// Takes bytes from the front of `piece`, and says how many: at least one of a piece that is not
+    /// empty. A call that fails takes nothing.
+    fn write(&mut self, piece: &[u8]) -> Result<usize, Failed>
+        ensures within { IfOk result (λ n. n ≤ length piece.now) }
+        ensures moves { IfOk result (λ n. 0 < length piece.now → 0 < n) }
+        ensures appended { IfOk result (λ n. Appends (taken self.old) (taken self.new) (take n piece.now)) }
+
+        ensures risen { OnErr result (HasRisen (faults self.old) (faults self.new)) }
+        ensures kept { OnErr result (Keeps (taken self.old) (taken self.new)) }
+        ensures never_falls { faults self.old ≤ faults self.new };
+}

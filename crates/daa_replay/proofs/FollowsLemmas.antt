@@ -1,0 +1,157 @@
+-- One line more, and the events so far.
+use Rattle.std.proofs.Common.{ℕ, ◌+◌, ◌≡◌, List, [], ◌∷◌, ◌++◌, length, Option, None, Some, arith, refl, sym, ap, ap₂, ◌∙◌, Bool, true, false, append-nil, subst}
+use Rattle.std.proofs.Common.{take, drop, ◌≤◌, append_assoc}
+use Rattle.std.proofs.lemmas.List.{take-append-le, take-append-drop}
+use Rattle.daa_lines.specs.LinesOf.{Bytes, lines_of, shown}
+use Rattle.daa_lines.specs.Cutting.{Cutting, is_standing}
+use Rattle.daa_lines.specs.Stands.{Stands, standing}
+use Rattle.daa_lines.specs.Taking.{after_taking}
+use Rattle.daa_lines.specs.declared.lines.Stage.{Stage}
+use Rattle.daa_lines.specs.declared.lines.Stage.TheVariants.{Open, Whole, Long, Skipping}
+use Rattle.daa_state.specs.MomentStep.{State, start, finished}
+use Rattle.daa_replay.specs.declared.event.Event.{Event}
+use Rattle.daa_state.specs.Fault.{Checked}
+use Rattle.daa_state.specs.WordOf.{word_of}
+use Rattle.daa_state.specs.declared.word.Word.{Word}
+use Rattle.daa_replay.specs.Events.{word_step, line_step, next_state, line_event, end_event, events_from, events_of}
+use Rattle.daa_replay.specs.Follows.{Follows, state_after, given_with}
+use Rattle.daa_replay.proofs.EventLemmas.{events_from-append, events_begin, events_from-push, events_from-end, events_from-shown, state_after-append}
+
+standing_one : (stage : Stage) (line : Bytes) → is_standing stage ≡ true → standing stage line ≡ line ∷ []
+standing_one Whole line h = refl
+standing_one Long line h = refl
+standing_one Open line h = cc
+standing_one Skipping line h = cc
+
+standing_none : (stage : Stage) (line : Bytes) → is_standing stage ≡ false → standing stage line ≡ []
+standing_none Open line h = refl
+standing_none Skipping line h = refl
+standing_none Whole line h = cc
+standing_none Long line h = cc
+
+-- the line that stands is taken, and its event is given
+pub follows-line : (bytes : Bytes) (given : List Event) (old new : Cutting) (before : State) → is_standing old.stage ≡ true
+    → ((b : Bytes) (t : List Bytes) → Stands b t old → Stands b (t ++ standing old.stage old.line) new)
+    → Follows bytes given old before
+    → Follows bytes (given ++ line_event (old.number + 1) (line_step before old.line)) new (next_state before (line_step before old.line))
+follows-line bytes given old new before stood kept f =
+    let more : f.taken ++ standing old.stage old.line ≡ f.taken ++ old.line ∷ [] =
+    ap (λ (l : List Bytes). f.taken ++ l) (standing_one old.stage old.line stood) in
+    let number : 1 + length f.taken ≡ old.number + 1 = omega (arith, f.stands.number) in
+    record {
+      taken = f.taken ++ old.line ∷ [];
+      stands = subst (λ (t : List Bytes). Stands bytes t new) more (kept bytes f.taken f.stands);
+      state_is = ap (λ (s : State). next_state s (line_step s old.line)) f.state_is ∙ sym (state_after-append start f.taken (old.line ∷ []));
+      events_are = ap₂ (λ (g : List Event) (s : State). g ++ line_event (old.number + 1) (line_step s old.line)) f.events_are f.state_is
+          ∙ ap (λ (n : ℕ). events_from start 1 false f.taken ++ line_event n (line_step (state_after start f.taken) old.line)) (sym number)
+          ∙ sym (events_from-push start 1 f.taken old.line);
+    }
+
+-- where no line stands, all lines are taken
+all_taken : (bytes : Bytes) (given : List Event) (lines : Cutting) (moments : State) (ended : Bool) → lines.ended ≡ ended → is_standing lines.stage ≡ false
+    → (f : Follows bytes given lines moments) → f.taken ≡ shown (lines_of bytes ended)
+all_taken bytes given lines moments ended e free f =
+    sym (append-nil f.taken) ∙ ap (λ (l : List Bytes). f.taken ++ l) (sym (standing_none lines.stage lines.line free))
+    ∙ sym f.stands.lines ∙ ap (λ (b : Bool). shown (lines_of bytes b)) e
+
+-- the events so far are given
+pub given_now : (bytes : Bytes) (given : List Event) (lines : Cutting) (moments : State) → lines.ended ≡ false → is_standing lines.stage ≡ false
+    → Follows bytes given lines moments → given ≡ events_of bytes false
+unfolding events_of
+given_now bytes given lines moments going free f =
+    f.events_are ∙ ap (events_from start 1 false) (all_taken bytes given lines moments false going free f) ∙ events_from-shown start 1 false _
+
+-- at the end of the input only its own event is missing
+pub given_at_end : (bytes : Bytes) (given : List Event) (lines : Cutting) (moments : State) → lines.ended ≡ true → is_standing lines.stage ≡ false
+    → Follows bytes given lines moments → given ++ end_event (lines.number + 1) (finished moments) ≡ events_of bytes true
+unfolding events_of
+given_at_end bytes given lines moments over free f =
+    let number : lines.number + 1 ≡ 1 + length f.taken = omega (arith, f.stands.number) in
+    ap₂ (λ (g : List Event) (s : State). g ++ end_event (lines.number + 1) (finished s)) f.events_are f.state_is
+    ∙ ap (λ (n : ℕ). events_from start 1 false f.taken ++ end_event n (finished (state_after start f.taken))) number
+    ∙ sym (events_from-end start 1 f.taken)
+    ∙ ap (events_from start 1 true) (all_taken bytes given lines moments true over free f)
+    ∙ events_from-shown start 1 true _
+
+given_with-append : (given : List Event) (event : Option Event) → given_with given event ≡ given ++ given_with [] event
+given_with-append given None = sym (append-nil given)
+given_with-append given (Some event) = refl
+
+taken_number : (old : Cutting) → is_standing old.stage ≡ true → (after_taking old).number ≡ old.number + 1
+taken_number old stood = rw stood refl
+
+-- the line that stands is taken, and its word steps the state
+pub follows-event : (bytes : Bytes) (given : List Event) (old new : Cutting) (before after : State) (word : Checked Word) (number : ℕ) (event : Option Event)
+    → is_standing old.stage ≡ true → new ≡ after_taking old
+    → ((b : Bytes) (t : List Bytes) → Stands b t old → Stands b (t ++ standing old.stage old.line) new)
+    → word ≡ word_of old.line before.format → number ≡ new.number
+    → given_with [] event ≡ line_event number (word_step before word) → after ≡ next_state before (word_step before word)
+    → Follows bytes given old before → Follows bytes (given_with given event) new after
+follows-event bytes given old new before after word number event stood taken kept word_is number_is event_is after_is f =
+    let counted : number ≡ old.number + 1 = number_is ∙ ap (λ (c : Cutting). c.number) taken ∙ taken_number old stood in
+    let events : given_with given event ≡ given ++ line_event (old.number + 1) (line_step before old.line) =
+    given_with-append given event
+    ∙ ap (λ (l : List Event). given ++ l) (event_is ∙ ap₂ (λ (n : ℕ) (w : Checked Word). line_event n (word_step before w)) counted word_is) in
+    let state : after ≡ next_state before (line_step before old.line) = after_is ∙ ap (λ (w : Checked Word). next_state before (word_step before w)) word_is in
+    rw (events, state) (follows-line bytes given old new before stood kept f)
+
+pub given_whole : (bytes : Bytes) (given : List Event) (lines : Cutting) (moments : State) (over : Checked (Unit {0})) → lines.ended ≡ true → is_standing lines.stage ≡ false
+    → over ≡ finished moments → Follows bytes given lines moments → given ++ end_event (lines.number + 1) over ≡ events_of bytes true
+given_whole bytes given lines moments over ended free e f =
+    ap (λ (o : Checked (Unit {0})). given ++ end_event (lines.number + 1) o) e ∙ given_at_end bytes given lines moments ended free f
+
+-- more bytes were fed
+pub follows-fed : (bytes piece : Bytes) (given : List Event) (old new : Cutting) (moments : State)
+    → ((b : Bytes) (t : List Bytes) → Stands b t old → Stands (b ++ piece) t new)
+    → Follows bytes given old moments → Follows (bytes ++ piece) given new moments
+follows-fed bytes piece given old new moments kept f = record {
+  taken = f.taken;
+  stands = kept bytes f.taken f.stands;
+  state_is = f.state_is;
+  events_are = f.events_are;
+}
+
+pub follows-as : (bytes : Bytes) (given : List Event) (old new : Cutting) (moments : State) → ((b : Bytes) (t : List Bytes) → Stands b t old → Stands b t new)
+    → Follows bytes given old moments → Follows bytes given new moments
+follows-as bytes given old new moments kept f = record {
+  taken = f.taken;
+  stands = kept bytes f.taken f.stands;
+  state_is = f.state_is;
+  events_are = f.events_are;
+}
+
+-- a part of the rest is fed
+pub split_rest : (bytes read rest piece : Bytes) (size count : ℕ) → bytes ≡ read ++ rest → piece ≡ take size rest → count ≤ length piece
+    → bytes ≡ (read ++ take count piece) ++ drop count rest
+split_rest bytes read rest piece size count all front within =
+    let short : count ≤ length (take size rest) = subst (λ (p : Bytes). count ≤ length p) front within in
+    let same : take count piece ≡ take count rest =
+    ap (take count) front ∙ sym (take-append-le count (take size rest) (drop size rest) short) ∙ ap (take count) (take-append-drop size rest) in
+    all ∙ ap (λ (r : Bytes). read ++ r) (sym (take-append-drop count rest) ∙ ap (λ (t : Bytes). t ++ drop count rest) (sym same))
+    ∙ sym (append_assoc read (take count piece) (drop count rest))
+
+pub whole_rest : (bytes read rest : Bytes) → bytes ≡ read ++ rest → length rest ≡ 0 → bytes ≡ read
+whole_rest bytes read [] all none = all ∙ append-nil read
+whole_rest bytes read (b ∷ rest) all none = absurd (omega arith)
+
+-- the events given are the first ones of the bytes fed, also while a line stands
+pub given_begins : (bytes : Bytes) (given : List Event) (lines : Cutting) (moments : State) → Follows bytes given lines moments
+    → (more : List Event) × (events_of bytes lines.ended ≡ given ++ more)
+unfolding events_of
+given_begins bytes given lines moments f = (
+  events_from (state_after start f.taken) (1 + length f.taken) lines.ended (standing lines.stage lines.line),
+  sym (events_from-shown start 1 lines.ended (lines_of bytes lines.ended))
+      ∙ ap (events_from start 1 lines.ended) f.stands.lines
+      ∙ events_from-append start 1 lines.ended f.taken (standing lines.stage lines.line)
+      ∙ ap (λ (g : List Event). g ++ events_from (state_after start f.taken) (1 + length f.taken) lines.ended (standing lines.stage lines.line)) (sym f.events_are),
+)
+
+-- and they are the first ones of a longer input
+pub given_begins_longer : (bytes more : Bytes) (given : List Event) (lines : Cutting) (moments : State) → lines.ended ≡ false → Follows bytes given lines moments
+    → (later : List Event) × (events_of (bytes ++ more) false ≡ given ++ later)
+given_begins_longer bytes more given lines moments going f =
+    let now = given_begins bytes given lines moments f in
+    let longer = events_begin bytes more in (
+      now.0 ++ longer.0,
+      longer.1 ∙ ap (λ (e : List Event). e ++ longer.0) (ap (events_of bytes) (sym going) ∙ now.1) ∙ append_assoc given now.0 longer.0,
+    )

@@ -1,0 +1,10 @@
+pub mod EventLemmas
+pub mod FollowsLemmas
+pub mod LevelLemmas
+pub mod MomentLemmas
+pub mod TextLemmas
+pub mod ReportLemmas
+pub mod RunLemmas
+pub mod FourWordLemmas
+pub mod OneText
+pub mod CompleteLemmas

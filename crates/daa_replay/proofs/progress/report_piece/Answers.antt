@@ -1,0 +1,36 @@
+use Rattle.std.proofs.Common.{◌∙◌, ◌≤◌, ◌+◌, ◌-◌, ◌++◌, false, arith, take, drop, length, length-drop, length-take}
+use Rattle.daa_lines.specs.LinesOf.{Bytes}
+use Rattle.daa_replay.specs.Reporting.{Told, Reports, Stops}
+use Rattle.daa_replay.proofs.ReportLemmas.{reports-part, stops-part, on_err}
+use Rattle.daa_replay.proofs.progress.report_piece.Goals as goal
+
+pub loop-done-preserved : goal.loop-done-preserved
+loop-done-preserved g c =
+    let piece = c.args.piece.now in
+    let done = c.loop-done.done in
+    let n = c.feed-done.result in
+    let i = c.loop-done.invariant in
+    let within : n ≤ length piece - done = omega (arith, c.feed-done.ensures.within, length-take (length piece - done) (drop done piece), length-drop done piece) in
+    record {
+      within = omega (arith, i.within);
+      free = c.report_line.ensures.free;
+      going = c.report_line.ensures.ended ∙ c.feed-done.ensures.going;
+      fed = omega (arith, c.report_line.ensures.fed, c.feed-done.ensures.fed, i.fed);
+      later = omega (arith, c.in_ok-report_line.ensures.cause.later, i.later);
+      kept = λ first bytes r. c.in_ok-report_line.ensures.ok first (bytes ++ take (done + n) piece)
+          (reports-part first _ bytes piece c.loop-done.progress c.feed-done.new.self done n within c.feed-done.ensures.kept (i.kept first bytes r));
+    }
+
+pub returns-in_err-report_line-clause-err : goal.returns-in_err-report_line-clause-err
+returns-in_err-report_line-clause-err g c =
+    let piece = c.args.piece.now in
+    let done = c.loop-done.done in
+    let n = c.feed-done.result in
+    let i = c.loop-done.invariant in
+    let within : n ≤ length piece - done = omega (arith, c.feed-done.ensures.within, length-take (length piece - done) (drop done piece), length-drop done piece) in
+    let stops : (first : Told) (bytes : Bytes) → Reports first bytes c.args.progress.now (g.K.Sink.taken c.args.sink.now)
+    → Stops first (bytes ++ piece) false (g.K.Sink.taken c.report_line.new.sink) =
+    λ first bytes r. stops-part first _ bytes piece c.feed-done.new.self.ended (done + n) c.feed-done.ensures.going
+    (c.in_err-report_line.ensures.err first (bytes ++ take (done + n) piece)
+    (reports-part first _ bytes piece c.loop-done.progress c.feed-done.new.self done n within c.feed-done.ensures.kept (i.kept first bytes r))) in
+    on_err _ _ stops

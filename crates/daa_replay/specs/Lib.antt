@@ -1,0 +1,10 @@
+pub mod Events
+pub mod FourWordEvents
+pub mod NowLevel
+pub mod MomentText
+pub mod Report
+pub mod Run
+pub mod Status
+pub mod Follows
+pub mod Saying
+pub mod Reporting

@@ -1,0 +1,57 @@
+//! What holds of the events and the report of every input, and inputs whose events are known.
+
+ghost use Rattle.std.specs.Prelude.{◌≡◌, ◌++◌, ◌∷◌, [], Bool, List, codes, replicate, pos, true, false};
+ghost use Rattle.daa_lines.specs.LinesOf.{Bytes};
+ghost use Rattle.daa_report.specs.Lines.{Text};
+ghost use Rattle.daa_replay.specs.declared.event.Event.{Event};
+ghost use Rattle.daa_replay.specs.Events.{events_of};
+ghost use Rattle.daa_replay.specs.FourWordEvents.{ReadsAsFourWords};
+ghost use Rattle.daa_replay.specs.NowLevel.{reported_place, traffic_place};
+ghost use Rattle.daa_replay.specs.Report.{IsReportOf};
+ghost use Rattle.daa_replay.specs.Run.{RunsAreComplete};
+ghost use Rattle.daa_state.specs.declared.word.Traffic.{Traffic};
+
+use crate::event::Event;
+use daa_state::LineFault;
+
+/// No two texts are the report of one input.
+pub fn reports_are_unique()
+    ensures { (bytes : Bytes) (ended : Bool) (text other : Text) → IsReportOf bytes ended text → IsReportOf bytes ended other → text ≡ other }
+{}
+
+/// The events of a longer input begin with those of a shorter one, and those at its end with those before.
+pub fn events_only_grow()
+    ensures longer { (bytes more : Bytes) → (events : List Event) × (events_of (bytes ++ more) false ≡ events_of bytes false ++ events) }
+    ensures whole { (bytes : Bytes) → (events : List Event) × (events_of bytes true ≡ events_of bytes false ++ events) }
+{}
+
+/// An input without a line whose first field is `format` reads as where there are neither that word nor ages.
+pub fn format_lines_alone_matter()
+    ensures { ReadsAsFourWords }
+{}
+
+/// A report of age 0 is where its aircraft is.
+pub fn new_reports_stand()
+    ensures { (aircraft : Traffic) → aircraft.age ≡ 0 → traffic_place aircraft ≡ reported_place aircraft }
+{}
+
+/// Where the source tells its bytes and no count of faults rises, a run ends with 0 or 1 where there are at most as many
+/// bytes as may be read, and with 8 where there are more.
+pub fn runs_are_complete()
+    ensures { RunsAreComplete }
+{}
+
+/// The events of inputs, at examples.
+pub fn worked_examples()
+    ensures long_line_once { events_of (replicate 300 97) true ≡ Event.Refused 1 LineFault.LongLine ∷ [] }
+    ensures end_before_own { events_of (codes "moment 0\nend\nown 0 0 1000 0 3600 0\nend\n") true
+        ≡ Event.Refused 2 LineFault.NoOwn
+        ∷ Event.Ended (record {
+          time = 0;
+          own = record { x = pos 0; y = pos 0; alt = pos 1000; trk = pos 0; gs = pos 3600; vs = pos 0 };
+          traffic = record { items = [] };
+        }) ∷ [] }
+    ensures unfinished { events_of (codes "moment 5\nown 0 0 1000 0 3600 0") true ≡ Event.Refused 3 LineFault.Unfinished ∷ [] }
+    ensures not_unfinished_yet { events_of (codes "moment 5\nown 0 0 1000 0 3600 0\n") false ≡ [] }
+    ensures format_while_open { events_of (codes "format 2\nmoment 1\nformat 1\n") false ≡ Event.Refused 3 LineFault.MomentOpen ∷ [] }
+{}

@@ -1,0 +1,20 @@
+-- What a writer leaves at a sink.
+use Rattle.std.specs.Prelude.{ℕ, ◌≡◌, ◌≤◌, ◌++◌, List, Option, Result, OnOk, OnErr}
+use Rattle.std.specs.Io.KnownBytes.{Appends}
+use Rattle.daa_outside.specs.Faults.{HasRisen}
+
+-- the known bytes grew by a front of the text
+abbrev pub AppendsFront : Option (List ℕ) → Option (List ℕ) → List ℕ → Type 0
+AppendsFront old new text =
+    (front : List ℕ) × (unwritten : List ℕ) × (text ≡ front ++ unwritten) × Appends old new front
+
+-- a fault comes only where the count of faults rose, and the count never falls
+pub record HasCause {T E : Type 0} (old new : ℕ) (result : Result T E) : Type 0 where
+  pub later : old ≤ new
+  pub risen : OnErr result (HasRisen old new)
+
+-- at Ok the sink has taken the text, and at Err a front of it and it has failed; its count of faults never falls
+pub record Says {E : Type 0} (old new : Option (List ℕ)) (faults_old faults_new : ℕ) (text : List ℕ) (result : Result (Unit {0}) E) : Type 0 where
+  pub whole : OnOk result (Appends old new text)
+  pub front : OnErr result (AppendsFront old new text)
+  pub cause : HasCause faults_old faults_new result

@@ -1,0 +1,47 @@
+//! A line in hand, of at most 64 bytes.
+ghost use Rattle.std.specs.Prelude.{◌≡◌, ◌≤◌, ◌+◌, ◌++◌, length, decimal};
+ghost use Rattle.arrayvec.specs.ArrayVec.{array_vec_len};
+ghost use Rattle.daa_report.specs.Lines.{first_text};
+
+use arrayvec::ArrayVec;
+use itoa::Buffer;
+
+/// Adds bytes at the end.
+pub fn add_bytes(line: &mut ArrayVec<u8, 64>, bytes: &[u8])
+    requires { array_vec_len line.old + length bytes.now ≤ 64 }
+    ensures items { line.new.items ≡ line.old.items ++ bytes.now }
+    ensures len { array_vec_len line.new ≡ array_vec_len line.old + length bytes.now }
+{
+    let _ = line.try_extend_from_slice(bytes);
+}
+
+/// Adds a text at the end.
+pub fn add(line: &mut ArrayVec<u8, 64>, text: &str)
+    requires { array_vec_len line.old + length text.now ≤ 64 }
+    ensures items { line.new.items ≡ line.old.items ++ text.now }
+    ensures len { array_vec_len line.new ≡ array_vec_len line.old + length text.now }
+{
+    add_bytes(line, text.as_bytes());
+}
+
+/// Adds a number at the end, in decimal digits.
+pub fn add_number(line: &mut ArrayVec<u8, 64>, number: u64)
+    requires { array_vec_len line.old + 20 ≤ 64 }
+    ensures items { line.new.items ≡ line.old.items ++ decimal number }
+    ensures len { array_vec_len line.new ≤ array_vec_len line.old + 20 }
+{
+    let mut buffer = Buffer::new();
+    add(line, buffer.format(number));
+}
+
+/// Adds the number of a leg, or a dash.
+pub fn add_first(line: &mut ArrayVec<u8, 64>, first: Option<u32>)
+    requires { array_vec_len line.old + 20 ≤ 64 }
+    ensures items { line.new.items ≡ line.old.items ++ first_text first }
+    ensures len { array_vec_len line.new ≤ array_vec_len line.old + 20 }
+{
+    match first {
+        Some(leg) => add_number(line, u64::from(leg)),
+        None => add(line, "-"),
+    }
+}

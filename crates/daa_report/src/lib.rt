@@ -1,0 +1,14 @@
+//! Writes the lines of a report to a sink: one by one, or held back on a page and written together.
+#![tactic(auto)]
+
+mod adding;
+mod line;
+mod page;
+mod writers;
+
+pub use line::Line;
+pub use page::Page;
+pub use writers::{SinkFault, alert, config, done, moment, now, put, refused};
+
+#[cfg(test)]
+mod tests;

@@ -1,0 +1,120 @@
+//! The lines of a report, as values.
+ghost use Rattle.std.specs.Prelude.{◌≡◌, ◌≤◌, length};
+ghost use Rattle.daa_report.specs.Lines.{alert_line, config_line, done_line, moment_line, now_line, refused_line};
+
+use crate::adding::{add, add_bytes, add_first, add_number};
+use arrayvec::ArrayVec;
+use daa_state::Id;
+use std::marker::Model;
+
+/// The bytes of an identifier: 8 at most.
+fn bytes_of(id: &Id) -> &[u8]
+    ensures value { result.now ≡ id.now }
+    ensures few { length result.now ≤ 8 }
+{
+    id.bytes()
+}
+
+/// A line of at most 64 bytes.
+#[derive(Drop)]
+pub struct Line {
+    bytes: ArrayVec<u8, 64>,
+}
+
+impl Model for Line {
+    ghost use Rattle.std.specs.Prelude.{List, ℕ};
+
+    ghost Value = { List ℕ };
+
+    ghost view = { λ l. l.bytes.items };
+}
+
+impl Line {
+    /// The bytes of the line.
+    pub fn as_bytes(&self) -> &[u8]
+        ensures value { result.now ≡ self.now }
+        ensures few { length self.now ≤ 64 }
+    {
+        self.bytes.as_slice()
+    }
+
+    /// The line that says that a line was refused.
+    #[tactic(auto, unfolding(crate::specs::Lines::refused_line))]
+    pub fn refused(number: u64, code: u8) -> Line
+        ensures { result ≡ refused_line number code }
+    {
+        let mut line = ArrayVec::<u8, 64>::new();
+        add(&mut line, "refused ");
+        add_number(&mut line, number);
+        add(&mut line, " ");
+        add_number(&mut line, u64::from(code));
+        add(&mut line, "\n");
+        Line { bytes: line }
+    }
+
+    /// The line that says that a moment begins.
+    #[tactic(auto, unfolding(crate::specs::Lines::moment_line))]
+    pub fn moment(time: u32) -> Line
+        ensures { result ≡ moment_line time }
+    {
+        let mut line = ArrayVec::<u8, 64>::new();
+        add(&mut line, "moment ");
+        add_number(&mut line, u64::from(time));
+        add(&mut line, "\n");
+        Line { bytes: line }
+    }
+
+    /// The line of the level of an aircraft now.
+    #[tactic(auto, unfolding(crate::specs::Lines::now_line))]
+    pub fn now(id: &Id, level: u8) -> Line
+        ensures { result ≡ now_line id.now level }
+    {
+        let mut line = ArrayVec::<u8, 64>::new();
+        add(&mut line, "now ");
+        add_bytes(&mut line, bytes_of(id));
+        add(&mut line, " ");
+        add_number(&mut line, u64::from(level));
+        add(&mut line, "\n");
+        Line { bytes: line }
+    }
+
+    /// The line of the alert of an aircraft, and from which leg on.
+    #[tactic(auto, unfolding(crate::specs::Lines::alert_line))]
+    pub fn alert(id: &Id, level: u8, first: Option<u32>) -> Line
+        ensures { result ≡ alert_line id.now level first }
+    {
+        let mut line = ArrayVec::<u8, 64>::new();
+        add(&mut line, "alert ");
+        add_bytes(&mut line, bytes_of(id));
+        add(&mut line, " ");
+        add_number(&mut line, u64::from(level));
+        add(&mut line, " ");
+        add_first(&mut line, first);
+        add(&mut line, "\n");
+        Line { bytes: line }
+    }
+
+    /// The line that says that a moment ends.
+    #[tactic(auto, unfolding(crate::specs::Lines::done_line))]
+    pub fn done(time: u32) -> Line
+        ensures { result ≡ done_line time }
+    {
+        let mut line = ArrayVec::<u8, 64>::new();
+        add(&mut line, "done ");
+        add_number(&mut line, u64::from(time));
+        add(&mut line, "\n");
+        Line { bytes: line }
+    }
+
+    /// The line that says that the configuration was refused.
+    #[tactic(auto, unfolding(crate::specs::Lines::config_line))]
+    pub fn config(code: u8) -> Line
+        ensures { result ≡ config_line code }
+    {
+        let mut line = ArrayVec::<u8, 64>::new();
+        add(&mut line, "config ");
+        add_number(&mut line, u64::from(code));
+        add(&mut line, "\n");
+        Line { bytes: line }
+    }
+}

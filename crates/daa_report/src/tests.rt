@@ -1,0 +1,79 @@
+//! Each line once, in bytes that its format tells.
+
+use super::*;
+use daa_outside::MemSink;
+use daa_state::Id;
+use std::alloc::{AllocError, Global};
+use std::test::Fail;
+
+fn sink(alloc: Global, fails: &[u64]) -> Result<MemSink, AllocError> {
+    Ok(MemSink::over(
+        vec![in alloc; 0; 200]?,
+        Vec::new(alloc),
+        fails.to_vec(alloc)?,
+    ))
+}
+
+#[test]
+fn each_line_is_written(rt: HostRuntime) -> Result<(), Fail> {
+    let mut out = sink(rt.alloc(), &[])?;
+    let id = Id::of(b"A_b-1").ok_or("an identifier")?;
+    let said = [
+        refused(&mut out, 18446744073709551615, 14),
+        moment(&mut out, 4294967295),
+        now(&mut out, &id, 4),
+        alert(&mut out, &id, 0, None),
+        alert(&mut out, &id, 3, Some(179)),
+        done(&mut out, 0),
+        config(&mut out, 8),
+        put(&mut out, b"any bytes"),
+        put(&mut out, b""),
+    ];
+    for one in said {
+        assert_eq!(rt; one, Ok(()));
+    }
+    assert_eq!(rt;
+        out.taken(),
+        b"refused 18446744073709551615 14\nmoment 4294967295\nnow A_b-1 4\nalert A_b-1 0 -\nalert A_b-1 3 179\ndone 0\nconfig 8\nany bytes".as_slice()
+    );
+    Ok(())
+}
+
+#[test]
+fn a_page_is_written_at_its_flush(rt: HostRuntime) -> Result<(), Fail> {
+    let mut out = sink(rt.alloc(), &[1])?;
+    let mut page = Page::new();
+    assert_eq!(rt; page.say(&mut out, &Line::moment(1)), Ok(()));
+    assert_eq!(rt; page.say(&mut out, &Line::done(1)), Ok(()));
+    assert_eq!(rt; out.taken(), b"".as_slice());
+    assert_eq!(rt; page.flush(&mut out), Ok(()));
+    assert_eq!(rt; out.taken(), b"moment 1\ndone 1\n".as_slice());
+    // the second write fails
+    assert_eq!(rt; page.say(&mut out, &Line::moment(2)), Ok(()));
+    assert_eq!(rt; page.flush(&mut out), Err(SinkFault));
+    assert_eq!(rt; out.taken(), b"moment 1\ndone 1\n".as_slice());
+    Ok(())
+}
+
+#[test]
+fn a_full_page_is_written_first(rt: HostRuntime) -> Result<(), Fail> {
+    let alloc = rt.alloc();
+    let mut out = MemSink::over(vec![in alloc; 0; 5000]?, Vec::new(alloc), Vec::new(alloc));
+    let mut page = Page::new();
+    for _ in 0..300 {
+        assert_eq!(rt; page.say(&mut out, &Line::moment(1234567)), Ok(()));
+    }
+    // 269 lines of 15 bytes leave less than 64 bytes of 4096
+    assert_eq!(rt; out.taken().len(), 269 * 15);
+    Ok(())
+}
+
+fn may_be_sent<T: Send>() {}
+
+// The check refuses a type that may not be sent between threads.
+#[test]
+fn values_may_be_sent() {
+    may_be_sent::<Line>();
+    may_be_sent::<Page>();
+    may_be_sent::<SinkFault>();
+}

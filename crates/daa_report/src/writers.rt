@@ -1,0 +1,75 @@
+//! Writes pieces and lines to a sink.
+ghost use Rattle.std.specs.Prelude.{◌≤◌, ◌≡◌, length, drop};
+ghost use Rattle.daa_report.specs.Lines.{refused_line, moment_line, now_line, alert_line, done_line, config_line};
+ghost use Rattle.daa_report.specs.Says.{Says};
+
+use crate::line::Line;
+use daa_outside::{Failed, Sink};
+use daa_state::Id;
+
+/// The sink failed.
+#[derive(Clone, Copy, Debug, PartialEq, Eq)]
+pub struct SinkFault;
+
+/// Writes the whole piece.
+pub fn put<K: Sink>(sink: &mut K, piece: &[u8]) -> Result<(), SinkFault>
+    ensures { Says (K.taken sink.old) (K.taken sink.new) (K.faults sink.old) (K.faults sink.new) piece.now result }
+{
+    let mut at = 0;
+    while at < piece.len() {
+        match sink.write(rest_from(piece, at)) {
+            Ok(n) => at += n,
+            Err(Failed) => return Err(SinkFault),
+        }
+    }
+    Ok(())
+}
+
+fn rest_from(bytes: &[u8], at: usize) -> &[u8]
+    requires { at ≤ length bytes.now }
+    ensures { result.now ≡ drop at bytes.now }
+{
+    &bytes[at..]
+}
+
+/// Writes that a line was refused.
+pub fn refused<K: Sink>(sink: &mut K, number: u64, code: u8) -> Result<(), SinkFault>
+    ensures { Says (K.taken sink.old) (K.taken sink.new) (K.faults sink.old) (K.faults sink.new) (refused_line number code) result }
+{
+    put(sink, Line::refused(number, code).as_bytes())
+}
+
+/// Writes that a moment begins.
+pub fn moment<K: Sink>(sink: &mut K, time: u32) -> Result<(), SinkFault>
+    ensures { Says (K.taken sink.old) (K.taken sink.new) (K.faults sink.old) (K.faults sink.new) (moment_line time) result }
+{
+    put(sink, Line::moment(time).as_bytes())
+}
+
+/// Writes the level of an aircraft now.
+pub fn now<K: Sink>(sink: &mut K, id: &Id, level: u8) -> Result<(), SinkFault>
+    ensures { Says (K.taken sink.old) (K.taken sink.new) (K.faults sink.old) (K.faults sink.new) (now_line id.now level) result }
+{
+    put(sink, Line::now(id, level).as_bytes())
+}
+
+/// Writes the alert of an aircraft, and from which leg on.
+pub fn alert<K: Sink>(sink: &mut K, id: &Id, level: u8, first: Option<u32>) -> Result<(), SinkFault>
+    ensures { Says (K.taken sink.old) (K.taken sink.new) (K.faults sink.old) (K.faults sink.new) (alert_line id.now level first) result }
+{
+    put(sink, Line::alert(id, level, first).as_bytes())
+}
+
+/// Writes that a moment ends.
+pub fn done<K: Sink>(sink: &mut K, time: u32) -> Result<(), SinkFault>
+    ensures { Says (K.taken sink.old) (K.taken sink.new) (K.faults sink.old) (K.faults sink.new) (done_line time) result }
+{
+    put(sink, Line::done(time).as_bytes())
+}
+
+/// Writes that the configuration was refused.
+pub fn config<K: Sink>(sink: &mut K, code: u8) -> Result<(), SinkFault>
+    ensures { Says (K.taken sink.old) (K.taken sink.new) (K.faults sink.old) (K.faults sink.new) (config_line code) result }
+{
+    put(sink, Line::config(code).as_bytes())
+}

@@ -1,0 +1,53 @@
+use Rattle.std.proofs.Common.{refl}
+use Rattle.daa_state.specs.Number.{age, number, position, altitude, track, ground_speed, speed, vertical_speed}
+use Rattle.daa_state.specs.WordOf.{word_of, word_of_fields, word_of_name, own_of, ownship, traffic_of, aged_traffic_of, aircraft, identifier}
+use Rattle.daa_state.specs.MomentStep.{step, begun_moment}
+use Rattle.daa_state.proofs.laws.worked_examples.Goals as goal
+
+pub returns-clause-signs_and_zeros : goal.returns-clause-signs_and_zeros
+unfolding word_of word_of_fields word_of_name own_of ownship number position altitude track ground_speed vertical_speed
+returns-clause-signs_and_zeros c = refl
+
+pub returns-clause-blanks_and_age : goal.returns-clause-blanks_and_age
+unfolding word_of word_of_fields word_of_name aged_traffic_of aircraft identifier number position altitude speed vertical_speed age
+returns-clause-blanks_and_age c = refl
+
+pub returns-clause-longest_comment : goal.returns-clause-longest_comment
+unfolding word_of word_of_fields word_of_name
+returns-clause-longest_comment c = refl
+
+pub returns-clause-long_comment : goal.returns-clause-long_comment
+unfolding word_of
+returns-clause-long_comment c = refl
+
+pub returns-clause-capital : goal.returns-clause-capital
+unfolding word_of word_of_fields word_of_name
+returns-clause-capital c = refl
+
+pub returns-clause-two_returns : goal.returns-clause-two_returns
+unfolding word_of word_of_fields word_of_name
+returns-clause-two_returns c = refl
+
+pub returns-clause-two_fields : goal.returns-clause-two_fields
+unfolding word_of word_of_fields word_of_name own_of
+returns-clause-two_fields c = refl
+
+pub returns-clause-spelling_first : goal.returns-clause-spelling_first
+unfolding word_of word_of_fields word_of_name own_of ownship number position altitude track
+returns-clause-spelling_first c = refl
+
+pub returns-clause-nine_bytes : goal.returns-clause-nine_bytes
+unfolding word_of word_of_fields word_of_name traffic_of aircraft identifier
+returns-clause-nine_bytes c = refl
+
+pub returns-clause-range_first : goal.returns-clause-range_first
+unfolding word_of word_of_fields word_of_name own_of ownship number position altitude track
+returns-clause-range_first c = refl
+
+pub returns-clause-open_first : goal.returns-clause-open_first
+unfolding step begun_moment
+returns-clause-open_first c = refl
+
+pub returns-clause-not_later : goal.returns-clause-not_later
+unfolding step begun_moment
+returns-clause-not_later c = refl

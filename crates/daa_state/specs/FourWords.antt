@@ -1,0 +1,37 @@
+-- Lines as they are read where there is no word `format` and no age: the four words of format 1.
+use Rattle.std.specs.Prelude.{Bool, false, List, [], ◌∷◌, length, nat_le, codes, Ok, Err, if◌then◌else◌}
+use Rattle.std.specs.Str.{bytes_eq}
+use Rattle.std.specs.Str.Lines.{strip_carriage_return}
+use Rattle.daa_state.specs.Fault.{Checked}
+use Rattle.daa_state.specs.Fields.{Bytes, fields_of}
+use Rattle.daa_state.specs.WordOf.{is_comment, moment_of, own_of, traffic_of, end_of}
+use Rattle.daa_state.specs.declared.word.Word.{Word}
+use Rattle.daa_state.specs.declared.word.Word.TheVariants as says
+use Rattle.daa_state.specs.declared.fault.LineFault.TheVariants.{LongLine, BadWord}
+
+abbrev pub begins_with_format : List Bytes → Bool
+begins_with_format [] = false
+begins_with_format (name ∷ fields) = bytes_eq name (codes "format")
+
+-- the first field of the line is `format`
+abbrev pub is_format_line : Bytes → Bool
+is_format_line line = begins_with_format (fields_of (strip_carriage_return line))
+
+unfoldable pub four_word_of_name : Bytes → List Bytes → Checked Word
+four_word_of_name name fields =
+    if is_comment name then Ok says.Skip
+    else if bytes_eq name (codes "moment") then moment_of fields
+    else if bytes_eq name (codes "own") then own_of fields
+    else if bytes_eq name (codes "traffic") then traffic_of fields
+    else if bytes_eq name (codes "end") then end_of fields
+    else Err BadWord
+
+unfoldable pub four_word_of_fields : List Bytes → Checked Word
+four_word_of_fields [] = Ok says.Skip
+four_word_of_fields (name ∷ fields) = four_word_of_name name fields
+
+-- the word of a line, where there are the four words alone
+unfoldable pub four_word_of : Bytes → Checked Word
+four_word_of line =
+    if nat_le (length line) 255 then four_word_of_fields (fields_of (strip_carriage_return line))
+    else Err LongLine

@@ -1,0 +1,75 @@
+-- Words, moments and pictures whose numbers are in range.
+use Rattle.std.specs.Prelude.{ℕ, ◌≡◌, ◌≤◌, ℤ, ◌≤ℤ◌, true, length, All, IfSome}
+use Rattle.daa_state.specs.Id.{is_id}
+use Rattle.daa_state.specs.Ranges.{Range, positions, altitudes, tracks, ground_speeds, speeds, vertical_speeds}
+use Rattle.daa_state.specs.Picture.{aircraft_of}
+use Rattle.daa_state.specs.declared.word.Own.{Own}
+use Rattle.daa_state.specs.declared.word.Traffic.{Traffic}
+use Rattle.daa_state.specs.declared.word.Picture.{Picture}
+use Rattle.daa_state.specs.declared.word.Word.{Word}
+use Rattle.daa_state.specs.declared.word.Word.TheVariants as says
+use Rattle.daa_state.specs.declared.moments.Moment.{Moment}
+
+abbrev pub IsWithin : Range → ℤ → Type 0
+IsWithin range n = (range.low ≤ℤ n) × (n ≤ℤ range.high)
+
+abbrev pub IsPosition : ℤ → Type 0
+IsPosition = IsWithin positions
+
+abbrev pub IsAltitude : ℤ → Type 0
+IsAltitude = IsWithin altitudes
+
+abbrev pub IsTrack : ℤ → Type 0
+IsTrack = IsWithin tracks
+
+abbrev pub IsGroundSpeed : ℤ → Type 0
+IsGroundSpeed = IsWithin ground_speeds
+
+abbrev pub IsSpeed : ℤ → Type 0
+IsSpeed = IsWithin speeds
+
+abbrev pub IsVerticalSpeed : ℤ → Type 0
+IsVerticalSpeed = IsWithin vertical_speeds
+
+-- how many seconds old a report is
+abbrev pub IsAge : ℕ → Type 0
+IsAge n = n ≤ 60
+
+-- the format of the lines
+abbrev pub IsFormat : ℕ → Type 0
+IsFormat n = (1 ≤ n) × (n ≤ 2)
+
+pub record IsOwnInRange (own : Own) : Type 0 where
+  pub x : IsPosition own.x
+  pub y : IsPosition own.y
+  pub alt : IsAltitude own.alt
+  pub trk : IsTrack own.trk
+  pub gs : IsGroundSpeed own.gs
+  pub vs : IsVerticalSpeed own.vs
+
+pub record IsTrafficInRange (traffic : Traffic) : Type 0 where
+  pub id : is_id traffic.id ≡ true
+  pub x : IsPosition traffic.x
+  pub y : IsPosition traffic.y
+  pub alt : IsAltitude traffic.alt
+  pub vx : IsSpeed traffic.vx
+  pub vy : IsSpeed traffic.vy
+  pub vs : IsVerticalSpeed traffic.vs
+  pub age : IsAge traffic.age
+
+abbrev pub IsWordInRange : Word → Type 0
+IsWordInRange (says.Moment time) = Unit {0}
+IsWordInRange (says.Own own) = IsOwnInRange own
+IsWordInRange (says.Traffic traffic) = IsTrafficInRange traffic
+IsWordInRange (says.Format format) = IsFormat format
+IsWordInRange says.End = Unit {0}
+IsWordInRange says.Skip = Unit {0}
+
+pub record IsPictureInRange (picture : Picture) : Type 0 where
+  pub own : IsOwnInRange picture.own
+  pub traffic : All IsTrafficInRange (aircraft_of picture)
+  pub count : length (aircraft_of picture) ≤ 64
+
+pub record IsMomentInRange (moment : Moment) : Type 0 where
+  pub own : IfSome moment.own IsOwnInRange
+  pub traffic : All IsTrafficInRange moment.traffic.items

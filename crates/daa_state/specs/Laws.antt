@@ -1,0 +1,35 @@
+-- Laws of the words and moments.
+use Rattle.std.specs.Prelude.{ℕ, ◌≡◌, ◌≤◌, Bool, true, false, take, length, Err, IfOk}
+use Rattle.daa_state.specs.Fields.{Bytes}
+use Rattle.daa_state.specs.WordOf.{word_of}
+use Rattle.daa_state.specs.FourWords.{is_format_line, four_word_of}
+use Rattle.daa_state.specs.MomentStep.{State, step}
+use Rattle.daa_state.specs.declared.word.Word.{Word}
+use Rattle.daa_state.specs.declared.word.Word.TheVariants as says
+use Rattle.daa_state.specs.declared.fault.LineFault.TheVariants.{LongLine}
+
+abbrev pub is_format_word : Word → Bool
+is_format_word (says.Format format) = true
+is_format_word _ = false
+
+-- the first 256 bytes of a line decide its word
+abbrev pub First256BytesDecide : Type 0
+First256BytesDecide = (line : Bytes) (format : ℕ) → word_of (take 256 line) format ≡ word_of line format
+
+-- a line of 256 bytes or more is long
+abbrev pub LongFrom256Bytes : Type 0
+LongFrom256Bytes = (line : Bytes) (format : ℕ) → 256 ≤ length line → word_of line format ≡ Err LongLine
+
+-- a line whose first field is not `format` says no format word, in either format
+abbrev pub OnlyFormatLinesSayFormats : Type 0
+OnlyFormatLinesSayFormats = (line : Bytes) (format : ℕ) → is_format_line line ≡ false
+    → IfOk (word_of line format) (λ word. is_format_word word ≡ false)
+
+-- in format 1 it is read as where there are the four words alone
+abbrev pub ReadsAsFourWords : Type 0
+ReadsAsFourWords = (line : Bytes) → is_format_line line ≡ false → word_of line 1 ≡ four_word_of line
+
+-- a word other than a format word leaves the format
+abbrev pub OtherWordsLeaveTheFormat : Type 0
+OtherWordsLeaveTheFormat = (state : State) (word : Word) → is_format_word word ≡ false
+    → IfOk (step state word) (λ next. next.state.format ≡ state.format)

@@ -1,0 +1,13 @@
+pub mod Fault
+pub mod Ranges
+pub mod Fields
+pub mod Texts
+pub mod Id
+pub mod IdCells
+pub mod Number
+pub mod WordOf
+pub mod Picture
+pub mod MomentStep
+pub mod InRange
+pub mod FourWords
+pub mod Laws

@@ -1,0 +1,88 @@
+-- What a word makes of the moments.
+use Rattle.std.specs.Prelude.{ℕ, Bool, List, [], ◌∷◌, ◌++◌, ◌==◌, length, nat_le, is_some, Option, Some, None, Ok, Err, if◌then◌else◌}
+use Rattle.std.specs.List.{list_any}
+use Rattle.std.specs.Str.{bytes_eq}
+use Rattle.daa_state.specs.Fault.{Checked, ◌>>=◌}
+use Rattle.daa_state.specs.declared.moments.Moment.{Moment}
+use Rattle.daa_state.specs.declared.word.Own.{Own}
+use Rattle.daa_state.specs.declared.word.Traffic.{Traffic}
+use Rattle.daa_state.specs.declared.word.Picture.{Picture}
+use Rattle.daa_state.specs.declared.word.Word.{Word}
+use Rattle.daa_state.specs.declared.word.Word.TheVariants as says
+use Rattle.daa_state.specs.declared.fault.LineFault.TheVariants.{NoMoment, MomentOpen, NotLater, OwnTwice, SameId, Full, NoOwn, Unfinished}
+
+-- the open moment, the time of the last ended moment, and the format of the lines
+pub record State : Type 0 where
+  pub moment : Option Moment
+  pub last : Option ℕ
+  pub format : ℕ
+
+-- no moment is open, none was ended, and the format is 1
+abbrev pub start : State
+start = record { moment = None; last = None; format = 1 }
+
+-- a new state, and the picture of the moment that was ended
+pub record Stepped : Type 0 where
+  pub state : State
+  pub picture : Option Picture
+
+abbrev pub stepped : State → Option Picture → Stepped
+stepped state picture = record { state = state; picture = picture }
+
+abbrev pub empty_moment : ℕ → Moment
+empty_moment time = record { time = time; own = None; traffic = record { items = [] } }
+
+-- a moment begins where none is open, later than the last ended one
+unfoldable pub begun_moment : Option Moment → Option ℕ → ℕ → Checked Moment
+begun_moment (Some moment) last time = Err MomentOpen
+begun_moment None None time = Ok (empty_moment time)
+begun_moment None (Some last) time = if nat_le time last then Err (NotLater last) else Ok (empty_moment time)
+
+-- the open moment gets its ownship
+unfoldable pub with_own : Option Moment → Own → Checked Moment
+with_own None own = Err NoMoment
+with_own (Some moment) own = if is_some moment.own then Err OwnTwice else Ok (record moment { own = Some own })
+
+-- an aircraft of this identifier is there
+abbrev pub has_id : List ℕ → List Traffic → Bool
+has_id id traffic = list_any (λ aircraft. bytes_eq aircraft.id id) traffic
+
+-- the open moment gets an aircraft more, after the others
+unfoldable pub with_traffic : Option Moment → Traffic → Checked Moment
+with_traffic None traffic = Err NoMoment
+with_traffic (Some moment) traffic =
+    if has_id traffic.id moment.traffic.items then Err SameId
+    else if length moment.traffic.items == 64 then Err Full
+    else Ok (record moment { traffic = record { items = moment.traffic.items ++ traffic ∷ [] } })
+
+-- the picture of a moment that has an ownship
+abbrev pub picture_with : Moment → Option Own → Checked Picture
+picture_with moment None = Err NoOwn
+picture_with moment (Some own) = Ok (record { time = moment.time; own = own; traffic = moment.traffic })
+
+-- the open moment ends
+unfoldable pub ended_picture : Option Moment → Checked Picture
+ended_picture None = Err NoMoment
+ended_picture (Some moment) = picture_with moment moment.own
+
+-- what a word makes of a state, or why it is refused; then the state stays
+unfoldable pub step : State → Word → Checked Stepped
+step state (says.Moment time) = do
+  moment ← begun_moment state.moment state.last time
+  Ok (stepped (record state { moment = Some moment }) None)
+step state (says.Own own) = do
+  moment ← with_own state.moment own
+  Ok (stepped (record state { moment = Some moment }) None)
+step state (says.Traffic traffic) = do
+  moment ← with_traffic state.moment traffic
+  Ok (stepped (record state { moment = Some moment }) None)
+step state (says.Format format) =
+    if is_some state.moment then Err MomentOpen else Ok (stepped (record state { format = format }) None)
+step state says.End = do
+  picture ← ended_picture state.moment
+  Ok (stepped (record state { moment = None; last = Some picture.time }) (Some picture))
+step state says.Skip = Ok (stepped state None)
+
+-- the end of the input: a moment that is open is unfinished
+abbrev pub finished : State → Checked (Unit {0})
+finished state = if is_some state.moment then Err Unfinished else Ok tt

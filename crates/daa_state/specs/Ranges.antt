@@ -1,0 +1,42 @@
+-- The ranges of the numbers of state lines. Both ends belong to a range.
+use Rattle.std.specs.Prelude.{ℤ, pos, neg_ℤ}
+
+pub record Range : Type 0 where
+  pub low : ℤ
+  pub high : ℤ
+
+-- a place east or north, in thousandths of a nautical mile
+abbrev pub positions : Range
+positions = record { low = neg_ℤ (pos 200000); high = pos 200000 }
+
+-- feet
+abbrev pub altitudes : Range
+altitudes = record { low = neg_ℤ (pos 2000); high = pos 60000 }
+
+-- degrees clockwise from north
+abbrev pub tracks : Range
+tracks = record { low = pos 0; high = pos 359 }
+
+-- tenths of a knot
+abbrev pub ground_speeds : Range
+ground_speeds = record { low = pos 0; high = pos 10000 }
+
+-- an aircraft's speed east or north, in tenths of a knot
+abbrev pub speeds : Range
+speeds = record { low = neg_ℤ (pos 10000); high = pos 10000 }
+
+-- feet per minute
+abbrev pub vertical_speeds : Range
+vertical_speeds = record { low = neg_ℤ (pos 10000); high = pos 10000 }
+
+-- how many seconds old a report is
+abbrev pub ages : Range
+ages = record { low = pos 0; high = pos 60 }
+
+-- the formats of the lines
+abbrev pub formats : Range
+formats = record { low = pos 1; high = pos 2 }
+
+-- the times of moments, in seconds
+abbrev pub times : Range
+times = record { low = pos 0; high = pos 4294967295 }

@@ -1,0 +1,62 @@
+//! Why a line is refused.
+
+ghost use Rattle.std.specs.Prelude.{◌≡◌};
+ghost use Rattle.daa_state.specs.Fault.{code_of};
+
+/// Why a line is refused. Where more than one cause applies, the first of this list is answered, but that `BadNumber`,
+/// `BadId` and `OutOfRange` are decided field by field from the left, for each field first its spelling.
+#[derive(Clone, Copy, Debug, PartialEq, Eq)]
+pub enum LineFault {
+    /// The line has more than 255 bytes, a carriage return at its end counted; also a comment.
+    LongLine,
+    /// The first field is none of `moment`, `own`, `traffic`, `format` and `end`.
+    BadWord,
+    /// The word takes another number of fields.
+    FieldCount,
+    /// A number's field is not an optional sign and 1 to 10 digits.
+    BadNumber,
+    /// The identifier's field is not 1 to 8 letters, digits, underscores and dashes.
+    BadId,
+    /// A number is outside its range.
+    OutOfRange,
+    /// `own`, `traffic` or `end` while no moment is open.
+    NoMoment,
+    /// `moment` or `format` while a moment is open.
+    MomentOpen,
+    /// `moment` with a time that is not greater than that of the last ended moment, which is carried, in seconds.
+    NotLater(u32),
+    /// `own` while the moment has one.
+    OwnTwice,
+    /// `traffic` with an identifier that the moment has.
+    SameId,
+    /// `traffic` while the moment has 64 aircraft.
+    Full,
+    /// `end` while the moment has no `own`.
+    NoOwn,
+    /// The input ended while a moment is open.
+    Unfinished,
+}
+
+impl LineFault {
+    /// The number, 1 to 14, under which the fault is reported.
+    pub fn code(&self) -> u8
+        ensures { result ≡ code_of self.now }
+    {
+        match self {
+            LineFault::LongLine => 1,
+            LineFault::BadWord => 2,
+            LineFault::FieldCount => 3,
+            LineFault::BadNumber => 4,
+            LineFault::BadId => 5,
+            LineFault::OutOfRange => 6,
+            LineFault::NoMoment => 7,
+            LineFault::MomentOpen => 8,
+            LineFault::NotLater(_) => 9,
+            LineFault::OwnTwice => 10,
+            LineFault::SameId => 11,
+            LineFault::Full => 12,
+            LineFault::NoOwn => 13,
+            LineFault::Unfinished => 14,
+        }
+    }
+}

@@ -1,0 +1,29 @@
+//! The fields of a line.
+
+ghost use Rattle.std.specs.Prelude.{◌≡◌, ◌||◌, ◌==◌, take, map};
+ghost use Rattle.daa_state.specs.Fields.{is_blank, fields_of};
+ghost use Rattle.daa_state.specs.Texts.{texts};
+
+use arrayvec::ArrayVec;
+
+/// Enough places to see that a line has more fields than any word takes, its name counted.
+pub(crate) const MOST_FIELDS: usize = 10;
+
+/// The first fields of a line.
+pub(crate) fn fields(line: &[u8]) -> ArrayVec<&[u8], MOST_FIELDS>
+    ensures { texts result.items ≡ take 10 (fields_of line.now) }
+{
+    let mut fields = ArrayVec::new();
+    for field in line.split(|b| is_blank(*b)) {
+        if !field.is_empty() && !fields.is_full() {
+            fields.push(field);
+        }
+    }
+    fields
+}
+
+fn is_blank(byte: u8) -> bool
+    ensures { result ≡ is_blank byte }
+{
+    byte == b' ' || byte == b'\t'
+}

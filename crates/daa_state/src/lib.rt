@@ -1,0 +1,26 @@
+//! State lines to moments: `read_line` gives the word that a line says, and `Moments` steps from word to word and gives
+//! a picture at the end of each moment. A line or a word that does not fit is refused with one fault and changes
+//! nothing. Nothing here takes memory.
+#![tactic(auto)]
+
+mod fault;
+mod fields;
+mod id;
+mod laws;
+mod moments;
+mod number;
+mod word;
+mod word_of;
+
+pub use fault::LineFault;
+pub use id::Id;
+pub use laws::{
+    first_256_bytes_decide, other_words_leave_the_format, without_format_lines_four_words_are_read,
+    worked_examples,
+};
+pub use moments::Moments;
+pub use word::{Own, Picture, Traffic, Word};
+pub use word_of::read_line;
+
+#[cfg(test)]
+mod tests;

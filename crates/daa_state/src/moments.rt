@@ -1,0 +1,201 @@
+//! Words to moments.
+
+ghost use Rattle.std.specs.Prelude.{◌≡◌, ◌↔◌, None, IsSome, OnOk, IfSome, IsSomeAnd, OnErr, IfOk, IfErr, Ok, Err, Some, ◌<◌, ◌≤◌, length, ◌++◌, ◌∷◌, []};
+ghost use Rattle.std.specs.Str.{bytes_eq};
+ghost use Rattle.daa_state.specs.InRange.{IsFormat, IsWordInRange, IsOwnInRange, IsTrafficInRange, IsMomentInRange, IsPictureInRange};
+ghost use Rattle.daa_state.specs.MomentStep.{step, stepped, finished, start, begun_moment, with_own, with_traffic, ended_picture, has_id};
+
+use crate::fault::LineFault;
+use crate::id::Id;
+use crate::word::{Own, Picture, Traffic, Word};
+use arrayvec::ArrayVec;
+use std::marker::Model;
+
+/// The most aircraft of a moment.
+const MOST_AIRCRAFT: usize = 64;
+
+/// A moment that is open: its time in seconds, its ownship if it has one, and its aircraft in the order of their lines.
+#[derive(Debug, Drop)]
+pub struct Moment {
+    pub time: u32,
+    pub own: Option<Own>,
+    pub traffic: ArrayVec<Traffic, MOST_AIRCRAFT>,
+}
+
+/// What stands between two words: the open moment, if there is one, the time of the last ended moment, if there is one,
+/// and the format of the lines that come.
+#[derive(Debug, Drop)]
+pub struct Moments {
+    moment: Option<Moment>,
+    last: Option<u32>,
+    format: u32,
+}
+
+impl Model for Moments {
+    ghost use Rattle.std.specs.Prelude.{IfSome};
+    ghost use Rattle.daa_state.specs.MomentStep.{State};
+    ghost use Rattle.daa_state.specs.InRange.{IsMomentInRange, IsFormat};
+
+    ghost Value = { State };
+
+    ghost view = { λ m. record { moment = m.moment; last = m.last; format = m.format } };
+
+    ghost invariant = { λ m. IfSome m.moment IsMomentInRange × IsFormat m.format };
+}
+
+impl Moments {
+    /// No moment is open, none was ended, and the format is 1.
+    pub fn new() -> Self
+        ensures { result ≡ start }
+    {
+        Moments {
+            moment: None,
+            last: None,
+            format: 1,
+        }
+    }
+
+    /// Takes the next word: a picture exactly at an `End` that is accepted. A word that is refused, with the first fault
+    /// that applies of codes 7 to 13, changes nothing.
+    #[tactic(auto, unfolding(crate::specs::MomentStep::step))]
+    pub fn take(&mut self, word: Word) -> Result<Option<Picture>, LineFault>
+        requires range { IsWordInRange word }
+        ensures taken { IfOk result (λ picture. step self.old word ≡ Ok (stepped self.new picture)) }
+        ensures at_end { IfOk result (λ picture. IsSome picture ↔ (word ≡ Word.End)) }
+        ensures refused { IfErr result (λ fault. step self.old word ≡ Err fault) }
+        ensures unchanged { OnErr result (self.new ≡ self.old) }
+        ensures range { IfOk result (λ picture. IfSome picture IsPictureInRange) }
+    {
+        match word {
+            Word::Moment(time) => {
+                self.moment = Some(begin(&self.moment, self.last, time)?);
+                Ok(None)
+            }
+            Word::Own(own) => {
+                add_own(&mut self.moment, own)?;
+                Ok(None)
+            }
+            Word::Traffic(traffic) => {
+                add_traffic(&mut self.moment, traffic)?;
+                Ok(None)
+            }
+            Word::Format(_) if self.moment.is_some() => Err(LineFault::MomentOpen),
+            Word::Format(format) => {
+                self.format = format;
+                Ok(None)
+            }
+            Word::End => {
+                let picture = end(&mut self.moment)?;
+                self.last = Some(picture.time);
+                Ok(Some(picture))
+            }
+            Word::Skip => Ok(None),
+        }
+    }
+
+    /// The format, 1 or 2, of the lines that come.
+    pub fn format(&self) -> u32
+        ensures value { result ≡ self.now.format }
+        ensures range { IsFormat result }
+    {
+        self.format
+    }
+
+    /// The end of the input: `Unfinished` exactly where a moment is open.
+    pub fn finish(&self) -> Result<(), LineFault>
+        ensures { result ≡ finished self.now }
+    {
+        match self.moment {
+            Some(_) => Err(LineFault::Unfinished),
+            None => Ok(()),
+        }
+    }
+}
+
+/// The moment that begins, where none is open and its time is later than the last.
+#[tactic(auto, unfolding(crate::specs::MomentStep::begun_moment))]
+fn begin(moment: &Option<Moment>, last: Option<u32>, time: u32) -> Result<Moment, LineFault>
+    ensures value { result ≡ begun_moment moment.now last time }
+    ensures range { IfOk result IsMomentInRange }
+{
+    if moment.is_some() {
+        return Err(LineFault::MomentOpen);
+    }
+    match last {
+        Some(last) if time <= last => Err(LineFault::NotLater(last)),
+        _ => Ok(Moment {
+            time,
+            own: None,
+            traffic: ArrayVec::new(),
+        }),
+    }
+}
+
+#[tactic(auto, unfolding(crate::specs::MomentStep::with_own))]
+fn add_own(moment: &mut Option<Moment>, own: Own) -> Result<(), LineFault>
+    requires range { IsOwnInRange own }
+    ensures added { OnOk result (IsSomeAnd moment.new (λ new. with_own moment.old own ≡ Ok new)) }
+    ensures refused { IfErr result (λ fault. with_own moment.old own ≡ Err fault) }
+    ensures unchanged { OnErr result (moment.new ≡ moment.old) }
+    ensures range { IfSome moment.old IsMomentInRange → IfSome moment.new IsMomentInRange }
+{
+    let Some(moment) = moment else {
+        return Err(LineFault::NoMoment);
+    };
+    if moment.own.is_some() {
+        return Err(LineFault::OwnTwice);
+    }
+    moment.own = Some(own);
+    Ok(())
+}
+
+#[tactic(auto, unfolding(crate::specs::MomentStep::with_traffic))]
+fn add_traffic(moment: &mut Option<Moment>, traffic: Traffic) -> Result<(), LineFault>
+    requires range { IsTrafficInRange traffic }
+    ensures added { OnOk result (IsSomeAnd moment.new (λ new. with_traffic moment.old traffic ≡ Ok new)) }
+    ensures refused { IfErr result (λ fault. with_traffic moment.old traffic ≡ Err fault) }
+    ensures unchanged { OnErr result (moment.new ≡ moment.old) }
+    ensures range { IfSome moment.old IsMomentInRange → IfSome moment.new IsMomentInRange }
+{
+    let Some(moment) = moment else {
+        return Err(LineFault::NoMoment);
+    };
+    if has_id(&moment.traffic, &traffic.id) {
+        return Err(LineFault::SameId);
+    }
+    if moment.traffic.is_full() {
+        return Err(LineFault::Full);
+    }
+    moment.traffic.push(traffic);
+    Ok(())
+}
+
+fn has_id(traffic: &ArrayVec<Traffic, MOST_AIRCRAFT>, id: &Id) -> bool
+    ensures { result ≡ has_id id.now traffic.now.items }
+{
+    traffic.as_slice().iter().any(|aircraft| aircraft.id == *id)
+}
+
+/// Takes the open moment out as a picture.
+#[tactic(auto, unfolding(crate::specs::MomentStep::ended_picture))]
+fn end(moment: &mut Option<Moment>) -> Result<Picture, LineFault>
+    ensures ended { IfOk result (λ picture. (ended_picture moment.old ≡ Ok picture) × (moment.new ≡ None)) }
+    ensures refused { IfErr result (λ fault. ended_picture moment.old ≡ Err fault) }
+    ensures unchanged { OnErr result (moment.new ≡ moment.old) }
+    ensures range { IfSome moment.old IsMomentInRange → IfOk result IsPictureInRange }
+{
+    match moment.take() {
+        None => Err(LineFault::NoMoment),
+        Some(
+            Moment {
+                time,
+                own: Some(own),
+                traffic,
+            },
+        ) => Ok(Picture { time, own, traffic }),
+        Some(open) => {
+            *moment = Some(open);
+            Err(LineFault::NoOwn)
+        }
+    }
+}

@@ -1,0 +1,176 @@
+//! Numbers in fields: how they are spelled, and the range of each.
+
+ghost use Rattle.std.specs.Prelude.{◌≡◌, ◌≤◌, ◌<◌, ◌^◌, length, true, false, IsTrue, pos, IfSome, IfOk, MatchOption};
+ghost use Rattle.std.specs.Option.{SomeIff};
+ghost use Rattle.std.specs.List.{list_all};
+ghost use Rattle.std.specs.Char.{is_ascii_digit};
+ghost use Rattle.daa_state.specs.Number.{has_minus, digits_of_field, size_of_digits, are_digits, number, position, altitude, track, ground_speed, speed, vertical_speed, age, line_format, seconds};
+ghost use Rattle.daa_state.specs.InRange.{IsPosition, IsAltitude, IsTrack, IsGroundSpeed, IsSpeed, IsVerticalSpeed, IsAge, IsFormat};
+
+use crate::fault::LineFault;
+
+/// The most digits of a number.
+const MOST_DIGITS: usize = 10;
+
+/// The number that a field spells.
+#[tactic(auto, unfolding(crate::specs::Number::number))]
+fn number(field: &[u8]) -> Result<i64, LineFault>
+    ensures { result ≡ number field.now }
+{
+    match size(unsigned(field)) {
+        Some(size) if is_negative(field) => Ok(-size),
+        Some(size) => Ok(size),
+        None => Err(LineFault::BadNumber),
+    }
+}
+
+fn is_negative(field: &[u8]) -> bool
+    ensures { result ≡ has_minus field.now }
+{
+    matches!(field, [b'-', ..])
+}
+
+/// The field without a sign in front.
+fn unsigned(field: &[u8]) -> &[u8]
+    ensures { result.now ≡ digits_of_field field.now }
+{
+    match field {
+        [b'+' | b'-', digits @ ..] => digits,
+        _ => field,
+    }
+}
+
+/// The number that 1 to 10 digits write.
+fn size(digits: &[u8]) -> Option<i64>
+    ensures { SomeIff result (IsTrue (are_digits digits.now)) (pos (size_of_digits digits.now)) }
+{
+    if digits.is_empty() || digits.len() > MOST_DIGITS {
+        return None;
+    }
+    let value = digits_value(digits)?;
+    Some(value as i64)
+}
+
+/// The number that digits write, of which there are few enough that it fits.
+fn digits_value(digits: &[u8]) -> Option<u64>
+    requires { length digits.now ≤ 18 }
+    ensures value { MatchOption result (list_all is_ascii_digit digits.now ≡ false)
+        (λ value. (list_all is_ascii_digit digits.now ≡ true) × (value ≡ size_of_digits digits.now)) }
+    ensures small { IfSome result (λ value. value < 10 ^ 18) }
+{
+    let mut value = 0u64;
+    for b in digits {
+        if !b.is_ascii_digit() {
+            return None;
+        }
+        value = value * 10 + (*b - b'0') as u64;
+    }
+    Some(value)
+}
+
+/// A place east or north, in thousandths of a nautical mile.
+#[tactic(auto, unfolding(crate::specs::Number::position))]
+pub(crate) fn position(field: &[u8]) -> Result<i32, LineFault>
+    ensures value { result ≡ position field.now }
+    ensures range { IfOk result IsPosition }
+{
+    match number(field)? {
+        n @ -200_000..=200_000 => Ok(n as i32),
+        _ => Err(LineFault::OutOfRange),
+    }
+}
+
+/// Feet.
+#[tactic(auto, unfolding(crate::specs::Number::altitude))]
+pub(crate) fn altitude(field: &[u8]) -> Result<i32, LineFault>
+    ensures value { result ≡ altitude field.now }
+    ensures range { IfOk result IsAltitude }
+{
+    match number(field)? {
+        n @ -2_000..=60_000 => Ok(n as i32),
+        _ => Err(LineFault::OutOfRange),
+    }
+}
+
+/// Degrees clockwise from north.
+#[tactic(auto, unfolding(crate::specs::Number::track))]
+pub(crate) fn track(field: &[u8]) -> Result<i32, LineFault>
+    ensures value { result ≡ track field.now }
+    ensures range { IfOk result IsTrack }
+{
+    match number(field)? {
+        n @ 0..=359 => Ok(n as i32),
+        _ => Err(LineFault::OutOfRange),
+    }
+}
+
+/// Tenths of a knot.
+#[tactic(auto, unfolding(crate::specs::Number::ground_speed))]
+pub(crate) fn ground_speed(field: &[u8]) -> Result<i32, LineFault>
+    ensures value { result ≡ ground_speed field.now }
+    ensures range { IfOk result IsGroundSpeed }
+{
+    match number(field)? {
+        n @ 0..=10_000 => Ok(n as i32),
+        _ => Err(LineFault::OutOfRange),
+    }
+}
+
+/// A speed east or north, in tenths of a knot.
+#[tactic(auto, unfolding(crate::specs::Number::speed))]
+pub(crate) fn speed(field: &[u8]) -> Result<i32, LineFault>
+    ensures value { result ≡ speed field.now }
+    ensures range { IfOk result IsSpeed }
+{
+    match number(field)? {
+        n @ -10_000..=10_000 => Ok(n as i32),
+        _ => Err(LineFault::OutOfRange),
+    }
+}
+
+/// Feet per minute.
+#[tactic(auto, unfolding(crate::specs::Number::vertical_speed))]
+pub(crate) fn vertical_speed(field: &[u8]) -> Result<i32, LineFault>
+    ensures value { result ≡ vertical_speed field.now }
+    ensures range { IfOk result IsVerticalSpeed }
+{
+    match number(field)? {
+        n @ -10_000..=10_000 => Ok(n as i32),
+        _ => Err(LineFault::OutOfRange),
+    }
+}
+
+/// How many seconds old a report is.
+#[tactic(auto, unfolding(crate::specs::Number::age))]
+pub(crate) fn age(field: &[u8]) -> Result<u32, LineFault>
+    ensures value { result ≡ age field.now }
+    ensures range { IfOk result IsAge }
+{
+    match number(field)? {
+        n @ 0..=60 => Ok(n as u32),
+        _ => Err(LineFault::OutOfRange),
+    }
+}
+
+/// A format of the lines.
+#[tactic(auto, unfolding(crate::specs::Number::line_format))]
+pub(crate) fn line_format(field: &[u8]) -> Result<u32, LineFault>
+    ensures value { result ≡ line_format field.now }
+    ensures range { IfOk result IsFormat }
+{
+    match number(field)? {
+        n @ 1..=2 => Ok(n as u32),
+        _ => Err(LineFault::OutOfRange),
+    }
+}
+
+/// The time of a moment, in seconds.
+#[tactic(auto, unfolding(crate::specs::Number::seconds))]
+pub(crate) fn seconds(field: &[u8]) -> Result<u32, LineFault>
+    ensures { result ≡ seconds field.now }
+{
+    match number(field)? {
+        n @ 0..=4_294_967_295 => Ok(n as u32),
+        _ => Err(LineFault::OutOfRange),
+    }
+}

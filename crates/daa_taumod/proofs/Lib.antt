@@ -1,0 +1,2 @@
+pub mod ClosestApproach
+pub mod Examples

@@ -1,0 +1,53 @@
+use Rattle.std.proofs.Common.{◌≡◌, ◌≤◌, ℕ, ℤ, pos, neg_ℤ, lit<, arith, rules, to_z-of_z, ◌+◌, ◌*◌, ◌^◌, ◌*ℤ◌, ◌-ℤ◌, ap, ◌∙◌}
+use mir.Syntax.{w128}
+use Rattle.std.proofs.lemmas.Int.{ints}
+use Rattle.daa_fixed.specs.declared.Flat.{Flat}
+use Rattle.daa_fixed.specs.Flat.{dot_of}
+use Rattle.daa_fixed.specs.Size.{IsWithin}
+use Rattle.daa_fixed.specs.Leg.{IsLegInRange}
+use Rattle.daa_fixed.proofs.Bounds.{times, fits, as_within, le_test}
+use Rattle.daa_fixed.proofs.LegSizes as size
+use Rattle.daa_fixed.proofs.LegSizes.{natural, room}
+use Rattle.daa_fixed.proofs.PointSizes as point
+use Rattle.daa_fixed.proofs.PointSizes.{IsPointInRange}
+use Rattle.daa_taumod.proofs.horizontal.is_closest_soon.Goals as goal
+
+zero_less : (x : ℤ) → pos 0 -ℤ x ≡ neg_ℤ x
+zero_less x = omega (arith, ints)
+
+zero_less-within : {m : ℕ} (x : ℤ) → IsWithin m x → IsWithin m (pos 0 -ℤ x)
+zero_less-within {m} x h = record { size = omega (arith, ints, h.size) }
+
+pub overflow_sub-result : goal.overflow_sub-result
+overflow_sub-result c =
+    let r : IsLegInRange c.args.leg.now = search rules in
+    let wd : IsWithin (room * 40000 + room * 40000) c.dot.result = as_within c.dot.ensures (size.rate r c.place_then-place.ensures.short) in
+    let f1 = fits w128 wd (lit< tt) in
+    simp to_z-of_z (fits w128 (zero_less-within c.dot.result wd) (lit< tt))
+
+pub overflow_mul-result : goal.overflow_mul-result
+overflow_mul-result c =
+    let r : IsLegInRange c.args.leg.now = search rules in
+    let t : IsPointInRange c.args.point.now = search rules in
+    let tthr : c.args.volume.now.tthr ≤ 120 = search rules in
+    let wt : IsWithin (120 * 2 ^ 33) c.scaled.result = as_within c.scaled.ensures (times (natural 120 c.args.volume.now.tthr tthr) (point.d t)) in
+    let wv : IsWithin 3200000000 c.square.result = as_within c.square.ensures (size.vv r) in
+    let f1 = fits w128 wt (lit< tt) in
+    let f2 = fits w128 wv (lit< tt) in
+    simp to_z-of_z (fits w128 (times wt wv) (lit< tt))
+
+pub returns : goal.returns
+returns c =
+    let r : IsLegInRange c.args.leg.now = search rules in
+    let t : IsPointInRange c.args.point.now = search rules in
+    let tthr : c.args.volume.now.tthr ≤ 120 = search rules in
+    let wt : IsWithin (120 * 2 ^ 33) c.scaled.result = as_within c.scaled.ensures (times (natural 120 c.args.volume.now.tthr tthr) (point.d t)) in
+    let wv : IsWithin 3200000000 c.square.result = as_within c.square.ensures (size.vv r) in
+    let wd : IsWithin (room * 40000 + room * 40000) c.dot.result = as_within c.dot.ensures (size.rate r c.place_then-place.ensures.short) in
+    let f1 = fits w128 wt (lit< tt) in
+    let f2 = fits w128 wv (lit< tt) in
+    let f3 = fits w128 (times wt wv) (lit< tt) in
+    let f4 = fits w128 wd (lit< tt) in
+    let f5 = fits w128 (zero_less-within c.dot.result wd) (lit< tt) in
+    let turned = c.dot.ensures ∙ ap (λ (p : Flat). dot_of p c.args.leg.now.velocity.flat) c.place_then-place.ensures.value in
+    simp to_z-of_z (le_test _ _ _ _ (zero_less c.dot.result ∙ ap neg_ℤ turned) (λ i. c.scaled.ensures i *ℤ c.square.ensures i))

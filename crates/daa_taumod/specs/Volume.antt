@@ -1,0 +1,74 @@
+-- The well-clear volume at one time of a straight leg: the models WCV_TAUMOD and WCV_TCPA of Munoz and others, A Family of
+-- Well-Clear Boundary Models. The time is n/d seconds after the leg's beginning; every bound is multiplied out by d, so that
+-- all numbers are whole, and is inclusive.
+use Rattle.std.specs.Prelude.{ℤ, pos, ◌+ℤ◌, neg_ℤ, ◌*ℤ◌, ◌≤ℤ◌, ◌<ℤ◌, ◌⊎◌, unsigned_abs, ◌≤◌}
+use Rattle.daa_fixed.specs.Flat.{dot_of, cross_of, square_of}
+use Rattle.daa_fixed.specs.declared.Flat.{Flat}
+use Rattle.daa_fixed.specs.declared.Leg.{Leg}
+use Rattle.daa_taumod.specs.declared.Model.{Model}
+use Rattle.daa_taumod.specs.declared.Model.TheVariants.{Taumod, Tcpa}
+use Rattle.daa_taumod.specs.declared.Volume.{Volume}
+
+-- thresholds as large as a configuration's: 10 nautical miles, 10000 feet, 120 seconds
+pub record IsVolumeInRange (vol : Volume) : Type 0 where
+  pub dthr : vol.dthr ≤ 360000
+  pub zthr : vol.zthr ≤ 600000
+  pub tthr : vol.tthr ≤ 120
+  pub tcoa : vol.tcoa ≤ 120
+
+-- the same thresholds by another model
+abbrev pub with_model : Model → Volume → Volume
+with_model model vol = record vol { model = model }
+
+-- d times the horizontal place at n/d
+abbrev pub place_at : Leg → ℤ → ℤ → Flat
+place_at leg n d = record {
+  east = d *ℤ leg.place.flat.east +ℤ n *ℤ leg.velocity.flat.east;
+  north = d *ℤ leg.place.flat.north +ℤ n *ℤ leg.velocity.flat.north;
+}
+
+-- d times the difference in height at n/d
+abbrev pub height_at : Leg → ℤ → ℤ → ℤ
+height_at leg n d = d *ℤ leg.place.up +ℤ n *ℤ leg.velocity.up
+
+-- the distance is at most dthr
+abbrev pub IsNear : Leg → Volume → ℤ → ℤ → Type 0
+IsNear leg vol n d = dot_of (place_at leg n d) (place_at leg n d) ≤ℤ square_of (pos vol.dthr *ℤ d)
+
+-- the straight line has a distance of at most dthr at its closest approach
+abbrev pub PassesNear : Leg → Volume → ℤ → ℤ → Type 0
+PassesNear leg vol n d =
+    square_of (cross_of (place_at leg n d) leg.velocity.flat) ≤ℤ (square_of (pos vol.dthr *ℤ d) *ℤ dot_of leg.velocity.flat leg.velocity.flat)
+
+-- where the distance falls: modified tau, or the time to the closest approach, is at most tthr
+abbrev pub IsSoon : Model → Leg → Volume → ℤ → ℤ → Type 0
+IsSoon Taumod leg vol n d =
+    (dot_of (place_at leg n d) (place_at leg n d) +ℤ pos vol.tthr *ℤ d *ℤ dot_of (place_at leg n d) leg.velocity.flat) ≤ℤ square_of (pos vol.dthr *ℤ d)
+IsSoon Tcpa leg vol n d =
+    neg_ℤ (dot_of (place_at leg n d) leg.velocity.flat) ≤ℤ (pos vol.tthr *ℤ d *ℤ dot_of leg.velocity.flat leg.velocity.flat)
+
+-- the distance falls, soon, and to at most dthr
+pub record IsClosing (leg : Leg) (vol : Volume) (n d : ℤ) : Type 0 where
+  pub nearing : dot_of (place_at leg n d) leg.velocity.flat <ℤ pos 0
+  pub soon : IsSoon vol.model leg vol n d
+  pub near : PassesNear leg vol n d
+
+-- the difference in height is at most zthr
+abbrev pub IsLevel : Leg → Volume → ℤ → ℤ → Type 0
+IsLevel leg vol n d = pos (unsigned_abs (height_at leg n d)) ≤ℤ (pos vol.zthr *ℤ d)
+
+-- the difference in height falls, and the time to co-altitude is at most tcoa
+pub record IsLevelling (leg : Leg) (vol : Volume) (n d : ℤ) : Type 0 where
+  pub nearing : (height_at leg n d *ℤ leg.velocity.up) <ℤ pos 0
+  pub soon : pos (unsigned_abs (height_at leg n d)) ≤ℤ (pos vol.tcoa *ℤ d *ℤ pos (unsigned_abs leg.velocity.up))
+
+abbrev pub ViolatesHorizontally : Leg → Volume → ℤ → ℤ → Type 0
+ViolatesHorizontally leg vol n d = IsNear leg vol n d ⊎ IsClosing leg vol n d
+
+abbrev pub ViolatesVertically : Leg → Volume → ℤ → ℤ → Type 0
+ViolatesVertically leg vol n d = IsLevel leg vol n d ⊎ IsLevelling leg vol n d
+
+-- the volume is violated at n/d: both parts hold at that one time
+pub record Violates (leg : Leg) (vol : Volume) (n d : ℤ) : Type 0 where
+  pub horizontal : ViolatesHorizontally leg vol n d
+  pub vertical : ViolatesVertically leg vol n d

@@ -1,0 +1,88 @@
+//! The horizontal part of the volume: one function for each clause of its definition.
+
+ghost use Rattle.std.specs.Prelude.{◌↔◌, ◌≤ℤ◌, ◌<ℤ◌, IsTrue, ℤ, pos};
+ghost use Rattle.daa_fixed.specs.Flat.{dot_of};
+ghost use Rattle.daa_fixed.specs.Leg.{IsLegInRange};
+ghost use Rattle.daa_taumod.specs.Volume.{IsVolumeInRange, ViolatesHorizontally, IsNear, IsClosing, IsSoon, PassesNear, place_at};
+
+use crate::place::place_then;
+use crate::threshold::{scaled, scaled_square};
+use crate::{Model, Volume};
+use daa_fixed::{Leg, Point, cross, dot, square};
+
+pub(crate) fn violates_horizontally(leg: &Leg, volume: &Volume, point: &Point) -> bool
+    requires leg { IsLegInRange leg.now }
+    requires volume { IsVolumeInRange volume.now }
+    ensures { IsTrue result ↔ ViolatesHorizontally leg.now volume.now point.now.num point.now.den }
+{
+    is_near(leg, volume, point) || is_closing(leg, volume, point)
+}
+
+/// Whether the distance is at most `dthr`.
+fn is_near(leg: &Leg, volume: &Volume, point: &Point) -> bool
+    requires leg { IsLegInRange leg.now }
+    requires volume { IsVolumeInRange volume.now }
+    ensures { IsTrue result ↔ IsNear leg.now volume.now point.now.num point.now.den }
+{
+    square(&place_then(leg, point)) <= scaled_square(volume.dthr, point)
+}
+
+/// Whether it comes within `dthr`, and soon.
+fn is_closing(leg: &Leg, volume: &Volume, point: &Point) -> bool
+    requires leg { IsLegInRange leg.now }
+    requires volume { IsVolumeInRange volume.now }
+    ensures { IsTrue result ↔ IsClosing leg.now volume.now point.now.num point.now.den }
+{
+    is_nearing(leg, point) && is_soon(leg, volume, point) && passes_near(leg, volume)
+}
+
+/// Whether the distance falls.
+fn is_nearing(leg: &Leg, point: &Point) -> bool
+    requires { IsLegInRange leg.now }
+    ensures { IsTrue result ↔ (dot_of (place_at leg.now point.now.num point.now.den) leg.now.velocity.flat <ℤ pos 0) }
+{
+    dot(&place_then(leg, point), &leg.velocity.flat) < 0
+}
+
+/// Whether the time that the model looks at is at most `tthr`.
+fn is_soon(leg: &Leg, volume: &Volume, point: &Point) -> bool
+    requires leg { IsLegInRange leg.now }
+    requires volume { IsVolumeInRange volume.now }
+    ensures { IsTrue result ↔ IsSoon volume.now.model leg.now volume.now point.now.num point.now.den }
+{
+    match volume.model {
+        Model::Taumod => is_tau_soon(leg, volume, point),
+        Model::Tcpa => is_closest_soon(leg, volume, point),
+    }
+}
+
+fn is_tau_soon(leg: &Leg, volume: &Volume, point: &Point) -> bool
+    requires leg { IsLegInRange leg.now }
+    requires volume { IsVolumeInRange volume.now }
+    ensures { IsTrue result ↔ IsSoon Model.Taumod leg.now volume.now point.now.num point.now.den }
+{
+    let place = place_then(leg, point);
+    square(&place) + scaled(volume.tthr, point) * dot(&place, &leg.velocity.flat)
+        <= scaled_square(volume.dthr, point)
+}
+
+fn is_closest_soon(leg: &Leg, volume: &Volume, point: &Point) -> bool
+    requires leg { IsLegInRange leg.now }
+    requires volume { IsVolumeInRange volume.now }
+    ensures { IsTrue result ↔ IsSoon Model.Tcpa leg.now volume.now point.now.num point.now.den }
+{
+    let place = place_then(leg, point);
+    -dot(&place, &leg.velocity.flat) <= scaled(volume.tthr, point) * square(&leg.velocity.flat)
+}
+
+/// Whether the straight line comes within `dthr` at its closest approach, which is so at every time of
+/// the leg or at none.
+fn passes_near(leg: &Leg, volume: &Volume) -> bool
+    requires leg { IsLegInRange leg.now }
+    requires volume { IsVolumeInRange volume.now }
+    ensures { (n d : ℤ) → pos 1 ≤ℤ d → IsTrue result ↔ PassesNear leg.now volume.now n d }
+{
+    let miss = cross(&leg.place.flat, &leg.velocity.flat);
+    let dthr = volume.dthr as i128;
+    miss * miss <= dthr * dthr * square(&leg.velocity.flat)
+}

@@ -1,0 +1,37 @@
+//! The well-clear volume at one time of a straight leg, with modified tau or with the time to the closest
+//! approach, decided exactly in whole numbers.
+#![tactic(auto)]
+
+/// Which time to a horizontal conflict a volume looks at.
+#[derive(Clone, Copy, Debug, PartialEq, Eq)]
+pub enum Model {
+    /// Modified tau: the time in which the square of the distance would reach that of `dthr`.
+    Taumod,
+    /// The time to the closest approach.
+    Tcpa,
+}
+
+/// The thresholds of a well-clear volume, as in the models `WCV_TAUMOD` and `WCV_TCPA` of Munoz and others,
+/// A Family of Well-Clear Boundary Models.
+#[derive(Clone, Copy, Debug, PartialEq, Eq)]
+pub struct Volume {
+    /// The horizontal distance in 1/36000 nautical mile, at most 360000.
+    pub dthr: u32,
+    /// The vertical distance in 1/60 foot, at most 600000.
+    pub zthr: u32,
+    /// The horizontal time in seconds, at most 120.
+    pub tthr: u32,
+    /// The time to co-altitude in seconds, at most 120.
+    pub tcoa: u32,
+    pub model: Model,
+}
+
+mod horizontal;
+mod place;
+#[cfg(test)]
+mod tests;
+mod threshold;
+mod vertical;
+mod violation;
+
+pub use violation::{tcpa_implies_taumod, violates};

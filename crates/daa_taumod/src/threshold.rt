@@ -1,0 +1,20 @@
+//! Thresholds, times the denominator of a time.
+
+ghost use Rattle.std.specs.Prelude.{◌≡◌, ◌≤◌, ◌*ℤ◌, pos};
+ghost use Rattle.daa_fixed.specs.Flat.{square_of};
+
+use daa_fixed::Point;
+
+pub(crate) fn scaled(threshold: u32, point: &Point) -> i128
+    ensures { result ≡ pos threshold *ℤ point.now.den }
+{
+    threshold as i128 * point.den as i128
+}
+
+pub(crate) fn scaled_square(threshold: u32, point: &Point) -> i128
+    requires { threshold ≤ 360000 }
+    ensures { result ≡ square_of (pos threshold *ℤ point.now.den) }
+{
+    let size = scaled(threshold, point);
+    size * size
+}
