@@ -21,7 +21,8 @@ impl<R: Files> FileShelf<R> {
     ghost use Rattle.std.specs.Prelude.{◌≡◌};
     ghost use Rattle.daa_outside.specs.FileShelf.{faults_of};
 
-    /// A shelf over the files that this runtime reaches. Each error of opening or reading is a fault.
+    /// A shelf over the files that this runtime reaches. Each error of opening or reading is a fault,
+    /// but for want of memory while a file is read.
     pub fn new(files: R) -> Self
         ensures { faults_of result ≡ 0 }
     {

@@ -25,7 +25,7 @@ pub trait Shelf {
     // The texts that it holds, where it tells them.
     ghost texts: { Self → Option Texts };
 
-    // How many of its calls failed.
+    // How many of its calls failed. The count rises in a call that fails, and stands in every other.
     ghost faults: { Self → ℕ };
 
     /// A copy of the text under the name, which has at most 65536 bytes. A longer one is `TooLong`,
@@ -42,6 +42,7 @@ pub trait Shelf {
 
         ensures risen { result ≡ Err FetchFault.Failed → HasRisen (faults self.old) (faults self.new) }
         ensures never_falls { faults self.old ≤ faults self.new }
+        ensures no_fault { result ≢ Err FetchFault.Failed → faults self.new ≡ faults self.old }
         ensures kept { texts self.new ≡ texts self.old };
 }
 

@@ -1,6 +1,6 @@
 //! Output, in pieces.
 
-ghost use Rattle.std.specs.Prelude.{◌≤◌, ◌<◌, ℕ, List, Option, length, take, IfOk, OnErr};
+ghost use Rattle.std.specs.Prelude.{◌≡◌, ◌≤◌, ◌<◌, ℕ, List, Option, length, take, IfOk, OnOk, OnErr};
 ghost use Rattle.std.specs.Io.KnownBytes.{Appends, Keeps};
 ghost use Rattle.daa_outside.specs.Faults.{HasRisen};
 
@@ -11,7 +11,7 @@ pub trait Sink {
     // The bytes that it took so far, where it tells them.
     ghost taken: { Self → Option (List ℕ) };
 
-    // How many of its calls failed.
+    // How many of its calls failed. The count rises in a call that fails, and stands in every other.
     ghost faults: { Self → ℕ };
 
     /// Takes bytes from the front of `piece`, and says how many: at least one of a piece that is not
@@ -23,5 +23,6 @@ pub trait Sink {
 
         ensures risen { OnErr result (HasRisen (faults self.old) (faults self.new)) }
         ensures kept { OnErr result (Keeps (taken self.old) (taken self.new)) }
-        ensures never_falls { faults self.old ≤ faults self.new };
+        ensures never_falls { faults self.old ≤ faults self.new }
+        ensures no_fault { OnOk result (faults self.new ≡ faults self.old) };
 }

@@ -1,6 +1,6 @@
 //! Input, in pieces.
 
-ghost use Rattle.std.specs.Prelude.{◌≡◌, ◌≤◌, ◌<◌, ℕ, List, Option, length, take, IfOk, OnErr};
+ghost use Rattle.std.specs.Prelude.{◌≡◌, ◌≤◌, ◌<◌, ℕ, List, Option, length, take, IfOk, OnOk, OnErr};
 ghost use Rattle.std.specs.Io.KnownBytes.{Consumes, Keeps, IsAtEnd};
 ghost use Rattle.daa_outside.specs.Faults.{HasRisen};
 
@@ -11,7 +11,7 @@ pub trait Source {
     // The bytes that it has left, where it tells them.
     ghost left: { Self → Option (List ℕ) };
 
-    // How many of its calls failed.
+    // How many of its calls failed. The count rises in a call that fails, and stands in every other.
     ghost faults: { Self → ℕ };
 
     /// Hands out the next bytes into the front of `buf`, and says how many. An answer of 0 into a
@@ -23,5 +23,6 @@ pub trait Source {
 
         ensures risen { OnErr result (HasRisen (faults self.old) (faults self.new)) }
         ensures kept { OnErr result (Keeps (left self.old) (left self.new)) }
-        ensures never_falls { faults self.old ≤ faults self.new };
+        ensures never_falls { faults self.old ≤ faults self.new }
+        ensures no_fault { OnOk result (faults self.new ≡ faults self.old) };
 }

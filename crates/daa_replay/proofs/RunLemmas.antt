@@ -1,5 +1,5 @@
 -- What the turns of a run leave, one after the other, and what its end leaves.
-use Rattle.std.proofs.Common.{◌≡◌, ◌≤◌, ◌<◌, ◌+◌, ◌∙◌, ℕ, Bool, true, false, List, [], ◌∷◌, ◌++◌, length, take, Option, None, Some, refl, sym, ap, subst, arith, inl, inr, length-append, append-nil}
+use Rattle.std.proofs.Common.{◌≡◌, ◌≢◌, ◌≤◌, ◌+◌, ◌∙◌, ℕ, Bool, true, false, List, [], ◌∷◌, ◌++◌, length, take, Option, None, Some, refl, sym, ap, subst, arith, inl, inr, length-append, append-nil}
 use Rattle.std.specs.Prelude.{IfSome}
 use Rattle.std.specs.Io.KnownBytes.{Consumes, Appends, Keeps, IsAtEnd}
 use Rattle.std.proofs.KnownBytes.{Consumes-trans, Consumes-kept}
@@ -14,7 +14,7 @@ use Rattle.daa_replay.specs.declared.replay.Status.{Status}
 use Rattle.daa_replay.specs.declared.replay.Status.TheVariants as status
 use Rattle.daa_replay.specs.Report.{AreTexts}
 use Rattle.daa_replay.specs.Reporting.{Told, Reports, ReportsAll, Stops, Turned, Handed}
-use Rattle.daa_replay.specs.Run.{Shown, HandsOut, TakesReport, TakesFront, ReadsAll, ReadFails, WriteFails, PassesLimit, Replays, IsSpent}
+use Rattle.daa_replay.specs.Run.{Shown, IsCalm, HandsOut, TakesReport, TakesFront, ReadsAll, ReadFails, WriteFails, PassesLimit, Replays, IsSpent}
 use Rattle.daa_replay.specs.Status.{Ends, code_of}
 use Rattle.daa_replay.proofs.FollowsLemmas.{given_now}
 
@@ -111,8 +111,9 @@ over_of_read taken n buf first a m d p now h none read end =
 module _ (most taken : ℕ) (within : taken ≤ most) (so sn ko kn : Shown) where
   reads_all : (refused : Bool) (p : Progress) (now : Told) → IsOver so.bytes sn.bytes taken ko.bytes p now
       → ((first : Told) (bytes : Bytes) → Reports first bytes p now → ReportsAll first bytes refused kn.bytes)
+      → IsCalm so sn → IsCalm ko kn
       → ReadsAll most refused so sn ko kn
-  reads_all refused p now o whole =
+  reads_all refused p now o whole calm quiet =
       let all = whole ko.bytes o.bytes o.reports in
       record {
         bytes = o.bytes;
@@ -120,13 +121,15 @@ module _ (most taken : ℕ) (within : taken ≤ most) (so sn ko kn : Shown) wher
         over = o.left;
         written = record { text = all.text; report = all.report; taken = all.taken };
         refusals = all.refusals;
+        read_calm = calm;
+        write_calm = quiet;
       }
 
   stops_at_end : (p : Progress) (now : Told) → IsOver so.bytes sn.bytes taken ko.bytes p now
       → ((first : Told) (bytes : Bytes) → Reports first bytes p now → Stops first bytes true kn.bytes)
-      → HasRisen ko.faults kn.faults
+      → HasRisen ko.faults kn.faults → IsCalm so sn
       → WriteFails most so sn ko kn
-  stops_at_end p now o stops risen =
+  stops_at_end p now o stops risen calm =
       let s = stops ko.bytes o.bytes o.reports in
       record {
         risen = risen;
@@ -135,6 +138,7 @@ module _ (most taken : ℕ) (within : taken ≤ most) (so sn ko kn : Shown) wher
         ended = true;
         over = λ e. o.left;
         written = record { text = s.text; front = s.front; taken = s.taken };
+        read_calm = calm;
       }
 
   -- how a run ends whose input was read to its end
@@ -143,60 +147,60 @@ module _ (most taken : ℕ) (within : taken ≤ most) (so sn ko kn : Shown) wher
       → (end ≡ status.Refused → (first : Told) (bytes : Bytes) → Reports first bytes p now → ReportsAll first bytes true kn.bytes)
       → (end ≡ status.WriteFault → (first : Told) (bytes : Bytes) → Reports first bytes p now → Stops first bytes true kn.bytes)
       → (end ≡ status.WriteFault → HasRisen ko.faults kn.faults)
-      → so.faults ≤ sn.faults → ko.faults ≤ kn.faults
+      → IsCalm so sn → ko.faults ≤ kn.faults → (end ≢ status.WriteFault → IsCalm ko kn)
       → Replays most (code_of end) so sn ko kn
-  replays_over status.Accepted p now ends o whole refused stops risen f k = record {
+  replays_over status.Accepted p now ends o whole refused stops risen calm k quiet = record {
     named = inl refl;
-    accepted = λ e. reads_all false p now o (whole refl);
+    accepted = λ e. reads_all false p now o (whole refl) calm (quiet (λ w. cc));
     refused = λ e. absurd (omega (arith, e));
     read_fault = λ e. absurd (omega (arith, e));
     write_fault = λ e. absurd (omega (arith, e));
     limit = λ e. absurd (omega (arith, e));
-    reads = f;
+    reads = omega (arith, calm);
     writes = k;
   }
-  replays_over status.Refused p now ends o whole refused stops risen f k = record {
+  replays_over status.Refused p now ends o whole refused stops risen calm k quiet = record {
     named = inr (inl refl);
     accepted = λ e. absurd (omega (arith, e));
-    refused = λ e. reads_all true p now o (refused refl);
+    refused = λ e. reads_all true p now o (refused refl) calm (quiet (λ w. cc));
     read_fault = λ e. absurd (omega (arith, e));
     write_fault = λ e. absurd (omega (arith, e));
     limit = λ e. absurd (omega (arith, e));
-    reads = f;
+    reads = omega (arith, calm);
     writes = k;
   }
-  replays_over status.WriteFault p now ends o whole refused stops risen f k = record {
+  replays_over status.WriteFault p now ends o whole refused stops risen calm k quiet = record {
     named = inr (inr (inr (inl refl)));
     accepted = λ e. absurd (omega (arith, e));
     refused = λ e. absurd (omega (arith, e));
     read_fault = λ e. absurd (omega (arith, e));
-    write_fault = λ e. stops_at_end p now o (stops refl) (risen refl);
+    write_fault = λ e. stops_at_end p now o (stops refl) (risen refl) calm;
     limit = λ e. absurd (omega (arith, e));
-    reads = f;
+    reads = omega (arith, calm);
     writes = k;
   }
-  replays_over status.ReadFault p now ends o whole refused stops risen f k = absurd ends
-  replays_over status.Limit p now ends o whole refused stops risen f k = absurd ends
+  replays_over status.ReadFault p now ends o whole refused stops risen calm k quiet = absurd ends
+  replays_over status.Limit p now ends o whole refused stops risen calm k quiet = absurd ends
 
-  read_fails : HasRisen so.faults sn.faults → so.faults ≤ sn.faults → ko.faults ≤ kn.faults
+  read_fails : HasRisen so.faults sn.faults → so.faults ≤ sn.faults → IsCalm ko kn
       → (bytes : Bytes) → length bytes ≡ taken → Consumes so.bytes sn.bytes bytes → TakesReport ko kn bytes false
       → Replays most 4 so sn ko kn
-  read_fails risen f k bytes size handed written = record {
+  read_fails risen f quiet bytes size handed written = record {
     named = inr (inr (inl refl));
     accepted = λ e. absurd (omega (arith, e));
     refused = λ e. absurd (omega (arith, e));
-    read_fault = λ e. record { risen = risen; bytes = bytes; handed = record { handed = handed; bound = omega (arith, size) }; written = written };
+    read_fault = λ e. record { risen = risen; bytes = bytes; handed = record { handed = handed; bound = omega (arith, size) }; written = written; write_calm = quiet };
     write_fault = λ e. absurd (omega (arith, e));
     limit = λ e. absurd (omega (arith, e));
     reads = f;
-    writes = k;
+    writes = omega (arith, quiet);
   }
 
   -- the source failed in a turn
   pub replays_read_turn : (room : ℕ) (m : Told) (old new : Progress) (before : Told) → new.lines.ended ≡ false → is_standing new.lines.stage ≡ false
       → Handed so.bytes m taken (HasReported ko.bytes taken old before)
       → ((bytes : Bytes) → Reports ko.bytes bytes old before → Handed m sn.bytes room (λ more. Turned ReadFault ko.bytes bytes more new kn.bytes m sn.bytes))
-      → HasRisen so.faults sn.faults → so.faults ≤ sn.faults → ko.faults ≤ kn.faults
+      → HasRisen so.faults sn.faults → so.faults ≤ sn.faults → IsCalm ko kn
       → Replays most 4 so sn ko kn
   replays_read_turn room m old new before going free h went risen f k =
       let w = went h.bytes h.so.1 in
@@ -207,7 +211,7 @@ module _ (most taken : ℕ) (within : taken ≤ most) (so sn ko kn : Shown) wher
   -- the source failed at the read past the limit
   pub replays_read_last : (m : Told) (p : Progress) → p.lines.ended ≡ false → is_standing p.lines.stage ≡ false
       → Handed so.bytes m taken (HasReported ko.bytes taken p kn.bytes) → Keeps m sn.bytes
-      → HasRisen so.faults sn.faults → so.faults ≤ sn.faults → ko.faults ≤ kn.faults
+      → HasRisen so.faults sn.faults → so.faults ≤ sn.faults → IsCalm ko kn
       → Replays most 4 so sn ko kn
   replays_read_last m p going free h kept risen f k =
       read_fails risen f k h.bytes h.so.0 (Consumes-kept so.bytes m sn.bytes h.bytes h.handed kept)
@@ -217,7 +221,7 @@ module _ (most taken : ℕ) (within : taken ≤ most) (so sn ko kn : Shown) wher
   pub replays_write_turn : (room : ℕ) (m : Told) (old new : Progress) (before : Told) → taken + room ≤ most
       → Handed so.bytes m taken (HasReported ko.bytes taken old before)
       → ((bytes : Bytes) → Reports ko.bytes bytes old before → Handed m sn.bytes room (λ more. Turned WriteFault ko.bytes bytes more new kn.bytes m sn.bytes))
-      → HasRisen ko.faults kn.faults → so.faults ≤ sn.faults → ko.faults ≤ kn.faults
+      → HasRisen ko.faults kn.faults → IsCalm so sn → ko.faults ≤ kn.faults
       → Replays most 5 so sn ko kn
   replays_write_turn room m old new before bound h went risen f k =
       let w = went h.bytes h.so.1 in
@@ -236,9 +240,10 @@ module _ (most taken : ℕ) (within : taken ≤ most) (so sn ko kn : Shown) wher
           ended = false;
           over = λ t. absurd (no t);
           written = record { text = w.so.text; front = w.so.front; taken = w.so.taken };
+          read_calm = f;
         };
         limit = λ e. absurd (omega (arith, e));
-        reads = f;
+        reads = omega (arith, f);
         writes = k;
       }
     where
@@ -248,7 +253,7 @@ module _ (most taken : ℕ) (within : taken ≤ most) (so sn ko kn : Shown) wher
   -- one byte more was read than may be
   pub replays_limit : (n : ℕ) (buf : Bytes) (m : Told) (p : Progress) → taken ≡ most → p.lines.ended ≡ false → is_standing p.lines.stage ≡ false
       → Handed so.bytes m taken (HasReported ko.bytes taken p kn.bytes) → Consumes m sn.bytes (take n buf) → length (take n buf) ≡ 1
-      → so.faults ≤ sn.faults → ko.faults ≤ kn.faults
+      → IsCalm so sn → IsCalm ko kn
       → Replays most 8 so sn ko kn
   replays_limit n buf m p full going free h read one f k =
       let byte = single (take n buf) one in
@@ -264,7 +269,9 @@ module _ (most taken : ℕ) (within : taken ≤ most) (so sn ko kn : Shown) wher
           size = h.so.0 ∙ full;
           handed = subst (λ (x : Bytes). Consumes so.bytes sn.bytes (h.bytes ++ x)) byte.1 (Consumes-trans so.bytes m sn.bytes h.bytes (take n buf) h.handed read);
           written = written_now ko.bytes kn.bytes h.bytes p going free h.so.1 ko kn refl refl;
+          read_calm = f;
+          write_calm = k;
         };
-        reads = f;
-        writes = k;
+        reads = omega (arith, f);
+        writes = omega (arith, k);
       }

@@ -37,6 +37,10 @@ pub record TakesFront (old new : Shown) (bytes : Bytes) (ended : Bool) : Type 0 
   pub front : IsReportFront bytes ended text
   pub taken : Appends old.bytes new.bytes text
 
+-- no call of the object failed
+abbrev pub IsCalm : Shown → Shown → Type 0
+IsCalm old new = new.faults ≡ old.faults
+
 -- the input was read to its end, and its report was written; whether a line of it was refused is as given
 pub record ReadsAll (most : ℕ) (refused : Bool) (source_old source_new sink_old sink_new : Shown) : Type 0 where
   pub bytes : Bytes
@@ -44,6 +48,8 @@ pub record ReadsAll (most : ℕ) (refused : Bool) (source_old source_new sink_ol
   pub over : IsSpent source_old.bytes source_new.bytes
   pub written : TakesReport sink_old sink_new bytes true
   pub refusals : list_any is_refusal (events_of bytes true) ≡ refused
+  pub read_calm : IsCalm source_old source_new
+  pub write_calm : IsCalm sink_old sink_new
 
 -- the source failed, and the report of the lines that were read by then was written
 pub record ReadFails (most : ℕ) (source_old source_new sink_old sink_new : Shown) : Type 0 where
@@ -51,6 +57,7 @@ pub record ReadFails (most : ℕ) (source_old source_new sink_old sink_new : Sho
   pub bytes : Bytes
   pub handed : HandsOut most source_old source_new bytes
   pub written : TakesReport sink_old sink_new bytes false
+  pub write_calm : IsCalm sink_old sink_new
 
 -- the sink failed, and a beginning of the report was written; with its end only where nothing is left
 pub record WriteFails (most : ℕ) (source_old source_new sink_old sink_new : Shown) : Type 0 where
@@ -60,6 +67,7 @@ pub record WriteFails (most : ℕ) (source_old source_new sink_old sink_new : Sh
   pub ended : Bool
   pub over : ended ≡ true → IsSpent source_old.bytes source_new.bytes
   pub written : TakesFront sink_old sink_new bytes ended
+  pub read_calm : IsCalm source_old source_new
 
 -- as many bytes as may be read were read, and then one more; the report of those before it was written
 pub record PassesLimit (most : ℕ) (source_old source_new sink_old sink_new : Shown) : Type 0 where
@@ -68,6 +76,8 @@ pub record PassesLimit (most : ℕ) (source_old source_new sink_old sink_new : S
   pub size : length bytes ≡ most
   pub handed : Consumes source_old.bytes source_new.bytes (bytes ++ next ∷ [])
   pub written : TakesReport sink_old sink_new bytes false
+  pub read_calm : IsCalm source_old source_new
+  pub write_calm : IsCalm sink_old sink_new
 
 -- what a run that reads at most so many bytes leaves, by its status
 pub record Replays (most status : ℕ) (source_old source_new sink_old sink_new : Shown) : Type 0 where

@@ -1,6 +1,6 @@
 //! The top call: all that the program does.
 
-ghost use Rattle.std.specs.Prelude.{◌≡◌, ◌<◌, ◌≤◌, ◌^◌, false, true};
+ghost use Rattle.std.specs.Prelude.{◌≡◌, ◌≢◌, ◌<◌, ◌≤◌, ◌^◌, false, true};
 ghost use Rattle.daa_lines.specs.LinesOf.{Bytes};
 ghost use Rattle.daa_lines.specs.Cutting.{is_standing};
 ghost use Rattle.daa_outside.specs.Faults.{HasRisen};
@@ -64,6 +64,7 @@ fn over<K: Sink>(progress: &mut Progress, sink: &mut K) -> Status
         → Stops first bytes true (K.taken sink.new) }
     ensures write { result ≡ Status.WriteFault → HasRisen (K.faults sink.old) (K.faults sink.new) }
     ensures writes { K.faults sink.old ≤ K.faults sink.new }
+    ensures write_steady { result ≢ Status.WriteFault → K.faults sink.new ≡ K.faults sink.old }
 {
     match report_end(progress, sink) {
         Ok(false) => Status::Accepted,

@@ -1,6 +1,6 @@
 //! One turn of a run: reads a piece, and writes what it gives.
 
-ghost use Rattle.std.specs.Prelude.{◌≡◌, ◌<◌, ◌≤◌, ◌+◌, ◌^◌, ℕ, length, false};
+ghost use Rattle.std.specs.Prelude.{◌≡◌, ◌≢◌, ◌<◌, ◌≤◌, ◌+◌, ◌^◌, ℕ, length, false};
 ghost use Rattle.daa_lines.specs.LinesOf.{Bytes};
 ghost use Rattle.daa_lines.specs.Cutting.{is_standing};
 ghost use Rattle.daa_outside.specs.Faults.{HasRisen};
@@ -42,6 +42,8 @@ pub(crate) fn take_turn<S: Source, K: Sink>(
     ensures write { result ≡ Turn.WriteFault → HasRisen (K.faults sink.old) (K.faults sink.new) }
     ensures reads { S.faults source.old ≤ S.faults source.new }
     ensures writes { K.faults sink.old ≤ K.faults sink.new }
+    ensures read_steady { result ≢ Turn.ReadFault → S.faults source.new ≡ S.faults source.old }
+    ensures write_steady { result ≢ Turn.WriteFault → K.faults sink.new ≡ K.faults sink.old }
 {
     let count = match source.read(buf) {
         Ok(count) => count,

@@ -8,10 +8,11 @@ abbrev pub AppendsFront : Option (List ℕ) → Option (List ℕ) → List ℕ �
 AppendsFront old new text =
     (front : List ℕ) × (unwritten : List ℕ) × (text ≡ front ++ unwritten) × Appends old new front
 
--- a fault comes only where the count of faults rose, and the count never falls
+-- a fault comes only where the count of faults rose; the count never falls, and stands where there was no fault
 pub record HasCause {T E : Type 0} (old new : ℕ) (result : Result T E) : Type 0 where
   pub later : old ≤ new
   pub risen : OnErr result (HasRisen old new)
+  pub steady : OnOk result (new ≡ old)
 
 -- at Ok the sink has taken the text, and at Err a front of it and it has failed; its count of faults never falls
 pub record Says {E : Type 0} (old new : Option (List ℕ)) (faults_old faults_new : ℕ) (text : List ℕ) (result : Result (Unit {0}) E) : Type 0 where

@@ -62,9 +62,11 @@ pub record IsLevelling (leg : Leg) (vol : Volume) (n d : ℤ) : Type 0 where
   pub nearing : (height_at leg n d *ℤ leg.velocity.up) <ℤ pos 0
   pub soon : pos (unsigned_abs (height_at leg n d)) ≤ℤ (pos vol.tcoa *ℤ d *ℤ pos (unsigned_abs leg.velocity.up))
 
+-- horizontally: the distance is at most dthr, or soon will be
 abbrev pub ViolatesHorizontally : Leg → Volume → ℤ → ℤ → Type 0
 ViolatesHorizontally leg vol n d = IsNear leg vol n d ⊎ IsClosing leg vol n d
 
+-- vertically: the difference in height is at most zthr, or co-altitude is near in time
 abbrev pub ViolatesVertically : Leg → Volume → ℤ → ℤ → Type 0
 ViolatesVertically leg vol n d = IsLevel leg vol n d ⊎ IsLevelling leg vol n d
 

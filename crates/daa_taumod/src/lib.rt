@@ -23,6 +23,7 @@ pub struct Volume {
     pub tthr: u32,
     /// The time to co-altitude in seconds, at most 120.
     pub tcoa: u32,
+    /// Which time `tthr` bounds.
     pub model: Model,
 }
 

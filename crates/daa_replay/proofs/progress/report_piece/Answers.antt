@@ -16,7 +16,7 @@ loop-done-preserved g c =
       free = c.report_line.ensures.free;
       going = c.report_line.ensures.ended ∙ c.feed-done.ensures.going;
       fed = omega (arith, c.report_line.ensures.fed, c.feed-done.ensures.fed, i.fed);
-      later = omega (arith, c.in_ok-report_line.ensures.cause.later, i.later);
+      steady = c.in_ok-report_line.ensures.cause.steady ∙ i.steady;
       kept = λ first bytes r. c.in_ok-report_line.ensures.ok first (bytes ++ take (done + n) piece)
           (reports-part first _ bytes piece c.loop-done.progress c.feed-done.new.self done n within c.feed-done.ensures.kept (i.kept first bytes r));
     }

@@ -10,7 +10,7 @@ invariant-loop-done g l = record {
   free : is_standing l.progress.lines.stage ≡ false;
   going : l.progress.lines.ended ≡ false;
   fed : l.progress.lines.fed ≡ l.fn.progress.lines.fed + l.done;
-  later : g.K.Sink.faults l.fn.sink ≤ g.K.Sink.faults l.sink;
+  steady : g.K.Sink.faults l.sink ≡ g.K.Sink.faults l.fn.sink;
   kept : (first : Told) (bytes : Bytes) → Reports first bytes l.fn.progress (g.K.Sink.taken l.fn.sink)
       → Reports first (bytes ++ take l.done l.piece) l.progress (g.K.Sink.taken l.sink);
 }

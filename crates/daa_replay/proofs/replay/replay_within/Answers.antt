@@ -1,4 +1,4 @@
-use Rattle.std.proofs.Common.{refl, arith, length-take}
+use Rattle.std.proofs.Common.{refl, arith, length-take, ◌∙◌}
 use Rattle.daa_report.proofs.Appending.{risen_after}
 use Rattle.daa_replay.proofs.RunLemmas.{more_of_turn, over_of_turn, over_of_read, replays_over, replays_read_turn, replays_read_last, replays_write_turn, replays_limit}
 use Rattle.daa_replay.proofs.replay.replay_within.Goals as goal
@@ -12,8 +12,8 @@ loop-taken-preserved g c =
       going = c.in-More.ensures.going;
       fed = omega (arith, fed.0, i.fed);
       within = omega (arith, fed.2, length-take c.min-want.result c.loop-taken.buf, c.min-want.ensures, i.within);
-      reads = omega (arith, c.in-More.ensures.reads, i.reads);
-      writes = omega (arith, c.in-More.ensures.writes, i.writes);
+      reads = c.in-More.ensures.read_steady (λ e. cc) ∙ i.reads;
+      writes = c.in-More.ensures.write_steady (λ e. cc) ∙ i.writes;
       handed = more_of_turn c.in-More.count c.loop-taken.taken _ _ _ _ _ _ _ _ _ i.handed (c.in-More.ensures.went _);
     }
 
@@ -27,22 +27,23 @@ returns-in-Over g c =
     (over_of_turn c.loop-taken.taken _ _ _ _ _ _ _ _ _ i.handed (c.in-Over.ensures.went _))
     c.over.ensures.accepted c.over.ensures.refused c.over.ensures.stopped
     (λ e. risen_after _ _ _ (omega (arith, c.in-Over.ensures.writes, i.writes)) (c.over.ensures.write e))
-    (omega (arith, c.in-Over.ensures.reads, i.reads)) (omega (arith, c.over.ensures.writes, c.in-Over.ensures.writes, i.writes))
+    (c.in-Over.ensures.read_steady (λ e. cc) ∙ i.reads) (omega (arith, c.over.ensures.writes, c.in-Over.ensures.writes, i.writes))
+    (λ e. c.over.ensures.write_steady e ∙ c.in-Over.ensures.write_steady (λ w. cc) ∙ i.writes)
 
 pub returns-in-ReadFault : goal.returns-in-ReadFault
 returns-in-ReadFault g c =
     let i = c.loop-taken.invariant in
     replays_read_turn c.args.most c.loop-taken.taken i.within _ _ _ _ _ _ _ _ _ c.in-ReadFault.ensures.going c.in-ReadFault.ensures.free
-    i.handed (c.in-ReadFault.ensures.went _) (risen_after _ _ _ i.reads (c.in-ReadFault.ensures.read refl))
-    (omega (arith, c.in-ReadFault.ensures.reads, i.reads)) (omega (arith, c.in-ReadFault.ensures.writes, i.writes))
+    i.handed (c.in-ReadFault.ensures.went _) (risen_after _ _ _ (omega (arith, i.reads)) (c.in-ReadFault.ensures.read refl))
+    (omega (arith, c.in-ReadFault.ensures.reads, i.reads)) (c.in-ReadFault.ensures.write_steady (λ e. cc) ∙ i.writes)
 
 pub returns-in-WriteFault : goal.returns-in-WriteFault
 returns-in-WriteFault g c =
     let i = c.loop-taken.invariant in
     replays_write_turn c.args.most c.loop-taken.taken i.within _ _ _ _ _ _ _ c.take_turn.new.progress _
     (omega (arith, length-take c.min-want.result c.loop-taken.buf, c.min-want.ensures, i.within))
-    i.handed (c.in-WriteFault.ensures.went _) (risen_after _ _ _ i.writes (c.in-WriteFault.ensures.write refl))
-    (omega (arith, c.in-WriteFault.ensures.reads, i.reads)) (omega (arith, c.in-WriteFault.ensures.writes, i.writes))
+    i.handed (c.in-WriteFault.ensures.went _) (risen_after _ _ _ (omega (arith, i.writes)) (c.in-WriteFault.ensures.write refl))
+    (c.in-WriteFault.ensures.read_steady (λ e. cc) ∙ i.reads) (omega (arith, c.in-WriteFault.ensures.writes, i.writes))
 
 pub returns-in-Ok-eq0 : goal.returns-in-Ok-eq0
 returns-in-Ok-eq0 g c =
@@ -51,8 +52,8 @@ returns-in-Ok-eq0 g c =
     replays_over c.args.most c.loop-taken.taken i.within _ _ _ _ c.over-in-Ok-eq0.result _ _ o.ended
     (over_of_read c.loop-taken.taken c.in-Ok-eq0.field-0 c.read.new.buf _ _ _ _ _ _ i.handed (omega arith) c.in-Ok-eq0.ensures.next
     (c.in-Ok-eq0.ensures.end (omega arith) (omega (arith, length-take 1 c.loop-taken.buf))))
-    o.accepted o.refused o.stopped (λ e. risen_after _ _ _ i.writes (o.write e))
-    (omega (arith, c.in-Ok-eq0.ensures.never_falls, i.reads)) (omega (arith, o.writes, i.writes))
+    o.accepted o.refused o.stopped (λ e. risen_after _ _ _ (omega (arith, i.writes)) (o.write e))
+    (c.in-Ok-eq0.ensures.no_fault ∙ i.reads) (omega (arith, o.writes, i.writes)) (λ e. o.write_steady e ∙ i.writes)
 
 pub returns-in-Ok : goal.returns-in-Ok
 returns-in-Ok g c =
@@ -60,10 +61,10 @@ returns-in-Ok g c =
     replays_limit c.args.most c.loop-taken.taken i.within _ _ _ _ c.in-Ok.field-0 c.read.new.buf _ c.loop-taken.progress (omega (arith, i.within, c.loop-taken-test.false))
     i.going i.free i.handed c.in-Ok.ensures.next
     (omega (arith, length-take c.in-Ok.field-0 c.read.new.buf, c.in-Ok.ensures.within, c.read.auto.buf, length-take 1 c.loop-taken.buf, c.in-Ok.field-0-test.1))
-    (omega (arith, c.in-Ok.ensures.never_falls, i.reads)) i.writes
+    (c.in-Ok.ensures.no_fault ∙ i.reads) i.writes
 
 pub returns-in-Err : goal.returns-in-Err
 returns-in-Err g c =
     let i = c.loop-taken.invariant in
-    replays_read_last c.args.most c.loop-taken.taken i.within _ _ _ _ _ c.loop-taken.progress i.going i.free i.handed c.in-Err.ensures.kept (risen_after _ _ _ i.reads c.in-Err.ensures.risen)
+    replays_read_last c.args.most c.loop-taken.taken i.within _ _ _ _ _ c.loop-taken.progress i.going i.free i.handed c.in-Err.ensures.kept (risen_after _ _ _ (omega (arith, i.reads)) c.in-Err.ensures.risen)
     (omega (arith, c.in-Err.ensures.never_falls, i.reads)) i.writes

@@ -10,8 +10,8 @@ invariant-loop-taken g l = record {
   going : l.progress.lines.ended ≡ false;
   fed : l.progress.lines.fed ≡ l.taken;
   within : l.taken ≤ l.most;
-  reads : g.S.Source.faults l.fn.source ≤ g.S.Source.faults l.source;
-  writes : g.K.Sink.faults l.fn.sink ≤ g.K.Sink.faults l.sink;
+  reads : g.S.Source.faults l.source ≡ g.S.Source.faults l.fn.source;
+  writes : g.K.Sink.faults l.sink ≡ g.K.Sink.faults l.fn.sink;
   handed : Handed (g.S.Source.left l.fn.source) (g.S.Source.left l.source) l.taken
       (HasReported (g.K.Sink.taken l.fn.sink) l.taken l.progress (g.K.Sink.taken l.sink));
 }

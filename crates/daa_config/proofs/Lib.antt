@@ -1,0 +1,6 @@
+pub mod KeyLemmas
+pub mod TextLemmas
+pub mod RangeLemmas
+pub mod GridLemmas
+pub mod CandidateLemmas
+pub mod LevelLemmas

@@ -1,0 +1,11 @@
+use Rattle.std.proofs.Common.{◌≡◌, ◌++◌, true, map, drop}
+use Rattle.std.specs.List.{list_all}
+use Rattle.daa_config.specs.Numbers.{level_fits}
+use Rattle.daa_config.specs.ConfigOf.{level_of}
+use Rattle.daa_config.proofs.level.all_in_units.Given as goal
+
+-- the levels so far, before those that are left, which pass
+abbrev pub invariant-loop-one : goal.invariant-loop-one
+invariant-loop-one l =
+    (l.levels.items ++ map level_of (drop l.one-index l.numbers) ≡ map level_of l.numbers)
+    × (list_all level_fits (drop l.one-index l.numbers) ≡ true)

@@ -1,0 +1,31 @@
+-- Why a configuration is refused.
+use Rattle.std.specs.Prelude.{◌≡◌, ℕ, Option, Some, None, Result, Ok, Err}
+use Rattle.daa_config.specs.declared.fault.ConfigFault.{ConfigFault}
+use Rattle.daa_config.specs.declared.fault.ConfigFault.TheVariants.{TooLong, NotToml, UnknownKey, MissingKey, NotNumber, OutOfRange, Levels, TooMany, NoMemory}
+
+-- the number of a fault; want of memory, which says nothing of the text, has none
+abbrev pub code_of : ConfigFault → Option ℕ
+code_of TooLong = Some 1
+code_of NotToml = Some 2
+code_of UnknownKey = Some 3
+code_of MissingKey = Some 4
+code_of NotNumber = Some 5
+code_of OutOfRange = Some 6
+code_of Levels = Some 7
+code_of TooMany = Some 8
+code_of NoMemory = None
+
+infixl 10 ◌>>=◌
+abbrev pub ◌>>=◌ : {A B : Type 0} → Result A ConfigFault → (A → Result B ConfigFault) → Result B ConfigFault
+(Ok x) >>= f = f x
+(Err e) >>= f = Err e
+
+-- the call failed as the definition says, unless memory ran out
+abbrev pub Fails : {Y : Type 0} → ConfigFault → Result Y ConfigFault → Type 0
+Fails NoMemory said = Unit {0}
+Fails fault said = said ≡ Err fault
+
+-- the call gave what the definition says, unless memory ran out
+abbrev pub Gives : {X Y : Type 0} → (X → Y) → Result X ConfigFault → Result Y ConfigFault → Type 0
+Gives view (Ok x) said = said ≡ Ok (view x)
+Gives view (Err fault) said = Fails fault said

@@ -1,0 +1,17 @@
+-- What the reader's lists of keys stand for.
+use Rattle.std.specs.Prelude.{Bool, map}
+use Rattle.toml.specs.Data.{Members}
+use Rattle.daa_config.specs.declared.keys.Difference.{Difference}
+use Rattle.daa_config.specs.declared.keys.Difference.TheVariants.{UnknownKey, MissingKey}
+use Rattle.daa_config.specs.declared.keys.Keys.{Keys}
+use Rattle.daa_config.specs.Keys.{TableKeys, has_other_key, lacks_key}
+
+abbrev pub listed_by : Keys → TableKeys
+listed_by keys = record {
+  required = map (λ s. s.now) keys.required.now;
+  optional = map (λ s. s.now) keys.optional.now;
+}
+
+abbrev pub differs_by : Difference → TableKeys → Members → Bool
+differs_by UnknownKey = has_other_key
+differs_by MissingKey = lacks_key

@@ -1,0 +1,13 @@
+pub mod Limits
+pub mod Numbers
+pub mod Stepped
+pub mod Keys
+pub mod KeyLists
+pub mod Document
+pub mod Settings
+pub mod Fault
+pub mod ConfigOf
+pub mod Written
+pub mod Candidates
+pub mod Level
+pub mod Packing

@@ -1,0 +1,71 @@
+-- The table of ranges: which whole numbers a configuration may have, both ends included.
+use Rattle.std.specs.Prelude.{ℕ, ℤ, pos, neg_ℤ}
+use Rattle.daa_config.specs.declared.limits.Bounds.{Bounds}
+use Rattle.daa_config.specs.declared.limits.GridLimits.{GridLimits}
+use Rattle.daa_config.specs.declared.limits.LevelLimits.{LevelLimits}
+
+abbrev pub from_to : ℤ → ℤ → Bounds
+from_to low high = record { 0 = low; 1 = high }
+
+-- the most bytes of a text
+abbrev pub longest_text : ℕ
+longest_text = 65536
+
+-- the most levels, and the most candidates of a kind
+abbrev pub most_levels : ℕ
+most_levels = 4
+
+abbrev pub most_values : ℕ
+most_values = 512
+
+-- degrees of a full turn
+abbrev pub full_turn : ℕ
+full_turn = 360
+
+-- the number of a level
+abbrev pub resolve_bounds : Bounds
+resolve_bounds = from_to (pos 1) (pos 4)
+
+-- degrees per second
+abbrev pub turn_rate_bounds : Bounds
+turn_rate_bounds = from_to (pos 1) (pos 30)
+
+-- degrees
+abbrev pub track_step_bounds : Bounds
+track_step_bounds = from_to (pos 1) (pos 90)
+
+-- ground speed: 0.1 kt, and that per second
+abbrev pub gs_limits : GridLimits
+gs_limits = record {
+  value = from_to (pos 0) (pos 10000);
+  step = from_to (pos 1) (pos 10000);
+  rate = from_to (pos 1) (pos 10000);
+}
+
+-- vertical speed: ft/min, and that per second
+abbrev pub vs_limits : GridLimits
+vs_limits = record {
+  value = from_to (neg_ℤ (pos 10000)) (pos 10000);
+  step = from_to (pos 1) (pos 20000);
+  rate = from_to (pos 1) (pos 10000);
+}
+
+-- altitude: ft, and its rate in ft/min
+abbrev pub alt_limits : GridLimits
+alt_limits = record {
+  value = from_to (neg_ℤ (pos 2000)) (pos 60000);
+  step = from_to (pos 1) (pos 62000);
+  rate = from_to (pos 1) (pos 10000);
+}
+
+-- a level: 0.001 NM, ft, and seconds; tcpa is 1 where the time to the closest approach counts
+abbrev pub level_limits : LevelLimits
+level_limits = record {
+  dthr = from_to (pos 1) (pos 10000);
+  zthr = from_to (pos 0) (pos 10000);
+  tthr = from_to (pos 0) (pos 120);
+  tcoa = from_to (pos 0) (pos 120);
+  lookahead = from_to (pos 1) (pos 180);
+  alert = from_to (pos 1) (pos 180);
+  tcpa = from_to (pos 0) (pos 1);
+}

@@ -1,0 +1,90 @@
+-- A configuration as contracts see it, and what holds of every one that is accepted.
+use Rattle.std.specs.Prelude.{◌≡◌, ℕ, ℤ, pos, ◌-◌, ◌%◌, ◌≤◌, ◌≤ℤ◌, nat_abs, List, length, slice_get, Some}
+use Rattle.daa_fixed.specs.Size.{IsFrom}
+use Rattle.daa_taumod.specs.Volume.{IsVolumeInRange}
+use Rattle.daa_config.specs.declared.candidate.Candidate.{Candidate}
+use Rattle.daa_config.specs.declared.candidate.Candidate.TheVariants.{Hold, Track as ToTrack, Speed as ToSpeed, Climb as ToClimb, Height as ToHeight}
+use Rattle.daa_config.specs.declared.config.Rates.{Rates}
+use Rattle.daa_config.specs.declared.kind.Kind.{Kind}
+use Rattle.daa_config.specs.declared.kind.Kind.TheVariants.{Track, Speed, Climb, Height}
+use Rattle.daa_config.specs.declared.level.Level.{Level}
+use Rattle.daa_config.specs.declared.limits.Bounds.{Bounds}
+use Rattle.daa_config.specs.declared.limits.GridLimits.{GridLimits}
+use Rattle.daa_config.specs.declared.numbers.Grid.{Grid}
+use Rattle.daa_config.specs.declared.numbers.Numbers.{Numbers}
+use Rattle.daa_config.specs.Limits.{from_to, full_turn, most_levels, most_values, turn_rate_bounds, track_step_bounds, gs_limits, vs_limits, alt_limits}
+use Rattle.daa_config.specs.Numbers.{count_of}
+
+-- the numbers of a configuration, and its levels in units; the first of the list is level 1
+pub record Settings : Type 0 where
+  pub numbers : Numbers
+  pub levels : List Level
+
+-- the level numbered l, from 1 on
+pub record IsLevelAt (s : Settings) (l : ℕ) (level : Level) : Type 0 where
+  pub numbered : 1 ≤ l
+  pub there : slice_get s.levels (l - 1) ≡ Some level
+
+-- by how much a second may change the track, the speeds and the altitude
+abbrev pub rates_of : Settings → Rates
+rates_of s = record {
+  turn = s.numbers.turn_rate;
+  gs = s.numbers.gs.rate;
+  vs = s.numbers.vs.rate;
+  alt = s.numbers.alt.rate;
+}
+
+-- ---- ranges
+
+abbrev pub IsInBounds : Bounds → ℤ → Type 0
+IsInBounds bounds z = IsFrom bounds.0 bounds.1 z
+
+-- what any value of a kind is from and up to: a degree, 0.1 kt, ft/min, ft
+abbrev pub value_bounds : Kind → Bounds
+value_bounds Track = from_to (pos 0) (pos 359)
+value_bounds Speed = gs_limits.value
+value_bounds Climb = vs_limits.value
+value_bounds Height = alt_limits.value
+
+-- a candidate whose value its kind can have
+abbrev pub IsCandidateInRange : Candidate → Type 0
+IsCandidateInRange Hold = Unit {0}
+IsCandidateInRange (ToTrack c) = IsInBounds (value_bounds Track) c
+IsCandidateInRange (ToSpeed g) = IsInBounds (value_bounds Speed) g
+IsCandidateInRange (ToClimb w) = IsInBounds (value_bounds Climb) w
+IsCandidateInRange (ToHeight a) = IsInBounds (value_bounds Height) a
+
+pub record AreRatesInRange (r : Rates) : Type 0 where
+  pub turn : IsInBounds turn_rate_bounds r.turn
+  pub gs : IsInBounds gs_limits.rate r.gs
+  pub vs : IsInBounds vs_limits.rate r.vs
+  pub alt : IsInBounds alt_limits.rate r.alt
+
+pub record IsGridInRange (limits : GridLimits) (g : Grid) : Type 0 where
+  pub least : limits.value.0 ≤ℤ g.min
+  pub ordered : g.min ≤ℤ g.max
+  pub most : g.max ≤ℤ limits.value.1
+  pub step : IsInBounds limits.step g.step
+  pub few : count_of g ≤ most_values
+
+-- a level's volume in units, and the seconds that it looks ahead and alerts
+pub record IsLevelInRange (level : Level) : Type 0 where
+  pub volume : IsVolumeInRange level.volume
+  pub dthr_least : 36 ≤ level.volume.dthr
+  pub lookahead_least : 1 ≤ level.lookahead
+  pub lookahead_most : level.lookahead ≤ 180
+  pub alert_least : 1 ≤ level.alert
+  pub alert_most : level.alert ≤ 180
+
+-- a configuration that is accepted has its numbers in their ranges
+pub record IsAccepted (s : Settings) : Type 0 where
+  pub rates : AreRatesInRange (rates_of s)
+  pub track_step : IsInBounds track_step_bounds s.numbers.track_step
+  pub divides : full_turn % nat_abs s.numbers.track_step ≡ 0
+  pub gs : IsGridInRange gs_limits s.numbers.gs
+  pub vs : IsGridInRange vs_limits s.numbers.vs
+  pub alt : IsGridInRange alt_limits s.numbers.alt
+  pub some_level : 1 ≤ length s.levels
+  pub few_levels : length s.levels ≤ most_levels
+  pub level : (l : ℕ) (level : Level) → IsLevelAt s l level → IsLevelInRange level
+  pub resolve : IsFrom (pos 1) (pos (length s.levels)) s.numbers.resolve

@@ -1,0 +1,6 @@
+-- What the numbers that the reader found stand for.
+use Rattle.daa_config.specs.declared.reading.Found.{Found}
+use Rattle.daa_config.specs.ConfigOf.{Written}
+
+abbrev pub written_in : Found → Written
+written_in found = record { numbers = found.numbers; levels = found.levels.items }

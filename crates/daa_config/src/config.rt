@@ -1,0 +1,271 @@
+//! A configuration that was accepted, and its readers.
+ghost use Rattle.std.specs.Prelude.{◌≡◌, ◌<◌, ◌+◌, ◌≤◌, length, slice_get, Some, pos, ℕ, ◌≤ℤ◌, ◌+ℤ◌, ◌*ℤ◌, All, Contains};
+ghost use Rattle.daa_fixed.specs.Size.{IsFrom};
+ghost use Rattle.daa_config.specs.Stepped.{IsStepped};
+ghost use Rattle.daa_config.specs.Numbers.{count_of};
+
+use crate::candidate::Candidate;
+use crate::kind::Kind;
+use crate::level::Level;
+use crate::numbers::{Grid, Numbers, count};
+use std::marker::Model;
+
+/// By how much a second may change the track (degrees), the ground speed (0.1 kt), the vertical speed
+/// (ft/min) and the altitude (ft/min, which is units per second).
+#[derive(Clone, Copy, Debug, PartialEq, Eq)]
+pub struct Rates {
+    pub turn: i32,
+    pub gs: i32,
+    pub vs: i32,
+    pub alt: i32,
+}
+
+/// A configuration that was accepted.
+#[derive(Drop)]
+pub struct Config {
+    numbers: Numbers,
+    levels: Vec<Level>,
+}
+
+impl Model for Config {
+    ghost use Rattle.daa_config.specs.Settings.{Settings, IsAccepted};
+
+    ghost Value = { Settings };
+
+    ghost view = { λ c. record { numbers = c.numbers; levels = c.levels.items } };
+
+    ghost invariant = { λ c. IsAccepted (record { numbers = c.numbers; levels = c.levels.items }) };
+}
+
+impl Config {
+    ghost use Rattle.daa_config.specs.Settings.{IsAccepted, IsLevelAt, IsLevelInRange, rates_of, AreRatesInRange, IsCandidateInRange, IsInBounds, value_bounds};
+    ghost use Rattle.daa_config.specs.Limits.{turn_rate_bounds, gs_limits, vs_limits, alt_limits};
+    ghost use Rattle.daa_config.specs.Candidates.{grid_of, values_of, least_of, greatest_of, candidates_of, start_of, IsCandidateOf};
+
+    /// A configuration of these numbers.
+    pub(crate) fn new(numbers: Numbers, levels: Vec<Level>) -> Config
+        requires { IsAccepted (record { numbers = numbers; levels = levels.items }) }
+        ensures { result ≡ record { numbers = numbers; levels = levels.items } }
+    {
+        Config { numbers, levels }
+    }
+
+    /// How many levels there are, 1 to 4.
+    pub fn levels(&self) -> u32
+        ensures value { result ≡ length self.now.levels }
+        ensures some { 1 ≤ result }
+        ensures few { result ≤ 4 }
+        ensures accepted { IsAccepted self.now }
+    {
+        self.levels.len() as u32
+    }
+
+    /// Level `l`, numbered from 1.
+    pub fn level(&self, l: u32) -> &Level
+        requires numbered { 1 ≤ l }
+        requires there { l ≤ length self.now.levels }
+        ensures value { IsLevelAt self.now l result.now }
+        ensures in_range { IsLevelInRange result.now }
+        ensures accepted { IsAccepted self.now }
+    {
+        &self.levels[(l - 1) as usize]
+    }
+
+    /// The level from which on up to the greatest a candidate must be clear to be open.
+    pub fn resolve(&self) -> u32
+        ensures value { pos result ≡ self.now.numbers.resolve }
+        ensures numbered { 1 ≤ result }
+        ensures there { result ≤ length self.now.levels }
+        ensures accepted { IsAccepted self.now }
+    {
+        self.numbers.resolve as u32
+    }
+
+    /// Degrees of track that a second may change.
+    pub fn turn_rate(&self) -> i32
+        ensures value { result ≡ self.now.numbers.turn_rate }
+        ensures in_range { IsInBounds turn_rate_bounds result }
+        ensures accepted { IsAccepted self.now }
+    {
+        self.numbers.turn_rate as i32
+    }
+
+    /// Ground speed, in 0.1 kt, that a second may change.
+    pub fn gs_rate(&self) -> i32
+        ensures value { result ≡ self.now.numbers.gs.rate }
+        ensures in_range { IsInBounds gs_limits.rate result }
+        ensures accepted { IsAccepted self.now }
+    {
+        self.numbers.gs.rate as i32
+    }
+
+    /// Vertical speed, in ft/min, that a second may change.
+    pub fn vs_rate(&self) -> i32
+        ensures value { result ≡ self.now.numbers.vs.rate }
+        ensures in_range { IsInBounds vs_limits.rate result }
+        ensures accepted { IsAccepted self.now }
+    {
+        self.numbers.vs.rate as i32
+    }
+
+    /// The vertical speed, in ft/min, at which a flight goes to an altitude.
+    pub fn alt_rate(&self) -> i32
+        ensures value { result ≡ self.now.numbers.alt.rate }
+        ensures in_range { IsInBounds alt_limits.rate result }
+        ensures accepted { IsAccepted self.now }
+    {
+        self.numbers.alt.rate as i32
+    }
+
+    /// The four rates.
+    pub fn rates(&self) -> Rates
+        ensures value { result ≡ rates_of self.now }
+        ensures in_range { AreRatesInRange result }
+        ensures accepted { IsAccepted self.now }
+    {
+        Rates {
+            turn: self.turn_rate(),
+            gs: self.gs_rate(),
+            vs: self.vs_rate(),
+            alt: self.alt_rate(),
+        }
+    }
+
+    /// The grid of a kind.
+    #[tactic(auto, unfolding(crate::specs::Candidates::grid_of))]
+    fn grid(&self, kind: Kind) -> Grid
+        ensures value { result ≡ grid_of kind self.now }
+        ensures accepted { IsAccepted self.now }
+    {
+        match kind {
+            Kind::Track => Grid {
+                min: 0,
+                max: 359,
+                step: self.numbers.track_step,
+                rate: self.numbers.turn_rate,
+            },
+            Kind::Speed => self.numbers.gs,
+            Kind::Climb => self.numbers.vs,
+            Kind::Height => self.numbers.alt,
+        }
+    }
+
+    /// How many candidates the kind has, 1 to 512.
+    pub fn count(&self, kind: Kind) -> u32
+        ensures value { result ≡ length (values_of kind self.now) }
+        ensures some { 1 ≤ result }
+        ensures few { result ≤ 512 }
+        ensures accepted { IsAccepted self.now }
+    {
+        count(&self.grid(kind)) as u32
+    }
+
+    /// The value at a place in the kind's rising list, counted from 0.
+    pub fn value(&self, kind: Kind, i: u32) -> i32
+        requires { i < length (values_of kind self.now) }
+        ensures value { slice_get (values_of kind self.now) i ≡ Some result }
+        ensures within { IsFrom (least_of kind self.now) (greatest_of kind self.now) result }
+        ensures in_range { IsInBounds (value_bounds kind) result }
+        ensures accepted { IsAccepted self.now }
+    {
+        value_at(&self.grid(kind), i)
+    }
+
+    /// The least value of the kind.
+    #[tactic(auto, using(crate::proofs::GridLemmas::some_values))]
+    pub fn least(&self, kind: Kind) -> i32
+        ensures value { result ≡ least_of kind self.now }
+        ensures listed { Contains (values_of kind self.now) result }
+        ensures least { All (λ v. result ≤ℤ v) (values_of kind self.now) }
+        ensures in_range { IsInBounds (value_bounds kind) result }
+    {
+        self.value(kind, 0)
+    }
+
+    /// The greatest value of the kind.
+    pub fn greatest(&self, kind: Kind) -> i32
+        ensures value { result ≡ greatest_of kind self.now }
+        ensures listed { Contains (values_of kind self.now) result }
+        ensures greatest { All (λ v. v ≤ℤ result) (values_of kind self.now) }
+        ensures in_range { IsInBounds (value_bounds kind) result }
+    {
+        self.value(kind, self.count(kind) - 1)
+    }
+
+    /// Where the kind's candidates begin in the whole list.
+    #[tactic(auto, using(crate::proofs::CandidateLemmas::kind_within, crate::proofs::CandidateLemmas::kind_few), unfolding(crate::specs::Candidates::start_of))]
+    pub fn start(&self, kind: Kind) -> u32
+        ensures value { result ≡ start_of kind self.now }
+        ensures within { result + length (values_of kind self.now) ≤ length (candidates_of self.now) }
+        ensures few { result + length (values_of kind self.now) ≤ 1897 }
+        ensures accepted { IsAccepted self.now }
+    {
+        let tracks = self.count(Kind::Track);
+        match kind {
+            Kind::Track => 1,
+            Kind::Speed => 1 + tracks,
+            Kind::Climb => 1 + tracks + self.count(Kind::Speed),
+            Kind::Height => 1 + tracks + self.count(Kind::Speed) + self.count(Kind::Climb),
+        }
+    }
+
+    /// How many candidates the whole list has, at most 1897.
+    #[tactic(auto, using(crate::proofs::CandidateLemmas::whole_ends), unfolding(crate::specs::Candidates::start_of))]
+    pub fn total(&self) -> u32
+        ensures value { result ≡ length (candidates_of self.now) }
+        ensures some { 1 ≤ result }
+        ensures few { result ≤ 1897 }
+    {
+        self.start(Kind::Height) + self.count(Kind::Height)
+    }
+
+    /// The candidate at a place in the whole list: Hold at 0, then those of track, ground speed,
+    /// vertical speed and altitude.
+    pub fn candidate(&self, index: u32) -> Candidate
+        requires { index < length (candidates_of self.now) }
+        ensures value { slice_get (candidates_of self.now) index ≡ Some result }
+        ensures within { IsCandidateOf self.now result }
+        ensures in_range { IsCandidateInRange result }
+        ensures accepted { IsAccepted self.now }
+    {
+        if index < self.start(Kind::Track) {
+            return Candidate::Hold;
+        }
+        if index < self.start(Kind::Speed) {
+            return self.going(Kind::Track, index - self.start(Kind::Track));
+        }
+        if index < self.start(Kind::Climb) {
+            return self.going(Kind::Speed, index - self.start(Kind::Speed));
+        }
+        if index < self.start(Kind::Height) {
+            return self.going(Kind::Climb, index - self.start(Kind::Climb));
+        }
+        self.going(Kind::Height, index - self.start(Kind::Height))
+    }
+
+    /// The candidate at a place of a kind.
+    fn going(&self, kind: Kind, place: u32) -> Candidate
+        requires { place < length (values_of kind self.now) }
+        ensures value { slice_get (candidates_of self.now) (start_of kind self.now + place) ≡ Some result }
+        ensures within { IsCandidateOf self.now result }
+        ensures in_range { IsCandidateInRange result }
+        ensures accepted { IsAccepted self.now }
+    {
+        let value = self.value(kind, place);
+        match kind {
+            Kind::Track => Candidate::Track(value),
+            Kind::Speed => Candidate::Speed(value),
+            Kind::Climb => Candidate::Climb(value),
+            Kind::Height => Candidate::Height(value),
+        }
+    }
+}
+
+/// The value of a grid at a place.
+fn value_at(grid: &Grid, i: u32) -> i32
+    requires grid { IsStepped grid.now }
+    requires within { i < count_of grid.now }
+    ensures { result ≡ grid.now.min +ℤ pos i *ℤ grid.now.step }
+{
+    (grid.min + i64::from(i) * grid.step) as i32
+}

@@ -1,0 +1,87 @@
+//! Why a configuration is refused.
+ghost use Rattle.std.specs.Prelude.{◌≡◌};
+ghost use Rattle.daa_config.specs.declared.fault.ConfigFault.TheVariants.{NoMemory};
+
+use std::alloc::{AllocError, AllocFailed};
+use std::error::Error;
+use std::fmt;
+
+/// Why a configuration is refused. Where several faults apply, the one of least number is told,
+/// wherever in the text it applies. `NoMemory` says nothing of the text.
+#[derive(Clone, Copy, Debug, PartialEq, Eq)]
+pub enum ConfigFault {
+    /// The text has more than 65536 bytes.
+    TooLong,
+    /// The text is not UTF-8, or no document of TOML.
+    NotToml,
+    /// A table has a key that is not listed.
+    UnknownKey,
+    /// A table lacks a key that it must have.
+    MissingKey,
+    /// A number's place holds no whole number, or a table's place no table.
+    NotNumber,
+    /// A number is outside its range, `min` is above `max`, or `track_step` does not divide 360.
+    OutOfRange,
+    /// There is no level, there are more than four, or `resolve` is above their number.
+    Levels,
+    /// A kind has more than 512 candidates.
+    TooMany,
+    /// Memory ran out.
+    NoMemory,
+}
+
+impl ConfigFault {
+    ghost use Rattle.daa_config.specs.Fault.{code_of};
+
+    /// The number of the fault, 1 to 8; none for want of memory.
+    pub fn code(self) -> Option<u8>
+        ensures { result ≡ code_of self }
+    {
+        match self {
+            ConfigFault::TooLong => Some(1),
+            ConfigFault::NotToml => Some(2),
+            ConfigFault::UnknownKey => Some(3),
+            ConfigFault::MissingKey => Some(4),
+            ConfigFault::NotNumber => Some(5),
+            ConfigFault::OutOfRange => Some(6),
+            ConfigFault::Levels => Some(7),
+            ConfigFault::TooMany => Some(8),
+            ConfigFault::NoMemory => None,
+        }
+    }
+}
+
+impl fmt::Display for ConfigFault {
+    fn fmt<W: fmt::Write>(&self, f: &mut fmt::Formatter<W>) -> fmt::Result {
+        f.write_str(match self {
+            ConfigFault::TooLong => "the text is longer than 65536 bytes",
+            ConfigFault::NotToml => "the text is no TOML document",
+            ConfigFault::UnknownKey => "a key is unknown",
+            ConfigFault::MissingKey => "a key is missing",
+            ConfigFault::NotNumber => "a value is no whole number, or no table",
+            ConfigFault::OutOfRange => "a number is out of its range",
+            ConfigFault::Levels =>
+                "there is no level, there are too many, or `resolve` is above them",
+            ConfigFault::TooMany => "a kind has too many candidates",
+            ConfigFault::NoMemory => "memory ran out",
+        })
+    }
+}
+
+impl Error for ConfigFault {}
+
+impl From<AllocError> for ConfigFault {
+    ghost from_gives = { λ _ e. e ≡ NoMemory };
+
+    fn from(_error: AllocError) -> ConfigFault {
+        ConfigFault::NoMemory
+    }
+}
+
+impl<T: Drop> From<AllocFailed<T>> for ConfigFault {
+    ghost from_gives = { λ _ e. e ≡ NoMemory };
+
+    fn from(_error: AllocFailed<T>) -> ConfigFault {
+        ConfigFault::NoMemory
+    }
+}

@@ -1,0 +1,17 @@
+//! Laws of the definitions, each the contract of a function that does nothing.
+ghost use Rattle.std.specs.Prelude.{◌≡◌, Ok};
+ghost use Rattle.daa_config.specs.declared.kind.Kind.{Kind};
+ghost use Rattle.daa_config.specs.Keys.{Text};
+ghost use Rattle.daa_config.specs.Settings.{Settings, IsAccepted};
+ghost use Rattle.daa_config.specs.ConfigOf.{config_of};
+ghost use Rattle.daa_config.specs.Candidates.{grid_of, values_of, AreStepsUpTo};
+
+/// A text that is taken has its numbers in their ranges.
+pub fn accepted_is_in_range()
+    ensures { (text : Text) (s : Settings) → config_of text ≡ Ok s → IsAccepted s }
+{}
+
+/// The values of a kind are the least and each further step that is not above the greatest that may be.
+pub fn values_are_all_steps()
+    ensures { (kind : Kind) (s : Settings) → IsAccepted s → AreStepsUpTo (grid_of kind s) (values_of kind s) }
+{}

@@ -1,0 +1,85 @@
+//! Alert levels, in units.
+ghost use Rattle.std.specs.Prelude.{◌≡◌, ◌*◌, ℕ, pos, nat_abs, true, map, IfOk};
+ghost use Rattle.std.specs.List.{list_all};
+ghost use Rattle.daa_fixed.specs.Size.{IsFrom};
+ghost use Rattle.daa_config.specs.Numbers.{level_fits};
+ghost use Rattle.daa_config.specs.ConfigOf.{level_of, model_of};
+
+use crate::numbers::LevelNumbers;
+use daa_fixed::{feet, mils};
+use daa_taumod::{Model, Volume};
+use std::alloc::{AllocError, Global};
+
+/// An alert level: its well-clear volume (1/36000 NM, 1/60 ft and seconds), and how many seconds ahead
+/// it is looked for a candidate's violation of the volume and alerted of one by the present flight.
+#[derive(Clone, Copy, Debug, PartialEq, Eq)]
+pub struct Level {
+    pub volume: Volume,
+    pub lookahead: u32,
+    pub alert: u32,
+}
+
+/// The model that the key `tcpa` asks for.
+fn model_in(tcpa: i64) -> Model
+    ensures { result ≡ model_of tcpa }
+{
+    if tcpa == 0 {
+        Model::Taumod
+    } else {
+        Model::Tcpa
+    }
+}
+
+/// Thousandths of a nautical mile as units.
+fn horizontal(number: i64) -> u32
+    requires { IsFrom (pos 0) (pos 10000) number }
+    ensures { result ≡ 36 * nat_abs number }
+{
+    mils(number as i32) as u32
+}
+
+/// Feet as units.
+fn vertical(number: i64) -> u32
+    requires { IsFrom (pos 0) (pos 10000) number }
+    ensures { result ≡ 60 * nat_abs number }
+{
+    feet(number as i32) as u32
+}
+
+/// A number of seconds.
+fn seconds(number: i64) -> u32
+    requires { IsFrom (pos 0) (pos 10000) number }
+    ensures { result ≡ nat_abs number }
+{
+    number as u32
+}
+
+/// The level of these numbers, which are in their ranges.
+fn in_units(numbers: &LevelNumbers) -> Level
+    requires { level_fits numbers.now ≡ true }
+    ensures { result ≡ level_of numbers.now }
+{
+    Level {
+        volume: Volume {
+            dthr: horizontal(numbers.dthr),
+            zthr: vertical(numbers.zthr),
+            tthr: seconds(numbers.tthr),
+            tcoa: seconds(numbers.tcoa),
+            model: model_in(numbers.tcpa),
+        },
+        lookahead: seconds(numbers.lookahead),
+        alert: seconds(numbers.alert),
+    }
+}
+
+/// The levels of these numbers, in order.
+pub fn all_in_units(alloc: Global, numbers: &[LevelNumbers]) -> Result<Vec<Level>, AllocError>
+    requires { list_all level_fits numbers.now ≡ true }
+    ensures { IfOk result (λ v. v.items ≡ map level_of numbers.now) }
+{
+    let mut levels = Vec::with_capacity(alloc, numbers.len())?;
+    for one in numbers {
+        levels.push(in_units(one))?;
+    }
+    Ok(levels)
+}

@@ -1,0 +1,29 @@
+//! The configuration: what a text of TOML says of levels and candidates, and the candidates that it
+//! lists. A text is read into numbers, the numbers are checked against the table of their ranges, and
+//! what is accepted is a [`Config`], whose readers know every range.
+#![tactic(auto)]
+
+mod candidate;
+mod config;
+mod document;
+mod fault;
+mod keys;
+mod kind;
+mod laws;
+mod level;
+mod limits;
+mod numbers;
+pub mod packing;
+mod reading;
+
+pub use candidate::{Candidate, Resolution};
+pub use config::{Config, Rates};
+pub use fault::ConfigFault;
+pub use kind::Kind;
+pub use laws::{accepted_is_in_range, values_are_all_steps};
+pub use level::Level;
+pub use numbers::{Grid, Numbers};
+pub use reading::read;
+
+#[cfg(test)]
+mod tests;

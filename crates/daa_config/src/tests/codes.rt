@@ -1,0 +1,413 @@
+//! The code of each fault: 0 stands for a text that is accepted.
+
+use crate::tests::texts::{EXAMPLE, LARGE, SMALL};
+use crate::{ConfigFault, read};
+use std::alloc::Global;
+use std::process::Abort;
+use std::test::Fail;
+
+/// The number of the text's fault, 0 where it has none.
+fn code_of(alloc: Global, text: &[u8]) -> Result<u8, ConfigFault> {
+    match read(alloc, text) {
+        Ok(_) => Ok(0),
+        Err(fault) => fault.code().ok_or(fault),
+    }
+}
+
+/// Reads the text with one part of it replaced.
+fn expect_edited(
+    rt: &(impl AllocGlobal + Abort),
+    text: &str,
+    edit: &(&str, &str, u8),
+) -> Result<(), Fail> {
+    let (old, new, code) = *edit;
+    assert!(rt; text.contains(old), "the text has no {old}");
+    let edited = text.replacen(rt.alloc(), old, new, 1)?;
+    assert_eq!(rt;
+        code_of(rt.alloc(), edited.as_str().as_bytes())?,
+        code,
+        "{old} -> {new}"
+    );
+    Ok(())
+}
+
+static WHOLE_TEXTS: [(&str, u8); 15] = [
+    (EXAMPLE, 0),
+    (SMALL, 0),
+    (LARGE, 0),
+    ("a =", 2),
+    ("a = 1\na = 2", 2),
+    ("[gs]\nmin = 1\n[gs]\nmax = 2", 2),
+    ("a = 9223372036854775808", 2),
+    ("x = 1", 3),
+    ("x = 9223372036854775807", 3),
+    ("[x]", 3),
+    ("\u{feff}x = 1", 3),
+    ("", 4),
+    ("\n# nothing\n", 4),
+    ("resolve = 1.0", 4),
+    ("level = []", 4),
+];
+
+#[test]
+fn whole_texts(rt: HostRuntime) -> Result<(), Fail> {
+    for (text, code) in &WHOLE_TEXTS {
+        assert_eq!(rt; code_of(rt.alloc(), text.as_bytes())?, *code, "{text}");
+    }
+    assert_eq!(rt; code_of(rt.alloc(), b"\xff")?, 2);
+    assert_eq!(rt; code_of(rt.alloc(), b"# \xc3")?, 2);
+    Ok(())
+}
+
+#[test]
+fn longest_text(rt: HostRuntime) -> Result<(), Fail> {
+    for (length, code) in [(65536, 0), (65537, 1)] {
+        let mut text = String::from_str(rt.alloc(), SMALL)?;
+        text.push('#')?;
+        for _ in text.len()..length {
+            text.push(' ')?;
+        }
+        assert_eq!(rt; code_of(rt.alloc(), text.as_str().as_bytes())?, code);
+    }
+    let spaces = vec![in rt.alloc(); b'='; 65537]?;
+    assert_eq!(rt; code_of(rt.alloc(), spaces.as_slice())?, 1);
+    Ok(())
+}
+
+/// Lists nested deeper than TOML's reader goes, and a key of more parts than it takes.
+#[test]
+fn deep_texts(rt: HostRuntime) -> Result<(), Fail> {
+    for (depth, code) in [(80, 3), (81, 2)] {
+        let mut text = String::from_str(rt.alloc(), "x = ")?;
+        for _ in 0..depth {
+            text.push('[')?;
+        }
+        for _ in 0..depth {
+            text.push(']')?;
+        }
+        assert_eq!(rt; code_of(rt.alloc(), text.as_str().as_bytes())?, code);
+        let mut key = String::from_str(rt.alloc(), "x")?;
+        for _ in 1..depth {
+            key.push_str(".x")?;
+        }
+        key.push_str(" = 1")?;
+        assert_eq!(rt; code_of(rt.alloc(), key.as_str().as_bytes())?, code);
+    }
+    Ok(())
+}
+
+static OF_THE_EXAMPLE: [(&str, &str, u8); 8] = [
+    ("track_step = 5\n", "track_step = 7\nx = 1\n", 3),
+    ("track_step = 5\n", "track_step = 7\n", 6),
+    ("resolve = 2\n", "resolve = 9\ngs.min = 4\n", 2),
+    ("resolve = 2\n", "resolve = 1.5\n", 5),
+    ("resolve = 2\n", "", 4),
+    ("[gs]\n", "[[gs]]\n", 5),
+    ("[gs]\n", "[gs]\n[gs.x]\n", 3),
+    ("[gs]\n", "[speed]\n", 3),
+];
+
+#[test]
+fn least_code(rt: HostRuntime) -> Result<(), Fail> {
+    for edit in &OF_THE_EXAMPLE {
+        expect_edited(&rt, EXAMPLE, edit)?;
+    }
+    let lacking = EXAMPLE.replacen(rt.alloc(), "alert = 25\n", "", 1)?;
+    expect_edited(&rt, lacking.as_str(), &("resolve = 2", "resolve = 9", 4))?;
+    let many = SMALL.replacen(
+        rt.alloc(),
+        "max = 1000, step = 1,",
+        "max = 60000, step = 1,",
+        1,
+    )?;
+    expect_edited(&rt, many.as_str(), &("resolve = 1", "resolve = 2", 7))?;
+    expect_edited(&rt, many.as_str(), &("resolve = 1", "resolve = 1", 8))?;
+    expect_edited(&rt, many.as_str(), &("turn_rate = 3", "turn_rate = 31", 6))?;
+    Ok(())
+}
+
+const GS: &str = "gs = { min = 3600, max = 3600, step = 1, rate = 10 }";
+
+const LEVEL: &str =
+    "level = [ { dthr = 660, zthr = 450, tthr = 35, tcoa = 0, lookahead = 10, alert = 10 } ]";
+
+const ALTITUDES: &str = "min = 1000, max = 1000, step = 1,";
+
+static SHAPES: [(&str, &str, u8); 25] = [
+    (GS, "gs = 5", 5),
+    (GS, "gs = []", 5),
+    (
+        GS,
+        "gs = [ { min = 3600, max = 3600, step = 1, rate = 10 } ]",
+        5,
+    ),
+    (
+        GS,
+        "gs.min = 3600\ngs.max = 3600\ngs.step = 1\ngs.rate = 10",
+        0,
+    ),
+    (
+        GS,
+        "gs = {\n min = 3600,\n max = 3600,\n step = 1,\n rate = 10,\n}",
+        0,
+    ),
+    (GS, "gs = { min = 3600, max = 3600, step = 1 }", 4),
+    (
+        GS,
+        "gs = { min = 3600, max = 3600, step = 1, rate = 10, x = 1 }",
+        3,
+    ),
+    (
+        GS,
+        "gs = { min = 3600, max = 3600, step = 1, \"rate\" = 10 }",
+        0,
+    ),
+    (
+        GS,
+        "gs = { min = 3600, max = 3600, step = 1, Rate = 10 }",
+        3,
+    ),
+    (GS, "", 4),
+    (LEVEL, "level = 5", 5),
+    (LEVEL, "level = []", 7),
+    (LEVEL, "level = [ 5 ]", 5),
+    (LEVEL, "level = [ [] ]", 5),
+    (LEVEL, "level = [ {} ]", 4),
+    (LEVEL, "level = [ { x = 1 } ]", 3),
+    (LEVEL, "level = [ 5, { x = 1 } ]", 3),
+    (LEVEL, "level = [ { dthr = 660 }, 5 ]", 4),
+    (LEVEL, "level = { x = 1 }", 5),
+    (LEVEL, "[level]\nx = 1", 5),
+    (LEVEL, "[level]\ndthr = 660", 5),
+    (LEVEL, "[[level]]\ndthr = 660", 4),
+    (LEVEL, "[[level]]\ndthr = 660\nx = 1", 3),
+    (LEVEL, "", 4),
+    (LEVEL, "recovery = { hdist = 1, vdist = 1 }", 3),
+];
+
+#[test]
+fn shapes(rt: HostRuntime) -> Result<(), Fail> {
+    for edit in &SHAPES {
+        expect_edited(&rt, SMALL, edit)?;
+    }
+    Ok(())
+}
+
+static NUMBERS: [(&str, &str, u8); 24] = [
+    ("turn_rate = 3", "turn_rate = 0x3", 0),
+    ("turn_rate = 3", "turn_rate = +3", 0),
+    ("turn_rate = 3", "turn_rate = 0o17", 0),
+    ("turn_rate = 3", "turn_rate = 1_0", 0),
+    ("turn_rate = 3", "turn_rate = 3.0", 5),
+    ("turn_rate = 3", "turn_rate = 3e0", 5),
+    ("turn_rate = 3", "turn_rate = inf", 5),
+    ("turn_rate = 3", "turn_rate = true", 5),
+    ("turn_rate = 3", "turn_rate = \"3\"", 5),
+    ("turn_rate = 3", "turn_rate = 1979-05-27", 5),
+    ("turn_rate = 3", "turn_rate = 07:32:00", 5),
+    ("turn_rate = 3", "turn_rate = [ 3 ]", 5),
+    ("turn_rate = 3", "turn_rate = 03", 2),
+    ("turn_rate = 3", "turn_rate = 0", 6),
+    ("turn_rate = 3", "turn_rate = -0", 6),
+    ("turn_rate = 3", "turn_rate = 9223372036854775807", 6),
+    ("turn_rate = 3", "turn_rate = -9223372036854775808", 6),
+    ("turn_rate = 3", "turn_rate = 9223372036854775808", 2),
+    (
+        "min = 0, max = 0, step = 1",
+        "min = 0, max = 0x2710, step = 7_000",
+        0,
+    ),
+    (
+        "min = 0, max = 0, step = 1",
+        "min = 0, max = 0, step = 0",
+        6,
+    ),
+    (
+        "min = 0, max = 0, step = 1",
+        "min = 1, max = 0, step = 1",
+        6,
+    ),
+    (
+        "min = 0, max = 0, step = 1",
+        "min = 0, max = -1, step = 1",
+        6,
+    ),
+    (
+        "min = 0, max = 0, step = 1",
+        "min = -9223372036854775808, max = 9223372036854775807, step = 1",
+        6,
+    ),
+    (
+        "min = 0, max = 0, step = 1",
+        "min = 0, max = 0, step = -9223372036854775808",
+        6,
+    ),
+];
+
+#[test]
+fn numbers(rt: HostRuntime) -> Result<(), Fail> {
+    for edit in &NUMBERS {
+        expect_edited(&rt, SMALL, edit)?;
+    }
+    Ok(())
+}
+
+static RANGES: [(&str, &str, u8); 36] = [
+    ("resolve = 1", "resolve = 0", 6),
+    ("resolve = 1", "resolve = 2", 7),
+    ("resolve = 1", "resolve = 4", 7),
+    ("resolve = 1", "resolve = 5", 6),
+    ("turn_rate = 3", "turn_rate = 1", 0),
+    ("turn_rate = 3", "turn_rate = 30", 0),
+    ("turn_rate = 3", "turn_rate = 31", 6),
+    ("track_step = 90", "track_step = 0", 6),
+    ("track_step = 90", "track_step = 1", 0),
+    ("track_step = 90", "track_step = 7", 6),
+    ("track_step = 90", "track_step = 72", 0),
+    ("track_step = 90", "track_step = 80", 6),
+    ("track_step = 90", "track_step = 120", 6),
+    ("track_step = 90", "track_step = 180", 6),
+    ("track_step = 90", "track_step = 360", 6),
+    ("track_step = 90", "track_step = -90", 6),
+    ("min = 3600, max", "min = 0, max", 8),
+    ("min = 3600, max", "min = -1, max", 6),
+    ("max = 3600, step = 1,", "max = 10000, step = 10000,", 0),
+    ("max = 3600, step = 1,", "max = 10001, step = 10000,", 6),
+    ("max = 3600, step = 1,", "max = 10000, step = 10001,", 6),
+    ("rate = 10 ", "rate = 10000 ", 0),
+    ("rate = 10 ", "rate = 10001 ", 6),
+    ("rate = 10 ", "rate = 0 ", 6),
+    (
+        "min = 0, max = 0, step = 1,",
+        "min = -10000, max = 10000, step = 20000,",
+        0,
+    ),
+    (
+        "min = 0, max = 0, step = 1,",
+        "min = -10001, max = 10000, step = 20000,",
+        6,
+    ),
+    (
+        "min = 0, max = 0, step = 1,",
+        "min = -10000, max = 10001, step = 20000,",
+        6,
+    ),
+    (
+        "min = 0, max = 0, step = 1,",
+        "min = -10000, max = 10000, step = 20001,",
+        6,
+    ),
+    ("rate = 100 ", "rate = 10000 ", 0),
+    ("rate = 100 ", "rate = 10001 ", 6),
+    (
+        "min = 1000, max = 1000, step = 1,",
+        "min = -2000, max = 60000, step = 62000,",
+        0,
+    ),
+    (
+        "min = 1000, max = 1000, step = 1,",
+        "min = -2001, max = 60000, step = 62000,",
+        6,
+    ),
+    (
+        "min = 1000, max = 1000, step = 1,",
+        "min = -2000, max = 60001, step = 62000,",
+        6,
+    ),
+    (
+        "min = 1000, max = 1000, step = 1,",
+        "min = -2000, max = 60000, step = 62001,",
+        6,
+    ),
+    ("rate = 1000 ", "rate = 10000 ", 0),
+    ("rate = 1000 ", "rate = 10001 ", 6),
+];
+
+#[test]
+fn tables_of_ranges(rt: HostRuntime) -> Result<(), Fail> {
+    for edit in &RANGES {
+        expect_edited(&rt, SMALL, edit)?;
+    }
+    Ok(())
+}
+
+static LEVEL_RANGES: [(&str, &str, u8); 26] = [
+    ("dthr = 660", "dthr = 1", 0),
+    ("dthr = 660", "dthr = 0", 6),
+    ("dthr = 660", "dthr = 10000", 0),
+    ("dthr = 660", "dthr = 10001", 6),
+    ("zthr = 450", "zthr = 0", 0),
+    ("zthr = 450", "zthr = -1", 6),
+    ("zthr = 450", "zthr = 10001", 6),
+    ("tthr = 35", "tthr = 120", 0),
+    ("tthr = 35", "tthr = 121", 6),
+    ("tthr = 35", "tthr = -1", 6),
+    ("tcoa = 0", "tcoa = 120", 0),
+    ("tcoa = 0", "tcoa = 121", 6),
+    ("lookahead = 10", "lookahead = 180", 0),
+    ("lookahead = 10", "lookahead = 181", 6),
+    ("lookahead = 10", "lookahead = 0", 6),
+    ("alert = 10", "alert = 180", 0),
+    ("alert = 10", "alert = 181", 6),
+    ("alert = 10", "alert = 0", 6),
+    ("alert = 10", "alert = 10, tcpa = 0", 0),
+    ("alert = 10", "alert = 10, tcpa = 1", 0),
+    ("alert = 10", "alert = 10, tcpa = 2", 6),
+    ("alert = 10", "alert = 10, tcpa = -1", 6),
+    ("alert = 10", "alert = 10, tcpa = 1.0", 5),
+    ("alert = 10", "alert = 10, tcpa = true", 5),
+    ("alert = 10", "alert = 10, tcpb = 1", 3),
+    ("alert = 10", "tcpa = 1", 4),
+];
+
+#[test]
+fn level_ranges(rt: HostRuntime) -> Result<(), Fail> {
+    for edit in &LEVEL_RANGES {
+        expect_edited(&rt, SMALL, edit)?;
+    }
+    Ok(())
+}
+
+static COUNTS: [(&str, &str, u8); 9] = [
+    (ALTITUDES, "min = 0, max = 511, step = 1,", 0),
+    (ALTITUDES, "min = 0, max = 512, step = 1,", 8),
+    (ALTITUDES, "min = -1, max = 511, step = 1,", 8),
+    (ALTITUDES, "min = 0, max = 1023, step = 2,", 0),
+    (ALTITUDES, "min = 0, max = 1024, step = 2,", 8),
+    ("max = 3600, step = 1,", "max = 4111, step = 1,", 0),
+    ("max = 3600, step = 1,", "max = 4112, step = 1,", 8),
+    (
+        "min = 0, max = 0, step = 1,",
+        "min = -512, max = -1, step = 1,",
+        0,
+    ),
+    (
+        "min = 0, max = 0, step = 1,",
+        "min = -512, max = 0, step = 1,",
+        8,
+    ),
+];
+
+#[test]
+fn counts(rt: HostRuntime) -> Result<(), Fail> {
+    for edit in &COUNTS {
+        expect_edited(&rt, SMALL, edit)?;
+    }
+    let level = "{ dthr = 1, zthr = 1, tthr = 1, tcoa = 1, lookahead = 1, alert = 1 }";
+    let four = format!(in rt.alloc(); "[ {level}, {level}, {level}, {level} ]\n#")?;
+    expect_edited(&rt, SMALL, &("[", four.as_str(), 0))?;
+    let five = format!(in rt.alloc(); "[ {level}, {level}, {level}, {level}, {level} ]\n#")?;
+    expect_edited(&rt, SMALL, &("[", five.as_str(), 7))?;
+    let highest = SMALL.replacen(rt.alloc(), "resolve = 1", "resolve = 4", 1)?;
+    expect_edited(&rt, highest.as_str(), &("[", four.as_str(), 0))?;
+    let out = SMALL.replacen(rt.alloc(), "resolve = 1", "resolve = 5", 1)?;
+    expect_edited(&rt, out.as_str(), &("[", "[]\n#", 6))?;
+    Ok(())
+}
+
+#[test]
+fn codes_of_faults(rt: HostRuntime) {
+    assert_eq!(rt; ConfigFault::TooLong.code(), Some(1));
+    assert_eq!(rt; ConfigFault::TooMany.code(), Some(8));
+    assert_eq!(rt; ConfigFault::NoMemory.code(), None);
+}

@@ -1,0 +1,4 @@
+pub mod ComesNear
+pub mod Approach
+pub mod Nearest
+pub mod Sometimes

@@ -1,0 +1,5 @@
+use Rattle.daa_detect.proofs.Sometimes.{found_sometime}
+use Rattle.daa_detect.proofs.detection.is_hit.Goals as goal
+
+pub returns : goal.returns
+returns c = found_sometime c.args.leg.now c.args.volume.now c.hits.result c.is_some.result c.hits.ensures c.is_some.ensures

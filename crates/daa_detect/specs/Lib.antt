@@ -1,0 +1,3 @@
+pub mod Hit
+pub mod Distance
+pub mod Far

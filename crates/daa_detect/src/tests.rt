@@ -1,0 +1,229 @@
+//! Worked legs. The horizontal unit is 1/36000 nautical mile: 23760 units are 0.66 miles, and 3600 a second are 360 knots. The
+//! vertical unit is 1/60 foot, and one a second is a foot a minute.
+
+ghost use Rattle.std.specs.Prelude.{◌≡◌, ◌≤◌};
+ghost use Rattle.daa_fixed.specs.Leg.{IsLegInRange, IsSolidBelow};
+ghost use Rattle.daa_taumod.specs.Volume.{IsVolumeInRange};
+
+use super::*;
+use crate::detection::nearest_hit;
+use daa_fixed::{Flat, Leg, Point, Solid, before};
+use daa_taumod::{Model, Volume, violates};
+use std::test::Fail;
+
+const CYLINDER: Volume = Volume {
+    dthr: 23760,
+    zthr: 27000,
+    tthr: 0,
+    tcoa: 0,
+    model: Model::Taumod,
+};
+
+const NORTHWARD: Solid = Solid {
+    flat: Flat {
+        east: 0,
+        north: 3600,
+    },
+    up: 0,
+};
+
+const STILL: Solid = Solid {
+    flat: Flat { east: 0, north: 0 },
+    up: 0,
+};
+
+fn solid(east: i64, north: i64, up: i64) -> Solid
+    ensures east { result.flat.east ≡ east }
+    ensures north { result.flat.north ≡ north }
+    ensures up { result.up ≡ up }
+{
+    Solid {
+        flat: Flat { east, north },
+        up,
+    }
+}
+
+fn leg(place: &Solid, velocity: &Solid, secs: u32) -> Leg
+    requires place { IsSolidBelow 40000000 place.now }
+    requires velocity { IsSolidBelow 40000 velocity.now }
+    requires some { 1 ≤ secs }
+    requires short { secs ≤ 180 }
+    ensures { IsLegInRange result }
+{
+    Leg {
+        place: *place,
+        velocity: *velocity,
+        secs,
+    }
+}
+
+fn is_at(found: Option<Point>, num: i64, den: i64) -> bool {
+    match found {
+        Some(p) => p.num as i128 * den as i128 == num as i128 * p.den as i128,
+        None => false,
+    }
+}
+
+fn is_between(found: Option<Point>, from: &Point, upto: &Point) -> bool {
+    match found {
+        Some(p) => !before(&p, from) && !before(upto, &p),
+        None => false,
+    }
+}
+
+// 0.66 miles to the west, half a second before the closest approach, and a second earlier.
+#[test]
+fn touches_between_two_seconds(rt: HostRuntime) -> Result<(), Fail> {
+    let begin = solid(-23760, -1800, 0);
+    let earlier = solid(-23760, -5400, 0);
+    let long_before = solid(-23760, -37800, 0);
+    assert!(rt; is_at(hits(&leg(&begin, &NORTHWARD, 1), &CYLINDER), 1, 2));
+    assert!(rt; hits(&leg(&earlier, &NORTHWARD, 1), &CYLINDER).is_none());
+    assert!(rt; is_at(hits(&leg(&earlier, &NORTHWARD, 2), &CYLINDER), 3, 2));
+    assert!(rt; is_at(hits(&leg(&long_before, &NORTHWARD, 180), &CYLINDER), 21, 2));
+    let less = Volume {
+        dthr: 23759,
+        ..CYLINDER
+    };
+    assert!(rt; hits(&leg(&begin, &NORTHWARD, 1), &less).is_none());
+    assert!(rt; is_hit(&leg(&begin, &NORTHWARD, 1), &CYLINDER));
+    assert!(rt; !is_hit(&leg(&begin, &NORTHWARD, 1), &less));
+    Ok(())
+}
+
+// 25 feet below at 3000 feet a minute, at one place: within a foot for four hundredths of a second.
+#[test]
+fn violates_for_a_fraction_of_a_second(rt: HostRuntime) -> Result<(), Fail> {
+    let foot = Volume {
+        zthr: 60,
+        tthr: 35,
+        ..CYLINDER
+    };
+    let climbing = leg(&solid(0, 0, -1500), &solid(0, 0, 3000), 1);
+    assert!(rt;
+        is_between(
+            hits(&climbing, &foot),
+            &Point { num: 12, den: 25 },
+            &Point { num: 13, den: 25 }
+        )
+    );
+    assert!(rt; !violates(&climbing, &foot, &Point { num: 0, den: 1 }));
+    assert!(rt; !violates(&climbing, &foot, &Point { num: 1, den: 1 }));
+    Ok(())
+}
+
+// Near until 6.6 seconds, and within 100 feet from 6.8 seconds on, both on the seventh second; within 120 feet from 6.4 on.
+#[test]
+fn both_parts_at_one_time(rt: HostRuntime) -> Result<(), Fail> {
+    let hundred_feet = Volume {
+        zthr: 6000,
+        ..CYLINDER
+    };
+    let more_feet = Volume {
+        zthr: 7200,
+        ..CYLINDER
+    };
+    let leaving = solid(0, 3600, 3000);
+    let seventh = leg(&solid(0, 21600, -8400), &leaving, 1);
+    let whole = leg(&solid(0, 0, -26400), &leaving, 15);
+    assert!(rt; hits(&seventh, &hundred_feet).is_none());
+    assert!(rt; hits(&whole, &hundred_feet).is_none());
+    assert!(rt; is_hit(&seventh, &more_feet));
+    assert!(rt; is_hit(&whole, &more_feet));
+    Ok(())
+}
+
+#[test]
+fn no_speed_on_any_axis(rt: HostRuntime) -> Result<(), Fail> {
+    assert!(rt; is_hit(&leg(&solid(0, -23760, 27000), &STILL, 1), &CYLINDER));
+    assert!(rt; !is_hit(&leg(&solid(0, -23760, 27001), &STILL, 180), &CYLINDER));
+    assert!(rt; !is_hit(&leg(&solid(16801, 16801, 0), &STILL, 180), &CYLINDER));
+    Ok(())
+}
+
+// Ten seconds before a closest approach of 0.33 miles, with 8 seconds: modified tau counts at once, the time to the closest
+// approach from second 2 on. A line that misses 0.66 miles by a unit never counts.
+#[test]
+fn times_ahead_by_model(rt: HostRuntime) -> Result<(), Fail> {
+    let tau = Volume {
+        tthr: 8,
+        ..CYLINDER
+    };
+    let closest = Volume {
+        model: Model::Tcpa,
+        ..tau
+    };
+    let begin = solid(-11880, -36000, 0);
+    assert!(rt; is_hit(&leg(&begin, &NORTHWARD, 1), &tau));
+    assert!(rt; !is_hit(&leg(&begin, &NORTHWARD, 1), &closest));
+    assert!(rt; is_at(hits(&leg(&begin, &NORTHWARD, 2), &closest), 2, 1));
+    let missing = leg(&solid(-23761, -36000, 0), &NORTHWARD, 180);
+    assert!(rt;
+        !is_hit(
+            &missing,
+            &Volume {
+                tthr: 120,
+                ..CYLINDER
+            }
+        )
+    );
+    Ok(())
+}
+
+// At 180 seconds it is 120.0075 seconds before a head-on meeting, 199820 units above co-altitude.
+#[test]
+fn largest_numbers(rt: HostRuntime) -> Result<(), Fail> {
+    let tau = Volume {
+        dthr: 360000,
+        zthr: 600000,
+        tthr: 120,
+        tcoa: 120,
+        model: Model::Taumod,
+    };
+    let closest = Volume {
+        model: Model::Tcpa,
+        ..tau
+    };
+    let fastest = solid(-39999, -39999, -39999);
+    let meeting = leg(&solid(12000000, 12000000, 7000000), &fastest, 180);
+    let farthest = leg(&solid(39999999, 39999999, 39999999), &fastest, 180);
+    assert!(rt; is_at(hits(&meeting, &tau), 180, 1));
+    assert!(rt; hits(&meeting, &closest).is_none());
+    assert!(rt; hits(&farthest, &tau).is_none());
+    Ok(())
+}
+
+/// What `hits` answers, where the body without the box test answers the same.
+fn agreed(leg: &Leg, volume: &Volume) -> Option<bool>
+    requires leg { IsLegInRange leg.now }
+    requires volume { IsVolumeInRange volume.now }
+{
+    let answer = hits(leg, volume).is_some();
+    if answer == nearest_hit(leg, volume).is_some() {
+        Some(answer)
+    } else {
+        None
+    }
+}
+
+// On each side at 23760 units and one more, standing still; and with ten seconds ahead, flying there.
+#[test]
+fn box_test_changes_no_answer(rt: HostRuntime) -> Result<(), Fail> {
+    assert!(rt; agreed(&leg(&solid(23760, 0, 0), &STILL, 1), &CYLINDER) == Some(true));
+    assert!(rt; agreed(&leg(&solid(23761, 0, 0), &STILL, 1), &CYLINDER) == Some(false));
+    assert!(rt; agreed(&leg(&solid(-23760, 0, 0), &STILL, 1), &CYLINDER) == Some(true));
+    assert!(rt; agreed(&leg(&solid(-23761, 0, 0), &STILL, 1), &CYLINDER) == Some(false));
+    assert!(rt; agreed(&leg(&solid(0, 23760, 0), &STILL, 1), &CYLINDER) == Some(true));
+    assert!(rt; agreed(&leg(&solid(0, 23761, 0), &STILL, 1), &CYLINDER) == Some(false));
+    assert!(rt; agreed(&leg(&solid(0, -23760, 0), &STILL, 1), &CYLINDER) == Some(true));
+    assert!(rt; agreed(&leg(&solid(0, -23761, 0), &STILL, 1), &CYLINDER) == Some(false));
+    let ahead = Volume {
+        tthr: 10,
+        ..CYLINDER
+    };
+    assert!(rt; agreed(&leg(&solid(0, -51407, 0), &NORTHWARD, 1), &ahead) == Some(true));
+    assert!(rt; agreed(&leg(&solid(0, -51409, 0), &NORTHWARD, 1), &ahead) == Some(false));
+    assert!(rt; agreed(&leg(&solid(0, -63360, 0), &NORTHWARD, 1), &ahead) == Some(false));
+    assert!(rt; agreed(&leg(&solid(0, -63361, 0), &NORTHWARD, 1), &ahead) == Some(false));
+    Ok(())
+}

@@ -1,0 +1,14 @@
+pub mod Lists
+pub mod Views
+pub mod Frame
+pub mod Words
+pub mod Few
+pub mod Home
+pub mod Away
+pub mod Looks
+pub mod Seats
+pub mod Opening
+pub mod Dealing
+pub mod Joining
+pub mod Gathering
+pub mod Crew

@@ -1,0 +1,258 @@
+-- Looks that were made one after another, and what they show.
+use Rattle.std.proofs.Common.{◌≡◌, ◌≢◌, ℕ, ◌+◌, ◌<◌, ◌≤◌, ◌⊎◌, inl, inr, eqb, cond, List, [], ◌∷◌, ◌++◌, length, sym, refl, ap, ◌∙◌, subst, arith, append_assoc, Option, Some, None}
+use Rattle.std.specs.Option.{IfSome, IfNone, MatchOption}
+use Rattle.std.proofs.lemmas.Bool.{cases_lt}
+use Rattle.std.proofs.lemmas.Bool.Decides.{nat_tests}
+use Rattle.std.proofs.lemmas.List.{append-nil}
+use Rattle.std.proofs.lemmas.List.Sums.{sum_by-append, sum_by-cons}
+use Rattle.std.proofs.lemmas.List.Elements.{Contains-append_left, Contains-append_right, Contains-push}
+use Rattle.daa_range.specs.Range.{span, span_len, times_in}
+use Rattle.daa_range.specs.Word.{unpacked}
+use Rattle.daa_range.proofs.Ranges.{times_in_cut}
+use Rattle.daa_schedule.specs.declared.step.Step.{Step}
+use Rattle.daa_schedule.specs.declared.step.Step.TheVariants as by
+use Rattle.daa_pool.specs.declared.view.View.{View}
+use Rattle.daa_pool.specs.declared.view.Look.{Look}
+use Rattle.daa_pool.specs.View.{look, looked, looked_home, ended}
+use Rattle.daa_pool.specs.Seat.{HasPiece}
+use Rattle.daa_pool.specs.Claim.{IsLater, SawEmpty, IsBare, looks_at, IsBrief, IsTaking, Claims, FindsNothing}
+use Rattle.daa_pool.specs.Tour.{IsSeeking, TakesFrom, Toured}
+
+pub later_same : (v : View) → IsLater v v [] []
+later_same v = record {
+  place = record { number = refl; workers = refl; answers = refl; joined = refl; carries = refl; made = refl };
+  settled = refl;
+  looks = sym (append-nil v.looks);
+  moves = sym (append-nil v.moves);
+}
+
+pub later_trans : (u v w : View) (xs ys : List Look) (ms ns : List Step) → IsLater u v xs ms → IsLater v w ys ns → IsLater u w (xs ++ ys) (ms ++ ns)
+later_trans u v w xs ys ms ns a b = let p = a.place in let q = b.place in record {
+  place = record { number = q.number ∙ p.number; workers = q.workers ∙ p.workers; answers = q.answers ∙ p.answers; joined = q.joined ∙ p.joined; carries = q.carries ∙ p.carries; made = q.made ∙ p.made };
+  settled = b.settled ∙ a.settled;
+  looks = b.looks ∙ (ap (λ (ls : List Look). ls ++ ys) a.looks ∙ append_assoc u.looks xs ys);
+  moves = b.moves ∙ (ap (λ (ls : List Step). ls ++ ns) a.moves ∙ append_assoc u.moves ms ns);
+}
+
+-- one look
+pub looked_later : (v : View) (worker word : ℕ) → IsLater v (looked v worker word) (look worker word ∷ []) []
+looked_later v worker word = record {
+  place = record { number = refl; workers = refl; answers = refl; joined = refl; carries = refl; made = refl };
+  settled = refl;
+  looks = refl;
+  moves = sym (append-nil v.moves);
+}
+
+pub looked_home_later : (v : View) (word : ℕ) → IsLater v (looked_home v word) (look v.number word ∷ []) []
+looked_home_later v word = record {
+  place = record { number = refl; workers = refl; answers = refl; joined = refl; carries = refl; made = refl };
+  settled = refl;
+  looks = refl;
+  moves = sym (append-nil v.moves);
+}
+
+looks_at-append : (worker : ℕ) (xs ys : List Look) → looks_at worker (xs ++ ys) ≡ looks_at worker xs + looks_at worker ys
+looks_at-append worker xs ys = sum_by-append (λ (l : Look). cond (eqb l.worker worker) 1 0) xs ys
+
+looks_at-one : (worker o word : ℕ) → looks_at worker (look o word ∷ []) ≡ times_in worker (span o (o + 1))
+looks_at-one worker o word = sum_by-cons (λ (l : Look). cond (eqb l.worker worker) 1 0) (look o word) [] ∙ same
+  where
+    same : cond (eqb o worker) 1 0 + 0 ≡ times_in worker (span o (o + 1))
+    same = grind (arith, nat_tests)
+
+looks_at-not : (worker o word : ℕ) → worker ≢ o → looks_at worker (look o word ∷ []) ≡ 0
+looks_at-not worker o word n = sum_by-cons (λ (l : Look). cond (eqb l.worker worker) 1 0) (look o word) [] ∙ none
+  where
+    none : ◌≡◌ {A = ℕ} (cond (eqb o worker) 1 0 + 0) 0
+    none = grind (arith, nat_tests)
+
+-- what looks show, more looks show
+bare_left : (xs ys : List Look) (o : ℕ) → IsBare xs o → IsBare (xs ++ ys) o
+bare_left xs ys o (inl h) = inl (h.0, Contains-append_left xs ys h.0 h.1, h.2, h.3)
+bare_left xs ys o (inr h) = inr (h.0, h.1, Contains-append_left xs ys h.0 h.2, Contains-append_left xs ys h.1 h.3, h.4, h.5, h.6)
+
+bare_right : (xs ys : List Look) (o : ℕ) → IsBare ys o → IsBare (xs ++ ys) o
+bare_right xs ys o (inl h) = inl (h.0, Contains-append_right xs ys h.0 h.1, h.2, h.3)
+bare_right xs ys o (inr h) = inr (h.0, h.1, Contains-append_right xs ys h.0 h.2, Contains-append_right xs ys h.1 h.3, h.4, h.5, h.6)
+
+empty_right : (xs ys : List Look) (o : ℕ) → SawEmpty ys o → SawEmpty (xs ++ ys) o
+empty_right xs ys o h = (h.0, Contains-append_right xs ys h.0 h.1, h.2, h.3)
+
+-- a round that goes on
+pub toured_none : (v : View) (first : ℕ) → IsSeeking v → Toured v v first first
+toured_none v first s = record { seen = []; later = later_same v; seeking = s; bare = λ o a b. absurd (omega arith); brief = λ o. omega arith }
+
+pub toured_more : (u v w : View) (first mid upto : ℕ) → first ≤ mid → mid ≤ upto → Toured u v first mid → Toured v w mid upto → Toured u w first upto
+toured_more u v w first mid upto low high a b = record {
+  seen = a.seen ++ b.seen;
+  later = later_trans u v w a.seen b.seen [] [] a.later b.later;
+  seeking = b.seeking;
+  bare = λ o lo hi. go o lo hi (cases_lt o mid);
+  brief = λ o. let x = a.brief o in let y = b.brief o in let z = looks_at-append o a.seen b.seen in let t = times_in_cut o first mid upto low high in omega arith;
+}
+  where
+    go : (o : ℕ) → first ≤ o → o < upto → (o < mid) ⊎ (mid ≤ o) → IsBare (a.seen ++ b.seen) o
+    go o lo hi (inl h) = bare_left a.seen b.seen o (a.bare o lo h)
+    go o lo hi (inr h) = bare_right a.seen b.seen o (b.bare o h hi)
+
+-- a round that takes something after it found nothing
+pub takes_more : (u v w : View) (first mid last upto unit : ℕ) → first ≤ mid → mid ≤ last → last ≤ upto → Toured u v first mid → TakesFrom v w mid last unit → TakesFrom u w first upto unit
+takes_more u v w first mid last upto unit low high end a b = let l = a.later in let p = l.place in record {
+  seen = a.seen ++ b.seen;
+  steps = b.steps;
+  later = later_trans u v w a.seen b.seen [] b.steps a.later b.later;
+  taking = subst (λ (n : ℕ). IsTaking n b.steps) p.number b.taking;
+  piece = b.piece;
+  brief = λ o. let x = a.brief o in let y = b.brief o in let z = looks_at-append o a.seen b.seen in
+      let s = times_in_cut o first mid last low high in let t = times_in_cut o first last upto (omega arith) end in omega arith;
+}
+
+-- one other worker, whose range is short
+pub short : (v : View) (other word : ℕ) → IsSeeking v → span_len (unpacked word) < 2 → Toured v (looked v other word) other (other + 1)
+short v other word s few = let f = s.free in record {
+  seen = look other word ∷ [];
+  later = looked_later v other word;
+  seeking = record { free = record { hand = f.hand; going = f.going }; bare = s.bare };
+  bare = λ o lo hi. inl (look other word, Contains-push [] (look other word), (let e : other ≡ o = omega arith in e), few);
+  brief = λ o. let e = looks_at-one o other word in omega arith;
+}
+
+-- one other worker, whose range changed
+pub changed : (v : View) (other word again : ℕ) → IsSeeking v → word ≢ again → Toured v (looked (looked v other word) other again) other (other + 1)
+changed v other word again s ne = let f = s.free in record {
+  seen = (look other word ∷ []) ++ look other again ∷ [];
+  later = later_trans v (looked v other word) (looked (looked v other word) other again) (look other word ∷ []) (look other again ∷ []) [] [] (looked_later v other word) (looked_later (looked v other word) other again);
+  seeking = record { free = record { hand = f.hand; going = f.going }; bare = s.bare };
+  bare = λ o lo hi. let e : other ≡ o = omega arith in inr (
+    look other word,
+    look other again,
+    Contains-append_left (look other word ∷ []) (look other again ∷ []) (look other word) (Contains-push [] (look other word)),
+    Contains-append_right (look other word ∷ []) (look other again ∷ []) (look other again) (Contains-push [] (look other again)),
+    e,
+    e,
+    ne,
+  );
+  brief = λ o. let x = looks_at-one o other word in let y = looks_at-one o other again in let z = looks_at-append o (look other word ∷ []) (look other again ∷ []) in omega arith;
+}
+
+-- a look at another worker, and then the steps that take from it
+pub takes_from : (v w : View) (other word unit : ℕ) (steps : List Step) → IsLater (looked v other word) w [] steps → IsTaking v.number steps → HasPiece w unit → TakesFrom v w other (other + 1) unit
+takes_from v w other word unit steps later taking piece = record {
+  seen = (look other word ∷ []) ++ [];
+  steps = steps;
+  later = later_trans v (looked v other word) w (look other word ∷ []) [] [] steps (looked_later v other word) later;
+  taking = taking;
+  piece = piece;
+  brief = λ o. let x = looks_at-one o other word in let z = looks_at-append o (look other word ∷ []) [] in omega arith;
+}
+
+-- the looks of a call at the own range
+pub record LooksHome (before after : View) : Type 0 where
+  pub seen : List Look
+  pub later : IsLater before after seen []
+  pub home : (other : ℕ) → other ≢ before.number → looks_at other seen ≡ 0
+
+pub looks_home_first : (v : View) (word : ℕ) → LooksHome v (looked_home v word)
+looks_home_first v word = record { seen = look v.number word ∷ []; later = looked_home_later v word; home = λ o n. looks_at-not o v.number word n }
+
+pub looks_home_more : (u v : View) (word : ℕ) → LooksHome u v → LooksHome u (looked_home v word)
+looks_home_more u v word a = let l = a.later in let p = l.place in record {
+  seen = a.seen ++ look v.number word ∷ [];
+  later = later_trans u v (looked_home v word) a.seen (look v.number word ∷ []) [] [] a.later (looked_home_later v word);
+  home = λ o n. let x = a.home o n in let y = looks_at-not o v.number word (λ e. n (e ∙ p.number)) in let z = looks_at-append o a.seen (look v.number word ∷ []) in omega arith;
+}
+
+-- the own range's first unit is claimed
+pub claims_home : (u v w : View) (unit : ℕ) (steps : List Step) → LooksHome u v → IsLater v w [] steps → IsTaking v.number steps → HasPiece w unit → Claims u w unit
+claims_home u v w unit steps a later taking piece = let l = a.later in let p = l.place in record {
+  seen = a.seen ++ [];
+  steps = steps;
+  later = later_trans u v w a.seen [] [] steps a.later later;
+  taking = subst (λ (n : ℕ). IsTaking n steps) p.number taking;
+  piece = piece;
+  brief = λ o n. let x = a.home o n in let z = looks_at-append o a.seen [] in omega arith;
+}
+
+after_home : (u v : View) → LooksHome u v → (ys : List Look) → IsBrief v.number ys → (xs : List Look) → ((o : ℕ) → o ≢ u.number → looks_at o xs ≡ 0) → v.number ≡ u.number → IsBrief u.number (xs ++ ys)
+after_home u v a ys brief xs home same = λ o n. let x = home o n in let y = brief o (λ e. n (e ∙ same)) in let z = looks_at-append o xs ys in omega arith
+
+-- what a call does after looks at the own range
+pub claims_after : (u v w : View) (unit : ℕ) → LooksHome u v → Claims v w unit → Claims u w unit
+claims_after u v w unit a b = let l = a.later in let p = l.place in record {
+  seen = a.seen ++ b.seen;
+  steps = b.steps;
+  later = later_trans u v w a.seen b.seen [] b.steps a.later b.later;
+  taking = subst (λ (n : ℕ). IsTaking n b.steps) p.number b.taking;
+  piece = b.piece;
+  brief = after_home u v a b.seen b.brief a.seen a.home p.number;
+}
+
+pub nothing_after : (u v w : View) → LooksHome u v → FindsNothing v w → FindsNothing u w
+nothing_after u v w a b = let l = a.later in let p = l.place in record {
+  seen = a.seen ++ b.seen;
+  later = subst (λ (n : ℕ). IsLater u w (a.seen ++ b.seen) (by.End n ∷ [])) p.number (later_trans u v w a.seen b.seen [] (by.End v.number ∷ []) a.later b.later);
+  over = b.over;
+  empty = subst (λ (n : ℕ). SawEmpty (a.seen ++ b.seen) n) p.number (empty_right a.seen b.seen v.number b.empty);
+  others = λ o lo ne. bare_right a.seen b.seen o (b.others o (subst (λ (n : ℕ). o < n) (sym p.workers) lo) (λ e. ne (e ∙ p.number)));
+  brief = after_home u v a b.seen b.brief a.seen a.home p.number;
+  few = b.few;
+}
+
+pub some_after : (r : Option ℕ) (u v w : View) → LooksHome u v → MatchOption r (FindsNothing v w) (λ unit. Claims v w unit) → IfSome r (λ unit. Claims u w unit)
+some_after None u v w a h = tt
+some_after (Some unit) u v w a h = claims_after u v w unit a h
+
+pub none_after : (r : Option ℕ) (u v w : View) → LooksHome u v → MatchOption r (FindsNothing v w) (λ unit. Claims v w unit) → IfNone r (FindsNothing u w)
+none_after None u v w a h = nothing_after u v w a h
+none_after (Some unit) u v w a h = tt
+
+-- a number is in one of the two rounds at most
+apart : (o number workers : ℕ) → o ≢ number → times_in o (span (number + 1) workers) + times_in o (span 0 number) ≤ 1
+apart o number workers n = grind (arith, nat_tests)
+
+-- what the first round takes
+pub seeks_first : (v w : View) (number workers unit : ℕ) → v.number ≡ number → TakesFrom v w (number + 1) workers unit → Claims v w unit
+seeks_first v w number workers unit en a = record {
+  seen = a.seen;
+  steps = a.steps;
+  later = a.later;
+  taking = a.taking;
+  piece = a.piece;
+  brief = λ o n. let x = a.brief o in let y = apart o number workers (λ e. n (e ∙ sym en)) in omega arith;
+}
+
+-- what the second round takes
+pub seeks_second : (v w x : View) (number workers unit : ℕ) → v.number ≡ number → Toured v w (number + 1) workers → TakesFrom w x 0 number unit → Claims v x unit
+seeks_second v w x number workers unit en a b = let l = a.later in let p = l.place in record {
+  seen = a.seen ++ b.seen;
+  steps = b.steps;
+  later = later_trans v w x a.seen b.seen [] b.steps a.later b.later;
+  taking = subst (λ (n : ℕ). IsTaking n b.steps) p.number b.taking;
+  piece = b.piece;
+  brief = λ o n. let s = a.brief o in let t = b.brief o in let y = apart o number workers (λ e. n (e ∙ sym en)) in let z = looks_at-append o a.seen b.seen in omega arith;
+}
+
+-- two rounds that take nothing, and then the end
+pub seeks_nothing : (v w x : View) (word number workers : ℕ) → v.number ≡ number → v.workers ≡ workers → Toured v w (number + 1) workers → Toured w x 0 number → span_len (unpacked word) ≡ 0 → length x.settled ≤ length x.answers → FindsNothing v (ended x word)
+seeks_nothing v w x word number workers en ew a b empty few =
+    let t : IsLater v x (a.seen ++ b.seen) [] = later_trans v w x a.seen b.seen [] [] a.later b.later in let place = t.place in let s : IsSeeking x = b.seeking in let f = s.free in
+    let l : List Look = look x.number word ∷ [] in
+    let e : IsLater x (ended x word) l (by.End x.number ∷ []) = record {
+      place = record { number = refl; workers = refl; answers = refl; joined = refl; carries = refl; made = refl };
+      settled = refl;
+      looks = refl;
+      moves = refl;
+    } in record {
+      seen = (a.seen ++ b.seen) ++ l;
+      later = subst (λ (n : ℕ). IsLater v (ended x word) ((a.seen ++ b.seen) ++ l) (by.End n ∷ [])) place.number (later_trans v x (ended x word) (a.seen ++ b.seen) l [] (by.End x.number ∷ []) t e);
+      over = record { hand = f.hand; over = refl };
+      empty = (look x.number word, Contains-append_right (a.seen ++ b.seen) l (look x.number word) (Contains-push [] (look x.number word)), place.number, empty);
+      others = λ o lo ne. bare_left (a.seen ++ b.seen) l o (go o lo ne (cases_lt o number));
+      brief = λ o n. let p = a.brief o in let q = b.brief o in let y = apart o number workers (λ e. n (e ∙ sym en)) in
+          let z = looks_at-append o a.seen b.seen in let z' = looks_at-append o (a.seen ++ b.seen) l in let h = looks_at-not o x.number word (λ e. n (e ∙ place.number)) in omega arith;
+      few = few;
+    }
+  where
+    go : (o : ℕ) → o < v.workers → o ≢ v.number → (o < number) ⊎ (number ≤ o) → IsBare (a.seen ++ b.seen) o
+    go o lo ne (inl h) = bare_right a.seen b.seen o (b.bare o (omega arith) h)
+    go o lo ne (inr h) = bare_left a.seen b.seen o (a.bare o (let ne' : o ≢ number = (λ e. ne (e ∙ sym en)) in omega arith) (subst (λ (k : ℕ). o < k) ew lo))

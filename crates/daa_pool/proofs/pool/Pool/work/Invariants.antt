@@ -1,0 +1,14 @@
+use Rattle.std.proofs.Common.{◌≡◌, ℕ, ◌-◌, List, ◌++◌, length}
+use Rattle.daa_pool.specs.Seat.{view, IsSeatOf, IsFree, IsSamePlace}
+use Rattle.daa_pool.proofs.pool.Pool.work.Given as goal
+
+abbrev pub invariant-loop-piece : goal.invariant-loop-piece
+invariant-loop-piece g l = record {
+  pool : IsSeatOf l.self l.seat;
+  free : IsFree (view l.seat);
+  place : IsSamePlace (view l.initial.seat) (view l.seat);
+  settles : (more : List ℕ) × ((view l.seat).settled ≡ (view l.initial.seat).settled ++ more);
+}
+
+abbrev pub decreases-loop-piece : goal.decreases-loop-piece
+decreases-loop-piece g l = length (view l.seat).answers - length (view l.seat).settled

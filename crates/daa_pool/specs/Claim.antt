@@ -1,0 +1,67 @@
+-- What one call of `claim` does: it takes a unit, or it shows why there is none to take.
+use Rattle.std.specs.Prelude.{◌≡◌, ◌≢◌, ℕ, ◌<◌, ◌≤◌, ◌==◌, List, [], ◌∷◌, ◌++◌, length, ◌⊎◌, if◌then◌else◌}
+use Rattle.std.specs.List.{Contains, sum_by}
+use Rattle.daa_range.specs.Range.{span_len}
+use Rattle.daa_range.specs.Word.{unpacked}
+use Rattle.daa_schedule.specs.declared.step.Step.{Step}
+use Rattle.daa_schedule.specs.declared.step.Step.TheVariants.{Claim, Steal, Keep, End}
+use Rattle.daa_pool.specs.declared.view.View.{View}
+use Rattle.daa_pool.specs.declared.view.Look.{Look}
+use Rattle.daa_pool.specs.Seat.{IsSamePlace, HasPiece, IsOver}
+
+-- from the one view to the other these looks and these steps of the core were made, and nothing was settled
+pub record IsLater (before after : View) (seen : List Look) (steps : List Step) : Type 0 where
+  pub place : IsSamePlace before after
+  pub settled : after.settled ≡ before.settled
+  pub looks : after.looks ≡ before.looks ++ seen
+  pub moves : after.moves ≡ before.moves ++ steps
+
+-- a look found the worker's range empty
+abbrev pub SawEmpty : List Look → ℕ → Type 0
+SawEmpty seen worker = (look : Look) × Contains seen look × (look.worker ≡ worker) × (span_len (unpacked look.word) ≡ 0)
+
+-- a look found fewer than two units in the worker's range
+abbrev pub SawShort : List Look → ℕ → Type 0
+SawShort seen worker = (look : Look) × Contains seen look × (look.worker ≡ worker) × (span_len (unpacked look.word) < 2)
+
+-- two looks at the worker's range differ
+abbrev pub SawChange : List Look → ℕ → Type 0
+SawChange seen worker = (look again : Look) × Contains seen look × Contains seen again × (look.worker ≡ worker) × (again.worker ≡ worker) × (look.word ≢ again.word)
+
+-- why nothing was taken from a worker: its range was too short, or it changed under the try
+abbrev pub IsBare : List Look → ℕ → Type 0
+IsBare seen worker = SawShort seen worker ⊎ SawChange seen worker
+
+-- how many of the looks are at the worker's range
+abbrev pub looks_at : ℕ → List Look → ℕ
+looks_at worker seen = sum_by (λ look. if look.worker == worker then 1 else 0) seen
+
+-- at each other worker's range there was one look, and one try at most, which looks again where it fails
+abbrev pub IsBrief : ℕ → List Look → Type 0
+IsBrief number seen = (other : ℕ) → other ≢ number → looks_at other seen ≤ 2
+
+-- how a unit comes to the hand: by Claim, by Steal, or by Steal and Keep
+abbrev pub IsTaking : ℕ → List Step → Type 0
+IsTaking number steps =
+    (steps ≡ Claim number ∷ [])
+    ⊎ ((other : ℕ) × (steps ≡ Steal number other ∷ []))
+    ⊎ ((other : ℕ) × (steps ≡ Steal number other ∷ Keep number ∷ []))
+
+-- a call that gives the piece of a unit
+pub record Claims (before after : View) (unit : ℕ) : Type 0 where
+  pub seen : List Look
+  pub steps : List Step
+  pub later : IsLater before after seen steps
+  pub taking : IsTaking before.number steps
+  pub piece : HasPiece after unit
+  pub brief : IsBrief before.number seen
+
+-- a call that gives none: it saw the own range empty and each other range short or changing, and it ends the worker, which has settled no more units than there are
+pub record FindsNothing (before after : View) : Type 0 where
+  pub seen : List Look
+  pub later : IsLater before after seen (End before.number ∷ [])
+  pub over : IsOver after
+  pub empty : SawEmpty seen before.number
+  pub others : (other : ℕ) → other < before.workers → other ≢ before.number → IsBare seen other
+  pub brief : IsBrief before.number seen
+  pub few : length after.settled ≤ length after.answers

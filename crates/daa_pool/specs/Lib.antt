@@ -1,0 +1,10 @@
+pub mod View
+pub mod Rule
+pub mod Steps
+pub mod Seat
+pub mod Claim
+pub mod Tour
+pub mod History
+pub mod Pool
+pub mod Dealing
+pub mod Numbers

@@ -1,0 +1,59 @@
+-- What each atomic step tells its seat. The number found is the word as it was before the step.
+use Rattle.std.specs.Prelude.{◌≡◌, ◌≢◌, ℕ, ◌-◌, ◌<◌, ◌≤◌, List, length, slice_index}
+use Rattle.atomic_table.specs.Table.{Step, Me}
+use Rattle.daa_range.specs.Range.{span_len}
+use Rattle.daa_range.specs.Word.{first_part, upto_part, unpacked, IsInOrder}
+use Rattle.daa_schedule.specs.CoreState.{once_below}
+use Rattle.daa_pool.specs.declared.view.View.{View}
+use Rattle.daa_pool.specs.View.{HasPart, looked, looked_home, claimed, stolen, kept, settled, ended, opener, times}
+use Rattle.daa_pool.specs.History.{IsOneHistory}
+
+-- a seat as the table has it: its view, and the slots that it holds, which are none here
+abbrev pub Sat : Type 0
+Sat = Me (Unit {0}) View
+
+abbrev pub Becomes : Sat → View → Sat → Type 0
+Becomes before view after = (after.0 ≡ view) × (after.1 ≡ before.1)
+
+-- what is found in the own range
+pub record IsHome (view : View) (word : ℕ) : Type 0 where
+  pub in_order : IsInOrder word
+  pub first : first_part word ≡ view.bound.first
+  pub upto : upto_part word ≤ view.bound.upto
+
+-- the first seat is told the answers
+abbrev pub begins : ℕ → List ℕ → Step (Unit {0}) → Sat → ℕ → Sat → Type 0
+begins workers answers step before found after = Becomes before (opener workers answers) after
+
+abbrev pub looks_home : Step (Unit {0}) → Sat → ℕ → Sat → Type 0
+looks_home step before found after = Becomes before (looked_home before.0 found) after × IsHome before.0 found
+
+abbrev pub claims : Step (Unit {0}) → Sat → ℕ → Sat → Type 0
+claims step before found after =
+    (found ≡ step.first → Becomes before (claimed before.0) after × (before.0.bound.first < length before.0.answers))
+    × (found ≢ step.first → Becomes before (looked_home before.0 found) after × IsHome before.0 found)
+
+abbrev pub looks_away : Step (Unit {0}) → Sat → ℕ → Sat → Type 0
+looks_away step before found after = Becomes before (looked before.0 step.word found) after × IsInOrder found
+
+abbrev pub steals : Step (Unit {0}) → Sat → ℕ → Sat → Type 0
+steals step before found after =
+    (found ≡ step.first → Becomes before (stolen before.0 step.word (unpacked found)) after × ((unpacked found).upto ≤ length before.0.answers))
+    × (found ≢ step.first → Becomes before (looked before.0 step.word found) after × IsInOrder found)
+
+abbrev pub keeps : Step (Unit {0}) → Sat → ℕ → Sat → Type 0
+keeps step before found after = Becomes before (kept before.0) after
+
+abbrev pub settles : Step (Unit {0}) → Sat → ℕ → Sat → Type 0
+settles step before found after = Becomes before (settled before.0 step.first) after × (length (settled before.0 step.first).settled ≤ length before.0.answers)
+
+abbrev pub ends : Step (Unit {0}) → Sat → ℕ → Sat → Type 0
+ends step before found after = Becomes before (ended before.0 found) after × (span_len (unpacked found) ≡ 0) × (length before.0.settled ≤ length before.0.answers)
+
+-- a seat that has all numbers, each ended, reads an answer, and is told that each unit was settled once and that there is one history
+abbrev pub reads : Step (Unit {0}) → Sat → ℕ → Sat → Type 0
+reads step before found after =
+    Becomes before before.0 after
+    × (found ≡ slice_index before.0.answers (step.word - before.0.workers))
+    × ((unit : ℕ) → times unit before.0.settled ≡ once_below unit (length before.0.answers))
+    × IsOneHistory before.0.answers before.0.workers (HasPart before.0)

@@ -1,0 +1,107 @@
+//! The rule of the table, and what each kind of step tells.
+ghost use Rattle.std.specs.Prelude.{ℕ, List, []};
+ghost use Rattle.daa_pool.specs.View.{left_behind, next_seat, gathered, spent};
+ghost use Rattle.daa_pool.specs.Steps.{begins, looks_home, claims, looks_away, steals, keeps, settles, ends, reads};
+
+use crate::view::{Size, View};
+use atomic_table::{Join, Play, Split, TableRule};
+use std::marker::{Brand, PhantomData};
+
+/// The rule of the table: its words and the views of its seats show a core that is whole.
+pub(crate) struct Law;
+
+impl TableRule<(), View, Size> for Law {
+    ghost use Rattle.daa_pool.specs.Rule.{Holds};
+    ghost use Rattle.daa_pool.specs.View.{blank};
+
+    ghost holds = { Holds };
+
+    ghost first = { λ size. blank };
+}
+
+/// What the first seat is told. Each call of a program picks it.
+pub(crate) trait Telling {
+    /// The number of workers.
+    ghost workers: { ℕ };
+
+    /// The answers, in order of units.
+    ghost answers: { List ℕ };
+}
+
+impl Telling for Brand {
+    ghost workers = { 0 };
+
+    ghost answers = { [] };
+}
+
+pub(crate) struct Begin<J> {
+    marker: PhantomData<J>,
+}
+
+impl<J: Telling> Play<(), View> for Begin<J> {
+    ghost then = { λ step before found after. begins J.workers J.answers step before found after };
+}
+
+pub(crate) struct LookHome;
+
+impl Play<(), View> for LookHome {
+    ghost then = { looks_home };
+}
+
+pub(crate) struct Claim;
+
+impl Play<(), View> for Claim {
+    ghost then = { claims };
+}
+
+pub(crate) struct LookAway;
+
+impl Play<(), View> for LookAway {
+    ghost then = { looks_away };
+}
+
+pub(crate) struct Steal;
+
+impl Play<(), View> for Steal {
+    ghost then = { steals };
+}
+
+pub(crate) struct Keep;
+
+impl Play<(), View> for Keep {
+    ghost then = { keeps };
+}
+
+pub(crate) struct Settle;
+
+impl Play<(), View> for Settle {
+    ghost then = { settles };
+}
+
+pub(crate) struct End;
+
+impl Play<(), View> for End {
+    ghost then = { ends };
+}
+
+pub(crate) struct Read;
+
+impl Play<(), View> for Read {
+    ghost then = { reads };
+}
+
+pub(crate) struct Cut;
+
+impl Split<View> for Cut {
+    ghost left = { left_behind };
+
+    ghost right = { next_seat };
+}
+
+pub(crate) struct Glue;
+
+impl Join<View> for Glue {
+    ghost both = { gathered };
+
+    ghost spent = { spent };
+}

@@ -1,0 +1,55 @@
+//! What a seat knows of its pool. No value of these types is made: they exist in the proofs.
+use daa_range::Range;
+use daa_schedule::Step;
+use std::collections::LinkedList;
+
+/// A word that was found in the range of a worker.
+pub struct Look {
+    pub worker: u64,
+    pub word: u64,
+}
+
+/// What one worker did.
+pub struct Part {
+    /// The number of the worker.
+    pub number: u64,
+    /// Its steps of the core, in order.
+    pub moves: LinkedList<Step>,
+}
+
+/// What a seat knows.
+pub struct View {
+    /// False of a view that was joined to another.
+    pub live: bool,
+    /// The number of its worker.
+    pub number: u64,
+    /// The number of workers of its pool.
+    pub workers: u64,
+    /// The answers of its pool, in order of units.
+    pub answers: LinkedList<u64>,
+    /// The own range begins where this one begins, and ends where this one ends or before.
+    pub bound: Range,
+    /// The units in the hand.
+    pub hand: Range,
+    /// The units that the seat has settled.
+    pub settled: LinkedList<u64>,
+    /// The words that it found where it looked.
+    pub looks: LinkedList<Look>,
+    /// The steps of the core that it made.
+    pub moves: LinkedList<Step>,
+    /// Whether its worker has ended.
+    pub over: bool,
+    /// What the seats did that were joined to this one.
+    pub joined: LinkedList<Part>,
+    /// Whether the view has the count of seats made.
+    pub carries: bool,
+    /// That count.
+    pub made: u64,
+}
+
+/// How many workers a pool has, and how many units.
+#[derive(Clone, Copy)]
+pub(crate) struct Size {
+    pub(crate) workers: u32,
+    pub(crate) units: u32,
+}

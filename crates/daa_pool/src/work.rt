@@ -1,0 +1,47 @@
+//! Settling units, and working until nothing is left.
+ghost use Rattle.std.specs.Prelude.{◌≡◌, ◌≤◌, length, slice_index};
+ghost use Rattle.daa_pool.specs.View.{settled};
+ghost use Rattle.daa_pool.specs.Seat.{view, IsSeatOf, IsSamePlace, HasPiece, IsReady, IsDone, SettlesMore};
+
+use crate::pool::Pool;
+use crate::seat::{Piece, Seat, unit};
+use daa_outside::Gate;
+use daa_schedule::Answers;
+
+impl Pool {
+    /// Puts the answer of the unit on the board, whose piece this seat holds.
+    pub fn settle(&self, seat: &mut Seat, piece: Piece, word: u64)
+        requires pool { IsSeatOf self.now seat.old }
+        requires piece { HasPiece (view seat.old) piece }
+        requires word { word ≡ slice_index (view seat.old).answers piece }
+        ensures pool { IsSeatOf self.now seat.new }
+        ensures settled { view seat.new ≡ settled (view seat.old) word }
+        ensures few { length (view seat.new).settled ≤ length (view seat.old).answers }
+    {
+        self.put(seat, piece.unit, word);
+    }
+
+    /// Whether the seat is over.
+    pub fn is_over(&self, seat: &Seat) -> bool
+        requires { IsSeatOf self.now seat.now }
+        ensures { result ≡ (view seat.now).over }
+    {
+        seat.over
+    }
+
+    /// Claims, passes the gate, answers and settles until the seat is over. The answers are those that the pool was
+    /// opened for.
+    pub fn work<A: Answers, G: Gate>(&self, seat: &mut Seat, answers: &A, gate: &G)
+        requires ready { IsReady self.now seat.old (A.answers answers.now) }
+        ensures done { IsDone self.now seat.new }
+        ensures place { IsSamePlace (view seat.old) (view seat.new) }
+        ensures settles { SettlesMore (view seat.old) (view seat.new) }
+    {
+        while let Some(piece) = self.claim(seat) {
+            let unit = unit(&piece);
+            gate.pass(seat.number, unit);
+            let word = answers.word(unit);
+            self.settle(seat, piece, word);
+        }
+    }
+}

@@ -1,0 +1,20 @@
+-- Ranges cut in two, and their units counted.
+use Rattle.std.proofs.Common.{◌≡◌, ℕ, zero, suc, ◌+◌, ◌-◌, ◌≤◌, min, arith}
+use Rattle.std.proofs.lemmas.Bool.Decides.{nat_tests}
+use Rattle.daa_range.specs.Range.{Span, span, span_len, IsOrdered, times_in, times_below}
+
+-- a range that is cut at any place
+pub times_in_cut : (unit first middle upto : ℕ) → first ≤ middle → middle ≤ upto
+    → times_in unit (span first upto) ≡ times_in unit (span first middle) + times_in unit (span middle upto)
+times_in_cut unit first middle upto a b = grind (arith, nat_tests)
+
+-- one unit more
+counted_step : (unit : ℕ) (range : Span) → IsOrdered range → (min unit range.upto - range.first) + times_in unit range ≡ min (suc unit) range.upto - range.first
+counted_step unit range order = grind (arith, nat_tests)
+
+counted : (most : ℕ) (range : Span) → IsOrdered range → times_below most range ≡ min most range.upto - range.first
+counted zero range order = omega arith
+counted (suc unit) range order = let a = counted unit range order in let b = counted_step unit range order in omega arith
+
+pub times_below_all : (range : Span) (most : ℕ) → IsOrdered range → range.upto ≤ most → times_below most range ≡ span_len range
+times_below_all range most order h = let a = counted most range order in omega arith

@@ -1,0 +1,44 @@
+-- A range of units as plain data, and how it is cut.
+use Rattle.std.specs.Prelude.{ℕ, zero, suc, ◌+◌, ◌-◌, ◌/◌, ◌≤◌, nat_le, nat_lt, ◌&&◌, if◌then◌else◌}
+
+-- the units from `first` on, below `upto`
+pub record Span : Type 0 where
+  pub first : ℕ
+  pub upto : ℕ
+
+abbrev pub span : ℕ → ℕ → Span
+span first upto = record { first = first; upto = upto }
+
+abbrev pub IsOrdered : Span → Type 0
+IsOrdered range = range.first ≤ range.upto
+
+-- how many units the range has
+abbrev pub span_len : Span → ℕ
+span_len range = range.upto - range.first
+
+-- how often the unit stands in the range: once or not at all
+abbrev pub times_in : ℕ → Span → ℕ
+times_in unit range = if nat_le range.first unit && nat_lt unit range.upto then 1 else 0
+
+-- how many of the units below a number stand in the range
+abbrev pub times_below : ℕ → Span → ℕ
+times_below zero range = 0
+times_below (suc unit) range = times_below unit range + times_in unit range
+
+-- the first unit of the upper half, which has half of the units, cut toward zero
+abbrev pub middle_of : Span → ℕ
+middle_of range = range.upto - span_len range / 2
+
+abbrev pub lower_of : Span → Span
+lower_of range = span range.first (middle_of range)
+
+abbrev pub upper_of : Span → Span
+upper_of range = span (middle_of range) range.upto
+
+-- the range of the first unit alone
+abbrev pub first_unit_of : Span → Span
+first_unit_of range = span range.first (range.first + 1)
+
+-- all but the first unit
+abbrev pub rest_of : Span → Span
+rest_of range = span (range.first + 1) range.upto

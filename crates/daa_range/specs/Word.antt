@@ -1,0 +1,24 @@
+-- How a range stands in a word of 64 bits.
+use Rattle.std.specs.Prelude.{ℕ, ◌+◌, ◌*◌, ◌/◌, ◌%◌, ◌^◌, ◌≤◌, nat_le, if◌then◌else◌}
+use Rattle.daa_range.specs.Range.{Span, span}
+
+-- `first` stands in the upper 32 bits, and `upto` in the lower 32
+abbrev pub packed : Span → ℕ
+packed range = range.first * 2 ^ 32 + range.upto
+
+-- the upper 32 bits of a word
+abbrev pub first_part : ℕ → ℕ
+first_part word = word / 2 ^ 32
+
+-- the lower 32 bits of a word
+abbrev pub upto_part : ℕ → ℕ
+upto_part word = word % 2 ^ 32
+
+abbrev pub IsInOrder : ℕ → Type 0
+IsInOrder word = first_part word ≤ upto_part word
+
+-- the range of a word. Parts that are not in order are read as no units, at the first part
+abbrev pub unpacked : ℕ → Span
+unpacked word =
+    if nat_le (first_part word) (upto_part word) then span (first_part word) (upto_part word)
+    else span (first_part word) (first_part word)

@@ -1,0 +1,16 @@
+-- The fields of a core, as plain data.
+use Rattle.daa_schedule.specs.declared.core_state.Core.TheInside.{Inside}
+use Rattle.daa_schedule.specs.CoreState.{CoreState, IsShaped, IsWhole}
+
+abbrev pub state_of : Inside → CoreState
+state_of core = record {
+  answers = core.answers.items;
+  ranges = core.ranges.items;
+  hands = core.hands.items;
+  ended = core.ended.items;
+  board = core.board.items;
+}
+
+-- what holds of every core
+abbrev pub IsGood : Inside → Type 0
+IsGood core = IsShaped (state_of core) × IsWhole (state_of core)

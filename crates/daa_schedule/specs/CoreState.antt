@@ -1,0 +1,85 @@
+-- A core of the schedule as plain data: where each unit is, that no unit is lost or doubled, and how much is left to do.
+use Rattle.std.specs.Prelude.{◌≡◌, ◌≢◌, ℕ, ◌+◌, ◌-◌, ◌*◌, ◌<◌, Bool, true, false, ◌==◌, nat_lt, List, ◌∷◌, length, slice_index, slice_index_or, replicate, if◌then◌else◌}
+use Rattle.std.specs.List.{sum_by}
+use Rattle.daa_range.specs.Range.{Span, span, span_len, IsOrdered, times_in}
+use Rattle.daa_schedule.specs.Answers.{AreAnswers}
+
+-- for each worker a range, a hand, which is a range too, and whether it has ended; for each unit its answer, and the word on the board, 0 where none stands
+pub record CoreState : Type 0 where
+  pub answers : List ℕ
+  pub ranges : List Span
+  pub hands : List Span
+  pub ended : List Bool
+  pub board : List ℕ
+
+abbrev pub worker_count : CoreState → ℕ
+worker_count core = length core.ranges
+
+abbrev pub unit_count : CoreState → ℕ
+unit_count core = length core.answers
+
+-- a range, or a hand, without units
+abbrev pub no_units : Span
+no_units = span 0 0
+
+abbrev pub range_at : CoreState → ℕ → Span
+range_at core worker = slice_index_or core.ranges worker no_units
+
+abbrev pub hand_at : CoreState → ℕ → Span
+hand_at core worker = slice_index_or core.hands worker no_units
+
+abbrev pub has_ended : CoreState → ℕ → Bool
+has_ended core worker = slice_index_or core.ended worker false
+
+abbrev pub word_on : CoreState → ℕ → ℕ
+word_on core unit = slice_index core.board unit
+
+-- worker 0 has the range of all units, every other range and every hand is empty, nobody has ended, and nothing is on the board
+abbrev pub opened : List ℕ → ℕ → CoreState
+opened answers workers = record {
+  answers = answers;
+  ranges = span 0 (length answers) ∷ replicate (workers - 1) no_units;
+  hands = replicate workers no_units;
+  ended = replicate workers false;
+  board = replicate (length answers) 0;
+}
+
+-- the lists have an entry for each worker and for each unit
+pub record IsShaped (core : CoreState) : Type 0 where
+  pub hands : length core.hands ≡ worker_count core
+  pub ended : length core.ended ≡ worker_count core
+  pub board : length core.board ≡ unit_count core
+  pub answers : AreAnswers core.answers
+
+-- how often the unit stands on the board: once or not at all
+abbrev pub times_on : ℕ → List ℕ → ℕ
+times_on unit board = if slice_index board unit == 0 then 0 else 1
+
+-- how often the unit is in a range, in a hand or on the board
+abbrev pub times_held : ℕ → CoreState → ℕ
+times_held unit core = sum_by (times_in unit) core.ranges + sum_by (times_in unit) core.hands + times_on unit core.board
+
+-- 1 for a number below the bound, else 0
+abbrev pub once_below : ℕ → ℕ → ℕ
+once_below unit bound = if nat_lt unit bound then 1 else 0
+
+-- what holds of one worker: beside a hand of more than one unit the own range is empty, and a worker that has ended has no unit
+pub record IsSoundWorker (range hand : Span) (over : Bool) : Type 0 where
+  pub range_order : IsOrdered range
+  pub hand_order : IsOrdered hand
+  pub stolen : 1 < span_len hand → span_len range ≡ 0
+  pub ended : over ≡ true → (span_len hand ≡ 0) × (span_len range ≡ 0)
+
+-- each unit, and no other number, is exactly once in a range, in a hand or on the board, and each word on the board is its unit's answer
+pub record IsWhole (core : CoreState) : Type 0 where
+  pub once : (unit : ℕ) → times_held unit core ≡ once_below unit (unit_count core)
+  pub answered : (unit : ℕ) → word_on core unit ≢ 0 → word_on core unit ≡ slice_index core.answers unit
+  pub workers : (worker : ℕ) → IsSoundWorker (range_at core worker) (hand_at core worker) (has_ended core worker)
+
+-- what is left of a hand: 1 for one unit, 3m - 1 for m units where m is greater
+abbrev pub hand_left : ℕ → ℕ
+hand_left units = if nat_lt 1 units then 3 * units - 1 else units
+
+-- what is left of a core: 3 for each unit in a range, and what is left of each hand
+abbrev pub left_of : CoreState → ℕ
+left_of core = 3 * sum_by span_len core.ranges + sum_by (λ hand. hand_left (span_len hand)) core.hands

@@ -1,0 +1,9 @@
+//! The times of a straight leg at which the vertical part of the well-clear volume holds: one interval with exact ends.
+#![tactic(auto)]
+
+mod band;
+#[cfg(test)]
+mod tests;
+mod windows;
+
+pub use windows::window;
