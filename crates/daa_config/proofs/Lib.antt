@@ -4,3 +4,4 @@ pub mod RangeLemmas
 pub mod GridLemmas
 pub mod CandidateLemmas
 pub mod LevelLemmas
+pub mod GreatestLemmas

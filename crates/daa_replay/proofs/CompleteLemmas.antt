@@ -1,9 +1,20 @@
--- A run without a fault ends as the number of its bytes says.
-use Rattle.std.proofs.Common.{◌≡◌, ◌<◌, ◌≤◌, ◌+◌, ◌⊎◌, ℕ, Bool, List, [], ◌∷◌, ◌++◌, length, Option, None, Some, sym, ap, subst, arith, inl, inr, length-append}
+-- A run ends as the words, the shelf and the number of bytes say.
+use Rattle.std.proofs.Common.{◌≡◌, ◌<◌, ◌≤◌, ◌+◌, ◌⊎◌, ℕ, Bool, true, false, List, [], ◌∷◌, ◌++◌, length, Option, None, Some, Result, Ok, Err, refl, zero, suc, sym, ap, subst, ◌∙◌, arith, inl, inr, length-append}
 use Rattle.std.specs.Io.KnownBytes.{Consumes}
 use Rattle.daa_outside.specs.Faults.{HasRisen}
+use Rattle.daa_outside.specs.Shelf.{Texts}
+use Rattle.daa_config.specs.declared.fault.ConfigFault.{ConfigFault}
+use Rattle.daa_config.specs.ConfigOf.{config_of}
+use Rattle.daa_config.specs.Settings.{Settings}
 use Rattle.daa_lines.specs.LinesOf.{Bytes}
-use Rattle.daa_replay.specs.Run.{Shown, ReadsAll, PassesLimit, Replays, RunsAreComplete, EndsByItsInput, IsSpent}
+use Rattle.daa_report.specs.Lines.{Text}
+use Rattle.daa_words.specs.Order.{Asked, order_of}
+use Rattle.daa_replay.specs.Outside.{Outside, Shown}
+use Rattle.daa_replay.specs.Opening.{IsHeld, Opens, IsRefused, IsMissing}
+use Rattle.daa_replay.specs.Replaying.{ReadsAll, WriteFails, PassesLimit, IsSpent}
+use Rattle.daa_replay.specs.Run.{Under, BreaksUsage, BreaksCode, Runs, RunsAreComplete, EndsAsGiven, IsQuiet, IsOpened, IsRejected, Breaks}
+
+-- ---- how many bytes there were
 
 -- at least the bytes that were handed out were there
 handed_size : (a b : Option (List ℕ)) (all bytes : Bytes) → a ≡ Some all → Consumes a b bytes → length bytes ≤ length all
@@ -22,27 +33,160 @@ spent_size (Some xs) (Some ys) all bytes e h s =
     let none : ys ≡ [] = cc in
     omega (arith, ap length h, ap length same, ap length none, length-append bytes ys)
 
-module _ (most : ℕ) (so sn ko kn : Shown) (all : Bytes) (told : so.bytes ≡ Some all) where
-  short : (refused : Bool) → ReadsAll most refused so sn ko kn → length all ≤ most
+module _ (settings : Settings) (most : ℕ) (so sn ko kn : Shown) (all : Bytes) (told : so.bytes ≡ Some all) where
+  pub short : (refused : Bool) → ReadsAll settings most refused so sn ko kn → length all ≤ most
   short refused r =
       let size = spent_size so.bytes sn.bytes all r.bytes told r.handed.handed r.over in
       omega (arith, r.handed.bound)
 
-  long : PassesLimit most so sn ko kn → most < length all
+  pub long : PassesLimit settings most so sn ko kn → most < length all
   long p =
       let size = handed_size so.bytes sn.bytes all (p.bytes ++ p.next ∷ []) told p.handed in
       omega (arith, p.size, length-append p.bytes (p.next ∷ []))
 
-  pub complete : (status : ℕ) → Replays most status so sn ko kn → ¬ HasRisen so.faults sn.faults → ¬ HasRisen ko.faults kn.faults
-      → EndsByItsInput most status all
-  complete status r calm quiet = go r.named
+-- ---- words are taken or not, a text is held or not, and it is accepted or refused
+
+module _ (words : List Text) where
+  taken_twice : (a b : Asked) → order_of words ≡ Some a → order_of words ≡ Some b → a ≡ b
+  taken_twice a b h k =
+      let e : Some a ≡ Some b = sym h ∙ k in
+      cc
+
+  not_taken_now : (a : Asked) → order_of words ≡ None → order_of words ≡ Some a → ⊥
+  not_taken_now a h k =
+      let e : None ≡ Some a = sym h ∙ k in
+      cc
+
+  held_once : (texts : Option Texts) (held : Texts) (a b : Asked) (s t : Text) → texts ≡ Some held → a ≡ b
+      → IsHeld texts a.config s → IsHeld texts b.config t → s ≡ t
+  held_once None held a b s t e same h k = cc
+  held_once (Some other) held a b s t e same h k =
+      let f : Some s ≡ Some t = sym h ∙ ap (λ (x : Asked). other x.config) same ∙ k in
+      cc
+
+  -- a shelf that tells its texts gives the words one text
+  same_text : (texts : Option Texts) (held : Texts) (a b : Asked) (s t : Text) → texts ≡ Some held → order_of words ≡ Some a → order_of words ≡ Some b
+      → IsHeld texts a.config s → IsHeld texts b.config t → s ≡ t
+  same_text texts held a b s t told h k = held_once texts held a b s t told (taken_twice a b h k)
+
+  not_held : (texts : Option Texts) (held : Texts) (a b : Asked) (s : Text) → texts ≡ Some held → a ≡ b → held a.config ≡ None → IsHeld texts b.config s → ⊥
+  not_held None held a b s e same none h = cc
+  not_held (Some other) held a b s e same none h =
+      let f : other ≡ held = cc in
+      let g : None ≡ Some s = sym none ∙ ap (λ (x : Texts). x a.config) (sym f) ∙ ap (λ (x : Asked). other x.config) same ∙ h in
+      cc
+
+  pub one_configuration : (texts : Option Texts) (held : Texts) (settings other : Settings) → texts ≡ Some held
+      → Opens words texts settings → Opens words texts other → settings ≡ other
+  one_configuration texts held settings other told h k =
+      let same = same_text texts held h.asked k.asked h.text k.text told h.taken k.taken h.held k.held in
+      let e : Ok settings ≡ Ok other = sym h.accepted ∙ ap config_of same ∙ k.accepted in
+      cc
+
+  open_or_refused : (texts : Option Texts) (held : Texts) (settings : Settings) (code : ℕ) → texts ≡ Some held
+      → Opens words texts settings → IsRefused words texts code → ⊥
+  open_or_refused texts held settings code told h k =
+      let same = same_text texts held h.asked k.asked h.text k.text told h.taken k.taken h.held k.held in
+      let e : Ok settings ≡ Err k.fault = sym h.accepted ∙ ap config_of same ∙ k.refused in
+      cc
+
+  open_or_missing : (texts : Option Texts) (settings : Settings) → Opens words texts settings → IsMissing words texts → ⊥
+  open_or_missing texts settings h m = not_held texts m.held m.asked h.asked h.text m.told (taken_twice m.asked h.asked m.taken h.taken) m.missing h.held
+
+  refused_or_missing : (texts : Option Texts) (code : ℕ) → IsRefused words texts code → IsMissing words texts → ⊥
+  refused_or_missing texts code h m = not_held texts m.held m.asked h.asked h.text m.told (taken_twice m.asked h.asked m.taken h.taken) m.missing h.held
+
+-- ---- by the status
+
+-- the nine statuses
+by_status : (status : ℕ) (G : Type 0) → status ≤ 8
+    → (status ≡ 0 → G) → (status ≡ 1 → G) → (status ≡ 2 → G) → (status ≡ 3 → G) → (status ≡ 4 → G)
+    → (status ≡ 5 → G) → (status ≡ 6 → G) → (status ≡ 7 → G) → (status ≡ 8 → G) → G
+by_status zero G b s0 s1 s2 s3 s4 s5 s6 s7 s8 = s0 refl
+by_status (suc zero) G b s0 s1 s2 s3 s4 s5 s6 s7 s8 = s1 refl
+by_status (suc (suc zero)) G b s0 s1 s2 s3 s4 s5 s6 s7 s8 = s2 refl
+by_status (suc (suc (suc zero))) G b s0 s1 s2 s3 s4 s5 s6 s7 s8 = s3 refl
+by_status (suc (suc (suc (suc zero)))) G b s0 s1 s2 s3 s4 s5 s6 s7 s8 = s4 refl
+by_status (suc (suc (suc (suc (suc zero))))) G b s0 s1 s2 s3 s4 s5 s6 s7 s8 = s5 refl
+by_status (suc (suc (suc (suc (suc (suc zero)))))) G b s0 s1 s2 s3 s4 s5 s6 s7 s8 = s6 refl
+by_status (suc (suc (suc (suc (suc (suc (suc zero))))))) G b s0 s1 s2 s3 s4 s5 s6 s7 s8 = s7 refl
+by_status (suc (suc (suc (suc (suc (suc (suc (suc zero)))))))) G b s0 s1 s2 s3 s4 s5 s6 s7 s8 = s8 refl
+by_status (suc (suc (suc (suc (suc (suc (suc (suc (suc n))))))))) G b s0 s1 s2 s3 s4 s5 s6 s7 s8 = absurd (omega (arith, b))
+
+module _ (most status : ℕ) (words : List Text) (old new : Outside) (r : Runs most words status old new) where
+  -- with an accepted configuration
+  module _ (o : IsOpened words old.shelf.texts) (q : IsQuiet old new) where
+    never_refused : (code : ℕ) → IsRefused words old.shelf.texts code → ⊥
+    never_refused code k = open_or_refused words old.shelf.texts o.held o.settings code o.told o.opens k
+
+    by_bytes : (G : Type 0) → (Under words old.shelf.texts (λ s. ReadsAll s most false old.source new.source old.sink new.sink) → status ≡ 0 → G)
+        → (Under words old.shelf.texts (λ s. ReadsAll s most true old.source new.source old.sink new.sink) → status ≡ 1 → G)
+        → (status ≡ 6 → G)
+        → (Under words old.shelf.texts (λ s. PassesLimit s most old.source new.source old.sink new.sink) → status ≡ 8 → G) → G
+    by_bytes G s0 s1 s6 s8 = by_status status G r.named
+        (λ e. s0 (r.accepted e) e)
+        (λ e. s1 (r.refused e) e)
+        (λ e. absurd (not_taken_now words o.opens.asked (r.not_taken e).not_taken o.opens.taken))
+        (λ e. absurd (never_refused (r.bad_configuration e).code (r.bad_configuration e).refused))
+        (λ e. absurd (q.source (r.read_fault e).so.risen))
+        (λ e. absurd (q.sink (r.write_fault e).risen))
+        s6
+        (λ e. absurd (q.shelf (r.fetch_fault e).risen))
+        (λ e. s8 (r.limit e) e)
+
+  -- the sink failed: while which text
+  broken : (G : Type 0) (b : Breaks most words old new) → (order_of words ≡ None → G) → ((code : ℕ) → IsRefused words old.shelf.texts code → G)
+      → ((settings : Settings) → Opens words old.shelf.texts settings → G) → G
+  broken G b usage code report = go b.so
     where
-      go : (status ≡ 0) ⊎ ((status ≡ 1) ⊎ ((status ≡ 4) ⊎ ((status ≡ 5) ⊎ (status ≡ 8)))) → EndsByItsInput most status all
-      go (inl e) = let s = short _ (r.accepted e) in ((λ h. inl e), (λ h. absurd (omega (arith, h))))
-      go (inr (inl e)) = let s = short _ (r.refused e) in ((λ h. inr e), (λ h. absurd (omega (arith, h))))
-      go (inr (inr (inl e))) = absurd (calm (r.read_fault e).risen)
-      go (inr (inr (inr (inl e)))) = absurd (quiet (r.write_fault e).risen)
-      go (inr (inr (inr (inr e)))) = let l = long (r.limit e) in ((λ h. absurd (omega (arith, h))), (λ h. e))
+      go : BreaksUsage words old new ⊎ (BreaksCode words old new
+          ⊎ Under words old.shelf.texts (λ settings. WriteFails settings most old.source new.source old.sink new.sink)) → G
+      go (inl u) = usage u.not_taken
+      go (inr (inl c)) = code c.code c.refused
+      go (inr (inr u)) = report u.settings u.opens
+
+  pub ends_as_given : EndsAsGiven most words status old new
+  ends_as_given = record {
+    short = λ all o told q le. by_bytes o q _ (λ u e. inl e) (λ u e. inr (inl e)) (λ e. inr (inr e))
+        (λ u e. let l = long u.settings most _ _ _ _ all told u.so in absurd (omega (arith, le)));
+    long = λ all o told q lt. by_bytes o q _
+        (λ u e. let l = short u.settings most _ _ _ _ all told _ u.so in absurd (omega (arith, lt)))
+        (λ u e. let l = short u.settings most _ _ _ _ all told _ u.so in absurd (omega (arith, lt)))
+        (λ e. inr e) (λ u e. inl e);
+    not_taken = λ n. by_status status _ r.named
+        (λ e. let u = r.accepted e in absurd (not_taken_now words u.opens.asked n u.opens.taken))
+        (λ e. let u = r.refused e in absurd (not_taken_now words u.opens.asked n u.opens.taken))
+        (λ e. inl e)
+        (λ e. let u = r.bad_configuration e in absurd (not_taken_now words u.refused.asked n u.refused.taken))
+        (λ e. let u = r.read_fault e in absurd (not_taken_now words u.opens.asked n u.opens.taken))
+        (λ e. inr (inl e))
+        (λ e. inr (inr e))
+        (λ e. let u = r.fetch_fault e in absurd (not_taken_now words u.asked n u.taken))
+        (λ e. let u = r.limit e in absurd (not_taken_now words u.opens.asked n u.opens.taken));
+    rejected = λ k. by_status status _ r.named
+        (λ e. let u = r.accepted e in absurd (open_or_refused words _ k.held u.settings k.code k.told u.opens k.refused))
+        (λ e. let u = r.refused e in absurd (open_or_refused words _ k.held u.settings k.code k.told u.opens k.refused))
+        (λ e. absurd (not_taken_now words k.refused.asked (r.not_taken e).not_taken k.refused.taken))
+        (λ e. inl e)
+        (λ e. let u = r.read_fault e in absurd (open_or_refused words _ k.held u.settings k.code k.told u.opens k.refused))
+        (λ e. inr (inl e))
+        (λ e. inr (inr (inl e)))
+        (λ e. inr (inr (inr e)))
+        (λ e. let u = r.limit e in absurd (open_or_refused words _ k.held u.settings k.code k.told u.opens k.refused));
+    missing = λ m. by_status status _ r.named
+        (λ e. let u = r.accepted e in absurd (open_or_missing words _ u.settings u.opens m))
+        (λ e. let u = r.refused e in absurd (open_or_missing words _ u.settings u.opens m))
+        (λ e. absurd (not_taken_now words m.asked (r.not_taken e).not_taken m.taken))
+        (λ e. let u = r.bad_configuration e in absurd (refused_or_missing words _ u.code u.refused m))
+        (λ e. let u = r.read_fault e in absurd (open_or_missing words _ u.settings u.opens m))
+        (λ e. absurd (broken ⊥ (r.write_fault e)
+            (λ n. not_taken_now words m.asked n m.taken)
+            (λ code k. refused_or_missing words _ code k m)
+            (λ settings o. open_or_missing words _ settings o m)))
+        (λ e. inl e)
+        (λ e. inr e)
+        (λ e. let u = r.limit e in absurd (open_or_missing words _ u.settings u.opens m));
+  }
 
 pub runs_complete : RunsAreComplete
-runs_complete most status so sn ko kn all r told calm quiet = complete most so sn ko kn all told status r calm quiet
+runs_complete most status words old new r = ends_as_given most status words old new r

@@ -1,5 +1,6 @@
 -- The first second of the present flight is a leg in range.
-use Rattle.std.proofs.Common.{◌≡◌, ◌<◌, ◌≤◌, ◌+◌, ℕ, ℤ, ◌-ℤ◌, unsigned_abs, arith}
+use Rattle.std.proofs.Common.{◌≡◌, ◌∙◌, ◌<◌, ◌≤◌, ◌+◌, ◌↔◌, ℕ, ℤ, pos, ◌-ℤ◌, unsigned_abs, Bool, Some, sym, subst, arith}
+use Rattle.std.specs.Prelude.{IsTrue}
 use Rattle.std.proofs.lemmas.Int.{ints}
 use Rattle.daa_fixed.specs.declared.Solid.{Solid}
 use Rattle.daa_fixed.specs.declared.Leg.{Leg}
@@ -8,7 +9,11 @@ use Rattle.daa_fixed.proofs.Bounds as bounds
 use Rattle.daa_heading.proofs.Sines.{east-within, north-within}
 use Rattle.daa_state.specs.declared.word.Own.{Own}
 use Rattle.daa_state.specs.InRange.{IsOwnInRange}
-use Rattle.daa_replay.specs.NowLevel.{own_velocity}
+use Rattle.daa_state.specs.declared.word.Traffic.{Traffic}
+use Rattle.daa_taumod.specs.Volume.{Violates}
+use Rattle.daa_config.specs.declared.level.Level.{Level}
+use Rattle.daa_config.specs.Settings.{Settings, IsLevelAt}
+use Rattle.daa_replay.specs.NowLevel.{own_velocity, relative_leg, ViolatesNow}
 
 apart : (a b : ℕ) (x y : ℤ) → unsigned_abs x < a → unsigned_abs y < b → unsigned_abs (x -ℤ y) ≤ a + b
 apart a b x y h k = (bounds.minus {m = a} {n = b} {a = x} {b = y} (bounds.below {m = a} h) (bounds.below {m = b} k)).size
@@ -47,3 +52,17 @@ leg-in_range p q v w hp hq hv hw leg e =
         let b : unsigned_abs y ≤ 19999 = omega (arith, k) in
         let s : unsigned_abs (x -ℤ y) ≤ 19999 + 19999 = (bounds.minus {m = 19999} {n = 19999} {a = x} {b = y} (record { size = a }) (record { size = b })).size in
         omega (arith, s)
+
+-- a level stands once in a configuration
+same_level : (settings : Settings) (l : ℕ) (level other : Level) → IsLevelAt settings l level → IsLevelAt settings l other → level ≡ other
+same_level settings l level other h k =
+    let e : Some level ≡ Some other = sym h.there ∙ k.there in
+    cc
+
+-- a test of a level's volume tells whether the level is violated
+pub at_level : (settings : Settings) (own : Own) (aircraft : Traffic) (l : ℕ) (level : Level) → IsLevelAt settings l level
+    → {b : Bool} → IsTrue b ↔ Violates (relative_leg own aircraft) level.volume (pos 0) (pos 1) → IsTrue b ↔ ViolatesNow settings own aircraft l
+at_level settings own aircraft l level is h = (
+  (λ t. record { level = level; numbered = is; violates = h.0 t }),
+  (λ v. h.1 (subst (λ (x : Level). Violates (relative_leg own aircraft) x.volume (pos 0) (pos 1)) (same_level settings l v.level level v.numbered is) v.violates)),
+)

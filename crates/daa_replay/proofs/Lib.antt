@@ -8,3 +8,4 @@ pub mod RunLemmas
 pub mod FourWordLemmas
 pub mod OneText
 pub mod CompleteLemmas
+pub mod OpeningLemmas

@@ -4,6 +4,7 @@ use Rattle.std.specs.Prelude.{slice_index, slice_index_or}
 use Rattle.std.specs.List.{flat_map, zip}
 use Rattle.std.proofs.lemmas.List.{length_push, get_or_push, get_or_append_left, get_or_default, take_more, drop_more, take_all, take-append-drop}
 use Rattle.std.proofs.lemmas.Slice.Zip.{length-zip, get_or-zip}
+use Rattle.daa_config.specs.Settings.{Settings}
 use Rattle.daa_state.specs.declared.word.Own.{Own}
 use Rattle.daa_state.specs.declared.word.Traffic.{Traffic}
 use Rattle.daa_state.specs.declared.word.Picture.{Picture}
@@ -14,10 +15,10 @@ use Rattle.daa_replay.specs.MomentText.{AreNowLines, IsMomentText}
 use Rattle.daa_replay.specs.Saying.{AreLevels, level_line, pair_line, levels_text, written}
 
 -- the level of one aircraft more
-module _ (own : Own) (traffic : List Traffic) (n : ℕ) (levels : List ℕ) where
-  pub levels_more : (aircraft : Traffic) (level : ℕ) → AreLevels own traffic n levels → n < length traffic
-      → aircraft ≡ slice_index_or traffic n aircraft → IsNowLevel own aircraft level
-      → AreLevels own traffic (n + 1) (levels ++ level ∷ [])
+module _ {settings : Settings} (own : Own) (traffic : List Traffic) (n : ℕ) (levels : List ℕ) where
+  pub levels_more : (aircraft : Traffic) (level : ℕ) → AreLevels settings own traffic n levels → n < length traffic
+      → aircraft ≡ slice_index_or traffic n aircraft → IsNowLevel settings own aircraft level
+      → AreLevels settings own traffic (n + 1) (levels ++ level ∷ [])
   levels_more aircraft level h lt at is = record {
     many = length_push levels level ∙ ap (λ (x : ℕ). x + 1) h.many;
     each = λ i d le. go i d (below_or_at i n le);
@@ -26,18 +27,18 @@ module _ (own : Own) (traffic : List Traffic) (n : ℕ) (levels : List ℕ) wher
       below_or_at : (p n : ℕ) → p < n + 1 → (p < n) ⊎ (p ≡ n)
       below_or_at p n le = grind arith
 
-      go : (i : ℕ) (d : Traffic) → (i < n) ⊎ (i ≡ n) → IsNowLevel own (slice_index_or traffic i d) (slice_index (levels ++ level ∷ []) i)
+      go : (i : ℕ) (d : Traffic) → (i < n) ⊎ (i ≡ n) → IsNowLevel settings own (slice_index_or traffic i d) (slice_index (levels ++ level ∷ []) i)
       go i d (inl le) =
           let m = h.many in
-          subst (IsNowLevel own (slice_index_or traffic i d)) (sym (get_or_append_left levels (level ∷ []) 0 i (omega arith))) (h.each i d le)
+          subst (IsNowLevel settings own (slice_index_or traffic i d)) (sym (get_or_append_left levels (level ∷ []) 0 i (omega arith))) (h.each i d le)
       go i d (inr eq) =
           let a : slice_index_or traffic i d ≡ aircraft = ap (λ (j : ℕ). slice_index_or traffic j d) eq ∙ get_or_default traffic n d aircraft lt ∙ sym at in
           let b : slice_index (levels ++ level ∷ []) i ≡ level = ap (λ (j : ℕ). slice_index (levels ++ level ∷ []) j) eq ∙ get_or_push levels level 0 n h.many in
-          subst (λ (x : Traffic). IsNowLevel own x (slice_index (levels ++ level ∷ []) i)) (sym a) (subst (IsNowLevel own aircraft) (sym b) is)
+          subst (λ (x : Traffic). IsNowLevel settings own x (slice_index (levels ++ level ∷ []) i)) (sym a) (subst (IsNowLevel settings own aircraft) (sym b) is)
 
-lines_are : (own : Own) (traffic : List Traffic) (levels : List ℕ) → length levels ≡ length traffic
-    → ((i : ℕ) (aircraft : Traffic) → i < length traffic → IsNowLevel own (slice_index_or traffic i aircraft) (slice_index levels i))
-    → AreNowLines own traffic (flat_map pair_line (zip traffic levels))
+lines_are : {settings : Settings} (own : Own) (traffic : List Traffic) (levels : List ℕ) → length levels ≡ length traffic
+    → ((i : ℕ) (aircraft : Traffic) → i < length traffic → IsNowLevel settings own (slice_index_or traffic i aircraft) (slice_index levels i))
+    → AreNowLines settings own traffic (flat_map pair_line (zip traffic levels))
 unfolding level_line
 lines_are own [] levels e h = refl
 lines_are own (aircraft ∷ traffic) [] e h = absurd (omega arith)
@@ -50,8 +51,8 @@ lines_are own (aircraft ∷ traffic) (level ∷ levels) e h = (
 )
 
 -- what is written is the moment's text
-pub moment_text : (picture : Picture) (levels : List ℕ) → AreLevels picture.own (aircraft_of picture) (length (aircraft_of picture)) levels
-    → IsMomentText picture (written picture levels)
+pub moment_text : {settings : Settings} (picture : Picture) (levels : List ℕ) → AreLevels settings picture.own (aircraft_of picture) (length (aircraft_of picture)) levels
+    → IsMomentText settings picture (written picture levels)
 unfolding written levels_text
 moment_text picture levels h =
     (flat_map pair_line (zip (aircraft_of picture) levels), lines_are picture.own (aircraft_of picture) levels h.many h.each, refl)

@@ -1,5 +1,6 @@
 -- Exactly one text is the report of an input.
-use Rattle.std.proofs.Common.{ℕ, ◌≡◌, ◌∙◌, Bool, List, [], ◌∷◌, ◌++◌, refl, sym, ap, ap₂, inl, inr}
+use Rattle.std.proofs.Common.{ℕ, ◌≡◌, ◌∙◌, Bool, List, [], ◌∷◌, ◌++◌, refl, sym, ap, ap₂, length}
+use Rattle.daa_config.specs.Settings.{Settings}
 use Rattle.daa_lines.specs.LinesOf.{Bytes}
 use Rattle.daa_state.specs.declared.word.Own.{Own}
 use Rattle.daa_state.specs.declared.word.Traffic.{Traffic}
@@ -8,34 +9,33 @@ use Rattle.daa_state.specs.Picture.{aircraft_of}
 use Rattle.daa_report.specs.Lines.{Text, moment_line, now_line, done_line}
 use Rattle.daa_replay.specs.declared.event.Event.{Event}
 use Rattle.daa_replay.specs.declared.event.Event.TheVariants as event
-use Rattle.daa_replay.specs.NowLevel.{IsNowLevel}
+use Rattle.daa_replay.specs.NowLevel.{IsNowLevel, ViolatesNow}
+use Rattle.daa_config.proofs.GreatestLemmas.{greatest_once}
 use Rattle.daa_replay.specs.MomentText.{AreNowLines, IsMomentText}
 use Rattle.daa_replay.specs.Events.{events_of}
 use Rattle.daa_replay.specs.Report.{IsEventText, AreTexts, IsReportOf}
 
-level_once : (own : Own) (aircraft : Traffic) (l m : ℕ) → IsNowLevel own aircraft l → IsNowLevel own aircraft m → l ≡ m
-level_once own aircraft l m (inl h) (inl k) = h.0 ∙ sym k.0
-level_once own aircraft l m (inl h) (inr k) = absurd (k.1 h.1)
-level_once own aircraft l m (inr h) (inl k) = absurd (h.1 k.1)
-level_once own aircraft l m (inr h) (inr k) = h.0 ∙ sym k.0
+module _ (settings : Settings) where
+  level_once : (own : Own) (aircraft : Traffic) (l m : ℕ) → IsNowLevel settings own aircraft l → IsNowLevel settings own aircraft m → l ≡ m
+  level_once own aircraft l m h k = greatest_once (length settings.levels) l m (ViolatesNow settings own aircraft) h k
 
-lines_once : (own : Own) (traffic : List Traffic) (t u : Text) → AreNowLines own traffic t → AreNowLines own traffic u → t ≡ u
-lines_once own [] t u h k = h ∙ sym k
-lines_once own (aircraft ∷ others) t u (l, r, is, more, e) (m, s, also, rest, f) =
-    e ∙ ap₂ (λ (n : ℕ) (x : Text). now_line aircraft.id n ++ x) (level_once own aircraft l m is also) (lines_once own others r s more rest) ∙ sym f
+  lines_once : (own : Own) (traffic : List Traffic) (t u : Text) → AreNowLines settings own traffic t → AreNowLines settings own traffic u → t ≡ u
+  lines_once own [] t u h k = h ∙ sym k
+  lines_once own (aircraft ∷ others) t u (l, r, is, more, e) (m, s, also, rest, f) =
+      e ∙ ap₂ (λ (n : ℕ) (x : Text). now_line aircraft.id n ++ x) (level_once own aircraft l m is also) (lines_once own others r s more rest) ∙ sym f
 
-moment_once : (picture : Picture) (t u : Text) → IsMomentText picture t → IsMomentText picture u → t ≡ u
-moment_once picture t u (l, h, e) (m, k, f) =
-    e ∙ ap (λ (x : Text). moment_line picture.time ++ (x ++ done_line picture.time)) (lines_once picture.own (aircraft_of picture) l m h k) ∙ sym f
+  moment_once : (picture : Picture) (t u : Text) → IsMomentText settings picture t → IsMomentText settings picture u → t ≡ u
+  moment_once picture t u (l, h, e) (m, k, f) =
+      e ∙ ap (λ (x : Text). moment_line picture.time ++ (x ++ done_line picture.time)) (lines_once picture.own (aircraft_of picture) l m h k) ∙ sym f
 
-event_once : (e : Event) (t u : Text) → IsEventText e t → IsEventText e u → t ≡ u
-event_once (event.Refused number fault) t u h k = h ∙ sym k
-event_once (event.Ended picture) t u h k = moment_once picture t u h k
+  event_once : (e : Event) (t u : Text) → IsEventText settings e t → IsEventText settings e u → t ≡ u
+  event_once (event.Refused number fault) t u h k = h ∙ sym k
+  event_once (event.Ended picture) t u h k = moment_once picture t u h k
 
-texts_once : (events : List Event) (t u : Text) → AreTexts events t → AreTexts events u → t ≡ u
-texts_once [] t u h k = h ∙ sym k
-texts_once (e ∷ events) t u (a, b, is, more, p) (c, d, also, rest, q) =
-    p ∙ ap₂ (λ (x y : Text). x ++ y) (event_once e a c is also) (texts_once events b d more rest) ∙ sym q
+  texts_once : (events : List Event) (t u : Text) → AreTexts settings events t → AreTexts settings events u → t ≡ u
+  texts_once [] t u h k = h ∙ sym k
+  texts_once (e ∷ events) t u (a, b, is, more, p) (c, d, also, rest, q) =
+      p ∙ ap₂ (λ (x y : Text). x ++ y) (event_once e a c is also) (texts_once events b d more rest) ∙ sym q
 
-pub report_once : (bytes : Bytes) (ended : Bool) (t u : Text) → IsReportOf bytes ended t → IsReportOf bytes ended u → t ≡ u
-report_once bytes ended t u h k = texts_once (events_of bytes ended) t u h k
+  pub report_once : (bytes : Bytes) (ended : Bool) (t u : Text) → IsReportOf settings bytes ended t → IsReportOf settings bytes ended u → t ≡ u
+  report_once bytes ended t u h k = texts_once (events_of bytes ended) t u h k

@@ -6,6 +6,7 @@ use Rattle.std.specs.Io.KnownBytes.{Appends}
 use Rattle.std.proofs.KnownBytes.{Appends-trans}
 use Rattle.std.proofs.lemmas.List.{take-take, drop-take, take-append-drop}
 use Rattle.std.proofs.lemmas.List.Folds.{list_any-append}
+use Rattle.daa_config.specs.Settings.{Settings}
 use Rattle.daa_lines.specs.LinesOf.{Bytes}
 use Rattle.daa_lines.specs.Cutting.{Cutting}
 use Rattle.daa_lines.specs.Stands.{Stands}
@@ -32,151 +33,152 @@ refusals-push : (given : List Event) (event : Event) (before now : Bool) → lis
 refusals-push given event before now h k =
     list_any-append is_refusal given (event ∷ []) ∙ ap₂ (λ (a b : Bool). a || b) h (or_false (is_refusal event)) ∙ sym k
 
--- an event was given, and its text was written
-pub reports-event : (first before now : Told) (bytes : Bytes) (old new : Progress) (event : Event) (text : Text)
-    → ((b : Bytes) (g : List Event) → Follows b g old.lines old.moments → Follows b (g ++ event ∷ []) new.lines new.moments)
-    → new.any_refused ≡ (old.any_refused || is_refusal event)
-    → IsEventText event text → Appends before now text
-    → Reports first bytes old before → Reports first bytes new now
-reports-event first before now bytes old new event text kept flag is appends r = record {
-  given = r.given ++ event ∷ [];
-  follows = kept bytes r.given r.follows;
-  text = r.text ++ text;
-  texts = texts-push r.given event r.text text r.texts is;
-  taken = Appends-trans first before now r.text text r.taken appends;
-  refusals = refusals-push r.given event old.any_refused new.any_refused r.refusals flag;
-}
-
--- the sink failed within the text of an event
-stops-event : (first before now : Told) (bytes : Bytes) (ended : Bool) (given more : List Event) (event : Event) (whole text : Text)
-    → events_of bytes ended ≡ (given ++ event ∷ []) ++ more
-    → AreTexts given whole → Appends first before whole → IsEventText event text → AppendsFront before now text
-    → Stops first bytes ended now
-stops-event first before now bytes ended given more event whole text events texts taken is front = record {
-  text = whole ++ front.0;
-  front = record {
-    told = given;
-    later = event ∷ more;
-    events = events ∙ append_assoc given (event ∷ []) more;
-    whole = whole;
-    texts = texts;
-    begun = front.0;
-    begins = inr (front.1, subst (λ (t : Text). IsEventText event t) front.2 is);
-    together = refl;
-  };
-  taken = Appends-trans first before now whole front.0 taken front.3;
-}
-
--- the same for an event that a line gave
-pub stops-line : (first before now : Told) (bytes : Bytes) (old : Progress) (lines : Cutting) (moments : State) (event : Event) (text : Text)
-    → ((b : Bytes) (g : List Event) → Follows b g old.lines old.moments → Follows b (g ++ event ∷ []) lines moments)
-    → lines.ended ≡ old.lines.ended
-    → IsEventText event text → AppendsFront before now text
-    → Reports first bytes old before → Stops first bytes old.lines.ended now
-stops-line first before now bytes old lines moments event text kept same is front r =
-    let begins = given_begins bytes (r.given ++ event ∷ []) lines moments (kept bytes r.given r.follows) in
-    stops-event first before now bytes old.lines.ended r.given begins.0 event r.text text
-    (ap (events_of bytes) (sym same) ∙ begins.1) r.texts r.taken is front
-
--- a beginning of the report of some bytes is one of the report of more bytes
-pub stops-more : (first now : Told) (bytes more : Bytes) → Stops first bytes false now → Stops first (bytes ++ more) false now
-stops-more first now bytes more s =
-    let longer = events_begin bytes more in record {
-      text = s.text;
-      front = record {
-        told = s.front.told;
-        later = s.front.later ++ longer.0;
-        events = longer.1 ∙ ap (λ (e : List Event). e ++ longer.0) s.front.events ∙ append_assoc s.front.told s.front.later longer.0;
-        whole = s.front.whole;
-        texts = s.front.texts;
-        begun = s.front.begun;
-        begins = begins-more s.front.later longer.0 s.front.begun s.front.begins;
-        together = s.front.together;
-      };
-      taken = s.taken;
-    }
-
--- the lines in hand changed, and stand for the same bytes and lines
-pub reports-lines : (first now : Told) (bytes : Bytes) (old : Progress) (lines : Cutting)
-    → ((b : Bytes) (t : List Bytes) → Stands b t old.lines → Stands b t lines)
-    → Reports first bytes old now → Reports first bytes (record old { lines = lines }) now
-reports-lines first now bytes old lines kept r = record {
-  given = r.given;
-  follows = follows-as bytes r.given old.lines lines old.moments kept r.follows;
-  text = r.text;
-  texts = r.texts;
-  taken = r.taken;
-  refusals = r.refusals;
-}
-
 take_two : (xs : Bytes) (i n m : ℕ) → n ≤ m → take i xs ++ take n (take m (drop i xs)) ≡ take (i + n) xs
 take_two xs i n m h =
     ap (λ (r : Bytes). take i xs ++ r) (take-take n m (drop i xs) h ∙ sym (drop-take i n xs))
     ∙ ap (λ (r : Bytes). r ++ drop i (take (i + n) xs)) (sym (take-take i (i + n) xs (omega arith)))
     ∙ take-append-drop i (take (i + n) xs)
 
--- n bytes more were fed, of a piece of which `done` were fed before
-pub reports-part : (first now : Told) (bytes piece : Bytes) (old : Progress) (lines : Cutting) (done n : ℕ) → n ≤ length piece - done
-    → ((b : Bytes) (t : List Bytes) → Stands b t old.lines → Stands (b ++ take n (take (length piece - done) (drop done piece))) t lines)
-    → Reports first (bytes ++ take done piece) old now → Reports first (bytes ++ take (done + n) piece) (record old { lines = lines }) now
-reports-part first now bytes piece old lines done n within kept r =
-    let part = take n (take (length piece - done) (drop done piece)) in
-    let whole = append_assoc bytes (take done piece) part ∙ ap (λ (x : Bytes). bytes ++ x) (take_two piece done n (length piece - done) within) in
-    subst (λ (x : Bytes). Reports first x (record old { lines = lines }) now) whole (record {
-      given = r.given;
-      follows = follows-fed (bytes ++ take done piece) part r.given old.lines lines old.moments kept r.follows;
-      text = r.text;
-      texts = r.texts;
-      taken = r.taken;
-      refusals = r.refusals;
-    })
-
--- the sink failed after n bytes more of the piece
-pub stops-part : (first now : Told) (bytes piece : Bytes) (ended : Bool) (m : ℕ) → ended ≡ false
-    → Stops first (bytes ++ take m piece) ended now → Stops first (bytes ++ piece) false now
-stops-part first now bytes piece ended m going s =
-    let here : Stops first (bytes ++ take m piece) false now = subst (λ (e : Bool). Stops first (bytes ++ take m piece) e now) going s in
-    let whole = append_assoc bytes (take m piece) (drop m piece) ∙ ap (λ (x : Bytes). bytes ++ x) (take-append-drop m piece) in
-    subst (λ (x : Bytes). Stops first x false now) whole (stops-more first now (bytes ++ take m piece) (drop m piece) here)
-
 -- what holds anyway holds at an error
 pub on_err : {T E : Type 0} (r : Result T E) (P : Type 0) → P → OnErr r P
 on_err (Ok x) P p = tt
 on_err (Err e) P p = p
 
--- ---- at the end of the input
+module _ {settings : Settings} where
+  -- an event was given, and its text was written
+  pub reports-event : (first before now : Told) (bytes : Bytes) (old new : Progress) (event : Event) (text : Text)
+      → ((b : Bytes) (g : List Event) → Follows b g old.lines old.moments → Follows b (g ++ event ∷ []) new.lines new.moments)
+      → new.any_refused ≡ (old.any_refused || is_refusal event)
+      → IsEventText settings event text → Appends before now text
+      → Reports settings first bytes old before → Reports settings first bytes new now
+  reports-event first before now bytes old new event text kept flag is appends r = record {
+    given = r.given ++ event ∷ [];
+    follows = kept bytes r.given r.follows;
+    text = r.text ++ text;
+    texts = texts-push settings r.given event r.text text r.texts is;
+    taken = Appends-trans first before now r.text text r.taken appends;
+    refusals = refusals-push r.given event old.any_refused new.any_refused r.refusals flag;
+  }
 
--- the end gave no event
-pub whole-none : (first now : Told) (bytes : Bytes) (progress : Progress)
-    → ((b : Bytes) (g : List Event) → Follows b g progress.lines progress.moments → g ≡ events_of b true)
-    → Reports first bytes progress now → ReportsAll first bytes progress.any_refused now
-whole-none first now bytes progress whole r =
-    let all = whole bytes r.given r.follows in record {
-      text = r.text;
-      report = subst (λ (e : List Event). AreTexts e r.text) all r.texts;
-      taken = r.taken;
-      refusals = ap (list_any is_refusal) (sym all) ∙ r.refusals;
-    }
+  -- the sink failed within the text of an event
+  stops-event : (first before now : Told) (bytes : Bytes) (ended : Bool) (given more : List Event) (event : Event) (whole text : Text)
+      → events_of bytes ended ≡ (given ++ event ∷ []) ++ more
+      → AreTexts settings given whole → Appends first before whole → IsEventText settings event text → AppendsFront before now text
+      → Stops settings first bytes ended now
+  stops-event first before now bytes ended given more event whole text events texts taken is front = record {
+    text = whole ++ front.0;
+    front = record {
+      told = given;
+      later = event ∷ more;
+      events = events ∙ append_assoc given (event ∷ []) more;
+      whole = whole;
+      texts = texts;
+      begun = front.0;
+      begins = inr (front.1, subst (λ (t : Text). IsEventText settings event t) front.2 is);
+      together = refl;
+    };
+    taken = Appends-trans first before now whole front.0 taken front.3;
+  }
 
--- the end gave an event, and its text was written
-pub whole-event : (first before now : Told) (bytes : Bytes) (progress : Progress) (event : Event) (text : Text) (refused : Bool)
-    → ((b : Bytes) (g : List Event) → Follows b g progress.lines progress.moments → g ++ event ∷ [] ≡ events_of b true)
-    → refused ≡ (progress.any_refused || is_refusal event)
-    → IsEventText event text → Appends before now text
-    → Reports first bytes progress before → ReportsAll first bytes refused now
-whole-event first before now bytes progress event text refused whole flag is appends r =
-    let all = whole bytes r.given r.follows in record {
-      text = r.text ++ text;
-      report = subst (λ (e : List Event). AreTexts e (r.text ++ text)) all (texts-push r.given event r.text text r.texts is);
-      taken = Appends-trans first before now r.text text r.taken appends;
-      refusals = ap (list_any is_refusal) (sym all) ∙ refusals-push r.given event progress.any_refused refused r.refusals flag;
-    }
+  -- the same for an event that a line gave
+  pub stops-line : (first before now : Told) (bytes : Bytes) (old : Progress) (lines : Cutting) (moments : State) (event : Event) (text : Text)
+      → ((b : Bytes) (g : List Event) → Follows b g old.lines old.moments → Follows b (g ++ event ∷ []) lines moments)
+      → lines.ended ≡ old.lines.ended
+      → IsEventText settings event text → AppendsFront before now text
+      → Reports settings first bytes old before → Stops settings first bytes old.lines.ended now
+  stops-line first before now bytes old lines moments event text kept same is front r =
+      let begins = given_begins bytes (r.given ++ event ∷ []) lines moments (kept bytes r.given r.follows) in
+      stops-event first before now bytes old.lines.ended r.given begins.0 event r.text text
+      (ap (events_of bytes) (sym same) ∙ begins.1) r.texts r.taken is front
 
--- the end gave an event, and the sink failed within its text
-pub stops-end : (first before now : Told) (bytes : Bytes) (progress : Progress) (event : Event) (text : Text)
-    → ((b : Bytes) (g : List Event) → Follows b g progress.lines progress.moments → g ++ event ∷ [] ≡ events_of b true)
-    → IsEventText event text → AppendsFront before now text
-    → Reports first bytes progress before → Stops first bytes true now
-stops-end first before now bytes progress event text whole is front r =
-    stops-event first before now bytes true r.given [] event r.text text
-    (sym (append-nil (r.given ++ event ∷ []) ∙ whole bytes r.given r.follows)) r.texts r.taken is front
+  -- a beginning of the report of some bytes is one of the report of more bytes
+  pub stops-more : (first now : Told) (bytes more : Bytes) → Stops settings first bytes false now → Stops settings first (bytes ++ more) false now
+  stops-more first now bytes more s =
+      let longer = events_begin bytes more in record {
+        text = s.text;
+        front = record {
+          told = s.front.told;
+          later = s.front.later ++ longer.0;
+          events = longer.1 ∙ ap (λ (e : List Event). e ++ longer.0) s.front.events ∙ append_assoc s.front.told s.front.later longer.0;
+          whole = s.front.whole;
+          texts = s.front.texts;
+          begun = s.front.begun;
+          begins = begins-more settings s.front.later longer.0 s.front.begun s.front.begins;
+          together = s.front.together;
+        };
+        taken = s.taken;
+      }
+
+  -- the lines in hand changed, and stand for the same bytes and lines
+  pub reports-lines : (first now : Told) (bytes : Bytes) (old : Progress) (lines : Cutting)
+      → ((b : Bytes) (t : List Bytes) → Stands b t old.lines → Stands b t lines)
+      → Reports settings first bytes old now → Reports settings first bytes (record old { lines = lines }) now
+  reports-lines first now bytes old lines kept r = record {
+    given = r.given;
+    follows = follows-as bytes r.given old.lines lines old.moments kept r.follows;
+    text = r.text;
+    texts = r.texts;
+    taken = r.taken;
+    refusals = r.refusals;
+  }
+
+  -- n bytes more were fed, of a piece of which `done` were fed before
+  pub reports-part : (first now : Told) (bytes piece : Bytes) (old : Progress) (lines : Cutting) (done n : ℕ) → n ≤ length piece - done
+      → ((b : Bytes) (t : List Bytes) → Stands b t old.lines → Stands (b ++ take n (take (length piece - done) (drop done piece))) t lines)
+      → Reports settings first (bytes ++ take done piece) old now → Reports settings first (bytes ++ take (done + n) piece) (record old { lines = lines }) now
+  reports-part first now bytes piece old lines done n within kept r =
+      let part = take n (take (length piece - done) (drop done piece)) in
+      let whole = append_assoc bytes (take done piece) part ∙ ap (λ (x : Bytes). bytes ++ x) (take_two piece done n (length piece - done) within) in
+      subst (λ (x : Bytes). Reports settings first x (record old { lines = lines }) now) whole (record {
+        given = r.given;
+        follows = follows-fed (bytes ++ take done piece) part r.given old.lines lines old.moments kept r.follows;
+        text = r.text;
+        texts = r.texts;
+        taken = r.taken;
+        refusals = r.refusals;
+      })
+
+  -- the sink failed after n bytes more of the piece
+  pub stops-part : (first now : Told) (bytes piece : Bytes) (ended : Bool) (m : ℕ) → ended ≡ false
+      → Stops settings first (bytes ++ take m piece) ended now → Stops settings first (bytes ++ piece) false now
+  stops-part first now bytes piece ended m going s =
+      let here : Stops settings first (bytes ++ take m piece) false now = subst (λ (e : Bool). Stops settings first (bytes ++ take m piece) e now) going s in
+      let whole = append_assoc bytes (take m piece) (drop m piece) ∙ ap (λ (x : Bytes). bytes ++ x) (take-append-drop m piece) in
+      subst (λ (x : Bytes). Stops settings first x false now) whole (stops-more first now (bytes ++ take m piece) (drop m piece) here)
+
+  -- ---- at the end of the input
+
+  -- the end gave no event
+  pub whole-none : (first now : Told) (bytes : Bytes) (progress : Progress)
+      → ((b : Bytes) (g : List Event) → Follows b g progress.lines progress.moments → g ≡ events_of b true)
+      → Reports settings first bytes progress now → ReportsAll settings first bytes progress.any_refused now
+  whole-none first now bytes progress whole r =
+      let all = whole bytes r.given r.follows in record {
+        text = r.text;
+        report = subst (λ (e : List Event). AreTexts settings e r.text) all r.texts;
+        taken = r.taken;
+        refusals = ap (list_any is_refusal) (sym all) ∙ r.refusals;
+      }
+
+  -- the end gave an event, and its text was written
+  pub whole-event : (first before now : Told) (bytes : Bytes) (progress : Progress) (event : Event) (text : Text) (refused : Bool)
+      → ((b : Bytes) (g : List Event) → Follows b g progress.lines progress.moments → g ++ event ∷ [] ≡ events_of b true)
+      → refused ≡ (progress.any_refused || is_refusal event)
+      → IsEventText settings event text → Appends before now text
+      → Reports settings first bytes progress before → ReportsAll settings first bytes refused now
+  whole-event first before now bytes progress event text refused whole flag is appends r =
+      let all = whole bytes r.given r.follows in record {
+        text = r.text ++ text;
+        report = subst (λ (e : List Event). AreTexts settings e (r.text ++ text)) all (texts-push settings r.given event r.text text r.texts is);
+        taken = Appends-trans first before now r.text text r.taken appends;
+        refusals = ap (list_any is_refusal) (sym all) ∙ refusals-push r.given event progress.any_refused refused r.refusals flag;
+      }
+
+  -- the end gave an event, and the sink failed within its text
+  pub stops-end : (first before now : Told) (bytes : Bytes) (progress : Progress) (event : Event) (text : Text)
+      → ((b : Bytes) (g : List Event) → Follows b g progress.lines progress.moments → g ++ event ∷ [] ≡ events_of b true)
+      → IsEventText settings event text → AppendsFront before now text
+      → Reports settings first bytes progress before → Stops settings first bytes true now
+  stops-end first before now bytes progress event text whole is front r =
+      stops-event first before now bytes true r.given [] event r.text text
+      (sym (append-nil (r.given ++ event ∷ []) ∙ whole bytes r.given r.follows)) r.texts r.taken is front

@@ -3,6 +3,7 @@ use Rattle.std.proofs.Common.{◌≡◌, ◌≢◌, ◌≤◌, ◌+◌, ◌∙�
 use Rattle.std.specs.Prelude.{IfSome}
 use Rattle.std.specs.Io.KnownBytes.{Consumes, Appends, Keeps, IsAtEnd}
 use Rattle.std.proofs.KnownBytes.{Consumes-trans, Consumes-kept}
+use Rattle.daa_config.specs.Settings.{Settings}
 use Rattle.daa_outside.specs.Faults.{HasRisen}
 use Rattle.daa_lines.specs.LinesOf.{Bytes}
 use Rattle.daa_lines.specs.Cutting.{is_standing}
@@ -10,17 +11,18 @@ use Rattle.daa_report.specs.Lines.{Text}
 use Rattle.daa_replay.specs.declared.event.Event.{Event}
 use Rattle.daa_replay.specs.declared.progress.Progress.{Progress}
 use Rattle.daa_replay.specs.declared.turn.Turn.TheVariants.{More, Over, ReadFault, WriteFault}
-use Rattle.daa_replay.specs.declared.replay.Status.{Status}
-use Rattle.daa_replay.specs.declared.replay.Status.TheVariants as status
+use Rattle.daa_replay.specs.declared.status.Status.{Status}
+use Rattle.daa_replay.specs.declared.status.Status.TheVariants as status
 use Rattle.daa_replay.specs.Report.{AreTexts}
 use Rattle.daa_replay.specs.Reporting.{Told, Reports, ReportsAll, Stops, Turned, Handed}
-use Rattle.daa_replay.specs.Run.{Shown, IsCalm, HandsOut, TakesReport, TakesFront, ReadsAll, ReadFails, WriteFails, PassesLimit, Replays, IsSpent}
+use Rattle.daa_replay.specs.Outside.{Shown, IsCalm}
+use Rattle.daa_replay.specs.Replaying.{HandsOut, TakesReport, TakesFront, ReadsAll, ReadFails, WriteFails, PassesLimit, Replays, IsSpent}
 use Rattle.daa_replay.specs.Status.{Ends, code_of}
 use Rattle.daa_replay.proofs.FollowsLemmas.{given_now}
 
 -- so many bytes were read, and what they give was written
-abbrev pub HasReported : Told → ℕ → Progress → Told → Bytes → Type 0
-HasReported first size progress now bytes = (length bytes ≡ size) × Reports first bytes progress now
+abbrev pub HasReported : Settings → Told → ℕ → Progress → Told → Bytes → Type 0
+HasReported settings first size progress now bytes = (length bytes ≡ size) × Reports settings first bytes progress now
 
 -- ---- what a source hands out
 
@@ -48,21 +50,21 @@ single (x ∷ []) e = (x, refl)
 single (x ∷ y ∷ xs) e = absurd (omega arith)
 
 -- where no line stands, the report so far is written
-written_now : (first now : Told) (bytes : Bytes) (p : Progress) → p.lines.ended ≡ false → is_standing p.lines.stage ≡ false
-    → Reports first bytes p now → (old new : Shown) → old.bytes ≡ first → new.bytes ≡ now → TakesReport old new bytes false
-written_now first now bytes p going free r old new e k = record {
+written_now : {settings : Settings} (first now : Told) (bytes : Bytes) (p : Progress) → p.lines.ended ≡ false → is_standing p.lines.stage ≡ false
+    → Reports settings first bytes p now → (old new : Shown) → old.bytes ≡ first → new.bytes ≡ now → TakesReport settings old new bytes false
+written_now {settings = settings} first now bytes p going free r old new e k = record {
   text = r.text;
-  report = subst (λ (es : List Event). AreTexts es r.text) (given_now bytes r.given p.lines p.moments going free r.follows) r.texts;
+  report = subst (λ (es : List Event). AreTexts settings es r.text) (given_now bytes r.given p.lines p.moments going free r.follows) r.texts;
   taken = subst (λ (t : Told). Appends t new.bytes r.text) (sym e) (subst (λ (t : Told). Appends first t r.text) (sym k) r.taken);
 }
 
 -- ---- one turn after the others
 
 -- more was read
-pub more_of_turn : (n taken room : ℕ) (first a m d : Told) (old new : Progress) (before now : Told)
-    → Handed a m taken (HasReported first taken old before)
-    → ((bytes : Bytes) → Reports first bytes old before → Handed m d room (λ more. Turned (More n) first bytes more new now m d))
-    → Handed a d (taken + n) (HasReported first (taken + n) new now)
+pub more_of_turn : {settings : Settings} (n taken room : ℕ) (first a m d : Told) (old new : Progress) (before now : Told)
+    → Handed a m taken (HasReported settings first taken old before)
+    → ((bytes : Bytes) → Reports settings first bytes old before → Handed m d room (λ more. Turned settings (More n) first bytes more new now m d))
+    → Handed a d (taken + n) (HasReported settings first (taken + n) new now)
 more_of_turn n taken room first a m d old new before now h went =
     let w = went h.bytes h.so.1 in
     let size : length (h.bytes ++ w.bytes) ≡ taken + n = omega (arith, length-append h.bytes w.bytes, h.so.0, w.so.0) in
@@ -74,17 +76,17 @@ more_of_turn n taken room first a m d old new before now h went =
     }
 
 -- the end of the input was met, and what was read before is reported
-pub record IsOver (a d : Told) (taken : ℕ) (first : Told) (p : Progress) (now : Told) : Type 0 where
+pub record IsOver (settings : Settings) (a d : Told) (taken : ℕ) (first : Told) (p : Progress) (now : Told) : Type 0 where
   pub bytes : Bytes
   pub handed : Consumes a d bytes
   pub size : length bytes ≡ taken
   pub left : IsSpent a d
-  pub reports : Reports first bytes p now
+  pub reports : Reports settings first bytes p now
 
-pub over_of_turn : (taken room : ℕ) (first a m d : Told) (old new : Progress) (before now : Told)
-    → Handed a m taken (HasReported first taken old before)
-    → ((bytes : Bytes) → Reports first bytes old before → Handed m d room (λ more. Turned Over first bytes more new now m d))
-    → IsOver a d taken first new now
+pub over_of_turn : {settings : Settings} (taken room : ℕ) (first a m d : Told) (old new : Progress) (before now : Told)
+    → Handed a m taken (HasReported settings first taken old before)
+    → ((bytes : Bytes) → Reports settings first bytes old before → Handed m d room (λ more. Turned settings Over first bytes more new now m d))
+    → IsOver settings a d taken first new now
 over_of_turn taken room first a m d old new before now h went =
     let w = went h.bytes h.so.1 in
     record {
@@ -95,9 +97,9 @@ over_of_turn taken room first a m d old new before now h went =
       reports = w.so.2;
     }
 
-pub over_of_read : (taken n : ℕ) (buf : Bytes) (first a m d : Told) (p : Progress) (now : Told)
-    → Handed a m taken (HasReported first taken p now) → n ≡ 0 → Consumes m d (take n buf) → IsAtEnd m
-    → IsOver a d taken first p now
+pub over_of_read : {settings : Settings} (taken n : ℕ) (buf : Bytes) (first a m d : Told) (p : Progress) (now : Told)
+    → Handed a m taken (HasReported settings first taken p now) → n ≡ 0 → Consumes m d (take n buf) → IsAtEnd m
+    → IsOver settings a d taken first p now
 over_of_read taken n buf first a m d p now h none read end =
     let part = none_taken m d n buf none read in
     record {
@@ -108,11 +110,11 @@ over_of_read taken n buf first a m d p now h none read end =
       reports = h.so.1;
     }
 
-module _ (most taken : ℕ) (within : taken ≤ most) (so sn ko kn : Shown) where
-  reads_all : (refused : Bool) (p : Progress) (now : Told) → IsOver so.bytes sn.bytes taken ko.bytes p now
-      → ((first : Told) (bytes : Bytes) → Reports first bytes p now → ReportsAll first bytes refused kn.bytes)
+module _ {settings : Settings} (most taken : ℕ) (within : taken ≤ most) (so sn ko kn : Shown) where
+  reads_all : (refused : Bool) (p : Progress) (now : Told) → IsOver settings so.bytes sn.bytes taken ko.bytes p now
+      → ((first : Told) (bytes : Bytes) → Reports settings first bytes p now → ReportsAll settings first bytes refused kn.bytes)
       → IsCalm so sn → IsCalm ko kn
-      → ReadsAll most refused so sn ko kn
+      → ReadsAll settings most refused so sn ko kn
   reads_all refused p now o whole calm quiet =
       let all = whole ko.bytes o.bytes o.reports in
       record {
@@ -125,10 +127,10 @@ module _ (most taken : ℕ) (within : taken ≤ most) (so sn ko kn : Shown) wher
         write_calm = quiet;
       }
 
-  stops_at_end : (p : Progress) (now : Told) → IsOver so.bytes sn.bytes taken ko.bytes p now
-      → ((first : Told) (bytes : Bytes) → Reports first bytes p now → Stops first bytes true kn.bytes)
+  stops_at_end : (p : Progress) (now : Told) → IsOver settings so.bytes sn.bytes taken ko.bytes p now
+      → ((first : Told) (bytes : Bytes) → Reports settings first bytes p now → Stops settings first bytes true kn.bytes)
       → HasRisen ko.faults kn.faults → IsCalm so sn
-      → WriteFails most so sn ko kn
+      → WriteFails settings most so sn ko kn
   stops_at_end p now o stops risen calm =
       let s = stops ko.bytes o.bytes o.reports in
       record {
@@ -142,13 +144,13 @@ module _ (most taken : ℕ) (within : taken ≤ most) (so sn ko kn : Shown) wher
       }
 
   -- how a run ends whose input was read to its end
-  pub replays_over : (end : Status) (p : Progress) (now : Told) → Ends end → IsOver so.bytes sn.bytes taken ko.bytes p now
-      → (end ≡ status.Accepted → (first : Told) (bytes : Bytes) → Reports first bytes p now → ReportsAll first bytes false kn.bytes)
-      → (end ≡ status.Refused → (first : Told) (bytes : Bytes) → Reports first bytes p now → ReportsAll first bytes true kn.bytes)
-      → (end ≡ status.WriteFault → (first : Told) (bytes : Bytes) → Reports first bytes p now → Stops first bytes true kn.bytes)
+  pub replays_over : (end : Status) (p : Progress) (now : Told) → Ends end → IsOver settings so.bytes sn.bytes taken ko.bytes p now
+      → (end ≡ status.Accepted → (first : Told) (bytes : Bytes) → Reports settings first bytes p now → ReportsAll settings first bytes false kn.bytes)
+      → (end ≡ status.Refused → (first : Told) (bytes : Bytes) → Reports settings first bytes p now → ReportsAll settings first bytes true kn.bytes)
+      → (end ≡ status.WriteFault → (first : Told) (bytes : Bytes) → Reports settings first bytes p now → Stops settings first bytes true kn.bytes)
       → (end ≡ status.WriteFault → HasRisen ko.faults kn.faults)
       → IsCalm so sn → ko.faults ≤ kn.faults → (end ≢ status.WriteFault → IsCalm ko kn)
-      → Replays most (code_of end) so sn ko kn
+      → Replays settings most (code_of end) so sn ko kn
   replays_over status.Accepted p now ends o whole refused stops risen calm k quiet = record {
     named = inl refl;
     accepted = λ e. reads_all false p now o (whole refl) calm (quiet (λ w. cc));
@@ -179,12 +181,16 @@ module _ (most taken : ℕ) (within : taken ≤ most) (so sn ko kn : Shown) wher
     reads = omega (arith, calm);
     writes = k;
   }
+  replays_over status.NotTaken p now ends o whole refused stops risen calm k quiet = absurd ends
+  replays_over status.BadConfiguration p now ends o whole refused stops risen calm k quiet = absurd ends
+  replays_over status.NoMemory p now ends o whole refused stops risen calm k quiet = absurd ends
+  replays_over status.FetchFault p now ends o whole refused stops risen calm k quiet = absurd ends
   replays_over status.ReadFault p now ends o whole refused stops risen calm k quiet = absurd ends
   replays_over status.Limit p now ends o whole refused stops risen calm k quiet = absurd ends
 
   read_fails : HasRisen so.faults sn.faults → so.faults ≤ sn.faults → IsCalm ko kn
-      → (bytes : Bytes) → length bytes ≡ taken → Consumes so.bytes sn.bytes bytes → TakesReport ko kn bytes false
-      → Replays most 4 so sn ko kn
+      → (bytes : Bytes) → length bytes ≡ taken → Consumes so.bytes sn.bytes bytes → TakesReport settings ko kn bytes false
+      → Replays settings most 4 so sn ko kn
   read_fails risen f quiet bytes size handed written = record {
     named = inr (inr (inl refl));
     accepted = λ e. absurd (omega (arith, e));
@@ -198,10 +204,10 @@ module _ (most taken : ℕ) (within : taken ≤ most) (so sn ko kn : Shown) wher
 
   -- the source failed in a turn
   pub replays_read_turn : (room : ℕ) (m : Told) (old new : Progress) (before : Told) → new.lines.ended ≡ false → is_standing new.lines.stage ≡ false
-      → Handed so.bytes m taken (HasReported ko.bytes taken old before)
-      → ((bytes : Bytes) → Reports ko.bytes bytes old before → Handed m sn.bytes room (λ more. Turned ReadFault ko.bytes bytes more new kn.bytes m sn.bytes))
+      → Handed so.bytes m taken (HasReported settings ko.bytes taken old before)
+      → ((bytes : Bytes) → Reports settings ko.bytes bytes old before → Handed m sn.bytes room (λ more. Turned settings ReadFault ko.bytes bytes more new kn.bytes m sn.bytes))
       → HasRisen so.faults sn.faults → so.faults ≤ sn.faults → IsCalm ko kn
-      → Replays most 4 so sn ko kn
+      → Replays settings most 4 so sn ko kn
   replays_read_turn room m old new before going free h went risen f k =
       let w = went h.bytes h.so.1 in
       read_fails risen f k h.bytes h.so.0
@@ -210,19 +216,19 @@ module _ (most taken : ℕ) (within : taken ≤ most) (so sn ko kn : Shown) wher
 
   -- the source failed at the read past the limit
   pub replays_read_last : (m : Told) (p : Progress) → p.lines.ended ≡ false → is_standing p.lines.stage ≡ false
-      → Handed so.bytes m taken (HasReported ko.bytes taken p kn.bytes) → Keeps m sn.bytes
+      → Handed so.bytes m taken (HasReported settings ko.bytes taken p kn.bytes) → Keeps m sn.bytes
       → HasRisen so.faults sn.faults → so.faults ≤ sn.faults → IsCalm ko kn
-      → Replays most 4 so sn ko kn
+      → Replays settings most 4 so sn ko kn
   replays_read_last m p going free h kept risen f k =
       read_fails risen f k h.bytes h.so.0 (Consumes-kept so.bytes m sn.bytes h.bytes h.handed kept)
       (written_now ko.bytes kn.bytes h.bytes p going free h.so.1 ko kn refl refl)
 
   -- the sink failed in a turn
   pub replays_write_turn : (room : ℕ) (m : Told) (old new : Progress) (before : Told) → taken + room ≤ most
-      → Handed so.bytes m taken (HasReported ko.bytes taken old before)
-      → ((bytes : Bytes) → Reports ko.bytes bytes old before → Handed m sn.bytes room (λ more. Turned WriteFault ko.bytes bytes more new kn.bytes m sn.bytes))
+      → Handed so.bytes m taken (HasReported settings ko.bytes taken old before)
+      → ((bytes : Bytes) → Reports settings ko.bytes bytes old before → Handed m sn.bytes room (λ more. Turned settings WriteFault ko.bytes bytes more new kn.bytes m sn.bytes))
       → HasRisen ko.faults kn.faults → IsCalm so sn → ko.faults ≤ kn.faults
-      → Replays most 5 so sn ko kn
+      → Replays settings most 5 so sn ko kn
   replays_write_turn room m old new before bound h went risen f k =
       let w = went h.bytes h.so.1 in
       record {
@@ -252,9 +258,9 @@ module _ (most taken : ℕ) (within : taken ≤ most) (so sn ko kn : Shown) wher
 
   -- one byte more was read than may be
   pub replays_limit : (n : ℕ) (buf : Bytes) (m : Told) (p : Progress) → taken ≡ most → p.lines.ended ≡ false → is_standing p.lines.stage ≡ false
-      → Handed so.bytes m taken (HasReported ko.bytes taken p kn.bytes) → Consumes m sn.bytes (take n buf) → length (take n buf) ≡ 1
+      → Handed so.bytes m taken (HasReported settings ko.bytes taken p kn.bytes) → Consumes m sn.bytes (take n buf) → length (take n buf) ≡ 1
       → IsCalm so sn → IsCalm ko kn
-      → Replays most 8 so sn ko kn
+      → Replays settings most 8 so sn ko kn
   replays_limit n buf m p full going free h read one f k =
       let byte = single (take n buf) one in
       record {

@@ -1,23 +1,25 @@
 -- The texts of lists of events.
 use Rattle.std.proofs.Common.{◌≡◌, ◌∙◌, List, [], ◌∷◌, ◌++◌, refl, sym, ap, subst, append_assoc, append-nil, inl, inr}
+use Rattle.daa_config.specs.Settings.{Settings}
 use Rattle.daa_report.specs.Lines.{Text}
 use Rattle.daa_replay.specs.declared.event.Event.{Event}
 use Rattle.daa_replay.specs.Report.{IsEventText, AreTexts, BeginsText}
 
-pub texts-append : (es fs : List Event) (t u : Text) → AreTexts es t → AreTexts fs u → AreTexts (es ++ fs) (t ++ u)
-texts-append [] fs t u h k = rw h k
-texts-append (e ∷ es) fs t u (first, rest, is, more, whole) k =
-    (first, rest ++ u, is, texts-append es fs rest u more k, rw whole (append_assoc first rest u))
+module _ (settings : Settings) where
+  pub texts-append : (es fs : List Event) (t u : Text) → AreTexts settings es t → AreTexts settings fs u → AreTexts settings (es ++ fs) (t ++ u)
+  texts-append [] fs t u h k = rw h k
+  texts-append (e ∷ es) fs t u (first, rest, is, more, whole) k =
+      (first, rest ++ u, is, texts-append es fs rest u more k, rw whole (append_assoc first rest u))
 
-texts_one : (e : Event) (t : Text) → IsEventText e t → AreTexts (e ∷ []) t
-texts_one e t is = (t, [], is, refl, sym (append-nil t))
+  texts_one : (e : Event) (t : Text) → IsEventText settings e t → AreTexts settings (e ∷ []) t
+  texts_one e t is = (t, [], is, refl, sym (append-nil t))
 
--- one event more
-pub texts-push : (es : List Event) (e : Event) (t u : Text) → AreTexts es t → IsEventText e u → AreTexts (es ++ e ∷ []) (t ++ u)
-texts-push es e t u h is = texts-append es (e ∷ []) t u h (texts_one e u is)
+  -- one event more
+  pub texts-push : (es : List Event) (e : Event) (t u : Text) → AreTexts settings es t → IsEventText settings e u → AreTexts settings (es ++ e ∷ []) (t ++ u)
+  texts-push es e t u h is = texts-append es (e ∷ []) t u h (texts_one e u is)
 
--- a beginning stays one where more events follow
-pub begins-more : (later rest : List Event) (begun : Text) → BeginsText later begun → BeginsText (later ++ rest) begun
-begins-more [] [] begun h = h
-begins-more [] (e ∷ rest) begun h = inl h
-begins-more (e ∷ later) rest begun h = h
+  -- a beginning stays one where more events follow
+  pub begins-more : (later rest : List Event) (begun : Text) → BeginsText settings later begun → BeginsText settings (later ++ rest) begun
+  begins-more [] [] begun h = h
+  begins-more [] (e ∷ rest) begun h = inl h
+  begins-more (e ∷ later) rest begun h = h

@@ -3,6 +3,11 @@ pub mod FourWordEvents
 pub mod NowLevel
 pub mod MomentText
 pub mod Report
+pub mod Outside
+pub mod Opening
+pub mod Ready
+pub mod Telling
+pub mod Replaying
 pub mod Run
 pub mod Status
 pub mod Follows

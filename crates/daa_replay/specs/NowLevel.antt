@@ -1,12 +1,13 @@
 -- Whether an aircraft violates well clear as the moment begins.
-use Rattle.std.specs.Prelude.{ℕ, ℤ, pos, ◌≡◌, ◌*◌, ◌*ℤ◌, ◌⊎◌}
+use Rattle.std.specs.Prelude.{ℕ, ℤ, pos, ◌*ℤ◌, length}
 use Rattle.daa_fixed.specs.declared.Solid.{Solid}
 use Rattle.daa_fixed.specs.declared.Leg.{Leg}
 use Rattle.daa_fixed.specs.Leg.{plus, minus, times}
 use Rattle.daa_heading.specs.Heading.{velocity_of}
-use Rattle.daa_taumod.specs.declared.Volume.{Volume}
-use Rattle.daa_taumod.specs.declared.Model.TheVariants.{Taumod}
 use Rattle.daa_taumod.specs.Volume.{Violates}
+use Rattle.daa_config.specs.declared.level.Level.{Level}
+use Rattle.daa_config.specs.Level.{IsGreatestLevel}
+use Rattle.daa_config.specs.Settings.{Settings, IsLevelAt}
 use Rattle.daa_state.specs.declared.word.Own.{Own}
 use Rattle.daa_state.specs.declared.word.Traffic.{Traffic}
 
@@ -37,12 +38,12 @@ relative_leg own aircraft = record {
   secs = 1;
 }
 
--- the one level there is: 0.66 nautical miles, 450 feet, 35 seconds of modified tau, 0 seconds to co-altitude
-abbrev pub level_one : Volume
-level_one = record { dthr = 36 * 660; zthr = 60 * 450; tthr = 35; tcoa = 0; model = Taumod }
+-- the volume of level l is violated at the beginning of that second
+pub record ViolatesNow (settings : Settings) (own : Own) (aircraft : Traffic) (l : ℕ) : Type 0 where
+  pub level : Level
+  pub numbered : IsLevelAt settings l level
+  pub violates : Violates (relative_leg own aircraft) level.volume (pos 0) (pos 1)
 
--- the level is 1 exactly where its volume is violated at the beginning of that second, and else 0
-abbrev pub IsNowLevel : Own → Traffic → ℕ → Type 0
-IsNowLevel own aircraft level =
-    ((level ≡ 1) × Violates (relative_leg own aircraft) level_one (pos 0) (pos 1))
-    ⊎ ((level ≡ 0) × ¬ Violates (relative_leg own aircraft) level_one (pos 0) (pos 1))
+-- the greatest level that is violated as the moment begins, or 0
+abbrev pub IsNowLevel : Settings → Own → Traffic → ℕ → Type 0
+IsNowLevel settings own aircraft = IsGreatestLevel (ViolatesNow settings own aircraft) (length settings.levels)

@@ -1,103 +1,136 @@
--- What a run of the program leaves at its source and its sink, by the status that it answers.
-use Rattle.std.specs.Prelude.{ℕ, ◌≡◌, ◌<◌, ◌≤◌, ◌++◌, ◌⊎◌, Bool, true, false, List, [], ◌∷◌, Option, Some, IfSome, length}
-use Rattle.std.specs.List.{list_any}
-use Rattle.std.specs.Io.KnownBytes.{Consumes, Appends}
+-- What a run of the program leaves at its shelf, its source and its sink, by the status that it answers.
+use Rattle.std.specs.Prelude.{ℕ, ◌≡◌, ◌≢◌, ◌<◌, ◌≤◌, ◌⊎◌, true, false, List, Option, Some, None, length}
+use Rattle.std.specs.Io.KnownBytes.{Appends}
 use Rattle.daa_outside.specs.Faults.{HasRisen}
+use Rattle.daa_outside.specs.Shelf.{Texts}
+use Rattle.daa_config.specs.Settings.{Settings}
 use Rattle.daa_lines.specs.LinesOf.{Bytes}
-use Rattle.daa_report.specs.Lines.{Text}
-use Rattle.daa_replay.specs.Events.{events_of, is_refusal}
-use Rattle.daa_replay.specs.Report.{IsReportOf, IsReportFront}
+use Rattle.daa_report.specs.Lines.{Text, config_line}
+use Rattle.daa_report.specs.Says.{AppendsFront}
+use Rattle.daa_words.specs.Order.{Asked, order_of}
+use Rattle.daa_replay.specs.Outside.{Outside, Shown, IsCalm}
+use Rattle.daa_replay.specs.Opening.{usage_line, Opens, IsRefused, IsMissing}
+use Rattle.daa_replay.specs.Replaying.{ReadsAll, ReadFails, WriteFails, PassesLimit}
 
--- what shows of a source or of a sink: its bytes (those left, or those taken), where it tells them, and its count of faults
-pub record Shown : Type 0 where
-  pub bytes : Option (List ℕ)
-  pub faults : ℕ
+-- P holds under the configuration that the words and the shelf give
+pub record Under (words : List Text) (texts : Option Texts) (P : Settings → Type 0) : Type 0 where
+  pub settings : Settings
+  pub opens : Opens words texts settings
+  pub so : P settings
 
-abbrev pub shown : Option (List ℕ) → ℕ → Shown
-shown bytes faults = record { bytes = bytes; faults = faults }
-
--- where the source tells its bytes, none is left
-abbrev pub IsSpent : Option (List ℕ) → Option (List ℕ) → Type 0
-IsSpent old new = IfSome old (λ all. new ≡ Some [])
-
--- the source handed out these bytes, at most so many
-pub record HandsOut (most : ℕ) (old new : Shown) (bytes : Bytes) : Type 0 where
-  pub handed : Consumes old.bytes new.bytes bytes
-  pub bound : length bytes ≤ most
-
--- the sink took the report of these bytes after what it had taken before
-pub record TakesReport (old new : Shown) (bytes : Bytes) (ended : Bool) : Type 0 where
-  pub text : Text
-  pub report : IsReportOf bytes ended text
+-- the sink took exactly this text, and no call of it failed
+pub record Takes (old new : Shown) (text : Text) : Type 0 where
   pub taken : Appends old.bytes new.bytes text
+  pub calm : IsCalm old new
 
--- the sink took a beginning of the report of these bytes
-pub record TakesFront (old new : Shown) (bytes : Bytes) (ended : Bool) : Type 0 where
-  pub text : Text
-  pub front : IsReportFront bytes ended text
-  pub taken : Appends old.bytes new.bytes text
+-- the words are not taken, and the usage line was written
+pub record TellsUsage (words : List Text) (old new : Outside) : Type 0 where
+  pub not_taken : order_of words ≡ None
+  pub shelf : new.shelf ≡ old.shelf
+  pub source : new.source ≡ old.source
+  pub written : Takes old.sink new.sink usage_line
 
--- no call of the object failed
-abbrev pub IsCalm : Shown → Shown → Type 0
-IsCalm old new = new.faults ≡ old.faults
+-- the configuration is refused, and the line with its code was written
+pub record TellsCode (words : List Text) (old new : Outside) : Type 0 where
+  pub code : ℕ
+  pub refused : IsRefused words old.shelf.texts code
+  pub shelf : new.shelf ≡ old.shelf
+  pub source : new.source ≡ old.source
+  pub written : Takes old.sink new.sink (config_line code)
 
--- the input was read to its end, and its report was written; whether a line of it was refused is as given
-pub record ReadsAll (most : ℕ) (refused : Bool) (source_old source_new sink_old sink_new : Shown) : Type 0 where
-  pub bytes : Bytes
-  pub handed : HandsOut most source_old source_new bytes
-  pub over : IsSpent source_old.bytes source_new.bytes
-  pub written : TakesReport sink_old sink_new bytes true
-  pub refusals : list_any is_refusal (events_of bytes true) ≡ refused
-  pub read_calm : IsCalm source_old source_new
-  pub write_calm : IsCalm sink_old sink_new
+-- the sink failed, and a beginning of the usage line was written
+pub record BreaksUsage (words : List Text) (old new : Outside) : Type 0 where
+  pub not_taken : order_of words ≡ None
+  pub shelf : new.shelf ≡ old.shelf
+  pub source : new.source ≡ old.source
+  pub written : AppendsFront old.sink.bytes new.sink.bytes usage_line
 
--- the source failed, and the report of the lines that were read by then was written
-pub record ReadFails (most : ℕ) (source_old source_new sink_old sink_new : Shown) : Type 0 where
-  pub risen : HasRisen source_old.faults source_new.faults
-  pub bytes : Bytes
-  pub handed : HandsOut most source_old source_new bytes
-  pub written : TakesReport sink_old sink_new bytes false
-  pub write_calm : IsCalm sink_old sink_new
+-- the sink failed, and a beginning of the line with the configuration's code was written
+pub record BreaksCode (words : List Text) (old new : Outside) : Type 0 where
+  pub code : ℕ
+  pub refused : IsRefused words old.shelf.texts code
+  pub shelf : new.shelf ≡ old.shelf
+  pub source : new.source ≡ old.source
+  pub written : AppendsFront old.sink.bytes new.sink.bytes (config_line code)
 
--- the sink failed, and a beginning of the report was written; with its end only where nothing is left
-pub record WriteFails (most : ℕ) (source_old source_new sink_old sink_new : Shown) : Type 0 where
-  pub risen : HasRisen sink_old.faults sink_new.faults
-  pub bytes : Bytes
-  pub handed : HandsOut most source_old source_new bytes
-  pub ended : Bool
-  pub over : ended ≡ true → IsSpent source_old.bytes source_new.bytes
-  pub written : TakesFront sink_old sink_new bytes ended
-  pub read_calm : IsCalm source_old source_new
+-- the sink failed, while such a line or the report was written
+pub record Breaks (most : ℕ) (words : List Text) (old new : Outside) : Type 0 where
+  pub risen : HasRisen old.sink.faults new.sink.faults
+  pub so : BreaksUsage words old new ⊎ (BreaksCode words old new
+      ⊎ Under words old.shelf.texts (λ settings. WriteFails settings most old.source new.source old.sink new.sink))
 
--- as many bytes as may be read were read, and then one more; the report of those before it was written
-pub record PassesLimit (most : ℕ) (source_old source_new sink_old sink_new : Shown) : Type 0 where
-  pub bytes : Bytes
-  pub next : ℕ
-  pub size : length bytes ≡ most
-  pub handed : Consumes source_old.bytes source_new.bytes (bytes ++ next ∷ [])
-  pub written : TakesReport sink_old sink_new bytes false
-  pub read_calm : IsCalm source_old source_new
-  pub write_calm : IsCalm sink_old sink_new
+-- nothing was read and nothing was written
+pub record IsUntouched (old new : Outside) : Type 0 where
+  pub source : new.source ≡ old.source
+  pub sink : new.sink ≡ old.sink
+
+-- the words are taken, the shelf failed, and nothing was read or written
+pub record FetchFails (words : List Text) (old new : Outside) : Type 0 where
+  pub asked : Asked
+  pub taken : order_of words ≡ Some asked
+  pub risen : HasRisen old.shelf.faults new.shelf.faults
+  pub untouched : IsUntouched old new
 
 -- what a run that reads at most so many bytes leaves, by its status
-pub record Replays (most status : ℕ) (source_old source_new sink_old sink_new : Shown) : Type 0 where
-  pub named : (status ≡ 0) ⊎ ((status ≡ 1) ⊎ ((status ≡ 4) ⊎ ((status ≡ 5) ⊎ (status ≡ 8))))
-  pub accepted : status ≡ 0 → ReadsAll most false source_old source_new sink_old sink_new
-  pub refused : status ≡ 1 → ReadsAll most true source_old source_new sink_old sink_new
-  pub read_fault : status ≡ 4 → ReadFails most source_old source_new sink_old sink_new
-  pub write_fault : status ≡ 5 → WriteFails most source_old source_new sink_old sink_new
-  pub limit : status ≡ 8 → PassesLimit most source_old source_new sink_old sink_new
+pub record Runs (most : ℕ) (words : List Text) (status : ℕ) (old new : Outside) : Type 0 where
+  pub named : status ≤ 8
+  -- the input was read to its end, and no line of it was refused
+  pub accepted : status ≡ 0 → Under words old.shelf.texts (λ settings. ReadsAll settings most false old.source new.source old.sink new.sink)
+  -- the input was read to its end, and some line of it was refused
+  pub refused : status ≡ 1 → Under words old.shelf.texts (λ settings. ReadsAll settings most true old.source new.source old.sink new.sink)
+  pub not_taken : status ≡ 2 → TellsUsage words old new
+  pub bad_configuration : status ≡ 3 → TellsCode words old new
+  pub read_fault : status ≡ 4 → Under words old.shelf.texts (λ settings. ReadFails settings most old.source new.source old.sink new.sink)
+  pub write_fault : status ≡ 5 → Breaks most words old new
+  -- there was no memory for the words, the shelf's text or the configuration
+  pub no_memory : status ≡ 6 → IsUntouched old new
+  pub fetch_fault : status ≡ 7 → FetchFails words old new
+  pub limit : status ≡ 8 → Under words old.shelf.texts (λ settings. PassesLimit settings most old.source new.source old.sink new.sink)
+  -- the shelf keeps its texts, and fails at status 7 alone
+  pub texts : new.shelf.texts ≡ old.shelf.texts
+  pub shelf_calm : status ≢ 7 → new.shelf.faults ≡ old.shelf.faults
   -- no count of faults falls
-  pub reads : source_old.faults ≤ source_new.faults
-  pub writes : sink_old.faults ≤ sink_new.faults
+  pub fetches : old.shelf.faults ≤ new.shelf.faults
+  pub reads : old.source.faults ≤ new.source.faults
+  pub writes : old.sink.faults ≤ new.sink.faults
 
--- where no count of faults rose, a run over a source that tells its bytes ends as their number says
-abbrev pub EndsByItsInput : ℕ → ℕ → Bytes → Type 0
-EndsByItsInput most status all =
-    (length all ≤ most → (status ≡ 0) ⊎ (status ≡ 1)) × (most < length all → status ≡ 8)
+-- ---- how a run ends where nothing fails
+
+-- no count of faults rose
+pub record IsQuiet (old new : Outside) : Type 0 where
+  pub shelf : ¬ HasRisen old.shelf.faults new.shelf.faults
+  pub source : ¬ HasRisen old.source.faults new.source.faults
+  pub sink : ¬ HasRisen old.sink.faults new.sink.faults
+
+-- the words are taken, and the shelf, which tells its texts, holds an accepted configuration under the name that they give
+pub record IsOpened (words : List Text) (texts : Option Texts) : Type 0 where
+  pub held : Texts
+  pub told : texts ≡ Some held
+  pub settings : Settings
+  pub opens : Opens words texts settings
+
+-- the same with a configuration that is refused
+pub record IsRejected (words : List Text) (texts : Option Texts) : Type 0 where
+  pub held : Texts
+  pub told : texts ≡ Some held
+  pub code : ℕ
+  pub refused : IsRefused words texts code
+
+-- how a run ends, as far as the words, the shelf and the number of bytes say it; want of memory is free
+pub record EndsAsGiven (most : ℕ) (words : List Text) (status : ℕ) (old new : Outside) : Type 0 where
+  -- with an accepted configuration and a source that tells its bytes, where no count rose: by the number of bytes
+  pub short : (all : Bytes) → IsOpened words old.shelf.texts → old.source.bytes ≡ Some all → IsQuiet old new → length all ≤ most
+      → (status ≡ 0) ⊎ ((status ≡ 1) ⊎ (status ≡ 6))
+  pub long : (all : Bytes) → IsOpened words old.shelf.texts → old.source.bytes ≡ Some all → IsQuiet old new → most < length all
+      → (status ≡ 8) ⊎ (status ≡ 6)
+  pub not_taken : order_of words ≡ None → (status ≡ 2) ⊎ ((status ≡ 5) ⊎ (status ≡ 6))
+  pub rejected : IsRejected words old.shelf.texts → (status ≡ 3) ⊎ ((status ≡ 5) ⊎ ((status ≡ 6) ⊎ (status ≡ 7)))
+  pub missing : IsMissing words old.shelf.texts → (status ≡ 6) ⊎ (status ≡ 7)
 
 abbrev pub RunsAreComplete : Type 0
-RunsAreComplete = (most status : ℕ) (source_old source_new sink_old sink_new : Shown) (all : Bytes)
-    → Replays most status source_old source_new sink_old sink_new → source_old.bytes ≡ Some all
-    → ¬ HasRisen source_old.faults source_new.faults → ¬ HasRisen sink_old.faults sink_new.faults
-    → EndsByItsInput most status all
+RunsAreComplete = (most status : ℕ) (words : List Text) (old new : Outside) → Runs most words status old new → EndsAsGiven most words status old new
+
+-- a shelf that tells its texts gives words one configuration at most
+abbrev pub ConfigurationsAreUnique : Type 0
+ConfigurationsAreUnique = (words : List Text) (held : Texts) (settings other : Settings)
+    → Opens words (Some held) settings → Opens words (Some held) other → settings ≡ other

@@ -1,6 +1,7 @@
 //! What holds of the events and the report of every input, and inputs whose events are known.
 
 ghost use Rattle.std.specs.Prelude.{◌≡◌, ◌++◌, ◌∷◌, [], Bool, List, codes, replicate, pos, true, false};
+ghost use Rattle.daa_config.specs.Settings.{Settings};
 ghost use Rattle.daa_lines.specs.LinesOf.{Bytes};
 ghost use Rattle.daa_report.specs.Lines.{Text};
 ghost use Rattle.daa_replay.specs.declared.event.Event.{Event};
@@ -8,15 +9,15 @@ ghost use Rattle.daa_replay.specs.Events.{events_of};
 ghost use Rattle.daa_replay.specs.FourWordEvents.{ReadsAsFourWords};
 ghost use Rattle.daa_replay.specs.NowLevel.{reported_place, traffic_place};
 ghost use Rattle.daa_replay.specs.Report.{IsReportOf};
-ghost use Rattle.daa_replay.specs.Run.{RunsAreComplete};
+ghost use Rattle.daa_replay.specs.Run.{ConfigurationsAreUnique, RunsAreComplete};
 ghost use Rattle.daa_state.specs.declared.word.Traffic.{Traffic};
 
 use crate::event::Event;
 use daa_state::LineFault;
 
-/// No two texts are the report of one input.
+/// No two texts are the report of one input under a configuration.
 pub fn reports_are_unique()
-    ensures { (bytes : Bytes) (ended : Bool) (text other : Text) → IsReportOf bytes ended text → IsReportOf bytes ended other → text ≡ other }
+    ensures { (settings : Settings) (bytes : Bytes) (ended : Bool) (text other : Text) → IsReportOf settings bytes ended text → IsReportOf settings bytes ended other → text ≡ other }
 {}
 
 /// The events of a longer input begin with those of a shorter one, and those at its end with those before.
@@ -35,10 +36,16 @@ pub fn new_reports_stand()
     ensures { (aircraft : Traffic) → aircraft.age ≡ 0 → traffic_place aircraft ≡ reported_place aircraft }
 {}
 
-/// Where the source tells its bytes and no count of faults rises, a run ends with 0 or 1 where there are at most as many
-/// bytes as may be read, and with 8 where there are more.
+/// How a run ends where the words, the shelf and the number of bytes say it: with an accepted configuration and no fault
+/// with 0 or 1, or with 8 where there are more bytes than may be read; with words that are not taken with 2 or 5; with a
+/// refused configuration with 3, 5 or 7; with none under the name with 7. Want of memory, 6, may come in each.
 pub fn runs_are_complete()
     ensures { RunsAreComplete }
+{}
+
+/// A shelf that tells its texts gives words one configuration at most.
+pub fn configurations_are_unique()
+    ensures { ConfigurationsAreUnique }
 {}
 
 /// The events of inputs, at examples.

@@ -1,4 +1,4 @@
-//! The level at which an aircraft violates well clear as the moment begins.
+//! The greatest level that an aircraft violates as the moment begins.
 
 ghost use Rattle.std.specs.Prelude.{◌≡◌, ◌≤◌, ◌+ℤ◌, ◌*ℤ◌, pos};
 ghost use Rattle.daa_fixed.specs.Size.{IsWithin};
@@ -6,28 +6,28 @@ ghost use Rattle.daa_fixed.specs.Leg.{IsLegInRange, IsSolidBelow, minus};
 ghost use Rattle.daa_state.specs.InRange.{IsOwnInRange, IsTrafficInRange};
 ghost use Rattle.daa_replay.specs.NowLevel.{IsNowLevel, relative_leg, own_place, own_velocity, traffic_place, traffic_velocity};
 
+use daa_config::Config;
 use daa_fixed::{Flat, Leg, Point, Solid, feet, mils};
 use daa_heading::velocity;
 use daa_state::{Own, Traffic};
-use daa_taumod::{Model, Volume, violates};
+use daa_taumod::violates;
 
-/// The one level's volume: 0.66 nautical miles, 450 feet, 35 seconds of modified tau.
-const LEVEL_ONE: Volume = Volume {
-    dthr: 23760,
-    zthr: 27000,
-    tthr: 35,
-    tcoa: 0,
-    model: Model::Taumod,
-};
-
-/// 1 where the aircraft is in the volume as the moment begins, else 0.
-pub(crate) fn now_level(own: &Own, aircraft: &Traffic) -> u8
+/// The greatest level whose volume is violated as the moment begins, or 0.
+pub(crate) fn now_level(config: &Config, own: &Own, aircraft: &Traffic) -> u8
     requires own { IsOwnInRange own.now }
     requires aircraft { IsTrafficInRange aircraft.now }
-    ensures { IsNowLevel own.now aircraft.now result }
+    ensures { IsNowLevel config.now own.now aircraft.now result }
 {
     let leg = relative_leg(own, aircraft);
-    u8::from(violates(&leg, &LEVEL_ONE, &Point { num: 0, den: 1 }))
+    let begin = Point { num: 0, den: 1 };
+    let mut level = config.levels();
+    while level > 0 {
+        if violates(&leg, &config.level(level).volume, &begin) {
+            return level as u8;
+        }
+        level -= 1;
+    }
+    0
 }
 
 /// The first second of the ownship's present flight, as the aircraft sees it.

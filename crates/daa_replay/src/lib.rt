@@ -1,23 +1,26 @@
-//! The program: reads state lines from a source, and writes their report to a sink.
-//! Each ended moment gives the level at which each aircraft violates well clear now; each refused line
-//! gives its number and the code of its fault.
+//! The program: reads its command words and the configuration that they name, and then state lines from a
+//! source, whose report it writes to a sink. Each ended moment gives the greatest level that each aircraft
+//! violates now; each refused line gives its number and the code of its fault.
 #![tactic(auto)]
 
 mod event;
 mod laws;
 mod level;
 mod moment;
+mod opening;
+mod program;
 mod progress;
 mod reading;
 mod replay;
+mod status;
 mod turn;
 
 pub use event::Event;
 pub use laws::{
-    events_only_grow, format_lines_alone_matter, new_reports_stand, reports_are_unique,
+    configurations_are_unique, events_only_grow, format_lines_alone_matter, new_reports_stand, reports_are_unique,
     runs_are_complete, worked_examples,
 };
-pub use replay::{run, run_within};
+pub use program::{run, run_within};
 
 #[cfg(test)]
 mod tests;

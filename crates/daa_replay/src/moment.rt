@@ -11,40 +11,45 @@ ghost use Rattle.daa_replay.specs.Saying.{AreLevels, SaysEvent, SaysMoment, leve
 use crate::event::Event;
 use crate::level::now_level;
 use arrayvec::ArrayVec;
+use daa_config::Config;
 use daa_outside::Sink;
 use daa_report::{Line, Page, SinkFault, refused};
 use daa_state::{Picture, Traffic};
 
 /// Writes the text of an event.
-pub(crate) fn say_event<K: Sink>(sink: &mut K, event: &Event) -> Result<(), SinkFault>
+pub(crate) fn say_event<K: Sink>(
+    config: &Config,
+    sink: &mut K,
+    event: &Event,
+) -> Result<(), SinkFault>
     requires { IsEventInRange event.now }
-    ensures { SaysEvent event.now (K.taken sink.old) (K.taken sink.new) (K.faults sink.old) (K.faults sink.new) result }
+    ensures { SaysEvent config.now event.now (K.taken sink.old) (K.taken sink.new) (K.faults sink.old) (K.faults sink.new) result }
 {
     match event {
         Event::Refused(number, fault) => refused(sink, *number, fault.code()),
-        Event::Ended(picture) => say_moment(sink, picture),
+        Event::Ended(picture) => say_moment(config, sink, picture),
     }
 }
 
 /// Writes the lines of a moment. All levels are found before the first byte is written.
-fn say_moment<K: Sink>(sink: &mut K, picture: &Picture) -> Result<(), SinkFault>
+fn say_moment<K: Sink>(config: &Config, sink: &mut K, picture: &Picture) -> Result<(), SinkFault>
     requires { IsPictureInRange picture.now }
-    ensures { SaysMoment picture.now (K.taken sink.old) (K.taken sink.new) (K.faults sink.old) (K.faults sink.new) result }
+    ensures { SaysMoment config.now picture.now (K.taken sink.old) (K.taken sink.new) (K.faults sink.old) (K.faults sink.new) result }
 {
-    let levels = now_levels(picture);
+    let levels = now_levels(config, picture);
     let mut page = Page::new();
     say_lines(&mut page, sink, picture, &levels)?;
     page.flush(sink)
 }
 
 /// The level now of each aircraft, in the order of the input.
-fn now_levels(picture: &Picture) -> ArrayVec<u8, 64>
+fn now_levels(config: &Config, picture: &Picture) -> ArrayVec<u8, 64>
     requires { IsPictureInRange picture.now }
-    ensures { AreLevels picture.now.own (aircraft_of picture.now) (length (aircraft_of picture.now)) result.items }
+    ensures { AreLevels config.now picture.now.own (aircraft_of picture.now) (length (aircraft_of picture.now)) result.items }
 {
     let mut levels = ArrayVec::new();
     for aircraft in picture.traffic.as_slice() {
-        levels.push(now_level(&picture.own, aircraft));
+        levels.push(now_level(config, &picture.own, aircraft));
     }
     levels
 }

@@ -1,6 +1,7 @@
 //! Feeds bytes to the lines, and writes the text of each event that they give.
 
 ghost use Rattle.std.specs.Prelude.{◌≡◌, ◌<◌, ◌+◌, ◌^◌, ◌++◌, ◌||◌, [], IfOk, length, false, true, OnOk, OnErr};
+ghost use Rattle.daa_config.specs.Settings.{Settings};
 ghost use Rattle.daa_lines.specs.LinesOf.{Bytes};
 ghost use Rattle.daa_lines.specs.Cutting.{is_standing};
 ghost use Rattle.daa_report.specs.Says.{HasCause};
@@ -10,6 +11,7 @@ ghost use Rattle.daa_replay.specs.Reporting.{Reports, Stops, Told, ReportsAll};
 use crate::event::Event;
 use crate::moment::say_event;
 use crate::reading::{take_end, take_event};
+use daa_config::Config;
 use daa_lines::Lines;
 use daa_outside::Sink;
 use daa_report::SinkFault;
@@ -28,7 +30,7 @@ pub(crate) fn begin() -> Progress
     ensures free { is_standing result.lines.stage ≡ false }
     ensures going { result.lines.ended ≡ false }
     ensures fed { result.lines.fed ≡ 0 }
-    ensures reports { (first : Told) → Reports first [] result first }
+    ensures reports { (settings : Settings) (first : Told) → Reports settings first [] result first }
 {
     Progress {
         lines: Lines::new(),
@@ -45,27 +47,32 @@ fn any_refusal(before: bool, event: &Event) -> bool
 }
 
 /// Takes the line that stands, if one does, and writes what it gives.
-fn report_line<K: Sink>(progress: &mut Progress, sink: &mut K) -> Result<(), SinkFault>
+fn report_line<K: Sink>(
+    config: &Config,
+    progress: &mut Progress,
+    sink: &mut K,
+) -> Result<(), SinkFault>
     ensures free { is_standing progress.new.lines.stage ≡ false }
     ensures ended { progress.new.lines.ended ≡ progress.old.lines.ended }
     ensures fed { progress.new.lines.fed ≡ progress.old.lines.fed }
-    ensures ok { OnOk result ((first : Told) (bytes : Bytes) → Reports first bytes progress.old (K.taken sink.old)
-        → Reports first bytes progress.new (K.taken sink.new)) }
-    ensures err { OnErr result ((first : Told) (bytes : Bytes) → Reports first bytes progress.old (K.taken sink.old)
-        → Stops first bytes progress.old.lines.ended (K.taken sink.new)) }
+    ensures ok { OnOk result ((first : Told) (bytes : Bytes) → Reports config.now first bytes progress.old (K.taken sink.old)
+        → Reports config.now first bytes progress.new (K.taken sink.new)) }
+    ensures err { OnErr result ((first : Told) (bytes : Bytes) → Reports config.now first bytes progress.old (K.taken sink.old)
+        → Stops config.now first bytes progress.old.lines.ended (K.taken sink.new)) }
     ensures cause { HasCause (K.faults sink.old) (K.faults sink.new) result }
 {
     match take_event(&mut progress.lines, &mut progress.moments) {
         None => Ok(()),
         Some(event) => {
             progress.any_refused = any_refusal(progress.any_refused, &event);
-            say_event(sink, &event)
+            say_event(config, sink, &event)
         }
     }
 }
 
 /// Feeds a piece, and writes what the lines that it ends give.
 pub(crate) fn report_piece<K: Sink>(
+    config: &Config,
     progress: &mut Progress,
     sink: &mut K,
     piece: &[u8],
@@ -76,37 +83,41 @@ pub(crate) fn report_piece<K: Sink>(
     ensures free { is_standing progress.new.lines.stage ≡ false }
     ensures going { progress.new.lines.ended ≡ false }
     ensures fed { OnOk result (progress.new.lines.fed ≡ progress.old.lines.fed + length piece.now) }
-    ensures ok { OnOk result ((first : Told) (bytes : Bytes) → Reports first bytes progress.old (K.taken sink.old)
-        → Reports first (bytes ++ piece.now) progress.new (K.taken sink.new)) }
-    ensures err { OnErr result ((first : Told) (bytes : Bytes) → Reports first bytes progress.old (K.taken sink.old)
-        → Stops first (bytes ++ piece.now) false (K.taken sink.new)) }
+    ensures ok { OnOk result ((first : Told) (bytes : Bytes) → Reports config.now first bytes progress.old (K.taken sink.old)
+        → Reports config.now first (bytes ++ piece.now) progress.new (K.taken sink.new)) }
+    ensures err { OnErr result ((first : Told) (bytes : Bytes) → Reports config.now first bytes progress.old (K.taken sink.old)
+        → Stops config.now first (bytes ++ piece.now) false (K.taken sink.new)) }
     ensures cause { HasCause (K.faults sink.old) (K.faults sink.new) result }
 {
     let mut done = 0;
     while done < piece.len() {
         done += progress.lines.feed(&piece[done..]);
-        report_line(progress, sink)?;
+        report_line(config, progress, sink)?;
     }
     Ok(())
 }
 
 /// The input is over: writes what its last line gives, and what its end gives. Says whether some line was refused.
-pub(crate) fn report_end<K: Sink>(progress: &mut Progress, sink: &mut K) -> Result<bool, SinkFault>
+pub(crate) fn report_end<K: Sink>(
+    config: &Config,
+    progress: &mut Progress,
+    sink: &mut K,
+) -> Result<bool, SinkFault>
     requires free { is_standing progress.old.lines.stage ≡ false }
     requires going { progress.old.lines.ended ≡ false }
     requires room { progress.old.lines.fed < 2 ^ 63 }
-    ensures ok { IfOk result (λ refused. (first : Told) (bytes : Bytes) → Reports first bytes progress.old (K.taken sink.old)
-        → ReportsAll first bytes refused (K.taken sink.new)) }
-    ensures err { OnErr result ((first : Told) (bytes : Bytes) → Reports first bytes progress.old (K.taken sink.old)
-        → Stops first bytes true (K.taken sink.new)) }
+    ensures ok { IfOk result (λ refused. (first : Told) (bytes : Bytes) → Reports config.now first bytes progress.old (K.taken sink.old)
+        → ReportsAll config.now first bytes refused (K.taken sink.new)) }
+    ensures err { OnErr result ((first : Told) (bytes : Bytes) → Reports config.now first bytes progress.old (K.taken sink.old)
+        → Stops config.now first bytes true (K.taken sink.new)) }
     ensures cause { HasCause (K.faults sink.old) (K.faults sink.new) result }
 {
     progress.lines.end();
-    report_line(progress, sink)?;
+    report_line(config, progress, sink)?;
     match take_end(&progress.lines, &progress.moments) {
         None => Ok(progress.any_refused),
         Some(event) => {
-            say_event(sink, &event)?;
+            say_event(config, sink, &event)?;
             Ok(any_refusal(progress.any_refused, &event))
         }
     }

@@ -7,6 +7,7 @@ ghost use Rattle.daa_outside.specs.Faults.{HasRisen};
 ghost use Rattle.daa_replay.specs.Reporting.{Handed, Reports, Told, Turned};
 
 use crate::progress::{Progress, report_piece};
+use daa_config::Config;
 use daa_outside::{Failed, Sink, Source};
 
 /// How a turn of reading ended.
@@ -22,6 +23,7 @@ pub(crate) enum Turn {
 
 /// Reads into the buffer, and writes what the bytes give.
 pub(crate) fn take_turn<S: Source, K: Sink>(
+    config: &Config,
     source: &mut S,
     sink: &mut K,
     progress: &mut Progress,
@@ -34,9 +36,9 @@ pub(crate) fn take_turn<S: Source, K: Sink>(
     ensures free { is_standing progress.new.lines.stage ≡ false }
     ensures going { progress.new.lines.ended ≡ false }
     ensures fed { (n : ℕ) → result ≡ Turn.More n → (progress.new.lines.fed ≡ progress.old.lines.fed + n) × (0 < n) × (n ≤ length buf.old) }
-    ensures went { (first : Told) (bytes : Bytes) → Reports first bytes progress.old (K.taken sink.old)
+    ensures went { (first : Told) (bytes : Bytes) → Reports config.now first bytes progress.old (K.taken sink.old)
         → Handed (S.left source.old) (S.left source.new) (length buf.old) (λ more.
-        Turned result first bytes more progress.new (K.taken sink.new) (S.left source.old) (S.left source.new)) }
+        Turned config.now result first bytes more progress.new (K.taken sink.new) (S.left source.old) (S.left source.new)) }
     ensures still { result ≡ Turn.Over → progress.new.lines.fed ≡ progress.old.lines.fed }
     ensures read { result ≡ Turn.ReadFault → HasRisen (S.faults source.old) (S.faults source.new) }
     ensures write { result ≡ Turn.WriteFault → HasRisen (K.faults sink.old) (K.faults sink.new) }
@@ -52,7 +54,7 @@ pub(crate) fn take_turn<S: Source, K: Sink>(
     if count == 0 {
         return Turn::Over;
     }
-    match report_piece(progress, sink, &buf[..count]) {
+    match report_piece(config, progress, sink, &buf[..count]) {
         Ok(()) => Turn::More(count),
         Err(_) => Turn::WriteFault,
     }

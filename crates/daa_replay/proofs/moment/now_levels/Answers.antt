@@ -12,5 +12,5 @@ loop-aircraft-preserved c =
     let value = c.as_slice-aircraft-items.ensures.value in
     let lt : i < length (aircraft_of p) = subst (λ (ts : List Traffic). i < length ts) value (omega arith) in
     let at = subst (λ (ts : List Traffic). c.aircraft-item.result ≡ slice_index_or ts i c.aircraft-item.result) value c.aircraft-item.is in
-    subst (AreLevels p.own (aircraft_of p) (i + 1)) (sym c.push.ensures.items)
+    subst (AreLevels c.args.config.now p.own (aircraft_of p) (i + 1)) (sym c.push.ensures.items)
     (levels_more p.own (aircraft_of p) i c.loop-aircraft.levels.items c.aircraft-item.result c.now_level.result c.loop-aircraft.invariant lt at c.now_level.ensures)

@@ -9,14 +9,14 @@ pub returns-in_err-say_lines : goal.returns-in_err-say_lines
 returns-in_err-say_lines g c =
     let p = c.args.picture.now in
     let levels = c.deref.result.now in
-    let are : AreLevels p.own (aircraft_of p) (length (aircraft_of p)) levels =
-    subst (AreLevels p.own (aircraft_of p) (length (aircraft_of p))) (sym c.deref.ensures.0) c.now_levels-levels.ensures in
+    let are : AreLevels c.args.config.now p.own (aircraft_of p) (length (aircraft_of p)) levels =
+    subst (AreLevels c.args.config.now p.own (aircraft_of p) (length (aircraft_of p))) (sym c.deref.ensures.0) c.now_levels-levels.ensures in
     (written p levels, moment_text p levels are, broken_page _ _ c.from_residual.ensures.1 c.new-page.ensures c.in_err-say_lines.ensures)
 
 pub returns : goal.returns
 returns g c =
     let p = c.args.picture.now in
     let levels = c.deref.result.now in
-    let are : AreLevels p.own (aircraft_of p) (length (aircraft_of p)) levels =
-    subst (AreLevels p.own (aircraft_of p) (length (aircraft_of p))) (sym c.deref.ensures.0) c.now_levels-levels.ensures in
+    let are : AreLevels c.args.config.now p.own (aircraft_of p) (length (aircraft_of p)) levels =
+    subst (AreLevels c.args.config.now p.own (aircraft_of p) (length (aircraft_of p))) (sym c.deref.ensures.0) c.now_levels-levels.ensures in
     (written p levels, moment_text p levels are, whole_page _ c.new-page.ensures c.flush.ensures.empty c.in_ok-say_lines.ensures c.flush.ensures.says)

@@ -18,8 +18,8 @@ returns-in_ok-say_event-in-Some-clause-ok g c first bytes r =
 pub returns-in_err-say_event-in-Some-clause-err : goal.returns-in_err-say_event-in-Some-clause-err
 returns-in_err-say_event-in-Some-clause-err g c =
     let said = c.in_err-say_event-in-Some.ensures in
-    let stops : (first : Told) (bytes : Bytes) → Reports first bytes c.args.progress.now (g.K.Sink.taken c.args.sink.now)
-    → Stops first bytes true (g.K.Sink.taken c.say_event.new.sink) =
+    let stops : (first : Told) (bytes : Bytes) → Reports c.args.config.now first bytes c.args.progress.now (g.K.Sink.taken c.args.sink.now)
+    → Stops c.args.config.now first bytes true (g.K.Sink.taken c.say_event.new.sink) =
     λ first bytes r. stops-end first _ _ bytes c.report_line.new.progress c.in-Some.event said.0 c.in-Some.ensures.whole said.1 said.2.front
     (c.in_ok-report_line.ensures.ok first bytes (reports-lines first _ bytes c.args.progress.now c.end.new.self c.end.ensures.kept r)) in
     on_err _ _ stops

@@ -28,8 +28,8 @@ returns-in_err-report_line-clause-err g c =
     let n = c.feed-done.result in
     let i = c.loop-done.invariant in
     let within : n ≤ length piece - done = omega (arith, c.feed-done.ensures.within, length-take (length piece - done) (drop done piece), length-drop done piece) in
-    let stops : (first : Told) (bytes : Bytes) → Reports first bytes c.args.progress.now (g.K.Sink.taken c.args.sink.now)
-    → Stops first (bytes ++ piece) false (g.K.Sink.taken c.report_line.new.sink) =
+    let stops : (first : Told) (bytes : Bytes) → Reports c.args.config.now first bytes c.args.progress.now (g.K.Sink.taken c.args.sink.now)
+    → Stops c.args.config.now first (bytes ++ piece) false (g.K.Sink.taken c.report_line.new.sink) =
     λ first bytes r. stops-part first _ bytes piece c.feed-done.new.self.ended (done + n) c.feed-done.ensures.going
     (c.in_err-report_line.ensures.err first (bytes ++ take (done + n) piece)
     (reports-part first _ bytes piece c.loop-done.progress c.feed-done.new.self done n within c.feed-done.ensures.kept (i.kept first bytes r))) in

@@ -11,8 +11,8 @@ invariant-loop-done g l = record {
   going : l.progress.lines.ended ≡ false;
   fed : l.progress.lines.fed ≡ l.fn.progress.lines.fed + l.done;
   steady : g.K.Sink.faults l.sink ≡ g.K.Sink.faults l.fn.sink;
-  kept : (first : Told) (bytes : Bytes) → Reports first bytes l.fn.progress (g.K.Sink.taken l.fn.sink)
-      → Reports first (bytes ++ take l.done l.piece) l.progress (g.K.Sink.taken l.sink);
+  kept : (first : Told) (bytes : Bytes) → Reports l.config first bytes l.fn.progress (g.K.Sink.taken l.fn.sink)
+      → Reports l.config first (bytes ++ take l.done l.piece) l.progress (g.K.Sink.taken l.sink);
 }
 
 abbrev pub decreases-loop-done : goal.decreases-loop-done

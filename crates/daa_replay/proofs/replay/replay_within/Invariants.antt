@@ -13,7 +13,7 @@ invariant-loop-taken g l = record {
   reads : g.S.Source.faults l.source ≡ g.S.Source.faults l.fn.source;
   writes : g.K.Sink.faults l.sink ≡ g.K.Sink.faults l.fn.sink;
   handed : Handed (g.S.Source.left l.fn.source) (g.S.Source.left l.source) l.taken
-      (HasReported (g.K.Sink.taken l.fn.sink) l.taken l.progress (g.K.Sink.taken l.sink));
+      (HasReported l.config (g.K.Sink.taken l.fn.sink) l.taken l.progress (g.K.Sink.taken l.sink));
 }
 
 abbrev pub decreases-loop-taken : goal.decreases-loop-taken

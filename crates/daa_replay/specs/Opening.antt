@@ -1,0 +1,43 @@
+-- What the command words and the shelf give a run before it reads.
+use Rattle.std.specs.Prelude.{ℕ, ◌≡◌, List, Option, Some, None, Ok, Err, IfSome, codes}
+use Rattle.daa_outside.specs.Shelf.{Texts}
+use Rattle.daa_config.specs.declared.fault.ConfigFault.{ConfigFault}
+use Rattle.daa_config.specs.ConfigOf.{config_of}
+use Rattle.daa_config.specs.Fault.{code_of}
+use Rattle.daa_config.specs.Settings.{Settings}
+use Rattle.daa_report.specs.Lines.{Text}
+use Rattle.daa_words.specs.Order.{Asked, order_of}
+
+-- the line that is written where the command words are not taken
+abbrev pub usage_line : Text
+usage_line = codes "usage: daidalus replay --config FILE [--workers N] | exercise --config FILE --seed N --moments M [--workers N]\n"
+
+-- the shelf holds this text under the name, where it tells its texts
+abbrev pub IsHeld : Option Texts → Text → Text → Type 0
+IsHeld texts name text = IfSome texts (λ held. held name ≡ Some text)
+
+-- the words are taken, and the text that the shelf holds under the name that they give is this configuration
+pub record Opens (words : List Text) (texts : Option Texts) (settings : Settings) : Type 0 where
+  pub asked : Asked
+  pub taken : order_of words ≡ Some asked
+  pub text : Text
+  pub held : IsHeld texts asked.config text
+  pub accepted : config_of text ≡ Ok settings
+
+-- the words are taken, and the text that the shelf holds under the name that they give is refused with this code
+pub record IsRefused (words : List Text) (texts : Option Texts) (code : ℕ) : Type 0 where
+  pub asked : Asked
+  pub taken : order_of words ≡ Some asked
+  pub text : Text
+  pub held : IsHeld texts asked.config text
+  pub fault : ConfigFault
+  pub refused : config_of text ≡ Err fault
+  pub numbered : code_of fault ≡ Some code
+
+-- the words are taken, and the shelf, which tells its texts, holds none under the name that they give
+pub record IsMissing (words : List Text) (texts : Option Texts) : Type 0 where
+  pub asked : Asked
+  pub taken : order_of words ≡ Some asked
+  pub held : Texts
+  pub told : texts ≡ Some held
+  pub missing : held asked.config ≡ None

@@ -1,0 +1,78 @@
+//! Makes a run ready: its command words, and the configuration that they name.
+
+ghost use Rattle.std.specs.Prelude.{◌≡◌, ◌≢◌, ◌≤◌, map, string_bytes, Err};
+ghost use Rattle.daa_outside.specs.Faults.{HasRisen};
+ghost use Rattle.daa_replay.specs.Ready.{Fetched, Opened, Read, unready_of};
+
+use daa_config::{Config, ConfigFault, read};
+use daa_outside::{FetchFault, Shelf};
+use daa_words::{WordsFault, read_words};
+use std::alloc::Global;
+
+/// Why a run has no configuration.
+#[derive(Clone, Copy, Debug, PartialEq, Eq)]
+pub(crate) enum Unready {
+    /// The command words are not taken.
+    NotTaken,
+    /// The configuration is refused with this code.
+    Refused(u8),
+    /// The shelf failed, or holds nothing under the name.
+    FetchFault,
+    /// There was no memory.
+    NoMemory,
+}
+
+/// What a refused configuration makes of a run.
+fn cause_of(fault: ConfigFault) -> Unready
+    ensures { result ≡ unready_of fault }
+{
+    match fault.code() {
+        Some(code) => Unready::Refused(code),
+        None => Unready::NoMemory,
+    }
+}
+
+/// The configuration that the text is.
+fn read_text(alloc: Global, text: &[u8]) -> Result<Config, Unready>
+    ensures { Read text.now result }
+{
+    match read(alloc, text) {
+        Ok(config) => Ok(config),
+        Err(fault) => Err(cause_of(fault)),
+    }
+}
+
+/// The configuration that the shelf holds under the name.
+fn fetch<F: Shelf>(alloc: Global, shelf: &mut F, name: &str) -> Result<Config, Unready>
+    ensures fetched { Fetched (F.texts shelf.old) name.now result }
+    ensures risen { result ≡ Err Unready.FetchFault → HasRisen (F.faults shelf.old) (F.faults shelf.new) }
+    ensures never_falls { F.faults shelf.old ≤ F.faults shelf.new }
+    ensures no_fault { result ≢ Err Unready.FetchFault → F.faults shelf.new ≡ F.faults shelf.old }
+    ensures kept { F.texts shelf.new ≡ F.texts shelf.old }
+{
+    match shelf.fetch(alloc, name) {
+        Ok(text) => read_text(alloc, text.as_slice()),
+        Err(FetchFault::TooLong) => Err(cause_of(ConfigFault::TooLong)),
+        Err(FetchFault::Failed) => Err(Unready::FetchFault),
+        Err(FetchFault::NoMemory) => Err(Unready::NoMemory),
+    }
+}
+
+/// The configuration that the words and the shelf give.
+pub(crate) fn open<F: Shelf>(
+    alloc: Global,
+    words: &[String],
+    shelf: &mut F,
+) -> Result<Config, Unready>
+    ensures opened { Opened (map string_bytes words.now) (F.texts shelf.old) result }
+    ensures risen { result ≡ Err Unready.FetchFault → HasRisen (F.faults shelf.old) (F.faults shelf.new) }
+    ensures never_falls { F.faults shelf.old ≤ F.faults shelf.new }
+    ensures no_fault { result ≢ Err Unready.FetchFault → F.faults shelf.new ≡ F.faults shelf.old }
+    ensures kept { F.texts shelf.new ≡ F.texts shelf.old }
+{
+    match read_words(alloc, words) {
+        Ok(order) => fetch(alloc, shelf, order.config),
+        Err(WordsFault::NotTaken) => Err(Unready::NotTaken),
+        Err(WordsFault::NoMemory) => Err(Unready::NoMemory),
+    }
+}

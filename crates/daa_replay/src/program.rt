@@ -1,0 +1,112 @@
+//! The top call: all that the program does.
+
+ghost use Rattle.std.specs.Prelude.{◌≡◌, ◌≤◌, ◌^◌, OnErr, OnOk, map, string_bytes};
+ghost use Rattle.daa_replay.specs.Outside.{outside, shelf_shown, shown};
+ghost use Rattle.daa_replay.specs.Run.{Runs};
+ghost use Rattle.daa_replay.specs.Status.{code_of};
+ghost use Rattle.daa_replay.specs.Telling.{Tells};
+
+use crate::opening::{Unready, open};
+use crate::replay::replay_within;
+use crate::status::Status;
+use daa_outside::{Gate, Shelf, Sink, Source};
+use daa_report::{SinkFault, config, put};
+use std::alloc::Global;
+use std::thread::Threads;
+
+/// The most bytes that a run reads.
+const MOST_BYTES: u64 = 1 << 40;
+
+/// What is written where the command words are not taken.
+const USAGE: &[u8] = b"usage: daidalus replay --config FILE [--workers N] | exercise --config FILE --seed N --moments M [--workers N]\n";
+
+/// This status where the line was written, and a fault of the sink where it was not.
+fn after(written: Result<(), SinkFault>, status: Status) -> Status
+    ensures whole { OnOk written (result ≡ status) }
+    ensures broken { OnErr written (result ≡ Status.WriteFault) }
+{
+    match written {
+        Ok(()) => status,
+        Err(SinkFault) => Status::WriteFault,
+    }
+}
+
+/// Says why a run has no configuration.
+fn tell<K: Sink>(why: Unready, sink: &mut K) -> Status
+    ensures { Tells why (shown (K.taken sink.old) (K.faults sink.old)) (shown (K.taken sink.new) (K.faults sink.new)) result }
+{
+    match why {
+        Unready::NotTaken => after(put(sink, USAGE), Status::NotTaken),
+        Unready::Refused(code) => after(config(sink, code), Status::BadConfiguration),
+        Unready::FetchFault => Status::FetchFault,
+        Unready::NoMemory => Status::NoMemory,
+    }
+}
+
+/// Makes ready, and replays.
+fn conduct<F: Shelf, S: Source, K: Sink>(
+    alloc: Global,
+    words: &[String],
+    shelf: &mut F,
+    source: &mut S,
+    sink: &mut K,
+    most: u64,
+) -> Status
+    requires { most ≤ 2 ^ 40 }
+    ensures { Runs most (map string_bytes words.now) (code_of result)
+        (outside (shelf_shown (F.texts shelf.old) (F.faults shelf.old)) (shown (S.left source.old) (S.faults source.old)) (shown (K.taken sink.old) (K.faults sink.old)))
+        (outside (shelf_shown (F.texts shelf.new) (F.faults shelf.new)) (shown (S.left source.new) (S.faults source.new)) (shown (K.taken sink.new) (K.faults sink.new))) }
+{
+    match open(alloc, words, shelf) {
+        Ok(config) => replay_within(&config, source, sink, most),
+        Err(why) => tell(why, sink),
+    }
+}
+
+/// Reads the command words, fetches the configuration that they name from the shelf, reads state lines from the source, at
+/// most `most` bytes of them, and writes their report to the sink. `words[0]` is the program's name.
+///
+/// Answers the status of the process:
+/// - 0 where the input was read to its end and no line was refused, 1 where some line was;
+/// - 2 where the words are not taken; the usage line is written;
+/// - 3 where the configuration is refused; `config` and its code are written;
+/// - 4 where the source failed, 5 where the sink did, 7 where the shelf did or holds nothing under the name;
+/// - 6 where there was no memory for words, text or configuration; nothing is read or written;
+/// - 8 exactly where `most` bytes were read and there was one more.
+///
+/// Once the source is read, no memory is asked for. The threads and the gate are not used yet.
+pub fn run_within<R: Threads + Sync, F: Shelf, S: Source, K: Sink, G: Gate>(
+    _rt: &R,
+    alloc: Global,
+    words: &[String],
+    shelf: &mut F,
+    source: &mut S,
+    sink: &mut K,
+    _gate: &G,
+    most: u64,
+) -> u8
+    requires some { 1 ≤ most }
+    requires bound { most ≤ 2 ^ 40 }
+    ensures runs { Runs most (map string_bytes words.now) result
+        (outside (shelf_shown (F.texts shelf.old) (F.faults shelf.old)) (shown (S.left source.old) (S.faults source.old)) (shown (K.taken sink.old) (K.faults sink.old)))
+        (outside (shelf_shown (F.texts shelf.new) (F.faults shelf.new)) (shown (S.left source.new) (S.faults source.new)) (shown (K.taken sink.new) (K.faults sink.new))) }
+{
+    conduct(alloc, words, shelf, source, sink, most).code()
+}
+
+/// As [`run_within`] with 2^40 bytes.
+pub fn run<R: Threads + Sync, F: Shelf, S: Source, K: Sink, G: Gate>(
+    rt: &R,
+    alloc: Global,
+    words: &[String],
+    shelf: &mut F,
+    source: &mut S,
+    sink: &mut K,
+    gate: &G,
+) -> u8
+    ensures runs { Runs (2 ^ 40) (map string_bytes words.now) result
+        (outside (shelf_shown (F.texts shelf.old) (F.faults shelf.old)) (shown (S.left source.old) (S.faults source.old)) (shown (K.taken sink.old) (K.faults sink.old)))
+        (outside (shelf_shown (F.texts shelf.new) (F.faults shelf.new)) (shown (S.left source.new) (S.faults source.new)) (shown (K.taken sink.new) (K.faults sink.new))) }
+{
+    run_within(rt, alloc, words, shelf, source, sink, gate, MOST_BYTES)
+}
