@@ -6,3 +6,4 @@ pub mod Relatives
 pub mod Stretches
 pub mod Running
 pub mod Holds
+pub mod AtLevel
