@@ -1,0 +1,4 @@
+pub mod Greatest
+pub mod Halves
+pub mod Alerted
+pub mod Walks

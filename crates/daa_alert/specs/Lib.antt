@@ -1,0 +1,2 @@
+pub mod Alert
+pub mod Least

@@ -1,0 +1,16 @@
+//! The alerts of an aircraft: the greatest level that the present flight violates now, and the greatest that it
+//! violates within the level's alert time, with the first second on which it does.
+#![tactic(auto)]
+
+mod alerting;
+mod by_seconds;
+mod halving;
+mod now;
+#[cfg(test)]
+mod tests;
+mod warning;
+
+pub use alerting::alert;
+pub use halving::first_leg;
+pub use now::now_level;
+pub use warning::Alert;

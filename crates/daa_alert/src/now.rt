@@ -1,0 +1,43 @@
+//! The level that is violated now.
+
+ghost use Rattle.std.specs.Prelude.{◌≡◌};
+ghost use Rattle.daa_fixed.specs.Leg.{IsLegInRange};
+ghost use Rattle.daa_state.specs.InRange.{IsOwnInRange, IsTrafficInRange};
+ghost use Rattle.daa_legs.specs.Alerts.{IsNowLevel};
+ghost use Rattle.daa_legs.specs.Meeting.{relative_leg};
+
+use daa_config::{Candidate, Config};
+use daa_fixed::{Leg, Point};
+use daa_legs::{Flight, relative};
+use daa_state::{Own, Traffic};
+use daa_taumod::violates;
+
+/// The greatest level whose volume is violated now, at the beginning of the present flight, or 0 where none is.
+/// Levels need not nest: a lower one may be clear.
+pub fn now_level(config: &Config, own: &Own, aircraft: &Traffic) -> u8
+    requires own { IsOwnInRange own.now }
+    requires aircraft { IsTrafficInRange aircraft.now }
+    ensures { IsNowLevel config.now own.now aircraft.now result }
+{
+    let leg = first_second(config, own, aircraft);
+    let begin = Point { num: 0, den: 1 };
+    let mut l = config.levels();
+    while l > 0 {
+        if violates(&leg, &config.level(l).volume, &begin) {
+            return l as u8;
+        }
+        l -= 1;
+    }
+    0
+}
+
+/// The first second of the present flight, as the aircraft sees it.
+fn first_second(config: &Config, own: &Own, aircraft: &Traffic) -> Leg
+    requires own { IsOwnInRange own.now }
+    requires aircraft { IsTrafficInRange aircraft.now }
+    ensures value { result ≡ relative_leg config.now own.now Candidate.Hold aircraft.now 0 }
+    ensures in_range { IsLegInRange result }
+{
+    let mut flight = Flight::begin(own, config, Candidate::Hold);
+    relative(&flight.next_leg(), aircraft, 0)
+}

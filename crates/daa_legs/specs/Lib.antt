@@ -1,0 +1,8 @@
+pub mod Turn
+pub mod Motion
+pub mod OwnLegs
+pub mod Course
+pub mod Relative
+pub mod Meeting
+pub mod Runs
+pub mod Alerts

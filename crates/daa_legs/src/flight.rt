@@ -1,0 +1,134 @@
+//! A candidate's flight: leg after leg, or run after run of legs with one velocity.
+
+ghost use Rattle.std.specs.Prelude.{IsTrue, ◌↔◌, ◌≡◌, ◌<◌, ◌≤◌, ◌+◌};
+ghost use Rattle.daa_fixed.specs.Leg.{plus, IsSolidBelow};
+ghost use Rattle.daa_config.specs.Settings.{IsCandidateInRange, rates_of};
+ghost use Rattle.daa_state.specs.InRange.{IsOwnInRange};
+ghost use Rattle.daa_legs.specs.Motion.{velocity_on};
+ghost use Rattle.daa_legs.specs.OwnLegs.{own_leg, IsOwnLegInRange};
+ghost use Rattle.daa_legs.specs.Runs.{IsRunOf, IsLongest, IsOwnRunInRange};
+
+use crate::motion::velocity_at;
+use crate::own_leg::{OwnLeg, OwnRun};
+use daa_config::{Candidate, Config, Rates};
+use daa_fixed::{Flat, Solid, feet, mils};
+use daa_state::Own;
+use std::marker::Model;
+
+/// A candidate's flight from the present moment on, at most 180 seconds of it.
+#[derive(Drop)]
+pub struct Flight {
+    own: Own,
+    rates: Rates,
+    candidate: Candidate,
+    taken: u32,
+    place: Solid,
+}
+
+impl Model for Flight {
+    ghost use Rattle.daa_legs.specs.Course.{Course, IsFlown};
+
+    ghost Value = { Course };
+
+    ghost view = { λ f. record { own = f.own; rates = f.rates; candidate = f.candidate; taken = f.taken } };
+
+    ghost invariant = { λ f. IsFlown (record { own = f.own; rates = f.rates; candidate = f.candidate; taken = f.taken }) f.place };
+}
+
+impl Flight {
+    /// The flight to what the candidate asks for, at the configuration's rates, before its first leg.
+    pub fn begin(own: &Own, config: &Config, candidate: Candidate) -> Flight
+        requires own { IsOwnInRange own.now }
+        requires candidate { IsCandidateInRange candidate }
+        ensures { result ≡ record { own = own.now; rates = rates_of config.now; candidate = candidate; taken = 0 } }
+    {
+        Flight {
+            own: *own,
+            rates: config.rates(),
+            candidate,
+            taken: 0,
+            place: Solid {
+                flat: Flat {
+                    east: mils(own.x),
+                    north: mils(own.y),
+                },
+                up: feet(own.alt),
+            },
+        }
+    }
+
+    /// The next second: of the call after `k` others, leg `k`. A flight has 180 of them.
+    pub fn next_leg(&mut self) -> OwnLeg
+        requires { self.old.taken < 180 }
+        ensures leg { result ≡ own_leg self.old.own self.old.rates self.old.candidate self.old.taken }
+        ensures in_range { IsOwnLegInRange result }
+        ensures taken { self.new ≡ record self.old { taken = self.old.taken + 1 } }
+    {
+        let velocity = velocity_at(&self.own, &self.rates, self.candidate, self.taken);
+        let leg = OwnLeg {
+            place: self.place,
+            velocity,
+        };
+        self.place = sum(&self.place, &velocity);
+        self.taken += 1;
+        leg
+    }
+
+    /// The next seconds that all have the first one's velocity: as many as there are, up to `most`. They count as taken.
+    pub fn next_run(&mut self, most: u32) -> OwnRun
+        requires some { 1 ≤ most }
+        requires left { self.old.taken + most ≤ 180 }
+        ensures run { IsRunOf self.old.own self.old.rates self.old.candidate self.old.taken result }
+        ensures longest { IsLongest self.old.own self.old.rates self.old.candidate self.old.taken most result }
+        ensures in_range { IsOwnRunInRange result }
+        ensures taken { self.new ≡ record self.old { taken = self.old.taken + result.secs } }
+    {
+        let first = self.next_leg();
+        for secs in 1..most {
+            if !are_same(&self.velocity_ahead(), &first.velocity) {
+                return run_of(&first, secs);
+            }
+            let _ = self.next_leg();
+        }
+        run_of(&first, most)
+    }
+
+    /// The velocity of the next second.
+    fn velocity_ahead(&self) -> Solid
+        requires { self.now.taken < 180 }
+        ensures { result ≡ velocity_on self.now.own self.now.rates self.now.candidate self.now.taken }
+    {
+        velocity_at(&self.own, &self.rates, self.candidate, self.taken)
+    }
+}
+
+fn are_same(x: &Solid, y: &Solid) -> bool
+    ensures { IsTrue result ↔ (x.now ≡ y.now) }
+{
+    x == y
+}
+
+/// So many seconds that begin as a leg does.
+fn run_of(first: &OwnLeg, secs: u32) -> OwnRun
+    ensures { result ≡ record { place = first.now.place; velocity = first.now.velocity; secs = secs } }
+{
+    OwnRun {
+        place: first.place,
+        velocity: first.velocity,
+        secs,
+    }
+}
+
+fn sum(x: &Solid, y: &Solid) -> Solid
+    requires x { IsSolidBelow 20000000 x.now }
+    requires y { IsSolidBelow 20000 y.now }
+    ensures { result ≡ plus x.now y.now }
+{
+    Solid {
+        flat: Flat {
+            east: x.flat.east + y.flat.east,
+            north: x.flat.north + y.flat.north,
+        },
+        up: x.up + y.up,
+    }
+}

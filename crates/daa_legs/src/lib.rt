@@ -1,0 +1,16 @@
+//! Flights: the ownship's legs on the way to what a candidate asks for, second by second or in runs of one
+//! velocity, and how an aircraft sees them. A flight is flown in one-second legs, each straight at one velocity.
+#![tactic(auto)]
+
+mod encounter;
+mod flight;
+mod motion;
+mod own_leg;
+#[cfg(test)]
+mod tests;
+mod traffic;
+mod turn;
+
+pub use encounter::{relative, relative_run};
+pub use flight::Flight;
+pub use own_leg::{OwnLeg, OwnRun};

@@ -1,0 +1,100 @@
+//! Track, speeds and velocity on leg `k` of a candidate's flight, each from the present one.
+
+ghost use Rattle.std.specs.Prelude.{◌≡◌, ◌<◌, ◌≤◌, ◌+◌, pos, ◌*ℤ◌, ◌-ℤ◌, negsuc};
+ghost use Rattle.daa_fixed.specs.Toward.{toward_of};
+ghost use Rattle.daa_fixed.specs.Size.{IsFrom, IsWithin};
+ghost use Rattle.daa_config.specs.Settings.{IsCandidateInRange, AreRatesInRange};
+ghost use Rattle.daa_state.specs.InRange.{IsOwnInRange};
+ghost use Rattle.daa_legs.specs.Motion.{track_on, ground_speed_on, vertical_speed_on, velocity_on};
+
+use crate::turn::turn;
+use daa_config::{Candidate, Rates};
+use daa_fixed::{Solid, feet, toward};
+use daa_heading::velocity;
+use daa_state::Own;
+
+/// The velocity on leg `k`.
+pub(crate) fn velocity_at(own: &Own, rates: &Rates, candidate: Candidate, k: u32) -> Solid
+    requires own { IsOwnInRange own.now }
+    requires rates { AreRatesInRange rates.now }
+    requires candidate { IsCandidateInRange candidate }
+    requires k { k < 180 }
+    ensures { result ≡ velocity_on own.now rates.now candidate k }
+{
+    Solid {
+        flat: velocity(
+            ground_speed_at(own, rates, candidate, k),
+            track_at(own, rates, candidate, k),
+        ),
+        up: vertical_speed_at(own, rates, candidate, k),
+    }
+}
+
+/// The track in degrees on leg `k`.
+fn track_at(own: &Own, rates: &Rates, candidate: Candidate, k: u32) -> i32
+    requires own { IsOwnInRange own.now }
+    requires rates { AreRatesInRange rates.now }
+    requires candidate { IsCandidateInRange candidate }
+    requires k { k < 180 }
+    ensures value { result ≡ track_on own.now rates.now candidate k }
+    ensures in_range { IsFrom (pos 0) (pos 359) result }
+{
+    match candidate {
+        Candidate::Track(c) => turn(own.trk, c, k as i32 * rates.turn),
+        _ => own.trk,
+    }
+}
+
+/// The ground speed in 0.1 kt on leg `k`.
+fn ground_speed_at(own: &Own, rates: &Rates, candidate: Candidate, k: u32) -> i32
+    requires own { IsOwnInRange own.now }
+    requires rates { AreRatesInRange rates.now }
+    requires candidate { IsCandidateInRange candidate }
+    requires k { k < 180 }
+    ensures value { result ≡ ground_speed_on own.now rates.now candidate k }
+    ensures in_range { IsFrom (pos 0) (pos 10000) result }
+{
+    match candidate {
+        Candidate::Speed(g) => moved(i64::from(own.gs), i64::from(g), rates.gs, k) as i32,
+        _ => own.gs,
+    }
+}
+
+/// The vertical speed in ft/min on leg `k`.
+fn vertical_speed_at(own: &Own, rates: &Rates, candidate: Candidate, k: u32) -> i64
+    requires own { IsOwnInRange own.now }
+    requires rates { AreRatesInRange rates.now }
+    requires candidate { IsCandidateInRange candidate }
+    requires k { k < 180 }
+    ensures value { result ≡ vertical_speed_on own.now rates.now candidate k }
+    ensures size { IsWithin 10000 result }
+{
+    match candidate {
+        Candidate::Climb(w) => moved(i64::from(own.vs), i64::from(w), rates.vs, k),
+        Candidate::Height(a) => rise(own.alt, a, rates.alt, k),
+        _ => i64::from(own.vs),
+    }
+}
+
+/// What second `k` rises, in units, on the way from one altitude to another.
+fn rise(alt: i32, a: i32, rate: i32, k: u32) -> i64
+    requires alt { IsFrom (negsuc 1999) (pos 60000) alt }
+    requires a { IsFrom (negsuc 1999) (pos 60000) a }
+    requires rate { IsFrom (pos 1) (pos 10000) rate }
+    requires k { k < 180 }
+    ensures value { result ≡ toward_of (pos 60 *ℤ alt) (pos 60 *ℤ a) (pos (k + 1) *ℤ rate) -ℤ toward_of (pos 60 *ℤ alt) (pos 60 *ℤ a) (pos k *ℤ rate) }
+    ensures size { IsWithin 10000 result }
+{
+    moved(feet(alt), feet(a), rate, k + 1) - moved(feet(alt), feet(a), rate, k)
+}
+
+/// A value moved toward another at a rate per second, for `k` seconds.
+fn moved(now: i64, target: i64, rate: i32, k: u32) -> i64
+    requires now { IsWithin 3600000 now }
+    requires target { IsWithin 3600000 target }
+    requires rate { IsFrom (pos 1) (pos 10000) rate }
+    requires k { k ≤ 180 }
+    ensures { result ≡ toward_of now target (pos k *ℤ rate) }
+{
+    toward(now, target, i64::from(k) * i64::from(rate))
+}
