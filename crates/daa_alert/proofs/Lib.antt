@@ -2,3 +2,4 @@ pub mod Greatest
 pub mod Halves
 pub mod Alerted
 pub mod Walks
+pub mod OneAlert

@@ -5,6 +5,7 @@
 mod alerting;
 mod by_seconds;
 mod halving;
+mod laws;
 mod now;
 #[cfg(test)]
 mod tests;
@@ -12,5 +13,6 @@ mod warning;
 
 pub use alerting::alert;
 pub use halving::first_leg;
+pub use laws::alerts_are_unique;
 pub use now::now_level;
 pub use warning::Alert;

@@ -1,6 +1,5 @@
 pub mod EventLemmas
 pub mod FollowsLemmas
-pub mod LevelLemmas
 pub mod MomentLemmas
 pub mod TextLemmas
 pub mod ReportLemmas

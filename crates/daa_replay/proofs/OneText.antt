@@ -6,23 +6,23 @@ use Rattle.daa_state.specs.declared.word.Own.{Own}
 use Rattle.daa_state.specs.declared.word.Traffic.{Traffic}
 use Rattle.daa_state.specs.declared.word.Picture.{Picture}
 use Rattle.daa_state.specs.Picture.{aircraft_of}
-use Rattle.daa_report.specs.Lines.{Text, moment_line, now_line, done_line}
+use Rattle.daa_alert.specs.declared.warning.Alert.{Alert}
+use Rattle.daa_alert.proofs.OneAlert.{now_once, alert_once}
+use Rattle.daa_report.specs.Lines.{Text, moment_line, now_line, alert_line, done_line}
 use Rattle.daa_replay.specs.declared.event.Event.{Event}
 use Rattle.daa_replay.specs.declared.event.Event.TheVariants as event
-use Rattle.daa_replay.specs.NowLevel.{IsNowLevel, ViolatesNow}
-use Rattle.daa_config.proofs.GreatestLemmas.{greatest_once}
-use Rattle.daa_replay.specs.MomentText.{AreNowLines, IsMomentText}
+use Rattle.daa_replay.specs.MomentText.{AreAircraftLines, IsMomentText}
 use Rattle.daa_replay.specs.Events.{events_of}
 use Rattle.daa_replay.specs.Report.{IsEventText, AreTexts, IsReportOf}
 
 module _ (settings : Settings) where
-  level_once : (own : Own) (aircraft : Traffic) (l m : ℕ) → IsNowLevel settings own aircraft l → IsNowLevel settings own aircraft m → l ≡ m
-  level_once own aircraft l m h k = greatest_once (length settings.levels) l m (ViolatesNow settings own aircraft) h k
-
-  lines_once : (own : Own) (traffic : List Traffic) (t u : Text) → AreNowLines settings own traffic t → AreNowLines settings own traffic u → t ≡ u
+  lines_once : (own : Own) (traffic : List Traffic) (t u : Text) → AreAircraftLines settings own traffic t → AreAircraftLines settings own traffic u → t ≡ u
   lines_once own [] t u h k = h ∙ sym k
-  lines_once own (aircraft ∷ others) t u (l, r, is, more, e) (m, s, also, rest, f) =
-      e ∙ ap₂ (λ (n : ℕ) (x : Text). now_line aircraft.id n ++ x) (level_once own aircraft l m is also) (lines_once own others r s more rest) ∙ sym f
+  lines_once own (aircraft ∷ others) t u (l, a, r, is, alerts, more, e) (m, b, s, also, warns, rest, f) =
+      e ∙ ap₂ (λ (x y : Text). x ++ y)
+      (ap₂ (λ (n : ℕ) (w : Alert). now_line aircraft.id n ++ alert_line aircraft.id w.level w.first)
+      (now_once settings own aircraft l m is also) (alert_once settings own aircraft a b alerts warns))
+      (lines_once own others r s more rest) ∙ sym f
 
   moment_once : (picture : Picture) (t u : Text) → IsMomentText settings picture t → IsMomentText settings picture u → t ≡ u
   moment_once picture t u (l, h, e) (m, k, f) =

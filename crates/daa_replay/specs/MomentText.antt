@@ -5,17 +5,22 @@ use Rattle.daa_state.specs.declared.word.Own.{Own}
 use Rattle.daa_state.specs.declared.word.Traffic.{Traffic}
 use Rattle.daa_state.specs.declared.word.Picture.{Picture}
 use Rattle.daa_state.specs.Picture.{aircraft_of}
-use Rattle.daa_report.specs.Lines.{Text, moment_line, now_line, done_line}
-use Rattle.daa_replay.specs.NowLevel.{IsNowLevel}
+use Rattle.daa_legs.specs.Alerts.{IsNowLevel}
+use Rattle.daa_alert.specs.declared.warning.Alert.{Alert}
+use Rattle.daa_alert.specs.Alert.{IsAlertOf}
+use Rattle.daa_report.specs.Lines.{Text, moment_line, now_line, alert_line, done_line}
 
 module _ (settings : Settings) where
-  -- the line of each aircraft's level now, in the order of the input
-  abbrev pub AreNowLines : Own → List Traffic → Text → Type 0
-  AreNowLines own [] text = text ≡ []
-  AreNowLines own (aircraft ∷ others) text =
-      (level : ℕ) × (rest : Text) × IsNowLevel settings own aircraft level × AreNowLines own others rest × (text ≡ now_line aircraft.id level ++ rest)
+  -- the lines of each aircraft, in the order of the input: its level now, and its alert
+  abbrev pub AreAircraftLines : Own → List Traffic → Text → Type 0
+  AreAircraftLines own [] text = text ≡ []
+  AreAircraftLines own (aircraft ∷ others) text =
+      (level : ℕ) × (alert : Alert) × (rest : Text) × IsNowLevel settings own aircraft level × IsAlertOf settings own aircraft alert
+      × AreAircraftLines own others rest
+      × (text ≡ (now_line aircraft.id level ++ alert_line aircraft.id alert.level alert.first) ++ rest)
 
   -- the lines of a moment, in their order
   abbrev pub IsMomentText : Picture → Text → Type 0
   IsMomentText picture text =
-      (levels : Text) × AreNowLines picture.own (aircraft_of picture) levels × (text ≡ moment_line picture.time ++ (levels ++ done_line picture.time))
+      (aircraft : Text) × AreAircraftLines picture.own (aircraft_of picture) aircraft
+      × (text ≡ moment_line picture.time ++ (aircraft ++ done_line picture.time))

@@ -7,7 +7,7 @@ ghost use Rattle.daa_report.specs.Lines.{Text};
 ghost use Rattle.daa_replay.specs.declared.event.Event.{Event};
 ghost use Rattle.daa_replay.specs.Events.{events_of};
 ghost use Rattle.daa_replay.specs.FourWordEvents.{ReadsAsFourWords};
-ghost use Rattle.daa_replay.specs.NowLevel.{reported_place, traffic_place};
+ghost use Rattle.daa_legs.specs.Relative.{reported_place, traffic_place};
 ghost use Rattle.daa_replay.specs.Report.{IsReportOf};
 ghost use Rattle.daa_replay.specs.Run.{ConfigurationsAreUnique, RunsAreComplete};
 ghost use Rattle.daa_state.specs.declared.word.Traffic.{Traffic};
@@ -33,7 +33,7 @@ pub fn format_lines_alone_matter()
 
 /// A report of age 0 is where its aircraft is.
 pub fn new_reports_stand()
-    ensures { (aircraft : Traffic) → aircraft.age ≡ 0 → traffic_place aircraft ≡ reported_place aircraft }
+    ensures { (aircraft : Traffic) → aircraft.age ≡ 0 → traffic_place aircraft 0 ≡ reported_place aircraft }
 {}
 
 /// How a run ends where the words, the shelf and the number of bytes say it: with an accepted configuration and no fault

@@ -5,7 +5,6 @@
 
 mod event;
 mod laws;
-mod level;
 mod moment;
 mod opening;
 mod program;

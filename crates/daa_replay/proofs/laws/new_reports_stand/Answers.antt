@@ -1,8 +1,8 @@
-use Rattle.std.proofs.Common.{ℕ, ◌≡◌, ℤ, pos, ◌+ℤ◌, ◌*ℤ◌, arith}
+use Rattle.std.proofs.Common.{ℕ, ◌≡◌, ℤ, pos, ◌+◌, ◌+ℤ◌, ◌*ℤ◌, arith}
 use Rattle.std.proofs.lemmas.Int.{ints}
 use Rattle.daa_replay.proofs.laws.new_reports_stand.Goals as goal
 
-stays : (place speed : ℤ) (age : ℕ) → age ≡ 0 → place +ℤ pos age *ℤ speed ≡ place
+stays : (place speed : ℤ) (age : ℕ) → age ≡ 0 → place +ℤ pos (age + 0) *ℤ speed ≡ place
 stays place speed age none = rw none (omega (arith, ints))
 
 pub returns : goal.returns
