@@ -1,5 +1,5 @@
 -- Words without a fault ask for a replay.
-use Rattle.std.proofs.Common.{◌≡◌, ◌∙◌, Bool, true, false, List, [], ◌∷◌, Option, Some, None, inl, inr, is_some, true≢false, refl, sym, ap, codes, cond, nat_lt}
+use Rattle.std.proofs.Common.{◌≡◌, ◌≢◌, ◌∙◌, Bool, true, false, List, [], ◌∷◌, Option, Some, None, inl, inr, is_some, true≢false, refl, sym, ap, codes, cond, nat_lt}
 use Rattle.std.specs.Prelude.{option_and_then, option_map}
 use Rattle.std.specs.Str.{bytes_eq}
 use Rattle.std.proofs.lemmas.Slice.Eq.{bytes_eq-Decides}
@@ -67,3 +67,12 @@ taken_words_ask words none = go (subcommand_of daidalus words) refl (enters daid
     go None met there = absurd (true≢false (sym there ∙ ap is_some met))
     go (Some p) met there = by_name p met
         (subcommand_known daidalus words (λ name. bytes_eq name (codes "replay")) replay_or_help help_is_enabled none p met)
+
+-- words whose subcommand asks for nothing have a fault
+pub asks_nothing : (words : List Text) (rows : Option (Text × List Row)) → rows ≡ subcommand_of daidalus words → None ≡ option_and_then asked_by rows
+    → fault_of daidalus words ≢ []
+unfolding order_of
+asks_nothing words rows is nothing none =
+    let asks = taken_words_ask words none in
+    let order : option_and_then asked_by (subcommand_of daidalus words) ≡ Some asks.asked = rw none at asks.order in
+    true≢false (sym (ap is_some order) ∙ ap (λ o. is_some (option_and_then asked_by o)) (sym is) ∙ ap is_some (sym nothing))

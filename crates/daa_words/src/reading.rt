@@ -51,7 +51,11 @@ fn order_in<'a>(matches: &ArgMatches<'a>) -> Option<Order<'a>>
 pub fn read_words<'a>(alloc: Global, words: &'a [String]) -> Result<Order<'a>, WordsFault>
     ensures taken { IfOk result (λ o. spec.order_of (map string_bytes words.entry.now) ≡ Some (spec.meaning o)) }
     ensures refused { IsErrOf result WordsFault.NotTaken → spec.order_of (map string_bytes words.entry.now) ≡ None }
+    ensures faulty { IsErrOf result WordsFault.NotTaken → fault_of daidalus (map string_bytes words.entry.now) ≢ [] }
 {
     let matches = matches_of(alloc, words)?;
-    order_in(&matches).ok_or(WordsFault::NotTaken)
+    match order_in(&matches) {
+        Some(order) => Ok(order),
+        None => Err(WordsFault::NotTaken),
+    }
 }
