@@ -1,20 +1,18 @@
 -- A required option of a level of the parse has a first value, which its parser takes, where no fault is found.
 use Rattle.std.proofs.Common.{◌≡◌, ◌∙◌, ◌&&◌, ◌||◌, ◌⊎◌, Bool, cond, not, true, false, List, [], ◌∷◌, Option, Some, None, inl, inr, is_some, true≢false, refl, sym, ap, subst, nat_lt}
 use Rattle.std.specs.Prelude.{⊤, IfSome, option_and_then, option_map, slice_get, unwrap_or}
-use Rattle.std.specs.List.{find, list_all, list_any}
+use Rattle.std.specs.List.{find, list_any}
 use Rattle.std.specs.Option.{option_map_or}
 use Rattle.std.specs.Str.{bytes_eq}
 use Rattle.std.proofs.lemmas.Slice.Eq.{bytes_eq-Decides}
 use Rattle.clap.proofs.WalkLemmas.{both}
 use Rattle.clap.specs.Facts.{explicit_source, unwrap_or_range}
 use Rattle.clap.specs.Takes.{is_given}
-use Rattle.clap.specs.Walk.{Names, Row, Rule, Text, action_of, answers_to, finished, first_of, has_row, nothing_held, rows_after, settled, stop_after, walk, walk_from}
-use Rattle.clap.specs.Kinds.{Kinds, check_kinds, or_else}
-use Rattle.clap.specs.Faults.{check_fault, defaults_fault, entered_fault, fault_of, level_fault, settle_fault, walk_fault}
+use Rattle.clap.specs.Walk.{Names, Row, Rule, Text, action_of, answers_to, first_of, has_row, nothing_held, rows_after, settled, stop_after, walk, walk_from}
+use Rattle.clap.specs.Kinds.{Kinds, check_kinds}
+use Rattle.clap.specs.Faults.{defaults_fault, entered_fault, fault_of, level_fault, settle_fault, walk_fault}
 use Rattle.clap.specs.Simple.{App, Shape, argument_words, built, entered, label_of, names_of, rows_at, subcommand_of}
 use Rattle.clap.specs.declared.builder.action.ArgAction.TheVariants as action
-use Rattle.clap.specs.declared.error.kind.ErrorKind.{ErrorKind}
-use Rattle.clap.specs.declared.error.kind.ErrorKind.TheVariants as kind
 use Rattle.daa_words.proofs.Kept.{AreGood, AreOwnOrOther, are_good, defaults_keep, is_good, neither, settle_keeps, some_kind, takes_value}
 use Rattle.daa_words.proofs.KeptByWalk.{walk_keeps}
 

@@ -1,17 +1,17 @@
 -- The subcommand that is met is not clap's own `help`, where no fault is found.
-use Rattle.std.proofs.Common.{◌≡◌, ◌∙◌, ◌&&◌, ◌||◌, ◌⊎◌, Bool, cond, not, true, false, List, [], ◌∷◌, ◌++◌, Option, Some, None, inl, inr, is_some, true≢false, refl, sym, ap, subst, codes}
+use Rattle.std.proofs.Common.{◌≡◌, ◌∙◌, ◌&&◌, ◌||◌, ◌⊎◌, Bool, cond, not, true, false, List, [], ◌∷◌, Option, Some, None, inl, inr, is_some, true≢false, refl, sym, ap, subst, codes}
 use Rattle.std.specs.Prelude.{⊤, IfSome, option_map, unwrap_or}
 use Rattle.std.specs.List.{find, fold, list_any}
 use Rattle.std.specs.Str.{bytes_eq}
 use Rattle.std.proofs.lemmas.Slice.Eq.{bytes_eq-Decides}
 use Rattle.clap.specs.Lexer.{long_of, short_of}
-use Rattle.clap.specs.Walk.{Held, Names, Outcome, Row, Rule, Step, Text, Waiting, Walk, after_flag, after_step, answers_to, arg_by_id, arg_by_index, arg_by_long, bundle, done, idle, long_met, long_or_other, next, nothing_held, option, plain, plain_word, positional, refused, short_or_plain, stop_after, subcommand, subcommand_met, subcommand_or_other, to_positional, trailing, value, waits, walk, walk_from, walked, walked_from, word_met}
-use Rattle.clap.specs.Kinds.{Kinds, or_else}
-use Rattle.clap.specs.Faults.{fault_of, flag_word_fault, other_fault, step_fault, turn_fault, walk_fault, word_fault}
+use Rattle.clap.specs.Walk.{Held, Names, Outcome, Row, Rule, Step, Text, Waiting, Walk, after_flag, after_step, answers_to, arg_by_index, arg_by_long, bundle, done, idle, long_met, long_or_other, next, nothing_held, option, plain, plain_word, positional, refused, short_or_plain, stop_after, subcommand, subcommand_met, subcommand_or_other, to_positional, trailing, value, waits, walk_from, walked, walked_from, word_met}
+use Rattle.clap.specs.Kinds.{or_else}
+use Rattle.clap.specs.Faults.{fault_of, other_fault, step_fault, turn_fault, walk_fault, word_fault}
 use Rattle.clap.specs.Simple.{App, Shape, argument_words, built, entered, label_of, names_of, rows_at, subcommand_of}
 use Rattle.clap.specs.declared.error.kind.ErrorKind.TheVariants as kind
 use Rattle.daa_words.proofs.Kept.{neither, some_kind}
-use Rattle.daa_words.proofs.Levels.{Each, each_found, lacks_faults, neither_true, no_value_there}
+use Rattle.daa_words.proofs.Levels.{Each, each_found, lacks_faults, no_value_there}
 
 abbrev pub is_help : Text → Bool
 is_help name = bytes_eq name (codes "help")

@@ -1,14 +1,12 @@
 -- Words without a fault ask for a replay.
-use Rattle.std.proofs.Common.{◌≡◌, ◌≢◌, ◌∙◌, Bool, true, false, List, [], ◌∷◌, Option, Some, None, inl, inr, is_some, true≢false, refl, sym, ap, codes, cond, nat_lt}
+use Rattle.std.proofs.Common.{◌≡◌, ◌≢◌, ◌∙◌, true, false, List, [], Option, Some, None, inl, inr, is_some, true≢false, refl, sym, ap, codes}
 use Rattle.std.specs.Prelude.{option_and_then, option_map}
 use Rattle.std.specs.Str.{bytes_eq}
 use Rattle.std.proofs.lemmas.Slice.Eq.{bytes_eq-Decides}
 use Rattle.clap.proofs.OnLiterals.{clap_on_literals}
-use Rattle.clap.specs.Facts.{unwrap_or_range}
 use Rattle.clap.specs.Faults.{fault_of}
 use Rattle.clap.specs.Simple.{built, filled, subcommand_of, with_index}
-use Rattle.clap.specs.Walk.{Row, Rule, Text, action_of, first_of, is_empty}
-use Rattle.clap.specs.declared.builder.action.ArgAction.TheVariants as action
+use Rattle.clap.specs.Walk.{Row, Rule, Text, first_of}
 use Rattle.daa_words.specs.declared.order.Task.TheVariants.{Replay}
 use Rattle.daa_words.specs.Command.{config, daidalus}
 use Rattle.daa_words.specs.Order.{Asked, asked_by, order_of}
@@ -19,7 +17,6 @@ use Rattle.daa_words.proofs.Stops.{IsKnownOrHelp, subcommand_known}
 -- `--config` as clap fills it in
 abbrev config_built : Rule
 config_built = with_index 1 (filled config)
-
 
 replay_or_help : Each (IsKnownOrHelp (λ name. bytes_eq name (codes "replay"))) (built daidalus).subs
 unfolding daidalus clap_on_literals

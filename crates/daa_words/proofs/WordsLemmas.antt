@@ -1,5 +1,5 @@
 -- What clap's clauses give of the definition, and what is read where they find a fault.
-use Rattle.std.proofs.Common.{codes, ◌≡◌, ◌≢◌, true, cond, List, [], ◌∷◌, Option, Some, None, arith, option_map, refl, sym, ap, ◌∙◌, inl, inr}
+use Rattle.std.proofs.Common.{codes, ◌≡◌, ◌≢◌, true, cond, List, [], ◌∷◌, Option, Some, None, arith, option_map, refl, ap, ◌∙◌, inl, inr}
 use Rattle.std.specs.Prelude.{option_and_then}
 use Rattle.std.proofs.lemmas.Bool.Decides.{nat_tests}
 use Rattle.clap.specs.Walk.{Text, first_of, is_empty, rows_of}

@@ -59,7 +59,16 @@ static NOT_TAKEN: [&[&str]; 24] = [
     &["daidalus", "replay", "--config", "f", "g"],
     &["daidalus", "replay", "--config", "f", "--", "g"],
     &["daidalus", "replay", "--config", "f", "--workers", "4"],
-    &["daidalus", "exercise", "--config", "f", "--seed", "1", "--moments", "1"],
+    &[
+        "daidalus",
+        "exercise",
+        "--config",
+        "f",
+        "--seed",
+        "1",
+        "--moments",
+        "1",
+    ],
 ];
 
 #[test]
