@@ -180,9 +180,9 @@ module _ (most status : ℕ) (words : List Text) (old new : Outside) (r : Runs m
         (λ e. let u = r.bad_configuration e in absurd (refused_or_missing words _ u.code u.refused m))
         (λ e. let u = r.read_fault e in absurd (open_or_missing words _ u.settings u.opens m))
         (λ e. absurd (broken ⊥ (r.write_fault e)
-            (λ n. not_taken_now words m.asked n m.taken)
-            (λ code k. refused_or_missing words _ code k m)
-            (λ settings o. open_or_missing words _ settings o m)))
+        (λ n. not_taken_now words m.asked n m.taken)
+        (λ code k. refused_or_missing words _ code k m)
+        (λ settings o. open_or_missing words _ settings o m)))
         (λ e. inl e)
         (λ e. inr e)
         (λ e. let u = r.limit e in absurd (open_or_missing words _ u.settings u.opens m));

@@ -38,7 +38,7 @@ module _ {settings : Settings} (own : Own) (traffic : List Traffic) (n : ℕ) (w
 
 lines_are : {settings : Settings} (own : Own) (traffic : List Traffic) (warnings : List Warning) → length warnings ≡ length traffic
     → ((i : ℕ) (aircraft : Traffic) (warning : Warning) → i < length traffic
-        → IsWarningOf settings own (slice_index_or traffic i aircraft) (slice_index_or warnings i warning))
+    → IsWarningOf settings own (slice_index_or traffic i aircraft) (slice_index_or warnings i warning))
     → AreAircraftLines settings own traffic (flat_map pair_lines (zip traffic warnings))
 unfolding warning_lines
 lines_are own [] warnings e h = refl

@@ -52,11 +52,7 @@ pub(crate) fn say_event<K: Sink>(
 }
 
 /// Writes the lines of a moment. All warnings are found before the first byte is written.
-fn say_moment<K: Sink>(
-    config: &Config,
-    sink: &mut K,
-    picture: &Picture,
-) -> Result<(), SinkFault>
+fn say_moment<K: Sink>(config: &Config, sink: &mut K, picture: &Picture) -> Result<(), SinkFault>
     requires { IsPictureInRange picture.now }
     ensures { SaysMoment config.now picture.now (K.taken sink.old) (K.taken sink.new) (K.faults sink.old) (K.faults sink.new) result }
 {

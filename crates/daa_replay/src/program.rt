@@ -18,7 +18,8 @@ use std::thread::Threads;
 const MOST_BYTES: u64 = 1 << 40;
 
 /// What is written where the command words are not taken.
-const USAGE: &[u8] = b"usage: daidalus replay --config FILE [--workers N] | exercise --config FILE --seed N --moments M [--workers N]\n";
+const USAGE: &[u8] =
+    b"usage: daidalus replay --config FILE [--workers N] | exercise --config FILE --seed N --moments M [--workers N]\n";
 
 /// This status where the line was written, and a fault of the sink where it was not.
 fn after(written: Result<(), SinkFault>, status: Status) -> Status

@@ -1,0 +1,156 @@
+//! Lines, their refusals, and the pieces in which they come.
+
+use super::{ONE, ONE_TEXT, ONES, Outside, PLAIN, SEVENS, gives};
+use std::alloc::AllocError;
+use std::test::Fail;
+
+#[test]
+fn lines_give_their_refusals_and_moments(rt: HostRuntime) -> Result<(), Fail> {
+    for (input, status, text) in [
+        (b"".as_slice(), 0, b"".as_slice()),
+        (ONE, 0, ONE_TEXT),
+        (
+            b"moment 0\nown 0 0 1000 0 3600 0\nown 0 0 1000 0 3600 0\ntraffic A 0 0 1000 0 3600 0\nend\n",
+            1,
+            b"refused 3 10\nmoment 0\nnow A 1\nalert A 1 0\ndone 0\n",
+        ),
+        (
+            b"moment 0\nend\nown 0 0 1000 0 3600 0\nend\n",
+            1,
+            b"refused 2 13\nmoment 0\ndone 0\n",
+        ),
+        (b"moment 5\nown 0 0 1000 0 3600 0\n", 1, b"refused 3 14\n"),
+        (
+            b"moment 7\nown 0 0 1000 0 3600 0\nend\nmoment 7\n",
+            1,
+            b"moment 7\ndone 7\nrefused 4 9\n",
+        ),
+        // a moment that is as late as the last stays refused after a second try, and a later one is taken
+        (
+            b"moment 7\nown 0 0 1000 0 3600 0\nend\nmoment 7\nend\nmoment 8\nown 0 0 1000 0 3600 0\nend\n",
+            1,
+            b"moment 7\ndone 7\nrefused 4 9\nrefused 5 7\nmoment 8\ndone 8\n",
+        ),
+    ] {
+        gives(&rt, input, PLAIN, status, text)?;
+    }
+    Ok(())
+}
+
+#[test]
+fn pieces_and_line_ends_do_not_matter(rt: HostRuntime) -> Result<(), Fail> {
+    let returns =
+        b"moment 0\r\nown 0 0 1000 0 3600 0\r\ntraffic A 0 0 1000 0 3600 0\r\nend\r\n".as_slice();
+    let no_feed = b"moment 0\nown 0 0 1000 0 3600 0\ntraffic A 0 0 1000 0 3600 0\nend".as_slice();
+    for pieces in [&[], ONES.as_slice(), SEVENS.as_slice()] {
+        let outside = Outside {
+            read_pieces: pieces,
+            ..PLAIN
+        };
+        for input in [ONE, returns, no_feed] {
+            gives(&rt, input, outside, 0, ONE_TEXT)?;
+        }
+    }
+    Ok(())
+}
+
+#[test]
+fn each_line_alone_has_its_code(rt: HostRuntime) -> Result<(), Fail> {
+    for (input, text) in [
+        (b"Own\n".as_slice(), b"refused 1 2\n".as_slice()),
+        (b"own 1 2\n", b"refused 1 3\n"),
+        (b"own 0 0 1000 360 x 0\n", b"refused 1 6\n"),
+        (b"own 0 0 1000 x 360 0\n", b"refused 1 4\n"),
+        (b"traffic A_B-12345 0 0 0 0 0 0\n", b"refused 1 5\n"),
+        (b"own +5 -0 0000001000 0 3600 0\n", b"refused 1 7\n"),
+        (b"own +5 -0 00000001000 0 3600 0\n", b"refused 1 4\n"),
+        (b"\0\n", b"refused 1 2\n"),
+        (b"\xff\n", b"refused 1 2\n"),
+        (b"\r\r\n", b"refused 1 2\n"),
+        (b"moment 4294967296\n", b"refused 1 6\n"),
+        (b"moment -1\n", b"refused 1 6\n"),
+        (b"moment 99999999999\n", b"refused 1 4\n"),
+        (b"moment + 1\n", b"refused 1 3\n"),
+        (b"moment -0\n", b"refused 2 14\n"),
+        (b"moment 1\nmoment x\n", b"refused 2 4\nrefused 3 14\n"),
+        (b"end\r", b"refused 1 7\n"),
+        (b"format 3\n", b"refused 1 6\n"),
+        (b"format\n", b"refused 1 3\n"),
+        (b"format x\n", b"refused 1 4\n"),
+        // in format 1 an aircraft has no age
+        (
+            b"moment 0\ntraffic A 0 0 0 0 0 0 1\n",
+            b"refused 2 3\nrefused 3 14\n",
+        ),
+        // in format 2 it has one, of at most 60 seconds, and the format stays while the moment is open
+        (
+            b"format 2\nmoment 0\ntraffic A 0 0 0 0 0 0 61\ntraffic A 0 0 0 0 0 0\nformat 1\ntraffic A 0 0 0 0 0 0 60\n",
+            b"refused 3 6\nrefused 4 3\nrefused 5 8\nrefused 7 14\n",
+        ),
+    ] {
+        gives(&rt, input, PLAIN, 1, text)?;
+    }
+    gives(&rt, b"\r\n", PLAIN, 0, b"")
+}
+
+/// A line of so many letters `a`, a first byte in the place of one, and an end.
+fn line<R: AllocGlobal>(rt: &R, first: u8, size: usize, end: &[u8]) -> Result<Vec<u8>, AllocError> {
+    let mut line = vec![in rt.alloc(); b'a'; size]?;
+    if let Some(byte) = line.first_mut() {
+        *byte = first;
+    }
+    line.extend_from_slice(end)?;
+    Ok(line)
+}
+
+#[test]
+fn lines_end_at_255_bytes(rt: HostRuntime) -> Result<(), Fail> {
+    for (first, size, end, status, text) in [
+        (b'#', 255, b"\n".as_slice(), 0, b"".as_slice()),
+        (b'#', 256, b"\n", 1, b"refused 1 1\n"),
+        (b'a', 254, b"\r\n", 1, b"refused 1 2\n"),
+        (b'a', 255, b"\r\n", 1, b"refused 1 1\n"),
+        (b'a', 255, b"\n", 1, b"refused 1 2\n"),
+        (b'a', 300, b"", 1, b"refused 1 1\n"),
+        (b'a', 300, b"\nend\n", 1, b"refused 1 1\nrefused 2 7\n"),
+    ] {
+        gives(
+            &rt,
+            line(&rt, first, size, end)?.as_slice(),
+            PLAIN,
+            status,
+            text,
+        )?;
+    }
+    Ok(())
+}
+
+#[test]
+fn a_moment_has_64_aircraft(rt: HostRuntime) -> Result<(), Fail> {
+    let alloc = rt.alloc();
+    let mut input = String::from_str(
+        alloc,
+        "moment 0\nown 0 0 1000 0 3600 0\nown 1 1 1000 0 3600 0\n",
+    )?;
+    let mut text = String::from_str(
+        alloc,
+        "refused 3 10\nrefused 68 12\nrefused 69 11\nmoment 0\n",
+    )?;
+    for i in 0..65u32 {
+        input.push_str(format!(in alloc; "traffic A{i} 660 1000 1000 0 0 0\n")?.as_str())?;
+        if i < 64 {
+            text.push_str(format!(in alloc; "now A{i} 1\nalert A{i} 1 0\n")?.as_str())?;
+        }
+    }
+    input.push_str("traffic A0 0 0 0 0 0 0\nend\n")?;
+    text.push_str("done 0\n")?;
+    let ones = vec![in alloc; 1; 4000]?;
+    for pieces in [&[], ones.as_slice()] {
+        let outside = Outside {
+            read_pieces: pieces,
+            ..PLAIN
+        };
+        gives(&rt, input.as_bytes(), outside, 1, text.as_bytes())?;
+    }
+    Ok(())
+}
