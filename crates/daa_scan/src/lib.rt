@@ -3,6 +3,7 @@
 #![tactic(auto)]
 
 mod by_seconds;
+mod reach;
 mod scene;
 #[cfg(test)]
 mod tests;

@@ -1,12 +1,14 @@
 //! A configuration with a moment: what the scan answers of it.
 
-ghost use Rattle.std.specs.Prelude.{◌≡◌, ◌<◌, length, slice_get, Some};
+ghost use Rattle.std.specs.Prelude.{◌≡◌, ◌<◌, ◌↔◌, ℕ, IsTrue, length, slice_get, Some};
 ghost use Rattle.daa_config.specs.Candidates.{candidates_of};
 ghost use Rattle.daa_config.specs.Level.{IsMaskOf};
 ghost use Rattle.daa_state.specs.InRange.{IsPictureInRange};
 ghost use Rattle.daa_state.specs.Picture.{aircraft_of};
+ghost use Rattle.daa_scan.specs.Reach.{IsInReachAt};
 ghost use Rattle.daa_scan.specs.Situation.{MeetsAt};
 
+use crate::reach::is_in_reach;
 use crate::walk::levels_of;
 use daa_config::Config;
 use daa_state::{Picture, Traffic};
@@ -53,6 +55,17 @@ impl<'a> Scene<'a> {
             self.config.candidate(index),
             self.aircraft(aircraft),
         )
+    }
+
+    /// Whether the aircraft is near enough to be met: by its place now, the greatest speeds at which it and a candidate
+    /// can near each other, and some level's thresholds and lookahead. An aircraft that is not in reach is met by no
+    /// candidate at any level within the level's lookahead.
+    pub fn in_reach(&self, aircraft: u32) -> bool
+        requires { aircraft < length (aircraft_of self.now.picture) }
+        ensures exact { IsTrue result ↔ IsInReachAt self.now aircraft }
+        ensures meets_in_reach { (index l : ℕ) → MeetsAt self.now index aircraft l → IsTrue result }
+    {
+        is_in_reach(self.config, &self.picture.own, self.aircraft(aircraft))
     }
 
     /// The aircraft at a place of the moment's list.
