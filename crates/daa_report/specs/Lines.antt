@@ -1,13 +1,43 @@
 -- The lines of a report.
-use Rattle.std.specs.Prelude.{ℕ, List, ◌++◌, Option, Some, None, codes, decimal}
+use Rattle.std.specs.Prelude.{ℕ, ℤ, List, ◌++◌, Option, Some, None, codes, decimal}
+use Rattle.std.specs.Fmt.{signed_decimal}
+use Rattle.daa_config.specs.declared.kind.Kind.{Kind}
+use Rattle.daa_config.specs.declared.kind.Kind.TheVariants.{Track, Speed, Climb, Height}
+use Rattle.daa_config.specs.declared.candidate.Resolution.{Resolution}
+use Rattle.daa_config.specs.declared.candidate.Resolution.TheVariants.{Keep, To, Nothing}
 
 abbrev pub Text : Type 0
 Text = List ℕ
+
+-- what a kind is called, and its lower and upper side
+abbrev pub kind_word : Kind → Text
+kind_word Track = codes "track"
+kind_word Speed = codes "gs"
+kind_word Climb = codes "vs"
+kind_word Height = codes "alt"
+
+abbrev pub lower_word : Kind → Text
+lower_word Track = codes "left"
+lower_word Speed = codes "down"
+lower_word Climb = codes "down"
+lower_word Height = codes "down"
+
+abbrev pub upper_word : Kind → Text
+upper_word Track = codes "right"
+upper_word Speed = codes "up"
+upper_word Climb = codes "up"
+upper_word Height = codes "up"
 
 -- a dash where there is no leg
 abbrev pub first_text : Option ℕ → Text
 first_text None = codes "-"
 first_text (Some leg) = decimal leg
+
+-- a candidate's value, `keep` or `none`
+abbrev pub answer_text : Resolution → Text
+answer_text Keep = codes "keep"
+answer_text (To value) = signed_decimal value
+answer_text Nothing = codes "none"
 
 unfoldable pub refused_line : ℕ → ℕ → Text
 refused_line number code = codes "refused " ++ decimal number ++ codes " " ++ decimal code ++ codes "\n"
@@ -20,6 +50,17 @@ now_line id level = codes "now " ++ id ++ codes " " ++ decimal level ++ codes "\
 
 unfoldable pub alert_line : Text → ℕ → Option ℕ → Text
 alert_line id level first = codes "alert " ++ id ++ codes " " ++ decimal level ++ codes " " ++ first_text first ++ codes "\n"
+
+-- the values of a kind, from the first up to the last, that show a level
+unfoldable pub band_line : Kind → ℤ → ℤ → ℕ → Text
+band_line kind from upto level =
+    kind_word kind ++ codes " " ++ signed_decimal from ++ codes " " ++ signed_decimal upto ++ codes " " ++ decimal level ++ codes "\n"
+
+-- what is answered on the two sides of a kind
+unfoldable pub resolve_line : Kind → Resolution → Resolution → Text
+resolve_line kind lower upper =
+    codes "resolve" ++ codes " " ++ kind_word kind ++ codes " " ++ lower_word kind ++ codes " " ++ answer_text lower
+    ++ codes " " ++ upper_word kind ++ codes " " ++ answer_text upper ++ codes "\n"
 
 unfoldable pub done_line : ℕ → Text
 done_line time = codes "done " ++ decimal time ++ codes "\n"

@@ -1,9 +1,11 @@
 //! A line in hand, of at most 64 bytes.
-ghost use Rattle.std.specs.Prelude.{◌≡◌, ◌≤◌, ◌+◌, ◌++◌, length, decimal};
+ghost use Rattle.std.specs.Prelude.{◌≡◌, ◌≤◌, ◌+◌, ◌++◌, length, codes, decimal};
+ghost use Rattle.std.specs.Fmt.{signed_decimal};
 ghost use Rattle.arrayvec.specs.ArrayVec.{array_vec_len};
-ghost use Rattle.daa_report.specs.Lines.{first_text};
+ghost use Rattle.daa_report.specs.Lines.{first_text, answer_text};
 
 use arrayvec::ArrayVec;
+use daa_config::Resolution;
 use itoa::Buffer;
 
 /// Adds bytes at the end.
@@ -34,6 +36,16 @@ pub fn add_number(line: &mut ArrayVec<u8, 64>, number: u64)
     add(line, buffer.format(number));
 }
 
+/// Adds a number at the end, in decimal digits, with a sign where it is negative.
+pub fn add_signed(line: &mut ArrayVec<u8, 64>, number: &i32)
+    requires { array_vec_len line.old + 11 ≤ 64 }
+    ensures items { line.new.items ≡ line.old.items ++ signed_decimal number.now }
+    ensures len { array_vec_len line.new ≤ array_vec_len line.old + 11 }
+{
+    let mut buffer = Buffer::new();
+    add(line, buffer.format(*number));
+}
+
 /// Adds the number of a leg, or a dash.
 pub fn add_first(line: &mut ArrayVec<u8, 64>, first: Option<u32>)
     requires { array_vec_len line.old + 20 ≤ 64 }
@@ -44,4 +56,47 @@ pub fn add_first(line: &mut ArrayVec<u8, 64>, first: Option<u32>)
         Some(leg) => add_number(line, u64::from(leg)),
         None => add(line, "-"),
     }
+}
+
+/// Adds what is answered on a side.
+pub fn add_answer(line: &mut ArrayVec<u8, 64>, answer: &Resolution)
+    requires { array_vec_len line.old + 11 ≤ 64 }
+    ensures items { line.new.items ≡ line.old.items ++ answer_text answer.now }
+    ensures len { array_vec_len line.new ≤ array_vec_len line.old + 11 }
+{
+    match answer {
+        Resolution::Keep => add(line, "keep"),
+        Resolution::To(value) => add_signed(line, value),
+        Resolution::Nothing => add(line, "none"),
+    }
+}
+
+/// Adds a blank and a text.
+pub fn add_field(line: &mut ArrayVec<u8, 64>, text: &str)
+    requires { array_vec_len line.old + length text.now + 1 ≤ 64 }
+    ensures items { line.new.items ≡ line.old.items ++ codes " " ++ text.now }
+    ensures len { array_vec_len line.new ≡ array_vec_len line.old + length text.now + 1 }
+{
+    add(line, " ");
+    add(line, text);
+}
+
+/// Adds a blank and a number with its sign.
+pub fn add_signed_field(line: &mut ArrayVec<u8, 64>, number: &i32)
+    requires { array_vec_len line.old + 12 ≤ 64 }
+    ensures items { line.new.items ≡ line.old.items ++ codes " " ++ signed_decimal number.now }
+    ensures len { array_vec_len line.new ≤ array_vec_len line.old + 12 }
+{
+    add(line, " ");
+    add_signed(line, number);
+}
+
+/// Adds a blank and what is answered on a side.
+pub fn add_answer_field(line: &mut ArrayVec<u8, 64>, answer: &Resolution)
+    requires { array_vec_len line.old + 12 ≤ 64 }
+    ensures items { line.new.items ≡ line.old.items ++ codes " " ++ answer_text answer.now }
+    ensures len { array_vec_len line.new ≤ array_vec_len line.old + 12 }
+{
+    add(line, " ");
+    add_answer(line, answer);
 }

@@ -2,13 +2,14 @@
 #![tactic(auto)]
 
 mod adding;
+mod kind_words;
 mod line;
 mod page;
 mod writers;
 
 pub use line::Line;
 pub use page::Page;
-pub use writers::{SinkFault, alert, config, done, moment, now, put, refused};
+pub use writers::{SinkFault, alert, band, config, done, moment, now, put, refused, resolve};
 
 #[cfg(test)]
 mod tests;

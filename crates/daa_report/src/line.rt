@@ -1,9 +1,13 @@
 //! The lines of a report, as values.
 ghost use Rattle.std.specs.Prelude.{◌≡◌, ◌≤◌, length};
-ghost use Rattle.daa_report.specs.Lines.{alert_line, config_line, done_line, moment_line, now_line, refused_line};
+ghost use Rattle.daa_report.specs.Lines.{alert_line, band_line, config_line, done_line, moment_line, now_line, refused_line, resolve_line};
 
-use crate::adding::{add, add_bytes, add_first, add_number};
+use crate::adding::{
+    add, add_answer_field, add_bytes, add_field, add_first, add_number, add_signed_field,
+};
+use crate::kind_words::{lower_word, upper_word, word};
 use arrayvec::ArrayVec;
+use daa_config::{Kind, Resolution};
 use daa_state::Id;
 use std::marker::Model;
 
@@ -41,7 +45,8 @@ impl Line {
     /// The line that says that a line was refused.
     #[tactic(auto, unfolding(crate::specs::Lines::refused_line))]
     pub fn refused(number: u64, code: u8) -> Line
-        ensures { result ≡ refused_line number code }
+        ensures text { result ≡ refused_line number code }
+        ensures few { length result ≤ 64 }
     {
         let mut line = ArrayVec::<u8, 64>::new();
         add(&mut line, "refused ");
@@ -55,7 +60,8 @@ impl Line {
     /// The line that says that a moment begins.
     #[tactic(auto, unfolding(crate::specs::Lines::moment_line))]
     pub fn moment(time: u32) -> Line
-        ensures { result ≡ moment_line time }
+        ensures text { result ≡ moment_line time }
+        ensures few { length result ≤ 64 }
     {
         let mut line = ArrayVec::<u8, 64>::new();
         add(&mut line, "moment ");
@@ -67,7 +73,8 @@ impl Line {
     /// The line of the level of an aircraft now.
     #[tactic(auto, unfolding(crate::specs::Lines::now_line))]
     pub fn now(id: &Id, level: u8) -> Line
-        ensures { result ≡ now_line id.now level }
+        ensures text { result ≡ now_line id.now level }
+        ensures few { length result ≤ 64 }
     {
         let mut line = ArrayVec::<u8, 64>::new();
         add(&mut line, "now ");
@@ -81,7 +88,8 @@ impl Line {
     /// The line of the alert of an aircraft, and from which leg on.
     #[tactic(auto, unfolding(crate::specs::Lines::alert_line))]
     pub fn alert(id: &Id, level: u8, first: Option<u32>) -> Line
-        ensures { result ≡ alert_line id.now level first }
+        ensures text { result ≡ alert_line id.now level first }
+        ensures few { length result ≤ 64 }
     {
         let mut line = ArrayVec::<u8, 64>::new();
         add(&mut line, "alert ");
@@ -94,10 +102,44 @@ impl Line {
         Line { bytes: line }
     }
 
+    /// The line of the values of a kind, from one up to another, that show a level.
+    #[tactic(auto, unfolding(crate::specs::Lines::band_line))]
+    pub fn band(kind: Kind, from: i32, upto: i32, level: u8) -> Line
+        ensures text { result ≡ band_line kind from upto level }
+        ensures few { length result ≤ 64 }
+    {
+        let mut line = ArrayVec::<u8, 64>::new();
+        add(&mut line, word(kind));
+        add_signed_field(&mut line, &from);
+        add_signed_field(&mut line, &upto);
+        add(&mut line, " ");
+        add_number(&mut line, u64::from(level));
+        add(&mut line, "\n");
+        Line { bytes: line }
+    }
+
+    /// The line of what is answered on the lower and on the upper side of a kind.
+    #[tactic(auto, unfolding(crate::specs::Lines::resolve_line))]
+    pub fn resolve(kind: Kind, lower: Resolution, upper: Resolution) -> Line
+        ensures text { result ≡ resolve_line kind lower upper }
+        ensures few { length result ≤ 64 }
+    {
+        let mut line = ArrayVec::<u8, 64>::new();
+        add(&mut line, "resolve");
+        add_field(&mut line, word(kind));
+        add_field(&mut line, lower_word(kind));
+        add_answer_field(&mut line, &lower);
+        add_field(&mut line, upper_word(kind));
+        add_answer_field(&mut line, &upper);
+        add(&mut line, "\n");
+        Line { bytes: line }
+    }
+
     /// The line that says that a moment ends.
     #[tactic(auto, unfolding(crate::specs::Lines::done_line))]
     pub fn done(time: u32) -> Line
-        ensures { result ≡ done_line time }
+        ensures text { result ≡ done_line time }
+        ensures few { length result ≤ 64 }
     {
         let mut line = ArrayVec::<u8, 64>::new();
         add(&mut line, "done ");
@@ -109,7 +151,8 @@ impl Line {
     /// The line that says that the configuration was refused.
     #[tactic(auto, unfolding(crate::specs::Lines::config_line))]
     pub fn config(code: u8) -> Line
-        ensures { result ≡ config_line code }
+        ensures text { result ≡ config_line code }
+        ensures few { length result ≤ 64 }
     {
         let mut line = ArrayVec::<u8, 64>::new();
         add(&mut line, "config ");

@@ -1,6 +1,7 @@
 //! Each line once, in bytes that its format tells.
 
 use super::*;
+use daa_config::{Kind, Resolution};
 use daa_outside::MemSink;
 use daa_state::Id;
 use std::alloc::{AllocError, Global};
@@ -35,6 +36,36 @@ fn each_line_is_written(rt: HostRuntime) -> Result<(), Fail> {
     assert_eq!(rt;
         out.taken(),
         b"refused 18446744073709551615 14\nmoment 4294967295\nnow A_b-1 4\nalert A_b-1 0 -\nalert A_b-1 3 179\ndone 0\nconfig 8\nany bytes".as_slice()
+    );
+    Ok(())
+}
+
+#[test]
+fn each_band_and_answer_is_written(rt: HostRuntime) -> Result<(), Fail> {
+    let alloc = rt.alloc();
+    let mut out = MemSink::over(vec![in alloc; 0; 400]?, Vec::new(alloc), Vec::new(alloc));
+    let (keep, none) = (Resolution::Keep, Resolution::Nothing);
+    let said = [
+        band(&mut out, Kind::Track, 0, 270, 0),
+        band(&mut out, Kind::Speed, 3600, 10000, 1),
+        band(&mut out, Kind::Climb, -5000, -100, 2),
+        band(&mut out, Kind::Height, -2000, 60000, 4),
+        resolve(&mut out, Kind::Track, Resolution::To(359), none),
+        resolve(&mut out, Kind::Speed, keep, keep),
+        resolve(
+            &mut out,
+            Kind::Climb,
+            Resolution::To(-200),
+            Resolution::To(0),
+        ),
+        resolve(&mut out, Kind::Height, none, Resolution::To(1500)),
+    ];
+    for one in said {
+        assert_eq!(rt; one, Ok(()));
+    }
+    assert_eq!(rt;
+        out.taken(),
+        b"track 0 270 0\ngs 3600 10000 1\nvs -5000 -100 2\nalt -2000 60000 4\nresolve track left 359 right none\nresolve gs down keep up keep\nresolve vs down -200 up 0\nresolve alt down none up 1500\n".as_slice()
     );
     Ok(())
 }

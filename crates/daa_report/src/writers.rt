@@ -1,9 +1,10 @@
 //! Writes pieces and lines to a sink.
 ghost use Rattle.std.specs.Prelude.{◌≤◌, ◌≡◌, length, drop};
-ghost use Rattle.daa_report.specs.Lines.{refused_line, moment_line, now_line, alert_line, done_line, config_line};
+ghost use Rattle.daa_report.specs.Lines.{refused_line, moment_line, now_line, alert_line, band_line, resolve_line, done_line, config_line};
 ghost use Rattle.daa_report.specs.Says.{Says};
 
 use crate::line::Line;
+use daa_config::{Kind, Resolution};
 use daa_outside::{Failed, Sink};
 use daa_state::Id;
 
@@ -58,6 +59,31 @@ pub fn alert<K: Sink>(sink: &mut K, id: &Id, level: u8, first: Option<u32>) -> R
     ensures { Says (K.taken sink.old) (K.taken sink.new) (K.faults sink.old) (K.faults sink.new) (alert_line id.now level first) result }
 {
     put(sink, Line::alert(id, level, first).as_bytes())
+}
+
+/// Writes that the values of a kind from one up to another, in degrees, 0.1 kt, ft/min or ft, show this level.
+pub fn band<K: Sink>(
+    sink: &mut K,
+    kind: Kind,
+    from: i32,
+    upto: i32,
+    level: u8,
+) -> Result<(), SinkFault>
+    ensures { Says (K.taken sink.old) (K.taken sink.new) (K.faults sink.old) (K.faults sink.new) (band_line kind from upto level) result }
+{
+    put(sink, Line::band(kind, from, upto, level).as_bytes())
+}
+
+/// Writes what is answered on the lower side of a kind, left or down, and on the upper, right or up.
+pub fn resolve<K: Sink>(
+    sink: &mut K,
+    kind: Kind,
+    lower: Resolution,
+    upper: Resolution,
+) -> Result<(), SinkFault>
+    ensures { Says (K.taken sink.old) (K.taken sink.new) (K.faults sink.old) (K.faults sink.new) (resolve_line kind lower upper) result }
+{
+    put(sink, Line::resolve(kind, lower, upper).as_bytes())
 }
 
 /// Writes that a moment ends.

@@ -1,0 +1,151 @@
+-- Each list of values with their levels has one list of bands.
+use Rattle.std.proofs.Common.{◌≡◌, ◌≢◌, ◌∙◌, ◌==◌, ℕ, Bool, true, false, List, [], ◌∷◌, ◌++◌, refl, sym, ap, subst, arith, eq-eqb}
+use Rattle.std.specs.List.{All, AllByRecursion}
+use Rattle.std.proofs.lemmas.List.Elements.{recursion_from_All, All-from_recursion}
+use Rattle.std.proofs.lemmas.Bool.Decides.{nat_tests}
+use Rattle.daa_bands.specs.declared.band.Band.{Band}
+use Rattle.daa_bands.specs.Band.{Mark, IsStretch, DiffersFromFirst, AreBands, HasOneList}
+use Rattle.daa_bands.specs.Walk.{with_mark, bands_of}
+
+-- a band of one value
+abbrev alone : Mark → Band
+alone mark = record { from = mark.0; upto = mark.0; level = mark.1 }
+
+-- the band begins one value earlier
+abbrev longer : Mark → Band → Band
+longer mark band = record { from = mark.0; upto = band.upto; level = band.level }
+
+differs : (a b : ℕ) → a ≢ b → (b == a) ≡ false
+differs a b h = grind (arith, nat_tests)
+
+pub with_mark_same : (mark : Mark) (band : Band) (bands : List Band) → band.level ≡ mark.1 → with_mark mark (band ∷ bands) ≡ longer mark band ∷ bands
+unfolding with_mark
+with_mark_same mark band bands e = rw (eq-eqb _ _ e) refl
+
+pub with_mark_new : (mark : Mark) (bands : List Band) → DiffersFromFirst (alone mark) bands → with_mark mark bands ≡ alone mark ∷ bands
+unfolding with_mark
+with_mark_new mark [] d = refl
+with_mark_new mark (band ∷ bands) d = rw (differs mark.1 band.level d) refl
+
+-- ---- the bands that are found are bands
+
+one : (mark : Mark) → IsStretch (alone mark) (mark ∷ [])
+one mark = record {
+  first = ([], refl);
+  last = ([], refl);
+  level = All-from_recursion (λ (m : Mark). m.1 ≡ mark.1) (mark ∷ []) (refl, tt);
+}
+
+more : (mark : Mark) (band : Band) (stretch : List Mark) → mark.1 ≡ band.level → IsStretch band stretch → IsStretch (longer mark band) (mark ∷ stretch)
+more mark band stretch e s = record {
+  first = (stretch, ap (λ (l : ℕ). (mark.0, l) ∷ stretch) e);
+  last = (mark ∷ s.last.0, ap (λ (ms : List Mark). mark ∷ ms) s.last.1);
+  level = All-from_recursion (λ (m : Mark). m.1 ≡ band.level) (mark ∷ stretch) (e, recursion_from_All (λ (m : Mark). m.1 ≡ band.level) stretch s.level);
+}
+
+longer_differs : (mark : Mark) (band : Band) (bands : List Band) → DiffersFromFirst band bands → DiffersFromFirst (longer mark band) bands
+longer_differs mark band [] d = tt
+longer_differs mark band (next ∷ bands) d = d
+
+add : (mark : Mark) (marks : List Mark) (bands : List Band) → AreBands marks bands → AreBands (mark ∷ marks) (with_mark mark bands)
+add mark marks [] h = subst (AreBands (mark ∷ marks)) (sym (with_mark_new mark [] tt)) (mark ∷ [], [], ap (λ (ms : List Mark). mark ∷ ms) h, one mark, tt, refl)
+add mark marks (band ∷ bands) (stretch, rest, e, s, d, r) = go (band.level == mark.1) refl
+  where
+    go : (b : Bool) → (band.level == mark.1) ≡ b → AreBands (mark ∷ marks) (with_mark mark (band ∷ bands))
+    go true t =
+        let l : mark.1 ≡ band.level = grind (arith, nat_tests) in
+        subst (AreBands (mark ∷ marks)) (sym (with_mark_same mark band bands (sym l)))
+        (mark ∷ stretch, rest, ap (λ (ms : List Mark). mark ∷ ms) e, more mark band stretch l s, longer_differs mark band bands d, r)
+    go false t =
+        let l : mark.1 ≢ band.level = grind (arith, nat_tests) in
+        subst (AreBands (mark ∷ marks)) (sym (with_mark_new mark (band ∷ bands) l))
+        (mark ∷ [], marks, refl, one mark, l, (stretch, rest, e, s, d, r))
+
+pub found : (marks : List Mark) → AreBands marks (bands_of marks)
+unfolding bands_of
+found [] = refl
+found (mark ∷ marks) = add mark marks (bands_of marks) (found marks)
+
+-- ---- no other list is
+
+tail_of : (mark : Mark) (marks others rest : List Mark) (m : Mark) → mark ∷ marks ≡ (m ∷ others) ++ rest → (mark ≡ m) × (marks ≡ others ++ rest)
+tail_of mark marks others rest m e = (cc, cc)
+
+single : (x y : Mark) (zs : List Mark) → x ∷ [] ≡ zs ++ y ∷ [] → x ≡ y
+single x y [] e = cc
+single x y (z ∷ []) e = cc
+single x y (z ∷ (w ∷ zs)) e = cc
+
+last_tail : (x n y : Mark) (ns zs : List Mark) → x ∷ (n ∷ ns) ≡ zs ++ y ∷ [] → (others : List Mark) × (n ∷ ns ≡ others ++ y ∷ [])
+last_tail x n y ns [] e = cc
+last_tail x n y ns (z ∷ zs) e = (zs, cc)
+
+-- the band takes the first mark, and the others are as they are known to be
+module _ (mark : Mark) (marks : List Mark) (band : Band) (bands : List Band) (stretch rest : List Mark) where
+  split : (others : List Mark) (others-is : stretch ≡ (band.from, band.level) ∷ others) → mark ∷ marks ≡ stretch ++ rest
+      → (mark ≡ (band.from, band.level)) × (marks ≡ others ++ rest)
+  split others f e = tail_of mark marks others rest (band.from, band.level) (subst (λ (ms : List Mark). mark ∷ marks ≡ ms ++ rest) f e)
+
+  alone_first : (others-is : stretch ≡ (band.from, band.level) ∷ []) → mark ∷ marks ≡ stretch ++ rest → IsStretch band stretch
+      → DiffersFromFirst band bands → with_mark mark bands ≡ band ∷ bands
+  alone_first f e s d =
+      let t = split [] f e in
+      let l : (band.from, band.level) ≡ (band.upto, band.level) = single (band.from, band.level) (band.upto, band.level) s.last.0 (sym f ∙ s.last.1) in
+      let b : alone mark ≡ band = ap alone t.0 ∙ ap (λ (x : Mark). record { from = band.from; upto = x.0; level = band.level }) l in
+      with_mark_new mark bands (subst (λ (x : Band). DiffersFromFirst x bands) (sym b) d) ∙ ap (λ (x : Band). x ∷ bands) b
+
+  -- the band without its first value
+  abbrev shorter : Mark → Band
+  shorter next = record { from = next.0; upto = band.upto; level = band.level }
+
+  next_level : (next : Mark) (others : List Mark) → stretch ≡ (band.from, band.level) ∷ (next ∷ others) → IsStretch band stretch
+      → (next.1 ≡ band.level) × AllByRecursion (λ (m : Mark). m.1 ≡ band.level) (next ∷ others)
+  next_level next others f s =
+      let a = recursion_from_All (λ (m : Mark). m.1 ≡ band.level) ((band.from, band.level) ∷ (next ∷ others))
+      (subst (λ (ms : List Mark). All (λ m. m.1 ≡ band.level) ms) f s.level) in
+      (a.1.0, a.1)
+
+  shorter_bands : (next : Mark) (others : List Mark) → stretch ≡ (band.from, band.level) ∷ (next ∷ others) → mark ∷ marks ≡ stretch ++ rest
+      → IsStretch band stretch → DiffersFromFirst (shorter next) bands → AreBands rest bands → AreBands marks (shorter next ∷ bands)
+  shorter_bands next others f e s d r =
+      let t = split (next ∷ others) f e in let l = next_level next others f s in
+      let k = last_tail (band.from, band.level) next (band.upto, band.level) others s.last.0 (sym f ∙ s.last.1) in (
+        next ∷ others,
+        rest,
+        t.1,
+        record {
+          first = (others, ap (λ (n : ℕ). (next.0, n) ∷ others) l.0);
+          last = k;
+          level = All-from_recursion (λ (m : Mark). m.1 ≡ band.level) (next ∷ others) l.1;
+        },
+        d,
+        r,
+      )
+
+  take_first : (known : List Band) → ((bs : List Band) → AreBands marks bs → bs ≡ known) → mark ∷ marks ≡ stretch ++ rest → IsStretch band stretch
+      → DiffersFromFirst band bands → AreBands rest bands → band ∷ bands ≡ with_mark mark known
+  take_first known ih e s d r = go s.first.0 s.first.1
+    where
+      go : (others : List Mark) → stretch ≡ (band.from, band.level) ∷ others → band ∷ bands ≡ with_mark mark known
+      go [] f =
+          let i : bands ≡ known = ih bands (subst (λ (ms : List Mark). AreBands ms bands) (sym (split [] f e).1) r) in
+          sym (alone_first f e s d) ∙ ap (with_mark mark) i
+      go (next ∷ others) f =
+          let t = split (next ∷ others) f e in
+          let i : shorter next ∷ bands ≡ known = ih (shorter next ∷ bands) (shorter_bands next others f e s (keeps bands d) r) in
+          let w = with_mark_same mark (shorter next) bands (ap (λ (m : Mark). m.1) (sym t.0)) in
+          ap (λ (m : Mark). (record { from = m.0; upto = band.upto; level = band.level }) ∷ bands) (sym t.0) ∙ sym w ∙ ap (with_mark mark) i
+        where
+          keeps : (bs : List Band) → DiffersFromFirst band bs → DiffersFromFirst (shorter next) bs
+          keeps [] d = tt
+          keeps (b ∷ bs) d = d
+
+pub only : (marks : List Mark) (bands : List Band) → AreBands marks bands → bands ≡ bands_of marks
+unfolding bands_of
+only [] [] h = refl
+only [] (band ∷ bands) (stretch, rest, e, s, d, r) = let f = s.first.1 in let g : [] ≡ ((band.from, band.level) ∷ s.first.0) ++ rest = subst (λ (ms : List Mark). [] ≡ ms ++ rest) f e in cc
+only (mark ∷ marks) [] h = cc
+only (mark ∷ marks) (band ∷ bands) (stretch, rest, e, s, d, r) = take_first mark marks band bands stretch rest (bands_of marks) (λ bs k. only marks bs k) e s d r
+
+pub one_list : (marks : List Mark) → HasOneList marks
+one_list marks = record { bands = bands_of marks; are = found marks; only = λ others h. only marks others h }

@@ -1,0 +1,8 @@
+use Rattle.std.proofs.Common.{◌*◌}
+use Rattle.daa_config.specs.Packing.{group_size}
+use Rattle.daa_bands.proofs.MergeLemmas.{Merged}
+use Rattle.daa_bands.proofs.board.Board.merge_word.Given as goal
+
+-- the places before have got their levels, and nothing else has changed
+abbrev pub invariant-loop-place : goal.invariant-loop-place
+invariant-loop-place l = Merged (group_size * l.group) l.place l.word l.initial.self l.self

@@ -1,0 +1,12 @@
+use Rattle.std.proofs.Common.{◌∙◌, ℕ, sym, ap, subst, arith}
+use Rattle.std.specs.Prelude.{slice_index}
+use Rattle.daa_config.specs.Level.{HasLevel, IsGreatestLevel}
+use Rattle.daa_bands.specs.Board.{mask_levels}
+use Rattle.daa_bands.specs.Walk.{shown_of}
+use Rattle.daa_bands.proofs.MaskLemmas.{greatest_shown, shown_is}
+use Rattle.daa_bands.proofs.board.Board.shown.Goals as goal
+
+pub returns : goal.returns
+returns c =
+    let m : ℕ = slice_index c.args.self.now c.args.index in
+    subst (λ (l : ℕ). IsGreatestLevel (HasLevel m) mask_levels l) (sym (shown_is c.mask.result (omega arith) ∙ ap shown_of c.mask.ensures)) (greatest_shown m)

@@ -1,0 +1,32 @@
+-- The bands of a list of values, each with its level.
+use Rattle.std.specs.Prelude.{◌≡◌, ◌≢◌, ℕ, ℤ, List, [], ◌∷◌, ◌++◌}
+use Rattle.std.specs.List.{All}
+use Rattle.daa_bands.specs.declared.band.Band.{Band}
+
+-- a value and its level
+abbrev pub Mark : Type 0
+Mark = ℤ × ℕ
+
+-- the stretch of a band begins with the band's first value and ends with its last, and all of it has the band's level
+pub record IsStretch (band : Band) (stretch : List Mark) : Type 0 where
+  pub first : (others : List Mark) × (stretch ≡ (band.from, band.level) ∷ others)
+  pub last : (others : List Mark) × (stretch ≡ others ++ (band.upto, band.level) ∷ [])
+  pub level : All (λ mark. mark.1 ≡ band.level) stretch
+
+-- the band differs in level from its neighbour, the first of the bands after it
+abbrev pub DiffersFromFirst : Band → List Band → Type 0
+DiffersFromFirst band [] = Unit {0}
+DiffersFromFirst band (next ∷ bands) = band.level ≢ next.level
+
+-- the stretches of the bands, put together, are the values in order, and neighbours differ in level
+abbrev pub AreBands : List Mark → List Band → Type 0
+AreBands marks [] = marks ≡ []
+AreBands marks (band ∷ bands) =
+    (stretch : List Mark) × (rest : List Mark) × (marks ≡ stretch ++ rest) × IsStretch band stretch
+    × DiffersFromFirst band bands × AreBands rest bands
+
+-- one list is that of the bands, and no other
+pub record HasOneList (marks : List Mark) : Type 0 where
+  pub bands : List Band
+  pub are : AreBands marks bands
+  pub only : (others : List Band) → AreBands marks others → others ≡ bands

@@ -1,0 +1,4 @@
+pub mod Board
+pub mod Band
+pub mod KindBands
+pub mod Walk

@@ -1,0 +1,85 @@
+//! The levels at which each candidate of a moment is covered, as masks. What the workers found comes in packed words,
+//! twelve candidates in each.
+ghost use Rattle.std.specs.Prelude.{◌≡◌, ◌<◌, ◌≤◌, ◌+◌, ◌*◌, ◌≢◌, ℕ, slice_index, bit_or, replicate};
+ghost use Rattle.daa_config.specs.Level.{HasLevel, IsGreatestLevel};
+ghost use Rattle.daa_config.specs.Packing.{group_size, mask_in};
+ghost use Rattle.daa_bands.specs.Board.{board_size, mask_levels, AddsMask, AddsWord};
+
+use daa_config::packing::{GROUP, MASKS, WIDTH};
+use std::marker::Model;
+
+/// How many candidates a board has a mask for; a configuration has at most 1897.
+const SIZE: usize = 2048;
+
+/// The masks of 2048 candidates, by their indices in the whole list: bit l - 1 of a mask stands for level l.
+#[derive(Drop)]
+pub struct Board {
+    masks: [u8; SIZE],
+}
+
+impl Model for Board {
+    ghost use Rattle.std.specs.Prelude.{List, ℕ};
+
+    ghost Value = { List ℕ };
+
+    ghost view = { λ b. b.masks };
+}
+
+impl Board {
+    /// A board on which no candidate has a level.
+    pub fn new() -> Board
+        ensures { result ≡ replicate board_size 0 }
+    {
+        Board { masks: [0; SIZE] }
+    }
+
+    /// Takes all levels of all candidates away.
+    pub fn clear(&mut self)
+        ensures { self.new ≡ replicate board_size 0 }
+    {
+        self.masks = [0; SIZE];
+    }
+
+    /// Adds the levels of a mask to those of the candidate at an index, which is below 2048.
+    pub fn mark(&mut self, index: u32, mask: u8)
+        requires { index < board_size }
+        ensures { AddsMask index mask self.old self.new }
+    {
+        self.masks[index as usize] |= mask;
+    }
+
+    /// Adds the levels that a packed word has of the twelve candidates of a group: those with the indices from
+    /// 12 * group on, which are below 2048.
+    pub fn merge_word(&mut self, group: u32, word: u64)
+        requires { group_size * group + group_size ≤ board_size }
+        ensures { AddsWord group word self.old self.new }
+    {
+        for place in 0..GROUP {
+            self.mark(GROUP * group + place, mask_at(word, place));
+        }
+    }
+
+    /// The mask of the candidate at an index, which is below 2048.
+    pub fn mask(&self, index: u32) -> u8
+        requires { index < board_size }
+        ensures { result ≡ slice_index self.now index }
+    {
+        self.masks[index as usize]
+    }
+
+    /// The shown level of the candidate at an index, which is below 2048: the greatest that its mask has, or 0.
+    pub fn shown(&self, index: u32) -> u8
+        requires { index < board_size }
+        ensures { IsGreatestLevel (HasLevel (slice_index self.now index)) mask_levels result }
+    {
+        (8 - self.mask(index).leading_zeros()) as u8
+    }
+}
+
+/// The mask that a packed word has of the candidate at a place of its group.
+fn mask_at(word: u64, place: u32) -> u8
+    requires { place < group_size }
+    ensures { result ≡ mask_in word place }
+{
+    ((word >> (WIDTH * place + 1)) % MASKS) as u8
+}

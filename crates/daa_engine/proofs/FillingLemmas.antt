@@ -1,0 +1,158 @@
+-- A board that is filled aircraft by aircraft.
+use Rattle.std.proofs.Common.{◌≡◌, ◌≢◌, ◌<◌, ◌≤◌, ◌+◌, ◌-◌, ◌⊎◌, ◌∙◌, ℕ, zero, suc, max, List, length, slice_get, Option, Some, None, bit_or, replicate, refl, sym, ap, subst, arith, inl, inr}
+use Rattle.std.specs.Prelude.{slice_index, IsSomeAnd}
+use Rattle.std.specs.Int.{bit_at}
+use Rattle.std.specs.Int.Bits.{or_zero_r}
+use Rattle.std.proofs.lemmas.Nat.Bits.{bit_at_or, bit_at-lt, bit_at-zero}
+use Rattle.std.proofs.lemmas.List.{get_or-replicate, get_or_past, length-replicate}
+use Rattle.std.proofs.lemmas.Bool.{cases_lt}
+use Rattle.std.proofs.lemmas.Option.{slice_get_within}
+use Rattle.daa_config.specs.Settings.{Settings}
+use Rattle.daa_config.specs.Candidates.{candidates_of}
+use Rattle.daa_config.specs.Level.{HasLevel, IsMaskOf}
+use Rattle.daa_bands.specs.Board.{HasLevelOn, IsBoardOf}
+use Rattle.daa_state.specs.Picture.{aircraft_of}
+use Rattle.daa_state.specs.declared.word.Picture.{Picture}
+use Rattle.daa_scan.specs.Situation.{Situation, MeetsAt}
+use Rattle.daa_engine.specs.Covered.{CoveredAt, scene_of}
+use Rattle.daa_engine.specs.Filling.{CoveredBelow, AddsAircraft}
+
+-- ---- one candidate more
+
+pub mark_more : (scene : Situation) (place index mask : ℕ) (first old new : List ℕ) → AddsAircraft scene place index first old
+    → IsMaskOf (MeetsAt scene index place) (length scene.settings.levels) mask
+    → slice_index new index ≡ bit_or (slice_index old index) mask
+    → ((i : ℕ) → i ≢ index → slice_index new i ≡ slice_index old i)
+    → AddsAircraft scene place (index + 1) first new
+mark_more scene place index mask first old new h k marked others = record {
+  inside = λ i lt. inner i (below_or_at i index lt);
+  outside = λ i le. others i (omega arith) ∙ h.outside i (omega arith);
+}
+  where
+    below_or_at : (p n : ℕ) → p < n + 1 → (p < n) ⊎ (p ≡ n)
+    below_or_at p n lt = grind arith
+
+    inner : (i : ℕ) → (i < index) ⊎ (i ≡ index)
+        → (x : ℕ) × IsMaskOf (MeetsAt scene i place) (length scene.settings.levels) x × (slice_index new i ≡ bit_or (slice_index first i) x)
+    inner i (inl lt) = let old' = h.inside i lt in (old'.0, old'.1, others i (omega arith) ∙ old'.2)
+    inner i (inr e) =
+        subst (λ (j : ℕ). (x : ℕ) × IsMaskOf (MeetsAt scene j place) (length scene.settings.levels) x × (slice_index new j ≡ bit_or (slice_index first j) x)) (sym e)
+        (mask, k, marked ∙ ap (λ (x : ℕ). bit_or x mask) (h.outside index (omega arith)))
+
+pub mark_none : (scene : Situation) (place : ℕ) (first : List ℕ) → AddsAircraft scene place 0 first first
+mark_none scene place first = record { inside = λ i lt. absurd (omega arith); outside = λ i le. refl }
+
+-- an aircraft that no candidate meets adds no level
+pub mark_nothing : (scene : Situation) (place count : ℕ) (board : List ℕ) → ((index l : ℕ) → MeetsAt scene index place l → ⊥)
+    → AddsAircraft scene place count board board
+mark_nothing scene place count board never = record {
+  inside = λ i lt. (0, none i, sym (or_zero_r (slice_index board i)));
+  outside = λ i le. refl;
+}
+  where
+    no_level : (l : ℕ) → HasLevel 0 l → ⊥
+    no_level l h = let e = sym (bit_at-zero (l - 1)) ∙ h in omega (arith, e)
+
+    none : (i : ℕ) → IsMaskOf (MeetsAt scene i place) (length scene.settings.levels) 0
+    none i = record {
+      each = λ l low high. ((λ h. absurd (no_level l h)), λ m. absurd (never i l m));
+      none_above = λ l high h. no_level l h;
+    }
+
+-- ---- one aircraft more
+
+max_one : (a b c : ℕ) → c ≡ max a b → a < 2 → b < 2 → c ≡ 1 → (a ≡ 1) ⊎ (b ≡ 1)
+max_one zero b c e h k l = inr (omega arith)
+max_one (suc zero) b c e h k l = inl refl
+max_one (suc (suc a)) b c e h k l = absurd (omega arith)
+
+either : (a b l : ℕ) → HasLevel (bit_or a b) l → HasLevel a l ⊎ HasLevel b l
+either a b l h = max_one _ _ _ (bit_at_or a b (l - 1)) (bit_at-lt a (l - 1)) (bit_at-lt b (l - 1)) h
+
+max_left : (a b c : ℕ) → c ≡ max a b → b < 2 → a ≡ 1 → c ≡ 1
+max_left a b c e h k = omega arith
+
+left : (a b l : ℕ) → HasLevel a l → HasLevel (bit_or a b) l
+left a b l h = max_left _ _ _ (bit_at_or a b (l - 1)) (bit_at-lt b (l - 1)) h
+
+max_right : (a b c : ℕ) → c ≡ max a b → a < 2 → b ≡ 1 → c ≡ 1
+max_right a b c e h k = omega arith
+
+right : (a b l : ℕ) → HasLevel b l → HasLevel (bit_or a b) l
+right a b l h = max_right _ _ _ (bit_at_or a b (l - 1)) (bit_at-lt a (l - 1)) h
+
+along : (a b l : ℕ) → a ≡ b → HasLevel a l → HasLevel b l
+along a b l e h = subst (λ (x : ℕ). HasLevel x l) e h
+
+module _ (scene : Situation) (n : ℕ) (old new : List ℕ) (board : IsBoardOf (CoveredBelow scene n) scene.settings old)
+    (adds : AddsAircraft scene n (length (candidates_of scene.settings)) old new) where
+  covered : (index l : ℕ) → index < length (candidates_of scene.settings) → 1 ≤ l → l ≤ length scene.settings.levels → HasLevelOn new index l → CoveredBelow scene (n + 1) index l
+  covered index l in' low high h =
+      let a = adds.inside index in' in
+      go (either (slice_index old index) a.0 l (along _ _ l a.2 h))
+    where
+      go : HasLevelOn old index l ⊎ HasLevel (adds.inside index in').0 l → CoveredBelow scene (n + 1) index l
+      go (inl k) = let x = (board.each index l in' low high).0 k in (x.0, omega arith, x.2)
+      go (inr k) = (n, omega arith, ((adds.inside index in').1.each l low high).0 k)
+
+  marked : (index l : ℕ) → index < length (candidates_of scene.settings) → 1 ≤ l → l ≤ length scene.settings.levels → CoveredBelow scene (n + 1) index l → HasLevelOn new index l
+  marked index l in' low high (place, lt, meets) = go (below_or_at place n lt)
+    where
+      below_or_at : (p n : ℕ) → p < n + 1 → (p < n) ⊎ (p ≡ n)
+      below_or_at p n lt = grind arith
+
+      go : (place < n) ⊎ (place ≡ n) → HasLevelOn new index l
+      go (inl k) =
+          let a = adds.inside index in' in
+          along _ _ l (sym a.2) (left (slice_index old index) a.0 l ((board.each index l in' low high).1 (place, k, meets)))
+      go (inr e) =
+          let a = adds.inside index in' in
+          along _ _ l (sym a.2) (right (slice_index old index) a.0 l ((a.1.each l low high).1 (subst (λ (p : ℕ). MeetsAt scene index p l) e meets)))
+
+  pub aircraft_more : IsBoardOf (CoveredBelow scene (n + 1)) scene.settings new
+  aircraft_more = record {
+    each = λ index l in' low high. (covered index l in' low high, marked index l in' low high);
+    no_level_above = λ index l high h. above index l high h (cases_lt index (length (candidates_of scene.settings)));
+    no_candidate_past = λ index l past low h. board.no_candidate_past index l past low (along _ _ l (adds.outside index past) h);
+  }
+    where
+      above : (index l : ℕ) → length scene.settings.levels < l → HasLevelOn new index l → (index < length (candidates_of scene.settings)) ⊎ (length (candidates_of scene.settings) ≤ index) → ⊥
+      above index l high h (inl in') = let a = adds.inside index in' in go (either (slice_index old index) a.0 l (along _ _ l a.2 h))
+        where
+          go : HasLevelOn old index l ⊎ HasLevel (adds.inside index in').0 l → ⊥
+          go (inl k) = board.no_level_above index l high k
+          go (inr k) = (adds.inside index in').1.none_above l high k
+      above index l high h (inr past) = board.no_level_above index l high (along _ _ l (adds.outside index past) h)
+
+-- ---- from none to all
+
+le_by : (n i k : ℕ) → k ≡ n → n ≤ i → k ≤ i
+le_by n i k e h = omega arith
+
+zero_at : (n i : ℕ) → slice_index (replicate n 0) i ≡ 0
+zero_at n i = go (cases_lt i n)
+  where
+    go : (i < n) ⊎ (n ≤ i) → slice_index (replicate n 0) i ≡ 0
+    go (inl h) = get_or-replicate n i 0 0 h
+    go (inr h) = get_or_past (replicate n 0) i 0 (le_by n i (length (replicate n 0)) (length-replicate n 0) h)
+
+nothing_set : (n i l : ℕ) → HasLevelOn (replicate n 0) i l → ⊥
+nothing_set n i l h = let e = sym (ap (λ (x : ℕ). bit_at x (l - 1)) (zero_at n i) ∙ bit_at-zero (l - 1)) ∙ h in omega (arith, e)
+
+pub aircraft_none : (scene : Situation) (n : ℕ) → IsBoardOf (CoveredBelow scene 0) scene.settings (replicate n 0)
+aircraft_none scene n = record {
+  each = λ index l in' low high. ((λ h. absurd (nothing_set n index l h)), λ x. absurd (let lt = x.1 in omega arith));
+  no_level_above = λ index l high h. nothing_set n index l h;
+  no_candidate_past = λ index l past low h. nothing_set n index l h;
+}
+
+pub aircraft_all : (settings : Settings) (picture : Picture) (board : List ℕ) (n : ℕ) → length (aircraft_of picture) ≤ n
+    → IsBoardOf (CoveredBelow (scene_of settings picture) n) settings board → IsBoardOf (CoveredAt settings picture) settings board
+aircraft_all settings picture board n e h = record {
+  each = λ index l in' low high. (
+    (λ k. let x = (h.each index l in' low high).0 k in (x.0, x.2)),
+    λ x. (h.each index l in' low high).1 (x.0, (let w = slice_get_within (aircraft_of picture) x.0 x.1.aircraft x.1.there in omega arith), x.1),
+  );
+  no_level_above = h.no_level_above;
+  no_candidate_past = h.no_candidate_past;
+}

@@ -1,0 +1,5 @@
+pub mod FillingLemmas
+pub mod WarningLemmas
+pub mod LoopLemmas
+pub mod TextLemmas
+pub mod OnlyLemmas

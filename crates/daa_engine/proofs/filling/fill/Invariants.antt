@@ -1,0 +1,8 @@
+use Rattle.daa_bands.specs.Board.{IsBoardOf}
+use Rattle.daa_engine.specs.Covered.{scene_of}
+use Rattle.daa_engine.specs.Filling.{CoveredBelow}
+use Rattle.daa_engine.proofs.filling.fill.Given as goal
+
+-- the board has the levels at which some aircraft so far meets a candidate
+abbrev pub invariant-loop-place : goal.invariant-loop-place
+invariant-loop-place l = IsBoardOf (CoveredBelow (scene_of l.config l.picture) l.place) l.config l.board

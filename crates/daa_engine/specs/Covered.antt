@@ -1,0 +1,12 @@
+-- The levels at which a candidate is covered.
+use Rattle.std.specs.Prelude.{ℕ}
+use Rattle.daa_config.specs.Settings.{Settings}
+use Rattle.daa_state.specs.declared.word.Picture.{Picture}
+use Rattle.daa_scan.specs.Situation.{Situation, MeetsAt}
+
+abbrev pub scene_of : Settings → Picture → Situation
+scene_of settings picture = record { settings = settings; picture = picture }
+
+-- the candidate at an index of the whole list is covered at level l: it meets some aircraft of the picture at that level
+abbrev pub CoveredAt : Settings → Picture → (index l : ℕ) → Type 0
+CoveredAt settings picture index l = (place : ℕ) × MeetsAt (scene_of settings picture) index place l

@@ -1,0 +1,41 @@
+-- What is found of a moment before it is written.
+use Rattle.std.specs.Prelude.{◌≡◌, ◌<◌, ℕ, List, length, slice_index_or}
+use Rattle.daa_config.specs.Settings.{Settings}
+use Rattle.daa_config.specs.declared.kind.Kind.{Kind}
+use Rattle.daa_config.specs.declared.kind.Kind.TheVariants.{Track, Speed, Climb, Height}
+use Rattle.daa_state.specs.declared.word.Own.{Own}
+use Rattle.daa_state.specs.declared.word.Traffic.{Traffic}
+use Rattle.daa_legs.specs.Alerts.{IsNowLevel}
+use Rattle.daa_alert.specs.Alert.{IsAlertOf}
+use Rattle.daa_alert.specs.declared.warning.Alert.{Alert}
+use Rattle.daa_resolve.specs.Resolution.{IsResolution}
+use Rattle.daa_resolve.specs.declared.side.Side.TheVariants.{Lower, Upper}
+use Rattle.daa_engine.specs.declared.warnings.Warning.{Warning}
+use Rattle.daa_engine.specs.declared.advice.Sides.{Sides}
+use Rattle.daa_engine.specs.declared.advice.Advice.{Advice}
+
+-- the alert that a warning tells
+abbrev pub alert_of : Warning → Alert
+alert_of warning = record { level = warning.level; first = warning.first }
+
+-- it tells the level now and the alert of an aircraft
+pub record IsWarning (settings : Settings) (own : Own) (aircraft : Traffic) (warning : Warning) : Type 0 where
+  pub level_now : IsNowLevel settings own aircraft warning.level_now
+  pub alert : IsAlertOf settings own aircraft (alert_of warning)
+
+-- they are those of the first aircraft
+pub record AreWarnings (settings : Settings) (own : Own) (traffic : List Traffic) (count : ℕ) (warnings : List Warning) : Type 0 where
+  pub many : length warnings ≡ count
+  pub each : (i : ℕ) (t : Traffic) (w : Warning) → i < count → IsWarning settings own (slice_index_or traffic i t) (slice_index_or warnings i w)
+
+-- these are the answers on the sides of a kind
+pub record AreSides (Covered : ℕ → ℕ → Type 0) (settings : Settings) (own : Own) (kind : Kind) (sides : Sides) : Type 0 where
+  pub lower : IsResolution Covered settings own kind Lower sides.lower
+  pub upper : IsResolution Covered settings own kind Upper sides.upper
+
+-- these are the answers of all kinds
+pub record IsAdvice (Covered : ℕ → ℕ → Type 0) (settings : Settings) (own : Own) (advice : Advice) : Type 0 where
+  pub track : AreSides Covered settings own Track advice.track
+  pub speed : AreSides Covered settings own Speed advice.speed
+  pub climb : AreSides Covered settings own Climb advice.climb
+  pub height : AreSides Covered settings own Height advice.height

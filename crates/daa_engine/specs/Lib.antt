@@ -1,0 +1,7 @@
+pub mod Covered
+pub mod Machine
+pub mod MomentText
+pub mod Saying
+pub mod Filling
+pub mod Findings
+pub mod Written

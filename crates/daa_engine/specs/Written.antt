@@ -1,0 +1,46 @@
+-- The text of a moment as a function of what was found of it.
+use Rattle.std.specs.Prelude.{ℕ, List, ◌++◌}
+use Rattle.std.specs.List.{flat_map, zip}
+use Rattle.daa_config.specs.Settings.{Settings}
+use Rattle.daa_config.specs.declared.kind.Kind.{Kind}
+use Rattle.daa_config.specs.declared.kind.Kind.TheVariants.{Track, Speed, Climb, Height}
+use Rattle.daa_state.specs.Picture.{aircraft_of}
+use Rattle.daa_state.specs.declared.word.Picture.{Picture}
+use Rattle.daa_state.specs.declared.word.Traffic.{Traffic}
+use Rattle.daa_bands.specs.Walk.{bands_left}
+use Rattle.daa_report.specs.Lines.{Text, moment_line, now_line, alert_line, resolve_line, done_line}
+use Rattle.daa_engine.specs.MomentText.{of_each, line_of}
+use Rattle.daa_engine.specs.declared.warnings.Warning.{Warning}
+use Rattle.daa_engine.specs.declared.advice.Sides.{Sides}
+use Rattle.daa_engine.specs.declared.advice.Advice.{Advice}
+
+-- the two lines of an aircraft
+unfoldable pub warning_text : Traffic × Warning → Text
+warning_text pair = now_line pair.0.id pair.1.level_now ++ alert_line pair.0.id pair.1.level pair.1.first
+
+unfoldable pub warnings_text : List Traffic → List Warning → Text
+warnings_text traffic warnings = flat_map warning_text (zip traffic warnings)
+
+-- the lines of the bands that a board shows
+unfoldable pub bands_text : Settings → List ℕ → Kind → Text
+bands_text settings board kind = flat_map (line_of kind) (bands_left board settings kind 0)
+
+unfoldable pub bands_texts : Settings → List ℕ → Text
+bands_texts settings board = of_each (bands_text settings board)
+
+abbrev pub sides_of : Advice → Kind → Sides
+sides_of advice Track = advice.track
+sides_of advice Speed = advice.speed
+sides_of advice Climb = advice.climb
+sides_of advice Height = advice.height
+
+abbrev pub sides_text : Kind → Sides → Text
+sides_text kind sides = resolve_line kind sides.lower sides.upper
+
+unfoldable pub advice_text : Advice → Text
+advice_text advice = of_each (λ kind. sides_text kind (sides_of advice kind))
+
+unfoldable pub written : Settings → Picture → List ℕ → List Warning → Advice → Text
+written settings picture board warnings advice =
+    moment_line picture.time
+    ++ (warnings_text (aircraft_of picture) warnings ++ (bands_texts settings board ++ (advice_text advice ++ done_line picture.time)))

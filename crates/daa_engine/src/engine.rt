@@ -1,0 +1,113 @@
+//! The engine: a configuration, a number of workers, and the board of the latest moment.
+ghost use Rattle.std.specs.Prelude.{◌≡◌, IfOk, replicate};
+ghost use Rattle.daa_bands.specs.Board.{IsBoardOf, board_size};
+ghost use Rattle.daa_config.specs.Settings.{IsAccepted};
+ghost use Rattle.daa_state.specs.InRange.{IsPictureInRange};
+ghost use Rattle.daa_engine.specs.Covered.{CoveredAt};
+ghost use Rattle.daa_engine.specs.Machine.{IsCrew};
+ghost use Rattle.daa_engine.specs.Saying.{SaysMoment};
+
+use crate::advice::advise;
+use crate::filling::fill;
+use crate::say::say;
+use crate::warnings::find_warnings;
+use daa_bands::Board;
+use daa_config::Config;
+use daa_outside::{Gate, Sink};
+use daa_report::SinkFault;
+use daa_schedule::NoMemory;
+use daa_state::Picture;
+use std::alloc::Global;
+use std::marker::Model;
+use std::thread::Threads;
+
+/// A configuration, 1 to 16 workers, and the board of the latest moment.
+#[derive(Drop)]
+pub struct Engine {
+    config: Config,
+    workers: u32,
+    board: Board,
+}
+
+impl Model for Engine {
+    ghost use Rattle.daa_engine.specs.Machine.{Machine, IsMachine};
+
+    ghost Value = { Machine };
+
+    ghost view = { λ e. record { settings = e.config; workers = e.workers; board = e.board } };
+
+    ghost invariant = { λ e. IsMachine (record { settings = e.config; workers = e.workers; board = e.board }) };
+}
+
+impl Engine {
+    /// An engine of this configuration and so many workers, 1 to 16, before its first moment. `NoMemory` says that there
+    /// was no memory for it.
+    pub fn new(_alloc: Global, config: Config, workers: u32) -> Result<Engine, NoMemory>
+        requires { IsCrew workers }
+        ensures { IfOk result (λ engine. engine ≡ record { settings = config; workers = workers; board = replicate board_size 0 }) }
+    {
+        // tells that its numbers are in range
+        let _levels = config.levels();
+        Ok(Engine {
+            config,
+            workers,
+            board: Board::new(),
+        })
+    }
+
+    /// The configuration.
+    pub fn config(&self) -> &Config
+        ensures value { result.now ≡ self.now.settings }
+        ensures accepted { IsAccepted self.now.settings }
+        ensures crew { IsCrew self.now.workers }
+    {
+        &self.config
+    }
+
+    /// The board of the latest moment that was decided; no level is on it before the first.
+    pub fn board(&self) -> &Board
+        ensures { result.now ≡ self.now.board }
+    {
+        &self.board
+    }
+
+    /// Decides a moment: bit l - 1 at a candidate's index is then set exactly where some aircraft of the picture meets the
+    /// candidate within the lookahead of level l, and no other bit is. Aircraft that no candidate can reach are skipped.
+    /// Memory may be asked for; where there is none the board is the same.
+    pub fn decide<R: Threads + Sync, G: Gate>(
+        &mut self,
+        _rt: &R,
+        _alloc: Global,
+        picture: &Picture,
+        _gate: &G,
+    )
+        requires { IsPictureInRange picture.now }
+        ensures kept { self.new ≡ record self.old { board = self.new.board } }
+        ensures board { IsBoardOf (CoveredAt self.old.settings picture.now) self.old.settings self.new.board }
+    {
+        fill(&mut self.board, &self.config, picture);
+    }
+
+    /// Decides a moment and writes its lines to the sink: its first line, the lines of the aircraft, those of the bands of
+    /// each kind and of what is answered, and its last line. Everything is found before the first byte is written, and
+    /// nothing is held back when the call returns. `SinkFault` comes only where the sink failed; then a beginning of the
+    /// lines is written.
+    pub fn report<R: Threads + Sync, K: Sink, G: Gate>(
+        &mut self,
+        rt: &R,
+        alloc: Global,
+        picture: &Picture,
+        sink: &mut K,
+        gate: &G,
+    ) -> Result<(), SinkFault>
+        requires { IsPictureInRange picture.now }
+        ensures kept { self.new ≡ record self.old { board = self.new.board } }
+        ensures board { IsBoardOf (CoveredAt self.old.settings picture.now) self.old.settings self.new.board }
+        ensures says { SaysMoment self.old.settings picture.now (K.taken sink.old) (K.taken sink.new) (K.faults sink.old) (K.faults sink.new) result }
+    {
+        self.decide(rt, alloc, picture, gate);
+        let warnings = find_warnings(&self.config, picture);
+        let advice = advise(&self.board, &self.config, &picture.own);
+        say(sink, &self.config, picture, &self.board, &warnings, &advice)
+    }
+}

@@ -1,0 +1,39 @@
+//! Fills a board with what the candidates of a moment meet, aircraft by aircraft.
+ghost use Rattle.std.specs.Prelude.{◌<◌, ◌≡◌, length};
+ghost use Rattle.daa_bands.specs.Board.{IsBoardOf};
+ghost use Rattle.daa_config.specs.Candidates.{candidates_of};
+ghost use Rattle.daa_state.specs.InRange.{IsPictureInRange};
+ghost use Rattle.daa_state.specs.Picture.{aircraft_of};
+ghost use Rattle.daa_engine.specs.Covered.{CoveredAt, scene_of};
+ghost use Rattle.daa_engine.specs.Filling.{AddsAircraft};
+
+use daa_bands::Board;
+use daa_config::Config;
+use daa_scan::Scene;
+use daa_state::Picture;
+
+/// Marks the levels at which each candidate is covered, and no others.
+pub(crate) fn fill(board: &mut Board, config: &Config, picture: &Picture)
+    requires { IsPictureInRange picture.now }
+    ensures { IsBoardOf (CoveredAt config.now picture.now) config.now board.new }
+{
+    let scene = Scene::of(config, picture);
+    board.clear();
+    for place in 0..picture.traffic.len() as u32 {
+        mark_aircraft(board, &scene, config, place);
+    }
+}
+
+/// Marks the levels at which each candidate meets an aircraft: none where no candidate can reach it.
+fn mark_aircraft(board: &mut Board, scene: &Scene, config: &Config, place: u32)
+    requires config { scene.now.settings ≡ config.now }
+    requires place { place < length (aircraft_of scene.now.picture) }
+    ensures { AddsAircraft scene.now place (length (candidates_of scene.now.settings)) board.old board.new }
+{
+    if !scene.in_reach(place) {
+        return;
+    }
+    for index in 0..config.total() {
+        board.mark(index, scene.levels(index, place));
+    }
+}

@@ -1,0 +1,15 @@
+//! One moment: which candidates are covered, on a board, and the lines of its report. Every answer is found before the
+//! first byte is written, and what is written does not depend on how many workers there are.
+#![tactic(auto)]
+
+mod advice;
+mod engine;
+mod filling;
+mod laws;
+mod say;
+#[cfg(test)]
+mod tests;
+mod warnings;
+
+pub use engine::Engine;
+pub use laws::has_one_text;

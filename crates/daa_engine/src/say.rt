@@ -1,0 +1,199 @@
+//! Writes what was found of a moment.
+ghost use Rattle.std.specs.Prelude.{◌≡◌, length};
+ghost use Rattle.daa_state.specs.Picture.{aircraft_of};
+ghost use Rattle.daa_report.specs.Says.{Says};
+ghost use Rattle.daa_report.specs.PageSays.{PageSays};
+ghost use Rattle.daa_report.specs.Lines.{moment_line, now_line, alert_line, done_line};
+ghost use Rattle.daa_engine.specs.MomentText.{line_of};
+ghost use Rattle.daa_engine.specs.Written.{warning_text, warnings_text, bands_text, bands_texts, sides_text, advice_text, written};
+
+use crate::advice::{Advice, Sides};
+use crate::warnings::Warning;
+use daa_bands::{Band, Board, runs};
+use daa_config::{Config, Kind};
+use daa_outside::Sink;
+use daa_report::{Line, Page, SinkFault};
+use daa_state::{Picture, Traffic};
+
+/// Says the level of an aircraft now.
+fn say_now<K: Sink>(
+    page: &mut Page,
+    sink: &mut K,
+    aircraft: &Traffic,
+    warning: &Warning,
+) -> Result<(), SinkFault>
+    ensures { PageSays (K.taken sink.old) (K.taken sink.new) page.old page.new (K.faults sink.old) (K.faults sink.new) (now_line aircraft.now.id warning.now.level_now) result }
+{
+    page.say(sink, &Line::now(&aircraft.id, warning.level_now))
+}
+
+/// Says the alert of an aircraft.
+fn say_alert<K: Sink>(
+    page: &mut Page,
+    sink: &mut K,
+    aircraft: &Traffic,
+    warning: &Warning,
+) -> Result<(), SinkFault>
+    ensures { PageSays (K.taken sink.old) (K.taken sink.new) page.old page.new (K.faults sink.old) (K.faults sink.new) (alert_line aircraft.now.id warning.now.level warning.now.first) result }
+{
+    page.say(sink, &Line::alert(&aircraft.id, warning.level, warning.first))
+}
+
+/// Says the two lines of an aircraft.
+fn say_aircraft<K: Sink>(
+    page: &mut Page,
+    sink: &mut K,
+    aircraft: &Traffic,
+    warning: &Warning,
+) -> Result<(), SinkFault>
+    ensures { PageSays (K.taken sink.old) (K.taken sink.new) page.old page.new (K.faults sink.old) (K.faults sink.new) (warning_text (aircraft.now, warning.now)) result }
+{
+    say_now(page, sink, aircraft, warning)?;
+    say_alert(page, sink, aircraft, warning)
+}
+
+/// Says the lines of all aircraft.
+fn say_warnings<K: Sink>(
+    page: &mut Page,
+    sink: &mut K,
+    traffic: &[Traffic],
+    warnings: &[Warning],
+) -> Result<(), SinkFault>
+    requires { length warnings.now ≡ length traffic.now }
+    ensures { PageSays (K.taken sink.old) (K.taken sink.new) page.old page.new (K.faults sink.old) (K.faults sink.new) (warnings_text traffic.now warnings.now) result }
+{
+    for place in 0..traffic.len() {
+        say_aircraft(page, sink, &traffic[place], &warnings[place])?;
+    }
+    Ok(())
+}
+
+/// Says the line of a band.
+fn say_band<K: Sink>(
+    page: &mut Page,
+    sink: &mut K,
+    kind: Kind,
+    band: &Band,
+) -> Result<(), SinkFault>
+    ensures { PageSays (K.taken sink.old) (K.taken sink.new) page.old page.new (K.faults sink.old) (K.faults sink.new) (line_of kind band.now) result }
+{
+    page.say(sink, &Line::band(kind, band.from, band.upto, band.level))
+}
+
+/// Says the lines of a kind's bands.
+fn say_bands<K: Sink>(
+    page: &mut Page,
+    sink: &mut K,
+    board: &Board,
+    config: &Config,
+    kind: Kind,
+) -> Result<(), SinkFault>
+    ensures { PageSays (K.taken sink.old) (K.taken sink.new) page.old page.new (K.faults sink.old) (K.faults sink.new) (bands_text config.now board.now kind) result }
+{
+    for band in runs(board, config, kind) {
+        say_band(page, sink, kind, &band)?;
+    }
+    Ok(())
+}
+
+/// Says the lines of all bands.
+fn say_all_bands<K: Sink>(
+    page: &mut Page,
+    sink: &mut K,
+    board: &Board,
+    config: &Config,
+) -> Result<(), SinkFault>
+    ensures { PageSays (K.taken sink.old) (K.taken sink.new) page.old page.new (K.faults sink.old) (K.faults sink.new) (bands_texts config.now board.now) result }
+{
+    say_bands(page, sink, board, config, Kind::Track)?;
+    say_bands(page, sink, board, config, Kind::Speed)?;
+    say_bands(page, sink, board, config, Kind::Climb)?;
+    say_bands(page, sink, board, config, Kind::Height)
+}
+
+/// Says the line of what is answered on the sides of a kind.
+fn say_sides<K: Sink>(
+    page: &mut Page,
+    sink: &mut K,
+    kind: Kind,
+    sides: &Sides,
+) -> Result<(), SinkFault>
+    ensures { PageSays (K.taken sink.old) (K.taken sink.new) page.old page.new (K.faults sink.old) (K.faults sink.new) (sides_text kind sides.now) result }
+{
+    page.say(sink, &Line::resolve(kind, sides.lower, sides.upper))
+}
+
+/// Says the lines of what is answered on all sides.
+fn say_advice<K: Sink>(page: &mut Page, sink: &mut K, advice: &Advice) -> Result<(), SinkFault>
+    ensures { PageSays (K.taken sink.old) (K.taken sink.new) page.old page.new (K.faults sink.old) (K.faults sink.new) (advice_text advice.now) result }
+{
+    say_sides(page, sink, Kind::Track, &advice.track)?;
+    say_sides(page, sink, Kind::Speed, &advice.speed)?;
+    say_sides(page, sink, Kind::Climb, &advice.climb)?;
+    say_sides(page, sink, Kind::Height, &advice.height)
+}
+
+/// Says the line that begins a moment.
+fn say_head<K: Sink>(page: &mut Page, sink: &mut K, picture: &Picture) -> Result<(), SinkFault>
+    ensures { PageSays (K.taken sink.old) (K.taken sink.new) page.old page.new (K.faults sink.old) (K.faults sink.new) (moment_line picture.now.time) result }
+{
+    page.say(sink, &Line::moment(picture.time))
+}
+
+/// Says the line that ends a moment.
+fn say_foot<K: Sink>(page: &mut Page, sink: &mut K, picture: &Picture) -> Result<(), SinkFault>
+    ensures { PageSays (K.taken sink.old) (K.taken sink.new) page.old page.new (K.faults sink.old) (K.faults sink.new) (done_line picture.now.time) result }
+{
+    page.say(sink, &Line::done(picture.time))
+}
+
+/// Says the lines of a picture's aircraft.
+fn say_traffic<K: Sink>(
+    page: &mut Page,
+    sink: &mut K,
+    picture: &Picture,
+    warnings: &[Warning],
+) -> Result<(), SinkFault>
+    requires { length warnings.now ≡ length (aircraft_of picture.now) }
+    ensures { PageSays (K.taken sink.old) (K.taken sink.new) page.old page.new (K.faults sink.old) (K.faults sink.new) (warnings_text (aircraft_of picture.now) warnings.now) result }
+{
+    say_warnings(page, sink, picture.traffic.as_slice(), warnings)
+}
+
+/// Says the lines of a moment; those of the aircraft are written before the others are said.
+fn say_parts<K: Sink>(
+    page: &mut Page,
+    sink: &mut K,
+    config: &Config,
+    picture: &Picture,
+    board: &Board,
+    warnings: &[Warning],
+    advice: &Advice,
+) -> Result<(), SinkFault>
+    requires { length warnings.now ≡ length (aircraft_of picture.now) }
+    ensures { PageSays (K.taken sink.old) (K.taken sink.new) page.old page.new (K.faults sink.old) (K.faults sink.new) (written config.now picture.now board.now warnings.now advice.now) result }
+{
+    say_head(page, sink, picture)?;
+    say_traffic(page, sink, picture, warnings)?;
+    page.flush(sink)?;
+    say_all_bands(page, sink, board, config)?;
+    say_advice(page, sink, advice)?;
+    say_foot(page, sink, picture)
+}
+
+/// Writes the lines of a moment. Nothing is held back when it returns.
+pub(crate) fn say<K: Sink>(
+    sink: &mut K,
+    config: &Config,
+    picture: &Picture,
+    board: &Board,
+    warnings: &[Warning],
+    advice: &Advice,
+) -> Result<(), SinkFault>
+    requires { length warnings.now ≡ length (aircraft_of picture.now) }
+    ensures { Says (K.taken sink.old) (K.taken sink.new) (K.faults sink.old) (K.faults sink.new) (written config.now picture.now board.now warnings.now advice.now) result }
+{
+    let mut page = Page::new();
+    say_parts(&mut page, sink, config, picture, board, warnings, advice)?;
+    page.flush(sink)
+}

@@ -1,0 +1,44 @@
+//! What a kind and its two sides are called.
+ghost use Rattle.std.specs.Prelude.{◌≡◌, ◌≤◌, length};
+ghost use Rattle.daa_report.specs.Lines as lines;
+
+use daa_config::Kind;
+
+/// The word of a kind.
+pub(crate) fn word(kind: Kind) -> &'static str
+    ensures value { result.now ≡ lines.kind_word kind }
+    ensures short { length result.now ≤ 5 }
+{
+    match kind {
+        Kind::Track => "track",
+        Kind::Speed => "gs",
+        Kind::Climb => "vs",
+        Kind::Height => "alt",
+    }
+}
+
+/// The word of a kind's lower side.
+pub(crate) fn lower_word(kind: Kind) -> &'static str
+    ensures value { result.now ≡ lines.lower_word kind }
+    ensures short { length result.now ≤ 5 }
+{
+    match kind {
+        Kind::Track => "left",
+        Kind::Speed => "down",
+        Kind::Climb => "down",
+        Kind::Height => "down",
+    }
+}
+
+/// The word of a kind's upper side.
+pub(crate) fn upper_word(kind: Kind) -> &'static str
+    ensures value { result.now ≡ lines.upper_word kind }
+    ensures short { length result.now ≤ 5 }
+{
+    match kind {
+        Kind::Track => "right",
+        Kind::Speed => "up",
+        Kind::Climb => "up",
+        Kind::Height => "up",
+    }
+}

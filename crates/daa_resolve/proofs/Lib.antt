@@ -1,0 +1,4 @@
+pub mod BestLemmas
+pub mod OnlyLemmas
+pub mod OpenOnSideLemmas
+pub mod SomeLemmas

@@ -1,0 +1,151 @@
+-- Each side has an answer, wherever it can be told what is covered.
+use Rattle.std.proofs.Common.{◌≡◌, ◌<◌, ◌≤◌, ◌+◌, ◌-◌, ◌⊎◌, ℕ, zero, suc, ℤ, pos, ◌≤ℤ◌, ◌+ℤ◌, Bool, true, false, List, Option, Some, None, length, slice_get, refl, sym, subst, arith, inl, inr}
+use Rattle.std.specs.Prelude.{◌<ℤ◌, ◌*ℤ◌, int_lt, slice_index}
+use Rattle.std.specs.Int.{bit_at}
+use Rattle.std.proofs.lemmas.Int.{ints}
+use Rattle.daa_config.specs.Candidates.{values_of, grid_of, start_of}
+use Rattle.daa_config.specs.Settings.{Settings, IsAccepted}
+use Rattle.daa_config.specs.declared.candidate.Resolution.{Resolution}
+use Rattle.daa_config.specs.declared.candidate.Resolution.TheVariants.{Keep, To, Nothing}
+use Rattle.daa_config.specs.declared.kind.Kind.{Kind}
+use Rattle.daa_config.specs.declared.kind.Kind.TheVariants.{Track, Speed, Climb, Height}
+use Rattle.daa_config.proofs.GridLemmas.{get-values}
+use Rattle.daa_state.specs.declared.word.Own.{Own}
+use Rattle.daa_bands.specs.Board.{HasLevelOn}
+use Rattle.daa_resolve.specs.Best.{IsBest}
+use Rattle.daa_resolve.specs.Open.{IsOpen}
+use Rattle.daa_resolve.specs.Resolution.{IsOpenOnSide, IsResolution, HasOneResolution, distance_to}
+use Rattle.daa_resolve.specs.Side.{present_of, distance_of, IsTurn, IsBeyond, IsOnSide}
+use Rattle.daa_resolve.specs.declared.side.Side.{Side}
+use Rattle.daa_resolve.specs.declared.side.Side.TheVariants.{Lower, Upper}
+use Rattle.daa_resolve.proofs.BestLemmas.{skip, first, keep, change, nothing, going}
+use Rattle.daa_resolve.proofs.OnlyLemmas.{one_answer}
+
+-- a fact, or that it does not hold
+abbrev pub IsTold : Type 0 → Type 0
+IsTold A = A ⊎ (A → ⊥)
+
+both_told : (A B : Type 0) → IsTold A → IsTold B → IsTold (A × B)
+both_told A B (inl a) (inl b) = inl (a, b)
+both_told A B (inl a) (inr n) = inr (λ p. n p.1)
+both_told A B (inr n) b = inr (λ p. n p.0)
+
+-- one of two numbers is not greater
+order_of : (x y : ℤ) → (x ≤ℤ y) ⊎ (y <ℤ x)
+order_of x y = go (int_lt y x) refl
+  where
+    go : (t : Bool) → int_lt y x ≡ t → (x ≤ℤ y) ⊎ (y <ℤ x)
+    go true e = inr (grind (arith, ints))
+    go false e = inl (grind (arith, ints))
+
+at_most_told : (x y : ℤ) → IsTold (x ≤ℤ y)
+at_most_told x y = go (order_of x y)
+  where
+    go : (x ≤ℤ y) ⊎ (y <ℤ x) → IsTold (x ≤ℤ y)
+    go (inl h) = inl h
+    go (inr h) = inr (λ k. omega (arith, ints))
+
+below_told : (x y : ℤ) → IsTold (x <ℤ y)
+below_told x y = go (order_of y x)
+  where
+    go : (y ≤ℤ x) ⊎ (x <ℤ y) → IsTold (x <ℤ y)
+    go (inl h) = inr (λ k. omega (arith, ints))
+    go (inr h) = inl h
+
+one_told : (n : ℕ) → IsTold (n ≡ 1)
+one_told zero = inr (λ e. omega arith)
+one_told (suc zero) = inl refl
+one_told (suc (suc n)) = inr (λ e. omega arith)
+
+-- ---- sides
+
+turn_told : (side : Side) (angle : ℤ) → IsTold (IsTurn side angle)
+turn_told Upper angle = both_told (pos 1 ≤ℤ angle) (angle ≤ℤ pos 180) (at_most_told (pos 1) angle) (at_most_told angle (pos 180))
+turn_told Lower angle = both_told (pos 0 ≤ℤ angle) (angle ≤ℤ pos 179) (at_most_told (pos 0) angle) (at_most_told angle (pos 179))
+
+beyond_told : (side : Side) (now value : ℤ) → IsTold (IsBeyond side now value)
+beyond_told Upper now value = below_told now value
+beyond_told Lower now value = at_most_told value now
+
+side_told : (kind : Kind) (side : Side) (now value : ℤ) → IsTold (IsOnSide kind side now value)
+side_told Track side now value = turn_told side (distance_of Track side now value)
+side_told Speed side now value = beyond_told side now value
+side_told Climb side now value = beyond_told side now value
+side_told Height side now value = beyond_told side now value
+
+-- ---- open candidates
+
+below_or_at : (p n : ℕ) → p < suc n → (p < n) ⊎ (p ≡ n)
+below_or_at p n h = grind arith
+
+module _ (Covered : ℕ → ℕ → Type 0) (told : (index l : ℕ) → IsTold (Covered index l)) (s : Settings) where
+  -- covered at a corrective level below n
+  abbrev CoveredBelow : ℕ → ℕ → Type 0
+  CoveredBelow index n = (l : ℕ) × (s.numbers.resolve ≤ℤ pos l) × (l < n) × Covered index l
+
+  covered_below : (index n : ℕ) → IsTold (CoveredBelow index n)
+  covered_below index zero = inr (λ (l, a, b, c). absurd (omega arith))
+  covered_below index (suc n) = go (covered_below index n) (at_most_told s.numbers.resolve (pos n)) (told index n)
+    where
+      none : (CoveredBelow index n → ⊥) → ((s.numbers.resolve ≤ℤ pos n) × Covered index n → ⊥) → (l : ℕ) → s.numbers.resolve ≤ℤ pos l → (l < n) ⊎ (l ≡ n) → Covered index l → ⊥
+      none before here l a (inl b) c = before (l, a, b, c)
+      none before here l a (inr e) c = here (subst (λ (k : ℕ). (s.numbers.resolve ≤ℤ pos k) × Covered index k) e (a, c))
+      go : IsTold (CoveredBelow index n) → IsTold (s.numbers.resolve ≤ℤ pos n) → IsTold (Covered index n) → IsTold (CoveredBelow index (suc n))
+      go (inl (l, a, b, c)) x y = inl (l, a, omega arith, c)
+      go (inr before) (inl a) (inl c) = inl (n, a, omega arith, c)
+      go (inr before) (inl a) (inr y) = inr (λ (l, r, b, c). none before (λ h. y h.1) l r (below_or_at l n b) c)
+      go (inr before) (inr x) y = inr (λ (l, r, b, c). none before (λ h. x h.0) l r (below_or_at l n b) c)
+
+  open_told : (index : ℕ) → IsTold (IsOpen Covered s index)
+  open_told index = go (covered_below index (length s.levels + 1))
+    where
+      go : IsTold (CoveredBelow index (length s.levels + 1)) → IsTold (IsOpen Covered s index)
+      go (inl (l, a, b, c)) = inr (λ o. o l a (omega arith) c)
+      go (inr none) = inl (λ l a b c. none (l, a, omega arith, c))
+
+  module _ (own : Own) (kind : Kind) (side : Side) where
+    open_on_side_told : (p : ℕ) (v : ℤ) → slice_get (values_of kind s) p ≡ Some v → IsTold (IsOpenOnSide Covered s own kind side p v)
+    open_on_side_told p v e = go (side_told kind side (present_of kind own) v) (open_told (start_of kind s + p))
+      where
+        go : IsTold (IsOnSide kind side (present_of kind own) v) → IsTold (IsOpen Covered s (start_of kind s + p)) → IsTold (IsOpenOnSide Covered s own kind side p v)
+        go (inl a) (inl b) = inl (record { value_is = e; on_side = a; is_open = b })
+        go (inl a) (inr n) = inr (λ c. n c.is_open)
+        go (inr n) b = inr (λ c. n c.on_side)
+
+    -- the nearest of the places below n and of n
+    abbrev Best : ℕ → Type 0
+    Best n = (best : Option ℕ) × IsBest Covered s own kind side n best
+
+    one_more : (n : ℕ) (v : ℤ) → slice_get (values_of kind s) n ≡ Some v → Best n → IsTold (IsOpenOnSide Covered s own kind side n v) → Best (n + 1)
+    one_more n v e (best, h) (inr none) =
+        (best, skip Covered s own kind side n best h (λ w c.
+        let f : w ≡ v = (let x = c.value_is in cc) in none (subst (λ (z : ℤ). IsOpenOnSide Covered s own kind side n z) f c)))
+    one_more n v e (None, h) (inl c) = (Some n, first Covered s own kind side n v h c)
+    one_more n v e (Some other, h) (inl c) = go (order_of (distance_to Covered s own kind side h.0) (distance_to Covered s own kind side v))
+      where
+        go : (distance_to Covered s own kind side h.0 ≤ℤ distance_to Covered s own kind side v) ⊎ (distance_to Covered s own kind side v <ℤ distance_to Covered s own kind side h.0) → Best (n + 1)
+        go (inl k) = (Some other, keep Covered s own kind side n other v h c k)
+        go (inr k) = (Some n, change Covered s own kind side n other v h c (omega (arith, ints)))
+
+    best_of : (n : ℕ) → n ≤ length (values_of kind s) → Best n
+    best_of zero h = (None, λ p v k c. absurd (omega arith))
+    best_of (suc n) h =
+        let e = get-values kind s n (omega arith) in
+        let same : n + 1 ≡ suc n = omega arith in
+        subst Best same (one_more n _ e (best_of n (omega arith)) (open_on_side_told n _ e))
+
+    some_answer : (answer : Resolution) × IsResolution Covered s own kind side answer
+    some_answer = go (open_told 0) (best_of (length (values_of kind s)) (omega arith))
+      where
+        go : IsTold (IsOpen Covered s 0) → Best (length (values_of kind s)) → (answer : Resolution) × IsResolution Covered s own kind side answer
+        go (inl o) best = (Keep, o)
+        go (inr closed) (None, h) = (Nothing, nothing Covered s own kind side closed h)
+        go (inr closed) (Some place, h) = (To h.0, going Covered s own kind side closed place h.0 h h.2.value_is)
+
+    pub one_resolution : IsAccepted s → HasOneResolution Covered s own kind side
+    one_resolution ok =
+        let a = some_answer in
+        record { answer = a.0; is = a.1; only = λ other h. one_answer Covered s own ok kind side other a.0 h a.1 }
+
+pub has_one : (board : List ℕ) (s : Settings) (own : Own) (kind : Kind) (side : Side) → IsAccepted s → HasOneResolution (HasLevelOn board) s own kind side
+has_one board s own kind side ok = one_resolution (HasLevelOn board) (λ index l. one_told (bit_at (slice_index board index) (l - 1))) s own kind side ok

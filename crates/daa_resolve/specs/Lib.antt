@@ -1,0 +1,4 @@
+pub mod Side
+pub mod Open
+pub mod Resolution
+pub mod Best

@@ -1,0 +1,40 @@
+-- The nearest open candidate on a side.
+use Rattle.std.specs.Prelude.{◌≡◌, ◌+◌, ℕ, ℤ, ◌≤ℤ◌, Some, slice_get}
+use Rattle.daa_config.specs.Candidates.{values_of, start_of}
+use Rattle.daa_config.specs.Settings.{Settings}
+use Rattle.daa_config.specs.declared.candidate.Resolution.{Resolution}
+use Rattle.daa_config.specs.declared.candidate.Resolution.TheVariants.{Keep, To, Nothing}
+use Rattle.daa_config.specs.declared.kind.Kind.{Kind}
+use Rattle.daa_state.specs.declared.word.Own.{Own}
+use Rattle.daa_resolve.specs.Open.{IsOpen}
+use Rattle.daa_resolve.specs.Side.{present_of, distance_of, IsOnSide}
+use Rattle.daa_resolve.specs.declared.side.Side.{Side}
+
+module _ (Covered : ℕ → ℕ → Type 0) (s : Settings) (own : Own) (kind : Kind) (side : Side) where
+  -- the value at a place of the kind's list is on the side of the present one, and its candidate is open
+  pub record IsOpenOnSide (place : ℕ) (value : ℤ) : Type 0 where
+    pub value_is : slice_get (values_of kind s) place ≡ Some value
+    pub on_side : IsOnSide kind side (present_of kind own) value
+    pub is_open : IsOpen Covered s (start_of kind s + place)
+
+  -- how far a value is from the present one on the side
+  abbrev pub distance_to : ℤ → ℤ
+  distance_to value = distance_of kind side (present_of kind own) value
+
+  -- the value is open on the side, and none that is so is nearer
+  abbrev pub IsNearest : ℤ → Type 0
+  IsNearest value =
+      (place : ℕ) × IsOpenOnSide place value
+      × ((p : ℕ) (v : ℤ) → IsOpenOnSide p v → distance_to value ≤ℤ distance_to v)
+
+  -- keep where Hold, the candidate at index 0, is open; else the nearest value, or nothing where there is none
+  abbrev pub IsResolution : Resolution → Type 0
+  IsResolution Keep = IsOpen Covered s 0
+  IsResolution (To value) = (IsOpen Covered s 0 → ⊥) × IsNearest value
+  IsResolution Nothing = (IsOpen Covered s 0 → ⊥) × ((p : ℕ) (v : ℤ) → IsOpenOnSide p v → ⊥)
+
+  -- one answer is that of the side, and no other
+  pub record HasOneResolution : Type 0 where
+    pub answer : Resolution
+    pub is : IsResolution answer
+    pub only : (other : Resolution) → IsResolution other → other ≡ answer

@@ -1,0 +1,48 @@
+-- The two sides of a present value, and how far a value is on a side.
+use Rattle.std.specs.Prelude.{ℕ, ℤ, pos, ◌-ℤ◌, ◌≤ℤ◌, ◌<ℤ◌}
+use Rattle.std.specs.Int.{int_rem_euclid}
+use Rattle.daa_config.specs.declared.kind.Kind.{Kind}
+use Rattle.daa_config.specs.declared.kind.Kind.TheVariants.{Track, Speed, Climb, Height}
+use Rattle.daa_state.specs.declared.word.Own.{Own}
+use Rattle.daa_resolve.specs.declared.side.Side.{Side}
+use Rattle.daa_resolve.specs.declared.side.Side.TheVariants.{Lower, Upper}
+
+-- degrees of a full turn
+abbrev pub full_turn : ℕ
+full_turn = 360
+
+-- the ownship's present value of what a kind changes: its track, ground speed, vertical speed or altitude
+abbrev pub present_of : Kind → Own → ℤ
+present_of Track own = own.trk
+present_of Speed own = own.gs
+present_of Climb own = own.vs
+present_of Height own = own.alt
+
+-- by how much a value is greater than the present one, or for Lower, less
+abbrev pub way_of : Side → ℤ → ℤ → ℤ
+way_of Upper now value = value -ℤ now
+way_of Lower now value = now -ℤ value
+
+-- how far a value is on a side; on track it is the angle of turning right, or for Lower, left, from 0 to 359 degrees
+abbrev pub distance_of : Kind → Side → ℤ → ℤ → ℤ
+distance_of Track side now value = int_rem_euclid (way_of side now value) (pos full_turn)
+distance_of Speed side now value = way_of side now value
+distance_of Climb side now value = way_of side now value
+distance_of Height side now value = way_of side now value
+
+-- on track, right turns by 1 to 180 degrees and left by 0 to 179
+abbrev pub IsTurn : Side → ℤ → Type 0
+IsTurn Upper angle = (pos 1 ≤ℤ angle) × (angle ≤ℤ pos 180)
+IsTurn Lower angle = (pos 0 ≤ℤ angle) × (angle ≤ℤ pos 179)
+
+-- on the other kinds, up has the values greater than the present one, and down the others
+abbrev pub IsBeyond : Side → ℤ → ℤ → Type 0
+IsBeyond Upper now value = now <ℤ value
+IsBeyond Lower now value = value ≤ℤ now
+
+-- a value is on a side of the present one
+abbrev pub IsOnSide : Kind → Side → ℤ → ℤ → Type 0
+IsOnSide Track side now value = IsTurn side (distance_of Track side now value)
+IsOnSide Speed side now value = IsBeyond side now value
+IsOnSide Climb side now value = IsBeyond side now value
+IsOnSide Height side now value = IsBeyond side now value

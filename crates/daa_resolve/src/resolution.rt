@@ -1,0 +1,97 @@
+//! The nearest open candidate on a side.
+ghost use Rattle.std.specs.Prelude.{◌≡◌, ◌<◌, ◌+◌, ◌↔◌, ℤ, Some, IsTrue, length, slice_get};
+ghost use Rattle.daa_config.specs.Candidates.{values_of};
+ghost use Rattle.daa_bands.specs.Board.{HasLevelOn};
+ghost use Rattle.daa_resolve.specs.Side.{present_of, distance_of};
+ghost use Rattle.daa_resolve.specs.Resolution.{IsResolution, IsOpenOnSide};
+ghost use Rattle.daa_resolve.specs.Best.{IsBest};
+
+use crate::open::is_open;
+use crate::side::{Side, distance, is_on_side, present};
+use daa_bands::Board;
+use daa_config::{Config, Kind, Resolution};
+use daa_state::Own;
+
+/// What is answered on a side of a kind: `Keep` where the present flight is open, else the value of the nearest open
+/// candidate on that side, or `Nothing` where there is none. On track, right has the candidates that are 1 to 180 degrees
+/// to the right and left those 0 to 179 degrees to the left; on the other kinds up has the values greater than the present
+/// one and down the others, so that a candidate of the present value itself is an answer of left or down. Source: the
+/// DAIDALUS reference manual, on resolutions relative to a corrective level.
+pub fn nearest(board: &Board, config: &Config, own: &Own, kind: Kind, side: Side) -> Resolution
+    ensures { IsResolution (HasLevelOn board.now) config.now own.now kind side result }
+{
+    if is_open(board, config, 0) {
+        return Resolution::Keep;
+    }
+    match best(board, config, own, kind, side) {
+        Some(place) => Resolution::To(config.value(kind, place)),
+        None => Resolution::Nothing,
+    }
+}
+
+/// The place of the nearest of all.
+fn best(board: &Board, config: &Config, own: &Own, kind: Kind, side: Side) -> Option<u32>
+    ensures { IsBest (HasLevelOn board.now) config.now own.now kind side (length (values_of kind config.now)) result }
+{
+    let mut best = None;
+    for place in 0..config.count(kind) {
+        best = better(board, config, own, kind, side, best, place);
+    }
+    best
+}
+
+/// The nearer of the nearest so far and the next place, where that is open and on the side.
+fn better(
+    board: &Board,
+    config: &Config,
+    own: &Own,
+    kind: Kind,
+    side: Side,
+    best: Option<u32>,
+    place: u32,
+) -> Option<u32>
+    requires place { place < length (values_of kind config.now) }
+    requires best { IsBest (HasLevelOn board.now) config.now own.now kind side place best }
+    ensures { IsBest (HasLevelOn board.now) config.now own.now kind side (place + 1) result }
+{
+    if !is_open_on_side(board, config, own, kind, side, place) {
+        return best;
+    }
+    match best {
+        None => Some(place),
+        Some(other) => {
+            if distance_at(config, own, kind, side, other)
+                <= distance_at(config, own, kind, side, place)
+            {
+                return Some(other);
+            }
+            Some(place)
+        }
+    }
+}
+
+/// Whether the value at a place is on the side and its candidate open.
+fn is_open_on_side(
+    board: &Board,
+    config: &Config,
+    own: &Own,
+    kind: Kind,
+    side: Side,
+    place: u32,
+) -> bool
+    requires { place < length (values_of kind config.now) }
+    ensures { IsTrue result ↔ ((value : ℤ) × IsOpenOnSide (HasLevelOn board.now) config.now own.now kind side place value) }
+{
+    let value = config.value(kind, place);
+    let index = config.start(kind) + place;
+    is_on_side(kind, side, &present(own, kind), &value) && is_open(board, config, index)
+}
+
+/// How far the value at a place is on a side.
+fn distance_at(config: &Config, own: &Own, kind: Kind, side: Side, place: u32) -> i64
+    requires { place < length (values_of kind config.now) }
+    ensures { (value : ℤ) → slice_get (values_of kind config.now) place ≡ Some value
+        → result ≡ distance_of kind side (present_of kind own.now) value }
+{
+    distance(kind, side, &present(own, kind), &config.value(kind, place))
+}

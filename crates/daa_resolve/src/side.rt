@@ -1,0 +1,91 @@
+//! The two sides of a present value, and how far a value is on a side.
+ghost use Rattle.std.specs.Prelude.{◌≡◌, ◌↔◌, IsTrue, pos};
+ghost use Rattle.std.specs.Int.{int_rem_euclid};
+ghost use Rattle.daa_resolve.specs.Side.{full_turn, present_of, way_of, distance_of, IsTurn, IsBeyond, IsOnSide};
+
+use daa_config::Kind;
+use daa_state::Own;
+
+/// Degrees of a full turn.
+const FULL_TURN: i64 = 360;
+
+/// Lower is left on track and down on the other kinds, Upper is right and up.
+#[derive(Clone, Copy, Debug, PartialEq, Eq)]
+pub enum Side {
+    Lower,
+    Upper,
+}
+
+/// What the ownship has now of what a kind changes.
+pub fn present(own: &Own, kind: Kind) -> i32
+    ensures { result ≡ present_of kind own.now }
+{
+    match kind {
+        Kind::Track => own.trk,
+        Kind::Speed => own.gs,
+        Kind::Climb => own.vs,
+        Kind::Height => own.alt,
+    }
+}
+
+/// By how much a value is on from the present one, going up or down.
+fn way(side: Side, now: &i32, value: &i32) -> i64
+    ensures { result ≡ way_of side now.now value.now }
+{
+    match side {
+        Side::Upper => *value as i64 - *now as i64,
+        Side::Lower => *now as i64 - *value as i64,
+    }
+}
+
+/// The angle from 0 to 359 degrees that is turned to go some degrees round.
+fn angle(degrees: &i64) -> i64
+    ensures { result ≡ int_rem_euclid degrees.now (pos full_turn) }
+{
+    (*degrees).rem_euclid(FULL_TURN)
+}
+
+/// How far a value is from the present one on a side.
+pub fn distance(kind: Kind, side: Side, now: &i32, value: &i32) -> i64
+    ensures { result ≡ distance_of kind side now.now value.now }
+{
+    let way = way(side, now, value);
+    match kind {
+        Kind::Track => angle(&way),
+        Kind::Speed => way,
+        Kind::Climb => way,
+        Kind::Height => way,
+    }
+}
+
+/// Whether an angle of turning to a side is one of that side's.
+fn is_turn(side: Side, angle: &i64) -> bool
+    ensures { IsTrue result ↔ IsTurn side angle.now }
+{
+    match side {
+        Side::Upper => *angle >= 1 && *angle <= 180,
+        Side::Lower => *angle >= 0 && *angle <= 179,
+    }
+}
+
+/// Whether a value lies above or below the present one.
+fn is_beyond(side: Side, now: &i32, value: &i32) -> bool
+    ensures { IsTrue result ↔ IsBeyond side now.now value.now }
+{
+    match side {
+        Side::Upper => *value > *now,
+        Side::Lower => *value <= *now,
+    }
+}
+
+/// Whether a value is on a side of the present one.
+pub fn is_on_side(kind: Kind, side: Side, now: &i32, value: &i32) -> bool
+    ensures { IsTrue result ↔ IsOnSide kind side now.now value.now }
+{
+    match kind {
+        Kind::Track => is_turn(side, &distance(kind, side, now, value)),
+        Kind::Speed => is_beyond(side, now, value),
+        Kind::Climb => is_beyond(side, now, value),
+        Kind::Height => is_beyond(side, now, value),
+    }
+}

@@ -1,0 +1,47 @@
+use Rattle.std.proofs.Common.{◌≡◌, ◌↔◌, ◌<◌, ◌≤◌, ℕ, ◌+◌, ◌-◌, Bool, ℤ, rules, FitsSigned, w64, to_z-of_z, refl, sym, subst, ⊎_elim, arith}
+use Rattle.std.specs.Prelude.{IsTrue}
+use Rattle.std.proofs.lemmas.Bool.{cases_lt}
+use Rattle.std.proofs.lemmas.Option.{slice_get_within}
+use Rattle.daa_config.specs.declared.level.Level.{Level}
+use Rattle.daa_config.specs.Settings.{Settings, IsLevelAt}
+use Rattle.daa_fixed.specs.declared.Solid.{Solid}
+use Rattle.daa_legs.proofs.AtLevel.{one_level}
+use Rattle.daa_scan.specs.Reach.{place_now, horizontal_speed, vertical_speed, CanEnter}
+use Rattle.daa_scan.proofs.reach.is_in_reach.Goals as goal
+use Rattle.daa_scan.proofs.reach.is_in_reach.Goals.{After-can_enter}
+
+-- at one more level
+more : (settings : Settings) (l : ℕ) (here : Level) (P : Level → Type 0) → IsLevelAt settings (l + 1) here → ((j : ℕ) (level : Level) → j ≤ l → IsLevelAt settings j level → ¬ P level) → ¬ P here → (j : ℕ) (level : Level) → j ≤ l + 1 → IsLevelAt settings j level → ¬ P level
+more settings l here P e h n j level k f p = ⊎_elim
+    (λ lt. h j level (omega (arith, lt)) f p)
+    (λ ge. let same : j ≡ l + 1 = omega (arith, k, ge) in
+    n (subst P (one_level settings (l + 1) level here (subst (λ (i : ℕ). IsLevelAt settings i level) same f) e) p))
+    (cases_lt j (l + 1))
+
+same : (b : Bool) (level : Level) (p q : Solid) (h i v u : ℤ) → p ≡ q → h ≡ i → v ≡ u → IsTrue b ↔ CanEnter level p h v → IsTrue b ↔ CanEnter level q i u
+same b level p q h i v u e f g x = subst (λ (z : Solid). IsTrue b ↔ CanEnter level z i u) e (subst (λ (z : ℤ). IsTrue b ↔ CanEnter level p z u) f (subst (λ (z : ℤ). IsTrue b ↔ CanEnter level p h z) g x))
+
+tested : (c : After-can_enter) → IsTrue c.can_enter.result ↔ CanEnter c.level.result.now (place_now c.args.own.now c.args.aircraft.now) (horizontal_speed c.args.config.now c.args.own.now c.args.aircraft.now) (vertical_speed c.args.config.now c.args.own.now c.args.aircraft.now)
+tested c =
+    let f : FitsSigned w64 c.greatest_horizontal_speed-horizontal.result = search rules in
+    let g : FitsSigned w64 c.greatest_vertical_speed-vertical.result = search rules in
+    same _ _ _ _ _ _ _ _ c.place_at_present-place.ensures.value c.greatest_horizontal_speed-horizontal.ensures.value c.greatest_vertical_speed-vertical.ensures.value (simp to_z-of_z at c.can_enter.ensures)
+
+pub loop-l-init : goal.loop-l-init
+loop-l-init c j level k f = absurd (omega (arith, k, f.numbered))
+
+pub loop-l-preserved : goal.loop-l-preserved
+loop-l-preserved c = more c.args.config.now c.loop-l.l c.level.result.now _ c.level.ensures.value c.loop-l.invariant (λ r. let t = (tested c.before).1 r in absurd (cc (t, c.if-can_enter.false)))
+
+pub returns-then-can_enter-clause-exact : goal.returns-then-can_enter-clause-exact
+returns-then-can_enter-clause-exact c = (
+  (λ _. record { number = c.loop-l.l + 1; level = c.level.result.now; there = c.level.ensures.value; enters = (tested c.before).0 c.if-can_enter.true }),
+  (λ _. refl),
+)
+
+pub returns-clause-exact : goal.returns-clause-exact
+returns-clause-exact c = (
+  (λ t. absurd (cc t)),
+  (λ r. let inside = slice_get_within c.args.config.now.levels (r.number - 1) r.level r.there.there in
+      absurd (c.loop-l.invariant r.number r.level (omega (arith, inside, c.levels-l-end.ensures.value, c.loop-l-test.false)) r.there r.enters)),
+)

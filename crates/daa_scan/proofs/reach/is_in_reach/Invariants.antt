@@ -1,0 +1,8 @@
+use Rattle.std.proofs.Common.{ℕ, ◌≤◌}
+use Rattle.daa_config.specs.declared.level.Level.{Level}
+use Rattle.daa_config.specs.Settings.{IsLevelAt}
+use Rattle.daa_scan.specs.Reach.{place_now, horizontal_speed, vertical_speed, CanEnter}
+use Rattle.daa_scan.proofs.reach.is_in_reach.Given as goal
+
+abbrev pub invariant-loop-l : goal.invariant-loop-l
+invariant-loop-l l = (j : ℕ) (level : Level) → j ≤ l.l → IsLevelAt l.config j level → ¬ CanEnter level (place_now l.own l.aircraft) (horizontal_speed l.config l.own l.aircraft) (vertical_speed l.config l.own l.aircraft)

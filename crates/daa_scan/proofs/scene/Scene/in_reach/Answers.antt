@@ -1,0 +1,38 @@
+use Rattle.std.proofs.Common.{◌≡◌, ◌↔◌, ◌∙◌, ℕ, sym, subst, Some}
+use Rattle.std.specs.Prelude.{IsTrue, slice_get}
+use Rattle.std.proofs.lemmas.Option.{same_Some}
+use Rattle.daa_state.specs.declared.word.Traffic.{Traffic}
+use Rattle.daa_state.specs.Picture.{aircraft_of}
+use Rattle.daa_scan.specs.Situation.{Situation, MeetsAt}
+use Rattle.daa_scan.specs.Reach.{IsInReach, IsInReachAt}
+use Rattle.daa_scan.proofs.Listed.{listed}
+use Rattle.daa_scan.proofs.Leaving.{met_in_reach}
+use Rattle.daa_scan.proofs.scene.Scene.in_reach.Goals as goal
+use Rattle.daa_scan.proofs.scene.Scene.in_reach.Goals.{After-is_in_reach}
+
+abbrev shown : After-is_in_reach → Situation
+shown c = record { settings = c.self.inside.config.now; picture = c.self.inside.picture.now }
+
+there : (c : After-is_in_reach) → slice_get (aircraft_of (shown c).picture) c.args.aircraft ≡ Some c.aircraft.result.now
+there c = subst (λ (s : Situation). slice_get (aircraft_of s.picture) c.args.aircraft ≡ Some c.aircraft.result.now) (sym c.self.view_is) c.aircraft.ensures
+
+exact : (c : After-is_in_reach) → IsTrue c.is_in_reach.result ↔ IsInReachAt (shown c) c.args.aircraft
+exact c = (
+  (λ t. record { aircraft = c.aircraft.result.now; there = there c; reached = c.is_in_reach.ensures.exact.0 t }),
+  (λ r. c.is_in_reach.ensures.exact.1 (subst (λ (t : Traffic). IsInReach (shown c).settings (shown c).picture.own t) (same_Some r.aircraft c.aircraft.result.now (sym r.there ∙ there c)) r.reached)),
+)
+
+meets : (c : After-is_in_reach) (index l : ℕ) → MeetsAt (shown c) index c.args.aircraft l → IsTrue c.is_in_reach.result
+meets c index l m =
+    let a = c.is_in_reach.ensures.accepted in
+    (exact c).1 (record {
+      aircraft = m.aircraft;
+      there = m.there;
+      reached = met_in_reach (shown c).settings (shown c).picture.own m.candidate m.aircraft a c.self.invariant.own (listed (shown c).settings a index m.candidate m.listed).of l m.meets;
+    })
+
+pub returns-clause-exact : goal.returns-clause-exact
+returns-clause-exact c = subst (λ (s : Situation). IsTrue c.is_in_reach.result ↔ IsInReachAt s c.args.aircraft) c.self.view_is (exact c)
+
+pub returns-clause-meets_in_reach : goal.returns-clause-meets_in_reach
+returns-clause-meets_in_reach c = subst (λ (s : Situation). (index l : ℕ) → MeetsAt s index c.args.aircraft l → IsTrue c.is_in_reach.result) c.self.view_is (meets c)

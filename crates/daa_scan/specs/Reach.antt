@@ -1,0 +1,56 @@
+-- Which aircraft are near enough to be met at all: a test of their places now, which clears most of them at once.
+use Rattle.std.specs.Prelude.{ℕ, ℤ, pos, ◌+◌, ◌+ℤ◌, ◌*ℤ◌, ◌≤ℤ◌, ◌≡◌, unsigned_abs, slice_get, Some}
+use Rattle.std.specs.Int.{int_max}
+use Rattle.daa_fixed.specs.declared.Solid.{Solid}
+use Rattle.daa_fixed.specs.Leg.{minus}
+use Rattle.daa_config.specs.declared.kind.Kind.TheVariants.{Speed, Climb}
+use Rattle.daa_config.specs.declared.level.Level.{Level}
+use Rattle.daa_config.specs.Candidates.{least_of, greatest_of}
+use Rattle.daa_config.specs.Settings.{Settings, IsLevelAt}
+use Rattle.daa_state.specs.declared.word.Own.{Own}
+use Rattle.daa_state.specs.declared.word.Traffic.{Traffic}
+use Rattle.daa_state.specs.Picture.{aircraft_of}
+use Rattle.daa_legs.specs.OwnLegs.{own_place}
+use Rattle.daa_legs.specs.Relative.{traffic_place}
+use Rattle.daa_scan.specs.Situation.{Situation}
+
+-- how large a number is, its sign left aside
+abbrev pub size_of : ℤ → ℤ
+size_of z = pos (unsigned_abs z)
+
+-- the ownship minus the aircraft now, at second 0: the aircraft has flown on since its report
+abbrev pub place_now : Own → Traffic → Solid
+place_now own aircraft = minus (own_place own) (traffic_place aircraft 0)
+
+module _ (settings : Settings) (own : Own) (aircraft : Traffic) where
+  -- no relative speed east or north is greater: the greater of the present ground speed and the greatest that a candidate asks
+  -- for, 1 for what the table of sines rounds, and the aircraft's speeds
+  abbrev pub horizontal_speed : ℤ
+  horizontal_speed = int_max own.gs (greatest_of Speed settings) +ℤ pos 1 +ℤ size_of aircraft.vx +ℤ size_of aircraft.vy
+
+  -- no relative vertical speed is greater: the greatest of the present one, those that candidates ask for and the rate at which a
+  -- candidate goes to an altitude, and the aircraft's
+  abbrev pub vertical_speed : ℤ
+  vertical_speed =
+      int_max (int_max (size_of own.vs) (size_of (least_of Climb settings))) (int_max (size_of (greatest_of Climb settings)) settings.numbers.alt.rate)
+      +ℤ size_of aircraft.vs
+
+-- what is at this place now, and nears at no more than these speeds, can enter the level's volume within its lookahead: on each axis
+-- it is no farther off than the threshold and the way of the lookahead and of the time threshold
+pub record CanEnter (level : Level) (place : Solid) (horizontal vertical : ℤ) : Type 0 where
+  pub east : size_of place.flat.east ≤ℤ (pos level.volume.dthr +ℤ pos (level.volume.tthr + level.lookahead) *ℤ horizontal)
+  pub north : size_of place.flat.north ≤ℤ (pos level.volume.dthr +ℤ pos (level.volume.tthr + level.lookahead) *ℤ horizontal)
+  pub up : size_of place.up ≤ℤ (pos level.volume.zthr +ℤ pos (level.volume.tcoa + level.lookahead) *ℤ vertical)
+
+-- the aircraft is in reach: some level's volume can be entered
+pub record IsInReach (settings : Settings) (own : Own) (aircraft : Traffic) : Type 0 where
+  pub number : ℕ
+  pub level : Level
+  pub there : IsLevelAt settings number level
+  pub enters : CanEnter level (place_now own aircraft) (horizontal_speed settings own aircraft) (vertical_speed settings own aircraft)
+
+-- the aircraft at the place `at` of the moment's list is in reach
+pub record IsInReachAt (s : Situation) (at : ℕ) : Type 0 where
+  pub aircraft : Traffic
+  pub there : slice_get (aircraft_of s.picture) at ≡ Some aircraft
+  pub reached : IsInReach s.settings s.picture.own aircraft

@@ -1,0 +1,102 @@
+//! Which aircraft are near enough to be met at all, by their places now and the greatest speeds at which they can near.
+
+ghost use Rattle.std.specs.Prelude.{◌≡◌, ◌↔◌, ◌≤◌, ◌^◌, IsTrue, pos, ◌+ℤ◌, ◌*ℤ◌, ◌≤ℤ◌};
+ghost use Rattle.daa_fixed.specs.Leg.{IsSolidBelow};
+ghost use Rattle.daa_fixed.specs.Size.{IsWithin};
+ghost use Rattle.daa_config.specs.Settings.{IsAccepted, IsLevelInRange};
+ghost use Rattle.daa_state.specs.InRange.{IsOwnInRange, IsTrafficInRange};
+ghost use Rattle.daa_scan.specs.Reach.{size_of, place_now, horizontal_speed, vertical_speed, CanEnter, IsInReach};
+
+use daa_config::{Candidate, Config, Kind, Level};
+use daa_fixed::Solid;
+use daa_legs::{Flight, relative};
+use daa_state::{Own, Traffic};
+
+/// Whether some level's volume can be entered within its lookahead.
+pub(crate) fn is_in_reach(config: &Config, own: &Own, aircraft: &Traffic) -> bool
+    requires own { IsOwnInRange own.now }
+    requires aircraft { IsTrafficInRange aircraft.now }
+    ensures exact { IsTrue result ↔ IsInReach config.now own.now aircraft.now }
+    ensures accepted { IsAccepted config.now }
+{
+    let place = place_at_present(config, own, aircraft);
+    let horizontal = greatest_horizontal_speed(config, own, aircraft);
+    let vertical = greatest_vertical_speed(config, own, aircraft);
+    for l in 0..config.levels() {
+        if can_enter(config.level(l + 1), &place, horizontal, vertical) {
+            return true;
+        }
+    }
+    false
+}
+
+/// The ownship minus the aircraft now.
+fn place_at_present(config: &Config, own: &Own, aircraft: &Traffic) -> Solid
+    requires own { IsOwnInRange own.now }
+    requires aircraft { IsTrafficInRange aircraft.now }
+    ensures value { result ≡ place_now own.now aircraft.now }
+    ensures size { IsSolidBelow 40000000 result }
+{
+    let leg = Flight::begin(own, config, Candidate::Hold).next_leg();
+    relative(&leg, aircraft, 0).place
+}
+
+/// A speed that no relative speed east or north exceeds.
+fn greatest_horizontal_speed(config: &Config, own: &Own, aircraft: &Traffic) -> i64
+    requires own { IsOwnInRange own.now }
+    requires aircraft { IsTrafficInRange aircraft.now }
+    ensures value { result ≡ horizontal_speed config.now own.now aircraft.now }
+    ensures size { IsWithin (2 ^ 40) result }
+{
+    let greatest = own.gs.max(config.greatest(Kind::Speed));
+    i64::from(greatest) + 1 + size(aircraft.vx) + size(aircraft.vy)
+}
+
+/// A speed that no relative vertical speed exceeds.
+fn greatest_vertical_speed(config: &Config, own: &Own, aircraft: &Traffic) -> i64
+    requires own { IsOwnInRange own.now }
+    requires aircraft { IsTrafficInRange aircraft.now }
+    ensures value { result ≡ vertical_speed config.now own.now aircraft.now }
+    ensures size { IsWithin (2 ^ 40) result }
+{
+    let first = size(own.vs).max(size(config.least(Kind::Climb)));
+    let second = size(config.greatest(Kind::Climb)).max(i64::from(config.alt_rate()));
+    first.max(second) + size(aircraft.vs)
+}
+
+fn size(x: i32) -> i64
+    ensures { result ≡ size_of x }
+{
+    i64::from(x).abs()
+}
+
+/// Whether what is at this place, and nears at no more than these speeds, can enter the level's volume within its
+/// lookahead.
+fn can_enter(level: &Level, place: &Solid, horizontal: i64, vertical: i64) -> bool
+    requires level { IsLevelInRange level.now }
+    requires place { IsSolidBelow 40000000 place.now }
+    requires horizontal { IsWithin (2 ^ 40) horizontal }
+    requires vertical { IsWithin (2 ^ 40) vertical }
+    ensures { IsTrue result ↔ CanEnter level.now place.now horizontal vertical }
+{
+    let volume = &level.volume;
+    let soon = volume.tthr + level.lookahead;
+    let level_soon = volume.tcoa + level.lookahead;
+    if !is_at_most(place.flat.east, volume.dthr, soon, horizontal) {
+        return false;
+    }
+    if !is_at_most(place.flat.north, volume.dthr, soon, horizontal) {
+        return false;
+    }
+    is_at_most(place.up, volume.zthr, level_soon, vertical)
+}
+
+/// Whether a coordinate is no farther off than `near` and the way of `secs` seconds at `speed`.
+fn is_at_most(coordinate: i64, near: u32, secs: u32, speed: i64) -> bool
+    requires coordinate { IsWithin (2 ^ 40) coordinate }
+    requires secs { secs ≤ 300 }
+    requires speed { IsWithin (2 ^ 40) speed }
+    ensures { IsTrue result ↔ (size_of coordinate ≤ℤ (pos near +ℤ pos secs *ℤ speed)) }
+{
+    coordinate.abs() <= i64::from(near) + i64::from(secs) * speed
+}

@@ -1,0 +1,63 @@
+//! The levels at which a candidate meets an aircraft. Its flight is walked in runs of seconds with one velocity, and each
+//! run, cut at the level's lookahead, is tested as one leg.
+
+ghost use Rattle.std.specs.Prelude.{◌≡◌, ◌<◌, ◌≤◌, ◌^◌, ◌↔◌, IsTrue, length, bit_or};
+ghost use Rattle.daa_config.specs.Level.{IsMaskOf};
+ghost use Rattle.daa_config.specs.Settings.{IsCandidateInRange, IsLevelInRange};
+ghost use Rattle.daa_state.specs.InRange.{IsOwnInRange, IsTrafficInRange};
+ghost use Rattle.daa_legs.specs.Meeting.{MeetsWithin, Meets};
+
+use daa_config::{Candidate, Config, Level};
+use daa_detect::is_hit;
+use daa_legs::{Flight, relative_run};
+use daa_state::{Own, Traffic};
+
+/// The mask of the levels at which the candidate meets the aircraft; bit l - 1 stands for level l.
+pub(crate) fn levels_of(config: &Config, own: &Own, candidate: Candidate, aircraft: &Traffic) -> u8
+    requires own { IsOwnInRange own.now }
+    requires candidate { IsCandidateInRange candidate }
+    requires aircraft { IsTrafficInRange aircraft.now }
+    ensures { IsMaskOf (Meets config.now own.now candidate aircraft.now) (length config.now.levels) result }
+{
+    let mut mask = 0;
+    for l in 0..config.levels() {
+        if meets(config, own, candidate, aircraft, config.level(l + 1)) {
+            mask = with_bit(mask, l);
+        }
+    }
+    mask
+}
+
+/// The mask with bit `l` set besides.
+fn with_bit(mask: u8, l: u32) -> u8
+    requires { l < 8 }
+    ensures { result ≡ bit_or mask (2 ^ l) }
+{
+    mask | 1 << l
+}
+
+/// Whether the candidate meets the aircraft within the level's lookahead.
+fn meets(
+    config: &Config,
+    own: &Own,
+    candidate: Candidate,
+    aircraft: &Traffic,
+    level: &Level,
+) -> bool
+    requires own { IsOwnInRange own.now }
+    requires candidate { IsCandidateInRange candidate }
+    requires aircraft { IsTrafficInRange aircraft.now }
+    requires level { IsLevelInRange level.now }
+    ensures { IsTrue result ↔ MeetsWithin config.now own.now candidate aircraft.now level.now.volume level.now.lookahead }
+{
+    let mut flight = Flight::begin(own, config, candidate);
+    let mut k = 0;
+    while k < level.lookahead {
+        let run = flight.next_run(level.lookahead - k);
+        if is_hit(&relative_run(&run, aircraft, k), &level.volume) {
+            return true;
+        }
+        k += run.secs;
+    }
+    false
+}
