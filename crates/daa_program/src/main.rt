@@ -1,14 +1,31 @@
-//! The program: standard input to standard output.
+//! The program: its command words, the files of the system, and standard input to standard output.
 #![tactic(auto)]
 
-use daa_outside::{MemShelf, Open, StdSink, StdSource};
+use daa_outside::{FileShelf, Open, StdSink, StdSource};
 use daa_replay::run;
+use std::env;
+use std::io::ErrorKind;
 use std::process::ExitCode;
+
+/// The status where there is no memory for the command words.
+const NO_MEMORY: u8 = 6;
 
 fn main(rt: HostRuntime) -> ExitCode {
     let alloc = rt.alloc();
-    let words = Vec::<String>::new(alloc);
-    let mut shelf = MemShelf::new(Vec::new(alloc), Vec::new(alloc), Vec::new(alloc));
+    let mut words = Vec::new(alloc);
+    match env::args(&rt) {
+        Ok(args) => {
+            for word in args {
+                if words.push(word).is_err() {
+                    return ExitCode::from(NO_MEMORY);
+                }
+            }
+        }
+        Err(error) if error.kind() == ErrorKind::OutOfMemory => return ExitCode::from(NO_MEMORY),
+        // a word that is not UTF-8: no words at all are not taken either
+        Err(_) => {}
+    }
+    let mut shelf = FileShelf::new(&rt);
     let mut source = StdSource::new(rt.stdin());
     let mut sink = StdSink::new(rt.stdout());
     ExitCode::from(run(

@@ -1,6 +1,5 @@
 pub mod EventLemmas
 pub mod FollowsLemmas
-pub mod MomentLemmas
 pub mod TextLemmas
 pub mod ReportLemmas
 pub mod RunLemmas

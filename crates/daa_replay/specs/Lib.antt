@@ -1,6 +1,5 @@
 pub mod Events
 pub mod FourWordEvents
-pub mod MomentText
 pub mod Report
 pub mod Outside
 pub mod Opening

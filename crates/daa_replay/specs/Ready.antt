@@ -7,6 +7,7 @@ use Rattle.daa_config.specs.ConfigOf.{config_of}
 use Rattle.daa_config.specs.Fault.{code_of}
 use Rattle.daa_config.specs.Settings.{Settings}
 use Rattle.daa_report.specs.Lines.{Text}
+use Rattle.daa_engine.specs.Machine.{Machine}
 use Rattle.daa_words.specs.Order.{Asked, order_of}
 use Rattle.daa_replay.specs.declared.opening.Unready.{Unready}
 use Rattle.daa_replay.specs.declared.opening.Unready.TheVariants.{NotTaken, Refused, FetchFault, NoMemory}
@@ -40,3 +41,8 @@ Opened words texts (Err NotTaken) = order_of words ≡ None
 Opened words texts (Err (Refused code)) = IsRefused words texts code
 Opened words texts (Err FetchFault) = (asked : Asked) × (order_of words ≡ Some asked)
 Opened words texts (Err NoMemory) = Unit {0}
+
+-- an engine's configuration, where there is an engine
+abbrev pub settings_in : Result Machine Unready → Result Settings Unready
+settings_in (Ok engine) = Ok engine.settings
+settings_in (Err why) = Err why

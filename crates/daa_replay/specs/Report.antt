@@ -4,10 +4,10 @@ use Rattle.daa_config.specs.Settings.{Settings}
 use Rattle.daa_lines.specs.LinesOf.{Bytes}
 use Rattle.daa_state.specs.Fault.{code_of}
 use Rattle.daa_report.specs.Lines.{Text, refused_line}
+use Rattle.daa_engine.specs.MomentText.{IsMomentText}
 use Rattle.daa_replay.specs.declared.event.Event.{Event}
 use Rattle.daa_replay.specs.declared.event.Event.TheVariants as event
 use Rattle.daa_replay.specs.Events.{events_of}
-use Rattle.daa_replay.specs.MomentText.{IsMomentText}
 
 module _ (settings : Settings) where
   -- the text of an event: one line for a refusal, the moment's lines for an ended moment

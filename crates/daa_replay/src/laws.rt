@@ -1,23 +1,21 @@
 //! What holds of the events and the report of every input, and inputs whose events are known.
 
 ghost use Rattle.std.specs.Prelude.{◌≡◌, ◌++◌, ◌∷◌, [], Bool, List, codes, replicate, pos, true, false};
-ghost use Rattle.daa_config.specs.Settings.{Settings};
+ghost use Rattle.daa_config.specs.Settings.{IsAccepted, Settings};
 ghost use Rattle.daa_lines.specs.LinesOf.{Bytes};
 ghost use Rattle.daa_report.specs.Lines.{Text};
 ghost use Rattle.daa_replay.specs.declared.event.Event.{Event};
 ghost use Rattle.daa_replay.specs.Events.{events_of};
 ghost use Rattle.daa_replay.specs.FourWordEvents.{ReadsAsFourWords};
-ghost use Rattle.daa_legs.specs.Relative.{reported_place, traffic_place};
 ghost use Rattle.daa_replay.specs.Report.{IsReportOf};
 ghost use Rattle.daa_replay.specs.Run.{ConfigurationsAreUnique, RunsAreComplete};
-ghost use Rattle.daa_state.specs.declared.word.Traffic.{Traffic};
 
 use crate::event::Event;
 use daa_state::LineFault;
 
-/// No two texts are the report of one input under a configuration.
+/// No two texts are the report of one input under an accepted configuration.
 pub fn reports_are_unique()
-    ensures { (settings : Settings) (bytes : Bytes) (ended : Bool) (text other : Text) → IsReportOf settings bytes ended text → IsReportOf settings bytes ended other → text ≡ other }
+    ensures { (settings : Settings) (bytes : Bytes) (ended : Bool) (text other : Text) → IsAccepted settings → IsReportOf settings bytes ended text → IsReportOf settings bytes ended other → text ≡ other }
 {}
 
 /// The events of a longer input begin with those of a shorter one, and those at its end with those before.
@@ -29,11 +27,6 @@ pub fn events_only_grow()
 /// An input without a line whose first field is `format` reads as where there are neither that word nor ages.
 pub fn format_lines_alone_matter()
     ensures { ReadsAsFourWords }
-{}
-
-/// A report of age 0 is where its aircraft is.
-pub fn new_reports_stand()
-    ensures { (aircraft : Traffic) → aircraft.age ≡ 0 → traffic_place aircraft 0 ≡ reported_place aircraft }
 {}
 
 /// How a run ends where the words, the shelf and the number of bytes say it: with an accepted configuration and no fault

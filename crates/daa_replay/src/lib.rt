@@ -1,23 +1,24 @@
 //! The program: reads its command words and the configuration that they name, and then state lines from a
-//! source, whose report it writes to a sink. Each ended moment gives the greatest level that each aircraft
-//! violates now; each refused line gives its number and the code of its fault.
+//! source, whose report it writes to a sink. Each ended moment gives its lines, which the engine writes; each
+//! refused line gives its number and the code of its fault.
 #![tactic(auto)]
 
 mod event;
 mod laws;
-mod moment;
 mod opening;
 mod program;
 mod progress;
 mod reading;
 mod replay;
 mod status;
+mod telling;
+mod tools;
 mod turn;
 
 pub use event::Event;
 pub use laws::{
-    configurations_are_unique, events_only_grow, format_lines_alone_matter, new_reports_stand,
-    reports_are_unique, runs_are_complete, worked_examples,
+    configurations_are_unique, events_only_grow, format_lines_alone_matter, reports_are_unique,
+    runs_are_complete, worked_examples,
 };
 pub use program::{run, run_within};
 

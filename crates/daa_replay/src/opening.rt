@@ -2,12 +2,17 @@
 
 ghost use Rattle.std.specs.Prelude.{◌≡◌, ◌≢◌, ◌≤◌, map, string_bytes, Err};
 ghost use Rattle.daa_outside.specs.Faults.{HasRisen};
-ghost use Rattle.daa_replay.specs.Ready.{Fetched, Opened, Read, unready_of};
+ghost use Rattle.daa_replay.specs.Ready.{Fetched, Opened, Read, settings_in, unready_of};
 
 use daa_config::{Config, ConfigFault, read};
+use daa_engine::Engine;
 use daa_outside::{FetchFault, Shelf};
+use daa_schedule::NoMemory;
 use daa_words::{WordsFault, read_words};
 use std::alloc::Global;
+
+/// How many workers decide a moment.
+const WORKERS: u32 = 1;
 
 /// Why a run has no configuration.
 #[derive(Clone, Copy, Debug, PartialEq, Eq)]
@@ -59,7 +64,7 @@ fn fetch<F: Shelf>(alloc: Global, shelf: &mut F, name: &str) -> Result<Config, U
 }
 
 /// The configuration that the words and the shelf give.
-pub(crate) fn open<F: Shelf>(
+fn configuration<F: Shelf>(
     alloc: Global,
     words: &[String],
     shelf: &mut F,
@@ -74,5 +79,26 @@ pub(crate) fn open<F: Shelf>(
         Ok(order) => fetch(alloc, shelf, order.config),
         Err(WordsFault::NotTaken) => Err(Unready::NotTaken),
         Err(WordsFault::NoMemory) => Err(Unready::NoMemory),
+    }
+}
+
+/// The engine of the configuration that the words and the shelf give.
+pub(crate) fn open<F: Shelf>(
+    alloc: Global,
+    words: &[String],
+    shelf: &mut F,
+) -> Result<Engine, Unready>
+    ensures opened { Opened (map string_bytes words.now) (F.texts shelf.old) (settings_in result) }
+    ensures risen { result ≡ Err Unready.FetchFault → HasRisen (F.faults shelf.old) (F.faults shelf.new) }
+    ensures never_falls { F.faults shelf.old ≤ F.faults shelf.new }
+    ensures no_fault { result ≢ Err Unready.FetchFault → F.faults shelf.new ≡ F.faults shelf.old }
+    ensures kept { F.texts shelf.new ≡ F.texts shelf.old }
+{
+    match configuration(alloc, words, shelf) {
+        Ok(config) => match Engine::new(alloc, config, WORKERS) {
+            Ok(engine) => Ok(engine),
+            Err(NoMemory) => Err(Unready::NoMemory),
+        },
+        Err(why) => Err(why),
     }
 }

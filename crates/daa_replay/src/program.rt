@@ -9,6 +9,7 @@ ghost use Rattle.daa_replay.specs.Telling.{Tells};
 use crate::opening::{Unready, open};
 use crate::replay::replay_within;
 use crate::status::Status;
+use crate::tools::Tools;
 use daa_outside::{Gate, Shelf, Sink, Source};
 use daa_report::{SinkFault, config, put};
 use std::alloc::Global;
@@ -45,8 +46,8 @@ fn tell<K: Sink>(why: Unready, sink: &mut K) -> Status
 }
 
 /// Makes ready, and replays.
-fn conduct<F: Shelf, S: Source, K: Sink>(
-    alloc: Global,
+fn conduct<R: Threads + Sync, F: Shelf, S: Source, K: Sink, G: Gate>(
+    tools: &Tools<'_, R, G>,
     words: &[String],
     shelf: &mut F,
     source: &mut S,
@@ -58,8 +59,8 @@ fn conduct<F: Shelf, S: Source, K: Sink>(
         (outside (shelf_shown (F.texts shelf.old) (F.faults shelf.old)) (shown (S.left source.old) (S.faults source.old)) (shown (K.taken sink.old) (K.faults sink.old)))
         (outside (shelf_shown (F.texts shelf.new) (F.faults shelf.new)) (shown (S.left source.new) (S.faults source.new)) (shown (K.taken sink.new) (K.faults sink.new))) }
 {
-    match open(alloc, words, shelf) {
-        Ok(config) => replay_within(&config, source, sink, most),
+    match open(tools.alloc, words, shelf) {
+        Ok(mut engine) => replay_within(tools, &mut engine, source, sink, most),
         Err(why) => tell(why, sink),
     }
 }
@@ -75,15 +76,15 @@ fn conduct<F: Shelf, S: Source, K: Sink>(
 /// - 6 where there was no memory for words, text or configuration; nothing is read or written;
 /// - 8 exactly where `most` bytes were read and there was one more.
 ///
-/// Once the source is read, no memory is asked for. The threads and the gate are not used yet.
+/// Once the source is read, want of memory is answered no more.
 pub fn run_within<R: Threads + Sync, F: Shelf, S: Source, K: Sink, G: Gate>(
-    _rt: &R,
+    rt: &R,
     alloc: Global,
     words: &[String],
     shelf: &mut F,
     source: &mut S,
     sink: &mut K,
-    _gate: &G,
+    gate: &G,
     most: u64,
 ) -> u8
     requires some { 1 ≤ most }
@@ -92,7 +93,8 @@ pub fn run_within<R: Threads + Sync, F: Shelf, S: Source, K: Sink, G: Gate>(
         (outside (shelf_shown (F.texts shelf.old) (F.faults shelf.old)) (shown (S.left source.old) (S.faults source.old)) (shown (K.taken sink.old) (K.faults sink.old)))
         (outside (shelf_shown (F.texts shelf.new) (F.faults shelf.new)) (shown (S.left source.new) (S.faults source.new)) (shown (K.taken sink.new) (K.faults sink.new))) }
 {
-    conduct(alloc, words, shelf, source, sink, most).code()
+    let tools = Tools { rt, alloc, gate };
+    conduct(&tools, words, shelf, source, sink, most).code()
 }
 
 /// As [`run_within`] with 2^40 bytes.

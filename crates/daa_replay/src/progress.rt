@@ -9,13 +9,15 @@ ghost use Rattle.daa_replay.specs.Events.{is_refusal};
 ghost use Rattle.daa_replay.specs.Reporting.{Reports, Stops, Told, ReportsAll};
 
 use crate::event::Event;
-use crate::moment::say_event;
 use crate::reading::{take_end, take_event};
-use daa_config::Config;
+use crate::telling::say_event;
+use crate::tools::Tools;
+use daa_engine::Engine;
 use daa_lines::Lines;
-use daa_outside::Sink;
+use daa_outside::{Gate, Sink};
 use daa_report::SinkFault;
 use daa_state::Moments;
+use std::thread::Threads;
 
 /// How far a run has come: the line in hand, the moments, and whether some line was refused.
 #[derive(Drop)]
@@ -47,32 +49,35 @@ fn any_refusal(before: bool, event: &Event) -> bool
 }
 
 /// Takes the line that stands, if one does, and writes what it gives.
-fn report_line<K: Sink>(
-    config: &Config,
+fn report_line<R: Threads + Sync, K: Sink, G: Gate>(
+    tools: &Tools<'_, R, G>,
+    engine: &mut Engine,
     progress: &mut Progress,
     sink: &mut K,
 ) -> Result<(), SinkFault>
     ensures free { is_standing progress.new.lines.stage ≡ false }
     ensures ended { progress.new.lines.ended ≡ progress.old.lines.ended }
     ensures fed { progress.new.lines.fed ≡ progress.old.lines.fed }
-    ensures ok { OnOk result ((first : Told) (bytes : Bytes) → Reports config.now first bytes progress.old (K.taken sink.old)
-        → Reports config.now first bytes progress.new (K.taken sink.new)) }
-    ensures err { OnErr result ((first : Told) (bytes : Bytes) → Reports config.now first bytes progress.old (K.taken sink.old)
-        → Stops config.now first bytes progress.old.lines.ended (K.taken sink.new)) }
+    ensures ok { OnOk result ((settings : Settings) (first : Told) (bytes : Bytes) → engine.old.settings ≡ settings → Reports settings first bytes progress.old (K.taken sink.old)
+        → Reports settings first bytes progress.new (K.taken sink.new)) }
+    ensures err { OnErr result ((settings : Settings) (first : Told) (bytes : Bytes) → engine.old.settings ≡ settings → Reports settings first bytes progress.old (K.taken sink.old)
+        → Stops settings first bytes progress.old.lines.ended (K.taken sink.new)) }
+    ensures same { engine.new.settings ≡ engine.old.settings }
     ensures cause { HasCause (K.faults sink.old) (K.faults sink.new) result }
 {
     match take_event(&mut progress.lines, &mut progress.moments) {
         None => Ok(()),
         Some(event) => {
             progress.any_refused = any_refusal(progress.any_refused, &event);
-            say_event(config, sink, &event)
+            say_event(tools, engine, sink, &event)
         }
     }
 }
 
 /// Feeds a piece, and writes what the lines that it ends give.
-pub(crate) fn report_piece<K: Sink>(
-    config: &Config,
+pub(crate) fn report_piece<R: Threads + Sync, K: Sink, G: Gate>(
+    tools: &Tools<'_, R, G>,
+    engine: &mut Engine,
     progress: &mut Progress,
     sink: &mut K,
     piece: &[u8],
@@ -83,41 +88,44 @@ pub(crate) fn report_piece<K: Sink>(
     ensures free { is_standing progress.new.lines.stage ≡ false }
     ensures going { progress.new.lines.ended ≡ false }
     ensures fed { OnOk result (progress.new.lines.fed ≡ progress.old.lines.fed + length piece.now) }
-    ensures ok { OnOk result ((first : Told) (bytes : Bytes) → Reports config.now first bytes progress.old (K.taken sink.old)
-        → Reports config.now first (bytes ++ piece.now) progress.new (K.taken sink.new)) }
-    ensures err { OnErr result ((first : Told) (bytes : Bytes) → Reports config.now first bytes progress.old (K.taken sink.old)
-        → Stops config.now first (bytes ++ piece.now) false (K.taken sink.new)) }
+    ensures ok { OnOk result ((settings : Settings) (first : Told) (bytes : Bytes) → engine.old.settings ≡ settings → Reports settings first bytes progress.old (K.taken sink.old)
+        → Reports settings first (bytes ++ piece.now) progress.new (K.taken sink.new)) }
+    ensures err { OnErr result ((settings : Settings) (first : Told) (bytes : Bytes) → engine.old.settings ≡ settings → Reports settings first bytes progress.old (K.taken sink.old)
+        → Stops settings first (bytes ++ piece.now) false (K.taken sink.new)) }
+    ensures same { engine.new.settings ≡ engine.old.settings }
     ensures cause { HasCause (K.faults sink.old) (K.faults sink.new) result }
 {
     let mut done = 0;
     while done < piece.len() {
         done += progress.lines.feed(&piece[done..]);
-        report_line(config, progress, sink)?;
+        report_line(tools, engine, progress, sink)?;
     }
     Ok(())
 }
 
 /// The input is over: writes what its last line gives, and what its end gives. Says whether some line was refused.
-pub(crate) fn report_end<K: Sink>(
-    config: &Config,
+pub(crate) fn report_end<R: Threads + Sync, K: Sink, G: Gate>(
+    tools: &Tools<'_, R, G>,
+    engine: &mut Engine,
     progress: &mut Progress,
     sink: &mut K,
 ) -> Result<bool, SinkFault>
     requires free { is_standing progress.old.lines.stage ≡ false }
     requires going { progress.old.lines.ended ≡ false }
     requires room { progress.old.lines.fed < 2 ^ 63 }
-    ensures ok { IfOk result (λ refused. (first : Told) (bytes : Bytes) → Reports config.now first bytes progress.old (K.taken sink.old)
-        → ReportsAll config.now first bytes refused (K.taken sink.new)) }
-    ensures err { OnErr result ((first : Told) (bytes : Bytes) → Reports config.now first bytes progress.old (K.taken sink.old)
-        → Stops config.now first bytes true (K.taken sink.new)) }
+    ensures ok { IfOk result (λ refused. (settings : Settings) (first : Told) (bytes : Bytes) → engine.old.settings ≡ settings → Reports settings first bytes progress.old (K.taken sink.old)
+        → ReportsAll settings first bytes refused (K.taken sink.new)) }
+    ensures err { OnErr result ((settings : Settings) (first : Told) (bytes : Bytes) → engine.old.settings ≡ settings → Reports settings first bytes progress.old (K.taken sink.old)
+        → Stops settings first bytes true (K.taken sink.new)) }
+    ensures same { engine.new.settings ≡ engine.old.settings }
     ensures cause { HasCause (K.faults sink.old) (K.faults sink.new) result }
 {
     progress.lines.end();
-    report_line(config, progress, sink)?;
+    report_line(tools, engine, progress, sink)?;
     match take_end(&progress.lines, &progress.moments) {
         None => Ok(progress.any_refused),
         Some(event) => {
-            say_event(config, sink, &event)?;
+            say_event(tools, engine, sink, &event)?;
             Ok(any_refusal(progress.any_refused, &event))
         }
     }

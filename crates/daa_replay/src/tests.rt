@@ -1,8 +1,8 @@
 //! Inputs with the text and the status that they give.
 
-mod alerts;
 mod faults;
 mod lines;
+mod moments;
 mod opening;
 
 use super::{Event, run_within};
@@ -58,8 +58,57 @@ const SEVENS: [usize; 64] = [7; 64];
 /// One moment with one aircraft at the ownship's place, 63 bytes.
 const ONE: &[u8] = b"moment 0\nown 0 0 1000 0 3600 0\ntraffic A 0 0 1000 0 3600 0\nend\n";
 
-/// Its report, 36 bytes.
-const ONE_TEXT: &[u8] = b"moment 0\nnow A 1\nalert A 1 0\ndone 0\n";
+/// Its report, 213 bytes.
+const ONE_TEXT: &[u8] = b"moment 0
+now A 1
+alert A 1 0
+track 0 270 1
+gs 3600 3600 1
+vs 0 0 1
+alt 1000 1000 1
+resolve track left none right none
+resolve gs down none up none
+resolve vs down none up none
+resolve alt down none up none
+done 0
+";
+
+/// The bands and answers under one level where every candidate is clear, and where none is.
+const CLEAR: &str = "track 0 270 0
+gs 3600 3600 0
+vs 0 0 0
+alt 1000 1000 0
+resolve track left keep right keep
+resolve gs down keep up keep
+resolve vs down keep up keep
+resolve alt down keep up keep
+";
+
+const COVERED: &str = "track 0 270 1
+gs 3600 3600 1
+vs 0 0 1
+alt 1000 1000 1
+resolve track left none right none
+resolve gs down none up none
+resolve vs down none up none
+resolve alt down none up none
+";
+
+/// A text with the lines of `CLEAR` for a line `clear`, and those of `COVERED` for a line `covered`.
+fn whole<R: AllocGlobal>(rt: &R, text: &str) -> Result<String, AllocError> {
+    let mut whole = String::new(rt.alloc());
+    for line in text.lines() {
+        match line {
+            "clear" => whole.push_str(CLEAR)?,
+            "covered" => whole.push_str(COVERED)?,
+            other => {
+                whole.push_str(other)?;
+                whole.push_str("\n")?;
+            }
+        }
+    }
+    Ok(whole)
+}
 
 /// The words as strings.
 fn strings<R: AllocGlobal>(rt: &R, words: &[&str]) -> Result<Vec<String>, AllocError> {
@@ -136,7 +185,7 @@ fn a_run_reads_to_its_end(rt: HostRuntime) -> Result<(), Fail> {
     let alloc = rt.alloc();
     let mut shelf = shelf_with(&rt, ONE_LEVEL, &[])?;
     let mut source = MemSource::new(ONE.to_vec(alloc)?, Vec::new(alloc), Vec::new(alloc));
-    let mut sink = MemSink::over(vec![in alloc; 0; 100]?, Vec::new(alloc), Vec::new(alloc));
+    let mut sink = MemSink::over(vec![in alloc; 0; 300]?, Vec::new(alloc), Vec::new(alloc));
     let words = strings(&rt, PLAIN.words)?;
     let status = super::run(
         &rt,

@@ -1,14 +1,17 @@
 //! One turn of a run: reads a piece, and writes what it gives.
 
 ghost use Rattle.std.specs.Prelude.{◌≡◌, ◌≢◌, ◌<◌, ◌≤◌, ◌+◌, ◌^◌, ℕ, length, false};
+ghost use Rattle.daa_config.specs.Settings.{Settings};
 ghost use Rattle.daa_lines.specs.LinesOf.{Bytes};
 ghost use Rattle.daa_lines.specs.Cutting.{is_standing};
 ghost use Rattle.daa_outside.specs.Faults.{HasRisen};
 ghost use Rattle.daa_replay.specs.Reporting.{Handed, Reports, Told, Turned};
 
 use crate::progress::{Progress, report_piece};
-use daa_config::Config;
-use daa_outside::{Failed, Sink, Source};
+use crate::tools::Tools;
+use daa_engine::Engine;
+use daa_outside::{Failed, Gate, Sink, Source};
+use std::thread::Threads;
 
 /// How a turn of reading ended.
 #[derive(Clone, Copy, Debug, PartialEq, Eq)]
@@ -22,8 +25,9 @@ pub(crate) enum Turn {
 }
 
 /// Reads into the buffer, and writes what the bytes give.
-pub(crate) fn take_turn<S: Source, K: Sink>(
-    config: &Config,
+pub(crate) fn take_turn<R: Threads + Sync, S: Source, K: Sink, G: Gate>(
+    tools: &Tools<'_, R, G>,
+    engine: &mut Engine,
     source: &mut S,
     sink: &mut K,
     progress: &mut Progress,
@@ -36,9 +40,10 @@ pub(crate) fn take_turn<S: Source, K: Sink>(
     ensures free { is_standing progress.new.lines.stage ≡ false }
     ensures going { progress.new.lines.ended ≡ false }
     ensures fed { (n : ℕ) → result ≡ Turn.More n → (progress.new.lines.fed ≡ progress.old.lines.fed + n) × (0 < n) × (n ≤ length buf.old) }
-    ensures went { (first : Told) (bytes : Bytes) → Reports config.now first bytes progress.old (K.taken sink.old)
+    ensures went { (settings : Settings) (first : Told) (bytes : Bytes) → engine.old.settings ≡ settings → Reports settings first bytes progress.old (K.taken sink.old)
         → Handed (S.left source.old) (S.left source.new) (length buf.old) (λ more.
-        Turned config.now result first bytes more progress.new (K.taken sink.new) (S.left source.old) (S.left source.new)) }
+        Turned settings result first bytes more progress.new (K.taken sink.new) (S.left source.old) (S.left source.new)) }
+    ensures same { engine.new.settings ≡ engine.old.settings }
     ensures still { result ≡ Turn.Over → progress.new.lines.fed ≡ progress.old.lines.fed }
     ensures read { result ≡ Turn.ReadFault → HasRisen (S.faults source.old) (S.faults source.new) }
     ensures write { result ≡ Turn.WriteFault → HasRisen (K.faults sink.old) (K.faults sink.new) }
@@ -54,7 +59,7 @@ pub(crate) fn take_turn<S: Source, K: Sink>(
     if count == 0 {
         return Turn::Over;
     }
-    match report_piece(config, progress, sink, &buf[..count]) {
+    match report_piece(tools, engine, progress, sink, &buf[..count]) {
         Ok(()) => Turn::More(count),
         Err(_) => Turn::WriteFault,
     }

@@ -49,33 +49,31 @@ fn a_read_that_fails_ends_the_run(rt: HostRuntime) -> Result<(), Fail> {
 
 #[test]
 fn a_write_that_fails_ends_the_run(rt: HostRuntime) -> Result<(), Fail> {
-    for (fails, taken) in (0..36u64).zip(0..36usize) {
+    let bytes = [1; 213];
+    for (fails, taken) in (0..213u64).zip(0..213usize) {
         let outside = Outside {
-            write_pieces: &ONES,
+            write_pieces: &bytes,
             write_fails: &[fails],
             ..PLAIN
         };
         let Some(front) = ONE_TEXT.get(..taken) else {
-            return Err("a text of 36 bytes".into());
+            return Err("a text of 213 bytes".into());
         };
         gives(&rt, ONE, outside, 5, front)?;
     }
     // an input that gives nothing writes nothing, not even a piece of no bytes
     gives(&rt, b"", Outside { room: 0, ..PLAIN }, 0, b"")?;
-    // the second write is that of the last line
+    // the first write is that of the aircraft's lines
     let second = Outside {
         write_fails: &[1],
         ..PLAIN
     };
     gives(&rt, ONE, second, 5, b"moment 0\nnow A 1\nalert A 1 0\n")?;
-    gives(
-        &rt,
-        ONE,
-        Outside { room: 35, ..PLAIN },
-        5,
-        b"moment 0\nnow A 1\nalert A 1 0\ndone 0",
-    )?;
-    gives(&rt, ONE, Outside { room: 36, ..PLAIN }, 0, ONE_TEXT)
+    let Some(short) = ONE_TEXT.get(..212) else {
+        return Err("a text of 213 bytes".into());
+    };
+    gives(&rt, ONE, Outside { room: 212, ..PLAIN }, 5, short)?;
+    gives(&rt, ONE, Outside { room: 213, ..PLAIN }, 0, ONE_TEXT)
 }
 
 #[test]

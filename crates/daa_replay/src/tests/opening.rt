@@ -7,22 +7,29 @@ use std::test::Fail;
 const USAGE: &[u8] =
     b"usage: daidalus replay --config FILE [--workers N] | exercise --config FILE --seed N --moments M [--workers N]\n";
 
+/// Lists of words that are not taken.
+static NOT_TAKEN: [&[&str]; 6] = [
+    &[],
+    &["daidalus"],
+    &["daidalus", "replay"],
+    &["daidalus", "replay", "--config", "c", "--workers", "0"],
+    &["daidalus", "replay", "--config", "c", "--workers", "17"],
+    &["daidalus", "--help"],
+];
+
+/// Another way to write the same words.
+static JOINED: [&str; 3] = ["daidalus", "replay", "--config=c"];
+
+/// A name under which the shelf holds nothing.
+static MISSING: [&str; 4] = ["daidalus", "replay", "--config", "d"];
+
 #[test]
 fn words_that_are_not_taken_give_the_usage_line(rt: HostRuntime) -> Result<(), Fail> {
-    for words in [
-        [].as_slice(),
-        &["daidalus"],
-        &["daidalus", "replay"],
-        &["daidalus", "replay", "--config", "c", "--workers", "0"],
-        &["daidalus", "replay", "--config", "c", "--workers", "17"],
-        &["daidalus", "--help"],
-    ] {
+    for words in &NOT_TAKEN {
         gives(&rt, ONE, Outside { words, ..PLAIN }, 2, USAGE)?;
     }
-    // another way to write the same words
-    let joined = ["daidalus", "replay", "--config=c"];
     let outside = Outside {
-        words: &joined,
+        words: &JOINED,
         ..PLAIN
     };
     gives(&rt, ONE, outside, 0, ONE_TEXT)
@@ -96,6 +103,29 @@ fn text_with<R: AllocGlobal>(
     Ok(format!(in rt.alloc(); "{before}{other}{after}")?)
 }
 
+/// A line of the example, another in its place, and what is then written.
+static OTHER_LINES: [(&str, &str, &[u8]); 7] = [
+    ("track_step = 5\n", "track_step = 7\n", b"config 6\n"),
+    ("track_step = 5\n", "track_step = 7\nx = 1\n", b"config 3\n"),
+    ("resolve = 2\n", "resolve = 4\n", b"config 7\n"),
+    ("resolve = 2\n", "resolve = 5\n", b"config 6\n"),
+    (
+        "lookahead = 55\nalert = 25\n",
+        "lookahead = 55\n",
+        b"config 4\n",
+    ),
+    (
+        "lookahead = 55\n",
+        "lookahead = 55\ntcpa = 2\n",
+        b"config 6\n",
+    ),
+    (
+        "min = 0\nmax = 50000\nstep = 500\n",
+        "min = 0\nmax = 512\nstep = 1\n",
+        b"config 8\n",
+    ),
+];
+
 #[test]
 fn a_refused_configuration_gives_its_code(rt: HostRuntime) -> Result<(), Fail> {
     let alloc = rt.alloc();
@@ -106,31 +136,7 @@ fn a_refused_configuration_gives_its_code(rt: HostRuntime) -> Result<(), Fail> {
     ] {
         gives(&rt, ONE, Outside { config, ..PLAIN }, 3, text)?;
     }
-    for (line, other, text) in [
-        (
-            "track_step = 5\n",
-            "track_step = 7\n",
-            b"config 6\n".as_slice(),
-        ),
-        ("track_step = 5\n", "track_step = 7\nx = 1\n", b"config 3\n"),
-        ("resolve = 2\n", "resolve = 4\n", b"config 7\n"),
-        ("resolve = 2\n", "resolve = 5\n", b"config 6\n"),
-        (
-            "lookahead = 55\nalert = 25\n",
-            "lookahead = 55\n",
-            b"config 4\n",
-        ),
-        (
-            "lookahead = 55\n",
-            "lookahead = 55\ntcpa = 2\n",
-            b"config 6\n",
-        ),
-        (
-            "min = 0\nmax = 50000\nstep = 500\n",
-            "min = 0\nmax = 512\nstep = 1\n",
-            b"config 8\n",
-        ),
-    ] {
+    for (line, other, text) in &OTHER_LINES {
         let config = text_with(&rt, EXAMPLE, line, other)?;
         let outside = Outside {
             config: config.as_bytes(),
@@ -185,12 +191,11 @@ fn a_shelf_that_fails_ends_the_run(rt: HostRuntime) -> Result<(), Fail> {
         ..PLAIN
     };
     gives(&rt, ONE, later, 0, ONE_TEXT)?;
-    let missing = ["daidalus", "replay", "--config", "d"];
     gives(
         &rt,
         ONE,
         Outside {
-            words: &missing,
+            words: &MISSING,
             ..PLAIN
         },
         7,
@@ -200,10 +205,9 @@ fn a_shelf_that_fails_ends_the_run(rt: HostRuntime) -> Result<(), Fail> {
 
 #[test]
 fn a_line_before_the_report_may_fail_too(rt: HostRuntime) -> Result<(), Fail> {
-    let words = ["daidalus"];
     for room in [0, 20] {
         let outside = Outside {
-            words: &words,
+            words: NOT_TAKEN[1],
             room,
             ..PLAIN
         };

@@ -1,4 +1,5 @@
-use Rattle.std.proofs.Common.{◌∙◌, ◌≤◌, ◌+◌, ◌-◌, ◌++◌, false, arith, take, drop, length, length-drop, length-take}
+use Rattle.std.proofs.Common.{◌≡◌, ◌∙◌, ◌≤◌, ◌+◌, ◌-◌, ◌++◌, false, arith, take, drop, length, length-drop, length-take}
+use Rattle.daa_config.specs.Settings.{Settings}
 use Rattle.daa_lines.specs.LinesOf.{Bytes}
 use Rattle.daa_replay.specs.Reporting.{Told, Reports, Stops}
 use Rattle.daa_replay.proofs.ReportLemmas.{reports-part, stops-part, on_err}
@@ -17,8 +18,9 @@ loop-done-preserved g c =
       going = c.report_line.ensures.ended ∙ c.feed-done.ensures.going;
       fed = omega (arith, c.report_line.ensures.fed, c.feed-done.ensures.fed, i.fed);
       steady = c.in_ok-report_line.ensures.cause.steady ∙ i.steady;
-      kept = λ first bytes r. c.in_ok-report_line.ensures.ok first (bytes ++ take (done + n) piece)
-          (reports-part first _ bytes piece c.loop-done.progress c.feed-done.new.self done n within c.feed-done.ensures.kept (i.kept first bytes r));
+      same = c.report_line.ensures.same ∙ i.same;
+      kept = λ settings first bytes e r. c.in_ok-report_line.ensures.ok settings first (bytes ++ take (done + n) piece) (i.same ∙ e)
+          (reports-part first _ bytes piece c.loop-done.progress c.feed-done.new.self done n within c.feed-done.ensures.kept (i.kept settings first bytes e r));
     }
 
 pub returns-in_err-report_line-clause-err : goal.returns-in_err-report_line-clause-err
@@ -28,9 +30,9 @@ returns-in_err-report_line-clause-err g c =
     let n = c.feed-done.result in
     let i = c.loop-done.invariant in
     let within : n ≤ length piece - done = omega (arith, c.feed-done.ensures.within, length-take (length piece - done) (drop done piece), length-drop done piece) in
-    let stops : (first : Told) (bytes : Bytes) → Reports c.args.config.now first bytes c.args.progress.now (g.K.Sink.taken c.args.sink.now)
-    → Stops c.args.config.now first (bytes ++ piece) false (g.K.Sink.taken c.report_line.new.sink) =
-    λ first bytes r. stops-part first _ bytes piece c.feed-done.new.self.ended (done + n) c.feed-done.ensures.going
-    (c.in_err-report_line.ensures.err first (bytes ++ take (done + n) piece)
-    (reports-part first _ bytes piece c.loop-done.progress c.feed-done.new.self done n within c.feed-done.ensures.kept (i.kept first bytes r))) in
+    let stops : (settings : Settings) (first : Told) (bytes : Bytes) → c.args.engine.now.settings ≡ settings → Reports settings first bytes c.args.progress.now (g.K.Sink.taken c.args.sink.now)
+    → Stops settings first (bytes ++ piece) false (g.K.Sink.taken c.report_line.new.sink) =
+    λ settings first bytes e r. stops-part first _ bytes piece c.feed-done.new.self.ended (done + n) c.feed-done.ensures.going
+    (c.in_err-report_line.ensures.err settings first (bytes ++ take (done + n) piece) (i.same ∙ e)
+    (reports-part first _ bytes piece c.loop-done.progress c.feed-done.new.self done n within c.feed-done.ensures.kept (i.kept settings first bytes e r))) in
     on_err _ _ stops

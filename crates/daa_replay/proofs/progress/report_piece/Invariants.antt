@@ -1,4 +1,5 @@
 use Rattle.std.proofs.Common.{◌≡◌, ◌≤◌, ◌+◌, ◌-◌, ◌++◌, length, take, false}
+use Rattle.daa_config.specs.Settings.{Settings}
 use Rattle.daa_lines.specs.LinesOf.{Bytes}
 use Rattle.daa_lines.specs.Cutting.{is_standing}
 use Rattle.daa_replay.specs.Reporting.{Told, Reports}
@@ -11,8 +12,9 @@ invariant-loop-done g l = record {
   going : l.progress.lines.ended ≡ false;
   fed : l.progress.lines.fed ≡ l.fn.progress.lines.fed + l.done;
   steady : g.K.Sink.faults l.sink ≡ g.K.Sink.faults l.fn.sink;
-  kept : (first : Told) (bytes : Bytes) → Reports l.config first bytes l.fn.progress (g.K.Sink.taken l.fn.sink)
-      → Reports l.config first (bytes ++ take l.done l.piece) l.progress (g.K.Sink.taken l.sink);
+  same : l.engine.settings ≡ l.fn.engine.settings;
+  kept : (settings : Settings) (first : Told) (bytes : Bytes) → l.fn.engine.settings ≡ settings → Reports settings first bytes l.fn.progress (g.K.Sink.taken l.fn.sink)
+      → Reports settings first (bytes ++ take l.done l.piece) l.progress (g.K.Sink.taken l.sink);
 }
 
 abbrev pub decreases-loop-done : goal.decreases-loop-done

@@ -11,10 +11,11 @@ loop-taken-preserved g c =
       free = c.in-More.ensures.free;
       going = c.in-More.ensures.going;
       fed = omega (arith, fed.0, i.fed);
+      same = c.in-More.ensures.same ∙ i.same;
       within = omega (arith, fed.2, length-take c.min-want.result c.loop-taken.buf, c.min-want.ensures, i.within);
       reads = c.in-More.ensures.read_steady (λ e. cc) ∙ i.reads;
       writes = c.in-More.ensures.write_steady (λ e. cc) ∙ i.writes;
-      handed = more_of_turn c.in-More.count c.loop-taken.taken _ _ _ _ _ _ _ _ _ i.handed (c.in-More.ensures.went _);
+      handed = more_of_turn c.in-More.count c.loop-taken.taken _ _ _ _ _ _ _ _ _ i.handed (λ bytes r. c.in-More.ensures.went _ _ bytes i.same r);
     }
 
 pub over-requires-clause-room : goal.over-requires-clause-room
@@ -24,8 +25,10 @@ pub returns-in-Over : goal.returns-in-Over
 returns-in-Over g c =
     let i = c.loop-taken.invariant in
     replays_over c.args.most c.loop-taken.taken i.within _ _ _ _ c.over.result _ _ c.over.ensures.ended
-    (over_of_turn c.loop-taken.taken _ _ _ _ _ _ _ _ _ i.handed (c.in-Over.ensures.went _))
-    c.over.ensures.accepted c.over.ensures.refused c.over.ensures.stopped
+    (over_of_turn c.loop-taken.taken _ _ _ _ _ _ _ _ _ i.handed (λ bytes r. c.in-Over.ensures.went _ _ bytes i.same r))
+    (λ s first bytes r. c.over.ensures.accepted s _ first bytes (c.in-Over.ensures.same ∙ i.same) r)
+    (λ s first bytes r. c.over.ensures.refused s _ first bytes (c.in-Over.ensures.same ∙ i.same) r)
+    (λ s first bytes r. c.over.ensures.stopped s _ first bytes (c.in-Over.ensures.same ∙ i.same) r)
     (λ e. risen_after _ _ _ (omega (arith, c.in-Over.ensures.writes, i.writes)) (c.over.ensures.write e))
     (c.in-Over.ensures.read_steady (λ e. cc) ∙ i.reads) (omega (arith, c.over.ensures.writes, c.in-Over.ensures.writes, i.writes))
     (λ e. c.over.ensures.write_steady e ∙ c.in-Over.ensures.write_steady (λ w. cc) ∙ i.writes)
@@ -34,7 +37,7 @@ pub returns-in-ReadFault : goal.returns-in-ReadFault
 returns-in-ReadFault g c =
     let i = c.loop-taken.invariant in
     replays_read_turn c.args.most c.loop-taken.taken i.within _ _ _ _ _ _ _ _ _ c.in-ReadFault.ensures.going c.in-ReadFault.ensures.free
-    i.handed (c.in-ReadFault.ensures.went _) (risen_after _ _ _ (omega (arith, i.reads)) (c.in-ReadFault.ensures.read refl))
+    i.handed (λ bytes r. c.in-ReadFault.ensures.went _ _ bytes i.same r) (risen_after _ _ _ (omega (arith, i.reads)) (c.in-ReadFault.ensures.read refl))
     (omega (arith, c.in-ReadFault.ensures.reads, i.reads)) (c.in-ReadFault.ensures.write_steady (λ e. cc) ∙ i.writes)
 
 pub returns-in-WriteFault : goal.returns-in-WriteFault
@@ -42,7 +45,7 @@ returns-in-WriteFault g c =
     let i = c.loop-taken.invariant in
     replays_write_turn c.args.most c.loop-taken.taken i.within _ _ _ _ _ _ _ c.take_turn.new.progress _
     (omega (arith, length-take c.min-want.result c.loop-taken.buf, c.min-want.ensures, i.within))
-    i.handed (c.in-WriteFault.ensures.went _) (risen_after _ _ _ (omega (arith, i.writes)) (c.in-WriteFault.ensures.write refl))
+    i.handed (λ bytes r. c.in-WriteFault.ensures.went _ _ bytes i.same r) (risen_after _ _ _ (omega (arith, i.writes)) (c.in-WriteFault.ensures.write refl))
     (c.in-WriteFault.ensures.read_steady (λ e. cc) ∙ i.reads) (omega (arith, c.in-WriteFault.ensures.writes, i.writes))
 
 pub returns-in-Ok-eq0 : goal.returns-in-Ok-eq0
@@ -52,7 +55,8 @@ returns-in-Ok-eq0 g c =
     replays_over c.args.most c.loop-taken.taken i.within _ _ _ _ c.over-in-Ok-eq0.result _ _ o.ended
     (over_of_read c.loop-taken.taken c.in-Ok-eq0.field-0 c.read.new.buf _ _ _ _ _ _ i.handed (omega arith) c.in-Ok-eq0.ensures.next
     (c.in-Ok-eq0.ensures.end (omega arith) (omega (arith, length-take 1 c.loop-taken.buf))))
-    o.accepted o.refused o.stopped (λ e. risen_after _ _ _ (omega (arith, i.writes)) (o.write e))
+    (λ s first bytes r. o.accepted s _ first bytes i.same r) (λ s first bytes r. o.refused s _ first bytes i.same r)
+    (λ s first bytes r. o.stopped s _ first bytes i.same r) (λ e. risen_after _ _ _ (omega (arith, i.writes)) (o.write e))
     (c.in-Ok-eq0.ensures.no_fault ∙ i.reads) (omega (arith, o.writes, i.writes)) (λ e. o.write_steady e ∙ i.writes)
 
 pub returns-in-Ok : goal.returns-in-Ok
