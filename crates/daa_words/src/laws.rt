@@ -33,6 +33,7 @@ pub fn worked_examples()
     ensures help_of_replay { order_of (codes "daidalus" ∷ codes "replay" ∷ codes "-h" ∷ []) ≡ None }
     ensures version { order_of (codes "daidalus" ∷ codes "--version" ∷ []) ≡ None }
     ensures shortened { order_of (codes "daidalus" ∷ codes "replay" ∷ codes "--conf" ∷ codes "f" ∷ []) ≡ None }
+    ensures short_name { order_of (codes "daidalus" ∷ codes "replay" ∷ codes "-c" ∷ codes "f" ∷ []) ≡ None }
     ensures repeated { order_of (codes "daidalus" ∷ codes "replay" ∷ codes "--config=f" ∷ codes "--config=f" ∷ []) ≡ None }
     ensures extra { order_of (codes "daidalus" ∷ codes "replay" ∷ codes "--config=f" ∷ codes "g" ∷ []) ≡ None }
     ensures workers { order_of (codes "daidalus" ∷ codes "replay" ∷ codes "--config=f" ∷ codes "--workers=4" ∷ []) ≡ None }

@@ -25,7 +25,7 @@ static TAKEN: [(&[&str], &str); 7] = [
 ];
 
 #[test]
-fn taken(rt: HostRuntime) -> Result<(), Fail> {
+fn words_that_are_taken(rt: HostRuntime) -> Result<(), Fail> {
     for (words, config) in &TAKEN {
         let words = words_of(rt.alloc(), words)?;
         let order = read_words(rt.alloc(), words.as_slice()).map_err(|_| "not taken")?;
@@ -72,7 +72,7 @@ static NOT_TAKEN: [&[&str]; 24] = [
 ];
 
 #[test]
-fn not_taken(rt: HostRuntime) -> Result<(), Fail> {
+fn words_that_are_not_taken(rt: HostRuntime) -> Result<(), Fail> {
     for row in &NOT_TAKEN {
         let words = words_of(rt.alloc(), row)?;
         match read_words(rt.alloc(), words.as_slice()) {
@@ -84,7 +84,7 @@ fn not_taken(rt: HostRuntime) -> Result<(), Fail> {
 }
 
 #[test]
-fn command_is_made(rt: HostRuntime) -> Result<(), Fail> {
+fn the_command_has_the_programs_name(rt: HostRuntime) -> Result<(), Fail> {
     let command = daidalus(rt.alloc())?;
     assert_eq!(rt; command.get_name(), "daidalus");
     Ok(())

@@ -21,6 +21,7 @@ returns c = record {
   help_of_replay = refl;
   version = refl;
   shortened = refl;
+  short_name = refl;
   repeated = refl;
   extra = refl;
   workers = refl;
