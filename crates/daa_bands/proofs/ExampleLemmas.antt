@@ -1,7 +1,6 @@
 -- Worked examples of bands.
-use Rattle.std.proofs.Common.{◌≡◌, ◌∙◌, ℕ, List, [], ◌∷◌, pos, sym, subst}
-use Rattle.daa_bands.specs.declared.band.Band.{Band}
-use Rattle.daa_bands.specs.Band.{Mark, AreBands, band_of}
+use Rattle.std.proofs.Common.{◌≡◌, [], ◌∷◌, pos}
+use Rattle.daa_bands.specs.Band.{AreBands, band_of}
 use Rattle.daa_bands.specs.Walk.{with_mark, bands_of}
 use Rattle.daa_bands.proofs.BandLemmas.{found, only}
 

@@ -7,7 +7,6 @@ use Rattle.daa_config.specs.Settings.{Settings, IsAccepted}
 use Rattle.daa_config.specs.declared.candidate.Resolution.{Resolution}
 use Rattle.daa_config.specs.declared.candidate.Resolution.TheVariants.{Keep, To, Nothing}
 use Rattle.daa_config.specs.declared.kind.Kind.{Kind}
-use Rattle.daa_config.specs.declared.kind.Kind.TheVariants.{Track}
 use Rattle.daa_config.proofs.CandidateLemmas.{kind_within, length_candidates}
 use Rattle.daa_state.specs.declared.word.Own.{Own}
 use Rattle.daa_bands.specs.Board.{HasLevelOn, IsBoardOf}

@@ -1,9 +1,9 @@
 -- Each side has an answer, wherever it can be told what is covered.
-use Rattle.std.proofs.Common.{◌≡◌, ◌<◌, ◌≤◌, ◌+◌, ◌-◌, ◌⊎◌, ℕ, zero, suc, ℤ, pos, ◌≤ℤ◌, ◌+ℤ◌, Bool, true, false, List, Option, Some, None, length, slice_get, refl, sym, subst, arith, inl, inr}
-use Rattle.std.specs.Prelude.{◌<ℤ◌, ◌*ℤ◌, int_lt, slice_index}
+use Rattle.std.proofs.Common.{◌≡◌, ◌<◌, ◌≤◌, ◌+◌, ◌-◌, ◌⊎◌, ℕ, zero, suc, ℤ, pos, ◌≤ℤ◌, Bool, true, false, List, Option, Some, None, length, slice_get, refl, subst, arith, inl, inr}
+use Rattle.std.specs.Prelude.{◌<ℤ◌, int_lt, slice_index}
 use Rattle.std.specs.Int.{bit_at}
 use Rattle.std.proofs.lemmas.Int.{ints}
-use Rattle.daa_config.specs.Candidates.{values_of, grid_of, start_of}
+use Rattle.daa_config.specs.Candidates.{values_of, start_of}
 use Rattle.daa_config.specs.Settings.{Settings, IsAccepted}
 use Rattle.daa_config.specs.declared.candidate.Resolution.{Resolution}
 use Rattle.daa_config.specs.declared.candidate.Resolution.TheVariants.{Keep, To, Nothing}
