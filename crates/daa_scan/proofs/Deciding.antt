@@ -32,7 +32,7 @@ use Rattle.daa_detect.specs.Distance.{IsDistance}
 use Rattle.daa_detect.specs.Hit.{IsHit}
 use Rattle.daa_detect.proofs.Nearest.{time_between, vertex_small, none_elsewhere}
 use Rattle.daa_scan.specs.Packed.{is_soon, is_near, passes_near, is_closing, is_level, is_levelling, is_violated, is_violated_at, is_violated_sometime, some_below}
-use Rattle.daa_scan.proofs.Tests.{le_is, lt_is, both_is, either_is, some_is}
+use Rattle.daa_scan.proofs.Trying.{le_is, lt_is, both_is, either_is, some_is}
 
 -- ---- the volume at n/d
 soon_is : (m : Model) (leg : Leg) (vol : Volume) (n d : ℤ) → IsTrue (is_soon m leg vol n d) ↔ IsSoon m leg vol n d

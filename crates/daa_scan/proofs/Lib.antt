@@ -4,7 +4,7 @@ pub mod Speeds
 pub mod Nearing
 pub mod Leaving
 pub mod Listed
-pub mod Tests
+pub mod Trying
 pub mod Deciding
 pub mod Masking
 pub mod Numbers

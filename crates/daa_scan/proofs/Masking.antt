@@ -26,7 +26,7 @@ use Rattle.daa_legs.proofs.Relatives.{relative_for-in_range}
 use Rattle.daa_scan.specs.Situation.{Situation, MeetsAt}
 use Rattle.daa_scan.specs.Packed.{some_below, is_violated_sometime, is_met_within, mask_of, entry_for, entry_at}
 use Rattle.daa_scan.proofs.Listed.{listed}
-use Rattle.daa_scan.proofs.Tests.{some_is}
+use Rattle.daa_scan.proofs.Trying.{some_is}
 use Rattle.daa_scan.proofs.Deciding.{sometime_is}
 
 -- ---- bits
