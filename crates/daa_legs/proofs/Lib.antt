@@ -4,6 +4,8 @@ pub mod Cases
 pub mod Places
 pub mod Relatives
 pub mod Stretches
+pub mod Flying
+pub mod Steady
 pub mod Running
 pub mod Holds
 pub mod AtLevel

@@ -57,20 +57,18 @@ impl Flight {
         }
     }
 
-    /// The next second: of the call after `k` others, leg `k`. A flight has 180 of them.
+    /// The next second: leg `k` after `k` legs were taken. A flight has 180 of them.
     pub fn next_leg(&mut self) -> OwnLeg
         requires { self.old.taken < 180 }
         ensures leg { result ≡ own_leg self.old.own self.old.rates self.old.candidate self.old.taken }
         ensures in_range { IsOwnLegInRange result }
         ensures taken { self.new ≡ record self.old { taken = self.old.taken + 1 } }
     {
-        let velocity = velocity_at(&self.own, &self.rates, self.candidate, self.taken);
         let leg = OwnLeg {
             place: self.place,
-            velocity,
+            velocity: self.velocity_ahead(),
         };
-        self.place = sum(&self.place, &velocity);
-        self.taken += 1;
+        self.advance(&leg.velocity);
         leg
     }
 
@@ -88,7 +86,7 @@ impl Flight {
             if !are_same(&self.velocity_ahead(), &first.velocity) {
                 return run_of(&first, secs);
             }
-            let _ = self.next_leg();
+            self.advance(&first.velocity);
         }
         run_of(&first, most)
     }
@@ -96,9 +94,20 @@ impl Flight {
     /// The velocity of the next second.
     fn velocity_ahead(&self) -> Solid
         requires { self.now.taken < 180 }
-        ensures { result ≡ velocity_on self.now.own self.now.rates self.now.candidate self.now.taken }
+        ensures value { result ≡ velocity_on self.now.own self.now.rates self.now.candidate self.now.taken }
+        ensures size { IsSolidBelow 20000 result }
     {
         velocity_at(&self.own, &self.rates, self.candidate, self.taken)
+    }
+
+    /// Takes the next second, which has this velocity.
+    fn advance(&mut self, velocity: &Solid)
+        requires left { self.old.taken < 180 }
+        requires velocity { velocity.now ≡ velocity_on self.old.own self.old.rates self.old.candidate self.old.taken }
+        ensures { self.new ≡ record self.old { taken = self.old.taken + 1 } }
+    {
+        self.place = sum(&self.place, velocity);
+        self.taken += 1;
     }
 }
 

@@ -4,6 +4,7 @@
 
 mod encounter;
 mod flight;
+mod laws;
 mod motion;
 mod own_leg;
 #[cfg(test)]
@@ -13,4 +14,5 @@ mod turn;
 
 pub use encounter::{relative, relative_run};
 pub use flight::Flight;
+pub use laws::{flights_begin_as_now, legs_join, legs_move_by_the_rates, worked_examples};
 pub use own_leg::{OwnLeg, OwnRun};

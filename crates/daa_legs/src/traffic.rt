@@ -45,9 +45,9 @@ pub(crate) fn place_of(aircraft: &Traffic, k: u32) -> Solid
 fn after(begin: i64, speed: i32, secs: u32) -> i64
     requires begin { IsWithin 7200000 begin }
     requires speed { IsWithin 10000 speed }
-    requires secs { secs < 240 }
+    requires secs { secs < 400 }
     ensures value { result ≡ begin +ℤ pos secs *ℤ speed }
-    ensures size { IsWithin 9590000 result }
+    ensures size { IsWithin 11190000 result }
 {
     begin + i64::from(secs) * i64::from(speed)
 }

@@ -7,8 +7,8 @@ pub loop-secs-init : goal.loop-secs-init
 loop-secs-init c = running_start c.args.self.now c.next_leg-first.result c.next_leg-first.new.self c.next_leg-first.ensures.taken c.next_leg-first.ensures.leg c.next_leg-first.ensures.in_range
 
 pub loop-secs-preserved : goal.loop-secs-preserved
-loop-secs-preserved c = running_next c.args.self.now c.next_leg-first.result c.loop-secs.self c.next_leg.new.self c.loop-secs.secs c.loop-secs.invariant c.next_leg.ensures.taken
-    (sym c.velocity_ahead.ensures ∙ c.are_same.ensures.0 c.if-not-are_same.false)
+loop-secs-preserved c = running_next c.args.self.now c.next_leg-first.result c.loop-secs.self c.advance.new.self c.loop-secs.secs c.loop-secs.invariant c.advance.ensures
+    (sym c.velocity_ahead.ensures.value ∙ c.are_same.ensures.0 c.if-not-are_same.false)
 
 pub velocity_ahead-requires : goal.velocity_ahead-requires
 velocity_ahead-requires c = let e : c.loop-secs.self.taken ≡ c.args.self.now.taken + c.loop-secs.secs = ap (λ (f : Course). f.taken) c.loop-secs.invariant.course in
