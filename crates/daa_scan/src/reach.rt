@@ -3,7 +3,7 @@
 ghost use Rattle.std.specs.Prelude.{◌≡◌, ◌↔◌, ◌≤◌, ◌^◌, IsTrue, pos, ◌+ℤ◌, ◌*ℤ◌, ◌≤ℤ◌};
 ghost use Rattle.daa_fixed.specs.Leg.{IsSolidBelow};
 ghost use Rattle.daa_fixed.specs.Size.{IsWithin};
-ghost use Rattle.daa_config.specs.Settings.{IsAccepted, IsLevelInRange};
+ghost use Rattle.daa_config.specs.Settings.{IsLevelInRange};
 ghost use Rattle.daa_state.specs.InRange.{IsOwnInRange, IsTrafficInRange};
 ghost use Rattle.daa_scan.specs.Reach.{size_of, place_now, horizontal_speed, vertical_speed, CanEnter, IsInReach};
 
@@ -16,8 +16,7 @@ use daa_state::{Own, Traffic};
 pub(crate) fn is_in_reach(config: &Config, own: &Own, aircraft: &Traffic) -> bool
     requires own { IsOwnInRange own.now }
     requires aircraft { IsTrafficInRange aircraft.now }
-    ensures exact { IsTrue result ↔ IsInReach config.now own.now aircraft.now }
-    ensures accepted { IsAccepted config.now }
+    ensures { IsTrue result ↔ IsInReach config.now own.now aircraft.now }
 {
     let place = place_at_present(config, own, aircraft);
     let horizontal = greatest_horizontal_speed(config, own, aircraft);

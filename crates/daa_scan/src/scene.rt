@@ -1,16 +1,21 @@
 //! A configuration with a moment: what the scan answers of it.
 
-ghost use Rattle.std.specs.Prelude.{◌≡◌, ◌<◌, ◌↔◌, ℕ, IsTrue, length, slice_get, Some};
+ghost use Rattle.std.specs.Prelude.{◌≡◌, ◌<◌, ◌≤◌, ◌↔◌, ℕ, IsTrue, length, slice_get, slice_index, Some};
 ghost use Rattle.daa_config.specs.Candidates.{candidates_of};
 ghost use Rattle.daa_config.specs.Level.{IsMaskOf};
+ghost use Rattle.daa_config.specs.Settings.{IsAccepted};
 ghost use Rattle.daa_state.specs.InRange.{IsPictureInRange};
 ghost use Rattle.daa_state.specs.Picture.{aircraft_of};
 ghost use Rattle.daa_scan.specs.Reach.{IsInReachAt};
 ghost use Rattle.daa_scan.specs.Situation.{MeetsAt};
+ghost use Rattle.daa_scan.specs.Units.{group_count, IsCountInReach};
+ghost use Rattle.daa_scan.specs.Packed.{places_in_reach, packed_word, entry_at};
 
 use crate::reach::is_in_reach;
 use crate::walk::levels_of;
-use daa_config::Config;
+use daa_config::packing::{GROUP, WIDTH};
+use daa_config::{Config, Kind};
+use daa_schedule::Answers;
 use daa_state::{Picture, Traffic};
 use std::marker::Model;
 
@@ -19,17 +24,18 @@ use std::marker::Model;
 pub struct Scene<'a> {
     config: &'a Config,
     picture: &'a Picture,
+    groups: u32,
 }
 
 impl<'a> Model for Scene<'a> {
     ghost use Rattle.daa_scan.specs.Situation.{Situation};
-    ghost use Rattle.daa_state.specs.InRange.{IsPictureInRange};
+    ghost use Rattle.daa_scan.specs.Units.{IsScene};
 
     ghost Value = { Situation };
 
     ghost view = { λ s. record { settings = s.config.now; picture = s.picture.now } };
 
-    ghost invariant = { λ s. IsPictureInRange s.picture.now };
+    ghost invariant = { λ s. IsScene (record { settings = s.config.now; picture = s.picture.now }) s.groups };
 }
 
 impl<'a> Scene<'a> {
@@ -38,7 +44,11 @@ impl<'a> Scene<'a> {
         requires { IsPictureInRange picture.now }
         ensures { result ≡ record { settings = config.now; picture = picture.now } }
     {
-        Scene { config, picture }
+        Scene {
+            config,
+            picture,
+            groups: groups_of(config),
+        }
     }
 
     /// The mask of the levels at which candidate `index` of the whole list meets aircraft `aircraft` of the moment:
@@ -68,6 +78,68 @@ impl<'a> Scene<'a> {
         is_in_reach(self.config, &self.picture.own, self.aircraft(aircraft))
     }
 
+    /// How many aircraft are in reach, at most 64.
+    pub fn count_in_reach(&self) -> u32
+        ensures value { IsCountInReach self.now result }
+        ensures listed { result ≡ length (places_in_reach self.now) }
+        ensures few { result ≤ 64 }
+    {
+        let mut count = 0;
+        for aircraft in 0..self.picture.traffic.len() as u32 {
+            if self.in_reach(aircraft) {
+                count += 1;
+            }
+        }
+        count
+    }
+
+    /// Where the aircraft that stands at a place among those in reach has its place in the moment's list.
+    fn place_in_list(&self, place: u32) -> u32
+        requires { place < length (places_in_reach self.now) }
+        ensures value { result ≡ slice_index (places_in_reach self.now) place }
+        ensures there { result < length (aircraft_of self.now.picture) }
+    {
+        let mut before = 0;
+        for aircraft in 0..self.picture.traffic.len() as u32 {
+            if self.in_reach(aircraft) {
+                if before == place {
+                    return aircraft;
+                }
+                before += 1;
+            }
+        }
+        unreachable!()
+    }
+
+    /// The word of a group of candidates and an aircraft.
+    fn word_of_group(&self, aircraft: u32, group: u32) -> u64
+        requires aircraft { aircraft < length (aircraft_of self.now.picture) }
+        requires group { group < 159 }
+        ensures { result ≡ packed_word self.now aircraft group }
+    {
+        let mut word = 0;
+        let mut j = GROUP;
+        while j > 0 {
+            j -= 1;
+            word = (word << WIDTH) + self.entry(aircraft, group * GROUP + j);
+        }
+        word
+    }
+
+    /// What a word says of the candidate at an index: a bit that says that it is there, and above it the levels at which
+    /// it meets the aircraft; 0 where the index is past the list.
+    fn entry(&self, aircraft: u32, index: u32) -> u64
+        requires { aircraft < length (aircraft_of self.now.picture) }
+        ensures value { result ≡ entry_at self.now aircraft index }
+        ensures small { result < 32 }
+    {
+        if index < self.config.total() {
+            1 + 2 * u64::from(self.levels(index, aircraft))
+        } else {
+            0
+        }
+    }
+
     /// The aircraft at a place of the moment's list.
     fn aircraft(&self, place: u32) -> &Traffic
         requires { place < length (aircraft_of self.now.picture) }
@@ -75,4 +147,37 @@ impl<'a> Scene<'a> {
     {
         &self.picture.traffic[place as usize]
     }
+}
+
+impl<'a> Answers for Scene<'a> {
+    ghost use Rattle.daa_scan.specs.Units.{AreWordsOf};
+    ghost use Rattle.daa_scan.specs.Packed.{words_of, words_real};
+
+    ghost answers = { words_of };
+
+    /// One for each group of twelve candidates and each aircraft in reach; 0 where none is in reach.
+    fn units(&self) -> u32
+        ensures value { result ≡ length (words_of self.now) }
+        ensures words { AreWordsOf self.now (words_of self.now) }
+    {
+        self.groups * self.count_in_reach()
+    }
+
+    fn word(&self, unit: u32) -> u64 {
+        let aircraft = self.place_in_list(unit / self.groups);
+        self.word_of_group(aircraft, unit % self.groups)
+    }
+
+    ghost real = { words_real };
+}
+
+/// How many groups of twelve the candidates have; those that go to an altitude are the last of the whole list.
+#[tactic(auto, using(daa_config::proofs::CandidateLemmas::whole_ends))]
+fn groups_of(config: &Config) -> u32
+    ensures value { result ≡ group_count config.now }
+    ensures some { 1 ≤ result }
+    ensures few { result ≤ 159 }
+    ensures accepted { IsAccepted config.now }
+{
+    (config.start(Kind::Height) + config.count(Kind::Height)).div_ceil(GROUP)
 }

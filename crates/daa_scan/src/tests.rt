@@ -1,1 +1,56 @@
-//! Worked scenes.
+//! Worked scenes: a configuration, an ownship and aircraft as their lines say them, and what the scan answers.
+
+ghost use Rattle.std.specs.Prelude.{IfSome};
+ghost use Rattle.daa_state.specs.InRange.{IsPictureInRange};
+
+mod reaching;
+mod rows;
+mod texts;
+mod words;
+
+use super::*;
+use daa_config::{Config, read};
+use daa_state::{Moments, Picture, read_line};
+use std::process::Abort;
+use std::test::Fail;
+
+/// A text of a configuration, and parts of it with what stands in their place.
+struct Settings {
+    text: &'static str,
+    edits: &'static [(&'static str, &'static str)],
+}
+
+fn config_of(rt: &(impl AllocGlobal + Abort), settings: &Settings) -> Result<Config, Fail> {
+    let mut text = String::from_str(rt.alloc(), settings.text)?;
+    for (old, new) in settings.edits {
+        assert!(rt; text.contains(*old), "the text has no {old}");
+        text = text.replacen(rt.alloc(), *old, *new, 1)?;
+    }
+    Ok(read(rt.alloc(), text.as_str().as_bytes())?)
+}
+
+/// The picture of the lines of a moment.
+fn picture_in(lines: &[&str]) -> Option<Picture>
+    ensures { IfSome result IsPictureInRange }
+{
+    let mut moments = Moments::new();
+    for line in lines {
+        let Ok(word) = read_line(line.as_bytes(), 2) else {
+            return None;
+        };
+        match moments.take(word) {
+            Ok(Some(picture)) => return Some(picture),
+            Ok(None) => {}
+            Err(_) => return None,
+        }
+    }
+    None
+}
+
+fn may_be_shared<T: Send + Sync>() {}
+
+// The check refuses a type that may not be shared between threads.
+#[test]
+fn scenes_may_be_shared() {
+    may_be_shared::<Scene<'static>>();
+}

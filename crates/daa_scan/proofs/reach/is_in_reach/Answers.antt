@@ -33,14 +33,14 @@ loop-l-init c j level k f = absurd (omega (arith, k, f.numbered))
 pub loop-l-preserved : goal.loop-l-preserved
 loop-l-preserved c = more c.args.config.now c.loop-l.l c.level.result.now _ c.level.ensures.value c.loop-l.invariant (λ r. let t = (tested c.before).1 r in absurd (cc (t, c.if-can_enter.false)))
 
-pub returns-then-can_enter-clause-exact : goal.returns-then-can_enter-clause-exact
-returns-then-can_enter-clause-exact c = (
+pub returns-then-can_enter : goal.returns-then-can_enter
+returns-then-can_enter c = (
   (λ _. record { number = c.loop-l.l + 1; level = c.level.result.now; there = c.level.ensures.value; enters = (tested c.before).0 c.if-can_enter.true }),
   (λ _. refl),
 )
 
-pub returns-clause-exact : goal.returns-clause-exact
-returns-clause-exact c = (
+pub returns : goal.returns
+returns c = (
   (λ t. absurd (cc t)),
   (λ r. let inside = slice_get_within c.args.config.now.levels (r.number - 1) r.level r.there.there in
       absurd (c.loop-l.invariant r.number r.level (omega (arith, inside, c.levels-l-end.ensures.value, c.loop-l-test.false)) r.there r.enters)),

@@ -18,17 +18,17 @@ there c = subst (λ (s : Situation). slice_get (aircraft_of s.picture) c.args.ai
 
 exact : (c : After-is_in_reach) → IsTrue c.is_in_reach.result ↔ IsInReachAt (shown c) c.args.aircraft
 exact c = (
-  (λ t. record { aircraft = c.aircraft.result.now; there = there c; reached = c.is_in_reach.ensures.exact.0 t }),
-  (λ r. c.is_in_reach.ensures.exact.1 (subst (λ (t : Traffic). IsInReach (shown c).settings (shown c).picture.own t) (same_Some r.aircraft c.aircraft.result.now (sym r.there ∙ there c)) r.reached)),
+  (λ t. record { aircraft = c.aircraft.result.now; there = there c; reached = c.is_in_reach.ensures.0 t }),
+  (λ r. c.is_in_reach.ensures.1 (subst (λ (t : Traffic). IsInReach (shown c).settings (shown c).picture.own t) (same_Some r.aircraft c.aircraft.result.now (sym r.there ∙ there c)) r.reached)),
 )
 
 meets : (c : After-is_in_reach) (index l : ℕ) → MeetsAt (shown c) index c.args.aircraft l → IsTrue c.is_in_reach.result
 meets c index l m =
-    let a = c.is_in_reach.ensures.accepted in
+    let a = c.self.invariant.accepted in
     (exact c).1 (record {
       aircraft = m.aircraft;
       there = m.there;
-      reached = met_in_reach (shown c).settings (shown c).picture.own m.candidate m.aircraft a c.self.invariant.own (listed (shown c).settings a index m.candidate m.listed).of l m.meets;
+      reached = met_in_reach (shown c).settings (shown c).picture.own m.candidate m.aircraft a c.self.invariant.picture.own (listed (shown c).settings a index m.candidate m.listed).of l m.meets;
     })
 
 pub returns-clause-exact : goal.returns-clause-exact

@@ -1,0 +1,242 @@
+-- Whether a leg violates a volume at some time is decided by trying: the vertical part holds on one interval, whose ends are
+-- fractions, and within it the time of least distance decides; so some fraction of a bounded denominator does.
+use Rattle.std.proofs.Common.{◌≡◌, ◌↔◌, inl, inr, ⊎_elim, refl, sym, subst, ◌∙◌, arith, lit<, ℕ, zero, suc, ◌+◌, ◌-◌, ◌*◌, ◌^◌, ◌<◌, ◌≤◌, Bool, true, false, ℤ, pos, negsuc, neg_ℤ, ◌+ℤ◌, ◌-ℤ◌, ◌*ℤ◌, ◌≤ℤ◌, ◌<ℤ◌, unsigned_abs, Option, None, Some}
+use Rattle.std.specs.Prelude.{IsTrue, MatchOption}
+use Rattle.std.specs.Int.{int_max, int_min}
+use Rattle.std.proofs.lemmas.Int.{ints, by_lt_z}
+use Rattle.daa_fixed.specs.declared.Leg.{Leg}
+use Rattle.daa_fixed.specs.declared.Point.{Point}
+use Rattle.daa_fixed.specs.Flat.{dot_of, square_of}
+use Rattle.daa_fixed.specs.Leg.{IsLegInRange}
+use Rattle.daa_fixed.specs.Point.{IsBetween}
+use Rattle.daa_fixed.specs.Size.{IsWithin}
+use Rattle.daa_fixed.specs.Time.{IsTime, HoldsSometime, HoldsNever}
+use Rattle.daa_fixed.proofs.Bounds.{times, minus}
+use Rattle.daa_fixed.proofs.LegSizes as size
+use Rattle.daa_fixed.proofs.PointSizes.{IsPointInRange}
+use Rattle.daa_quad.specs.declared.Quad.{Quad}
+use Rattle.daa_quad.specs.Quad.{IsLeast}
+use Rattle.daa_quad.specs.Slope.{slope_of}
+use Rattle.daa_quad.proofs.Sizes.{IsQuadInRange}
+use Rattle.daa_quad.proofs.Parabolas.{start-least, end-least, vertex-least, vertex-between, vertex-bends, vertex-not_negative}
+use Rattle.daa_taumod.specs.declared.Model.{Model}
+use Rattle.daa_taumod.specs.declared.Model.TheVariants.{Taumod, Tcpa}
+use Rattle.daa_taumod.specs.declared.Volume.{Volume}
+use Rattle.daa_taumod.specs.Volume.{IsVolumeInRange, IsSoon, IsClosing, IsLevelling, ViolatesVertically, Violates, place_at, height_at}
+use Rattle.daa_taumod.proofs.ClosestApproach.{dot_nonneg}
+use Rattle.daa_vwindow.specs.Band.{IsInBand}
+use Rattle.daa_vwindow.specs.Window.{IsWindow}
+use Rattle.daa_vwindow.proofs.Bands.{IsMax, IsMin, max_is, min_is, ends_are, window, never, level_window, level_never, abs_within, abs_beyond}
+use Rattle.daa_vwindow.proofs.Heights.{retarget, rising, falling, standing}
+use Rattle.daa_detect.specs.Distance.{IsDistance}
+use Rattle.daa_detect.specs.Hit.{IsHit}
+use Rattle.daa_detect.proofs.Nearest.{time_between, vertex_small, none_elsewhere}
+use Rattle.daa_scan.specs.Packed.{is_soon, is_near, passes_near, is_closing, is_level, is_levelling, is_violated, is_violated_at, is_violated_sometime, some_below}
+use Rattle.daa_scan.proofs.Trying.{le_is, lt_is, both_is, either_is, some_is}
+
+-- ---- the volume at n/d
+soon_is : (m : Model) (leg : Leg) (vol : Volume) (n d : ℤ) → IsTrue (is_soon m leg vol n d) ↔ IsSoon m leg vol n d
+soon_is Taumod leg vol n d = le_is _ _
+soon_is Tcpa leg vol n d = le_is _ _
+
+closing_is : (leg : Leg) (vol : Volume) (n d : ℤ) → IsTrue (is_closing leg vol n d) ↔ IsClosing leg vol n d
+closing_is leg vol n d =
+    let e = both_is _ _ (lt_is _ _) (both_is (is_soon vol.model leg vol n d) (passes_near leg vol n d) (soon_is vol.model leg vol n d) (le_is _ _)) in (
+      (λ t. let p = e.0 t in record { nearing = p.0; soon = p.1.0; near = p.1.1 }),
+      (λ c. e.1 (c.nearing, (c.soon, c.near))),
+    )
+
+levelling_is : (leg : Leg) (vol : Volume) (n d : ℤ) → IsTrue (is_levelling leg vol n d) ↔ IsLevelling leg vol n d
+levelling_is leg vol n d =
+    let e = both_is _ _ (lt_is _ _) (le_is _ _) in (
+      (λ t. let p = e.0 t in record { nearing = p.0; soon = p.1 }),
+      (λ c. e.1 (c.nearing, c.soon)),
+    )
+
+pub violated_is : (leg : Leg) (vol : Volume) (n d : ℤ) → IsTrue (is_violated leg vol n d) ↔ Violates leg vol n d
+unfolding is_violated
+violated_is leg vol n d =
+    let e = both_is _ _
+    (either_is (is_near leg vol n d) (is_closing leg vol n d) (le_is _ _) (closing_is leg vol n d))
+    (either_is (is_level leg vol n d) (is_levelling leg vol n d) (le_is _ _) (levelling_is leg vol n d)) in (
+      (λ t. let p = e.0 t in record { horizontal = p.0; vertical = p.1 }),
+      (λ v. e.1 (v.horizontal, v.vertical)),
+    )
+
+-- ---- the vertical window
+record HasWindow (secs : ℕ) (P : ℤ → ℤ → Type 0) : Type 0 where
+  ends : Option (Point × Point)
+  is : MatchOption ends (HoldsNever secs P) (λ (p, q). IsWindow secs P p q)
+
+passage : (secs : ℕ) (h a low high : ℤ) → secs ≤ 180 → pos 1 ≤ℤ a → a ≤ℤ pos 40000 → HasWindow secs (IsInBand h a low high)
+passage secs h a low high short a1 slow =
+    let f : ℤ = int_max (neg_ℤ low -ℤ h) (pos 0) in
+    let l : ℤ = int_min (high -ℤ h) (pos secs *ℤ a) in
+    let fm : IsMax f (neg_ℤ low -ℤ h) (pos 0) = max_is _ _ refl in
+    let lm : IsMin l (high -ℤ h) (pos secs *ℤ a) = min_is _ _ refl in
+    by_lt_z l f
+    (λ lt. record { ends = None; is = never secs h a low high f l a1 fm lm lt })
+    (λ le.
+    let e = ends_are secs h a low high f l short a1 slow fm lm le in
+    let p : Point = record { num = f; den = a; not_negative = e.begun; num_bound = omega (arith, ints, e.in_order, e.ended); positive = a1; den_bound = omega (arith, ints) } in
+    let q : Point = record { num = l; den = a; not_negative = omega (arith, ints, e.begun, e.in_order); num_bound = omega (arith, ints, e.ended); positive = a1; den_bound = omega (arith, ints) } in
+    record { ends = Some (p, q); is = window secs h a low high f l a1 fm lm p q refl refl refl refl le })
+
+level : (secs : ℕ) (h high : ℤ) → secs ≤ 180 → HasWindow secs (IsInBand h (pos 0) high high)
+level secs h high short = by_lt_z high (pos (unsigned_abs h))
+    (λ lt. record { ends = None; is = level_never secs h high (abs_beyond h high _ refl lt) })
+    (λ le.
+    let b = abs_within h high _ refl le in
+    let p : Point = record { num = pos 0; den = pos 1; not_negative = omega (arith, ints); num_bound = omega (arith, ints); positive = omega (arith, ints); den_bound = omega (arith, ints) } in
+    let q : Point = record { num = pos secs; den = pos 1; not_negative = omega (arith, ints); num_bound = omega (arith, ints); positive = omega (arith, ints); den_bound = omega (arith, ints) } in
+    record { ends = Some (p, q); is = level_window secs h high b.0 b.1 p q refl refl refl refl })
+
+module _ (leg : Leg) (vol : Volume) (r : IsLegInRange leg) where
+  moved : (P : ℤ → ℤ → Type 0) → ((n d : ℤ) → IsTime leg.secs n d → (P n d ↔ ViolatesVertically leg vol n d)) → HasWindow leg.secs P → HasWindow leg.secs (ViolatesVertically leg vol)
+  moved P same w = record { ends = w.ends; is = retarget leg.secs P (ViolatesVertically leg vol) w.ends same w.is }
+
+  slow_up : (a : ℤ) → unsigned_abs a < 40000 → a ≤ℤ pos 40000
+  slow_up a h = omega (arith, ints)
+
+  slow_down : (a : ℤ) → unsigned_abs a < 40000 → neg_ℤ a ≤ℤ pos 40000
+  slow_down a h = omega (arith, ints)
+
+  vertical : HasWindow leg.secs (ViolatesVertically leg vol)
+  vertical = by_lt_z leg.velocity.up (pos 0)
+      (λ down. moved _ (falling leg vol _ down (max_is _ _ refl)) (passage leg.secs (neg_ℤ leg.place.up) (neg_ℤ leg.velocity.up) (int_max (pos vol.zthr) (pos vol.tcoa *ℤ neg_ℤ leg.velocity.up)) (pos vol.zthr) r.short (turn leg.velocity.up down) (slow_down leg.velocity.up r.up_speed)))
+      (λ not_down. by_lt_z (pos 0) leg.velocity.up
+      (λ up. moved _ (rising leg vol _ (one leg.velocity.up up) (max_is _ _ refl)) (passage leg.secs leg.place.up leg.velocity.up (int_max (pos vol.zthr) (pos vol.tcoa *ℤ leg.velocity.up)) (pos vol.zthr) r.short (one leg.velocity.up up) (slow_up leg.velocity.up r.up_speed)))
+      (λ not_up. moved _ (standing leg vol (still leg.velocity.up not_down not_up)) (level leg.secs leg.place.up (pos vol.zthr) r.short)))
+    where
+      turn : (a : ℤ) → a <ℤ pos 0 → pos 1 ≤ℤ neg_ℤ a
+      turn a h = omega (arith, ints)
+
+      one : (a : ℤ) → pos 0 <ℤ a → pos 1 ≤ℤ a
+      one a h = omega (arith, ints)
+
+      still : (a : ℤ) → pos 0 ≤ℤ a → a ≤ℤ pos 0 → a ≡ pos 0
+      still a h k = omega (arith, ints)
+
+-- ---- the time of least distance
+record HasLeast (q : Quad) (p r : Point) : Type 0 where
+  at : Point
+  between : IsBetween p r at.num at.den
+  least : IsLeast q p r at.num at.den
+
+least_between : (secs : ℕ) (q : Quad) (p r : Point) → secs ≤ 180 → IsTime secs r.num r.den → (p.num *ℤ r.den) ≤ℤ (r.num *ℤ p.den) → HasLeast q p r
+least_between secs q p r short last in_order =
+    let s : IsQuadInRange q = record { a0 = q.convex; a = q.a_bound; b = q.b_bound; c = q.c_bound } in
+    let tp : IsPointInRange p = record { n0 = p.not_negative; n1 = p.num_bound; d0 = p.positive; d1 = p.den_bound } in
+    let tr : IsPointInRange r = record { n0 = r.not_negative; n1 = r.num_bound; d0 = r.positive; d1 = r.den_bound } in
+    by_lt_z (slope_of q p.num p.den) (pos 0)
+    (λ falls. by_lt_z (pos 0) (slope_of q r.num r.den)
+    (λ rises.
+    let b = vertex-between q p r s tp tr falls rises in
+    let v : Point = record {
+      num = neg_ℤ q.b;
+      den = pos 2 *ℤ q.a;
+      not_negative = turned q.b (vertex-not_negative q p r s tp tr falls rises);
+      num_bound = vertex_small secs p r q.a q.b short r.positive last (vertex-bends q p r s tp tr falls rises) q.a_bound b;
+      positive = b.fraction;
+      den_bound = twice q.a q.a_bound;
+    } in
+    record { at = v; between = b; least = vertex-least q p r s tp tr })
+    (λ down. record { at = r; between = record { fraction = r.positive; from = in_order; upto = same _ }; least = end-least q p r s tp tr down }))
+    (λ up. record { at = p; between = record { fraction = p.positive; from = same _; upto = in_order }; least = start-least q p r s tp tr up })
+  where
+    turned : (b : ℤ) → b ≤ℤ pos 0 → pos 0 ≤ℤ neg_ℤ b
+    turned b h = omega (arith, ints)
+
+    twice : (a : ℤ) → unsigned_abs a < 2 ^ 32 → (pos 2 *ℤ a) ≤ℤ pos (2 ^ 33)
+    twice a h = omega (arith, ints)
+
+    same : (x : ℤ) → x ≤ℤ x
+    same x = omega (arith, ints)
+
+record HasDistance (leg : Leg) (vol : Volume) : Type 0 where
+  quad : Quad
+  is : IsDistance leg vol quad
+
+distance : (leg : Leg) (vol : Volume) → IsLegInRange leg → IsVolumeInRange vol → HasDistance leg vol
+distance leg vol r v =
+    let wa = size.vv r in
+    let wb = times two (size.sv r) in
+    let wd = size.natural 360000 vol.dthr v.dthr in
+    let wc = minus (size.ss r) (times wd wd) in
+    record {
+      quad = record {
+        a = dot_of leg.velocity.flat leg.velocity.flat;
+        b = pos 2 *ℤ dot_of leg.place.flat leg.velocity.flat;
+        c = dot_of leg.place.flat leg.place.flat -ℤ square_of (pos vol.dthr);
+        convex = dot_nonneg leg.velocity.flat;
+        a_bound = omega (arith, wa.size);
+        b_bound = omega (arith, wb.size);
+        c_bound = omega (arith, wc.size);
+      };
+      is = record { a = refl; b = refl; c = refl };
+    }
+  where
+    two : IsWithin 2 (pos 2)
+    two = record { size = omega arith }
+
+-- ---- the leg
+record IsDecided (leg : Leg) (vol : Volume) : Type 0 where
+  hit : Option Point
+  is : MatchOption hit (HoldsNever leg.secs (Violates leg vol)) (λ p. IsHit leg vol p.num p.den)
+
+decided : (leg : Leg) (vol : Volume) → IsLegInRange leg → IsVolumeInRange vol → IsDecided leg vol
+decided leg vol r v = let w = vertical leg vol r in by_window w.ends w.is
+  where
+    by_nearest : (p q : Point) → IsWindow leg.secs (ViolatesVertically leg vol) p q → (d : HasDistance leg vol) → (m : HasLeast d.quad p q) → (b : Bool) → IsTrue b ↔ Violates leg vol m.at.num m.at.den → IsDecided leg vol
+    by_nearest p q w d m true h = record {
+      hit = Some m.at;
+      is = record { time = time_between leg.secs p q m.at.num m.at.den q.positive w.last m.at.not_negative m.between; violates = h.0 refl };
+    }
+    by_nearest p q w d m false h = record {
+      hit = None;
+      is = none_elsewhere leg vol d.quad d.is p q m.at w p.positive q.positive m.at.not_negative m.at.positive m.between m.least (λ x. absurd (cc (h.1 x)));
+    }
+
+    by_window : (ends : Option (Point × Point)) → MatchOption ends (HoldsNever leg.secs (ViolatesVertically leg vol)) (λ (p, q). IsWindow leg.secs (ViolatesVertically leg vol) p q) → IsDecided leg vol
+    by_window None h = record { hit = None; is = λ n d t x. h n d t x.vertical }
+    by_window (Some e) w =
+        let p : Point = e.0 in
+        let q : Point = e.1 in
+        let d = distance leg vol r v in
+        let m = least_between leg.secs d.quad p q r.short w.last (((w.exact q.num q.den w.last).0 w.holds_last).from) in
+        by_nearest p q w d m _ (violated_is leg vol m.at.num m.at.den)
+
+module _ (leg : Leg) (vol : Volume) where
+  tried : (d n : ℕ) → IsTrue (is_violated_at leg vol d n) ↔ ((pos n ≤ℤ (pos leg.secs *ℤ pos (suc d))) × Violates leg vol (pos n) (pos (suc d)))
+  tried d n = both_is _ _ (le_is _ _) (violated_is leg vol (pos n) (pos (suc d)))
+
+  at_point : (n d : ℤ) → pos 0 ≤ℤ n → n ≤ℤ pos (2 ^ 41) → pos 1 ≤ℤ d → d ≤ℤ pos (2 ^ 33) → n ≤ℤ (pos leg.secs *ℤ d) → Violates leg vol n d → IsTrue (is_violated_sometime leg vol)
+  unfolding is_violated_sometime
+  at_point (pos n) (pos (suc d)) n0 n1 d0 d1 upto v = (some_is _ _).1 (record {
+    number = d;
+    below = omega (arith, ints);
+    holds = (some_is _ _).1 (record { number = n; below = omega (arith, ints); holds = (tried d n).1 (upto, v) });
+  })
+  at_point (pos n) (pos zero) n0 n1 d0 d1 upto v = absurd (omega (arith, ints))
+  at_point (pos n) (negsuc d) n0 n1 d0 d1 upto v = absurd (omega (arith, ints))
+  at_point (negsuc n) d n0 n1 d0 d1 upto v = absurd (omega (arith, ints))
+
+  found : IsTrue (is_violated_sometime leg vol) → HoldsSometime leg.secs (Violates leg vol)
+  unfolding is_violated_sometime
+  found t =
+      let d = (some_is _ _).0 t in
+      let n = (some_is _ _).0 d.holds in
+      let v = (tried d.number n.number).0 n.holds in
+      record {
+        num = pos n.number;
+        den = pos (suc d.number);
+        time = record { fraction = omega (arith, ints); from = omega (arith, ints); upto = v.0 };
+        holds = v.1;
+      }
+
+  by_hit : (hit : Option Point) → MatchOption hit (HoldsNever leg.secs (Violates leg vol)) (λ p. IsHit leg vol p.num p.den) → HoldsSometime leg.secs (Violates leg vol) → IsTrue (is_violated_sometime leg vol)
+  by_hit None h s = absurd (h s.num s.den s.time s.holds)
+  by_hit (Some p) h s = at_point p.num p.den p.not_negative p.num_bound p.positive p.den_bound h.time.upto h.violates
+
+  pub sometime_is : IsLegInRange leg → IsVolumeInRange vol → IsTrue (is_violated_sometime leg vol) ↔ HoldsSometime leg.secs (Violates leg vol)
+  sometime_is r v = let d = decided leg vol r v in (found, by_hit d.hit d.is)

@@ -1,0 +1,153 @@
+-- The words of the units in a form that can be computed. They are told in the field's terms by the units' numbering; here each
+-- question is answered by trying: a leg violates a volume at some time exactly where it does so at a fraction whose denominator is at
+-- most 2^33.
+use Rattle.std.specs.Prelude.{◌≢◌, ℕ, zero, suc, ◌+◌, ◌*◌, ◌/◌, ◌%◌, ◌^◌, ℤ, pos, ◌+ℤ◌, ◌*ℤ◌, neg_ℤ, unsigned_abs, Bool, true, false, ◌&&◌, ◌||◌, if◌then◌else◌, int_le, int_lt, List, [], ◌∷◌, ◌++◌, length, slice_get, slice_index, Option, Some, None}
+use Rattle.std.specs.List.{list_any}
+use Rattle.std.proofs.Common.{arith}
+use Rattle.daa_fixed.specs.declared.Leg.{Leg}
+use Rattle.daa_fixed.specs.declared.Solid.{Solid}
+use Rattle.daa_fixed.specs.Flat.{dot_of, cross_of, square_of}
+use Rattle.daa_taumod.specs.declared.Model.{Model}
+use Rattle.daa_taumod.specs.declared.Model.TheVariants.{Taumod, Tcpa}
+use Rattle.daa_taumod.specs.declared.Volume.{Volume}
+use Rattle.daa_taumod.specs.Volume.{place_at, height_at}
+use Rattle.daa_config.specs.declared.candidate.Candidate.{Candidate}
+use Rattle.daa_config.specs.declared.level.Level.{Level}
+use Rattle.daa_config.specs.Candidates.{candidates_of}
+use Rattle.daa_config.specs.Packing.{group_size}
+use Rattle.daa_config.specs.Settings.{Settings}
+use Rattle.daa_state.specs.declared.word.Own.{Own}
+use Rattle.daa_state.specs.declared.word.Traffic.{Traffic}
+use Rattle.daa_state.specs.Picture.{aircraft_of}
+use Rattle.daa_legs.specs.Meeting.{relative_leg}
+use Rattle.daa_scan.specs.Reach.{size_of, place_now, horizontal_speed, vertical_speed}
+use Rattle.daa_scan.specs.Situation.{Situation}
+use Rattle.daa_schedule.specs.Answers.{AreAnswers}
+use Rattle.daa_scan.specs.Units.{group_count, index_in}
+
+-- ---- the volume at n/d
+
+abbrev pub is_soon : Model → Leg → Volume → ℤ → ℤ → Bool
+is_soon Taumod leg vol n d =
+    int_le (dot_of (place_at leg n d) (place_at leg n d) +ℤ pos vol.tthr *ℤ d *ℤ dot_of (place_at leg n d) leg.velocity.flat) (square_of (pos vol.dthr *ℤ d))
+is_soon Tcpa leg vol n d =
+    int_le (neg_ℤ (dot_of (place_at leg n d) leg.velocity.flat)) (pos vol.tthr *ℤ d *ℤ dot_of leg.velocity.flat leg.velocity.flat)
+
+abbrev pub is_near : Leg → Volume → ℤ → ℤ → Bool
+is_near leg vol n d = int_le (dot_of (place_at leg n d) (place_at leg n d)) (square_of (pos vol.dthr *ℤ d))
+
+abbrev pub passes_near : Leg → Volume → ℤ → ℤ → Bool
+passes_near leg vol n d = int_le (square_of (cross_of (place_at leg n d) leg.velocity.flat)) (square_of (pos vol.dthr *ℤ d) *ℤ dot_of leg.velocity.flat leg.velocity.flat)
+
+abbrev pub is_closing : Leg → Volume → ℤ → ℤ → Bool
+is_closing leg vol n d = int_lt (dot_of (place_at leg n d) leg.velocity.flat) (pos 0) && (is_soon vol.model leg vol n d && passes_near leg vol n d)
+
+abbrev pub is_level : Leg → Volume → ℤ → ℤ → Bool
+is_level leg vol n d = int_le (pos (unsigned_abs (height_at leg n d))) (pos vol.zthr *ℤ d)
+
+abbrev pub is_levelling : Leg → Volume → ℤ → ℤ → Bool
+is_levelling leg vol n d =
+    int_lt (height_at leg n d *ℤ leg.velocity.up) (pos 0) && int_le (pos (unsigned_abs (height_at leg n d))) (pos vol.tcoa *ℤ d *ℤ pos (unsigned_abs leg.velocity.up))
+
+unfoldable pub is_violated : Leg → Volume → ℤ → ℤ → Bool
+is_violated leg vol n d = (is_near leg vol n d || is_closing leg vol n d) && (is_level leg vol n d || is_levelling leg vol n d)
+
+-- ---- by trying
+
+-- it is true at some number below n
+unfoldable pub some_below : (ℕ → Bool) → ℕ → Bool
+some_below f zero = false
+some_below f (suc n) = f n || some_below f n
+
+-- at n / (d + 1), where that is a time of the leg
+abbrev pub is_violated_at : Leg → Volume → (d n : ℕ) → Bool
+is_violated_at leg vol d n = int_le (pos n) (pos leg.secs *ℤ pos (suc d)) && is_violated leg vol (pos n) (pos (suc d))
+
+unfoldable pub is_violated_sometime : Leg → Volume → Bool
+is_violated_sometime leg vol = some_below (λ d. some_below (is_violated_at leg vol d) (suc (2 ^ 41))) (2 ^ 33)
+
+-- ---- masks
+
+module _ (settings : Settings) (own : Own) where
+  unfoldable pub is_met_within : Candidate → Traffic → Volume → ℕ → Bool
+  is_met_within candidate aircraft vol m = some_below (λ k. is_violated_sometime (relative_leg settings own candidate aircraft k) vol) m
+
+  -- the first level's bit is the lowest
+  unfoldable pub mask_of : Candidate → Traffic → List Level → ℕ
+  mask_of candidate aircraft [] = 0
+  mask_of candidate aircraft (level ∷ levels) = (if is_met_within candidate aircraft level.volume level.lookahead then 1 else 0) + 2 * mask_of candidate aircraft levels
+
+  -- ---- reach
+
+  abbrev pub enters : Traffic → Level → Bool
+  enters aircraft level =
+      int_le (size_of (place_now own aircraft).flat.east) (pos level.volume.dthr +ℤ pos (level.volume.tthr + level.lookahead) *ℤ horizontal_speed settings own aircraft)
+      && (int_le (size_of (place_now own aircraft).flat.north) (pos level.volume.dthr +ℤ pos (level.volume.tthr + level.lookahead) *ℤ horizontal_speed settings own aircraft)
+      && int_le (size_of (place_now own aircraft).up) (pos level.volume.zthr +ℤ pos (level.volume.tcoa + level.lookahead) *ℤ vertical_speed settings own aircraft))
+
+  unfoldable pub is_reached : Option Traffic → Bool
+  is_reached (Some aircraft) = list_any (enters aircraft) settings.levels
+  is_reached None = false
+
+-- those of the numbers below n at which it is true, in order
+unfoldable pub numbers_below : (ℕ → Bool) → ℕ → List ℕ
+numbers_below f zero = []
+numbers_below f (suc n) = if f n then numbers_below f n ++ (n ∷ []) else numbers_below f n
+
+-- whether the aircraft at a place is in reach
+unfoldable pub is_reached_at : Situation → ℕ → Bool
+is_reached_at s at = is_reached s.settings s.picture.own (slice_get (aircraft_of s.picture) at)
+
+-- the places of the aircraft in reach
+abbrev pub places_in_reach : Situation → List ℕ
+places_in_reach s = numbers_below (is_reached_at s) (length (aircraft_of s.picture))
+
+-- ---- words
+
+-- presence, and the mask above it
+abbrev pub entry_for : Situation → Option Candidate → Option Traffic → ℕ
+entry_for s (Some candidate) (Some aircraft) = 1 + 2 * mask_of s.settings s.picture.own candidate aircraft s.settings.levels
+entry_for s _ _ = 0
+
+unfoldable pub entry_at : Situation → (at index : ℕ) → ℕ
+entry_at s at index = entry_for s (slice_get (candidates_of s.settings) index) (slice_get (aircraft_of s.picture) at)
+
+-- n entries from number j on, five bits each, the first the lowest
+unfoldable pub packed_from : (ℕ → ℕ) → (j n : ℕ) → ℕ
+packed_from f j zero = 0
+packed_from f j (suc n) = f j + 32 * packed_from f (suc j) n
+
+unfoldable pub packed_word : Situation → (at group : ℕ) → ℕ
+packed_word s at group = packed_from (λ j. entry_at s at (index_in group j)) 0 group_size
+
+-- no word is 0, whatever the situation
+abbrev pub at_least_one : ℕ → ℕ
+at_least_one zero = 1
+at_least_one (suc n) = suc n
+
+unfoldable pub word_of : Situation → ℕ → ℕ
+word_of s unit = at_least_one (packed_word s (slice_index (places_in_reach s) (unit / group_count s.settings)) (unit % group_count s.settings))
+
+-- f at n numbers from i on
+unfoldable pub values_from : (ℕ → ℕ) → (i n : ℕ) → List ℕ
+values_from f i zero = []
+values_from f i (suc n) = f i ∷ values_from f (suc i) n
+
+-- the words in order of units
+unfoldable pub words_of : Situation → List ℕ
+words_of s = values_from (word_of s) 0 (group_count s.settings * length (places_in_reach s))
+
+-- no word is 0
+pub one_at_least : (n : ℕ) → at_least_one n ≢ 0
+one_at_least zero = λ e. cc e
+one_at_least (suc n) = λ e. cc e
+
+pub values_real : (s : Situation) (i n : ℕ) → AreAnswers (values_from (word_of s) i n)
+unfolding values_from word_of
+values_real s i zero k d h = absurd (omega (arith, h))
+values_real s i (suc n) zero d h = one_at_least _
+values_real s i (suc n) (suc k) d h = values_real s (suc i) n k d (omega (arith, h))
+
+pub words_real : (s : Situation) → AreAnswers (words_of s)
+unfolding words_of
+words_real s = values_real s 0 (group_count s.settings * length (places_in_reach s))

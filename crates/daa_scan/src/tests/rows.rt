@@ -1,0 +1,305 @@
+//! The levels at which each candidate meets one aircraft.
+
+ghost use Rattle.daa_state.specs.InRange.{IsPictureInRange};
+
+use super::texts::{EXAMPLE, FOUR, SMALL};
+use super::{Settings, config_of, picture_in};
+use crate::Scene;
+use crate::by_seconds::meets_by_seconds;
+use daa_config::Config;
+use daa_state::Picture;
+use std::process::Abort;
+use std::test::Fail;
+
+/// A configuration of eight candidates, which are Hold, the tracks 0, 90, 180 and 270, the present ground speed, level flight
+/// and 1000 feet; a moment of one aircraft; and the mask of each candidate.
+struct Row {
+    shows: &'static str,
+    settings: Settings,
+    own: &'static str,
+    aircraft: &'static str,
+    masks: [u8; 8],
+}
+
+/// North at 360 knots.
+const NORTH: &str = "own 0 0 1000 0 3600 0";
+/// The same, climbing at 3000 ft/min.
+const CLIMBING: &str = "own 0 0 1000 0 3600 3000";
+/// 0.66 miles to the right, abeam in 10 seconds.
+const ABEAM: &str = "traffic A 660 1000 1000 0 0 0 0";
+
+static ROWS: [Row; 17] = [
+    Row {
+        shows: "same place and velocity",
+        settings: Settings {
+            text: SMALL,
+            edits: &[],
+        },
+        own: NORTH,
+        aircraft: "traffic A 0 0 1000 0 3600 0 0",
+        masks: [1, 1, 1, 1, 1, 1, 1, 1],
+    },
+    Row {
+        shows: "the same by a report of 10 seconds",
+        settings: Settings {
+            text: SMALL,
+            edits: &[],
+        },
+        own: NORTH,
+        aircraft: "traffic A 0 -1000 1000 0 3600 0 10",
+        masks: [1, 1, 1, 1, 1, 1, 1, 1],
+    },
+    Row {
+        shows: "a foot apart from 0.48 to 0.52 seconds",
+        settings: Settings {
+            text: SMALL,
+            edits: &[("zthr = 450", "zthr = 1")],
+        },
+        own: CLIMBING,
+        aircraft: "traffic A 0 0 1025 0 3600 0 0",
+        masks: [1, 1, 1, 1, 1, 1, 1, 0],
+    },
+    Row {
+        shows: "touch at exactly 10 seconds",
+        settings: Settings {
+            text: SMALL,
+            edits: &[("tthr = 35", "tthr = 0")],
+        },
+        own: NORTH,
+        aircraft: ABEAM,
+        masks: [1, 1, 1, 1, 0, 1, 1, 1],
+    },
+    Row {
+        shows: "the same, alerted 9 seconds ahead",
+        settings: Settings {
+            text: SMALL,
+            edits: &[("tthr = 35", "tthr = 0"), ("alert = 10", "alert = 9")],
+        },
+        own: NORTH,
+        aircraft: ABEAM,
+        masks: [1, 1, 1, 1, 0, 1, 1, 1],
+    },
+    Row {
+        shows: "the same, a thousandth of a mile too far",
+        settings: Settings {
+            text: SMALL,
+            edits: &[("tthr = 35", "tthr = 0"), ("dthr = 660", "dthr = 659")],
+        },
+        own: NORTH,
+        aircraft: ABEAM,
+        masks: [0, 0, 1, 1, 0, 0, 0, 0],
+    },
+    Row {
+        shows: "touch at 10.5 seconds",
+        settings: Settings {
+            text: SMALL,
+            edits: &[
+                ("tthr = 35", "tthr = 0"),
+                ("lookahead = 10", "lookahead = 11"),
+                ("alert = 10", "alert = 11"),
+            ],
+        },
+        own: NORTH,
+        aircraft: "traffic A 660 1050 1000 0 0 0 0",
+        masks: [1, 1, 1, 1, 0, 1, 1, 1],
+    },
+    Row {
+        shows: "modified tau of at most 35 seconds",
+        settings: Settings {
+            text: SMALL,
+            edits: &[],
+        },
+        own: NORTH,
+        aircraft: ABEAM,
+        masks: [1, 1, 1, 1, 1, 1, 1, 1],
+    },
+    Row {
+        shows: "one leg, different times",
+        settings: Settings {
+            text: SMALL,
+            edits: &[
+                ("zthr = 450", "zthr = 100"),
+                ("tthr = 35", "tthr = 0"),
+                ("lookahead = 10", "lookahead = 15"),
+                ("alert = 10", "alert = 15"),
+            ],
+        },
+        own: CLIMBING,
+        aircraft: "traffic A 0 0 1440 0 0 0 0",
+        masks: [0, 0, 0, 0, 0, 0, 0, 0],
+    },
+    Row {
+        shows: "diverging",
+        settings: Settings {
+            text: SMALL,
+            edits: &[],
+        },
+        own: NORTH,
+        aircraft: "traffic A 0 -661 1000 0 0 0 0",
+        masks: [0, 0, 0, 0, 0, 0, 0, 0],
+    },
+    Row {
+        shows: "four levels",
+        settings: Settings {
+            text: FOUR,
+            edits: &[],
+        },
+        own: NORTH,
+        aircraft: ABEAM,
+        masks: [15, 15, 15, 15, 0, 15, 15, 15],
+    },
+    Row {
+        shows: "the first three of four levels straight ahead",
+        settings: Settings {
+            text: FOUR,
+            edits: &[("dthr = 660", "dthr = 659")],
+        },
+        own: NORTH,
+        aircraft: ABEAM,
+        masks: [7, 7, 15, 15, 0, 7, 7, 7],
+    },
+    Row {
+        shows: "the second of four levels is clear straight ahead",
+        settings: Settings {
+            text: FOUR,
+            edits: &[("dthr = 690", "dthr = 659")],
+        },
+        own: NORTH,
+        aircraft: ABEAM,
+        masks: [13, 13, 15, 15, 0, 13, 13, 13],
+    },
+    Row {
+        shows: "touch at the end of the one second",
+        settings: Settings {
+            text: SMALL,
+            edits: &[
+                ("tthr = 35", "tthr = 0"),
+                ("lookahead = 10", "lookahead = 1"),
+            ],
+        },
+        own: NORTH,
+        aircraft: "traffic A 660 100 1000 0 0 0 0",
+        masks: [1, 1, 1, 1, 1, 1, 1, 1],
+    },
+    Row {
+        shows: "touch after the one second",
+        settings: Settings {
+            text: SMALL,
+            edits: &[
+                ("tthr = 35", "tthr = 0"),
+                ("lookahead = 10", "lookahead = 1"),
+            ],
+        },
+        own: NORTH,
+        aircraft: "traffic A 660 101 1000 0 0 0 0",
+        masks: [0, 0, 0, 0, 0, 0, 0, 0],
+    },
+    Row {
+        shows: "touch at the end of 180 seconds",
+        settings: Settings {
+            text: SMALL,
+            edits: &[
+                ("tthr = 35", "tthr = 0"),
+                ("lookahead = 10", "lookahead = 180"),
+            ],
+        },
+        own: NORTH,
+        aircraft: "traffic A 660 18000 1000 0 0 0 0",
+        masks: [1, 1, 0, 0, 0, 1, 1, 1],
+    },
+    Row {
+        shows: "touch after 180 seconds",
+        settings: Settings {
+            text: SMALL,
+            edits: &[
+                ("tthr = 35", "tthr = 0"),
+                ("lookahead = 10", "lookahead = 180"),
+            ],
+        },
+        own: NORTH,
+        aircraft: "traffic A 660 18001 1000 0 0 0 0",
+        masks: [0, 0, 0, 0, 0, 0, 0, 0],
+    },
+];
+
+#[test]
+fn worked_rows(rt: HostRuntime) -> Result<(), Fail> {
+    for row in &ROWS {
+        let config = config_of(&rt, &row.settings)?;
+        let picture = picture_in(&["moment 0", row.own, row.aircraft, "end"]).expect(
+            &rt,
+            "the lines of a moment",
+        );
+        let scene = Scene::of(&config, &picture);
+        assert!(rt; config.total() == 8, "{}", row.shows);
+        assert!(rt; picture.traffic.len() == 1, "{}", row.shows);
+        for index in 0..config.total() {
+            let mask = scene.levels(index, 0);
+            assert!(rt;
+                Some(&mask) == row.masks.get(index as usize),
+                "{}, candidate {index}",
+                row.shows
+            );
+        }
+    }
+    Ok(())
+}
+
+/// Each candidate meets each aircraft at the same levels by runs and second by second.
+fn expect_same_levels(rt: &impl Abort, config: &Config, picture: &Picture)
+    requires { IsPictureInRange picture.now }
+{
+    let scene = Scene::of(config, picture);
+    for place in 0..picture.traffic.len() {
+        for index in 0..config.total() {
+            let mask = scene.levels(index, place as u32);
+            for l in 1..=config.levels() {
+                let meets = meets_by_seconds(
+                    config,
+                    &picture.own,
+                    config.candidate(index),
+                    &picture.traffic[place],
+                    config.level(l),
+                );
+                assert!(rt;
+                    (mask >> (l - 1) & 1 == 1) == meets,
+                    "candidate {index}, aircraft {place}, level {l}"
+                );
+            }
+        }
+    }
+}
+
+#[test]
+fn rows_are_the_same_second_by_second(rt: HostRuntime) -> Result<(), Fail> {
+    for row in &ROWS {
+        let config = config_of(&rt, &row.settings)?;
+        let picture = picture_in(&["moment 0", row.own, row.aircraft, "end"]).expect(
+            &rt,
+            "the lines of a moment",
+        );
+        expect_same_levels(&rt, &config, &picture);
+    }
+    Ok(())
+}
+
+#[test]
+fn the_example_is_the_same_second_by_second(rt: HostRuntime) -> Result<(), Fail> {
+    let config = config_of(
+        &rt,
+        &Settings {
+            text: EXAMPLE,
+            edits: &[],
+        },
+    )?;
+    let picture = picture_in(&[
+        "moment 0",
+        "own 100 -50 5000 37 3210 -700",
+        "traffic A 3000 2500 5600 -1500 900 -400 7",
+        "traffic B -2000 6000 4100 600 -2400 300 0",
+        "end",
+    ])
+    .expect(&rt, "the lines of a moment");
+    expect_same_levels(&rt, &config, &picture);
+    Ok(())
+}
