@@ -3,6 +3,10 @@ use Rattle.std.specs.Prelude.{◌≡◌, ◌≢◌, ℕ, ℤ, List, [], ◌∷�
 use Rattle.std.specs.List.{All}
 use Rattle.daa_bands.specs.declared.band.Band.{Band}
 
+-- the band from one value up to another, at a level
+abbrev pub band_of : ℤ → ℤ → ℕ → Band
+band_of from upto level = record { from = from; upto = upto; level = level }
+
 -- a value and its level
 abbrev pub Mark : Type 0
 Mark = ℤ × ℕ

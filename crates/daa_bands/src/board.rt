@@ -72,7 +72,7 @@ impl Board {
         requires { index < board_size }
         ensures { IsGreatestLevel (HasLevel (slice_index self.now index)) mask_levels result }
     {
-        (8 - self.mask(index).leading_zeros()) as u8
+        (u8::BITS - self.mask(index).leading_zeros()) as u8
     }
 }
 

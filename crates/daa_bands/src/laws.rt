@@ -1,8 +1,10 @@
 //! Laws of the definitions, each the contract of a function that does nothing.
-ghost use Rattle.std.specs.Prelude.{Bool, List, ℕ, length, IsTrue};
+ghost use Rattle.std.specs.Prelude.{◌≡◌, Bool, List, [], ◌∷◌, ℕ, pos, length, IsTrue};
+ghost use Rattle.daa_config.specs.Level.{HasLevel, IsGreatestLevel};
+ghost use Rattle.daa_config.specs.Packing.{mask_in};
 ghost use Rattle.daa_config.specs.Settings.{Settings, IsAccepted};
 ghost use Rattle.daa_config.specs.declared.kind.Kind.{Kind};
-ghost use Rattle.daa_bands.specs.Band.{Mark, HasOneList};
+ghost use Rattle.daa_bands.specs.Band.{Mark, AreBands, HasOneList, band_of};
 ghost use Rattle.daa_bands.specs.Board.{HasLevelOn, IsBoardOf, mask_levels};
 ghost use Rattle.daa_bands.specs.declared.band.Band.{Band};
 ghost use Rattle.daa_bands.specs.KindBands.{AreKindBands, HasOneKindList};
@@ -18,4 +20,16 @@ pub fn board_shows_what_is_covered()
     ensures { (covered : ℕ → ℕ → Bool) (board : List ℕ) (s : Settings) (kind : Kind) (bands : List Band) → IsAccepted s
         → IsBoardOf (λ index l. IsTrue (covered index l)) s board → AreKindBands (HasLevelOn board) mask_levels s kind bands
         → AreKindBands (λ index l. IsTrue (covered index l)) (length s.levels) s kind bands }
+{}
+
+/// Worked examples: of the tracks 0, 90, 180 and 270 the middle two show the same level and are one band, the first and the
+/// last are not joined over north; a run is not split, and the values of level 0 have a band too.
+pub fn worked_examples()
+    ensures joined { AreBands ((pos 0, 1) ∷ (pos 90, 2) ∷ (pos 180, 2) ∷ (pos 270, 1) ∷ [])
+        (band_of (pos 0) (pos 0) 1 ∷ band_of (pos 90) (pos 180) 2 ∷ band_of (pos 270) (pos 270) 1 ∷ []) }
+    ensures one_value { AreBands ((pos 1000, 0) ∷ []) (band_of (pos 1000) (pos 1000) 0 ∷ []) }
+    ensures split { AreBands ((pos 0, 1) ∷ (pos 90, 1) ∷ []) (band_of (pos 0) (pos 0) 1 ∷ band_of (pos 90) (pos 90) 1 ∷ []) → ⊥ }
+    ensures left_out { AreBands ((pos 0, 1) ∷ (pos 90, 0) ∷ []) (band_of (pos 0) (pos 0) 1 ∷ []) → ⊥ }
+    ensures greatest { IsGreatestLevel (HasLevel 5) mask_levels 3 }
+    ensures packed { mask_in 688163 3 ≡ 10 }
 {}

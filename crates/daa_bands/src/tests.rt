@@ -1,6 +1,8 @@
 //! Boards that are filled by hand, and the bands that they show.
 
-use crate::{Band, Board, has_one_list_of_bands, runs};
+use crate::{
+    Band, Board, board_shows_what_is_covered, has_one_list_of_bands, runs, worked_examples,
+};
 use daa_config::{Config, Kind, read};
 use std::process::Abort;
 use std::test::Fail;
@@ -108,10 +110,19 @@ fn packed_word(rt: HostRuntime) {
         let mut marked = Board::new();
         mark_all(&mut merged, &[(first, 2), (first + 1, 4)]);
         merged.merge_word(group, WORD);
-        let masks = [(first, 3), (first + 1, 4), (first + 3, 10), (first + 11, 15)];
+        let masks = [
+            (first, 3),
+            (first + 1, 4),
+            (first + 3, 10),
+            (first + 11, 15),
+        ];
         mark_all(&mut marked, &masks);
         for index in 0..2048 {
-            assert_eq!(rt; merged.mask(index), marked.mask(index), "group {group}, at {index}");
+            assert_eq!(rt;
+                merged.mask(index),
+                marked.mask(index),
+                "group {group}, at {index}"
+            );
         }
     }
 }
@@ -141,4 +152,6 @@ fn is_shared(rt: HostRuntime) {
 #[test]
 fn laws() {
     has_one_list_of_bands();
+    board_shows_what_is_covered();
+    worked_examples();
 }

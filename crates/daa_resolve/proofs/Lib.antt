@@ -1,4 +1,5 @@
 pub mod BestLemmas
-pub mod OnlyLemmas
 pub mod OpenOnSideLemmas
+pub mod OnlyLemmas
 pub mod SomeLemmas
+pub mod BoardLemmas

@@ -1,5 +1,5 @@
 -- No two choices on a side are equally distance_to, so that there is one answer.
-use Rattle.std.proofs.Common.{◌≡◌, ◌≤◌, ◌+◌, ◌*◌, ◌%◌, ◌∙◌, ℕ, ℤ, pos, negsuc, ◌≤ℤ◌, ◌+ℤ◌, ◌-ℤ◌, slice_get, Some, Ok, refl, sym, ap, subst, arith}
+use Rattle.std.proofs.Common.{◌≡◌, ◌≤◌, ◌+◌, ◌*◌, ◌%◌, ◌∙◌, ℕ, ℤ, pos, ◌≤ℤ◌, ◌+ℤ◌, ◌-ℤ◌, slice_get, Some, refl, sym, ap, subst, arith}
 use Rattle.std.specs.Prelude.{nat_abs, ◌*ℤ◌}
 use Rattle.std.specs.Int.{int_rem_euclid}
 use Rattle.std.proofs.lemmas.Int.{ints, int_rem_euclid_is}
@@ -16,7 +16,7 @@ use Rattle.daa_state.specs.declared.word.Own.{Own}
 use Rattle.daa_resolve.specs.declared.side.Side.{Side}
 use Rattle.daa_resolve.specs.declared.side.Side.TheVariants.{Lower, Upper}
 use Rattle.daa_resolve.specs.Side.{way_of, distance_of, present_of}
-use Rattle.daa_resolve.specs.Resolution.{IsResolution, HasOneResolution, distance_to}
+use Rattle.daa_resolve.specs.Resolution.{IsResolution, distance_to}
 
 same_turn : (a b m n : ℕ) → a + n ≡ b + m → m % 360 ≡ n % 360 → a ≤ 359 → b ≤ 359 → a ≡ b
 same_turn a b m n e h k l = omega arith

@@ -1,9 +1,9 @@
 -- Each side has an answer, wherever it can be told what is covered.
-use Rattle.std.proofs.Common.{◌≡◌, ◌<◌, ◌≤◌, ◌+◌, ◌-◌, ◌⊎◌, ℕ, zero, suc, ℤ, pos, ◌≤ℤ◌, ◌+ℤ◌, Bool, true, false, List, Option, Some, None, length, slice_get, refl, sym, subst, arith, inl, inr}
-use Rattle.std.specs.Prelude.{◌<ℤ◌, ◌*ℤ◌, int_lt, slice_index}
+use Rattle.std.proofs.Common.{◌≡◌, ◌<◌, ◌≤◌, ◌+◌, ◌-◌, ◌⊎◌, ℕ, zero, suc, ℤ, pos, ◌≤ℤ◌, Bool, true, false, List, Option, Some, None, length, slice_get, refl, subst, arith, inl, inr}
+use Rattle.std.specs.Prelude.{◌<ℤ◌, int_lt, slice_index}
 use Rattle.std.specs.Int.{bit_at}
 use Rattle.std.proofs.lemmas.Int.{ints}
-use Rattle.daa_config.specs.Candidates.{values_of, grid_of, start_of}
+use Rattle.daa_config.specs.Candidates.{values_of, start_of}
 use Rattle.daa_config.specs.Settings.{Settings, IsAccepted}
 use Rattle.daa_config.specs.declared.candidate.Resolution.{Resolution}
 use Rattle.daa_config.specs.declared.candidate.Resolution.TheVariants.{Keep, To, Nothing}
@@ -90,6 +90,7 @@ module _ (Covered : ℕ → ℕ → Type 0) (told : (index l : ℕ) → IsTold (
       none : (CoveredBelow index n → ⊥) → ((s.numbers.resolve ≤ℤ pos n) × Covered index n → ⊥) → (l : ℕ) → s.numbers.resolve ≤ℤ pos l → (l < n) ⊎ (l ≡ n) → Covered index l → ⊥
       none before here l a (inl b) c = before (l, a, b, c)
       none before here l a (inr e) c = here (subst (λ (k : ℕ). (s.numbers.resolve ≤ℤ pos k) × Covered index k) e (a, c))
+
       go : IsTold (CoveredBelow index n) → IsTold (s.numbers.resolve ≤ℤ pos n) → IsTold (Covered index n) → IsTold (CoveredBelow index (suc n))
       go (inl (l, a, b, c)) x y = inl (l, a, omega arith, c)
       go (inr before) (inl a) (inl c) = inl (n, a, omega arith, c)
@@ -117,9 +118,11 @@ module _ (Covered : ℕ → ℕ → Type 0) (told : (index l : ℕ) → IsTold (
     Best n = (best : Option ℕ) × IsBest Covered s own kind side n best
 
     one_more : (n : ℕ) (v : ℤ) → slice_get (values_of kind s) n ≡ Some v → Best n → IsTold (IsOpenOnSide Covered s own kind side n v) → Best (n + 1)
-    one_more n v e (best, h) (inr none) =
-        (best, skip Covered s own kind side n best h (λ w c.
-        let f : w ≡ v = (let x = c.value_is in cc) in none (subst (λ (z : ℤ). IsOpenOnSide Covered s own kind side n z) f c)))
+    one_more n v e (best, h) (inr none) = (
+      best,
+      skip Covered s own kind side n best h (λ w c.
+          let f : w ≡ v = (let x = c.value_is in cc) in none (subst (λ (z : ℤ). IsOpenOnSide Covered s own kind side n z) f c)),
+    )
     one_more n v e (None, h) (inl c) = (Some n, first Covered s own kind side n v h c)
     one_more n v e (Some other, h) (inl c) = go (order_of (distance_to Covered s own kind side h.0) (distance_to Covered s own kind side v))
       where

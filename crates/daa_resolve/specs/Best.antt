@@ -12,4 +12,4 @@ IsBest Covered s own kind side count None = (p : ℕ) (v : ℤ) → p < count �
 IsBest Covered s own kind side count (Some place) =
     (value : ℤ) × (place < count) × IsOpenOnSide Covered s own kind side place value
     × ((p : ℕ) (v : ℤ) → p < count → IsOpenOnSide Covered s own kind side p v
-        → distance_to Covered s own kind side value ≤ℤ distance_to Covered s own kind side v)
+    → distance_to Covered s own kind side value ≤ℤ distance_to Covered s own kind side v)

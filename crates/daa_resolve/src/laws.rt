@@ -1,14 +1,42 @@
 //! Laws of the definitions, each the contract of a function that does nothing.
-ghost use Rattle.std.specs.Prelude.{List, ℕ};
+ghost use Rattle.std.specs.Prelude.{◌≡◌, Bool, List, ℕ, pos, IsTrue};
 ghost use Rattle.daa_config.specs.Settings.{Settings, IsAccepted};
+ghost use Rattle.daa_config.specs.declared.candidate.Resolution.{Resolution};
 ghost use Rattle.daa_config.specs.declared.kind.Kind.{Kind};
+ghost use Rattle.daa_config.specs.declared.kind.Kind.TheVariants.{Track, Speed, Height};
 ghost use Rattle.daa_state.specs.declared.word.Own.{Own};
-ghost use Rattle.daa_bands.specs.Board.{HasLevelOn};
+ghost use Rattle.daa_bands.specs.Board.{HasLevelOn, IsBoardOf};
 ghost use Rattle.daa_resolve.specs.declared.side.Side.{Side};
-ghost use Rattle.daa_resolve.specs.Resolution.{HasOneResolution};
+ghost use Rattle.daa_resolve.specs.declared.side.Side.TheVariants.{Lower, Upper};
+ghost use Rattle.daa_resolve.specs.Resolution.{IsResolution, HasOneResolution};
+ghost use Rattle.daa_resolve.specs.Side.{distance_of, IsOnSide};
 
 /// Each side of each kind has exactly one answer: there is one, and no two candidates of a side are equally far.
 pub fn has_one_answer()
     ensures { (board : List ℕ) (s : Settings) (own : Own) (kind : Kind) (side : Side) → IsAccepted s
         → HasOneResolution (HasLevelOn board) s own kind side }
+{}
+
+/// Where a board stands for what is covered, the answers over the board are those over what is covered.
+pub fn board_answers_for_what_is_covered()
+    ensures { (covered : ℕ → ℕ → Bool) (board : List ℕ) (s : Settings) (own : Own) (kind : Kind) (side : Side) (answer : Resolution)
+        → IsAccepted s → IsBoardOf (λ index l. IsTrue (covered index l)) s board
+        → IsResolution (HasLevelOn board) s own kind side answer
+        → IsResolution (λ index l. IsTrue (covered index l)) s own kind side answer }
+{}
+
+/// Worked examples: from track 45 the track 0 is 45 degrees to the left, 90 is 45 to the right, 180 is 135 to the right and
+/// 270 is 135 to the left; exactly half a turn is to the right alone; the present value is to the left or down.
+pub fn worked_examples()
+    ensures left_45 { distance_of Track Lower (pos 45) (pos 0) ≡ pos 45 }
+    ensures right_45 { distance_of Track Upper (pos 45) (pos 90) ≡ pos 45 }
+    ensures right_135 { distance_of Track Upper (pos 45) (pos 180) ≡ pos 135 }
+    ensures left_135 { distance_of Track Lower (pos 45) (pos 270) ≡ pos 135 }
+    ensures right_half { IsOnSide Track Upper (pos 90) (pos 270) }
+    ensures not_left_half { IsOnSide Track Lower (pos 90) (pos 270) → ⊥ }
+    ensures present_track { IsOnSide Track Lower (pos 90) (pos 90) }
+    ensures not_right { IsOnSide Track Upper (pos 90) (pos 90) → ⊥ }
+    ensures present_speed { IsOnSide Speed Lower (pos 3600) (pos 3600) }
+    ensures not_up { IsOnSide Speed Upper (pos 3600) (pos 3600) → ⊥ }
+    ensures down { distance_of Height Lower (pos 1000) (pos 400) ≡ pos 600 }
 {}

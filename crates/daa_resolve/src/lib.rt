@@ -7,7 +7,7 @@ mod open;
 mod resolution;
 mod side;
 
-pub use laws::has_one_answer;
+pub use laws::{board_answers_for_what_is_covered, has_one_answer, worked_examples};
 pub use resolution::nearest;
 pub use side::Side;
 

@@ -1,7 +1,7 @@
 //! What is answered where some candidates are open and the others covered.
 
 use crate::side::distance;
-use crate::{Side, has_one_answer, nearest};
+use crate::{Side, board_answers_for_what_is_covered, has_one_answer, nearest, worked_examples};
 use daa_bands::Board;
 use daa_config::{Config, Kind, Resolution, read};
 use daa_state::Own;
@@ -133,7 +133,14 @@ fn present_value(rt: HostRuntime) -> Result<(), Fail> {
         (Kind::Climb, 0),
         (Kind::Height, 1000),
     ] {
-        expect_answers(&rt, &board, &config, &own, kind, (Resolution::To(value), none));
+        expect_answers(
+            &rt,
+            &board,
+            &config,
+            &own,
+            kind,
+            (Resolution::To(value), none),
+        );
     }
     Ok(())
 }
@@ -176,17 +183,26 @@ fn corrective_levels(rt: HostRuntime) -> Result<(), Fail> {
     ] {
         let mut board = Board::new();
         board.mark(0, mask);
-        assert_eq!(rt; nearest(&board, &config, &own, Kind::Track, Side::Upper), wanted, "mask {mask}");
+        assert_eq!(rt;
+            nearest(&board, &config, &own, Kind::Track, Side::Upper),
+            wanted,
+            "mask {mask}"
+        );
     }
     let mut board = Board::new();
     board.mark(0, 6);
     board.mark(2, 4);
     let wanted = Resolution::To(180);
-    assert_eq!(rt; nearest(&board, &config, &own, Kind::Track, Side::Upper), wanted);
+    assert_eq!(rt;
+        nearest(&board, &config, &own, Kind::Track, Side::Upper),
+        wanted
+    );
     Ok(())
 }
 
 #[test]
 fn laws() {
     has_one_answer();
+    board_answers_for_what_is_covered();
+    worked_examples();
 }

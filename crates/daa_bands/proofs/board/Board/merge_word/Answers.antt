@@ -1,5 +1,3 @@
-use Rattle.std.proofs.Common.{◌*◌}
-use Rattle.daa_config.specs.Packing.{group_size}
 use Rattle.daa_bands.proofs.MergeLemmas.{merge_more}
 use Rattle.daa_bands.proofs.board.Board.merge_word.Goals as goal
 
