@@ -1,5 +1,5 @@
 -- What is written of a moment is its text.
-use Rattle.std.proofs.Common.{◌≡◌, ◌<◌, ◌+◌, ℕ, suc, List, [], ◌∷◌, length, refl, sym, subst, arith, slice_index_or, slice_get, Some, ℤ, pos, ◌≤ℤ◌}
+use Rattle.std.proofs.Common.{◌≡◌, ◌<◌, ℕ, suc, List, [], ◌∷◌, length, refl, sym, subst, arith, slice_index_or}
 use Rattle.std.specs.Prelude.{Option, Result}
 use Rattle.std.specs.List.{flat_map, zip}
 use Rattle.daa_config.specs.Settings.{Settings, IsAccepted}
