@@ -1,28 +1,19 @@
 -- What is written of a moment is its text.
-use Rattle.std.proofs.Common.{◌≡◌, ◌<◌, ◌≤◌, ◌+◌, ℕ, suc, List, [], ◌∷◌, length, refl, sym, subst, arith, append_assoc, slice_index_or, slice_get, Some, ℤ, pos, ◌≤ℤ◌}
+use Rattle.std.proofs.Common.{◌≡◌, ◌<◌, ℕ, suc, List, [], ◌∷◌, length, refl, sym, subst, arith, slice_index_or}
 use Rattle.std.specs.Prelude.{Option, Result}
 use Rattle.std.specs.List.{flat_map, zip}
-use Rattle.std.proofs.lemmas.Int.{ints}
-use Rattle.std.proofs.lemmas.Option.{slice_get_within}
 use Rattle.daa_config.specs.Settings.{Settings, IsAccepted}
-use Rattle.daa_config.specs.Candidates.{values_of, start_of, candidates_of}
 use Rattle.daa_config.specs.declared.kind.Kind.{Kind}
 use Rattle.daa_config.specs.declared.kind.Kind.TheVariants.{Track, Speed, Climb, Height}
-use Rattle.daa_config.specs.declared.candidate.Resolution.{Resolution}
-use Rattle.daa_config.specs.declared.candidate.Resolution.TheVariants.{Keep, To, Nothing}
-use Rattle.daa_config.proofs.CandidateLemmas.{kind_within, length_candidates}
 use Rattle.daa_state.specs.Picture.{aircraft_of}
-use Rattle.daa_state.specs.declared.word.Own.{Own}
 use Rattle.daa_state.specs.declared.word.Picture.{Picture}
 use Rattle.daa_state.specs.declared.word.Traffic.{Traffic}
 use Rattle.daa_bands.specs.Board.{HasLevelOn, IsBoardOf}
 use Rattle.daa_bands.specs.Walk.{bands_left}
 use Rattle.daa_bands.proofs.KindLemmas.{bands_covered}
 use Rattle.daa_bands.proofs.WalkLemmas.{all_bands}
-use Rattle.daa_resolve.specs.declared.side.Side.{Side}
 use Rattle.daa_resolve.specs.declared.side.Side.TheVariants.{Lower, Upper}
-use Rattle.daa_resolve.specs.Open.{IsOpen}
-use Rattle.daa_resolve.specs.Resolution.{IsOpenOnSide, IsResolution}
+use Rattle.daa_resolve.proofs.BoardLemmas.{resolved}
 use Rattle.daa_report.specs.Says.{Says}
 use Rattle.daa_engine.specs.Covered.{CoveredAt}
 use Rattle.daa_engine.specs.Saying.{SaysMoment}
@@ -57,36 +48,14 @@ module _ (s : Settings) (p : Picture) (board : List ℕ) (is : IsBoardOf (Covere
   unfolding bands_text
   band_lines kind = (bands_left board s kind 0, bands_covered (CoveredAt s p) s board ok is kind (bands_left board s kind 0) (all_bands board s kind), refl)
 
-  low : pos 1 ≤ℤ s.numbers.resolve
-  low = ok.resolve.least
-
-  opened : (index : ℕ) → index < length (candidates_of s) → IsOpen (HasLevelOn board) s index → IsOpen (CoveredAt s p) s index
-  opened index in' o l from upto c = let k = low in o l from upto ((is.each index l in' (omega (arith, ints)) upto).1 c)
-
-  shut : (index : ℕ) → index < length (candidates_of s) → IsOpen (CoveredAt s p) s index → IsOpen (HasLevelOn board) s index
-  shut index in' o l from upto c = let k = low in o l from upto ((is.each index l in' (omega (arith, ints)) upto).0 c)
-
-  some_candidate : 0 < length (candidates_of s)
-  some_candidate = omega (arith, length_candidates s)
-
-  module _ (kind : Kind) (side : Side) where
-    place_in : (place : ℕ) (v : ℤ) → slice_get (values_of kind s) place ≡ Some v → start_of kind s + place < length (candidates_of s)
-    place_in place v e = let w = kind_within kind s in let x = slice_get_within (values_of kind s) place v e in omega arith
-
-    chosen : (place : ℕ) (v : ℤ) → IsOpenOnSide (HasLevelOn board) s p.own kind side place v → IsOpenOnSide (CoveredAt s p) s p.own kind side place v
-    chosen place v c = record { value_is = c.value_is; on_side = c.on_side; is_open = opened (start_of kind s + place) (place_in place v c.value_is) c.is_open }
-
-    choice : (place : ℕ) (v : ℤ) → IsOpenOnSide (CoveredAt s p) s p.own kind side place v → IsOpenOnSide (HasLevelOn board) s p.own kind side place v
-    choice place v c = record { value_is = c.value_is; on_side = c.on_side; is_open = shut (start_of kind s + place) (place_in place v c.value_is) c.is_open }
-
-    resolved : (answer : Resolution) → IsResolution (HasLevelOn board) s p.own kind side answer → IsResolution (CoveredAt s p) s p.own kind side answer
-    resolved Keep h = opened 0 some_candidate h
-    resolved (To value) h =
-        ((λ o. h.0 (shut 0 some_candidate o)), (h.1.0, chosen h.1.0 value h.1.1, λ q v c. h.1.2 q v (choice q v c)))
-    resolved Nothing h = ((λ o. h.0 (shut 0 some_candidate o)), λ q v c. h.1 q v (choice q v c))
-
   answer_line : (kind : Kind) (sides : Sides) → AreSides (HasLevelOn board) s p.own kind sides → IsAnswerLine s p kind (sides_text kind sides)
-  answer_line kind sides h = (sides.lower, sides.upper, resolved kind Lower sides.lower h.lower, resolved kind Upper sides.upper h.upper, refl)
+  answer_line kind sides h = (
+    sides.lower,
+    sides.upper,
+    resolved (CoveredAt s p) s board ok is p.own kind Lower sides.lower h.lower,
+    resolved (CoveredAt s p) s board ok is p.own kind Upper sides.upper h.upper,
+    refl,
+  )
 
   pub moment_text : (warnings : List Warning) (advice : Advice) → AreWarnings s p.own (aircraft_of p) (length (aircraft_of p)) warnings
       → IsAdvice (HasLevelOn board) s p.own advice → IsMomentText s p (written s p board warnings advice)

@@ -36,7 +36,10 @@ fn say_alert<K: Sink>(
 ) -> Result<(), SinkFault>
     ensures { PageSays (K.taken sink.old) (K.taken sink.new) page.old page.new (K.faults sink.old) (K.faults sink.new) (alert_line aircraft.now.id warning.now.level warning.now.first) result }
 {
-    page.say(sink, &Line::alert(&aircraft.id, warning.level, warning.first))
+    page.say(
+        sink,
+        &Line::alert(&aircraft.id, warning.level, warning.first),
+    )
 }
 
 /// Says the two lines of an aircraft.

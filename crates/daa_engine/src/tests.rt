@@ -1,1 +1,563 @@
-//! tests
+//! Worked moments: a configuration and the lines of a moment, and the text of its report.
+
+ghost use Rattle.std.specs.Prelude.{◌<◌, ◌≤◌, IfSome, length};
+ghost use Rattle.daa_config.specs.Candidates.{candidates_of};
+ghost use Rattle.daa_state.specs.InRange.{IsPictureInRange};
+
+mod texts;
+
+use super::*;
+use daa_config::{Config, read};
+use daa_detect::is_hit;
+use daa_legs::{Flight, relative};
+use daa_outside::{MemSink, Open};
+use daa_report::SinkFault;
+use daa_state::{Moments, Picture, read_line};
+use std::alloc::Global;
+use std::process::Abort;
+use std::test::Fail;
+use std::thread::Threads;
+use texts::{EXAMPLE, FOUR, LARGE, SMALL};
+
+/// A configuration's text with parts replaced, the lines of a moment, and its text.
+struct Row {
+    shows: &'static str,
+    text: &'static str,
+    edits: &'static [(&'static str, &'static str)],
+    lines: &'static [&'static str],
+    report: &'static str,
+}
+
+/// North at 360 knots.
+const NORTH: &str = "own 0 0 1000 0 3600 0";
+/// The same, climbing at 3000 ft/min.
+const CLIMBING: &str = "own 0 0 1000 0 3600 3000";
+/// 0.66 miles to the right, abeam in 10 seconds.
+const ABEAM: &str = "traffic A 660 1000 1000 0 0 0 0";
+
+/// No aircraft is met.
+const CLEAR: &str = "moment 0
+track 0 270 0
+gs 3600 3600 0
+vs 0 0 0
+alt 1000 1000 0
+resolve track left keep right keep
+resolve gs down keep up keep
+resolve vs down keep up keep
+resolve alt down keep up keep
+done 0
+";
+
+/// Every candidate meets the aircraft, which violates the volume now.
+const TOGETHER: &str = "moment 0
+now A 1
+alert A 1 0
+track 0 270 1
+gs 3600 3600 1
+vs 0 0 1
+alt 1000 1000 1
+resolve track left none right none
+resolve gs down none up none
+resolve vs down none up none
+resolve alt down none up none
+done 0
+";
+
+static ROWS: [Row; 18] = [
+    Row {
+        shows: "no aircraft",
+        text: SMALL,
+        edits: &[],
+        lines: &[NORTH],
+        report: CLEAR,
+    },
+    Row {
+        shows: "same place and velocity",
+        text: SMALL,
+        edits: &[],
+        lines: &[NORTH, "traffic A 0 0 1000 0 3600 0 0"],
+        report: TOGETHER,
+    },
+    Row {
+        shows: "the same by a report of 10 seconds",
+        text: SMALL,
+        edits: &[],
+        lines: &[NORTH, "traffic A 0 -1000 1000 0 3600 0 10"],
+        report: TOGETHER,
+    },
+    Row {
+        shows: "a foot apart from 0.48 to 0.52 seconds, and only where it climbs on",
+        text: SMALL,
+        edits: &[("zthr = 450", "zthr = 1")],
+        lines: &[CLIMBING, "traffic A 0 0 1025 0 3600 0 0"],
+        report: "moment 0
+now A 0
+alert A 1 0
+track 0 270 1
+gs 3600 3600 1
+vs 0 0 1
+alt 1000 1000 0
+resolve track left none right none
+resolve gs down none up none
+resolve vs down none up none
+resolve alt down 1000 up none
+done 0
+",
+    },
+    Row {
+        shows: "a touch at exactly 10 seconds",
+        text: SMALL,
+        edits: &[("tthr = 35", "tthr = 0")],
+        lines: &[NORTH, ABEAM],
+        report: "moment 0
+now A 0
+alert A 1 9
+track 0 180 1
+track 270 270 0
+gs 3600 3600 1
+vs 0 0 1
+alt 1000 1000 1
+resolve track left 270 right none
+resolve gs down none up none
+resolve vs down none up none
+resolve alt down none up none
+done 0
+",
+    },
+    Row {
+        shows: "the same, alerted 9 seconds ahead",
+        text: SMALL,
+        edits: &[("tthr = 35", "tthr = 0"), ("alert = 10", "alert = 9")],
+        lines: &[NORTH, ABEAM],
+        report: "moment 0
+now A 0
+alert A 0 -
+track 0 180 1
+track 270 270 0
+gs 3600 3600 1
+vs 0 0 1
+alt 1000 1000 1
+resolve track left 270 right none
+resolve gs down none up none
+resolve vs down none up none
+resolve alt down none up none
+done 0
+",
+    },
+    Row {
+        shows: "the same, a unit too far",
+        text: SMALL,
+        edits: &[("tthr = 35", "tthr = 0"), ("dthr = 660", "dthr = 659")],
+        lines: &[NORTH, ABEAM],
+        report: "moment 0
+now A 0
+alert A 0 -
+track 0 0 0
+track 90 180 1
+track 270 270 0
+gs 3600 3600 0
+vs 0 0 0
+alt 1000 1000 0
+resolve track left keep right keep
+resolve gs down keep up keep
+resolve vs down keep up keep
+resolve alt down keep up keep
+done 0
+",
+    },
+    Row {
+        shows: "a touch at 10.5 seconds",
+        text: SMALL,
+        edits: &[
+            ("tthr = 35", "tthr = 0"),
+            ("lookahead = 10, alert = 10", "lookahead = 11, alert = 11"),
+        ],
+        lines: &[NORTH, "traffic A 660 1050 1000 0 0 0 0"],
+        report: "moment 0
+now A 0
+alert A 1 10
+track 0 180 1
+track 270 270 0
+gs 3600 3600 1
+vs 0 0 1
+alt 1000 1000 1
+resolve track left 270 right none
+resolve gs down none up none
+resolve vs down none up none
+resolve alt down none up none
+done 0
+",
+    },
+    Row {
+        shows: "near by the time of modified tau",
+        text: SMALL,
+        edits: &[],
+        lines: &[NORTH, ABEAM],
+        report: TOGETHER,
+    },
+    Row {
+        shows: "within the volume level and up at different times of one second",
+        text: SMALL,
+        edits: &[
+            ("zthr = 450", "zthr = 100"),
+            ("tthr = 35", "tthr = 0"),
+            ("lookahead = 10, alert = 10", "lookahead = 15, alert = 15"),
+        ],
+        lines: &[CLIMBING, "traffic A 0 0 1440 0 0 0 0"],
+        report: "moment 0
+now A 0
+alert A 0 -
+track 0 270 0
+gs 3600 3600 0
+vs 0 0 0
+alt 1000 1000 0
+resolve track left keep right keep
+resolve gs down keep up keep
+resolve vs down keep up keep
+resolve alt down keep up keep
+done 0
+",
+    },
+    Row {
+        shows: "left behind",
+        text: SMALL,
+        edits: &[],
+        lines: &[NORTH, "traffic A 0 -661 1000 0 0 0 0"],
+        report: "moment 0
+now A 0
+alert A 0 -
+track 0 270 0
+gs 3600 3600 0
+vs 0 0 0
+alt 1000 1000 0
+resolve track left keep right keep
+resolve gs down keep up keep
+resolve vs down keep up keep
+resolve alt down keep up keep
+done 0
+",
+    },
+    Row {
+        shows: "four levels",
+        text: FOUR,
+        edits: &[],
+        lines: &[NORTH, ABEAM],
+        report: "moment 0
+now A 0
+alert A 4 9
+track 0 180 4
+track 270 270 0
+gs 3600 3600 4
+vs 0 0 4
+alt 1000 1000 4
+resolve track left 270 right none
+resolve gs down none up none
+resolve vs down none up none
+resolve alt down none up none
+done 0
+",
+    },
+    Row {
+        shows: "four levels, and the fourth is a unit too far",
+        text: FOUR,
+        edits: &[("dthr = 660", "dthr = 659")],
+        lines: &[NORTH, ABEAM],
+        report: "moment 0
+now A 0
+alert A 3 8
+track 0 0 3
+track 90 180 4
+track 270 270 0
+gs 3600 3600 3
+vs 0 0 3
+alt 1000 1000 3
+resolve track left keep right keep
+resolve gs down keep up keep
+resolve vs down keep up keep
+resolve alt down keep up keep
+done 0
+",
+    },
+    Row {
+        shows: "modified tau of 8 seconds now",
+        text: SMALL,
+        edits: &[("tthr = 35", "tthr = 8")],
+        lines: &[NORTH, "traffic A 330 1000 1000 0 0 0 0"],
+        report: TOGETHER,
+    },
+    Row {
+        shows: "closest approach in 8 seconds, 2 seconds from now",
+        text: SMALL,
+        edits: &[
+            ("tthr = 35", "tthr = 8"),
+            ("tcoa = 0", "tcoa = 0, tcpa = 1"),
+        ],
+        lines: &[NORTH, "traffic A 330 1000 1000 0 0 0 0"],
+        report: "moment 0
+now A 0
+alert A 1 1
+track 0 270 1
+gs 3600 3600 1
+vs 0 0 1
+alt 1000 1000 1
+resolve track left none right none
+resolve gs down none up none
+resolve vs down none up none
+resolve alt down none up none
+done 0
+",
+    },
+    Row {
+        shows: "a touch at the closest approach, 10 seconds from now",
+        text: SMALL,
+        edits: &[("tcoa = 0", "tcoa = 0, tcpa = 1")],
+        lines: &[NORTH, ABEAM],
+        report: TOGETHER,
+    },
+    Row {
+        shows: "the second of two aircraft is met, and each has its lines",
+        text: SMALL,
+        edits: &[],
+        lines: &[
+            NORTH,
+            "traffic B_2 0 -661 1000 0 0 0 0",
+            "traffic A 0 0 1000 0 3600 0 0",
+        ],
+        report: "moment 0
+now B_2 0
+alert B_2 0 -
+now A 1
+alert A 1 0
+track 0 270 1
+gs 3600 3600 1
+vs 0 0 1
+alt 1000 1000 1
+resolve track left none right none
+resolve gs down none up none
+resolve vs down none up none
+resolve alt down none up none
+done 0
+",
+    },
+    Row {
+        shows: "the values of each kind",
+        text: EXAMPLE,
+        edits: &[],
+        lines: &[NORTH],
+        report: "moment 0
+track 0 355 0
+gs 500 7000 0
+vs -5000 5000 0
+alt 0 50000 0
+resolve track left keep right keep
+resolve gs down keep up keep
+resolve vs down keep up keep
+resolve alt down keep up keep
+done 0
+",
+    },
+];
+
+/// The moment of these lines at time 0, each traffic line with its age.
+fn picture_in(lines: &[&str]) -> Option<Picture>
+    ensures { IfSome result IsPictureInRange }
+{
+    let mut moments = Moments::new();
+    take_line(&mut moments, "format 2")?;
+    take_line(&mut moments, "moment 0")?;
+    for line in lines {
+        take_line(&mut moments, line)?;
+    }
+    take_line(&mut moments, "end")?
+}
+
+/// A picture where the line ends a moment; nothing at all where it is refused.
+fn take_line(moments: &mut Moments, line: &str) -> Option<Option<Picture>>
+    ensures { IfSome result (λ picture. IfSome picture IsPictureInRange) }
+{
+    match read_line(line.as_bytes(), 2) {
+        Ok(word) => moments.take(word).ok(),
+        Err(_) => None,
+    }
+}
+
+fn config_of(
+    rt: &(impl AllocGlobal + Abort),
+    text: &str,
+    edits: &[(&str, &str)],
+) -> Result<Config, Fail> {
+    let mut edited = String::from_str(rt.alloc(), text)?;
+    for (old, new) in edits {
+        assert!(rt; edited.contains(*old), "the text has no {old}");
+        edited = edited.replacen(rt.alloc(), *old, *new, 1)?;
+    }
+    Ok(read(rt.alloc(), edited.as_str().as_bytes())?)
+}
+
+fn engine_of(
+    rt: &(impl AllocGlobal + Abort),
+    text: &str,
+    edits: &[(&str, &str)],
+) -> Result<Engine, Fail> {
+    Ok(Engine::new(rt.alloc(), config_of(rt, text, edits)?, 1)?)
+}
+
+/// A sink with so much room, which fails at these calls.
+fn sink(alloc: Global, room: usize, fails: &[u64]) -> Result<MemSink, Fail> {
+    Ok(MemSink::over(
+        vec![in alloc; 0; room]?,
+        Vec::new(alloc),
+        fails.to_vec(alloc)?,
+    ))
+}
+
+/// The engine writes this report of these lines.
+fn expect_report<R: Abort + Threads + Sync + AllocGlobal>(
+    rt: &R,
+    engine: &mut Engine,
+    shows: &str,
+    lines: &[&str],
+    report: &str,
+) -> Result<(), Fail> {
+    let picture = picture_in(lines).expect(rt, "the lines of a moment");
+    let mut out = sink(rt.alloc(), 4096, &[])?;
+    let said = engine.report(rt, rt.alloc(), &picture, &mut out, &Open);
+    assert_eq!(rt; said, Ok(()), "{shows}");
+    assert_eq!(rt; out.taken(), report.as_bytes(), "{shows}");
+    Ok(())
+}
+
+#[test]
+fn worked_rows(rt: HostRuntime) -> Result<(), Fail> {
+    for row in &ROWS {
+        let mut engine = engine_of(&rt, row.text, row.edits)?;
+        expect_report(&rt, &mut engine, row.shows, row.lines, row.report)?;
+    }
+    Ok(())
+}
+
+/// What one moment left is not there in the next.
+#[test]
+fn moments_one_after_the_other(rt: HostRuntime) -> Result<(), Fail> {
+    let mut engine = engine_of(&rt, SMALL, &[])?;
+    let together = [NORTH, "traffic A 0 0 1000 0 3600 0 0"];
+    expect_report(&rt, &mut engine, "first", &together, TOGETHER)?;
+    expect_report(&rt, &mut engine, "second", &[NORTH], CLEAR)?;
+    expect_report(&rt, &mut engine, "third", &together, TOGETHER)
+}
+
+/// Places, speeds and thresholds at the ends of their ranges.
+#[test]
+fn largest_values(rt: HostRuntime) -> Result<(), Fail> {
+    let mut engine = engine_of(&rt, LARGE, &[])?;
+    let picture = picture_in(&[
+        "own -200000 -200000 -2000 45 10000 10000",
+        "traffic A 200000 200000 60000 -10000 -10000 -10000 0",
+    ])
+    .expect(&rt, "the lines of a moment");
+    let mut out = sink(rt.alloc(), 100000, &[])?;
+    let said = engine.report(&rt, rt.alloc(), &picture, &mut out, &Open);
+    assert_eq!(rt; said, Ok(()));
+    let begins = b"moment 0\nnow A 0\nalert A 0 -\ntrack 0 ".as_slice();
+    assert!(rt; out.taken().starts_with(begins));
+    assert!(rt; out.taken().ends_with(b"\ndone 0\n".as_slice()));
+    Ok(())
+}
+
+/// The lines of the aircraft are written before those of the bands, and a sink that fails has taken a beginning.
+#[test]
+fn sinks_that_fail(rt: HostRuntime) -> Result<(), Fail> {
+    let alloc = rt.alloc();
+    let mut engine = engine_of(&rt, SMALL, &[])?;
+    let picture = picture_in(&[NORTH, "traffic A 0 0 1000 0 3600 0 0"]).expect(
+        &rt,
+        "the lines of a moment",
+    );
+    for (room, fails, taken) in [
+        (4096, [0].as_slice(), 0),
+        (4096, [1].as_slice(), 29),
+        (212, [].as_slice(), 212),
+    ] {
+        let mut out = sink(alloc, room, fails)?;
+        let said = engine.report(&rt, alloc, &picture, &mut out, &Open);
+        assert_eq!(rt; said, Err(SinkFault));
+        assert_eq!(rt; out.taken(), &TOGETHER.as_bytes()[..taken]);
+    }
+    let mut out = sink(alloc, 213, &[])?;
+    let said = engine.report(&rt, alloc, &picture, &mut out, &Open);
+    assert_eq!(rt; said, Ok(()));
+    assert_eq!(rt; out.taken(), TOGETHER.as_bytes());
+    Ok(())
+}
+
+/// Whether some aircraft meets the candidate at level `l`, found second by second.
+fn is_covered(config: &Config, picture: &Picture, index: u32, l: u32) -> bool
+    requires picture { IsPictureInRange picture.now }
+    requires index { index < length (candidates_of config.now) }
+    requires numbered { 1 ≤ l }
+    requires there { l ≤ length config.now.levels }
+{
+    let candidate = config.candidate(index);
+    let level = config.level(l);
+    for aircraft in picture.traffic.as_slice() {
+        let mut flight = Flight::begin(&picture.own, config, candidate);
+        for k in 0..level.lookahead {
+            if is_hit(&relative(&flight.next_leg(), aircraft, k), &level.volume) {
+                return true;
+            }
+        }
+    }
+    false
+}
+
+/// The board has the levels of each candidate and nothing else.
+fn expect_board(rt: &impl Abort, engine: &Engine, picture: &Picture)
+    requires { IsPictureInRange picture.now }
+{
+    let config = engine.config();
+    for index in 0..config.total() {
+        let mut mask = 0;
+        for l in 1..=config.levels() {
+            if is_covered(config, picture, index, l) {
+                mask |= 1 << (l - 1);
+            }
+        }
+        assert_eq!(rt; engine.board().mask(index), mask, "at {index}");
+    }
+    for index in config.total()..2048 {
+        assert_eq!(rt; engine.board().mask(index), 0, "at {index}");
+    }
+}
+
+#[test]
+fn boards_are_those_of_a_walk_second_by_second(rt: HostRuntime) -> Result<(), Fail> {
+    let mut engine = engine_of(&rt, EXAMPLE, &[])?;
+    for lines in [
+        [
+            "own 0 0 10000 30 2500 500",
+            "traffic A 1200 2500 10300 -1000 -800 -400 0",
+            "traffic B -2500 1000 9000 900 300 1200 12",
+            "traffic FAR 190000 0 9000 0 0 0 0",
+        ],
+        [
+            "own 0 0 5000 350 1500 0",
+            "traffic FAR 0 0 59000 0 0 0 0",
+            "traffic A 900 300 5200 0 1200 -300 3",
+            "traffic B 0 3000 5000 0 -1500 0 0",
+        ],
+    ] {
+        let picture = picture_in(&lines).expect(&rt, "the lines of a moment");
+        engine.decide(&rt, rt.alloc(), &picture, &Open);
+        expect_board(&rt, &engine, &picture);
+    }
+    Ok(())
+}
+
+fn may_be_sent<T: Send>() {}
+
+// The check refuses a type that may not be sent between threads.
+#[test]
+fn values_may_be_sent() {
+    may_be_sent::<Engine>();
+    has_one_text();
+}

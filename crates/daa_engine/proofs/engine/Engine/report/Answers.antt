@@ -1,5 +1,4 @@
-use Rattle.std.proofs.Common.{◌∙◌, ap, sym, subst}
-use Rattle.daa_config.specs.Settings.{IsAccepted}
+use Rattle.std.proofs.Common.{◌∙◌, ap}
 use Rattle.daa_engine.specs.Machine.{Machine}
 use Rattle.daa_engine.proofs.TextLemmas.{reported}
 use Rattle.daa_engine.proofs.engine.Engine.report.Goals as goal
