@@ -1,8 +1,8 @@
-use Rattle.std.proofs.Common.{◌≡◌, ◌≤◌, ◌*◌, ℕ, sym, ap, subst, ◌∙◌, arith, length}
+use Rattle.std.proofs.Common.{◌≡◌, ◌≤◌, ◌*◌, sym, ap, subst, ◌∙◌, arith}
 use Rattle.std.proofs.lemmas.Nat.{mul-le}
 use Rattle.daa_scan.specs.Situation.{Situation}
 use Rattle.daa_scan.specs.Units.{group_count, AreWordsOf}
-use Rattle.daa_scan.specs.Packed.{words_of, places_in_reach}
+use Rattle.daa_scan.specs.Packed.{words_of}
 use Rattle.daa_scan.specs.Reach.{NoneIsMetOutOfReach}
 use Rattle.daa_scan.proofs.Reaching.{none_is_met_out_of_reach}
 use Rattle.daa_scan.proofs.Packs.{few_groups, words_count, are_words}
