@@ -28,9 +28,9 @@ module _ (settings : Settings) (own : Own) (aircraft : Traffic) where
   leg_once l m k j e h g = ⊎_elim
       (λ lt. absurd (g.none_before k lt (there h.level g.level k (level_once l m h.level g.level e h.there g.there) h.violates)))
       (λ ge. ⊎_elim
-          (λ gt. absurd (h.none_before j gt (there g.level h.level j (sym (level_once l m h.level g.level e h.there g.there)) g.violates)))
-          (λ le. omega (arith, ge, le))
-          (cases_lt j k))
+      (λ gt. absurd (h.none_before j gt (there g.level h.level j (sym (level_once l m h.level g.level e h.there g.there)) g.violates)))
+      (λ le. omega (arith, ge, le))
+      (cases_lt j k))
       (cases_lt k j)
     where
       there : (a b : Level) (i : ℕ) → a ≡ b → ViolatesOn settings own Hold aircraft a.volume i → ViolatesOn settings own Hold aircraft b.volume i

@@ -7,6 +7,7 @@ use Rattle.std.proofs.lemmas.Bool.{cases_lt}
 use Rattle.daa_config.specs.Settings.{Settings, IsAccepted}
 use Rattle.daa_config.specs.Candidates.{values_of, start_of, candidates_of}
 use Rattle.daa_config.proofs.CandidateLemmas.{kind_within}
+use Rattle.daa_config.proofs.GreatestLemmas.{greatest_once}
 use Rattle.daa_bands.specs.Board.{HasLevelOn, IsBoardOf, mask_levels}
 use Rattle.daa_config.specs.Level.{IsGreatestLevel}
 use Rattle.daa_config.specs.declared.kind.Kind.{Kind}
@@ -15,23 +16,12 @@ use Rattle.daa_bands.specs.Band.{AreBands}
 use Rattle.daa_bands.specs.KindBands.{AreKindBands}
 use Rattle.daa_bands.proofs.BandLemmas.{only}
 
-not_lower : (P : ℕ → Type 0) (top a b : ℕ) → IsGreatestLevel P top a → IsGreatestLevel P top b → a < b → ⊥
-not_lower P top a b g h lt = g.none_above b lt h.within (h.holds (omega arith))
-
-pub greatest_only : (P : ℕ → Type 0) (top a b : ℕ) → IsGreatestLevel P top a → IsGreatestLevel P top b → a ≡ b
-greatest_only P top a b g h = go (cases_lt a b) (cases_lt b a)
-  where
-    go : (a < b) ⊎ (b ≤ a) → (b < a) ⊎ (a ≤ b) → a ≡ b
-    go (inl lt) k = absurd (not_lower P top a b g h lt)
-    go (inr le) (inl lt) = absurd (not_lower P top b a h g lt)
-    go (inr le) (inr ge) = omega arith
-
 pub kind_bands_only : (Covered : ℕ → ℕ → Type 0) (top : ℕ) (s : Settings) (kind : Kind) (a b : List Band)
     → AreKindBands Covered top s kind a → AreKindBands Covered top s kind b → a ≡ b
 kind_bands_only Covered top s kind a b g h =
     let m : length g.levels ≡ length h.levels = g.shown.each ∙ sym h.shown.each in
     let e : g.levels ≡ h.levels = ext_get_or 0 g.levels h.levels m
-    (λ i lt. greatest_only (Covered (start_of kind s + i)) top (slice_index g.levels i) (slice_index h.levels i) (g.shown.greatest i lt)
+    (λ i lt. greatest_once (Covered (start_of kind s + i)) top (slice_index g.levels i) (slice_index h.levels i) (g.shown.greatest i lt)
     (h.shown.greatest i (let n = m in omega arith))) in
     let k = subst (λ (ls : List ℕ). AreBands (zip (values_of kind s) ls) a) e g.are in
     only (zip (values_of kind s) h.levels) a k ∙ sym (only (zip (values_of kind s) h.levels) b h.are)

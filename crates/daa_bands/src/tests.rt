@@ -1,8 +1,6 @@
 //! Boards that are filled by hand, and the bands that they show.
 
-use crate::{
-    Band, Board, board_shows_what_is_covered, has_one_list_of_bands, runs, worked_examples,
-};
+use crate::{Band, Board, Runs, board_shows_what_is_covered, has_one_list_of_bands, runs, worked_examples};
 use daa_config::{Config, Kind, read};
 use std::process::Abort;
 use std::test::Fail;
@@ -154,4 +152,14 @@ fn laws() {
     has_one_list_of_bands();
     board_shows_what_is_covered();
     worked_examples();
+}
+
+fn may_be_sent<T: Send>() {}
+
+// The check refuses a type that may not be sent between threads.
+#[test]
+fn values_may_be_sent() {
+    may_be_sent::<Board>();
+    may_be_sent::<Band>();
+    may_be_sent::<Runs<'static>>();
 }

@@ -1,12 +1,31 @@
 //! Laws of the definitions, each the contract of a function that does nothing.
-ghost use Rattle.std.specs.Prelude.{◌≡◌};
+ghost use Rattle.std.specs.Prelude.{◌≡◌, ℕ, List, length};
+ghost use Rattle.daa_bands.specs.Board.{HasLevelOn, IsBoardOf, mask_levels};
+ghost use Rattle.daa_bands.specs.KindBands.{AreKindBands};
+ghost use Rattle.daa_bands.specs.declared.band.Band.{Band};
+ghost use Rattle.daa_config.specs.declared.candidate.Resolution.{Resolution};
+ghost use Rattle.daa_config.specs.declared.kind.Kind.{Kind};
 ghost use Rattle.daa_config.specs.Settings.{Settings, IsAccepted};
 ghost use Rattle.daa_state.specs.declared.word.Picture.{Picture};
 ghost use Rattle.daa_report.specs.Lines.{Text};
+ghost use Rattle.daa_resolve.specs.Resolution.{IsResolution};
+ghost use Rattle.daa_resolve.specs.declared.side.Side.{Side};
+ghost use Rattle.daa_engine.specs.Covered.{CoveredAt};
 ghost use Rattle.daa_engine.specs.MomentText.{IsMomentText};
 
 /// Under a configuration that is accepted a picture has no two texts. That it has one is what `Engine::report` says of
 /// every picture in range.
 pub fn has_one_text()
     ensures { (s : Settings) (p : Picture) (a b : Text) → IsAccepted s → IsMomentText s p a → IsMomentText s p b → a ≡ b }
+{}
+
+/// What a board shows is what aircraft do: over a board that stands for what is covered, the bands of a kind and the answer
+/// on a side are those over what is covered.
+pub fn boards_tell_what_is_covered()
+    ensures bands { (s : Settings) (p : Picture) (board : List ℕ) (kind : Kind) (bands : List Band) → IsAccepted s
+        → IsBoardOf (CoveredAt s p) s board → AreKindBands (HasLevelOn board) mask_levels s kind bands
+        → AreKindBands (CoveredAt s p) (length s.levels) s kind bands }
+    ensures answers { (s : Settings) (p : Picture) (board : List ℕ) (kind : Kind) (side : Side) (answer : Resolution) → IsAccepted s
+        → IsBoardOf (CoveredAt s p) s board → IsResolution (HasLevelOn board) s p.own kind side answer
+        → IsResolution (CoveredAt s p) s p.own kind side answer }
 {}

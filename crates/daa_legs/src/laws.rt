@@ -2,17 +2,18 @@
 
 ghost use Rattle.std.specs.Prelude.{◌≡◌, ◌+◌, ℕ, ℤ, pos, negsuc, ◌*ℤ◌, ◌≤ℤ◌, codes};
 ghost use Rattle.daa_fixed.specs.Toward.{toward_of};
-ghost use Rattle.daa_fixed.specs.Leg.{plus};
+ghost use Rattle.daa_fixed.specs.Leg.{plus, times};
 ghost use Rattle.daa_heading.specs.Heading.{velocity_of};
 ghost use Rattle.daa_config.specs.declared.config.Rates.{Rates};
 ghost use Rattle.daa_config.specs.declared.candidate.Candidate.{Candidate};
 ghost use Rattle.daa_config.specs.Settings.{AreRatesInRange};
 ghost use Rattle.daa_state.specs.declared.word.Own.{Own};
+ghost use Rattle.daa_state.specs.declared.word.Traffic.{Traffic};
 ghost use Rattle.daa_state.specs.InRange.{IsOwnInRange};
 ghost use Rattle.daa_legs.specs.Turn.{turned};
 ghost use Rattle.daa_legs.specs.Motion.{track_on, ground_speed_on, vertical_speed_on, height_after, velocity_on};
 ghost use Rattle.daa_legs.specs.OwnLegs.{own_place, place_on};
-ghost use Rattle.daa_legs.specs.Relative.{traffic_place};
+ghost use Rattle.daa_legs.specs.Relative.{reported_place, traffic_place, traffic_velocity};
 
 /// A flight begins where the ownship is, on leg 0 with the present track and ground speed, and with the present vertical
 /// speed where it goes to one. Hold keeps the present velocity on every leg.
@@ -59,4 +60,10 @@ pub fn worked_examples()
       vs = pos 60;
       age = 10;
     }) 5 ≡ record { flat = record { east = pos 23760; north = pos 18000 }; up = pos 60900 } }
+{}
+
+/// A report of age 0 is where its aircraft is now, and the aircraft flies on from there.
+pub fn new_reports_stand()
+    ensures { (aircraft : Traffic) (k : ℕ) → aircraft.age ≡ 0
+        → traffic_place aircraft k ≡ plus (reported_place aircraft) (times (pos k) (traffic_velocity aircraft)) }
 {}

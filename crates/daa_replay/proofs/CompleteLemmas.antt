@@ -186,6 +186,9 @@ module _ (most status : ℕ) (words : List Text) (old new : Outside) (r : Runs m
         (λ e. inl e)
         (λ e. inr e)
         (λ e. let u = r.limit e in absurd (open_or_missing words _ u.settings u.opens m));
+    no_read_fault = λ calm e. calm (r.read_fault e).so.risen;
+    no_write_fault = λ calm e. calm (r.write_fault e).risen;
+    no_fetch_fault = λ calm e. calm (r.fetch_fault e).risen;
   }
 
 pub runs_complete : RunsAreComplete

@@ -82,7 +82,7 @@ pub record Runs (most : ℕ) (words : List Text) (status : ℕ) (old new : Outsi
   pub bad_configuration : status ≡ 3 → TellsCode words old new
   pub read_fault : status ≡ 4 → Under words old.shelf.texts (λ settings. ReadFails settings most old.source new.source old.sink new.sink)
   pub write_fault : status ≡ 5 → Breaks most words old new
-  -- there was no memory for the words, the shelf's text or the configuration
+  -- there was no memory for the words, the shelf's text, the configuration or the engine
   pub no_memory : status ≡ 6 → IsUntouched old new
   pub fetch_fault : status ≡ 7 → FetchFails words old new
   pub limit : status ≡ 8 → Under words old.shelf.texts (λ settings. PassesLimit settings most old.source new.source old.sink new.sink)
@@ -126,6 +126,10 @@ pub record EndsAsGiven (most : ℕ) (words : List Text) (status : ℕ) (old new 
   pub not_taken : order_of words ≡ None → (status ≡ 2) ⊎ ((status ≡ 5) ⊎ (status ≡ 6))
   pub rejected : IsRejected words old.shelf.texts → (status ≡ 3) ⊎ ((status ≡ 5) ⊎ ((status ≡ 6) ⊎ (status ≡ 7)))
   pub missing : IsMissing words old.shelf.texts → (status ≡ 6) ⊎ (status ≡ 7)
+  -- a status of a fault comes only where the object's count rose
+  pub no_read_fault : ¬ HasRisen old.source.faults new.source.faults → status ≢ 4
+  pub no_write_fault : ¬ HasRisen old.sink.faults new.sink.faults → status ≢ 5
+  pub no_fetch_fault : ¬ HasRisen old.shelf.faults new.shelf.faults → status ≢ 7
 
 abbrev pub RunsAreComplete : Type 0
 RunsAreComplete = (most status : ℕ) (words : List Text) (old new : Outside) → Runs most words status old new → EndsAsGiven most words status old new

@@ -15,7 +15,7 @@ code_of NoMemory = 6
 code_of FetchFault = 7
 code_of Limit = 8
 
--- the statuses of a run whose input was read to its end
+-- the statuses that the end of the input can give
 abbrev pub Ends : Status → Type 0
 Ends Accepted = Unit {0}
 Ends Refused = Unit {0}

@@ -7,7 +7,7 @@ ghost use Rattle.daa_report.specs.Lines.{Text};
 ghost use Rattle.daa_replay.specs.declared.event.Event.{Event};
 ghost use Rattle.daa_replay.specs.Events.{events_of};
 ghost use Rattle.daa_replay.specs.FourWordEvents.{ReadsAsFourWords};
-ghost use Rattle.daa_replay.specs.Report.{IsReportOf};
+ghost use Rattle.daa_replay.specs.Report.{IsReportFront, IsReportOf};
 ghost use Rattle.daa_replay.specs.Run.{ConfigurationsAreUnique, RunsAreComplete};
 
 use crate::event::Event;
@@ -16,6 +16,12 @@ use daa_state::LineFault;
 /// No two texts are the report of one input under an accepted configuration.
 pub fn reports_are_unique()
     ensures { (settings : Settings) (bytes : Bytes) (ended : Bool) (text other : Text) → IsAccepted settings → IsReportOf settings bytes ended text → IsReportOf settings bytes ended other → text ≡ other }
+{}
+
+/// A beginning of a report, as it is said event by event, is a beginning of the whole text.
+pub fn fronts_begin_reports()
+    ensures { (settings : Settings) (bytes : Bytes) (ended : Bool) (front text : Text) → IsAccepted settings
+        → IsReportFront settings bytes ended front → IsReportOf settings bytes ended text → (rest : Text) × (text ≡ front ++ rest) }
 {}
 
 /// The events of a longer input begin with those of a shorter one, and those at its end with those before.
@@ -31,7 +37,8 @@ pub fn format_lines_alone_matter()
 
 /// How a run ends where the words, the shelf and the number of bytes say it: with an accepted configuration and no fault
 /// with 0 or 1, or with 8 where there are more bytes than may be read; with words that are not taken with 2 or 5; with a
-/// refused configuration with 3, 5 or 7; with none under the name with 7. Want of memory, 6, may come in each.
+/// refused configuration with 3, 5 or 7; with none under the name with 7. Want of memory, 6, may come in each. Where the
+/// count of faults of the source, the sink or the shelf did not rise, 4, 5 or 7 does not come.
 pub fn runs_are_complete()
     ensures { RunsAreComplete }
 {}

@@ -17,8 +17,8 @@ mod turn;
 
 pub use event::Event;
 pub use laws::{
-    configurations_are_unique, events_only_grow, format_lines_alone_matter, reports_are_unique,
-    runs_are_complete, worked_examples,
+    configurations_are_unique, events_only_grow, format_lines_alone_matter, fronts_begin_reports,
+    reports_are_unique, runs_are_complete, worked_examples,
 };
 pub use program::{run, run_within};
 

@@ -73,7 +73,7 @@ fn conduct<R: Threads + Sync, F: Shelf, S: Source, K: Sink, G: Gate>(
 /// - 2 where the words are not taken; the usage line is written;
 /// - 3 where the configuration is refused; `config` and its code are written;
 /// - 4 where the source failed, 5 where the sink did, 7 where the shelf did or holds nothing under the name;
-/// - 6 where there was no memory for words, text or configuration; nothing is read or written;
+/// - 6 where there was no memory for words, text, configuration or engine; nothing is read or written;
 /// - 8 exactly where `most` bytes were read and there was one more.
 ///
 /// Once the source is read, want of memory is answered no more.

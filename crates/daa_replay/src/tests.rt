@@ -6,7 +6,7 @@ mod moments;
 mod opening;
 
 use super::{Event, run_within};
-use daa_outside::{MemShelf, MemSink, MemSource, Open};
+use daa_outside::{CalmShelf, CalmSource, MemShelf, MemSink, MemSource, Open, Void};
 use std::alloc::AllocError;
 use std::process::Abort;
 use std::test::Fail;
@@ -198,6 +198,26 @@ fn a_run_reads_to_its_end(rt: HostRuntime) -> Result<(), Fail> {
     );
     assert_eq!(rt; status, 0);
     assert_eq!(rt; sink.taken(), ONE_TEXT);
+    Ok(())
+}
+
+/// Over objects that never fail.
+#[test]
+fn a_run_without_faults_is_accepted(rt: HostRuntime) -> Result<(), Fail> {
+    let alloc = rt.alloc();
+    let mut shelf = CalmShelf::of(ONE_LEVEL.to_vec(alloc)?);
+    let mut source = CalmSource::new(ONE.to_vec(alloc)?, Vec::new(alloc));
+    let words = strings(&rt, PLAIN.words)?;
+    let status = super::run(
+        &rt,
+        alloc,
+        words.as_slice(),
+        &mut shelf,
+        &mut source,
+        &mut Void,
+        &Open,
+    );
+    assert_eq!(rt; status, 0);
     Ok(())
 }
 

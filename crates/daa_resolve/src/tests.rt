@@ -206,3 +206,11 @@ fn laws() {
     board_answers_for_what_is_covered();
     worked_examples();
 }
+
+fn may_be_sent<T: Send>() {}
+
+// The check refuses a type that may not be sent between threads.
+#[test]
+fn values_may_be_sent() {
+    may_be_sent::<Side>();
+}

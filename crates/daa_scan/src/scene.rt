@@ -156,11 +156,12 @@ impl<'a> Answers for Scene<'a> {
 
     ghost answers = { words_of };
 
-    /// One for each group of twelve candidates and each aircraft in reach; 0 where none is in reach. The words say what
+    /// One for each group of twelve candidates and each aircraft in reach; 0 where none is in reach, and at most 10176. The words say what
     /// each candidate meets of the aircraft in reach, and it meets no other.
     fn units(&self) -> u32
         ensures value { result ≡ length (words_of self.now) }
         ensures words { AreWordsOf self.now (words_of self.now) }
+        ensures few { result ≤ 10176 }
         ensures reach { NoneIsMetOutOfReach self.now }
     {
         self.groups * self.count_in_reach()

@@ -89,3 +89,13 @@ fn the_command_has_the_programs_name(rt: HostRuntime) -> Result<(), Fail> {
     assert_eq!(rt; command.get_name(), "daidalus");
     Ok(())
 }
+
+fn may_be_sent<T: Send>() {}
+
+// The check refuses a type that may not be sent between threads.
+#[test]
+fn values_may_be_sent() {
+    may_be_sent::<Task>();
+    may_be_sent::<Order<'static>>();
+    may_be_sent::<WordsFault>();
+}

@@ -144,6 +144,14 @@ fn a_refused_configuration_gives_its_code(rt: HostRuntime) -> Result<(), Fail> {
         };
         gives(&rt, ONE, outside, 3, text)?;
     }
+    // a missing key counts before a number out of its range
+    let two_faults = text_with(&rt, EXAMPLE, "resolve = 2\n", "resolve = 9\n")?;
+    let two_faults = text_with(&rt, two_faults.as_bytes(), "alert = 25\n", "")?;
+    let outside = Outside {
+        config: two_faults.as_bytes(),
+        ..PLAIN
+    };
+    gives(&rt, ONE, outside, 3, b"config 4\n")?;
     let no_table = text_with(
         &rt,
         ONE_LEVEL,
