@@ -1,11 +1,10 @@
 -- A first leg makes an alert.
-use Rattle.std.proofs.Common.{◌≡◌, ◌<◌, ◌≤◌, ℕ, Bool, true, Option, None, Some, length, refl, sym, ◌∙◌}
+use Rattle.std.proofs.Common.{◌≡◌, ◌≤◌, ℕ, Bool, true, Option, None, Some, length, refl, sym, ◌∙◌}
 use Rattle.std.specs.Prelude.{MatchOption, is_some}
 use Rattle.daa_config.specs.Settings.{Settings}
 use Rattle.daa_state.specs.declared.word.Own.{Own}
 use Rattle.daa_state.specs.declared.word.Traffic.{Traffic}
 use Rattle.daa_legs.specs.Alerts.{Alerts, IsFirstLeg}
-use Rattle.daa_alert.specs.declared.warning.Alert.{Alert}
 use Rattle.daa_alert.specs.Alert.{IsAlertOf}
 use Rattle.daa_alert.proofs.Greatest.{IsNoneAbove, greatest_here, greatest_none}
 

@@ -1,5 +1,5 @@
 -- What holds at a level, told of the one level that has its number.
-use Rattle.std.proofs.Common.{◌≡◌, ◌↔◌, ◌<◌, ℕ, Some, pos, sym, subst, ◌∙◌}
+use Rattle.std.proofs.Common.{◌≡◌, ◌↔◌, ℕ, pos, sym, subst, ◌∙◌}
 use Rattle.std.proofs.lemmas.Option.{same_Some}
 use Rattle.daa_taumod.specs.Volume.{Violates}
 use Rattle.daa_config.specs.declared.candidate.Candidate.{Candidate}

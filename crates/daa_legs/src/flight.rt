@@ -57,7 +57,7 @@ impl Flight {
         }
     }
 
-    /// The next second: of the call after `k` others, leg `k`. A flight has 180 of them.
+    /// The next second: leg `k` after `k` legs were taken. A flight has 180 of them.
     pub fn next_leg(&mut self) -> OwnLeg
         requires { self.old.taken < 180 }
         ensures leg { result ≡ own_leg self.old.own self.old.rates self.old.candidate self.old.taken }

@@ -1,4 +1,4 @@
-use Rattle.std.proofs.Common.{◌∙◌, ◌≡◌, ◌<◌, ap, sym, subst}
+use Rattle.std.proofs.Common.{◌∙◌, ◌<◌, ap, sym, subst}
 use Rattle.daa_legs.specs.Course.{Course}
 use Rattle.daa_legs.specs.Motion.{velocity_on}
 use Rattle.daa_legs.proofs.Flying.{flown-place, flown-velocity, flown-next}
