@@ -14,6 +14,11 @@ overflow_mul-result c =
     let m = mul-le c.self.inside.groups c.count_in_reach.result 159 64 few c.count_in_reach.ensures.few in
     omega (arith, m)
 
+pub returns-clause-few : goal.returns-clause-few
+returns-clause-few c =
+    let few : c.self.inside.groups ≤ 159 = let g = few_groups c.self.inside.config.now c.self.invariant.accepted in omega (arith, g, c.self.invariant.counted) in
+    mul-le c.self.inside.groups c.count_in_reach.result 159 64 few c.count_in_reach.ensures.few
+
 pub returns-clause-value : goal.returns-clause-value
 returns-clause-value c =
     let g : c.self.inside.groups ≡ group_count c.args.self.now.settings = c.self.invariant.counted ∙ ap (λ (s : Situation). group_count s.settings) c.self.view_is in
