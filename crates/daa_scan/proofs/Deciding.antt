@@ -1,6 +1,6 @@
 -- Whether a leg violates a volume at some time is decided by trying: the vertical part holds on one interval, whose ends are
 -- fractions, and within it the time of least distance decides; so some fraction of a bounded denominator does.
-use Rattle.std.proofs.Common.{◌≡◌, ◌↔◌, inl, inr, ⊎_elim, refl, sym, subst, ◌∙◌, arith, lit<, ℕ, zero, suc, ◌+◌, ◌-◌, ◌*◌, ◌^◌, ◌<◌, ◌≤◌, Bool, true, false, ℤ, pos, negsuc, neg_ℤ, ◌+ℤ◌, ◌-ℤ◌, ◌*ℤ◌, ◌≤ℤ◌, ◌<ℤ◌, unsigned_abs, Option, None, Some}
+use Rattle.std.proofs.Common.{◌≡◌, ◌↔◌, refl, arith, ℕ, zero, suc, ◌^◌, ◌<◌, ◌≤◌, Bool, true, false, ℤ, pos, negsuc, neg_ℤ, ◌-ℤ◌, ◌*ℤ◌, ◌≤ℤ◌, ◌<ℤ◌, unsigned_abs, Option, None, Some}
 use Rattle.std.specs.Prelude.{IsTrue, MatchOption}
 use Rattle.std.specs.Int.{int_max, int_min}
 use Rattle.std.proofs.lemmas.Int.{ints, by_lt_z}
@@ -22,7 +22,7 @@ use Rattle.daa_quad.proofs.Parabolas.{start-least, end-least, vertex-least, vert
 use Rattle.daa_taumod.specs.declared.Model.{Model}
 use Rattle.daa_taumod.specs.declared.Model.TheVariants.{Taumod, Tcpa}
 use Rattle.daa_taumod.specs.declared.Volume.{Volume}
-use Rattle.daa_taumod.specs.Volume.{IsVolumeInRange, IsSoon, IsClosing, IsLevelling, ViolatesVertically, Violates, place_at, height_at}
+use Rattle.daa_taumod.specs.Volume.{IsVolumeInRange, IsSoon, IsClosing, IsLevelling, ViolatesVertically, Violates}
 use Rattle.daa_taumod.proofs.ClosestApproach.{dot_nonneg}
 use Rattle.daa_vwindow.specs.Band.{IsInBand}
 use Rattle.daa_vwindow.specs.Window.{IsWindow}
@@ -31,7 +31,7 @@ use Rattle.daa_vwindow.proofs.Heights.{retarget, rising, falling, standing}
 use Rattle.daa_detect.specs.Distance.{IsDistance}
 use Rattle.daa_detect.specs.Hit.{IsHit}
 use Rattle.daa_detect.proofs.Nearest.{time_between, vertex_small, none_elsewhere}
-use Rattle.daa_scan.specs.Packed.{is_soon, is_near, passes_near, is_closing, is_level, is_levelling, is_violated, is_violated_at, is_violated_sometime, some_below}
+use Rattle.daa_scan.specs.Packed.{is_soon, is_near, passes_near, is_closing, is_level, is_levelling, is_violated, is_violated_at, is_violated_sometime}
 use Rattle.daa_scan.proofs.Trying.{le_is, lt_is, both_is, either_is, some_is}
 
 -- ---- the volume at n/d

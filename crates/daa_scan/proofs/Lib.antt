@@ -9,3 +9,4 @@ pub mod Deciding
 pub mod Masking
 pub mod Numbers
 pub mod Packs
+pub mod Reaching

@@ -10,7 +10,7 @@ use Rattle.daa_config.specs.declared.kind.Kind.TheVariants.{Track, Speed, Climb,
 use Rattle.daa_config.specs.Candidates.{grid_of, values_of, candidates_of, candidate_to, start_of, IsCandidateOf}
 use Rattle.daa_config.specs.Settings.{Settings, IsAccepted, IsCandidateInRange}
 use Rattle.daa_config.proofs.GridLemmas.{value_there}
-use Rattle.daa_config.proofs.CandidateLemmas.{AreInTurn, begins, whole_ends, hold_first, candidate_at, in_range-to, of-to}
+use Rattle.daa_config.proofs.CandidateLemmas.{begins, whole_ends, hold_first, candidate_at, in_range-to, of-to}
 
 pub record IsListed (s : Settings) (candidate : Candidate) : Type 0 where
   pub of : IsCandidateOf s candidate

@@ -12,7 +12,7 @@ use Rattle.daa_taumod.specs.Volume.{IsVolumeInRange}
 use Rattle.daa_config.specs.declared.candidate.Candidate.{Candidate}
 use Rattle.daa_config.specs.declared.level.Level.{Level}
 use Rattle.daa_config.specs.Candidates.{candidates_of}
-use Rattle.daa_config.specs.Level.{HasLevel, IsMaskOf}
+use Rattle.daa_config.specs.Level.{IsMaskOf}
 use Rattle.daa_config.specs.Settings.{Settings, IsAccepted, IsCandidateInRange, IsLevelAt, rates_of}
 use Rattle.daa_state.specs.declared.word.Own.{Own}
 use Rattle.daa_state.specs.declared.word.Traffic.{Traffic}
@@ -24,7 +24,7 @@ use Rattle.daa_legs.specs.Meeting.{relative_leg, ViolatesOn, MeetsWithin, Meets}
 use Rattle.daa_legs.proofs.Places.{place_on-below, velocity_on-below}
 use Rattle.daa_legs.proofs.Relatives.{relative_for-in_range}
 use Rattle.daa_scan.specs.Situation.{Situation, MeetsAt}
-use Rattle.daa_scan.specs.Packed.{some_below, is_violated_sometime, is_met_within, mask_of, entry_for, entry_at}
+use Rattle.daa_scan.specs.Packed.{is_violated_sometime, is_met_within, mask_of, entry_for, entry_at}
 use Rattle.daa_scan.proofs.Listed.{listed}
 use Rattle.daa_scan.proofs.Trying.{some_is}
 use Rattle.daa_scan.proofs.Deciding.{sometime_is}

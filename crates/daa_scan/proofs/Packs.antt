@@ -1,7 +1,6 @@
 -- The entries of a word.
-use Rattle.std.proofs.Common.{◌≡◌, ◌↔◌, ◌≢◌, refl, sym, ap, subst, ◌∙◌, arith, ⊎_elim, ℕ, zero, suc, ◌+◌, ◌-◌, ◌*◌, ◌/◌, ◌%◌, ◌^◌, ◌<◌, ◌≤◌, List, [], ◌∷◌, length, div-one}
+use Rattle.std.proofs.Common.{◌≡◌, ◌↔◌, refl, sym, ap, subst, ◌∙◌, arith, ⊎_elim, ℕ, zero, suc, ◌+◌, ◌-◌, ◌*◌, ◌/◌, ◌%◌, ◌^◌, ◌<◌, ◌≤◌, length, div-one}
 use Rattle.std.specs.Prelude.{slice_index}
-use Rattle.std.specs.Int.{bit_at}
 use Rattle.std.proofs.lemmas.Bool.{cases_lt}
 use Rattle.std.proofs.lemmas.Nat.{shr-shr, pow-add}
 use Rattle.std.proofs.lemmas.Nat.Bits.{bit_at-zero}

@@ -14,7 +14,7 @@ use Rattle.daa_config.specs.declared.candidate.Candidate.{Candidate}
 use Rattle.daa_config.specs.declared.candidate.Candidate.TheVariants.{Hold, Track, Speed, Climb, Height}
 use Rattle.daa_config.specs.declared.kind.Kind.{Kind}
 use Rattle.daa_config.specs.declared.kind.Kind.TheVariants as kind
-use Rattle.daa_config.specs.Candidates.{grid_of, values_of, least_of, greatest_of, IsCandidateOf}
+use Rattle.daa_config.specs.Candidates.{grid_of, least_of, greatest_of, IsCandidateOf}
 use Rattle.daa_config.specs.Numbers.{count_of}
 use Rattle.daa_config.specs.Settings.{Settings, IsAccepted, IsInBounds, value_bounds, rates_of}
 use Rattle.daa_config.proofs.GridLemmas.{value_there, length-values, some_value, in_bounds_of, stepped_kind}
@@ -24,7 +24,6 @@ use Rattle.daa_legs.specs.Turn.{right_angle, turned}
 use Rattle.daa_legs.specs.Motion.{track_on, ground_speed_on, vertical_speed_on, velocity_on}
 use Rattle.daa_legs.proofs.Cases.{product_nonneg, height_step}
 use Rattle.daa_legs.proofs.StateRanges as state
-use Rattle.daa_scan.specs.Reach.{size_of}
 
 -- no ground speed of a listed candidate is greater
 abbrev pub top_of : Settings → Own → ℤ

@@ -1,11 +1,10 @@
 -- The words of the units in a form that can be computed. They are told in the field's terms by the units' numbering; here each
 -- question is answered by trying: a leg violates a volume at some time exactly where it does so at a fraction whose denominator is at
 -- most 2^33.
-use Rattle.std.specs.Prelude.{◌≢◌, ℕ, zero, suc, ◌+◌, ◌*◌, ◌/◌, ◌%◌, ◌^◌, ℤ, pos, ◌+ℤ◌, ◌*ℤ◌, neg_ℤ, unsigned_abs, Bool, true, false, ◌&&◌, ◌||◌, if◌then◌else◌, int_le, int_lt, List, [], ◌∷◌, ◌++◌, length, slice_get, slice_index, Option, Some, None}
+use Rattle.std.specs.Prelude.{◌≢◌, ℕ, zero, suc, ◌+◌, ◌*◌, ◌/◌, ◌%◌, ◌^◌, ℤ, pos, ◌+ℤ◌, ◌*ℤ◌, neg_ℤ, unsigned_abs, Bool, false, ◌&&◌, ◌||◌, if◌then◌else◌, int_le, int_lt, List, [], ◌∷◌, ◌++◌, length, slice_get, slice_index, Option, Some, None}
 use Rattle.std.specs.List.{list_any}
 use Rattle.std.proofs.Common.{arith}
 use Rattle.daa_fixed.specs.declared.Leg.{Leg}
-use Rattle.daa_fixed.specs.declared.Solid.{Solid}
 use Rattle.daa_fixed.specs.Flat.{dot_of, cross_of, square_of}
 use Rattle.daa_taumod.specs.declared.Model.{Model}
 use Rattle.daa_taumod.specs.declared.Model.TheVariants.{Taumod, Tcpa}

@@ -12,7 +12,7 @@ use Rattle.daa_state.specs.declared.word.Traffic.{Traffic}
 use Rattle.daa_state.specs.Picture.{aircraft_of}
 use Rattle.daa_legs.specs.OwnLegs.{own_place}
 use Rattle.daa_legs.specs.Relative.{traffic_place}
-use Rattle.daa_scan.specs.Situation.{Situation}
+use Rattle.daa_scan.specs.Situation.{Situation, MeetsAt}
 
 -- how large a number is, its sign left aside
 abbrev pub size_of : ℤ → ℤ
@@ -54,3 +54,7 @@ pub record IsInReachAt (s : Situation) (at : ℕ) : Type 0 where
   pub aircraft : Traffic
   pub there : slice_get (aircraft_of s.picture) at ≡ Some aircraft
   pub reached : IsInReach s.settings s.picture.own aircraft
+
+-- an aircraft that is not in reach is met by no candidate at any level, within the level's lookahead
+abbrev pub NoneIsMetOutOfReach : Situation → Type 0
+NoneIsMetOutOfReach s = (index at l : ℕ) → MeetsAt s index at l → IsInReachAt s at

@@ -150,19 +150,25 @@ impl<'a> Scene<'a> {
 }
 
 impl<'a> Answers for Scene<'a> {
+    ghost use Rattle.daa_scan.specs.Reach.{NoneIsMetOutOfReach};
     ghost use Rattle.daa_scan.specs.Units.{AreWordsOf};
     ghost use Rattle.daa_scan.specs.Packed.{words_of, words_real};
 
     ghost answers = { words_of };
 
-    /// One for each group of twelve candidates and each aircraft in reach; 0 where none is in reach.
+    /// One for each group of twelve candidates and each aircraft in reach; 0 where none is in reach. The words say what
+    /// each candidate meets of the aircraft in reach, and it meets no other.
     fn units(&self) -> u32
         ensures value { result ≡ length (words_of self.now) }
         ensures words { AreWordsOf self.now (words_of self.now) }
+        ensures reach { NoneIsMetOutOfReach self.now }
     {
         self.groups * self.count_in_reach()
     }
 
+    /// The word of a unit, which is group `unit % groups` of the aircraft that stands at place `unit / groups` among those
+    /// in reach, in input order: five bits for each of twelve candidates, the first the lowest. The lowest of the five says
+    /// that the candidate is there, the others are the levels from 1 to 4 that it meets the aircraft at.
     fn word(&self, unit: u32) -> u64 {
         let aircraft = self.place_in_list(unit / self.groups);
         self.word_of_group(aircraft, unit % self.groups)

@@ -1,4 +1,4 @@
-use Rattle.std.proofs.Common.{ℕ, ◌+◌, sym, subst, ◌∙◌, arith}
+use Rattle.std.proofs.Common.{ℕ, ◌+◌, sym, subst, ◌∙◌}
 use Rattle.daa_config.specs.Level.{IsMaskOf}
 use Rattle.daa_legs.specs.Meeting.{Meets}
 use Rattle.daa_legs.proofs.AtLevel.{meets_at}

@@ -1,4 +1,4 @@
-use Rattle.std.proofs.Common.{◌≡◌, ◌<◌, ◌≤◌, ◌+◌, ℕ, sym, ap, ◌∙◌, arith, length}
+use Rattle.std.proofs.Common.{◌≡◌, ◌+◌, ℕ, sym, ap, ◌∙◌, arith, length}
 use Rattle.daa_state.specs.Picture.{aircraft_of}
 use Rattle.daa_scan.specs.Situation.{Situation}
 use Rattle.daa_scan.specs.Packed.{is_reached_at, numbers_below, places_in_reach}

@@ -5,8 +5,7 @@ use Rattle.daa_state.specs.declared.word.Traffic.{Traffic}
 use Rattle.daa_state.specs.Picture.{aircraft_of}
 use Rattle.daa_scan.specs.Situation.{Situation, MeetsAt}
 use Rattle.daa_scan.specs.Reach.{IsInReach, IsInReachAt}
-use Rattle.daa_scan.proofs.Listed.{listed}
-use Rattle.daa_scan.proofs.Leaving.{met_in_reach}
+use Rattle.daa_scan.proofs.Reaching.{none_is_met_out_of_reach}
 use Rattle.daa_scan.proofs.scene.Scene.in_reach.Goals as goal
 use Rattle.daa_scan.proofs.scene.Scene.in_reach.Goals.{After-is_in_reach}
 
@@ -23,13 +22,7 @@ exact c = (
 )
 
 meets : (c : After-is_in_reach) (index l : ℕ) → MeetsAt (shown c) index c.args.aircraft l → IsTrue c.is_in_reach.result
-meets c index l m =
-    let a = c.self.invariant.accepted in
-    (exact c).1 (record {
-      aircraft = m.aircraft;
-      there = m.there;
-      reached = met_in_reach (shown c).settings (shown c).picture.own m.candidate m.aircraft a c.self.invariant.picture.own (listed (shown c).settings a index m.candidate m.listed).of l m.meets;
-    })
+meets c index l m = (exact c).1 (none_is_met_out_of_reach (shown c) c.self.invariant.accepted c.self.invariant.picture index c.args.aircraft l m)
 
 pub returns-clause-exact : goal.returns-clause-exact
 returns-clause-exact c = subst (λ (s : Situation). IsTrue c.is_in_reach.result ↔ IsInReachAt s c.args.aircraft) c.self.view_is (exact c)

@@ -1,8 +1,8 @@
-use Rattle.std.proofs.Common.{◌≡◌, ◌<◌, ◌≤◌, ◌+◌, ℕ, sym, ap, subst, ◌∙◌, arith, length}
+use Rattle.std.proofs.Common.{◌<◌, ◌+◌, ℕ, sym, ap, subst, ◌∙◌, arith, length}
 use Rattle.std.specs.Prelude.{slice_index}
 use Rattle.daa_state.specs.Picture.{aircraft_of}
 use Rattle.daa_scan.specs.Situation.{Situation}
-use Rattle.daa_scan.specs.Packed.{is_reached_at, numbers_below, places_in_reach}
+use Rattle.daa_scan.specs.Packed.{is_reached_at, places_in_reach}
 use Rattle.daa_scan.proofs.Numbers.{none_below, counted_here, passed_here, found_here}
 use Rattle.daa_scan.proofs.scene.Scene.place_in_list.Goals as goal
 use Rattle.daa_scan.proofs.scene.Scene.place_in_list.Goals.{then-in_reach+else-before-place, else-in_reach}

@@ -1,6 +1,6 @@
-use Rattle.std.proofs.Common.{◌≡◌, ◌<◌, ◌≤◌, ◌+◌, ◌-◌, ◌*◌, ℕ, sym, ap, subst, ◌∙◌, arith}
+use Rattle.std.proofs.Common.{◌≡◌, ◌+◌, ◌-◌, ◌*◌, ℕ, ap, subst, ◌∙◌, arith}
 use Rattle.daa_scan.specs.Units.{index_in}
-use Rattle.daa_scan.specs.Packed.{entry_at, packed_from, packed_word}
+use Rattle.daa_scan.specs.Packed.{entry_at, packed_word}
 use Rattle.daa_scan.proofs.Packs.{IsPackedFrom, packed_start, packed_step}
 use Rattle.daa_scan.proofs.scene.Scene.word_of_group.Goals as goal
 

@@ -1,4 +1,3 @@
-use Rattle.std.proofs.Common.{ℕ}
 use Rattle.daa_scan.specs.Units.{index_in}
 use Rattle.daa_scan.specs.Packed.{entry_at}
 use Rattle.daa_scan.proofs.Packs.{IsPackedFrom}

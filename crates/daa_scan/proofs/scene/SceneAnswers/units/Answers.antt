@@ -1,8 +1,10 @@
-use Rattle.std.proofs.Common.{◌≡◌, ◌≤◌, ◌*◌, ℕ, sym, ap, subst, ◌∙◌, arith, length}
+use Rattle.std.proofs.Common.{◌≡◌, ◌≤◌, ◌*◌, sym, ap, subst, ◌∙◌, arith}
 use Rattle.std.proofs.lemmas.Nat.{mul-le}
 use Rattle.daa_scan.specs.Situation.{Situation}
 use Rattle.daa_scan.specs.Units.{group_count, AreWordsOf}
-use Rattle.daa_scan.specs.Packed.{words_of, places_in_reach}
+use Rattle.daa_scan.specs.Packed.{words_of}
+use Rattle.daa_scan.specs.Reach.{NoneIsMetOutOfReach}
+use Rattle.daa_scan.proofs.Reaching.{none_is_met_out_of_reach}
 use Rattle.daa_scan.proofs.Packs.{few_groups, words_count, are_words}
 use Rattle.daa_scan.proofs.scene.SceneAnswers.units.Goals as goal
 
@@ -19,3 +21,6 @@ returns-clause-value c =
 
 pub returns-clause-words : goal.returns-clause-words
 returns-clause-words c = subst (λ (s : Situation). AreWordsOf s (words_of s)) c.self.view_is (are_words (record { settings = c.self.inside.config.now; picture = c.self.inside.picture.now }) c.self.invariant.accepted c.self.invariant.picture)
+
+pub returns-clause-reach : goal.returns-clause-reach
+returns-clause-reach c = subst (λ (s : Situation). NoneIsMetOutOfReach s) c.self.view_is (none_is_met_out_of_reach (record { settings = c.self.inside.config.now; picture = c.self.inside.picture.now }) c.self.invariant.accepted c.self.invariant.picture)

@@ -1,10 +1,10 @@
-use Rattle.std.proofs.Common.{◌≡◌, ◌<◌, ◌≤◌, ◌*◌, ◌/◌, ◌%◌, ℕ, sym, ap, subst, ◌∙◌, arith, length}
+use Rattle.std.proofs.Common.{◌≡◌, ◌<◌, ◌/◌, ◌%◌, ℕ, sym, ap, subst, ◌∙◌, arith, length}
 use Rattle.std.specs.Prelude.{slice_index}
 use Rattle.daa_config.specs.Settings.{IsAccepted}
 use Rattle.daa_state.specs.InRange.{IsPictureInRange}
 use Rattle.daa_scan.specs.Situation.{Situation}
 use Rattle.daa_scan.specs.Units.{group_count}
-use Rattle.daa_scan.specs.Packed.{words_of, places_in_reach, packed_word}
+use Rattle.daa_scan.specs.Packed.{places_in_reach}
 use Rattle.daa_scan.proofs.Packs.{few_groups, some_group, words_count, unit_place, unit_group, word_found}
 use Rattle.daa_scan.proofs.scene.SceneAnswers.word.Goals as goal
 use Rattle.daa_scan.proofs.scene.SceneAnswers.word.Goals.{Start}
