@@ -23,7 +23,8 @@ pub fn board_shows_what_is_covered()
 {}
 
 /// Worked examples: of the tracks 0, 90, 180 and 270 the middle two show the same level and are one band, the first and the
-/// last are not joined over north; a run is not split, and the values of level 0 have a band too.
+/// last are not joined over north; a run is not split, and the values of level 0 have a band too. A mask of levels 1 and 3
+/// shows 3, and the fourth place of the packed word 0xa8023 has levels 2 and 4.
 pub fn worked_examples()
     ensures joined { AreBands ((pos 0, 1) ∷ (pos 90, 2) ∷ (pos 180, 2) ∷ (pos 270, 1) ∷ [])
         (band_of (pos 0) (pos 0) 1 ∷ band_of (pos 90) (pos 180) 2 ∷ band_of (pos 270) (pos 270) 1 ∷ []) }
