@@ -529,6 +529,16 @@ fn expect_board(rt: &impl Abort, engine: &Engine, picture: &Picture)
     }
 }
 
+/// Some candidate of the board has this mask.
+fn has_mask(engine: &Engine, mask: u8) -> bool {
+    for index in 0..engine.config().total() {
+        if engine.board().mask(index) == mask {
+            return true;
+        }
+    }
+    false
+}
+
 /// In both moments some candidates are clear, some are covered at level 1 alone and some at all three.
 #[test]
 fn boards_are_those_of_a_walk_second_by_second(rt: HostRuntime) -> Result<(), Fail> {
@@ -550,6 +560,7 @@ fn boards_are_those_of_a_walk_second_by_second(rt: HostRuntime) -> Result<(), Fa
         let picture = picture_in(&lines).expect(&rt, "the lines of a moment");
         engine.decide(&rt, rt.alloc(), &picture, &Open);
         expect_board(&rt, &engine, &picture);
+        assert!(rt; has_mask(&engine, 0) && has_mask(&engine, 1) && has_mask(&engine, 7));
     }
     Ok(())
 }
