@@ -529,26 +529,38 @@ fn expect_board(rt: &impl Abort, engine: &Engine, picture: &Picture)
     }
 }
 
+/// Some candidate of the board has this mask.
+fn has_mask(engine: &Engine, mask: u8) -> bool {
+    for index in 0..engine.config().total() {
+        if engine.board().mask(index) == mask {
+            return true;
+        }
+    }
+    false
+}
+
+/// In both moments some candidates are clear, some are covered at level 1 alone and some at all three.
 #[test]
 fn boards_are_those_of_a_walk_second_by_second(rt: HostRuntime) -> Result<(), Fail> {
     let mut engine = engine_of(&rt, EXAMPLE, &[])?;
     for lines in [
         [
             "own 0 0 10000 30 2500 500",
-            "traffic A 1200 2500 10300 -1000 -800 -400 0",
-            "traffic B -2500 1000 9000 900 300 1200 12",
+            "traffic A 5200 8900 10900 -1000 -1700 -200 0",
+            "traffic B -6500 3000 9300 2100 300 300 12",
             "traffic FAR 190000 0 9000 0 0 0 0",
         ],
         [
             "own 0 0 5000 350 1500 0",
             "traffic FAR 0 0 59000 0 0 0 0",
-            "traffic A 900 300 5200 0 1200 -300 3",
-            "traffic B 0 3000 5000 0 -1500 0 0",
+            "traffic A 900 6500 5600 0 -2400 -300 3",
+            "traffic B -6000 3000 4500 2300 -300 0 0",
         ],
     ] {
         let picture = picture_in(&lines).expect(&rt, "the lines of a moment");
         engine.decide(&rt, rt.alloc(), &picture, &Open);
         expect_board(&rt, &engine, &picture);
+        assert!(rt; has_mask(&engine, 0) && has_mask(&engine, 1) && has_mask(&engine, 7));
     }
     Ok(())
 }
