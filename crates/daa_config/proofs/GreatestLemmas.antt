@@ -8,7 +8,7 @@ pub greatest_once : (Holds : ℕ → Type 0) (top l m : ℕ) → IsGreatestLevel
 greatest_once Holds top l m h k = ⊎_elim
     (λ lt. absurd (h.none_above m lt k.within (k.holds (omega (arith, lt)))))
     (λ ge. ⊎_elim
-        (λ gt. absurd (k.none_above l gt h.within (h.holds (omega (arith, gt)))))
-        (λ le. omega (arith, ge, le))
-        (cases_lt m l))
+    (λ gt. absurd (k.none_above l gt h.within (h.holds (omega (arith, gt)))))
+    (λ le. omega (arith, ge, le))
+    (cases_lt m l))
     (cases_lt l m)

@@ -1,9 +1,7 @@
 -- A run ends as the words, the shelf and the number of bytes say.
-use Rattle.std.proofs.Common.{◌≡◌, ◌<◌, ◌≤◌, ◌+◌, ◌⊎◌, ℕ, Bool, true, false, List, [], ◌∷◌, ◌++◌, length, Option, None, Some, Result, Ok, Err, refl, zero, suc, sym, ap, subst, ◌∙◌, arith, inl, inr, length-append}
+use Rattle.std.proofs.Common.{◌≡◌, ◌<◌, ◌≤◌, ◌⊎◌, ℕ, Bool, true, false, List, [], ◌∷◌, ◌++◌, length, Option, None, Some, Ok, Err, refl, zero, suc, sym, ap, ◌∙◌, arith, inl, inr, length-append}
 use Rattle.std.specs.Io.KnownBytes.{Consumes}
-use Rattle.daa_outside.specs.Faults.{HasRisen}
 use Rattle.daa_outside.specs.Shelf.{Texts}
-use Rattle.daa_config.specs.declared.fault.ConfigFault.{ConfigFault}
 use Rattle.daa_config.specs.ConfigOf.{config_of}
 use Rattle.daa_config.specs.Settings.{Settings}
 use Rattle.daa_lines.specs.LinesOf.{Bytes}
@@ -12,7 +10,7 @@ use Rattle.daa_words.specs.Order.{Asked, order_of}
 use Rattle.daa_replay.specs.Outside.{Outside, Shown}
 use Rattle.daa_replay.specs.Opening.{IsHeld, Opens, IsRefused, IsMissing}
 use Rattle.daa_replay.specs.Replaying.{ReadsAll, WriteFails, PassesLimit, IsSpent}
-use Rattle.daa_replay.specs.Run.{Under, BreaksUsage, BreaksCode, Runs, RunsAreComplete, EndsAsGiven, IsQuiet, IsOpened, IsRejected, Breaks}
+use Rattle.daa_replay.specs.Run.{Under, BreaksUsage, BreaksCode, Runs, RunsAreComplete, EndsAsGiven, IsQuiet, IsOpened, Breaks}
 
 -- ---- how many bytes there were
 

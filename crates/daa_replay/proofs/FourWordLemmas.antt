@@ -1,10 +1,10 @@
 -- Where no line's first field is `format`, the events are those of the four words.
-use Rattle.std.proofs.Common.{ℕ, suc, ◌<◌, ◌+◌, ◌≡◌, ◌∙◌, Bool, true, false, List, [], ◌∷◌, ◌++◌, length, refl, ap, ap₂, arith, Ok, Err}
+use Rattle.std.proofs.Common.{ℕ, suc, ◌+◌, ◌≡◌, ◌∙◌, Bool, true, false, List, [], ◌∷◌, ◌++◌, refl, ap, arith, Ok, Err}
 use Rattle.std.specs.Prelude.{All, IfOk}
 use Rattle.daa_lines.specs.LinesOf.{Bytes, lines_of}
 use Rattle.daa_state.specs.Fault.{Checked}
 use Rattle.daa_state.specs.WordOf.{word_of}
-use Rattle.daa_state.specs.FourWords.{four_word_of, is_format_line}
+use Rattle.daa_state.specs.FourWords.{is_format_line}
 use Rattle.daa_state.specs.Laws.{is_format_word}
 use Rattle.daa_state.specs.MomentStep.{State, Stepped, start, step}
 use Rattle.daa_state.specs.declared.word.Word.{Word}

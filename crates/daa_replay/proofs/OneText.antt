@@ -2,7 +2,6 @@
 use Rattle.std.proofs.Common.{◌≡◌, ◌∙◌, Bool, List, [], ◌∷◌, ◌++◌, refl, sym, ap, ap₂, subst, append_assoc, inl, inr}
 use Rattle.daa_config.specs.Settings.{Settings, IsAccepted}
 use Rattle.daa_lines.specs.LinesOf.{Bytes}
-use Rattle.daa_state.specs.declared.word.Picture.{Picture}
 use Rattle.daa_report.specs.Lines.{Text}
 use Rattle.daa_engine.proofs.OnlyLemmas.{text_only}
 use Rattle.daa_replay.specs.declared.event.Event.{Event}

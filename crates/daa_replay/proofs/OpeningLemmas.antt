@@ -1,5 +1,5 @@
 -- A configuration that is too long, and what is left where a run without one says why.
-use Rattle.std.proofs.Common.{◌≡◌, ◌<◌, ◌^◌, ℕ, List, length, replicate, Option, None, Some, Result, Ok, Err, refl, subst, arith, inl, inr}
+use Rattle.std.proofs.Common.{◌≡◌, ◌<◌, ℕ, length, replicate, Option, None, Some, Result, Ok, Err, refl, arith, inl, inr}
 use Rattle.std.specs.Prelude.{IfSome, IsSomeAnd, OnErr, OnOk}
 use Rattle.std.proofs.lemmas.Bool.{lt-ltb}
 use Rattle.std.proofs.lemmas.List.{length-replicate}

@@ -1,5 +1,5 @@
 -- What is written as events are given.
-use Rattle.std.proofs.Common.{◌≡◌, ◌∙◌, ◌⊎◌, ◌||◌, Bool, true, false, List, [], ◌∷◌, ◌++◌, refl, sym, ap, ap₂, subst, append_assoc, append-nil, inl, inr, ℕ, ◌+◌, ◌-◌, ◌≤◌, length, take, drop, arith, Result, Ok, Err}
+use Rattle.std.proofs.Common.{◌≡◌, ◌∙◌, ◌||◌, Bool, true, false, List, [], ◌∷◌, ◌++◌, refl, sym, ap, ap₂, subst, append_assoc, append-nil, inr, ℕ, ◌+◌, ◌-◌, ◌≤◌, length, take, drop, arith, Result, Ok, Err}
 use Rattle.std.specs.Prelude.{OnErr}
 use Rattle.std.specs.List.{list_any}
 use Rattle.std.specs.Io.KnownBytes.{Appends}
@@ -17,7 +17,7 @@ use Rattle.daa_replay.specs.declared.event.Event.{Event}
 use Rattle.daa_replay.specs.declared.progress.Progress.{Progress}
 use Rattle.daa_replay.specs.Events.{events_of, is_refusal}
 use Rattle.daa_replay.specs.Follows.{Follows}
-use Rattle.daa_replay.specs.Report.{IsEventText, AreTexts, IsReportOf, IsReportFront, BeginsText}
+use Rattle.daa_replay.specs.Report.{IsEventText, AreTexts}
 use Rattle.daa_replay.specs.Reporting.{Told, Reports, ReportsAll, Stops}
 use Rattle.daa_replay.proofs.EventLemmas.{events_begin}
 use Rattle.daa_replay.proofs.FollowsLemmas.{given_begins, follows-fed, follows-as}

@@ -1,13 +1,11 @@
 -- What the turns of a run leave, one after the other, and what its end leaves.
-use Rattle.std.proofs.Common.{◌≡◌, ◌≢◌, ◌≤◌, ◌+◌, ◌∙◌, ℕ, Bool, true, false, List, [], ◌∷◌, ◌++◌, length, take, Option, None, Some, refl, sym, ap, subst, arith, inl, inr, length-append, append-nil}
-use Rattle.std.specs.Prelude.{IfSome}
+use Rattle.std.proofs.Common.{◌≡◌, ◌≢◌, ◌≤◌, ◌+◌, ◌∙◌, ℕ, Bool, true, false, List, [], ◌∷◌, ◌++◌, length, take, None, Some, refl, sym, ap, subst, arith, inl, inr, length-append, append-nil}
 use Rattle.std.specs.Io.KnownBytes.{Consumes, Appends, Keeps, IsAtEnd}
 use Rattle.std.proofs.KnownBytes.{Consumes-trans, Consumes-kept}
 use Rattle.daa_config.specs.Settings.{Settings}
 use Rattle.daa_outside.specs.Faults.{HasRisen}
 use Rattle.daa_lines.specs.LinesOf.{Bytes}
 use Rattle.daa_lines.specs.Cutting.{is_standing}
-use Rattle.daa_report.specs.Lines.{Text}
 use Rattle.daa_replay.specs.declared.event.Event.{Event}
 use Rattle.daa_replay.specs.declared.progress.Progress.{Progress}
 use Rattle.daa_replay.specs.declared.turn.Turn.TheVariants.{More, Over, ReadFault, WriteFault}
@@ -16,7 +14,7 @@ use Rattle.daa_replay.specs.declared.status.Status.TheVariants as status
 use Rattle.daa_replay.specs.Report.{AreTexts}
 use Rattle.daa_replay.specs.Reporting.{Told, Reports, ReportsAll, Stops, Turned, Handed}
 use Rattle.daa_replay.specs.Outside.{Shown, IsCalm}
-use Rattle.daa_replay.specs.Replaying.{HandsOut, TakesReport, TakesFront, ReadsAll, ReadFails, WriteFails, PassesLimit, Replays, IsSpent}
+use Rattle.daa_replay.specs.Replaying.{TakesReport, ReadsAll, WriteFails, Replays, IsSpent}
 use Rattle.daa_replay.specs.Status.{Ends, code_of}
 use Rattle.daa_replay.proofs.FollowsLemmas.{given_now}
 

@@ -1,5 +1,5 @@
 -- The texts of lists of events.
-use Rattle.std.proofs.Common.{◌≡◌, ◌∙◌, List, [], ◌∷◌, ◌++◌, refl, sym, ap, subst, append_assoc, append-nil, inl, inr}
+use Rattle.std.proofs.Common.{List, [], ◌∷◌, ◌++◌, refl, sym, append_assoc, append-nil, inl}
 use Rattle.daa_config.specs.Settings.{Settings}
 use Rattle.daa_report.specs.Lines.{Text}
 use Rattle.daa_replay.specs.declared.event.Event.{Event}

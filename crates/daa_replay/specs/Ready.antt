@@ -1,5 +1,5 @@
 -- What is known when a run was made ready, or why it was not.
-use Rattle.std.specs.Prelude.{ℕ, ◌≡◌, List, Option, None, Some, Result, Ok, Err}
+use Rattle.std.specs.Prelude.{◌≡◌, List, Option, None, Some, Result, Ok, Err}
 use Rattle.std.specs.Option.{option_map_or}
 use Rattle.daa_outside.specs.Shelf.{Texts}
 use Rattle.daa_config.specs.declared.fault.ConfigFault.{ConfigFault}

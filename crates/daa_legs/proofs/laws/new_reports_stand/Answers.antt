@@ -1,5 +1,4 @@
 use Rattle.std.proofs.Common.{◌≡◌, ◌+◌, ℕ, pos, ap, arith}
-use Rattle.daa_fixed.specs.declared.Solid.{Solid}
 use Rattle.daa_fixed.specs.Leg.{plus, times}
 use Rattle.daa_legs.specs.Relative.{reported_place, traffic_velocity}
 use Rattle.daa_legs.proofs.laws.new_reports_stand.Goals as goal
