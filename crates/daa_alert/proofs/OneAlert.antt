@@ -1,5 +1,5 @@
 -- An aircraft has one level now, and one alert.
-use Rattle.std.proofs.Common.{◌≡◌, ◌∙◌, ℕ, ◌<◌, ◌≤◌, Option, None, Some, refl, ⊎_elim, ap, sym, subst, arith, length}
+use Rattle.std.proofs.Common.{◌≡◌, ◌∙◌, ℕ, Option, None, Some, refl, ⊎_elim, ap, sym, subst, arith, length}
 use Rattle.std.specs.Prelude.{MatchOption}
 use Rattle.std.proofs.lemmas.Bool.{cases_lt}
 use Rattle.daa_config.specs.declared.candidate.Candidate.TheVariants.{Hold}

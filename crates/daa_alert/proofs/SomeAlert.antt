@@ -1,6 +1,5 @@
 -- An aircraft has a level now, and an alert, wherever it can be told what is violated.
-use Rattle.std.proofs.Common.{◌≡◌, ◌⊎◌, inl, inr, ℕ, zero, suc, ◌-◌, ◌<◌, ◌≤◌, Option, None, Some, length, subst, sym, refl, arith, ⊎_elim}
-use Rattle.std.specs.Prelude.{MatchOption}
+use Rattle.std.proofs.Common.{◌≡◌, ◌⊎◌, inl, inr, ℕ, zero, suc, ◌-◌, ◌<◌, ◌≤◌, None, Some, length, subst, refl, arith, ⊎_elim}
 use Rattle.std.proofs.lemmas.Bool.{cases_lt}
 use Rattle.daa_config.specs.declared.candidate.Candidate.TheVariants.{Hold}
 use Rattle.daa_config.specs.declared.level.Level.{Level}
@@ -8,10 +7,8 @@ use Rattle.daa_config.specs.Level.{IsGreatestLevel}
 use Rattle.daa_config.specs.Settings.{Settings, IsLevelAt}
 use Rattle.daa_state.specs.declared.word.Own.{Own}
 use Rattle.daa_state.specs.declared.word.Traffic.{Traffic}
-use Rattle.daa_taumod.specs.declared.Volume.{Volume}
 use Rattle.daa_legs.specs.Alerts.{Alerts, ViolatesNow, IsNowLevel, IsFirstLeg}
-use Rattle.daa_legs.specs.Meeting.{ViolatesOn, MeetsWithin}
-use Rattle.daa_alert.specs.Least.{IsLeastLeg}
+use Rattle.daa_legs.specs.Meeting.{ViolatesOn}
 use Rattle.daa_alert.specs.declared.warning.Alert.{Alert}
 use Rattle.daa_alert.specs.Alert.{IsAlertOf}
 use Rattle.daa_alert.proofs.Greatest.{IsNoneAbove, none_start, none_next, greatest_here, greatest_none}
