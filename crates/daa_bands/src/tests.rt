@@ -1,6 +1,8 @@
 //! Boards that are filled by hand, and the bands that they show.
 
-use crate::{Band, Board, Runs, board_shows_what_is_covered, has_one_list_of_bands, runs, worked_examples};
+use crate::{
+    Band, Board, Runs, board_shows_what_is_covered, has_one_list_of_bands, runs, worked_examples,
+};
 use daa_config::{Config, Kind, read};
 use std::process::Abort;
 use std::test::Fail;

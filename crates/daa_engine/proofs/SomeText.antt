@@ -1,5 +1,5 @@
 -- A picture in range has a text.
-use Rattle.std.proofs.Common.{◌≡◌, ◌<◌, ◌⊎◌, ◌++◌, ℕ, zero, suc, List, [], ◌∷◌, length, refl, subst, arith, inl, inr, ⊎_elim}
+use Rattle.std.proofs.Common.{◌≡◌, ◌⊎◌, ◌++◌, ℕ, zero, suc, List, [], ◌∷◌, length, refl, subst, arith, inl, inr, ⊎_elim}
 use Rattle.std.proofs.lemmas.Bool.{cases_lt}
 use Rattle.std.proofs.lemmas.Option.{slice_get_within}
 use Rattle.std.proofs.lemmas.List.Elements.{recursion_from_All}
@@ -22,7 +22,7 @@ use Rattle.daa_resolve.proofs.SomeLemmas.{one_resolution}
 use Rattle.daa_report.specs.Lines.{Text, now_line, alert_line, resolve_line, moment_line, done_line}
 use Rattle.daa_engine.specs.Covered.{CoveredAt, scene_of}
 use Rattle.daa_engine.specs.Filling.{CoveredBelow}
-use Rattle.daa_engine.specs.MomentText.{AreAircraftLines, AreAlertLines, AreBandLines, IsAnswerLine, IsMomentText, line_of, of_each}
+use Rattle.daa_engine.specs.MomentText.{AreAircraftLines, AreAlertLines, IsMomentText, line_of, of_each}
 use Rattle.daa_engine.specs.OneText.{HasOneText}
 use Rattle.daa_engine.proofs.OnlyLemmas.{text_only}
 

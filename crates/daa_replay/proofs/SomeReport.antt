@@ -1,5 +1,5 @@
 -- Every picture that an input ends is in range, and so the input has a report.
-use Rattle.std.proofs.Common.{◌≡◌, ℕ, ◌+◌, Bool, true, false, List, [], ◌∷◌, ◌++◌, Option, None, Some, Ok, Err, refl}
+use Rattle.std.proofs.Common.{ℕ, ◌+◌, Bool, true, false, List, [], ◌∷◌, ◌++◌, Option, None, Some, Ok, Err, refl}
 use Rattle.std.specs.Prelude.{IfOk, IfSome}
 use Rattle.std.specs.List.{All, AllByRecursion}
 use Rattle.std.proofs.lemmas.List.Elements.{All-from_recursion}
@@ -17,7 +17,7 @@ use Rattle.daa_engine.proofs.SomeText.{one_text}
 use Rattle.daa_replay.specs.declared.event.Event.{Event}
 use Rattle.daa_replay.specs.declared.event.Event.TheVariants as event
 use Rattle.daa_replay.specs.Events.{line_step, next_state, picture_event, line_event, end_event, events_from, events_of, IsEventInRange}
-use Rattle.daa_replay.specs.Report.{IsEventText, AreTexts, IsReportOf}
+use Rattle.daa_replay.specs.Report.{IsEventText, AreTexts}
 use Rattle.daa_replay.specs.OneReport.{HasOneReport}
 use Rattle.daa_replay.proofs.OneText.{report_once}
 
