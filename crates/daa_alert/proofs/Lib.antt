@@ -3,3 +3,4 @@ pub mod Halves
 pub mod Alerted
 pub mod Walks
 pub mod OneAlert
+pub mod SomeAlert

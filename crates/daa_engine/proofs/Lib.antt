@@ -3,3 +3,4 @@ pub mod WarningLemmas
 pub mod LoopLemmas
 pub mod TextLemmas
 pub mod OnlyLemmas
+pub mod SomeText

@@ -5,3 +5,4 @@ pub mod Saying
 pub mod Filling
 pub mod Findings
 pub mod Written
+pub mod OneText

@@ -12,4 +12,4 @@ mod tests;
 mod warnings;
 
 pub use engine::Engine;
-pub use laws::{boards_tell_what_is_covered, has_one_text};
+pub use laws::{boards_tell_what_is_covered, every_picture_has_one_text, has_one_text};

@@ -572,4 +572,5 @@ fn may_be_sent<T: Send>() {}
 fn values_may_be_sent() {
     may_be_sent::<Engine>();
     has_one_text();
+    every_picture_has_one_text();
 }

@@ -7,3 +7,4 @@ pub mod FourWordLemmas
 pub mod OneText
 pub mod CompleteLemmas
 pub mod OpeningLemmas
+pub mod SomeReport

@@ -11,3 +11,4 @@ pub mod Status
 pub mod Follows
 pub mod Saying
 pub mod Reporting
+pub mod OneReport

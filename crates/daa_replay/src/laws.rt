@@ -1,21 +1,28 @@
 //! What holds of the events and the report of every input, and inputs whose events are known.
 
-ghost use Rattle.std.specs.Prelude.{◌≡◌, ◌++◌, ◌∷◌, [], Bool, List, codes, replicate, pos, true, false};
+ghost use Rattle.std.specs.Prelude.{◌≡◌, ◌++◌, ◌∷◌, [], All, Bool, List, codes, replicate, pos, true, false};
 ghost use Rattle.daa_config.specs.Settings.{IsAccepted, Settings};
 ghost use Rattle.daa_lines.specs.LinesOf.{Bytes};
 ghost use Rattle.daa_report.specs.Lines.{Text};
 ghost use Rattle.daa_replay.specs.declared.event.Event.{Event};
-ghost use Rattle.daa_replay.specs.Events.{events_of};
+ghost use Rattle.daa_replay.specs.Events.{events_of, IsEventInRange};
 ghost use Rattle.daa_replay.specs.FourWordEvents.{ReadsAsFourWords};
+ghost use Rattle.daa_replay.specs.OneReport.{HasOneReport};
 ghost use Rattle.daa_replay.specs.Report.{IsReportFront, IsReportOf};
 ghost use Rattle.daa_replay.specs.Run.{ConfigurationsAreUnique, RunsAreComplete};
 
 use crate::event::Event;
 use daa_state::LineFault;
 
-/// No two texts are the report of one input under an accepted configuration.
-pub fn reports_are_unique()
-    ensures { (settings : Settings) (bytes : Bytes) (ended : Bool) (text other : Text) → IsAccepted settings → IsReportOf settings bytes ended text → IsReportOf settings bytes ended other → text ≡ other }
+/// Under an accepted configuration exactly one text is the report of an input: every run of bytes has one, whether they
+/// are the whole input or its beginning, and no other text is it.
+pub fn every_input_has_one_report()
+    ensures { (settings : Settings) (bytes : Bytes) (ended : Bool) → IsAccepted settings → HasOneReport settings bytes ended }
+{}
+
+/// The picture of every moment that an input ends is in range.
+pub fn ended_moments_are_in_range()
+    ensures { (bytes : Bytes) (ended : Bool) → All IsEventInRange (events_of bytes ended) }
 {}
 
 /// A beginning of a report, as it is said event by event, is a beginning of the whole text.

@@ -17,8 +17,9 @@ mod turn;
 
 pub use event::Event;
 pub use laws::{
-    configurations_are_unique, events_only_grow, format_lines_alone_matter, fronts_begin_reports,
-    reports_are_unique, runs_are_complete, worked_examples,
+    configurations_are_unique, ended_moments_are_in_range, events_only_grow,
+    every_input_has_one_report, format_lines_alone_matter, fronts_begin_reports, runs_are_complete,
+    worked_examples,
 };
 pub use program::{run, run_within};
 

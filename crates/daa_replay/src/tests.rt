@@ -5,7 +5,7 @@ mod lines;
 mod moments;
 mod opening;
 
-use super::{Event, run_within};
+use super::{Event, ended_moments_are_in_range, every_input_has_one_report, run_within};
 use daa_outside::{CalmShelf, CalmSource, MemShelf, MemSink, MemSource, Open, Void};
 use std::alloc::AllocError;
 use std::process::Abort;
@@ -227,4 +227,6 @@ fn may_be_sent<T: Send>() {}
 #[test]
 fn values_may_be_sent() {
     may_be_sent::<Event>();
+    every_input_has_one_report();
+    ended_moments_are_in_range();
 }

@@ -10,3 +10,4 @@ pub mod Masking
 pub mod Numbers
 pub mod Packs
 pub mod Reaching
+pub mod Telling

@@ -121,16 +121,16 @@ module _ (settings : Settings) (own : Own) (candidate : Candidate) (aircraft : T
       double false m n t h e = omega (arith, h, e)
 
   module _ (a : IsAccepted settings) (o : IsOwnInRange own) (h : IsCandidateInRange candidate) (t : IsTrafficInRange aircraft) where
-    leg-in_range : (k : ℕ) → k < 180 → IsLegInRange (relative_leg settings own candidate aircraft k)
+    pub leg-in_range : (k : ℕ) → k < 180 → IsLegInRange (relative_leg settings own candidate aircraft k)
     leg-in_range k l = relative_for-in_range 1 (own_leg own (rates_of settings) candidate k) aircraft k
         (record { place = place_on-below own (rates_of settings) candidate o a.rates h k (omega (arith, l)); velocity = velocity_on-below own (rates_of settings) candidate o a.rates h k })
         t (omega (arith, l)) (omega arith) (omega arith)
 
-    on_is : (vol : Volume) → IsVolumeInRange vol → (k : ℕ) → k < 180 → IsTrue (is_violated_sometime (relative_leg settings own candidate aircraft k) vol) ↔ ViolatesOn settings own candidate aircraft vol k
+    pub on_is : (vol : Volume) → IsVolumeInRange vol → (k : ℕ) → k < 180 → IsTrue (is_violated_sometime (relative_leg settings own candidate aircraft k) vol) ↔ ViolatesOn settings own candidate aircraft vol k
     unfolding relative_for
     on_is vol v k l = sometime_is (relative_leg settings own candidate aircraft k) vol (leg-in_range k l) v
 
-    within_is : (vol : Volume) → IsVolumeInRange vol → (m : ℕ) → m ≤ 180 → IsTrue (is_met_within settings own candidate aircraft vol m) ↔ MeetsWithin settings own candidate aircraft vol m
+    pub within_is : (vol : Volume) → IsVolumeInRange vol → (m : ℕ) → m ≤ 180 → IsTrue (is_met_within settings own candidate aircraft vol m) ↔ MeetsWithin settings own candidate aircraft vol m
     unfolding is_met_within
     within_is vol v m short =
         let s = some_is (λ k. is_violated_sometime (relative_leg settings own candidate aircraft k) vol) m in (

@@ -5,3 +5,5 @@ pub mod StepLemmas
 pub mod WordLaws
 pub mod FormatLaws
 pub mod RangeLemmas
+pub mod WordRanges
+pub mod StepRanges

@@ -1,0 +1,165 @@
+-- The numbers of a word are in range, whatever the line.
+use Rattle.std.proofs.Common.{ℕ, ◌≡◌, ◌≤◌, ◌∷◌, [], ◌&&◌, ℤ, Bool, true, false, List, Ok, Err, refl, arith}
+use Rattle.std.specs.Prelude.{IfOk, nat_le, int_le, length, codes, unsigned_abs, ◌==◌, if◌then◌else◌}
+use Rattle.std.proofs.lemmas.Int.{ints}
+use Rattle.std.specs.Str.{bytes_eq}
+use Rattle.std.specs.Str.Lines.{strip_carriage_return}
+use Rattle.daa_state.specs.Fault.{Checked, ◌>>=◌}
+use Rattle.daa_state.specs.Fields.{Bytes, fields_of}
+use Rattle.daa_state.specs.Id.{is_id}
+use Rattle.daa_state.specs.InRange.{IsWithin, IsPosition, IsAltitude, IsTrack, IsGroundSpeed, IsSpeed, IsVerticalSpeed, IsAge, IsFormat, IsOwnInRange, IsTrafficInRange, IsWordInRange}
+use Rattle.daa_state.specs.Number.{number, within, position, altitude, track, ground_speed, speed, vertical_speed, age, line_format, seconds}
+use Rattle.daa_state.specs.Ranges.{Range, positions, altitudes, tracks, ground_speeds, speeds, vertical_speeds, ages, formats}
+use Rattle.daa_state.specs.WordOf.{identifier, is_comment, word_of, word_of_fields, word_of_name, moment_of, own_of, ownship, traffic_of, aged_traffic_of, aircraft, format_of, end_of}
+use Rattle.daa_state.specs.declared.fault.LineFault.TheVariants.{OutOfRange, BadId}
+
+-- ---- values that are read one after the other
+
+-- what holds of what comes next wherever P holds of the first, where P holds of it
+pub IfOk-with : {A B : Type 0} (P : A → Type 0) (Q : B → Type 0) (first : Checked A) (next : A → Checked B) → IfOk first P → ((a : A) → P a → IfOk (next a) Q) → IfOk (first >>= next) Q
+IfOk-with P Q (Ok a) next p h = h a p
+IfOk-with P Q (Err fault) next p h = tt
+
+pub IfOk-if : {A : Type 0} (P : A → Type 0) (test : Bool) (x y : Checked A) → IfOk x P → IfOk y P → IfOk (if test then x else y) P
+IfOk-if P true x y h k = h
+IfOk-if P false x y h k = k
+
+-- what needs nothing of the first
+pub IfOk-any : {A B : Type 0} (Q : B → Type 0) (first : Checked A) (next : A → Checked B) → ((a : A) → IfOk (next a) Q) → IfOk (first >>= next) Q
+IfOk-any Q (Ok a) next h = h a
+IfOk-any Q (Err fault) next h = tt
+
+-- ---- numbers
+
+within-range : (range : Range) (n : ℤ) → IfOk (within range n) (IsWithin range)
+within-range range n = go (int_le range.low n) (int_le n range.high) refl refl
+  where
+    go : (a b : Bool) → int_le range.low n ≡ a → int_le n range.high ≡ b → IfOk (if a && b then Ok n else Err OutOfRange) (IsWithin range)
+    go true true e f = (grind (arith, ints), grind (arith, ints))
+    go true false e f = tt
+    go false b e f = tt
+
+position-range : (field : Bytes) → IfOk (position field) IsPosition
+unfolding position
+position-range field = IfOk-any _ (number field) _ (within-range positions)
+
+altitude-range : (field : Bytes) → IfOk (altitude field) IsAltitude
+unfolding altitude
+altitude-range field = IfOk-any _ (number field) _ (within-range altitudes)
+
+track-range : (field : Bytes) → IfOk (track field) IsTrack
+unfolding track
+track-range field = IfOk-any _ (number field) _ (within-range tracks)
+
+ground_speed-range : (field : Bytes) → IfOk (ground_speed field) IsGroundSpeed
+unfolding ground_speed
+ground_speed-range field = IfOk-any _ (number field) _ (within-range ground_speeds)
+
+speed-range : (field : Bytes) → IfOk (speed field) IsSpeed
+unfolding speed
+speed-range field = IfOk-any _ (number field) _ (within-range speeds)
+
+vertical_speed-range : (field : Bytes) → IfOk (vertical_speed field) IsVerticalSpeed
+unfolding vertical_speed
+vertical_speed-range field = IfOk-any _ (number field) _ (within-range vertical_speeds)
+
+age-range : (field : Bytes) → IfOk (age field) IsAge
+unfolding age
+age-range field = IfOk-any _ (number field) _ (λ n. IfOk-with (IsWithin ages) IsAge (within ages n) _ (within-range ages n) short)
+  where
+    short : (z : ℤ) → IsWithin ages z → unsigned_abs z ≤ 60
+    short z h = omega (arith, ints, h.0, h.1)
+
+line_format-range : (field : Bytes) → IfOk (line_format field) IsFormat
+unfolding line_format
+line_format-range field = IfOk-any _ (number field) _ (λ n. IfOk-with (IsWithin formats) IsFormat (within formats n) _ (within-range formats n) known)
+  where
+    known : (z : ℤ) → IsWithin formats z → IsFormat (unsigned_abs z)
+    known z h = (omega (arith, ints, h.0, h.1), omega (arith, ints, h.0, h.1))
+
+-- ---- words
+
+identifier-is : (field : Bytes) → IfOk (identifier field) (λ id. is_id id ≡ true)
+unfolding identifier
+identifier-is field = go (is_id field) refl
+  where
+    go : (b : Bool) → is_id field ≡ b → IfOk (if b then Ok field else Err BadId) (λ id. is_id id ≡ true)
+    go true e = e
+    go false e = tt
+
+ownship-range : (x y alt trk gs vs : Bytes) → IfOk (ownship x y alt trk gs vs) IsOwnInRange
+unfolding ownship
+ownship-range x y alt trk gs vs =
+    IfOk-with IsPosition IsOwnInRange (position x) _ (position-range x) (λ x in_x.
+    IfOk-with IsPosition IsOwnInRange (position y) _ (position-range y) (λ y in_y.
+    IfOk-with IsAltitude IsOwnInRange (altitude alt) _ (altitude-range alt) (λ alt in_alt.
+    IfOk-with IsTrack IsOwnInRange (track trk) _ (track-range trk) (λ trk in_trk.
+    IfOk-with IsGroundSpeed IsOwnInRange (ground_speed gs) _ (ground_speed-range gs) (λ gs in_gs.
+    IfOk-with IsVerticalSpeed IsOwnInRange (vertical_speed vs) _ (vertical_speed-range vs) (λ vs in_vs.
+    record { x = in_x; y = in_y; alt = in_alt; trk = in_trk; gs = in_gs; vs = in_vs }))))))
+
+aircraft-range : (id x y alt vx vy vs : Bytes) → IfOk (aircraft id x y alt vx vy vs) IsTrafficInRange
+unfolding aircraft
+aircraft-range id x y alt vx vy vs =
+    IfOk-with _ IsTrafficInRange (identifier id) _ (identifier-is id) (λ id in_id.
+    IfOk-with IsPosition IsTrafficInRange (position x) _ (position-range x) (λ x in_x.
+    IfOk-with IsPosition IsTrafficInRange (position y) _ (position-range y) (λ y in_y.
+    IfOk-with IsAltitude IsTrafficInRange (altitude alt) _ (altitude-range alt) (λ alt in_alt.
+    IfOk-with IsSpeed IsTrafficInRange (speed vx) _ (speed-range vx) (λ vx in_vx.
+    IfOk-with IsSpeed IsTrafficInRange (speed vy) _ (speed-range vy) (λ vy in_vy.
+    IfOk-with IsVerticalSpeed IsTrafficInRange (vertical_speed vs) _ (vertical_speed-range vs) (λ vs in_vs.
+    record { id = in_id; x = in_x; y = in_y; alt = in_alt; vx = in_vx; vy = in_vy; vs = in_vs; age = omega arith })))))))
+
+moment_of-range : (fields : List Bytes) → IfOk (moment_of fields) IsWordInRange
+unfolding moment_of
+moment_of-range [] = tt
+moment_of-range (a ∷ []) = IfOk-any _ (seconds a) _ (λ time. tt)
+moment_of-range (a ∷ b ∷ fields) = tt
+
+own_of-range : (fields : List Bytes) → IfOk (own_of fields) IsWordInRange
+unfolding own_of
+own_of-range (a ∷ b ∷ c ∷ d ∷ e ∷ f ∷ []) = IfOk-with IsOwnInRange _ (ownship a b c d e f) _ (ownship-range a b c d e f) (λ own h. h)
+own_of-range _ = tt
+
+traffic_of-range : (fields : List Bytes) → IfOk (traffic_of fields) IsWordInRange
+unfolding traffic_of
+traffic_of-range (a ∷ b ∷ c ∷ d ∷ e ∷ f ∷ g ∷ []) = IfOk-with IsTrafficInRange _ (aircraft a b c d e f g) _ (aircraft-range a b c d e f g) (λ traffic h. h)
+traffic_of-range _ = tt
+
+aged_traffic_of-range : (fields : List Bytes) → IfOk (aged_traffic_of fields) IsWordInRange
+unfolding aged_traffic_of
+aged_traffic_of-range (a ∷ b ∷ c ∷ d ∷ e ∷ f ∷ g ∷ s ∷ []) =
+    IfOk-with IsTrafficInRange _ (aircraft a b c d e f g) _ (aircraft-range a b c d e f g) (λ traffic h.
+    IfOk-with IsAge _ (age s) _ (age-range s) (λ seconds k.
+    record { id = h.id; x = h.x; y = h.y; alt = h.alt; vx = h.vx; vy = h.vy; vs = h.vs; age = k }))
+aged_traffic_of-range _ = tt
+
+format_of-range : (fields : List Bytes) → IfOk (format_of fields) IsWordInRange
+unfolding format_of
+format_of-range [] = tt
+format_of-range (a ∷ []) = IfOk-with IsFormat _ (line_format a) _ (line_format-range a) (λ format h. h)
+format_of-range (a ∷ b ∷ fields) = tt
+
+end_of-range : (fields : List Bytes) → IfOk (end_of fields) IsWordInRange
+unfolding end_of
+end_of-range [] = tt
+end_of-range (a ∷ fields) = tt
+
+word_of_name-range : (format : ℕ) (name : Bytes) (fields : List Bytes) → IfOk (word_of_name format name fields) IsWordInRange
+unfolding word_of_name
+word_of_name-range format name fields =
+    IfOk-if _ (is_comment name) _ _ tt (
+    IfOk-if _ (bytes_eq name (codes "moment")) _ _ (moment_of-range fields) (
+    IfOk-if _ (bytes_eq name (codes "own")) _ _ (own_of-range fields) (
+    IfOk-if _ (bytes_eq name (codes "traffic")) _ _ (IfOk-if _ (format == 2) _ _ (aged_traffic_of-range fields) (traffic_of-range fields)) (
+    IfOk-if _ (bytes_eq name (codes "format")) _ _ (format_of-range fields) (
+    IfOk-if _ (bytes_eq name (codes "end")) _ _ (end_of-range fields) tt)))))
+
+word_of_fields-range : (format : ℕ) (fields : List Bytes) → IfOk (word_of_fields format fields) IsWordInRange
+unfolding word_of_fields
+word_of_fields-range format [] = tt
+word_of_fields-range format (name ∷ fields) = word_of_name-range format name fields
+
+pub word_of-range : (line : Bytes) (format : ℕ) → IfOk (word_of line format) IsWordInRange
+unfolding word_of
+word_of-range line format = IfOk-if _ (nat_le (length line) 255) _ _ (word_of_fields-range format (fields_of (strip_carriage_return line))) tt
