@@ -1,10 +1,8 @@
 -- A board that is filled aircraft by aircraft.
-use Rattle.std.proofs.Common.{◌≡◌, ◌≢◌, ◌<◌, ◌≤◌, ◌+◌, ◌-◌, ◌⊎◌, ◌∙◌, ℕ, zero, suc, max, List, length, bit_or, replicate, refl, sym, ap, subst, arith, inl, inr}
+use Rattle.std.proofs.Common.{◌≡◌, ◌≢◌, ◌<◌, ◌≤◌, ◌+◌, ◌-◌, ◌⊎◌, ◌∙◌, ℕ, List, length, bit_or, replicate, refl, sym, ap, subst, arith, inl, inr}
 use Rattle.std.specs.Prelude.{slice_index}
-use Rattle.std.specs.Int.{bit_at}
 use Rattle.std.specs.Int.Bits.{or_zero_r}
-use Rattle.std.proofs.lemmas.Nat.Bits.{bit_at_or, bit_at-lt, bit_at-zero}
-use Rattle.std.proofs.lemmas.List.{get_or-replicate, get_or_past, length-replicate}
+use Rattle.std.proofs.lemmas.Nat.Bits.{bit_at-zero}
 use Rattle.std.proofs.lemmas.Bool.{cases_lt}
 use Rattle.std.proofs.lemmas.Option.{slice_get_within}
 use Rattle.daa_config.specs.Settings.{Settings}
@@ -16,6 +14,7 @@ use Rattle.daa_state.specs.declared.word.Picture.{Picture}
 use Rattle.daa_scan.specs.Situation.{Situation, MeetsAt}
 use Rattle.daa_engine.specs.Covered.{CoveredAt, scene_of}
 use Rattle.daa_engine.specs.Filling.{CoveredBelow, AddsAircraft}
+use Rattle.daa_engine.proofs.LevelLemmas.{either, left, right, along, nothing_set}
 
 -- ---- one candidate more
 
@@ -61,29 +60,6 @@ mark_nothing scene place count board never = record {
 
 -- ---- one aircraft more
 
-max_one : (a b c : ℕ) → c ≡ max a b → a < 2 → b < 2 → c ≡ 1 → (a ≡ 1) ⊎ (b ≡ 1)
-max_one zero b c e h k l = inr (omega arith)
-max_one (suc zero) b c e h k l = inl refl
-max_one (suc (suc a)) b c e h k l = absurd (omega arith)
-
-either : (a b l : ℕ) → HasLevel (bit_or a b) l → HasLevel a l ⊎ HasLevel b l
-either a b l h = max_one _ _ _ (bit_at_or a b (l - 1)) (bit_at-lt a (l - 1)) (bit_at-lt b (l - 1)) h
-
-max_left : (a b c : ℕ) → c ≡ max a b → b < 2 → a ≡ 1 → c ≡ 1
-max_left a b c e h k = omega arith
-
-left : (a b l : ℕ) → HasLevel a l → HasLevel (bit_or a b) l
-left a b l h = max_left _ _ _ (bit_at_or a b (l - 1)) (bit_at-lt b (l - 1)) h
-
-max_right : (a b c : ℕ) → c ≡ max a b → a < 2 → b ≡ 1 → c ≡ 1
-max_right a b c e h k = omega arith
-
-right : (a b l : ℕ) → HasLevel b l → HasLevel (bit_or a b) l
-right a b l h = max_right _ _ _ (bit_at_or a b (l - 1)) (bit_at-lt a (l - 1)) h
-
-along : (a b l : ℕ) → a ≡ b → HasLevel a l → HasLevel b l
-along a b l e h = subst (λ (x : ℕ). HasLevel x l) e h
-
 module _ (scene : Situation) (n : ℕ) (old new : List ℕ) (board : IsBoardOf (CoveredBelow scene n) scene.settings old)
     (adds : AddsAircraft scene n (length (candidates_of scene.settings)) old new) where
   covered : (index l : ℕ) → index < length (candidates_of scene.settings) → 1 ≤ l → l ≤ length scene.settings.levels → HasLevelOn new index l → CoveredBelow scene (n + 1) index l
@@ -125,19 +101,6 @@ module _ (scene : Situation) (n : ℕ) (old new : List ℕ) (board : IsBoardOf (
       above index l high h (inr past) = board.no_level_above index l high (along _ _ l (adds.outside index past) h)
 
 -- ---- from none to all
-
-le_by : (n i k : ℕ) → k ≡ n → n ≤ i → k ≤ i
-le_by n i k e h = omega arith
-
-zero_at : (n i : ℕ) → slice_index (replicate n 0) i ≡ 0
-zero_at n i = go (cases_lt i n)
-  where
-    go : (i < n) ⊎ (n ≤ i) → slice_index (replicate n 0) i ≡ 0
-    go (inl h) = get_or-replicate n i 0 0 h
-    go (inr h) = get_or_past (replicate n 0) i 0 (le_by n i (length (replicate n 0)) (length-replicate n 0) h)
-
-nothing_set : (n i l : ℕ) → HasLevelOn (replicate n 0) i l → ⊥
-nothing_set n i l h = let e = sym (ap (λ (x : ℕ). bit_at x (l - 1)) (zero_at n i) ∙ bit_at-zero (l - 1)) ∙ h in omega (arith, e)
 
 pub aircraft_none : (scene : Situation) (n : ℕ) → IsBoardOf (CoveredBelow scene 0) scene.settings (replicate n 0)
 aircraft_none scene n = record {

@@ -4,3 +4,5 @@ pub mod LoopLemmas
 pub mod TextLemmas
 pub mod OnlyLemmas
 pub mod SomeText
+pub mod LevelLemmas
+pub mod MergingLemmas

@@ -3,6 +3,7 @@ pub mod Machine
 pub mod MomentText
 pub mod Saying
 pub mod Filling
+pub mod Merging
 pub mod Findings
 pub mod Written
 pub mod OneText

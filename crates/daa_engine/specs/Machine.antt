@@ -1,5 +1,5 @@
 -- What contracts see of an engine.
-use Rattle.std.specs.Prelude.{ℕ, ◌≤◌, List}
+use Rattle.std.specs.Prelude.{◌≡◌, ℕ, ◌≤◌, List, length}
 use Rattle.daa_config.specs.Settings.{Settings, IsAccepted}
 
 -- its configuration, its number of workers, and the masks of levels of the latest moment's candidates
@@ -17,3 +17,7 @@ pub record IsCrew (workers : ℕ) : Type 0 where
 pub record IsMachine (machine : Machine) : Type 0 where
   pub accepted : IsAccepted machine.settings
   pub crew : IsCrew machine.workers
+
+-- it has a word for each unit of work of every moment: 64 aircraft and 159 groups of candidates
+abbrev pub HasRoom : List ℕ → Type 0
+HasRoom words = length words ≡ 10176

@@ -1,8 +1,11 @@
 //! The engine: a configuration, a number of workers, and the board of the latest moment.
-ghost use Rattle.std.specs.Prelude.{◌≡◌, IfOk, replicate};
+ghost use Rattle.std.specs.Prelude.{◌≡◌, ◌<◌, IfOk, length, replicate, slice_index_or};
 ghost use Rattle.daa_bands.specs.Board.{IsBoardOf, board_size};
 ghost use Rattle.daa_config.specs.Settings.{IsAccepted};
 ghost use Rattle.daa_state.specs.InRange.{IsPictureInRange};
+ghost use Rattle.daa_state.specs.Picture.{aircraft_of};
+ghost use Rattle.daa_state.specs.declared.word.Traffic.{Traffic};
+ghost use Rattle.daa_alert.specs.Alert.{IsAlertOf};
 ghost use Rattle.daa_engine.specs.Covered.{CoveredAt};
 ghost use Rattle.daa_engine.specs.Machine.{IsCrew};
 ghost use Rattle.daa_engine.specs.Saying.{SaysMoment};
@@ -10,7 +13,9 @@ ghost use Rattle.daa_engine.specs.Saying.{SaysMoment};
 use crate::advice::advise;
 use crate::filling::fill;
 use crate::say::say;
+use crate::together::fill_together;
 use crate::warnings::find_warnings;
+use daa_alert::{Alert, alert};
 use daa_bands::Board;
 use daa_config::Config;
 use daa_outside::{Gate, Sink};
@@ -21,37 +26,45 @@ use std::alloc::Global;
 use std::marker::Model;
 use std::thread::Threads;
 
+/// How many units of work a moment has at most: 64 aircraft and 159 groups of candidates.
+const MOST_UNITS: usize = 10176;
+
 /// A configuration, 1 to 16 workers, and the board of the latest moment.
 #[derive(Drop)]
 pub struct Engine {
     config: Config,
     workers: u32,
     board: Board,
+    // what the workers answer
+    words: Vec<u64>,
 }
 
 impl Model for Engine {
-    ghost use Rattle.daa_engine.specs.Machine.{Machine, IsMachine};
+    ghost use Rattle.std.specs.Prelude.{◌≡◌, length};
+    ghost use Rattle.daa_engine.specs.Machine.{Machine, IsMachine, HasRoom};
 
     ghost Value = { Machine };
 
     ghost view = { λ e. record { settings = e.config; workers = e.workers; board = e.board } };
 
-    ghost invariant = { λ e. IsMachine (record { settings = e.config; workers = e.workers; board = e.board }) };
+    ghost invariant = { λ e. IsMachine (record { settings = e.config; workers = e.workers; board = e.board }) × HasRoom e.words.items };
 }
 
 impl Engine {
     /// An engine of this configuration and so many workers, 1 to 16, before its first moment. `NoMemory` says that there
     /// was no memory for it.
-    pub fn new(_alloc: Global, config: Config, workers: u32) -> Result<Engine, NoMemory>
+    pub fn new(alloc: Global, config: Config, workers: u32) -> Result<Engine, NoMemory>
         requires { IsCrew workers }
         ensures { IfOk result (λ engine. engine ≡ record { settings = config; workers = workers; board = replicate board_size 0 }) }
     {
         // tells that its numbers are in range
         let _levels = config.levels();
+        let words = vec![in alloc; 0u64; MOST_UNITS]?;
         Ok(Engine {
             config,
             workers,
             board: Board::new(),
+            words,
         })
     }
 
@@ -71,20 +84,46 @@ impl Engine {
         &self.board
     }
 
+    /// The alert of an aircraft of a picture, by its place in the picture's list: the greatest level whose volume the present
+    /// flight violates round it within the level's alert time, or 0, and the first leg that does.
+    pub fn alert_of(&self, picture: &Picture, aircraft: usize) -> Alert
+        requires picture { IsPictureInRange picture.now }
+        requires aircraft { aircraft < length (aircraft_of picture.now) }
+        ensures { (t : Traffic) → IsAlertOf self.now.settings picture.now.own (slice_index_or (aircraft_of picture.now) aircraft t) result }
+    {
+        alert(&self.config, &picture.own, &picture.traffic[aircraft])
+    }
+
     /// Decides a moment: bit l - 1 at a candidate's index is then set exactly where some aircraft of the picture meets the
     /// candidate within the lookahead of level l, and no other bit is. Aircraft that no candidate can reach are skipped.
-    /// Memory may be asked for; where there is none the board is the same.
+    /// With more than one worker and some aircraft in reach each worker runs on a thread of its own; the gate is then passed
+    /// before each unit of work. Memory is asked for the workers alone; where there is none, one thread finds the same board.
     pub fn decide<R: Threads + Sync, G: Gate>(
         &mut self,
-        _rt: &R,
-        _alloc: Global,
+        rt: &R,
+        alloc: Global,
         picture: &Picture,
-        _gate: &G,
+        gate: &G,
     )
         requires { IsPictureInRange picture.now }
         ensures kept { self.new ≡ record self.old { board = self.new.board } }
         ensures board { IsBoardOf (CoveredAt self.old.settings picture.now) self.old.settings self.new.board }
     {
+        if self.workers > 1 {
+            let filled = fill_together(
+                rt,
+                alloc,
+                &mut self.board,
+                &mut self.words,
+                &self.config,
+                picture,
+                self.workers,
+                gate,
+            );
+            if filled.is_ok() {
+                return;
+            }
+        }
         fill(&mut self.board, &self.config, picture);
     }
 

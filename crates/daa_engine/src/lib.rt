@@ -9,6 +9,7 @@ mod laws;
 mod say;
 #[cfg(test)]
 mod tests;
+mod together;
 mod warnings;
 
 pub use engine::Engine;

@@ -11,4 +11,4 @@ pub mod Opening
 pub mod Dealing
 pub mod Joining
 pub mod Gathering
-pub mod Crew
+pub mod CrewLemmas

@@ -3,6 +3,7 @@
 #![tactic(auto)]
 
 mod claim;
+mod crew;
 mod gather;
 mod open;
 mod pool;
@@ -12,6 +13,7 @@ mod steps;
 mod view;
 mod work;
 
+pub use crew::answer_all;
 pub use daa_schedule::NoMemory;
 pub use pool::Pool;
 pub use seat::{Piece, Seat, unit};

@@ -4,7 +4,7 @@ ghost use Rattle.daa_pool.specs.Numbers.{numbers};
 ghost use Rattle.daa_pool.specs.Seat.{view, workers_of, units_of, IsSeatOf, IsSamePlace, IsFree, HasPiece, IsReady, IsDone};
 ghost use Rattle.daa_pool.specs.Pool.{AllReady, AllWorked, IsWorked};
 
-use crate::{NoMemory, Piece, Pool, Seat, unit};
+use crate::{NoMemory, Piece, Pool, Seat, answer_all, unit};
 use daa_outside::{Gate, Open};
 use daa_schedule::Answers;
 use std::alloc::{AllocError, Global};
@@ -184,56 +184,13 @@ fn two_seats_share_five_units(rt: HostRuntime) -> Result<(), Fail> {
     Ok(())
 }
 
-// Each seat works on a thread of its own.
-fn work_all<R: Threads + Sync, A: Answers + Sync, G: Gate>(
-    rt: &R,
-    pool: &Pool,
-    seats: &mut [Seat],
-    answers: &A,
-    gate: &G,
-)
-    requires some { 0 < length seats.old }
-    requires ready { AllReady pool.now seats.old (A.answers answers.now) }
-    ensures { AllWorked pool.now seats.old seats.new }
-{
-    let count = seats.len();
-    thread::for_each_mut(
-        rt,
-        seats,
-        count,
-        &|_number: usize, seat: &mut Seat|
-            requires { IsReady pool.now seat.old (A.answers answers.now) × IsSync A.row × IsSync G.row }
-            ensures { IsWorked pool.entry.now seat.entry.now seat.exit.now }
-        { pool.work(seat, answers, gate) },
-    );
-}
-
-// Each worker works on a thread of its own, and then the answers are gathered.
-fn fill<R: Threads + Sync, A: Answers + Sync, G: Gate>(
-    rt: &R,
-    alloc: Global,
-    answers: &A,
-    gate: &G,
-    workers: u32,
-    words: &mut [u64],
-) -> Result<(), NoMemory>
-    requires workers { (0 < workers) × (workers ≤ 16) }
-    requires units { (0 < length (A.answers answers.now)) × (length words.old ≡ length (A.answers answers.now)) }
-    ensures { OnOk result (words.new ≡ A.answers answers.now) }
-{
-    let (pool, mut seats) = Pool::open(alloc, answers, workers)?;
-    work_all(rt, &pool, seats.as_mut_slice(), answers, gate);
-    pool.gather(seats, words);
-    Ok(())
-}
-
 #[test]
 fn threads_gather_the_answers(rt: HostRuntime) {
     for workers in [1, 2, 3, 4, 16] {
         assert!(rt; 0 < workers && workers <= 16);
         let given = Numbers::new(300);
         let mut words = [0; 300];
-        let done = fill(&rt, rt.alloc(), &given, &Open, workers, &mut words);
+        let done = answer_all(&rt, rt.alloc(), &given, &Open, workers, &mut words);
         assert!(rt; done.is_ok());
         for (unit, word) in words.iter().enumerate() {
             assert!(rt; *word == 11 + unit as u64, "at {unit} with {workers}");
@@ -248,7 +205,7 @@ fn the_gate_is_passed_once_before_each_answer(rt: HostRuntime) {
         assert!(rt; 0 < workers && workers <= 16);
         let watch = Watch::new();
         let mut words = [0; 5];
-        let done = fill(&rt, rt.alloc(), &watch, &watch, workers, &mut words);
+        let done = answer_all(&rt, rt.alloc(), &watch, &watch, workers, &mut words);
         assert!(rt; done.is_ok());
         assert!(rt; watch.has_passed_each_unit_once_in_time(), "with {workers}");
     }

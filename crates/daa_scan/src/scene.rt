@@ -78,6 +78,15 @@ impl<'a> Scene<'a> {
         is_in_reach(self.config, &self.picture.own, self.aircraft(aircraft))
     }
 
+    /// How many groups of twelve the whole list of candidates has, 1 to 159; the last group may have fewer.
+    pub fn groups(&self) -> u32
+        ensures value { result ≡ group_count self.now.settings }
+        ensures some { 1 ≤ result }
+        ensures few { result ≤ 159 }
+    {
+        groups_of(self.config)
+    }
+
     /// How many aircraft are in reach, at most 64.
     pub fn count_in_reach(&self) -> u32
         ensures value { IsCountInReach self.now result }

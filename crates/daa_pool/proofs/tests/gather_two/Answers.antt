@@ -1,4 +1,4 @@
-use Rattle.daa_pool.proofs.Crew.{all_of_two}
+use Rattle.daa_pool.proofs.CrewLemmas.{all_of_two}
 use Rattle.daa_pool.proofs.tests.gather_two.Goals as goal
 
 pub gather-requires-clause-all : goal.gather-requires-clause-all

@@ -9,4 +9,4 @@ returns-clause-says g c =
     let s = ap (λ (e : Machine). e.settings) v ∙ ap (λ (e : Machine). e.settings) c.decide.ensures.kept in
     let b = ap (λ (e : Machine). e.board) v in
     reported c.args.self.now.settings c.args.picture.now c.decide.new.self.board c.find_warnings-warnings.result.items c.advise-advice.result _ _ _ _ c.say.result
-    c.decide.ensures.board _ _ _ s b c.deref.ensures.0 c.self.invariant.accepted c.find_warnings-warnings.ensures c.advise-advice.ensures c.say.ensures
+    c.decide.ensures.board _ _ _ s b c.deref.ensures.0 c.self.invariant.0.accepted c.find_warnings-warnings.ensures c.advise-advice.ensures c.say.ensures
