@@ -3,8 +3,10 @@
 ghost use Rattle.std.specs.Prelude.{◌<◌, ◌≤◌, IfSome, length};
 ghost use Rattle.daa_config.specs.Candidates.{candidates_of};
 ghost use Rattle.daa_state.specs.InRange.{IsPictureInRange};
+ghost use Rattle.daa_engine.specs.Machine.{IsCrew};
 
 mod texts;
+mod workers;
 
 use super::*;
 use daa_config::{Config, read};
@@ -394,12 +396,24 @@ fn config_of(
     Ok(read(rt.alloc(), edited.as_str().as_bytes())?)
 }
 
+/// An engine of one worker.
 fn engine_of(
     rt: &(impl AllocGlobal + Abort),
     text: &str,
     edits: &[(&str, &str)],
 ) -> Result<Engine, Fail> {
-    Ok(Engine::new(rt.alloc(), config_of(rt, text, edits)?, 1)?)
+    crew_of(rt, text, edits, 1)
+}
+
+fn crew_of(
+    rt: &(impl AllocGlobal + Abort),
+    text: &str,
+    edits: &[(&str, &str)],
+    workers: u32,
+) -> Result<Engine, Fail>
+    requires { IsCrew workers }
+{
+    Ok(Engine::new(rt.alloc(), config_of(rt, text, edits)?, workers)?)
 }
 
 /// A sink with so much room, which fails at these calls.
@@ -429,9 +443,12 @@ fn expect_report<R: Abort + Threads + Sync + AllocGlobal>(
 
 #[test]
 fn worked_rows(rt: HostRuntime) -> Result<(), Fail> {
-    for row in &ROWS {
-        let mut engine = engine_of(&rt, row.text, row.edits)?;
-        expect_report(&rt, &mut engine, row.shows, row.lines, row.report)?;
+    for workers in [1, 4] {
+        assert!(rt; 0 < workers && workers <= 16);
+        for row in &ROWS {
+            let mut engine = crew_of(&rt, row.text, row.edits, workers)?;
+            expect_report(&rt, &mut engine, row.shows, row.lines, row.report)?;
+        }
     }
     Ok(())
 }
