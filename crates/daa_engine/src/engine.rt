@@ -1,8 +1,11 @@
 //! The engine: a configuration, a number of workers, and the board of the latest moment.
-ghost use Rattle.std.specs.Prelude.{◌≡◌, IfOk, replicate};
+ghost use Rattle.std.specs.Prelude.{◌≡◌, ◌<◌, IfOk, length, replicate, slice_index_or};
 ghost use Rattle.daa_bands.specs.Board.{IsBoardOf, board_size};
 ghost use Rattle.daa_config.specs.Settings.{IsAccepted};
 ghost use Rattle.daa_state.specs.InRange.{IsPictureInRange};
+ghost use Rattle.daa_state.specs.Picture.{aircraft_of};
+ghost use Rattle.daa_state.specs.declared.word.Traffic.{Traffic};
+ghost use Rattle.daa_alert.specs.Alert.{IsAlertOf};
 ghost use Rattle.daa_engine.specs.Covered.{CoveredAt};
 ghost use Rattle.daa_engine.specs.Machine.{IsCrew};
 ghost use Rattle.daa_engine.specs.Saying.{SaysMoment};
@@ -11,6 +14,7 @@ use crate::advice::advise;
 use crate::filling::fill;
 use crate::say::say;
 use crate::warnings::find_warnings;
+use daa_alert::{Alert, alert};
 use daa_bands::Board;
 use daa_config::Config;
 use daa_outside::{Gate, Sink};
@@ -69,6 +73,20 @@ impl Engine {
         ensures { result.now ≡ self.now.board }
     {
         &self.board
+    }
+
+    /// The alert of an aircraft of a picture, by its place: the greatest level that the present flight meets within the level's
+    /// alert time, and the first leg that does.
+    pub fn alert_of(&self, picture: &Picture, aircraft: usize) -> Alert
+        requires picture { IsPictureInRange picture.now }
+        requires aircraft { aircraft < length (aircraft_of picture.now) }
+        ensures { (t : Traffic) → IsAlertOf self.now.settings picture.now.own (slice_index_or (aircraft_of picture.now) aircraft t) result }
+    {
+        alert(
+            &self.config,
+            &picture.own,
+            &picture.traffic.as_slice()[aircraft],
+        )
     }
 
     /// Decides a moment: bit l - 1 at a candidate's index is then set exactly where some aircraft of the picture meets the
