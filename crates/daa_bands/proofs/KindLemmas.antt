@@ -29,7 +29,7 @@ kind_bands_only Covered top s kind a b g h =
 -- ---- a board that stands for what is covered
 
 module _ (Covered : ℕ → ℕ → Type 0) (s : Settings) (board : List ℕ) (ok : IsAccepted s) (is : IsBoardOf Covered s board) where
-  greatest_covered : (index level : ℕ) → index < length (candidates_of s) → IsGreatestLevel (HasLevelOn board index) mask_levels level
+  pub greatest_covered : (index level : ℕ) → index < length (candidates_of s) → IsGreatestLevel (HasLevelOn board index) mask_levels level
       → IsGreatestLevel (Covered index) (length s.levels) level
   greatest_covered index level in' g =
       let within = go (cases_lt (length s.levels) level) in

@@ -1,6 +1,7 @@
 -- The lines of a report.
 use Rattle.std.specs.Prelude.{ℕ, ℤ, List, ◌++◌, Option, Some, None, codes, decimal}
 use Rattle.std.specs.Fmt.{signed_decimal}
+use Rattle.std.specs.List.{flat_map}
 use Rattle.daa_config.specs.declared.kind.Kind.{Kind}
 use Rattle.daa_config.specs.declared.kind.Kind.TheVariants.{Track, Speed, Climb, Height}
 use Rattle.daa_config.specs.declared.candidate.Resolution.{Resolution}
@@ -61,6 +62,14 @@ unfoldable pub resolve_line : Kind → Resolution → Resolution → Text
 resolve_line kind lower upper =
     codes "resolve" ++ codes " " ++ kind_word kind ++ codes " " ++ lower_word kind ++ codes " " ++ answer_text lower
     ++ codes " " ++ upper_word kind ++ codes " " ++ answer_text upper ++ codes "\n"
+
+-- a blank and a number
+abbrev pub number_field : ℕ → Text
+number_field number = codes " " ++ decimal number
+
+-- a word and numbers, each after a blank
+unfoldable pub numbers_line : Text → List ℕ → Text
+numbers_line word numbers = word ++ flat_map number_field numbers ++ codes "\n"
 
 unfoldable pub done_line : ℕ → Text
 done_line time = codes "done " ++ decimal time ++ codes "\n"

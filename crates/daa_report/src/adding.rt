@@ -1,8 +1,9 @@
 //! A line in hand, of at most 64 bytes.
-ghost use Rattle.std.specs.Prelude.{◌≡◌, ◌≤◌, ◌+◌, ◌++◌, length, codes, decimal};
+ghost use Rattle.std.specs.Prelude.{◌≡◌, ◌≤◌, ◌+◌, ◌*◌, ◌++◌, length, codes, decimal};
 ghost use Rattle.std.specs.Fmt.{signed_decimal};
 ghost use Rattle.arrayvec.specs.ArrayVec.{array_vec_len};
-ghost use Rattle.daa_report.specs.Lines.{first_text, answer_text};
+ghost use Rattle.daa_report.specs.Lines.{first_text, answer_text, number_field};
+ghost use Rattle.std.specs.List.{flat_map};
 
 use arrayvec::ArrayVec;
 use daa_config::Resolution;
@@ -99,4 +100,26 @@ pub fn add_answer_field(line: &mut ArrayVec<u8, 64>, answer: &Resolution)
 {
     add(line, " ");
     add_answer(line, answer);
+}
+
+/// Adds a blank and a number of at most ten digits.
+pub fn add_number_field(line: &mut ArrayVec<u8, 64>, number: u32)
+    requires { array_vec_len line.old + 11 ≤ 64 }
+    ensures items { line.new.items ≡ line.old.items ++ number_field number }
+    ensures len { array_vec_len line.new ≤ array_vec_len line.old + 11 }
+{
+    let mut buffer = Buffer::new();
+    add(line, " ");
+    add(line, buffer.format(number));
+}
+
+/// Adds a blank and each of the numbers.
+pub fn add_number_fields(line: &mut ArrayVec<u8, 64>, numbers: &[u32])
+    requires { array_vec_len line.old + 11 * length numbers.now ≤ 64 }
+    ensures items { line.new.items ≡ line.old.items ++ flat_map number_field numbers.now }
+    ensures len { array_vec_len line.new ≤ array_vec_len line.old + 11 * length numbers.now }
+{
+    for number in numbers {
+        add_number_field(line, *number);
+    }
 }

@@ -5,7 +5,7 @@ ghost use Rattle.daa_report.specs.Lines as lines;
 use daa_config::Kind;
 
 /// The word of a kind.
-pub(crate) fn word(kind: Kind) -> &'static str
+pub fn kind_word(kind: Kind) -> &'static str
     ensures value { result.now ≡ lines.kind_word kind }
     ensures short { length result.now ≤ 5 }
 {

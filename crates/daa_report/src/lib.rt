@@ -7,6 +7,7 @@ mod line;
 mod page;
 mod writers;
 
+pub use kind_words::kind_word;
 pub use line::Line;
 pub use page::Page;
 pub use writers::{SinkFault, alert, band, config, done, moment, now, put, refused, resolve};

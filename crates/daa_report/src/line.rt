@@ -1,11 +1,12 @@
 //! The lines of a report, as values.
-ghost use Rattle.std.specs.Prelude.{◌≡◌, ◌≤◌, length};
-ghost use Rattle.daa_report.specs.Lines.{alert_line, band_line, config_line, done_line, moment_line, now_line, refused_line, resolve_line};
+ghost use Rattle.std.specs.Prelude.{◌≡◌, ◌≤◌, ◌+◌, ◌*◌, length};
+ghost use Rattle.daa_report.specs.Lines.{alert_line, band_line, config_line, done_line, moment_line, now_line, numbers_line, refused_line, resolve_line};
 
 use crate::adding::{
-    add, add_answer_field, add_bytes, add_field, add_first, add_number, add_signed_field,
+    add, add_answer_field, add_bytes, add_field, add_first, add_number, add_number_fields,
+    add_signed_field,
 };
-use crate::kind_words::{lower_word, upper_word, word};
+use crate::kind_words::{kind_word, lower_word, upper_word};
 use arrayvec::ArrayVec;
 use daa_config::{Kind, Resolution};
 use daa_state::Id;
@@ -109,7 +110,7 @@ impl Line {
         ensures few { length result ≤ 64 }
     {
         let mut line = ArrayVec::<u8, 64>::new();
-        add(&mut line, word(kind));
+        add(&mut line, kind_word(kind));
         add_signed_field(&mut line, &from);
         add_signed_field(&mut line, &upto);
         add(&mut line, " ");
@@ -126,7 +127,7 @@ impl Line {
     {
         let mut line = ArrayVec::<u8, 64>::new();
         add(&mut line, "resolve");
-        add_field(&mut line, word(kind));
+        add_field(&mut line, kind_word(kind));
         add_field(&mut line, lower_word(kind));
         add_answer_field(&mut line, &lower);
         add_field(&mut line, upper_word(kind));
@@ -144,6 +145,20 @@ impl Line {
         let mut line = ArrayVec::<u8, 64>::new();
         add(&mut line, "done ");
         add_number(&mut line, u64::from(time));
+        add(&mut line, "\n");
+        Line { bytes: line }
+    }
+
+    /// The line of a word and numbers. There is room for ten digits of each number.
+    #[tactic(auto, unfolding(crate::specs::Lines::numbers_line))]
+    pub fn numbers(word: &str, numbers: &[u32]) -> Line
+        requires { length word.now + 11 * length numbers.now + 1 ≤ 64 }
+        ensures text { result ≡ numbers_line word.now numbers.now }
+        ensures few { length result ≤ 64 }
+    {
+        let mut line = ArrayVec::<u8, 64>::new();
+        add(&mut line, word);
+        add_number_fields(&mut line, numbers);
         add(&mut line, "\n");
         Line { bytes: line }
     }

@@ -1,0 +1,80 @@
+-- How far the levels of an exercise are counted.
+use Rattle.std.specs.Prelude.{◌≡◌, ◌+◌, ◌*◌, ◌≤◌, ℕ, List, [], ◌∷◌, ◌++◌, length, slice_index, take, codes}
+use Rattle.daa_config.specs.Settings.{Settings}
+use Rattle.daa_config.specs.declared.kind.Kind.{Kind}
+use Rattle.daa_config.specs.declared.kind.Kind.TheVariants.{Track, Speed, Climb, Height}
+use Rattle.daa_state.specs.Picture.{aircraft_of}
+use Rattle.daa_state.specs.declared.word.Picture.{Picture}
+use Rattle.daa_bands.specs.Board.{mask_levels}
+use Rattle.daa_report.specs.Lines.{Text, kind_word, numbers_line}
+use Rattle.daa_engine.specs.MomentText.{of_each}
+use Rattle.daa_exercise.specs.Words.{Words}
+use Rattle.daa_exercise.specs.Levels.{HasAlerts, HasShown, AreLevels, aircraft_in, counts_of}
+use Rattle.daa_exercise.specs.declared.counting.Counts.{Counts}
+
+-- ---- a tally
+
+-- a tally that counted some levels has counted these besides
+abbrev pub CountsMore : List ℕ → (old new : List ℕ) → Type 0
+CountsMore here old new = (levels : List ℕ) → old ≡ counts_of mask_levels levels → new ≡ counts_of mask_levels (levels ++ here)
+
+-- each of its counts can rise by so much
+abbrev pub HasRoom : ℕ → List ℕ → Type 0
+HasRoom n tally = (level : ℕ) → slice_index tally level + n ≤ 4294967295
+
+-- it has counted the levels of one moment more
+abbrev pub Adds : (List ℕ → Type 0) → (old new : List ℕ) → Type 0
+Adds Has old new = (here : List ℕ) × Has here × CountsMore here old new
+
+-- it has counted the levels of so many moments, at most 512 of each
+pub record HasCounted (Has : Picture → List ℕ → Type 0) (word : Words) (count : ℕ) (tally : List ℕ) : Type 0 where
+  pub levels : List ℕ
+  pub are : AreLevels Has word count levels
+  pub counted : tally ≡ counts_of mask_levels levels
+  pub few : length levels ≤ 512 * count
+
+-- ---- all that is counted
+
+-- it can take one moment more
+pub record IsRoomy (counts : Counts) : Type 0 where
+  pub aircraft : counts.aircraft + 64 ≤ 4294967295
+  pub alerts : HasRoom 64 counts.alerts
+  pub track : HasRoom 512 counts.track
+  pub speed : HasRoom 512 counts.speed
+  pub climb : HasRoom 512 counts.climb
+  pub height : HasRoom 512 counts.height
+
+-- one moment more is counted
+pub record CountsPicture (settings : Settings) (picture : Picture) (old new : Counts) : Type 0 where
+  pub aircraft : new.aircraft ≡ old.aircraft + length (aircraft_of picture)
+  pub alerts : Adds (HasAlerts settings picture) old.alerts new.alerts
+  pub track : Adds (HasShown settings picture Track) old.track new.track
+  pub speed : Adds (HasShown settings picture Speed) old.speed new.speed
+  pub climb : Adds (HasShown settings picture Climb) old.climb new.climb
+  pub height : Adds (HasShown settings picture Height) old.height new.height
+
+-- so many moments are counted
+pub record AreCounted (settings : Settings) (word : Words) (count : ℕ) (counts : Counts) : Type 0 where
+  pub aircraft : counts.aircraft ≡ aircraft_in word count
+  pub few : counts.aircraft ≤ 64 * count
+  pub alerts : HasCounted (HasAlerts settings) word count counts.alerts
+  pub track : HasCounted (λ picture. HasShown settings picture Track) word count counts.track
+  pub speed : HasCounted (λ picture. HasShown settings picture Speed) word count counts.speed
+  pub climb : HasCounted (λ picture. HasShown settings picture Climb) word count counts.climb
+  pub height : HasCounted (λ picture. HasShown settings picture Height) word count counts.height
+
+-- ---- what is written of it
+
+abbrev pub tally_of : Counts → Kind → List ℕ
+tally_of counts Track = counts.track
+tally_of counts Speed = counts.speed
+tally_of counts Climb = counts.climb
+tally_of counts Height = counts.height
+
+unfoldable pub written : (seed moments top : ℕ) → Counts → Text
+written seed moments top counts =
+    numbers_line (codes "exercise") (seed ∷ moments ∷ [])
+    ++ (numbers_line (codes "aircraft") (counts.aircraft ∷ [])
+    ++ (numbers_line (codes "alert") (take (top + 1) counts.alerts)
+    ++ (of_each (λ kind. numbers_line (kind_word kind) (take (top + 1) (tally_of counts kind)))
+    ++ numbers_line (codes "done") [])))

@@ -1,0 +1,45 @@
+-- The levels that all moments of an exercise have, and how often each came.
+use Rattle.std.specs.Prelude.{◌≡◌, ◌==◌, ◌+◌, ℕ, zero, suc, List, [], ◌++◌, length, map}
+use Rattle.std.specs.List.{AllZip, count_by, range_with_len, sum_by}
+use Rattle.daa_config.specs.Settings.{Settings}
+use Rattle.daa_config.specs.declared.kind.Kind.{Kind}
+use Rattle.daa_state.specs.Picture.{aircraft_of}
+use Rattle.daa_state.specs.declared.word.Picture.{Picture}
+use Rattle.daa_legs.specs.Alerts.{IsAlertLevel}
+use Rattle.daa_bands.specs.KindBands.{AreShown}
+use Rattle.daa_engine.specs.Covered.{CoveredAt}
+use Rattle.daa_exercise.specs.Words.{Words}
+use Rattle.daa_exercise.specs.Moments.{moment_of}
+
+-- ---- one moment
+
+module _ (settings : Settings) (picture : Picture) where
+  -- each aircraft, in order, has its alert level
+  abbrev pub HasAlerts : List ℕ → Type 0
+  HasAlerts levels = AllZip (IsAlertLevel settings picture.own) (aircraft_of picture) levels
+
+  -- each candidate of the kind, in order, has its shown level: the greatest at which it is covered, or 0
+  abbrev pub HasShown : Kind → List ℕ → Type 0
+  HasShown kind levels = AreShown (CoveredAt settings picture) (length settings.levels) settings kind levels
+
+-- ---- the first moments
+
+-- the levels of each of so many moments, one moment after the other
+abbrev pub AreLevels : (Picture → List ℕ → Type 0) → Words → ℕ → List ℕ → Type 0
+AreLevels Has word zero levels = levels ≡ []
+AreLevels Has word (suc count) levels =
+    (before : List ℕ) × (here : List ℕ) × AreLevels Has word count before × Has (moment_of word count) here × (levels ≡ before ++ here)
+
+-- how many aircraft there are in so many moments
+abbrev pub aircraft_in : Words → ℕ → ℕ
+aircraft_in word count = sum_by (λ time. length (aircraft_of (moment_of word time))) (range_with_len 0 count)
+
+-- ---- counting
+
+-- how often a level stands among levels
+abbrev pub times : List ℕ → ℕ → ℕ
+times levels level = count_by (λ other. other == level) levels
+
+-- how often each level stands among them, from 0 up to the top one
+abbrev pub counts_of : ℕ → List ℕ → List ℕ
+counts_of top levels = map (times levels) (range_with_len 0 (top + 1))

@@ -1,0 +1,27 @@
+-- The summary of an exercise.
+use Rattle.std.specs.Prelude.{◌≡◌, ℕ, List, [], ◌∷◌, ◌++◌, length, codes}
+use Rattle.daa_config.specs.Settings.{Settings}
+use Rattle.daa_config.specs.declared.kind.Kind.{Kind}
+use Rattle.daa_report.specs.Lines.{Text, kind_word, numbers_line}
+use Rattle.daa_engine.specs.MomentText.{of_each}
+use Rattle.daa_exercise.specs.Words.{words_of}
+use Rattle.daa_exercise.specs.Levels.{HasAlerts, HasShown, AreLevels, aircraft_in, counts_of}
+
+-- the seed and the number of moments, how many aircraft there were, how often each level from 0 up to the top one was an
+-- aircraft's alert level, and how often it was the shown level of a candidate of each kind
+unfoldable pub summary_text : (seed moments aircraft top : ℕ) → (alerts : List ℕ) → (shown : Kind → List ℕ) → Text
+summary_text seed moments aircraft top alerts shown =
+    numbers_line (codes "exercise") (seed ∷ moments ∷ [])
+    ++ (numbers_line (codes "aircraft") (aircraft ∷ [])
+    ++ (numbers_line (codes "alert") (counts_of top alerts)
+    ++ (of_each (λ kind. numbers_line (kind_word kind) (counts_of top (shown kind)))
+    ++ numbers_line (codes "done") [])))
+
+-- the summary of so many moments of a seed under a configuration: over the alert levels of all aircraft of all moments, and
+-- over the shown levels of all candidates of each kind
+abbrev pub IsSummaryOf : Settings → (seed moments : ℕ) → Text → Type 0
+IsSummaryOf settings seed moments text =
+    (alerts : List ℕ) × (shown : Kind → List ℕ)
+    × AreLevels (HasAlerts settings) (words_of seed) moments alerts
+    × ((kind : Kind) → AreLevels (λ picture. HasShown settings picture kind) (words_of seed) moments (shown kind))
+    × (text ≡ summary_text seed moments (aircraft_in (words_of seed) moments) (length settings.levels) alerts shown)

@@ -1,0 +1,186 @@
+//! What is drawn: the words of a generator, the numbers that they pick, and the moments of these numbers.
+ghost use Rattle.std.specs.Prelude.{◌≡◌, ◌≤◌, ◌+◌, ◌*◌, ◌≤ℤ◌, nat_abs, pos};
+ghost use Rattle.daa_state.specs.InRange.{IsPictureInRange};
+ghost use Rattle.daa_exercise.specs.Drawing.{after, range_of, IsSpan};
+ghost use Rattle.daa_exercise.specs.Moments.{aircraft_counts, name_of, own_at, aircraft_at, traffic_at, draws_at, moment_at};
+ghost use Rattle.daa_exercise.specs.Words.{generator_of, picked, words_from};
+
+use arrayvec::ArrayVec;
+use daa_state::{Id, Own, Picture, Traffic};
+use rand_core::SeedableRng;
+use rand_core::utils::NextWord;
+use rand_pcg::Lcg64Xsh32;
+use std::marker::Model;
+
+/// The numbers from one up to another, both ends counted.
+pub(crate) struct Span {
+    low: i32,
+    high: i32,
+}
+
+// Feet, degrees, tenths of a knot, feet per minute.
+const OWN_ALTITUDES: Span = Span {
+    low: 0,
+    high: 20000,
+};
+
+const OWN_TRACKS: Span = Span { low: 0, high: 359 };
+
+const OWN_GROUND_SPEEDS: Span = Span {
+    low: 500,
+    high: 5000,
+};
+
+const VERTICAL_SPEEDS: Span = Span {
+    low: -2000,
+    high: 2000,
+};
+
+const AIRCRAFT_COUNTS: Span = Span { low: 0, high: 8 };
+
+// Thousandths of a nautical mile, feet above the ownship, tenths of a knot.
+const POSITIONS: Span = Span {
+    low: -8000,
+    high: 8000,
+};
+
+const HEIGHTS_ABOVE: Span = Span {
+    low: -2000,
+    high: 2000,
+};
+
+const SPEEDS: Span = Span {
+    low: -5000,
+    high: 5000,
+};
+
+/// The words that are still to be drawn. Contracts see the generator that gives them.
+#[derive(Drop)]
+pub(crate) struct Draws {
+    generator: Lcg64Xsh32,
+}
+
+impl Model for Draws {
+    ghost use Rattle.rand_pcg.specs.Lcg.{Lcg};
+
+    ghost Value = { Lcg };
+
+    ghost view = { λ d. d.generator };
+}
+
+impl Draws {
+    /// The words of a seed.
+    pub(crate) fn of(seed: u32) -> Draws
+        ensures { result ≡ generator_of seed }
+    {
+        Draws {
+            generator: Lcg64Xsh32::seed_from_u64(u64::from(seed)),
+        }
+    }
+
+    /// The number that the next word picks.
+    fn pick(&mut self, span: &Span) -> i32
+        requires { IsSpan span.now }
+        ensures value { result ≡ picked (range_of span.now) (words_from self.old 0) }
+        ensures least { span.now.low ≤ℤ result }
+        ensures most { result ≤ℤ span.now.high }
+        ensures rest { self.new ≡ after 1 self.old }
+    {
+        let word = self.generator.next_word();
+        let size = (span.high - span.low) as u32 + 1;
+        span.low + (word % size) as i32
+    }
+
+    /// The ownship of the next four words.
+    fn next_own(&mut self) -> Own
+        ensures value { result ≡ own_at (words_from self.old) 0 }
+        ensures low { pos 0 ≤ℤ result.alt }
+        ensures high { result.alt ≤ℤ pos 20000 }
+        ensures rest { self.new ≡ after 4 self.old }
+    {
+        let alt = self.pick(&OWN_ALTITUDES);
+        let trk = self.pick(&OWN_TRACKS);
+        let gs = self.pick(&OWN_GROUND_SPEEDS);
+        let vs = self.pick(&VERTICAL_SPEEDS);
+        Own {
+            x: 0,
+            y: 0,
+            alt,
+            trk,
+            gs,
+            vs,
+        }
+    }
+
+    /// How many aircraft the next word gives a moment: 0 to 8.
+    fn next_count(&mut self) -> u32
+        ensures value { result ≡ nat_abs (picked aircraft_counts (words_from self.old 0)) }
+        ensures few { result ≤ 8 }
+        ensures rest { self.new ≡ after 1 self.old }
+    {
+        self.pick(&AIRCRAFT_COUNTS) as u32
+    }
+
+    /// The aircraft of this number, of the next six words.
+    fn next_aircraft(&mut self, own: &Own, number: u32) -> Traffic
+        requires low { pos 0 ≤ℤ own.now.alt }
+        requires high { own.now.alt ≤ℤ pos 20000 }
+        requires some { 1 ≤ number }
+        requires few { number ≤ 8 }
+        ensures value { result ≡ aircraft_at (words_from self.old) own.now.alt number 0 }
+        ensures rest { self.new ≡ after 6 self.old }
+    {
+        let x = self.pick(&POSITIONS);
+        let y = self.pick(&POSITIONS);
+        let alt = own.alt + self.pick(&HEIGHTS_ABOVE);
+        let vx = self.pick(&SPEEDS);
+        let vy = self.pick(&SPEEDS);
+        let vs = self.pick(&VERTICAL_SPEEDS);
+        Traffic {
+            id: name(number),
+            x,
+            y,
+            alt,
+            vx,
+            vy,
+            vs,
+            age: 0,
+        }
+    }
+
+    /// So many aircraft, numbered from 1.
+    fn next_traffic(&mut self, own: &Own, count: u32) -> ArrayVec<Traffic, 64>
+        requires low { pos 0 ≤ℤ own.now.alt }
+        requires high { own.now.alt ≤ℤ pos 20000 }
+        requires few { count ≤ 8 }
+        ensures value { result.items ≡ traffic_at (words_from self.old) own.now.alt count 0 }
+        ensures rest { self.new ≡ after (6 * count) self.old }
+    {
+        let mut traffic = ArrayVec::new();
+        for i in 0..count {
+            traffic.push(self.next_aircraft(own, i + 1));
+        }
+        traffic
+    }
+
+    /// The moment of a time, of the next words.
+    pub(crate) fn next_moment(&mut self, time: u32) -> Picture
+        ensures value { result ≡ moment_at (words_from self.old) time 0 }
+        ensures rest { self.new ≡ after (draws_at (words_from self.old) 0) self.old }
+        ensures in_range { IsPictureInRange result }
+    {
+        let own = self.next_own();
+        let count = self.next_count();
+        let traffic = self.next_traffic(&own, count);
+        Picture { time, own, traffic }
+    }
+}
+
+/// The name of an aircraft by its number, 1 to 8: `A` and the digit.
+fn name(number: u32) -> Id
+    requires some { 1 ≤ number }
+    requires few { number ≤ 8 }
+    ensures { result ≡ name_of number }
+{
+    Id::of(&[b'A', b'0' + number as u8]).unwrap()
+}

@@ -1,0 +1,14 @@
+//! An exercise: moments that a random generator draws, what the engine answers of them counted, and the summary written.
+#![tactic(auto)]
+
+mod counting;
+mod draws;
+mod exercising;
+mod laws;
+mod summary;
+mod tally;
+#[cfg(test)]
+mod tests;
+
+pub use exercising::exercise;
+pub use laws::{counts_add_up, drawn_moments_are_in_range, every_exercise_has_one_summary};

@@ -1,0 +1,53 @@
+//! How often each level came.
+ghost use Rattle.std.specs.Prelude.{◌≡◌, ◌≤◌, ◌+◌, ℕ, [], ◌∷◌, take};
+ghost use Rattle.daa_bands.specs.Board.{mask_levels};
+ghost use Rattle.daa_exercise.specs.Counting.{CountsMore, HasRoom};
+ghost use Rattle.daa_exercise.specs.Levels.{counts_of};
+
+use std::marker::Model;
+
+/// Level 0, and one for each bit of a board's mask.
+const LEVELS: usize = 9;
+
+/// How often each level came, from 0 to 8.
+#[derive(Drop)]
+pub(crate) struct Tally {
+    counts: [u32; LEVELS],
+}
+
+impl Model for Tally {
+    ghost use Rattle.std.specs.Prelude.{List, ℕ};
+
+    ghost Value = { List ℕ };
+
+    ghost view = { λ t. t.counts };
+}
+
+impl Tally {
+    /// No level came.
+    pub(crate) fn new() -> Tally
+        ensures { result ≡ counts_of mask_levels [] }
+    {
+        Tally {
+            counts: [0; LEVELS],
+        }
+    }
+
+    /// Counts a level once more.
+    pub(crate) fn add(&mut self, level: u8)
+        requires level { level ≤ mask_levels }
+        requires room { HasRoom 1 self.old }
+        ensures counted { CountsMore (level ∷ []) self.old self.new }
+        ensures room { (n : ℕ) → HasRoom (n + 1) self.old → HasRoom n self.new }
+    {
+        self.counts[usize::from(level)] += 1;
+    }
+
+    /// The counts of the levels from 0 up to the top one.
+    pub(crate) fn upto(&self, top: u32) -> &[u32]
+        requires { top ≤ mask_levels }
+        ensures { result.now ≡ take (top + 1) self.now }
+    {
+        &self.counts[..=top as usize]
+    }
+}

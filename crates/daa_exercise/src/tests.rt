@@ -1,0 +1,1 @@
+//! Exercises whose summary was found by another program.
