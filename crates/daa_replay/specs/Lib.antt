@@ -6,6 +6,7 @@ pub mod Opening
 pub mod Ready
 pub mod Telling
 pub mod Replaying
+pub mod Exercising
 pub mod Run
 pub mod Status
 pub mod Follows

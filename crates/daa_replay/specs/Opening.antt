@@ -7,6 +7,7 @@ use Rattle.daa_config.specs.Fault.{code_of}
 use Rattle.daa_config.specs.Settings.{Settings}
 use Rattle.daa_report.specs.Lines.{Text}
 use Rattle.daa_words.specs.Order.{Asked, order_of}
+use Rattle.daa_words.specs.declared.order.Task.{Task}
 
 -- the line that is written where the command words are not taken
 abbrev pub usage_line : Text
@@ -16,10 +17,11 @@ usage_line = codes "usage: daidalus replay --config FILE [--workers N] | exercis
 abbrev pub IsHeld : Option Texts → Text → Text → Type 0
 IsHeld texts name text = IfSome texts (λ held. held name ≡ Some text)
 
--- the words are taken, and the text that the shelf holds under the name that they give is this configuration
-pub record Opens (words : List Text) (texts : Option Texts) (settings : Settings) : Type 0 where
+-- the words are taken and ask for the task, and the text that the shelf holds under the name that they give is this configuration
+pub record Opens (words : List Text) (texts : Option Texts) (task : Task) (settings : Settings) : Type 0 where
   pub asked : Asked
   pub taken : order_of words ≡ Some asked
+  pub wanted : asked.task ≡ task
   pub text : Text
   pub held : IsHeld texts asked.config text
   pub accepted : config_of text ≡ Ok settings

@@ -1,5 +1,5 @@
 -- What is known when a run was made ready, or why it was not.
-use Rattle.std.specs.Prelude.{◌≡◌, List, Option, None, Some, Result, Ok, Err}
+use Rattle.std.specs.Prelude.{ℕ, ◌≡◌, List, Option, None, Some, Result, Ok, Err}
 use Rattle.std.specs.Option.{option_map_or}
 use Rattle.daa_outside.specs.Shelf.{Texts}
 use Rattle.daa_config.specs.declared.fault.ConfigFault.{ConfigFault}
@@ -7,11 +7,16 @@ use Rattle.daa_config.specs.ConfigOf.{config_of}
 use Rattle.daa_config.specs.Fault.{code_of}
 use Rattle.daa_config.specs.Settings.{Settings}
 use Rattle.daa_report.specs.Lines.{Text}
-use Rattle.daa_engine.specs.Machine.{Machine}
 use Rattle.daa_words.specs.Order.{Asked, order_of}
+use Rattle.daa_words.specs.declared.order.Task.{Task}
+use Rattle.daa_words.specs.declared.order.Task.TheVariants as task
+use Rattle.daa_replay.specs.declared.opening.Ready.{Ready}
 use Rattle.daa_replay.specs.declared.opening.Unready.{Unready}
 use Rattle.daa_replay.specs.declared.opening.Unready.TheVariants.{NotTaken, Refused, FetchFault, NoMemory}
+use Rattle.daa_replay.specs.Exercising.{Exercises}
 use Rattle.daa_replay.specs.Opening.{IsHeld, Opens, IsRefused}
+use Rattle.daa_replay.specs.Outside.{Shown}
+use Rattle.daa_replay.specs.Replaying.{Replays}
 
 -- a fault has a code, but for want of memory
 abbrev pub unready_of : ConfigFault → Unready
@@ -35,14 +40,24 @@ Fetched texts name (Err FetchFault) = Unit {0}
 Fetched texts name (Err NoMemory) = Unit {0}
 
 -- the same of the words and the shelf
-abbrev pub Opened : List Text → Option Texts → Result Settings Unready → Type 0
-Opened words texts (Ok settings) = Opens words texts settings
+abbrev pub Opened : List Text → Option Texts → Result (Task × Settings) Unready → Type 0
+Opened words texts (Ok opened) = Opens words texts opened.0 opened.1
 Opened words texts (Err NotTaken) = order_of words ≡ None
 Opened words texts (Err (Refused code)) = IsRefused words texts code
 Opened words texts (Err FetchFault) = (asked : Asked) × (order_of words ≡ Some asked)
 Opened words texts (Err NoMemory) = Unit {0}
 
--- an engine's configuration, where there is an engine
-abbrev pub settings_in : Result Machine Unready → Result Settings Unready
-settings_in (Ok engine) = Ok engine.settings
+-- the configuration of an engine that is ready, where there is one
+abbrev pub settings_in : Result Ready Unready → Result Settings Unready
+settings_in (Ok ready) = Ok ready.engine.settings
 settings_in (Err why) = Err why
+
+-- its task besides
+abbrev pub opened_in : Result Ready Unready → Result (Task × Settings) Unready
+opened_in (Ok ready) = Ok (ready.task, ready.engine.settings)
+opened_in (Err why) = Err why
+
+-- what the task leaves
+abbrev pub Performs : (most status : ℕ) → Settings → Task → (source_old source_new sink_old sink_new : Shown) → Type 0
+Performs most status settings task.Replay = Replays settings most status
+Performs most status settings (task.Exercise seed moments) = Exercises settings seed moments status

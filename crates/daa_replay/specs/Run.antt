@@ -8,15 +8,26 @@ use Rattle.daa_lines.specs.LinesOf.{Bytes}
 use Rattle.daa_report.specs.Lines.{Text, config_line}
 use Rattle.daa_report.specs.Says.{AppendsFront}
 use Rattle.daa_words.specs.Order.{Asked, order_of}
+use Rattle.daa_words.specs.declared.order.Task.{Task}
+use Rattle.daa_words.specs.declared.order.Task.TheVariants.{Replay, Exercise}
 use Rattle.daa_replay.specs.Outside.{Outside, Shown, IsCalm}
 use Rattle.daa_replay.specs.Opening.{usage_line, Opens, IsRefused, IsMissing}
+use Rattle.daa_replay.specs.Exercising.{TakesSummary, BreaksSummary}
 use Rattle.daa_replay.specs.Replaying.{ReadsAll, ReadFails, WriteFails, PassesLimit}
 
--- P holds under the configuration that the words and the shelf give
+-- the words ask for a replay, and P holds under the configuration that they and the shelf give
 pub record Under (words : List Text) (texts : Option Texts) (P : Settings → Type 0) : Type 0 where
   pub settings : Settings
-  pub opens : Opens words texts settings
+  pub opens : Opens words texts Replay settings
   pub so : P settings
+
+-- the words ask for an exercise, and P holds of its seed and its number of moments under that configuration
+pub record UnderExercise (words : List Text) (texts : Option Texts) (P : Settings → (seed moments : ℕ) → Type 0) : Type 0 where
+  pub seed : ℕ
+  pub moments : ℕ
+  pub settings : Settings
+  pub opens : Opens words texts (Exercise seed moments) settings
+  pub so : P settings seed moments
 
 -- the sink took exactly this text, and no call of it failed
 pub record Takes (old new : Shown) (text : Text) : Type 0 where
@@ -53,11 +64,21 @@ pub record BreaksCode (words : List Text) (old new : Outside) : Type 0 where
   pub source : new.source ≡ old.source
   pub written : AppendsFront old.sink.bytes new.sink.bytes (config_line code)
 
--- the sink failed, while such a line or the report was written
+-- the exercise was decided and its summary was written; nothing was read
+pub record EndsExercise (words : List Text) (old new : Outside) : Type 0 where
+  pub exercise : UnderExercise words old.shelf.texts (λ settings seed moments. TakesSummary settings seed moments old.sink new.sink)
+  pub source : new.source ≡ old.source
+
+-- the sink failed, and a beginning of the summary was written; nothing was read
+pub record BreaksExercise (words : List Text) (old new : Outside) : Type 0 where
+  pub exercise : UnderExercise words old.shelf.texts (λ settings seed moments. BreaksSummary settings seed moments old.sink new.sink)
+  pub source : new.source ≡ old.source
+
+-- the sink failed, while such a line, the report or the summary was written
 pub record Breaks (most : ℕ) (words : List Text) (old new : Outside) : Type 0 where
   pub risen : HasRisen old.sink.faults new.sink.faults
-  pub so : BreaksUsage words old new ⊎ (BreaksCode words old new
-      ⊎ Under words old.shelf.texts (λ settings. WriteFails settings most old.source new.source old.sink new.sink))
+  pub so : BreaksUsage words old new ⊎ (BreaksCode words old new ⊎ (BreaksExercise words old new
+      ⊎ Under words old.shelf.texts (λ settings. WriteFails settings most old.source new.source old.sink new.sink)))
 
 -- nothing was read and nothing was written
 pub record IsUntouched (old new : Outside) : Type 0 where
@@ -74,8 +95,9 @@ pub record FetchFails (words : List Text) (old new : Outside) : Type 0 where
 -- what a run that reads at most so many bytes leaves, by its status
 pub record Runs (most : ℕ) (words : List Text) (status : ℕ) (old new : Outside) : Type 0 where
   pub named : status ≤ 8
-  -- the input was read to its end, and no line of it was refused
+  -- the input was read to its end, and no line of it was refused; or an exercise ended
   pub accepted : status ≡ 0 → Under words old.shelf.texts (λ settings. ReadsAll settings most false old.source new.source old.sink new.sink)
+      ⊎ EndsExercise words old new
   -- the input was read to its end, and some line of it was refused
   pub refused : status ≡ 1 → Under words old.shelf.texts (λ settings. ReadsAll settings most true old.source new.source old.sink new.sink)
   pub not_taken : status ≡ 2 → TellsUsage words old new
@@ -102,12 +124,13 @@ pub record IsQuiet (old new : Outside) : Type 0 where
   pub source : ¬ HasRisen old.source.faults new.source.faults
   pub sink : ¬ HasRisen old.sink.faults new.sink.faults
 
--- the words are taken, and the shelf, which tells its texts, holds an accepted configuration under the name that they give
-pub record IsOpened (words : List Text) (texts : Option Texts) : Type 0 where
+-- the words are taken and ask for the task, and the shelf, which tells its texts, holds an accepted configuration under the name
+-- that they give
+pub record IsOpened (words : List Text) (texts : Option Texts) (task : Task) : Type 0 where
   pub held : Texts
   pub told : texts ≡ Some held
   pub settings : Settings
-  pub opens : Opens words texts settings
+  pub opens : Opens words texts task settings
 
 -- the same with a configuration that is refused
 pub record IsRejected (words : List Text) (texts : Option Texts) : Type 0 where
@@ -118,11 +141,13 @@ pub record IsRejected (words : List Text) (texts : Option Texts) : Type 0 where
 
 -- how a run ends, as far as the words, the shelf and the number of bytes say it; want of memory is free
 pub record EndsAsGiven (most : ℕ) (words : List Text) (status : ℕ) (old new : Outside) : Type 0 where
-  -- with an accepted configuration and a source that tells its bytes, where no count rose: by the number of bytes
-  pub short : (all : Bytes) → IsOpened words old.shelf.texts → old.source.bytes ≡ Some all → IsQuiet old new → length all ≤ most
+  -- a replay with an accepted configuration and a source that tells its bytes, where no count rose: by the number of bytes
+  pub short : (all : Bytes) → IsOpened words old.shelf.texts Replay → old.source.bytes ≡ Some all → IsQuiet old new → length all ≤ most
       → (status ≡ 0) ⊎ ((status ≡ 1) ⊎ (status ≡ 6))
-  pub long : (all : Bytes) → IsOpened words old.shelf.texts → old.source.bytes ≡ Some all → IsQuiet old new → most < length all
+  pub long : (all : Bytes) → IsOpened words old.shelf.texts Replay → old.source.bytes ≡ Some all → IsQuiet old new → most < length all
       → (status ≡ 8) ⊎ (status ≡ 6)
+  -- an exercise with an accepted configuration, where no count rose
+  pub exercise : (seed moments : ℕ) → IsOpened words old.shelf.texts (Exercise seed moments) → IsQuiet old new → (status ≡ 0) ⊎ (status ≡ 6)
   pub not_taken : order_of words ≡ None → (status ≡ 2) ⊎ ((status ≡ 5) ⊎ (status ≡ 6))
   pub rejected : IsRejected words old.shelf.texts → (status ≡ 3) ⊎ ((status ≡ 5) ⊎ ((status ≡ 6) ⊎ (status ≡ 7)))
   pub missing : IsMissing words old.shelf.texts → (status ≡ 6) ⊎ (status ≡ 7)
@@ -134,7 +159,7 @@ pub record EndsAsGiven (most : ℕ) (words : List Text) (status : ℕ) (old new 
 abbrev pub RunsAreComplete : Type 0
 RunsAreComplete = (most status : ℕ) (words : List Text) (old new : Outside) → Runs most words status old new → EndsAsGiven most words status old new
 
--- a shelf that tells its texts gives words one configuration at most
+-- a shelf that tells its texts gives words one task and one configuration at most
 abbrev pub ConfigurationsAreUnique : Type 0
-ConfigurationsAreUnique = (words : List Text) (held : Texts) (settings other : Settings)
-    → Opens words (Some held) settings → Opens words (Some held) other → settings ≡ other
+ConfigurationsAreUnique = (words : List Text) (held : Texts) (task other_task : Task) (settings other : Settings)
+    → Opens words (Some held) task settings → Opens words (Some held) other_task other → (task ≡ other_task) × (settings ≡ other)

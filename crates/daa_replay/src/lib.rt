@@ -1,11 +1,12 @@
-//! The program: reads its command words and the configuration that they name, and then state lines from a
-//! source, whose report it writes to a sink. Each ended moment gives its lines, which the engine writes; each
-//! refused line gives its number and the code of its fault.
+//! The program: reads its command words and the configuration that they name. A replay then reads state lines from a
+//! source and writes their report to a sink: each ended moment gives its lines, which the engine writes; each refused
+//! line gives its number and the code of its fault. An exercise writes the summary of moments that are drawn.
 #![tactic(auto)]
 
 mod event;
 mod laws;
 mod opening;
+mod perform;
 mod program;
 mod progress;
 mod reading;

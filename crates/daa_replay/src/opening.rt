@@ -1,18 +1,23 @@
-//! Makes a run ready: its command words, and the configuration that they name.
+//! Makes a run ready: its command words, the configuration that they name, and the engine.
 
-ghost use Rattle.std.specs.Prelude.{◌≡◌, ◌≢◌, ◌≤◌, map, string_bytes, Err};
+ghost use Rattle.std.specs.Prelude.{◌≡◌, ◌≢◌, ◌≤◌, map, string_bytes, Err, IfOk};
 ghost use Rattle.daa_outside.specs.Faults.{HasRisen};
-ghost use Rattle.daa_replay.specs.Ready.{Fetched, Opened, Read, settings_in, unready_of};
+ghost use Rattle.daa_words.specs.Order.{IsInRange, TaskIsInRange, meaning};
+ghost use Rattle.daa_replay.specs.Ready.{Fetched, Opened, Read, opened_in, settings_in, unready_of};
 
 use daa_config::{Config, ConfigFault, read};
 use daa_engine::Engine;
 use daa_outside::{FetchFault, Shelf};
 use daa_schedule::NoMemory;
-use daa_words::{WordsFault, read_words};
+use daa_words::{Order, Task, WordsFault, read_words};
 use std::alloc::Global;
 
-/// How many workers decide a moment.
-const WORKERS: u32 = 1;
+/// What a run is to do, and the engine that does it.
+#[derive(Drop)]
+pub(crate) struct Ready {
+    pub(crate) engine: Engine,
+    pub(crate) task: Task,
+}
 
 /// Why a run has no configuration.
 #[derive(Clone, Copy, Debug, PartialEq, Eq)]
@@ -63,42 +68,44 @@ fn fetch<F: Shelf>(alloc: Global, shelf: &mut F, name: &str) -> Result<Config, U
     }
 }
 
-/// The configuration that the words and the shelf give.
-fn configuration<F: Shelf>(
+/// The engine of the configuration that the shelf holds under the order's name, with the order's workers and its task.
+fn make_ready<F: Shelf>(alloc: Global, order: &Order<'_>, shelf: &mut F) -> Result<Ready, Unready>
+    requires { IsInRange (meaning order.now) }
+    ensures fetched { Fetched (F.texts shelf.old) order.now.config.now (settings_in result) }
+    ensures task { IfOk result (λ ready. ready.task ≡ order.now.task) }
+    ensures risen { result ≡ Err Unready.FetchFault → HasRisen (F.faults shelf.old) (F.faults shelf.new) }
+    ensures never_falls { F.faults shelf.old ≤ F.faults shelf.new }
+    ensures no_fault { result ≢ Err Unready.FetchFault → F.faults shelf.new ≡ F.faults shelf.old }
+    ensures kept { F.texts shelf.new ≡ F.texts shelf.old }
+{
+    match fetch(alloc, shelf, order.config) {
+        Ok(config) => match Engine::new(alloc, config, order.workers) {
+            Ok(engine) => Ok(Ready {
+                engine,
+                task: order.task,
+            }),
+            Err(NoMemory) => Err(Unready::NoMemory),
+        },
+        Err(why) => Err(why),
+    }
+}
+
+/// The task that the words ask for, and the engine of the configuration that they and the shelf give.
+pub(crate) fn open<F: Shelf>(
     alloc: Global,
     words: &[String],
     shelf: &mut F,
-) -> Result<Config, Unready>
-    ensures opened { Opened (map string_bytes words.now) (F.texts shelf.old) result }
+) -> Result<Ready, Unready>
+    ensures opened { Opened (map string_bytes words.now) (F.texts shelf.old) (opened_in result) }
+    ensures in_range { IfOk result (λ ready. TaskIsInRange ready.task) }
     ensures risen { result ≡ Err Unready.FetchFault → HasRisen (F.faults shelf.old) (F.faults shelf.new) }
     ensures never_falls { F.faults shelf.old ≤ F.faults shelf.new }
     ensures no_fault { result ≢ Err Unready.FetchFault → F.faults shelf.new ≡ F.faults shelf.old }
     ensures kept { F.texts shelf.new ≡ F.texts shelf.old }
 {
     match read_words(alloc, words) {
-        Ok(order) => fetch(alloc, shelf, order.config),
+        Ok(order) => make_ready(alloc, &order, shelf),
         Err(WordsFault::NotTaken) => Err(Unready::NotTaken),
         Err(WordsFault::NoMemory) => Err(Unready::NoMemory),
-    }
-}
-
-/// The engine of the configuration that the words and the shelf give.
-pub(crate) fn open<F: Shelf>(
-    alloc: Global,
-    words: &[String],
-    shelf: &mut F,
-) -> Result<Engine, Unready>
-    ensures opened { Opened (map string_bytes words.now) (F.texts shelf.old) (settings_in result) }
-    ensures risen { result ≡ Err Unready.FetchFault → HasRisen (F.faults shelf.old) (F.faults shelf.new) }
-    ensures never_falls { F.faults shelf.old ≤ F.faults shelf.new }
-    ensures no_fault { result ≢ Err Unready.FetchFault → F.faults shelf.new ≡ F.faults shelf.old }
-    ensures kept { F.texts shelf.new ≡ F.texts shelf.old }
-{
-    match configuration(alloc, words, shelf) {
-        Ok(config) => match Engine::new(alloc, config, WORKERS) {
-            Ok(engine) => Ok(engine),
-            Err(NoMemory) => Err(Unready::NoMemory),
-        },
-        Err(why) => Err(why),
     }
 }

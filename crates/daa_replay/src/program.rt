@@ -1,17 +1,17 @@
 //! The top call: all that the program does.
 
-ghost use Rattle.std.specs.Prelude.{◌≡◌, ◌≤◌, ◌^◌, OnErr, OnOk, map, string_bytes};
+ghost use Rattle.std.specs.Prelude.{◌≡◌, ◌≤◌, ◌^◌, map, string_bytes};
 ghost use Rattle.daa_replay.specs.Outside.{outside, shelf_shown, shown};
 ghost use Rattle.daa_replay.specs.Run.{Runs};
 ghost use Rattle.daa_replay.specs.Status.{code_of};
 ghost use Rattle.daa_replay.specs.Telling.{Tells};
 
 use crate::opening::{Unready, open};
-use crate::replay::replay_within;
+use crate::perform::{after, perform};
 use crate::status::Status;
 use crate::tools::Tools;
 use daa_outside::{Gate, Shelf, Sink, Source};
-use daa_report::{SinkFault, config, put};
+use daa_report::{config, put};
 use std::alloc::Global;
 use std::thread::Threads;
 
@@ -21,17 +21,6 @@ const MOST_BYTES: u64 = 1 << 40;
 /// What is written where the command words are not taken.
 const USAGE: &[u8] =
     b"usage: daidalus replay --config FILE [--workers N] | exercise --config FILE --seed N --moments M [--workers N]\n";
-
-/// This status where the line was written, and a fault of the sink where it was not.
-fn after(written: Result<(), SinkFault>, status: Status) -> Status
-    ensures whole { OnOk written (result ≡ status) }
-    ensures broken { OnErr written (result ≡ Status.WriteFault) }
-{
-    match written {
-        Ok(()) => status,
-        Err(SinkFault) => Status::WriteFault,
-    }
-}
 
 /// Says why a run has no configuration.
 fn tell<K: Sink>(why: Unready, sink: &mut K) -> Status
@@ -45,7 +34,7 @@ fn tell<K: Sink>(why: Unready, sink: &mut K) -> Status
     }
 }
 
-/// Makes ready, and replays.
+/// Makes ready, and performs what the words ask for.
 fn conduct<R: Threads + Sync, F: Shelf, S: Source, K: Sink, G: Gate>(
     tools: &Tools<'_, R, G>,
     words: &[String],
@@ -60,16 +49,17 @@ fn conduct<R: Threads + Sync, F: Shelf, S: Source, K: Sink, G: Gate>(
         (outside (shelf_shown (F.texts shelf.new) (F.faults shelf.new)) (shown (S.left source.new) (S.faults source.new)) (shown (K.taken sink.new) (K.faults sink.new))) }
 {
     match open(tools.alloc, words, shelf) {
-        Ok(mut engine) => replay_within(tools, &mut engine, source, sink, most),
+        Ok(mut ready) => perform(tools, &mut ready, source, sink, most),
         Err(why) => tell(why, sink),
     }
 }
 
-/// Reads the command words, fetches the configuration that they name from the shelf, reads state lines from the source, at
-/// most `most` bytes of them, and writes their report to the sink. `words[0]` is the program's name.
+/// Reads the command words and fetches the configuration that they name from the shelf. A replay reads state lines from the
+/// source, at most `most` bytes of them, and writes their report to the sink; an exercise reads nothing and writes the summary
+/// of the moments that its seed draws. `words[0]` is the program's name. The bytes are the same for every number of workers.
 ///
 /// Answers the status of the process:
-/// - 0 where the input was read to its end and no line was refused, 1 where some line was;
+/// - 0 where the input was read to its end and no line was refused, or the exercise ended; 1 where some line was refused;
 /// - 2 where the words are not taken; the usage line is written;
 /// - 3 where the configuration is refused; `config` and its code are written;
 /// - 4 where the source failed, 5 where the sink did, 7 where the shelf did or holds nothing under the name;
