@@ -1,6 +1,7 @@
--- An option of which each use has a value: where no fault is found, each row that it has has a first value, and its
--- parser takes all its values. What changes rows keeps this.
-use Rattle.std.proofs.Common.{arith, min, ◌+◌, ◌≡◌, ◌∙◌, ◌&&◌, ◌||◌, ◌⊎◌, ◌==◌, ℕ, Bool, cond, not, true, false, List, [], ◌∷◌, ◌++◌, length, Option, Some, None, true≢false, inl, inr, refl, sym, ap, subst, nat_lt}
+-- An option of which each use has a value: where no fault is found, each row that it has has a first value, its parser
+-- takes all its values, they are read as the parser says, and they are its defaults where the words gave none. What
+-- changes rows keeps this.
+use Rattle.std.proofs.Common.{arith, min, ◌+◌, ◌≡◌, ◌∙◌, ◌&&◌, ◌||◌, ◌⊎◌, ◌==◌, ℕ, Bool, cond, true, false, List, [], ◌∷◌, ◌++◌, length, Option, Some, None, true≢false, inl, inr, refl, sym, ap, subst, nat_lt}
 use Rattle.std.specs.Prelude.{⊤, IfSome}
 use Rattle.std.specs.List.{find, fold, list_all}
 use Rattle.std.specs.Option.{option_map_or}
@@ -8,10 +9,9 @@ use Rattle.std.specs.Str.{bytes_eq}
 use Rattle.std.proofs.lemmas.Bool.Decides.{nat_tests}
 use Rattle.std.proofs.lemmas.Slice.Eq.{bytes_eq-Decides}
 use Rattle.std.proofs.lemmas.List.Folds.{list_all-append}
-use Rattle.clap.proofs.WalkLemmas.{both}
 use Rattle.clap.specs.Matches.{count_text}
 use Rattle.clap.specs.ValueTests.{accepts}
-use Rattle.clap.specs.Facts.{parser_of_value, unwrap_or_range}
+use Rattle.clap.specs.Facts.{explicit_source, parser_of_value, unwrap_or_range}
 use Rattle.clap.specs.Walk.{Held, Row, Rule, Text, action_of, arg_by_id, at_row, count_of, counted, default_rows, has_row, is_empty, more_values, most_values, new_count, reacted, reading_by, settled, settled_rows, stronger, used, used_as, used_by_id, values_or_missing, with_count, with_default, with_values, without}
 use Rattle.clap.specs.Kinds.{Kinds, or_else, range_kinds, request_kinds, value_kinds, values_kinds}
 use Rattle.clap.specs.Faults.{default_fault, defaults_fault, react_fault, repeat_fault, settle_fault, use_fault, values_fault}
@@ -92,53 +92,73 @@ takes_value opt = accepts opt.ignore_case (parser_of_value opt.parser)
 abbrev pub are_good : Rule → List Text → Bool
 are_good opt values = is_filled values && list_all (takes_value opt) values
 
--- so are those of the row, if it is the option's
-abbrev pub is_good : Rule → Row → Bool
-is_good opt r = not (bytes_eq r.id opt.id) || are_good opt r.values
+-- what stands of a row of the option: its values are there and taken, they are read as the option's parser says, and they
+-- are the option's defaults where the words did not give them
+pub record IsOwn (opt : Rule) (r : Row) : Type 0 where
+  pub values : are_good opt r.values ≡ true
+  pub reading : r.reading ≡ reading_by opt
+  pub source : (explicit_source r.source ≡ true) ⊎ (r.values ≡ opt.defaults)
+
+-- this stands of the row, if it is the option's
+abbrev pub IsGood : Rule → Row → Type 0
+IsGood opt r = (bytes_eq r.id opt.id ≡ false) ⊎ IsOwn opt r
 
 abbrev pub AreGood : Rule → List Row → Type 0
-AreGood opt rows = list_all (is_good opt) rows ≡ true
+AreGood opt [] = ⊤
+AreGood opt (r ∷ rs) = IsGood opt r × AreGood opt rs
 
 pub own_found : (opt : Rule) (p : Rule → Bool) (rules : List Rule) → AreOwnOrOther opt rules → IfSome (find p rules) (IsOwnOrOther opt)
 own_found opt p [] own = tt
 own_found opt p (a ∷ rest) own = found_is (IsOwnOrOther opt) p a (find p rest) own.0 (own_found opt p rest own.1)
 
-either : (a b : Bool) → b ≡ true → (a || b) ≡ true
-either true b e = refl
-either false b e = e
-
 -- the first row of an id
-abbrev value_row : Text → Reading → ValueSource → List Text → Row
+abbrev pub value_row : Text → Reading → ValueSource → List Text → Row
 value_row id how source values = record { id = id; values = values; count = None; source = Some source; reading = how }
 
 abbrev count_row : Text → Reading → ValueSource → ℕ → Row
 count_row id how source n = record { id = id; values = count_text n ∷ []; count = Some n; source = Some source; reading = how }
 
+-- where no row has the id, the new rows come last
+pub at_end : (id : Text) (change : Row → List Row) (missing rows : List Row) → has_row id rows ≡ false → at_row id change missing rows ≡ rows ++ missing
+at_end id change missing [] none = refl
+at_end id change missing (r ∷ rs) none = go (bytes_eq r.id id) none (at_end id change missing rs)
+  where
+    go : (b : Bool) → (b || has_row id rs) ≡ false → (has_row id rs ≡ false → at_row id change missing rs ≡ rs ++ missing)
+        → cond b (change r ++ rs) (r ∷ at_row id change missing rs) ≡ r ∷ rs ++ missing
+    go true e then = absurd (true≢false e)
+    go false e then = ap (λ more. r ∷ more) (then e)
+
+-- what the words give is theirs
+given_by_words : (before : Option ValueSource) → explicit_source (Some (stronger before CommandLine)) ≡ true
+given_by_words None = refl
+given_by_words (Some CommandLine) = refl
+given_by_words (Some DefaultValue) = refl
+
 module _ (opt : Rule) where
-  other_good : (r : Row) → bytes_eq r.id opt.id ≡ false → is_good opt r ≡ true
-  other_good r e = rw e refl
+  good_append : (xs ys : List Row) → AreGood opt xs → AreGood opt ys → AreGood opt (xs ++ ys)
+  good_append [] ys good more = more
+  good_append (x ∷ xs) ys good more = (good.0, good_append xs ys good.1 more)
 
   -- what changes rows at an id keeps the option's good
   at_row_keeps : (id : Text) (change : Row → List Row) (missing rows : List Row)
-      → ((r : Row) → bytes_eq r.id id ≡ true → is_good opt r ≡ true → AreGood opt (change r))
+      → ((r : Row) → bytes_eq r.id id ≡ true → IsGood opt r → AreGood opt (change r))
       → AreGood opt missing → AreGood opt rows → AreGood opt (at_row id change missing rows)
   at_row_keeps id change missing [] changed new good = new
   at_row_keeps id change missing (r ∷ rs) changed new good =
-      let parts = both (is_good opt r) _ good in
-      go (bytes_eq r.id id) refl parts.0 parts.1 (at_row_keeps id change missing rs changed new parts.1)
+      go (bytes_eq r.id id) refl (at_row_keeps id change missing rs changed new good.1)
     where
-      go : (b : Bool) → bytes_eq r.id id ≡ b → is_good opt r ≡ true → AreGood opt rs → AreGood opt (at_row id change missing rs)
+      go : (b : Bool) → bytes_eq r.id id ≡ b → AreGood opt (at_row id change missing rs)
           → AreGood opt (cond b (change r ++ rs) (r ∷ at_row id change missing rs))
-      go true e here more rest = list_all-append (is_good opt) (change r) rs ∙ all_of_both _ _ (changed r e here) more
-      go false e here more rest = all_of_both _ _ here rest
+      go true e rest = good_append (change r) rs (changed r e good.0) good.1
+      go false e rest = (good.0, rest)
 
   pub without_keeps : (id : Text) (rows : List Row) → AreGood opt rows → AreGood opt (without id rows)
-  without_keeps id rows good = at_row_keeps id (λ _. []) [] rows (λ r e here. refl) refl good
+  without_keeps id rows good = at_row_keeps id (λ _. []) [] rows (λ r e here. tt) tt good
 
   -- of another id
   module _ (id : Text) (other : bytes_eq id opt.id ≡ false) where
     new_row : (r : Row) → r.id ≡ id → AreGood opt (r ∷ [])
-    new_row r is = all_of_both _ _ (other_good r (ap (λ t. bytes_eq t opt.id) is ∙ other)) refl
+    new_row r is = (inl (ap (λ t. bytes_eq t opt.id) is ∙ other), tt)
 
     pub other_values : (how : Reading) (source : ValueSource) (values : List Text) (rows : List Row) → AreGood opt rows → AreGood opt (with_values id how source values rows)
     other_values how source values rows good =
@@ -168,17 +188,33 @@ module _ (opt : Rule) where
     other_use action.Version how values rows good = good
 
   -- of the option: taken values are put down
-  grown : (b : Bool) (xs ys : List Text) → (b || are_good opt xs) ≡ true → list_all (takes_value opt) ys ≡ true → (b || are_good opt (xs ++ ys)) ≡ true
-  grown true xs ys e taken = refl
-  grown false [] ys e taken = absurd (true≢false (sym e))
-  grown false (x ∷ xs) ys e taken = list_all-append (takes_value opt) (x ∷ xs) ys ∙ all_of_both _ _ e taken
+  more_good : (xs ys : List Text) → are_good opt xs ≡ true → list_all (takes_value opt) ys ≡ true → are_good opt (xs ++ ys) ≡ true
+  more_good [] ys e taken = absurd (true≢false (sym e))
+  more_good (x ∷ xs) ys e taken = list_all-append (takes_value opt) (x ∷ xs) ys ∙ all_of_both _ _ e taken
 
-  pub own_values : (how : Reading) (source : ValueSource) (v : Text) (vs : List Text) (rows : List Row)
-      → list_all (takes_value opt) (v ∷ vs) ≡ true → AreGood opt rows → AreGood opt (with_values opt.id how source (v ∷ vs) rows)
-  own_values how source v vs rows taken good =
-      at_row_keeps opt.id (more_values source (v ∷ vs)) (value_row opt.id how source (v ∷ vs) ∷ []) rows
-      (λ r e here. all_of_both _ _ (grown (not (bytes_eq r.id opt.id)) r.values (v ∷ vs) here taken) refl)
-      (all_of_both _ _ (either (not (bytes_eq opt.id opt.id)) _ taken) refl) good
+  -- by the words
+  pub own_values : (v : Text) (vs : List Text) (rows : List Row) → list_all (takes_value opt) (v ∷ vs) ≡ true
+      → AreGood opt rows → AreGood opt (with_values opt.id (reading_by opt) CommandLine (v ∷ vs) rows)
+  own_values v vs rows taken good =
+      at_row_keeps opt.id (more_values CommandLine (v ∷ vs)) (value_row opt.id (reading_by opt) CommandLine (v ∷ vs) ∷ []) rows
+      (λ r e here. (grown r here, tt))
+      (inr (record { values = taken; reading = refl; source = inl refl }), tt) good
+    where
+      grown : (r : Row) → IsGood opt r → IsGood opt (record r { values = r.values ++ v ∷ vs; source = Some (stronger r.source CommandLine) })
+      grown r (inl other) = inl other
+      grown r (inr own) = inr (record {
+        values = more_good r.values (v ∷ vs) own.values taken;
+        reading = own.reading;
+        source = inl (given_by_words r.source);
+      })
+
+  -- by default
+  pub own_default : (v : Text) (vs : List Text) (rows : List Row) → opt.defaults ≡ v ∷ vs → list_all (takes_value opt) (v ∷ vs) ≡ true
+      → has_row opt.id rows ≡ false → AreGood opt rows → AreGood opt (with_values opt.id (reading_by opt) DefaultValue (v ∷ vs) rows)
+  own_default v vs rows is taken none good =
+      let row = value_row opt.id (reading_by opt) DefaultValue (v ∷ vs) in
+      subst (AreGood opt) (sym (at_end opt.id (more_values DefaultValue (v ∷ vs)) (row ∷ []) rows none))
+      (good_append rows (row ∷ []) good (inr (record { values = taken; reading = refl; source = inr (sym is) }), tt))
 
 -- ---- uses of an option that is set by one value or more
 
@@ -190,7 +226,7 @@ module _ (opt : Rule) (set : action_of opt ≡ action.Set) (least : nat_lt 0 (un
       let asked = (neither (range_kinds (unwrap_or_range opt.range).start_inclusive (most_values opt) (length (v ∷ vs))) _ none).1 in
       let asked_set = rw set at asked in
       let taken = accepted opt.ignore_case (parser_of_value opt.parser) (v ∷ vs) (neither (repeat_fault again opt.id rows) _ asked_set).1 in
-      rw set (own_values opt (reading_by opt) _ v vs (without opt.id rows) taken (without_keeps opt opt.id rows good))
+      rw set (own_values opt v vs (without opt.id rows) taken (without_keeps opt opt.id rows good))
 
   pub use_keeps : (again : Bool) (a : Rule) (values : List Text) (rows : List Row) → IsOwnOrOther opt a → use_fault again a values rows ≡ []
       → AreGood opt rows → AreGood opt (used a values rows)
@@ -231,23 +267,24 @@ module _ (opt : Rule) (set : action_of opt ≡ action.Set) (least : nat_lt 0 (un
       go true values = good
       go false values = put values
   default_keeps a rows (inr is) none good =
-      subst (λ x. default_fault rows x ≡ [] → AreGood opt (with_default rows x)) (sym is) (own_default) none
+      subst (λ x. default_fault rows x ≡ [] → AreGood opt (with_default rows x)) (sym is) own none
     where
-      put : (values : List Text) → cond (false || is_empty values) [] (or_else (request_kinds (action_of opt)) (values_fault opt values)) ≡ []
+      put : (values : List Text) → opt.defaults ≡ values → has_row opt.id rows ≡ false
+          → cond (false || is_empty values) [] (or_else (request_kinds (action_of opt)) (values_fault opt values)) ≡ []
           → AreGood opt (default_rows opt.id (reading_by opt) values rows)
-      put [] e = good
-      put (v ∷ vs) e =
+      put [] are new e = good
+      put (v ∷ vs) are new e =
           let asked = rw (not_empty v vs) at e in
-          own_values opt (reading_by opt) DefaultValue v vs rows
-          (accepted opt.ignore_case (parser_of_value opt.parser) (v ∷ vs) (neither (request_kinds (action_of opt)) _ asked).1) good
+          own_default opt v vs rows are
+          (accepted opt.ignore_case (parser_of_value opt.parser) (v ∷ vs) (neither (request_kinds (action_of opt)) _ asked).1) new good
 
-      own_default : default_fault rows opt ≡ [] → AreGood opt (with_default rows opt)
-      own_default e = go (has_row opt.id rows) e
+      own : default_fault rows opt ≡ [] → AreGood opt (with_default rows opt)
+      own e = go (has_row opt.id rows) refl e
         where
-          go : (b : Bool) → cond (b || is_empty opt.defaults) [] (or_else (request_kinds (action_of opt)) (values_fault opt opt.defaults)) ≡ []
+          go : (b : Bool) → has_row opt.id rows ≡ b → cond (b || is_empty opt.defaults) [] (or_else (request_kinds (action_of opt)) (values_fault opt opt.defaults)) ≡ []
               → AreGood opt (cond b rows (default_rows opt.id (reading_by opt) opt.defaults rows))
-          go true f = good
-          go false f = put opt.defaults f
+          go true there f = good
+          go false there f = put opt.defaults refl there f
 
   pub defaults_keep : (rules : List Rule) (rows : List Row) → AreOwnOrOther opt rules → defaults_fault rows rules ≡ []
       → AreGood opt rows → AreGood opt (fold with_default rows rules)

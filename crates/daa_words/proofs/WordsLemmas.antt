@@ -1,5 +1,5 @@
 -- What clap's clauses give of the definition, and what is read where they find a fault.
-use Rattle.std.proofs.Common.{codes, ◌≡◌, ◌≢◌, true, cond, List, [], ◌∷◌, Option, Some, None, arith, option_map, refl, ap, ◌∙◌, inl, inr}
+use Rattle.std.proofs.Common.{codes, ◌≡◌, ◌≢◌, ℕ, true, cond, List, [], ◌∷◌, Option, Some, None, arith, option_map, refl, ap, ◌∙◌, inl, inr}
 use Rattle.std.specs.Prelude.{option_and_then}
 use Rattle.std.proofs.lemmas.Bool.Decides.{nat_tests}
 use Rattle.clap.specs.Walk.{Text, first_of, is_empty, rows_of}
@@ -14,7 +14,7 @@ use Rattle.clap.specs.declared.parser.matches.Found.{Found}
 use Rattle.clap.proofs.WalkLemmas.{first_value-rows}
 use Rattle.clap.proofs.OnLiterals.{clap_on_literals}
 use Rattle.daa_words.specs.Command.{daidalus}
-use Rattle.daa_words.specs.Order.{Asked, asked_by, order_of, task_named}
+use Rattle.daa_words.specs.Order.{Asked, asked_by, number_at, order_of, task_by}
 use Rattle.daa_words.specs.declared.order.Task.{Task}
 
 -- the command line is one of those whose faults clap states
@@ -42,17 +42,18 @@ no_order words h = go _ (fault_of daidalus words) h
     go r [] h = absurd (h refl)
     go r (k ∷ ks) h = grind (arith, nat_tests)
 
--- what a task asks with a text, if there is one
-abbrev pub asked_with : Task → Option Text → Option Asked
-asked_with task = option_map (λ config. record { task = task; config = config })
+-- what the getters read of the matches is what is asked
+abbrev pub asked_with : Option Task → Option Text → Option ℕ → Option Asked
+asked_with task config workers = option_and_then (λ t. option_and_then (λ c. option_map (λ w. record { task = t; config = c; workers = w }) workers) config) task
 
--- what is asked, by what the getter reads of the matches
-pub asked_read : (name : Text) (f : Found) (task : Task) (read : Option Text) → Some task ≡ task_named name → read ≡ first_value f (codes "config")
-    → asked_with task read ≡ asked_by (name, rows_of f)
+pub asked_read : (name : Text) (f : Found) (task : Option Task) (config : Option Text) (workers : Option ℕ)
+    → task ≡ task_by name (rows_of f) → config ≡ first_value f (codes "config") → workers ≡ number_at (codes "workers") (rows_of f)
+    → asked_with task config workers ≡ asked_by (name, rows_of f)
 unfolding asked_by
-asked_read name f task read named is =
-    ap (asked_with task) (is ∙ first_value-rows f (codes "config"))
-    ∙ ap (option_and_then (λ t. asked_with t (first_of (codes "config") (rows_of f)))) named
+asked_read name f task config workers named text number =
+    ap (λ t. asked_with t config workers) named
+    ∙ ap (λ c. asked_with (task_by name (rows_of f)) c workers) (text ∙ first_value-rows f (codes "config"))
+    ∙ ap (asked_with (task_by name (rows_of f)) (first_of (codes "config") (rows_of f))) number
 
 -- where there is an order there is no fault
 pub taken_by_order : (words : List Text) (asked : Asked) → order_of words ≡ Some asked → fault_of daidalus words ≡ []

@@ -1,25 +1,50 @@
 -- The command line that is taken, in clap's own words.
-use Rattle.std.specs.Prelude.{true, Some, codes}
+use Rattle.std.specs.Prelude.{ℕ, true, pos, Some, [], ◌∷◌, codes}
 use Rattle.clap.specs.Simple.{App, new_app, new_rule, on_top, with_rule, with_subcommand}
 use Rattle.clap.specs.Walk.{Rule, Text}
 use Rattle.clap.specs.declared.builder.action.ArgAction.TheVariants.{Set}
+use Rattle.clap.specs.declared.builder.value_parser.ValueParser.TheVariants.{Signed}
 
--- a required option with one value, which may be any text
-abbrev pub text_option : Text → Rule
-text_option name = record (new_rule name) { long = Some name; action = Some Set; required = true }
+-- an option with one value, which may be any text
+abbrev pub option : Text → Rule
+option name = record (new_rule name) { long = Some name; action = Some Set }
+
+-- an option with one value, a whole number from `least` to `most`
+abbrev pub number_option : Text → ℕ → ℕ → Rule
+number_option name least most = record (option name) { parser = Some (Signed (pos least) (pos most)) }
+
+-- the option has to be given
+abbrev pub wanted : Rule → Rule
+wanted a = record a { required = true }
 
 -- `--config FILE`, the name under which the configuration lies
 abbrev pub config : Rule
-config = text_option (codes "config")
+config = wanted (option (codes "config"))
 
--- `replay --config FILE`
+-- `--workers N`, how many workers decide a moment: 4 where it is not given
+abbrev pub workers : Rule
+workers = record (number_option (codes "workers") 1 16) { defaults = codes "4" ∷ [] }
+
+-- `--seed N`, from which the moments of an exercise are made
+abbrev pub seed : Rule
+seed = wanted (number_option (codes "seed") 0 4294967295)
+
+-- `--moments M`, how many moments an exercise has
+abbrev pub moments : Rule
+moments = wanted (number_option (codes "moments") 1 10000)
+
+-- `replay --config FILE [--workers N]`
 abbrev pub replay : App
-replay = with_rule (new_app (codes "replay")) config
+replay = with_rule (with_rule (new_app (codes "replay")) config) workers
+
+-- `exercise --config FILE --seed N --moments M [--workers N]`
+abbrev pub exercise : App
+exercise = with_rule (with_rule (with_rule (with_rule (new_app (codes "exercise")) config) seed) moments) workers
 
 -- the program's name, after which a subcommand must stand
 abbrev pub base : App
 base = on_top (λ s. record s { subcommand_required = true }) (new_app (codes "daidalus"))
 
--- the command line: `daidalus replay --config FILE`, and nothing else but clap's own help
+-- the command line: `daidalus` and one of the two subcommands, and nothing else but clap's own help
 unfoldable pub daidalus : App
-daidalus = with_subcommand base replay.top
+daidalus = with_subcommand (with_subcommand base replay.top) exercise.top

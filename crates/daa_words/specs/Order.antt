@@ -1,32 +1,60 @@
 -- What the words of a command line ask for.
-use Rattle.std.specs.Prelude.{List, Option, Some, None, codes, if◌then◌else◌, option_and_then, option_map}
+use Rattle.std.specs.Prelude.{ℕ, ◌≤◌, ◌<◌, ◌^◌, ⊤, List, Option, Some, None, codes, if◌then◌else◌, option_and_then, option_map}
 use Rattle.std.specs.Str.{bytes_eq}
+use Rattle.std.specs.Str.Parse.{digits_value, without_leading_plus}
 use Rattle.clap.specs.Simple.{subcommand_of}
-use Rattle.clap.specs.Walk.{Row, Text, first_of, is_empty}
+use Rattle.clap.specs.ValueTests.{is_unsigned_in}
+use Rattle.clap.specs.Walk.{Row, Text, first_of, is_empty, one_of}
 use Rattle.clap.specs.Faults.{fault_of}
 use Rattle.daa_words.specs.Command.{daidalus}
 use Rattle.daa_words.specs.declared.order.Order.{Order}
 use Rattle.daa_words.specs.declared.order.Task.{Task}
-use Rattle.daa_words.specs.declared.order.Task.TheVariants.{Replay}
+use Rattle.daa_words.specs.declared.order.Task.TheVariants.{Replay, Exercise}
 
--- what is asked for: the task, and the name under which the configuration lies, in bytes
+-- what is asked for: the task, the name under which the configuration lies, in bytes, and how many workers there are
 pub record Asked : Type 0 where
   pub task : Task
   pub config : Text
+  pub workers : ℕ
 
 -- an order as what it asks for
 abbrev pub meaning : Order → Asked
-meaning o = record { task = o.task; config = o.config.now }
+meaning o = record { task = o.task; config = o.config.now; workers = o.workers }
 
--- the task of a subcommand's name; none where no task has the name
-abbrev pub task_named : Text → Option Task
-task_named name = if bytes_eq name (codes "replay") then Some Replay else None
+-- the seed and the number of moments are in their ranges
+abbrev pub TaskIsInRange : Task → Type 0
+TaskIsInRange Replay = ⊤
+TaskIsInRange (Exercise seed moments) = (seed < 2 ^ 32) × (1 ≤ moments) × (moments ≤ 10000)
 
--- what a subcommand asks for, by its name and by the rows of its options: the task of the name, and the first text
--- at `--config`; none where one of them is not there
+-- so are all numbers of what is asked for
+pub record IsInRange (asked : Asked) : Type 0 where
+  pub at_least_one : 1 ≤ asked.workers
+  pub at_most_16 : asked.workers ≤ 16
+  pub task : TaskIsInRange asked.task
+
+-- the number that a text is to `u32`: digits, after a `+` if there is one
+abbrev pub number_of : Text → Option ℕ
+number_of text = if is_unsigned_in 0 4294967295 text then Some (digits_value 10 (without_leading_plus text)) else None
+
+-- the number at an option, in the text that clap reads there
+abbrev pub number_at : Text → List Row → Option ℕ
+number_at id rows = option_and_then number_of (one_of id rows)
+
+-- an exercise, by the numbers at its options
+abbrev pub exercise_by : List Row → Option Task
+exercise_by rows = option_and_then (λ seed. option_map (Exercise seed) (number_at (codes "moments") rows)) (number_at (codes "seed") rows)
+
+-- the task of a subcommand, by its name and the rows of its options; none where no task has the name
+abbrev pub task_by : Text → List Row → Option Task
+task_by name rows =
+    if bytes_eq name (codes "replay") then Some Replay
+    else if bytes_eq name (codes "exercise") then exercise_by rows else None
+
+-- what a subcommand asks for, by its name and the rows of its options: its task, the first text at `--config`, and the
+-- number at `--workers`; none where one of them is not there
 unfoldable pub asked_by : Text × List Row → Option Asked
-asked_by p = option_and_then (λ task. option_map (λ config. record { task = task; config = config }) (first_of (codes "config") p.1))
-    (task_named p.0)
+asked_by p = option_and_then (λ task. option_and_then (λ config. option_map (λ workers. record { task = task; config = config; workers = workers })
+    (number_at (codes "workers") p.1)) (first_of (codes "config") p.1)) (task_by p.0 p.1)
 
 -- what the words ask for, the program's name first: none where clap's definition finds a fault in them, and else what
 -- the subcommand asks for

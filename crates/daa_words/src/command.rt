@@ -4,25 +4,73 @@ ghost use Rattle.clap.specs.Words.{app_of, rule_of};
 ghost use Rattle.clap.specs.declared.builder.command.Command.TheViews.{out-Command as fields_of};
 ghost use Rattle.daa_words.specs.Command as spec;
 
-use clap::{Arg, ArgAction, Command};
+use clap::{Arg, ArgAction, Command, value_parser};
 use std::alloc::{AllocError, Global};
 
-/// A required option with one value, which may be any text.
-fn text_option<'a>(alloc: Global, name: &'a str) -> Arg<'a>
-    ensures rule { rule_of result ≡ spec.text_option name.entry.now }
+/// An option with one value, which may be any text.
+fn option<'a>(alloc: Global, name: &'a str) -> Arg<'a>
+    ensures rule { rule_of result ≡ spec.option name.entry.now }
     ensures local { result.global ≡ false }
 {
-    Arg::new(alloc, name)
-        .long(name)
-        .action(ArgAction::Set)
+    Arg::new(alloc, name).long(name).action(ArgAction::Set)
+}
+
+/// `--config FILE`.
+fn config<'a>(alloc: Global) -> Arg<'a>
+    ensures rule { rule_of result ≡ spec.config }
+    ensures local { result.global ≡ false }
+{
+    option(alloc, "config").required(true)
+}
+
+/// `--workers N`.
+fn workers<'a>(alloc: Global) -> Arg<'a>
+    ensures rule { rule_of result ≡ spec.workers }
+    ensures local { result.global ≡ false }
+{
+    option(alloc, "workers")
+        .value_parser(value_parser!(u32).range(1..=16))
+        .default_value("4")
+}
+
+/// `--seed N`.
+fn seed<'a>(alloc: Global) -> Arg<'a>
+    ensures rule { rule_of result ≡ spec.seed }
+    ensures local { result.global ≡ false }
+{
+    option(alloc, "seed")
+        .value_parser(value_parser!(u32))
         .required(true)
 }
 
-/// `replay --config FILE`.
+/// `--moments M`.
+fn moments<'a>(alloc: Global) -> Arg<'a>
+    ensures rule { rule_of result ≡ spec.moments }
+    ensures local { result.global ≡ false }
+{
+    option(alloc, "moments")
+        .value_parser(value_parser!(u32).range(1..=10000))
+        .required(true)
+}
+
+/// `replay --config FILE [--workers N]`.
 fn replay<'a>(alloc: Global) -> Result<Command<'a>, AllocError>
     ensures { IfOk result (λ c. (app_of c ≡ spec.replay) × ((fields_of c).has_globals ≡ false)) }
 {
-    Command::new(alloc, "replay").arg(text_option(alloc, "config"))
+    Command::new(alloc, "replay")
+        .arg(config(alloc))?
+        .arg(workers(alloc))
+}
+
+/// `exercise --config FILE --seed N --moments M [--workers N]`.
+fn exercise<'a>(alloc: Global) -> Result<Command<'a>, AllocError>
+    ensures { IfOk result (λ c. (app_of c ≡ spec.exercise) × ((fields_of c).has_globals ≡ false)) }
+{
+    Command::new(alloc, "exercise")
+        .arg(config(alloc))?
+        .arg(seed(alloc))?
+        .arg(moments(alloc))?
+        .arg(workers(alloc))
 }
 
 /// The program's name, after which a subcommand must stand.
@@ -33,12 +81,17 @@ fn base<'a>(alloc: Global) -> Command<'a>
     Command::new(alloc, "daidalus").subcommand_required(true)
 }
 
-/// The command line that is taken: `daidalus replay --config FILE`. The subcommand and the option are required, the
-/// option has one value, which may be any text, and there is nothing else but clap's own help. The error says that
-/// memory ran out.
+/// The command line that is taken: `daidalus replay --config FILE [--workers N]` or
+/// `daidalus exercise --config FILE --seed N --moments M [--workers N]`, and nothing else but clap's own help.
+///
+/// A subcommand is required, and so is each option but `--workers`. Each option has one value: any text at `--config`,
+/// a whole number from 1 to 16 at `--workers` (4 where it is not given), from 0 to 2^32 - 1 at `--seed` and from 1 to
+/// 10000 at `--moments`. The error says that memory ran out.
 #[tactic(auto, unfolding(crate::specs::Command::daidalus))]
 pub fn daidalus<'a>(alloc: Global) -> Result<Command<'a>, AllocError>
     ensures { IfOk result (λ c. app_of c ≡ spec.daidalus) }
 {
-    base(alloc).subcommand(replay(alloc)?)
+    base(alloc)
+        .subcommand(replay(alloc)?)?
+        .subcommand(exercise(alloc)?)
 }

@@ -10,6 +10,13 @@ use clap::ArgMatches;
 pub enum Task {
     /// Moments are read, and each is decided.
     Replay,
+    /// Moments are made, and each is decided.
+    Exercise {
+        /// What the moments are made from. Any `u32` is one.
+        seed: u32,
+        /// How many moments there are, 1 to 10000.
+        moments: u32,
+    },
 }
 
 /// What the words ask for.
@@ -19,14 +26,34 @@ pub struct Order<'a> {
     pub task: Task,
     /// The name under which the configuration lies. Any text is one, also the empty text.
     pub config: &'a str,
+    /// How many workers decide a moment, 1 to 16.
+    pub workers: u32,
 }
 
-/// The task of a subcommand's name.
-fn task_named(name: &str) -> Option<Task>
-    ensures { result ≡ spec.task_named name.now }
+/// The number at an option.
+fn number_at(name: &str, matches: &ArgMatches) -> Option<u32>
+    ensures { result ≡ spec.number_at name.now (rows_of (found_of matches.now)) }
+{
+    matches.get_one::<u32>(name)
+}
+
+/// An exercise, by the numbers at its options.
+fn exercise_by(matches: &ArgMatches) -> Option<Task>
+    ensures { result ≡ spec.exercise_by (rows_of (found_of matches.now)) }
+{
+    let seed = number_at("seed", matches)?;
+    let moments = number_at("moments", matches)?;
+    Some(Task::Exercise { seed, moments })
+}
+
+/// The task of a subcommand, by its name and by the matches of its options.
+fn task_by(name: &str, matches: &ArgMatches) -> Option<Task>
+    ensures { result ≡ spec.task_by name.now (rows_of (found_of matches.now)) }
 {
     if name == "replay" {
         Some(Task::Replay)
+    } else if name == "exercise" {
+        exercise_by(matches)
     } else {
         None
     }
@@ -37,7 +64,12 @@ fn task_named(name: &str) -> Option<Task>
 pub(crate) fn order_by<'a>(name: &str, matches: &ArgMatches<'a>) -> Option<Order<'a>>
     ensures { option_map spec.meaning result ≡ spec.asked_by (name.now, rows_of (found_of matches.now)) }
 {
-    let task = task_named(name)?;
+    let task = task_by(name, matches)?;
     let config = matches.get_str("config")?;
-    Some(Order { task, config })
+    let workers = number_at("workers", matches)?;
+    Some(Order {
+        task,
+        config,
+        workers,
+    })
 }

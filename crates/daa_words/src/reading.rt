@@ -46,12 +46,14 @@ fn order_in<'a>(matches: &ArgMatches<'a>) -> Option<Order<'a>>
 /// What the words of a command line ask for, the program's name first. An empty list of words asks for nothing.
 ///
 /// The fault is `NotTaken` only where the command line does not take the words: clap's own definition finds a fault in
-/// them. A request for help or for a version is such a case. It is `NoMemory` where memory ran out.
+/// them. A request for help or for a version is such a case. It is `NoMemory` where memory ran out. The numbers of an
+/// order are those at its options, and in their ranges: 1 to 16 workers, and of an exercise any `u32` as its seed and 1
+/// to 10000 moments.
 #[tactic(auto, unfolding(crate::specs::Order::order_of), using(crate::proofs::WordsLemmas::no_order))]
 pub fn read_words<'a>(alloc: Global, words: &'a [String]) -> Result<Order<'a>, WordsFault>
     ensures taken { IfOk result (λ o. spec.order_of (map string_bytes words.entry.now) ≡ Some (spec.meaning o)) }
     ensures refused { IsErrOf result WordsFault.NotTaken → spec.order_of (map string_bytes words.entry.now) ≡ None }
-    ensures faulty { IsErrOf result WordsFault.NotTaken → fault_of daidalus (map string_bytes words.entry.now) ≢ [] }
+    ensures in_range { IfOk result (λ o. spec.IsInRange (spec.meaning o)) }
 {
     let matches = matches_of(alloc, words)?;
     match order_in(&matches) {

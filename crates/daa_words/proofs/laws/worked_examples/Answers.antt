@@ -12,6 +12,10 @@ returns c = record {
   any_program_name = refl;
   ended = refl;
   empty_name = refl;
+  most_workers = refl;
+  no_workers = refl;
+  too_many_workers = refl;
+  seed_of_a_replay = refl;
   no_words = refl;
   name_alone = refl;
   no_config = refl;
@@ -24,6 +28,4 @@ returns c = record {
   short_name = refl;
   repeated = refl;
   extra = refl;
-  workers = refl;
-  exercise = refl;
 }
