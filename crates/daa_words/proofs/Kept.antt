@@ -1,9 +1,7 @@
 -- An option of which each use has a value: where no fault is found, each row that it has has a first value, its parser
 -- takes all its values, they are read as the parser says, and they are its defaults where the words gave none. What
 -- changes rows keeps this.
-use has a value: where no fault is found, each row that it has has a first value, and its
--- parser takes all its values. What changes rows keeps this.
-use Rattle.std.proofs.Common.{arith, min, ◌+◌, ◌≡◌, ◌∙◌, ◌&&◌, ◌||◌, ◌⊎◌, ◌==◌, ℕ, Bool, cond, not, true, false, List, [], ◌∷◌, ◌++◌, length, Option, Some, None, true≢false, inl, inr, refl, sym, ap, subst, nat_lt}
+use Rattle.std.proofs.Common.{arith, min, ◌+◌, ◌≡◌, ◌∙◌, ◌&&◌, ◌||◌, ◌⊎◌, ◌==◌, ℕ, Bool, cond, true, false, List, [], ◌∷◌, ◌++◌, length, Option, Some, None, true≢false, inl, inr, refl, sym, ap, subst, nat_lt}
 use Rattle.std.specs.Prelude.{⊤, IfSome}
 use Rattle.std.specs.List.{find, fold, list_all}
 use Rattle.std.specs.Option.{option_map_or}
@@ -11,7 +9,6 @@ use Rattle.std.specs.Str.{bytes_eq}
 use Rattle.std.proofs.lemmas.Bool.Decides.{nat_tests}
 use Rattle.std.proofs.lemmas.Slice.Eq.{bytes_eq-Decides}
 use Rattle.std.proofs.lemmas.List.Folds.{list_all-append}
-use Rattle.clap.proofs.WalkLemmas.{both}
 use Rattle.clap.specs.Matches.{count_text}
 use Rattle.clap.specs.ValueTests.{accepts}
 use Rattle.clap.specs.Facts.{explicit_source, parser_of_value, unwrap_or_range}

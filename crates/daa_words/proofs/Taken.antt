@@ -1,6 +1,6 @@
 -- Words without a fault ask for a replay or for an exercise, with numbers in their ranges.
 use Rattle.std.proofs.Common.{◌≡◌, ◌∙◌, ◌||◌, ◌⊎◌, ℕ, Bool, true, false, List, [], Option, Some, None, arith, inl, inr, is_some, true≢false, refl, sym, ap, subst, codes}
-use Rattle.std.specs.Prelude.{⊤, option_and_then, option_map, unwrap_or}
+use Rattle.std.specs.Prelude.{option_and_then, option_map, unwrap_or}
 use Rattle.std.specs.Option.{option_map_or}
 use Rattle.std.specs.Str.{bytes_eq}
 use Rattle.std.proofs.lemmas.Slice.Eq.{bytes_eq-Decides}

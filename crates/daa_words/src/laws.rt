@@ -13,56 +13,24 @@ pub fn taken_words_give_an_order()
     ensures only { EachOrderIsTaken }
 {}
 
-/// What some words ask for.
+/// What some words ask for: a replay, or nothing.
 pub fn worked_examples()
     ensures apart { order_of (codes "daidalus" ∷ codes "replay" ∷ codes "--config" ∷ codes "plan.toml" ∷ [])
         ≡ Some (record { task = Task.Replay; config = codes "plan.toml"; workers = 4 }) }
     ensures joined { order_of (codes "daidalus" ∷ codes "replay" ∷ codes "--config=plan.toml" ∷ [])
         ≡ Some (record { task = Task.Replay; config = codes "plan.toml"; workers = 4 }) }
+    ensures any_program_name { order_of (codes "" ∷ codes "replay" ∷ codes "--config" ∷ codes "f" ∷ [])
+        ≡ Some (record { task = Task.Replay; config = codes "f"; workers = 4 }) }
     ensures ended { order_of (codes "daidalus" ∷ codes "replay" ∷ codes "--config" ∷ codes "f" ∷ codes "--" ∷ [])
         ≡ Some (record { task = Task.Replay; config = codes "f"; workers = 4 }) }
     ensures empty_name { order_of (codes "daidalus" ∷ codes "replay" ∷ codes "--config" ∷ codes "" ∷ [])
         ≡ Some (record { task = Task.Replay; config = codes ""; workers = 4 }) }
-    ensures one_worker { order_of (codes "daidalus" ∷ codes "replay" ∷ codes "--config=f" ∷ codes "--workers" ∷ codes "1" ∷ [])
-        ≡ Some (record { task = Task.Replay; config = codes "f"; workers = 1 }) }
     ensures most_workers { order_of (codes "daidalus" ∷ codes "replay" ∷ codes "--config=f" ∷ codes "--workers" ∷ codes "16" ∷ [])
         ≡ Some (record { task = Task.Replay; config = codes "f"; workers = 16 }) }
-    ensures option_first { order_of (codes "daidalus" ∷ codes "replay" ∷ codes "--workers=2" ∷ codes "--config=f" ∷ [])
-        ≡ Some (record { task = Task.Replay; config = codes "f"; workers = 2 }) }
-    ensures exercise { order_of (codes "daidalus" ∷ codes "exercise" ∷ codes "--config" ∷ codes "c" ∷ codes "--seed" ∷ codes "7" ∷ codes "--moments" ∷ codes "100" ∷ [])
-        ≡ Some (record { task = Task.Exercise 7 100; config = codes "c"; workers = 4 }) }
-    ensures exercise_with_workers { order_of (codes "daidalus" ∷ codes "exercise" ∷ codes "--config=f" ∷ codes "--seed=1" ∷ codes "--moments=2" ∷ codes "--workers=3" ∷ [])
-        ≡ Some (record { task = Task.Exercise 1 2; config = codes "f"; workers = 3 }) }
-    ensures greatest_seed { order_of (codes "daidalus" ∷ codes "exercise" ∷ codes "--config=f" ∷ codes "--seed=4294967295" ∷ codes "--moments=10000" ∷ [])
-        ≡ Some (record { task = Task.Exercise 4294967295 10000; config = codes "f"; workers = 4 }) }
-    ensures sign_and_zeros { order_of (codes "daidalus" ∷ codes "exercise" ∷ codes "--config=f" ∷ codes "--seed=+4" ∷ codes "--moments=004" ∷ [])
-        ≡ Some (record { task = Task.Exercise 4 4; config = codes "f"; workers = 4 }) }
-    ensures zero_with_a_minus { order_of (codes "daidalus" ∷ codes "exercise" ∷ codes "--config=f" ∷ codes "--seed=-0" ∷ codes "--moments=1" ∷ [])
-        ≡ Some (record { task = Task.Exercise 0 1; config = codes "f"; workers = 4 }) }
-    ensures no_workers { order_of (codes "daidalus" ∷ codes "replay" ∷ codes "--config=f" ∷ codes "--workers" ∷ codes "0" ∷ [])
-        ≡ None }
-    ensures too_many_workers { order_of (codes "daidalus" ∷ codes "replay" ∷ codes "--config=f" ∷ codes "--workers" ∷ codes "17" ∷ [])
-        ≡ None }
-    ensures workers_without_a_number { order_of (codes "daidalus" ∷ codes "replay" ∷ codes "--config=f" ∷ codes "--workers=" ∷ [])
-        ≡ None }
-    ensures seed_of_a_replay { order_of (codes "daidalus" ∷ codes "replay" ∷ codes "--seed" ∷ codes "1" ∷ codes "--config" ∷ codes "f" ∷ [])
-        ≡ None }
-    ensures moments_of_a_replay { order_of (codes "daidalus" ∷ codes "replay" ∷ codes "--config=f" ∷ codes "--moments=1" ∷ [])
-        ≡ None }
-    ensures no_seed { order_of (codes "daidalus" ∷ codes "exercise" ∷ codes "--config=f" ∷ codes "--moments=1" ∷ [])
-        ≡ None }
-    ensures number_of_moments_left_out { order_of (codes "daidalus" ∷ codes "exercise" ∷ codes "--config=f" ∷ codes "--seed=1" ∷ [])
-        ≡ None }
-    ensures no_moments { order_of (codes "daidalus" ∷ codes "exercise" ∷ codes "--config=f" ∷ codes "--seed=1" ∷ codes "--moments" ∷ codes "0" ∷ [])
-        ≡ None }
-    ensures too_many_moments { order_of (codes "daidalus" ∷ codes "exercise" ∷ codes "--config=f" ∷ codes "--seed=1" ∷ codes "--moments" ∷ codes "10001" ∷ [])
-        ≡ None }
-    ensures too_great_a_seed { order_of (codes "daidalus" ∷ codes "exercise" ∷ codes "--config=f" ∷ codes "--seed" ∷ codes "4294967296" ∷ codes "--moments=1" ∷ [])
-        ≡ None }
-    ensures negative_seed { order_of (codes "daidalus" ∷ codes "exercise" ∷ codes "--config=f" ∷ codes "--seed=-1" ∷ codes "--moments=1" ∷ [])
-        ≡ None }
-    ensures exercise_without_config { order_of (codes "daidalus" ∷ codes "exercise" ∷ codes "--seed=1" ∷ codes "--moments=1" ∷ [])
-        ≡ None }
+    ensures no_workers { order_of (codes "daidalus" ∷ codes "replay" ∷ codes "--config=f" ∷ codes "--workers" ∷ codes "0" ∷ []) ≡ None }
+    ensures too_many_workers { order_of (codes "daidalus" ∷ codes "replay" ∷ codes "--config=f" ∷ codes "--workers" ∷ codes "17" ∷ []) ≡ None }
+    ensures seed_of_a_replay { order_of (codes "daidalus" ∷ codes "replay" ∷ codes "--seed" ∷ codes "1" ∷ codes "--config" ∷ codes "f" ∷ []) ≡ None }
+    ensures no_words { order_of [] ≡ None }
     ensures name_alone { order_of (codes "daidalus" ∷ []) ≡ None }
     ensures no_config { order_of (codes "daidalus" ∷ codes "replay" ∷ []) ≡ None }
     ensures no_value { order_of (codes "daidalus" ∷ codes "replay" ∷ codes "--config" ∷ []) ≡ None }
@@ -72,10 +40,26 @@ pub fn worked_examples()
     ensures version { order_of (codes "daidalus" ∷ codes "--version" ∷ []) ≡ None }
     ensures shortened { order_of (codes "daidalus" ∷ codes "replay" ∷ codes "--conf" ∷ codes "f" ∷ []) ≡ None }
     ensures short_name { order_of (codes "daidalus" ∷ codes "replay" ∷ codes "-c" ∷ codes "f" ∷ []) ≡ None }
-    ensures repeated { order_of (codes "daidalus" ∷ codes "replay" ∷ codes "--config=f" ∷ codes "--config=f" ∷ [])
-        ≡ None }
+    ensures repeated { order_of (codes "daidalus" ∷ codes "replay" ∷ codes "--config=f" ∷ codes "--config=f" ∷ []) ≡ None }
     ensures extra { order_of (codes "daidalus" ∷ codes "replay" ∷ codes "--config=f" ∷ codes "g" ∷ []) ≡ None }
-    ensures any_program_name { order_of (codes "" ∷ codes "replay" ∷ codes "--config" ∷ codes "f" ∷ [])
-        ≡ Some (record { task = Task.Replay; config = codes "f"; workers = 4 }) }
-    ensures no_words { order_of [] ≡ None }
+{}
+
+/// What the words of some exercises ask for.
+pub fn worked_exercises()
+    ensures exercise { order_of (codes "daidalus" ∷ codes "exercise" ∷ codes "--config" ∷ codes "c" ∷ codes "--seed" ∷ codes "7" ∷ codes "--moments" ∷ codes "100" ∷ [])
+        ≡ Some (record { task = Task.Exercise 7 100; config = codes "c"; workers = 4 }) }
+    ensures greatest { order_of (codes "daidalus" ∷ codes "exercise" ∷ codes "--config=f" ∷ codes "--seed=4294967295" ∷ codes "--moments=10000" ∷ codes "--workers=16" ∷ [])
+        ≡ Some (record { task = Task.Exercise 4294967295 10000; config = codes "f"; workers = 16 }) }
+    ensures sign_and_zeros { order_of (codes "daidalus" ∷ codes "exercise" ∷ codes "--config=f" ∷ codes "--seed=+4" ∷ codes "--moments=004" ∷ [])
+        ≡ Some (record { task = Task.Exercise 4 4; config = codes "f"; workers = 4 }) }
+    ensures zero_with_a_minus { order_of (codes "daidalus" ∷ codes "exercise" ∷ codes "--config=f" ∷ codes "--seed=-0" ∷ codes "--moments=1" ∷ [])
+        ≡ Some (record { task = Task.Exercise 0 1; config = codes "f"; workers = 4 }) }
+    ensures no_seed { order_of (codes "daidalus" ∷ codes "exercise" ∷ codes "--config=f" ∷ codes "--moments=1" ∷ []) ≡ None }
+    ensures too_great_a_seed { order_of (codes "daidalus" ∷ codes "exercise" ∷ codes "--config=f" ∷ codes "--seed=4294967296" ∷ codes "--moments=1" ∷ [])
+        ≡ None }
+    ensures negative_seed { order_of (codes "daidalus" ∷ codes "exercise" ∷ codes "--config=f" ∷ codes "--seed=-1" ∷ codes "--moments=1" ∷ [])
+        ≡ None }
+    ensures no_moments { order_of (codes "daidalus" ∷ codes "exercise" ∷ codes "--config=f" ∷ codes "--seed=1" ∷ codes "--moments=0" ∷ []) ≡ None }
+    ensures too_many_moments { order_of (codes "daidalus" ∷ codes "exercise" ∷ codes "--config=f" ∷ codes "--seed=1" ∷ codes "--moments=10001" ∷ [])
+        ≡ None }
 {}

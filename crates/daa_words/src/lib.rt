@@ -1,5 +1,12 @@
-//! The command words of the program: `daidalus replay --config FILE`. Which words are taken is clap's to decide, by a
-//! definition that is written in clap's own words; what is taken is read into an [`Order`].
+//! The command words of the program:
+//!
+//! ```text
+//! daidalus replay --config FILE [--workers N]
+//! daidalus exercise --config FILE --seed N --moments M [--workers N]
+//! ```
+//!
+//! Which words are taken is clap's to decide, by a definition that is written in clap's own words; what is taken is read
+//! into an [`Order`].
 #![tactic(auto)]
 
 mod command;
@@ -10,7 +17,7 @@ mod reading;
 
 pub use command::daidalus;
 pub use fault::WordsFault;
-pub use laws::{taken_words_give_an_order, worked_examples};
+pub use laws::{taken_words_give_an_order, worked_examples, worked_exercises};
 pub use order::{Order, Task};
 pub use reading::read_words;
 
