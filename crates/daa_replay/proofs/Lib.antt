@@ -8,3 +8,4 @@ pub mod OneText
 pub mod CompleteLemmas
 pub mod OpeningLemmas
 pub mod SomeReport
+pub mod PerformLemmas

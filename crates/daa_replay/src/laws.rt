@@ -42,15 +42,15 @@ pub fn format_lines_alone_matter()
     ensures { ReadsAsFourWords }
 {}
 
-/// How a run ends where the words, the shelf and the number of bytes say it: with an accepted configuration and no fault
-/// with 0 or 1, or with 8 where there are more bytes than may be read; with words that are not taken with 2 or 5; with a
+/// How a run ends where the words, the shelf and the number of bytes say it: a replay with an accepted configuration and no
+/// fault with 0 or 1, or with 8 where there are more bytes than may be read; such an exercise with 0; with words that are not taken with 2 or 5; with a
 /// refused configuration with 3, 5 or 7; with none under the name with 7. Want of memory, 6, may come in each. Where the
 /// count of faults of the source, the sink or the shelf did not rise, 4, 5 or 7 does not come.
 pub fn runs_are_complete()
     ensures { RunsAreComplete }
 {}
 
-/// A shelf that tells its texts gives words one configuration at most.
+/// A shelf that tells its texts gives words one task and one configuration at most.
 pub fn configurations_are_unique()
     ensures { ConfigurationsAreUnique }
 {}

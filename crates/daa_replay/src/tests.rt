@@ -1,9 +1,11 @@
 //! Inputs with the text and the status that they give.
 
+mod exercise;
 mod faults;
 mod lines;
 mod moments;
 mod opening;
+mod workers;
 
 use super::{Event, ended_moments_are_in_range, every_input_has_one_report, run_within};
 use daa_outside::{CalmShelf, CalmSource, MemShelf, MemSink, MemSource, Open, Void};

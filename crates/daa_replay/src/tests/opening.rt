@@ -4,7 +4,7 @@ use super::{ONE, ONE_LEVEL, ONE_TEXT, Outside, PLAIN, gives, replayed};
 use std::test::Fail;
 
 /// What is written where the words are not taken.
-const USAGE: &[u8] =
+pub(super) const USAGE: &[u8] =
     b"usage: daidalus replay --config FILE [--workers N] | exercise --config FILE --seed N --moments M [--workers N]\n";
 
 /// Lists of words that are not taken.
@@ -50,7 +50,7 @@ fn an_input_without_lines_gives_nothing(rt: HostRuntime) -> Result<(), Fail> {
 }
 
 /// The three levels of the example.
-const EXAMPLE: &[u8] = b"resolve = 2
+pub(super) const EXAMPLE: &[u8] = b"resolve = 2
 turn_rate = 3
 track_step = 5
 [gs]

@@ -1,0 +1,21 @@
+use Rattle.daa_words.specs.declared.order.Task.TheVariants.{Replay, Exercise}
+use Rattle.daa_replay.specs.Outside.{Shown, shown}
+use Rattle.daa_replay.specs.Status.{code_of}
+use Rattle.daa_replay.proofs.PerformLemmas.{by_task, exercised}
+use Rattle.daa_replay.proofs.perform.perform.Goals as goal
+
+pub returns-in-Replay : goal.returns-in-Replay
+returns-in-Replay g c =
+    by_task c.args.most (code_of c.replay_within.result) c.args.ready.now.engine.settings c.args.ready.now.task Replay _ _ _ _ c.in-Replay.is c.replay_within.ensures
+
+pub returns-in-Exercise : goal.returns-in-Exercise
+returns-in-Exercise g c =
+    let settings = c.args.ready.now.engine.settings in
+    let seed = c.in-Exercise.seed in
+    let moments = c.in-Exercise.moments in
+    let source : Shown = shown (g.S.Source.left c.args.source.now) (g.S.Source.faults c.args.source.now) in
+    let old : Shown = shown (g.K.Sink.taken c.args.sink.now) (g.K.Sink.faults c.args.sink.now) in
+    let new : Shown = shown (g.K.Sink.taken c.exercise-said.new.sink) (g.K.Sink.faults c.exercise-said.new.sink) in
+    let says = c.exercise-said.ensures.says in
+    by_task c.args.most (code_of c.after.result) settings c.args.ready.now.task (Exercise seed moments) source source old new c.in-Exercise.is
+    (exercised settings seed moments source old new says.0 c.exercise-said.result c.after.result says.1 says.2 c.after.ensures.whole c.after.ensures.broken)
