@@ -1,6 +1,8 @@
--- A picture has no two texts.
-use Rattle.std.proofs.Common.{◌≡◌, ◌++◌, ◌∙◌, ℕ, List, [], ◌∷◌, length, sym, ap, ap₂}
+-- A picture has no two texts, and no two boards.
+use Rattle.std.proofs.Common.{◌≡◌, ◌≤◌, ◌++◌, ◌∙◌, ℕ, List, [], ◌∷◌, length, sym, ap, ap₂, ⊎_elim}
 use Rattle.std.specs.List.{flat_map}
+use Rattle.std.proofs.lemmas.Bool.{cases_lt}
+use Rattle.daa_config.specs.Candidates.{candidates_of}
 use Rattle.daa_config.specs.Settings.{Settings, IsAccepted}
 use Rattle.daa_config.specs.declared.kind.Kind.{Kind}
 use Rattle.daa_config.specs.declared.kind.Kind.TheVariants.{Track, Speed, Climb, Height}
@@ -9,6 +11,7 @@ use Rattle.daa_state.specs.declared.word.Picture.{Picture}
 use Rattle.daa_state.specs.declared.word.Traffic.{Traffic}
 use Rattle.daa_alert.specs.declared.warning.Alert.{Alert}
 use Rattle.daa_alert.proofs.OneAlert.{now_once, alert_once}
+use Rattle.daa_bands.specs.Board.{HasLevelOn, IsBoardOf}
 use Rattle.daa_bands.proofs.KindLemmas.{kind_bands_only}
 use Rattle.daa_resolve.specs.declared.side.Side.TheVariants.{Lower, Upper}
 use Rattle.daa_resolve.proofs.OnlyLemmas.{one_answer}
@@ -47,3 +50,16 @@ module _ (s : Settings) (p : Picture) where
       e ∙ ap (λ (t : Text). moment_line p.time ++ (t ++ (of_each bands ++ (of_each answers ++ done_line p.time)))) x
       ∙ ap (λ (t : Text). moment_line p.time ++ (alerts' ++ (t ++ (of_each answers ++ done_line p.time)))) y
       ∙ ap (λ (t : Text). moment_line p.time ++ (alerts' ++ (of_each bands' ++ (t ++ done_line p.time)))) z ∙ sym e'
+
+-- ---- no two boards
+
+-- a board that stands for what is covered has no level that another such board has not
+pub same_level : (s : Settings) (p : Picture) (a b : List ℕ) → IsBoardOf (CoveredAt s p) s a → IsBoardOf (CoveredAt s p) s b
+    → (index l : ℕ) → 1 ≤ l → HasLevelOn a index l → HasLevelOn b index l
+same_level s p a b one other index l low h = ⊎_elim
+    (λ in'. ⊎_elim
+    (λ high. absurd (one.no_level_above index l high h))
+    (λ high. (other.each index l in' low high).1 ((one.each index l in' low high).0 h))
+    (cases_lt (length s.levels) l))
+    (λ past. absurd (one.no_candidate_past index l past low h))
+    (cases_lt index (length (candidates_of s)))

@@ -1,6 +1,7 @@
 -- What contracts see of an engine.
 use Rattle.std.specs.Prelude.{◌≡◌, ℕ, ◌≤◌, List, length}
 use Rattle.daa_config.specs.Settings.{Settings, IsAccepted}
+use Rattle.daa_scan.specs.Units.{most_units}
 
 -- its configuration, its number of workers, and the masks of levels of the latest moment's candidates
 pub record Machine : Type 0 where
@@ -18,6 +19,6 @@ pub record IsMachine (machine : Machine) : Type 0 where
   pub accepted : IsAccepted machine.settings
   pub crew : IsCrew machine.workers
 
--- it has a word for each unit of work of every moment: 64 aircraft and 159 groups of candidates
+-- it has a word for each unit of work of every moment
 abbrev pub HasRoom : List ℕ → Type 0
-HasRoom words = length words ≡ 10176
+HasRoom words = length words ≡ most_units

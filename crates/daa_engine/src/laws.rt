@@ -1,5 +1,5 @@
 //! Laws of the definitions, each the contract of a function that does nothing.
-ghost use Rattle.std.specs.Prelude.{◌≡◌, ℕ, List, length};
+ghost use Rattle.std.specs.Prelude.{◌≡◌, ◌≤◌, ℕ, List, length};
 ghost use Rattle.daa_bands.specs.Board.{HasLevelOn, IsBoardOf, mask_levels};
 ghost use Rattle.daa_bands.specs.KindBands.{AreKindBands};
 ghost use Rattle.daa_bands.specs.declared.band.Band.{Band};
@@ -24,6 +24,13 @@ pub fn every_picture_has_one_text()
 /// Under a configuration that is accepted a picture has no two texts, in range or not.
 pub fn has_one_text()
     ensures { (s : Settings) (p : Picture) (a b : Text) → IsAccepted s → IsMomentText s p a → IsMomentText s p b → a ≡ b }
+{}
+
+/// A picture has one board at most: two boards that stand for what is covered have the same levels. So the workers' board is
+/// that of one thread.
+pub fn has_one_board()
+    ensures { (s : Settings) (p : Picture) (a b : List ℕ) (index l : ℕ) → IsBoardOf (CoveredAt s p) s a → IsBoardOf (CoveredAt s p) s b → 1 ≤ l
+        → HasLevelOn a index l → HasLevelOn b index l }
 {}
 
 /// What a board shows is what aircraft do: over a board that stands for what is covered, the bands of a kind and the answer

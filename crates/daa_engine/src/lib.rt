@@ -13,4 +13,6 @@ mod together;
 mod warnings;
 
 pub use engine::Engine;
-pub use laws::{boards_tell_what_is_covered, every_picture_has_one_text, has_one_text};
+pub use laws::{
+    boards_tell_what_is_covered, every_picture_has_one_text, has_one_board, has_one_text,
+};

@@ -453,6 +453,21 @@ fn worked_rows(rt: HostRuntime) -> Result<(), Fail> {
     Ok(())
 }
 
+#[test]
+fn the_alert_of_an_aircraft(rt: HostRuntime) -> Result<(), Fail> {
+    let engine = engine_of(&rt, SMALL, &[("tthr = 35", "tthr = 0")])?;
+    let picture = picture_in(&[NORTH, "traffic FAR 5162 0 1000 0 0 0 0", ABEAM]).expect(
+        &rt,
+        "the lines of a moment",
+    );
+    assert!(rt; picture.traffic.len() == 2);
+    let far = engine.alert_of(&picture, 0);
+    assert!(rt; far.level == 0 && far.first.is_none());
+    let abeam = engine.alert_of(&picture, 1);
+    assert!(rt; abeam.level == 1 && abeam.first == Some(9));
+    Ok(())
+}
+
 /// What one moment left is not there in the next.
 #[test]
 fn moments_one_after_the_other(rt: HostRuntime) -> Result<(), Fail> {
@@ -589,5 +604,6 @@ fn may_be_sent<T: Send>() {}
 fn values_may_be_sent() {
     may_be_sent::<Engine>();
     has_one_text();
+    has_one_board();
     every_picture_has_one_text();
 }

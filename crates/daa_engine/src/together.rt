@@ -1,8 +1,8 @@
 //! Fills a board by all workers together: each unit of work is answered by one of them with a packed word.
-ghost use Rattle.std.specs.Prelude.{◌≡◌, ◌<◌, ◌≤◌, OnOk, length, replicate};
+ghost use Rattle.std.specs.Prelude.{◌≡◌, ◌<◌, ◌≤◌, OnErr, OnOk, length, replicate};
 ghost use Rattle.daa_bands.specs.Board.{IsBoardOf, board_size};
 ghost use Rattle.daa_scan.specs.Reach.{NoneIsMetOutOfReach};
-ghost use Rattle.daa_scan.specs.Units.{AreWordsOf};
+ghost use Rattle.daa_scan.specs.Units.{most_groups, most_units, AreWordsOf};
 ghost use Rattle.daa_state.specs.InRange.{IsPictureInRange};
 ghost use Rattle.daa_engine.specs.Covered.{CoveredAt};
 ghost use Rattle.daa_engine.specs.Machine.{IsCrew, HasRoom};
@@ -20,7 +20,7 @@ use std::thread::Threads;
 
 /// Marks the levels at which each candidate is covered, and no others, by so many workers. The words are room for their
 /// answers. Where no aircraft is in reach there is no unit, and no worker is needed. `NoMemory` says that there was no
-/// memory for the workers.
+/// memory for the workers; then the board is as it was.
 pub(crate) fn fill_together<R: Threads + Sync, G: Gate>(
     rt: &R,
     alloc: Global,
@@ -36,6 +36,7 @@ pub(crate) fn fill_together<R: Threads + Sync, G: Gate>(
     requires crew { IsCrew workers }
     ensures room { HasRoom words.new.items }
     ensures board { OnOk result (IsBoardOf (CoveredAt config.now picture.now) config.now board.new) }
+    ensures kept { OnErr result (board.new ≡ board.old) }
 {
     let scene = Scene::of(config, picture);
     let units = scene.units() as usize;
@@ -49,7 +50,7 @@ pub(crate) fn fill_together<R: Threads + Sync, G: Gate>(
 
 /// Marks the levels at which each candidate is covered, and no others. The words are those of the scene's units, in order.
 fn merge(board: &mut Board, scene: &Scene, words: &[u64])
-    requires few { length words.now ≤ 10176 }
+    requires few { length words.now ≤ most_units }
     requires words { AreWordsOf scene.now words.now }
     requires reach { NoneIsMetOutOfReach scene.now }
     ensures { IsBoardOf (CoveredAt scene.now.settings scene.now.picture) scene.now.settings board.new }
@@ -60,9 +61,9 @@ fn merge(board: &mut Board, scene: &Scene, words: &[u64])
 
 /// Adds the levels that the words say. Unit u is of group `u % groups`.
 fn merge_words(board: &mut Board, words: &[u64], groups: u32)
-    requires few { length words.now ≤ 10176 }
+    requires few { length words.now ≤ most_units }
     requires some { 1 ≤ groups }
-    requires within { groups ≤ 159 }
+    requires within { groups ≤ most_groups }
     requires clear { board.old ≡ replicate board_size 0 }
     ensures { IsMerged groups words.now (length words.now) board.new }
 {

@@ -12,6 +12,14 @@ use Rattle.daa_scan.specs.Situation.{Situation, MeetsAt}
 abbrev pub group_count : Settings → ℕ
 group_count settings = (length (candidates_of settings) + (group_size - 1)) / group_size
 
+-- a configuration has at most so many groups, since it has at most 1897 candidates
+abbrev pub most_groups : ℕ
+most_groups = 159
+
+-- a moment has at most so many units: one for each of 64 aircraft and each group
+abbrev pub most_units : ℕ
+most_units = 64 * most_groups
+
 -- what a scene keeps: its configuration was accepted, its moment is in range, and its groups are counted
 pub record IsScene (s : Situation) (groups : ℕ) : Type 0 where
   pub accepted : IsAccepted s.settings

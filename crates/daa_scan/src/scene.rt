@@ -8,7 +8,7 @@ ghost use Rattle.daa_state.specs.InRange.{IsPictureInRange};
 ghost use Rattle.daa_state.specs.Picture.{aircraft_of};
 ghost use Rattle.daa_scan.specs.Reach.{IsInReachAt};
 ghost use Rattle.daa_scan.specs.Situation.{MeetsAt};
-ghost use Rattle.daa_scan.specs.Units.{group_count, IsCountInReach};
+ghost use Rattle.daa_scan.specs.Units.{group_count, most_groups, IsCountInReach};
 ghost use Rattle.daa_scan.specs.Packed.{places_in_reach, packed_word, entry_at};
 
 use crate::reach::is_in_reach;
@@ -82,7 +82,7 @@ impl<'a> Scene<'a> {
     pub fn groups(&self) -> u32
         ensures value { result ≡ group_count self.now.settings }
         ensures some { 1 ≤ result }
-        ensures few { result ≤ 159 }
+        ensures few { result ≤ most_groups }
     {
         groups_of(self.config)
     }
@@ -123,7 +123,7 @@ impl<'a> Scene<'a> {
     /// The word of a group of candidates and an aircraft.
     fn word_of_group(&self, aircraft: u32, group: u32) -> u64
         requires aircraft { aircraft < length (aircraft_of self.now.picture) }
-        requires group { group < 159 }
+        requires group { group < most_groups }
         ensures { result ≡ packed_word self.now aircraft group }
     {
         let mut word = 0;
@@ -160,7 +160,7 @@ impl<'a> Scene<'a> {
 
 impl<'a> Answers for Scene<'a> {
     ghost use Rattle.daa_scan.specs.Reach.{NoneIsMetOutOfReach};
-    ghost use Rattle.daa_scan.specs.Units.{AreWordsOf};
+    ghost use Rattle.daa_scan.specs.Units.{most_units, AreWordsOf};
     ghost use Rattle.daa_scan.specs.Packed.{words_of, words_real};
 
     ghost answers = { words_of };
@@ -170,7 +170,7 @@ impl<'a> Answers for Scene<'a> {
     fn units(&self) -> u32
         ensures value { result ≡ length (words_of self.now) }
         ensures words { AreWordsOf self.now (words_of self.now) }
-        ensures few { result ≤ 10176 }
+        ensures few { result ≤ most_units }
         ensures reach { NoneIsMetOutOfReach self.now }
     {
         self.groups * self.count_in_reach()
@@ -192,7 +192,7 @@ impl<'a> Answers for Scene<'a> {
 fn groups_of(config: &Config) -> u32
     ensures value { result ≡ group_count config.now }
     ensures some { 1 ≤ result }
-    ensures few { result ≤ 159 }
+    ensures few { result ≤ most_groups }
     ensures accepted { IsAccepted config.now }
 {
     (config.start(Kind::Height) + config.count(Kind::Height)).div_ceil(GROUP)
