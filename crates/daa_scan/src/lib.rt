@@ -2,7 +2,6 @@
 //! how the answers are divided into units of work. Nothing here takes memory.
 #![tactic(auto)]
 
-mod by_seconds;
 mod reach;
 mod scene;
 #[cfg(test)]

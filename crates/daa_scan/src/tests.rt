@@ -3,6 +3,7 @@
 ghost use Rattle.std.specs.Prelude.{IfSome};
 ghost use Rattle.daa_state.specs.InRange.{IsPictureInRange};
 
+mod by_seconds;
 mod reaching;
 mod rows;
 mod texts;
@@ -15,6 +16,7 @@ use std::process::Abort;
 use std::test::Fail;
 
 /// A text of a configuration, and parts of it with what stands in their place.
+#[derive(Drop)]
 struct Settings {
     text: &'static str,
     edits: &'static [(&'static str, &'static str)],

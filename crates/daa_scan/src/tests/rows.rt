@@ -2,10 +2,10 @@
 
 ghost use Rattle.daa_state.specs.InRange.{IsPictureInRange};
 
+use super::by_seconds::meets_by_seconds;
 use super::texts::{EXAMPLE, FOUR, SMALL};
 use super::{Settings, config_of, picture_in};
 use crate::Scene;
-use crate::by_seconds::meets_by_seconds;
 use daa_config::Config;
 use daa_state::Picture;
 use std::process::Abort;

@@ -1,7 +1,7 @@
 use Rattle.std.proofs.Common.{◌≡◌, refl, ap, arith}
 use Rattle.daa_legs.specs.Course.{Course}
 use Rattle.daa_scan.proofs.Walks.{next_is, next_walked, walked_none}
-use Rattle.daa_scan.proofs.by_seconds.meets_by_seconds.Goals as goal
+use Rattle.daa_scan.proofs.tests.by_seconds.meets_by_seconds.Goals as goal
 
 pub loop-k-init : goal.loop-k-init
 loop-k-init c = record { course = c.begin-flight.ensures; none = λ j h. absurd (omega (arith, h)) }
