@@ -1,3 +1,5 @@
 pub mod DrawLemmas
 pub mod MoveLemmas
 pub mod RangeLemmas
+pub mod TallyLemmas
+pub mod CountLemmas

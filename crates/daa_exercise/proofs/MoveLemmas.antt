@@ -9,7 +9,7 @@ use Rattle.daa_state.specs.declared.word.Picture.{Picture}
 use Rattle.daa_exercise.specs.Drawing.{after}
 use Rattle.daa_exercise.specs.Moments.{aircraft_counts, own_tracks, own_ground_speeds, own_altitudes, drawn_vertical_speeds, drawn_positions, heights_above, drawn_speeds, name_of, own_at, count_at, aircraft_at, traffic_at, moment_at, draws_at, begin_of, moment_of}
 use Rattle.daa_exercise.specs.Words.{Words, words_from, picked}
-use Rattle.daa_exercise.proofs.DrawLemmas.{own_of, aircraft_of, words_after, after_after, next_after}
+use Rattle.daa_exercise.proofs.DrawLemmas.{own_of, aircraft_of, words_after, none_after, after_after, next_after}
 
 module _ (word : Words) (m : ℕ) where
   abbrev left : Words
@@ -134,3 +134,8 @@ traffic_more g d e altitude i items all aircraft at rest before is pushed =
       ∙ sym (map-range_with_len_more (λ j. aircraft_at (words_from g) altitude (j + 1) (0 + 6 * j)) 0 i i (zero-add i)),
       rest ∙ ap (after 6) at ∙ after_after (6 * i) 6 g ∙ ap (λ (n : ℕ). after n g) count,
     )
+
+-- nothing is drawn before the first moment
+pub first_is : (g d : Lcg) → d ≡ g → d ≡ after (begin_of (words_from g) 0) g
+unfolding begin_of
+first_is g d e = e ∙ sym (none_after g)
