@@ -88,7 +88,11 @@ alerts_few s p in' levels has = let e = AllZip-long (IsAlertLevel s p.own) (airc
 pub shown_few : (s : Settings) (p : Picture) (kind : Kind) → IsAccepted s → (levels : List ℕ) → HasShown s p kind levels → length levels ≤ 512
 shown_few s p kind ok levels has = let e = has.each in let n = length-values kind s in let few = few_of_kind s kind ok in omega (arith, e, n, few)
 
-aircraft_next : (word : Words) (count : ℕ) → aircraft_in word (count + 1) ≡ aircraft_in word count + length (aircraft_of (moment_of word count))
+pub aircraft_none : (word : Words) → aircraft_in word 0 ≡ 0
+unfolding aircraft_in
+aircraft_none word = refl
+
+pub aircraft_next : (word : Words) (count : ℕ) → aircraft_in word (count + 1) ≡ aircraft_in word count + length (aircraft_of (moment_of word count))
 unfolding aircraft_in
 aircraft_next word count = sum_by-map-range_with_len_more (λ (n : ℕ). n) (λ time. length (aircraft_of (moment_of word time))) 0 count count (zero-add count)
 

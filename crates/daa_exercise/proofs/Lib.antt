@@ -3,3 +3,5 @@ pub mod MoveLemmas
 pub mod RangeLemmas
 pub mod TallyLemmas
 pub mod CountLemmas
+pub mod SumLemmas
+pub mod OneLemmas
