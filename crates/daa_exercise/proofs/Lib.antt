@@ -5,3 +5,4 @@ pub mod TallyLemmas
 pub mod CountLemmas
 pub mod SumLemmas
 pub mod OneLemmas
+pub mod ExampleLemmas

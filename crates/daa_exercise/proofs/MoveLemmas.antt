@@ -47,9 +47,9 @@ module _ (word : Words) (m : ℕ) where
   moment_moved time at =
       let own = own_moved at in
       let traffic = traffic_moved (own_at left at).alt (count_at left at) (at + 5)
-          ∙ ap (λ (o : Own). traffic_at word o.alt (count_at left at) (m + (at + 5))) own
-          ∙ ap (λ (n : ℕ). traffic_at word (own_at word (m + at)).alt n (m + (at + 5))) (count_moved at)
-          ∙ ap (traffic_at word (own_at word (m + at)).alt (count_at word (m + at))) (sym (add_assoc m at 5)) in
+      ∙ ap (λ (o : Own). traffic_at word o.alt (count_at left at) (m + (at + 5))) own
+      ∙ ap (λ (n : ℕ). traffic_at word (own_at word (m + at)).alt n (m + (at + 5))) (count_moved at)
+      ∙ ap (traffic_at word (own_at word (m + at)).alt (count_at word (m + at))) (sym (add_assoc m at 5)) in
       λ i. record { time = time; own = own i; traffic = record { items = traffic i } }
 
 abbrev pub picture_of : ℕ → Own → List Traffic → Picture
@@ -86,7 +86,7 @@ next_is g d e time picture at is rest =
     let b = begin_of (words_from g) time in (
       is ∙ ap (λ (x : Lcg). moment_at (words_from x) time 0) at ∙ moment_after g b time,
       rest ∙ ap (λ (x : Lcg). after (draws_at (words_from x) 0) x) at ∙ ap (λ (n : ℕ). after n (after b g)) (draws_after g b) ∙ after_after b (draws_at (words_from g) b) g
-      ∙ ap (λ (n : ℕ). after n g) (next time),
+          ∙ ap (λ (n : ℕ). after n g) (next time),
     )
   where
     next : (time : ℕ) → begin_of (words_from g) time + draws_at (words_from g) (begin_of (words_from g) time) ≡ begin_of (words_from g) (time + 1)
@@ -106,8 +106,8 @@ moment_drawn g g1 g2 g3 time count own items e1 e2 e3 is_own is_count is_traffic
     let at : g2 ≡ after 5 g = next_after 4 g g1 g2 e1 e2 in
     let n = count_drawn g g1 count e1 is_count in
     let traffic = is_traffic ∙ ap (λ (x : Lcg). traffic_at (words_from x) own.alt count 0) at
-        ∙ ap (λ (w : Words). traffic_at w own.alt count 0) (left_after g 5) ∙ traffic_moved (words_from g) 5 own.alt count 0
-        ∙ ap₂ (λ (o : Own) (c : ℕ). traffic_at (words_from g) o.alt c 5) is_own n in (
+    ∙ ap (λ (w : Words). traffic_at w own.alt count 0) (left_after g 5) ∙ traffic_moved (words_from g) 5 own.alt count 0
+    ∙ ap₂ (λ (o : Own) (c : ℕ). traffic_at (words_from g) o.alt c 5) is_own n in (
       (λ i. picture_of time (is_own i) (traffic i)),
       e3 ∙ ap (after (6 * count)) at ∙ after_after 5 (6 * count) g ∙ ap (λ (c : ℕ). after (5 + 6 * c) g) n,
     )
@@ -128,10 +128,10 @@ pub traffic_more : (g d e : Lcg) (altitude : ℤ) (i : ℕ) (items all : List Tr
 unfolding traffic_at
 traffic_more g d e altitude i items all aircraft at rest before is pushed =
     let here : aircraft ≡ aircraft_at (words_from g) altitude (i + 1) (0 + 6 * i) = is ∙ ap (λ (x : Lcg). aircraft_at (words_from x) altitude (i + 1) 0) at ∙ aircraft_after g (6 * i) altitude (i + 1)
-        ∙ ap (aircraft_at (words_from g) altitude (i + 1)) (sym (zero-add (6 * i))) in
+    ∙ ap (aircraft_at (words_from g) altitude (i + 1)) (sym (zero-add (6 * i))) in
     let count : 6 * i + 6 ≡ 6 * (i + 1) = omega arith in (
       pushed ∙ ap₂ (λ (xs : List Traffic) (x : Traffic). xs ++ x ∷ []) before here
-      ∙ sym (map-range_with_len_more (λ j. aircraft_at (words_from g) altitude (j + 1) (0 + 6 * j)) 0 i i (zero-add i)),
+          ∙ sym (map-range_with_len_more (λ j. aircraft_at (words_from g) altitude (j + 1) (0 + 6 * j)) 0 i i (zero-add i)),
       rest ∙ ap (after 6) at ∙ after_after (6 * i) 6 g ∙ ap (λ (n : ℕ). after n g) count,
     )
 

@@ -25,4 +25,4 @@ IsSummaryOf settings seed moments text =
     × AreLevels (HasAlerts settings) (words_of seed) moments alerts
     × ((kind : Kind) → AreLevels (λ picture. HasShown settings picture kind) (words_of seed) moments (shown kind))
     × (text ≡ summary_text seed moments (aircraft_in (words_of seed) moments)
-        (counts_of (length settings.levels) alerts) (λ kind. counts_of (length settings.levels) (shown kind)))
+    (counts_of (length settings.levels) alerts) (λ kind. counts_of (length settings.levels) (shown kind)))

@@ -73,15 +73,7 @@ fn expect_summary<R: Abort + Threads + Sync + AllocGlobal>(
 {
     let mut engine = engine_of(rt, text)?;
     let mut out = sink(rt.alloc(), 512, &[], &[])?;
-    let said = exercise(
-        &mut engine,
-        rt,
-        rt.alloc(),
-        seed,
-        moments,
-        &mut out,
-        &Open,
-    );
+    let said = exercise(&mut engine, rt, rt.alloc(), seed, moments, &mut out, &Open);
     assert_eq!(rt; said, Ok(()));
     assert_eq!(rt; out.taken(), summary.as_bytes());
     Ok(())
@@ -144,4 +136,5 @@ fn laws_can_be_called() {
     every_exercise_has_one_summary();
     drawn_moments_are_in_range();
     counts_add_up();
+    worked_examples();
 }

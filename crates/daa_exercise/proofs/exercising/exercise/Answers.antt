@@ -32,7 +32,7 @@ loop-time-preserved g c =
     let before = ap (λ (e : Machine). e.settings) c.loop-time.invariant.kept in
     let same = ap (λ (e : Machine). e.settings) c.decide.ensures.kept in
     let next = next_is (generator_of c.args.seed) c.loop-time.draws c.next_moment-picture.new.self c.loop-time.time c.next_moment-picture.result
-        c.loop-time.invariant.drawn c.next_moment-picture.ensures.value c.next_moment-picture.ensures.rest in record {
+    c.loop-time.invariant.drawn c.next_moment-picture.ensures.value c.next_moment-picture.ensures.rest in record {
       kept = search rules;
       drawn = next.1;
       counted = all_next c.args.engine.now.settings (words_of c.args.seed) c.config.ensures.accepted c.loop-time.time c.next_moment-picture.result c.loop-time.counts

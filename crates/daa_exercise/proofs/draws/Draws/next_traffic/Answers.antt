@@ -19,5 +19,5 @@ push-requires c =
 pub loop-i-preserved : goal.loop-i-preserved
 loop-i-preserved c =
     let more = traffic_more c.args.self.now c.loop-i.self c.next_aircraft.new.self c.args.own.now.alt c.loop-i.i c.loop-i.traffic.items c.push.new.self.items c.next_aircraft.result
-        c.loop-i.invariant.rest c.next_aircraft.ensures.rest c.loop-i.invariant.items c.next_aircraft.ensures.value c.push.ensures.items in
+    c.loop-i.invariant.rest c.next_aircraft.ensures.rest c.loop-i.invariant.items c.next_aircraft.ensures.value c.push.ensures.items in
     record { items = more.0; rest = more.1 }
