@@ -1,15 +1,15 @@
 -- How far the levels of an exercise are counted.
-use Rattle.std.specs.Prelude.{◌≡◌, ◌+◌, ◌*◌, ◌≤◌, ℕ, List, [], ◌∷◌, ◌++◌, length, slice_index, take, codes}
+use Rattle.std.specs.Prelude.{◌≡◌, ◌+◌, ◌*◌, ◌≤◌, ℕ, List, [], ◌∷◌, ◌++◌, length, slice_index, take}
 use Rattle.daa_config.specs.Settings.{Settings}
 use Rattle.daa_config.specs.declared.kind.Kind.{Kind}
 use Rattle.daa_config.specs.declared.kind.Kind.TheVariants.{Track, Speed, Climb, Height}
 use Rattle.daa_state.specs.Picture.{aircraft_of}
 use Rattle.daa_state.specs.declared.word.Picture.{Picture}
 use Rattle.daa_bands.specs.Board.{mask_levels}
-use Rattle.daa_report.specs.Lines.{Text, kind_word, numbers_line}
-use Rattle.daa_engine.specs.MomentText.{of_each}
+use Rattle.daa_report.specs.Lines.{Text}
 use Rattle.daa_exercise.specs.Words.{Words}
 use Rattle.daa_exercise.specs.Levels.{HasAlerts, HasShown, AreLevels, aircraft_in, counts_of}
+use Rattle.daa_exercise.specs.Summary.{summary_text}
 use Rattle.daa_exercise.specs.declared.counting.Counts.{Counts}
 
 -- ---- a tally
@@ -71,10 +71,6 @@ tally_of counts Speed = counts.speed
 tally_of counts Climb = counts.climb
 tally_of counts Height = counts.height
 
-unfoldable pub written : (seed moments top : ℕ) → Counts → Text
+abbrev pub written : (seed moments top : ℕ) → Counts → Text
 written seed moments top counts =
-    numbers_line (codes "exercise") (seed ∷ moments ∷ [])
-    ++ (numbers_line (codes "aircraft") (counts.aircraft ∷ [])
-    ++ (numbers_line (codes "alert") (take (top + 1) counts.alerts)
-    ++ (of_each (λ kind. numbers_line (kind_word kind) (take (top + 1) (tally_of counts kind)))
-    ++ numbers_line (codes "done") [])))
+    summary_text seed moments counts.aircraft (take (top + 1) counts.alerts) (λ kind. take (top + 1) (tally_of counts kind))

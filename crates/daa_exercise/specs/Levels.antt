@@ -1,6 +1,6 @@
 -- The levels that all moments of an exercise have, and how often each came.
 use Rattle.std.specs.Prelude.{◌≡◌, ◌==◌, ◌+◌, ℕ, zero, suc, List, [], ◌++◌, length, map}
-use Rattle.std.specs.List.{AllZip, count_by, range_with_len, sum_by}
+use Rattle.std.specs.List.{AllZip, count_by, range_with_len, sum}
 use Rattle.daa_config.specs.Settings.{Settings}
 use Rattle.daa_config.specs.declared.kind.Kind.{Kind}
 use Rattle.daa_state.specs.Picture.{aircraft_of}
@@ -31,8 +31,8 @@ AreLevels Has word (suc count) levels =
     (before : List ℕ) × (here : List ℕ) × AreLevels Has word count before × Has (moment_of word count) here × (levels ≡ before ++ here)
 
 -- how many aircraft there are in so many moments
-abbrev pub aircraft_in : Words → ℕ → ℕ
-aircraft_in word count = sum_by (λ time. length (aircraft_of (moment_of word time))) (range_with_len 0 count)
+unfoldable pub aircraft_in : Words → ℕ → ℕ
+aircraft_in word count = sum (map (λ time. length (aircraft_of (moment_of word time))) (range_with_len 0 count))
 
 -- ---- counting
 
@@ -41,5 +41,5 @@ abbrev pub times : List ℕ → ℕ → ℕ
 times levels level = count_by (λ other. other == level) levels
 
 -- how often each level stands among them, from 0 up to the top one
-abbrev pub counts_of : ℕ → List ℕ → List ℕ
+unfoldable pub counts_of : ℕ → List ℕ → List ℕ
 counts_of top levels = map (times levels) (range_with_len 0 (top + 1))

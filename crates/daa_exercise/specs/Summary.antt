@@ -7,14 +7,14 @@ use Rattle.daa_engine.specs.MomentText.{of_each}
 use Rattle.daa_exercise.specs.Words.{words_of}
 use Rattle.daa_exercise.specs.Levels.{HasAlerts, HasShown, AreLevels, aircraft_in, counts_of}
 
--- the seed and the number of moments, how many aircraft there were, how often each level from 0 up to the top one was an
--- aircraft's alert level, and how often it was the shown level of a candidate of each kind
-unfoldable pub summary_text : (seed moments aircraft top : ℕ) → (alerts : List ℕ) → (shown : Kind → List ℕ) → Text
-summary_text seed moments aircraft top alerts shown =
+-- the lines of a summary: the seed and the number of moments; how many aircraft there were; how often each level, from 0 up
+-- to the top one, was an aircraft's alert level; and how often it was the shown level of a candidate of each kind
+unfoldable pub summary_text : (seed moments aircraft : ℕ) → (alerts : List ℕ) → (shown : Kind → List ℕ) → Text
+summary_text seed moments aircraft alerts shown =
     numbers_line (codes "exercise") (seed ∷ moments ∷ [])
     ++ (numbers_line (codes "aircraft") (aircraft ∷ [])
-    ++ (numbers_line (codes "alert") (counts_of top alerts)
-    ++ (of_each (λ kind. numbers_line (kind_word kind) (counts_of top (shown kind)))
+    ++ (numbers_line (codes "alert") alerts
+    ++ (of_each (λ kind. numbers_line (kind_word kind) (shown kind))
     ++ numbers_line (codes "done") [])))
 
 -- the summary of so many moments of a seed under a configuration: over the alert levels of all aircraft of all moments, and
@@ -24,4 +24,5 @@ IsSummaryOf settings seed moments text =
     (alerts : List ℕ) × (shown : Kind → List ℕ)
     × AreLevels (HasAlerts settings) (words_of seed) moments alerts
     × ((kind : Kind) → AreLevels (λ picture. HasShown settings picture kind) (words_of seed) moments (shown kind))
-    × (text ≡ summary_text seed moments (aircraft_in (words_of seed) moments) (length settings.levels) alerts shown)
+    × (text ≡ summary_text seed moments (aircraft_in (words_of seed) moments)
+    (counts_of (length settings.levels) alerts) (λ kind. counts_of (length settings.levels) (shown kind)))

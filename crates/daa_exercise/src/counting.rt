@@ -7,7 +7,7 @@ ghost use Rattle.daa_state.specs.InRange.{IsPictureInRange};
 ghost use Rattle.daa_exercise.specs.Counting.{Adds, AreCounted, CountsPicture, HasRoom, IsRoomy};
 ghost use Rattle.daa_exercise.specs.Levels.{HasAlerts};
 ghost use Rattle.daa_exercise.specs.Words.{Words};
-ghost use Rattle.daa_config.specs.Settings.{Settings};
+ghost use Rattle.daa_config.specs.Settings.{IsAccepted, Settings};
 
 use crate::tally::Tally;
 use daa_config::Kind;
@@ -28,6 +28,7 @@ pub(crate) struct Counts {
 
 impl Counts {
     /// No moment is counted.
+    #[tactic(auto, unfolding(crate::specs::Levels::aircraft_in))]
     pub(crate) fn new() -> Counts
         ensures { (settings : Settings) (word : Words) → AreCounted settings word 0 result }
     {
@@ -43,6 +44,7 @@ impl Counts {
 
     /// Counts a moment that the engine has just decided.
     pub(crate) fn add(&mut self, engine: &Engine, picture: &Picture)
+        requires accepted { IsAccepted engine.now.settings }
         requires picture { IsPictureInRange picture.now }
         requires board { IsBoardOf (CoveredAt engine.now.settings picture.now) engine.now.settings engine.now.board }
         requires room { IsRoomy self.old }
@@ -59,11 +61,11 @@ impl Counts {
 
 /// Counts the alert levels of a picture's aircraft.
 fn count_alerts(tally: &mut Tally, engine: &Engine, picture: &Picture)
+    requires accepted { IsAccepted engine.now.settings }
     requires picture { IsPictureInRange picture.now }
     requires room { HasRoom 64 tally.old }
     ensures { Adds (HasAlerts engine.now.settings picture.now) tally.old tally.new }
 {
-    let _levels = engine.config().levels();
     for place in 0..picture.traffic.len() {
         tally.add(engine.alert_of(picture, place).level);
     }
@@ -74,8 +76,9 @@ fn count_shown(tally: &mut Tally, engine: &Engine, kind: Kind)
     requires { HasRoom 512 tally.old }
     ensures { Adds (AreShown (HasLevelOn engine.now.board) mask_levels engine.now.settings kind) tally.old tally.new }
 {
-    let start = engine.config().start(kind);
-    for place in 0..engine.config().count(kind) {
+    let config = engine.config();
+    let start = config.start(kind);
+    for place in 0..config.count(kind) {
         tally.add(engine.board().shown(start + place));
     }
 }

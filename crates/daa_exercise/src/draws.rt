@@ -70,6 +70,7 @@ impl Model for Draws {
 
 impl Draws {
     /// The words of a seed.
+    #[tactic(auto, unfolding(crate::specs::Words::generator_of))]
     pub(crate) fn of(seed: u32) -> Draws
         ensures { result ≡ generator_of seed }
     {

@@ -1,13 +1,15 @@
 //! Laws of the definitions, each the contract of a function that does nothing.
-ghost use Rattle.std.specs.Prelude.{◌≡◌, ◌*◌, ℕ, List, length, sum};
+ghost use Rattle.std.specs.Prelude.{◌≡◌, ◌*◌, ◌∷◌, [], ℕ, List, codes, length, neg_ℤ, pos, sum};
+ghost use Rattle.rand_core.specs.Steps.{first_words};
+ghost use Rattle.rand_pcg.specs.Pcg.{pcg32};
 ghost use Rattle.daa_config.specs.Candidates.{values_of};
 ghost use Rattle.daa_config.specs.Settings.{IsAccepted, Settings};
 ghost use Rattle.daa_config.specs.declared.kind.Kind.{Kind};
 ghost use Rattle.daa_state.specs.InRange.{IsPictureInRange};
 ghost use Rattle.daa_exercise.specs.Levels.{AreLevels, HasAlerts, HasShown, aircraft_in, counts_of};
-ghost use Rattle.daa_exercise.specs.Moments.{moment_of};
+ghost use Rattle.daa_exercise.specs.Moments.{aircraft_at, begin_of, moment_of, own_at};
 ghost use Rattle.daa_exercise.specs.OneSummary.{HasOneSummary};
-ghost use Rattle.daa_exercise.specs.Words.{Words, words_of};
+ghost use Rattle.daa_exercise.specs.Words.{Words, generator_of, words_of};
 
 /// Under a configuration that is accepted exactly one text is the summary of a seed and a number of moments. This holds of
 /// the definitions alone, whatever a program does.
@@ -27,4 +29,15 @@ pub fn counts_add_up()
         → sum (counts_of (length s.levels) levels) ≡ aircraft_in word moments }
     ensures shown { (s : Settings) (kind : Kind) (word : Words) (moments : ℕ) (levels : List ℕ) → AreLevels (λ picture. HasShown s picture kind) word moments levels
         → sum (counts_of (length s.levels) levels) ≡ moments * length (values_of kind s) }
+{}
+
+/// Worked examples: the first words of the seed 7, its first ownship and first aircraft, the draws before its second moment,
+/// and levels that are counted.
+pub fn worked_examples()
+    ensures words { first_words pcg32 3 (generator_of 7) ≡ 2442223337 ∷ 414063806 ∷ 2743600285 ∷ [] }
+    ensures third { words_of 7 2 ≡ 2743600285 }
+    ensures own { own_at (words_of 7) 0 ≡ record { x = pos 0; y = pos 0; alt = pos 1232; trk = pos 86; gs = pos 2732; vs = pos 1808 } }
+    ensures aircraft { aircraft_at (words_of 7) (pos 1232) 1 5 ≡ record { id = codes "A1"; x = pos 4580; y = pos 474; alt = pos 1225; vx = neg_ℤ (pos 2328); vy = neg_ℤ (pos 127); vs = neg_ℤ (pos 1150); age = 0 } }
+    ensures second { begin_of (words_of 7) 1 ≡ 23 }
+    ensures counts { counts_of 3 (0 ∷ 3 ∷ 0 ∷ 1 ∷ []) ≡ 2 ∷ 1 ∷ 0 ∷ 1 ∷ [] }
 {}

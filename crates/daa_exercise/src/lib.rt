@@ -11,4 +11,6 @@ mod tally;
 mod tests;
 
 pub use exercising::exercise;
-pub use laws::{counts_add_up, drawn_moments_are_in_range, every_exercise_has_one_summary};
+pub use laws::{
+    counts_add_up, drawn_moments_are_in_range, every_exercise_has_one_summary, worked_examples,
+};

@@ -11,7 +11,7 @@ use daa_config::Kind;
 use daa_report::{Line, kind_word};
 
 /// The summary of a seed and so many moments, with the counts of the levels up to the top one, which is at most 4.
-#[tactic(auto, unfolding(crate::specs::Counting::written))]
+#[tactic(auto, unfolding(crate::specs::Summary::summary_text))]
 pub(crate) fn summary(seed: u32, moments: u32, top: u32, counts: &Counts) -> ArrayVec<u8, 512>
     requires { top ≤ 4 }
     ensures { result.items ≡ written seed moments top counts.now }

@@ -25,6 +25,7 @@ impl Model for Tally {
 
 impl Tally {
     /// No level came.
+    #[tactic(auto, unfolding(crate::specs::Levels::counts_of))]
     pub(crate) fn new() -> Tally
         ensures { result ≡ counts_of mask_levels [] }
     {
@@ -34,6 +35,7 @@ impl Tally {
     }
 
     /// Counts a level once more.
+    #[tactic(auto, unfolding(crate::specs::Levels::counts_of))]
     pub(crate) fn add(&mut self, level: u8)
         requires level { level ≤ mask_levels }
         requires room { HasRoom 1 self.old }

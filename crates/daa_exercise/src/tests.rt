@@ -1,1 +1,140 @@
-//! Exercises whose summary was found by another program.
+//! Exercises whose draws and summary another program found from the definitions.
+
+ghost use Rattle.std.specs.Prelude.{◌≤◌};
+
+mod texts;
+
+use super::*;
+use crate::draws::Draws;
+use daa_config::read;
+use daa_engine::Engine;
+use daa_outside::{MemSink, Open};
+use daa_report::SinkFault;
+use daa_state::{Id, Own, Picture, Traffic};
+use std::alloc::Global;
+use std::process::Abort;
+use std::test::Fail;
+use std::thread::Threads;
+use texts::{EXAMPLE, SMALL};
+
+/// Three levels, twenty moments.
+const TWENTY: &str = "exercise 7 20
+aircraft 69
+alert 68 0 0 1
+track 1290 17 0 133
+gs 1254 0 0 66
+vs 1893 3 2 122
+alt 1919 0 0 101
+done
+";
+
+/// One level, three moments.
+const THREE: &str = "exercise 1 3
+aircraft 7
+alert 6 1
+track 8 4
+gs 2 1
+vs 2 1
+alt 2 1
+done
+";
+
+/// The aircraft of the first moment of the seed 7.
+static FIRST: [(&str, [i32; 6]); 3] = [
+    ("A1", [4580, 474, 1225, -2328, -127, -1150]),
+    ("A2", [-5597, -3793, 2769, -4166, 3871, 1905]),
+    ("A3", [-3555, 665, 878, -3236, -764, -1033]),
+];
+
+fn engine_of(rt: &(impl AllocGlobal + Abort), text: &str) -> Result<Engine, Fail> {
+    let config = read(rt.alloc(), text.as_bytes())?;
+    Ok(Engine::new(rt.alloc(), config, 1)?)
+}
+
+/// A sink with so much room, which takes pieces of these sizes and fails at these calls.
+fn sink(alloc: Global, room: usize, pieces: &[usize], fails: &[u64]) -> Result<MemSink, Fail> {
+    Ok(MemSink::over(
+        vec![in alloc; 0; room]?,
+        pieces.to_vec(alloc)?,
+        fails.to_vec(alloc)?,
+    ))
+}
+
+/// The exercise of the seed has this summary.
+fn expect_summary<R: Abort + Threads + Sync + AllocGlobal>(
+    rt: &R,
+    text: &str,
+    seed: u32,
+    moments: u32,
+    summary: &str,
+) -> Result<(), Fail>
+    requires some { 1 ≤ moments }
+    requires few { moments ≤ 10000 }
+{
+    let mut engine = engine_of(rt, text)?;
+    let mut out = sink(rt.alloc(), 512, &[], &[])?;
+    let said = exercise(&mut engine, rt, rt.alloc(), seed, moments, &mut out, &Open);
+    assert_eq!(rt; said, Ok(()));
+    assert_eq!(rt; out.taken(), summary.as_bytes());
+    Ok(())
+}
+
+#[test]
+fn twenty_moments_of_three_levels(rt: HostRuntime) -> Result<(), Fail> {
+    expect_summary(&rt, EXAMPLE, 7, 20, TWENTY)
+}
+
+#[test]
+fn three_moments_of_one_level(rt: HostRuntime) -> Result<(), Fail> {
+    expect_summary(&rt, SMALL, 1, 3, THREE)
+}
+
+/// The numbers that the first moment of a seed draws, in their order.
+#[test]
+fn the_first_moment_of_a_seed(rt: HostRuntime) {
+    let picture = Draws::of(7).next_moment(0);
+    let own = Own {
+        x: 0,
+        y: 0,
+        alt: 1232,
+        trk: 86,
+        gs: 2732,
+        vs: 1808,
+    };
+    assert!(rt; picture.time == 0 && picture.own == own);
+    assert!(rt; picture.traffic.len() == FIRST.len());
+    for (aircraft, (name, numbers)) in picture.traffic.as_slice().iter().zip(FIRST.iter()) {
+        let [x, y, alt, vx, vy, vs] = *numbers;
+        let id = Id::of(name.as_bytes()).expect(&rt, "an identifier");
+        let expected = Traffic {
+            id,
+            x,
+            y,
+            alt,
+            vx,
+            vy,
+            vs,
+            age: 0,
+        };
+        assert!(rt; *aircraft == expected, "{name}");
+    }
+}
+
+/// What a sink took before it failed is a beginning of the summary.
+#[test]
+fn a_sink_that_fails(rt: HostRuntime) -> Result<(), Fail> {
+    let mut engine = engine_of(&rt, SMALL)?;
+    let mut out = sink(rt.alloc(), 512, &[7, 7], &[2])?;
+    let said = exercise(&mut engine, &rt, rt.alloc(), 1, 3, &mut out, &Open);
+    assert_eq!(rt; said, Err(SinkFault));
+    assert_eq!(rt; out.taken(), &THREE.as_bytes()[..14]);
+    Ok(())
+}
+
+#[test]
+fn laws_can_be_called() {
+    every_exercise_has_one_summary();
+    drawn_moments_are_in_range();
+    counts_add_up();
+    worked_examples();
+}

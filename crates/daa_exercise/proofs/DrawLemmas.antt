@@ -1,0 +1,119 @@
+-- What is drawn one word after another is what the words say by their places.
+use Rattle.std.proofs.Common.{◌≡◌, ◌∙◌, ◌+◌, ◌%◌, ◌<◌, ◌≤◌, ℕ, zero, suc, ℤ, pos, ◌+ℤ◌, ◌-ℤ◌, ◌≤ℤ◌, neg_ℤ, nat_abs, List, FitsSigned, w32, refl, sym, ap, arith, suc-add, zero-add}
+use Rattle.std.proofs.lemmas.Int.{ints, to_z_pos, to_z-of_z}
+use mir.Val.{to_z, of_z}
+use Rattle.rand_pcg.specs.Lcg.{Lcg, next_state, state_after}
+use Rattle.rand_pcg.specs.Pcg.{multiplier_64, pcg32}
+use Rattle.daa_state.specs.Ranges.{Range}
+use Rattle.daa_exercise.specs.Words.{words_from, picked}
+use Rattle.daa_exercise.specs.Drawing.{after}
+use Rattle.daa_exercise.specs.Moments.{own_altitudes, own_tracks, own_ground_speeds, drawn_vertical_speeds, drawn_positions, heights_above, drawn_speeds, own_at, aircraft_at, name_of}
+use Rattle.daa_state.specs.declared.word.Own.{Own}
+use Rattle.daa_state.specs.declared.word.Traffic.{Traffic}
+
+-- ---- the generator
+
+pub first_word : (g : Lcg) → words_from g 0 ≡ (pcg32 g).0
+unfolding words_from state_after
+first_word g = refl
+
+pub one_after : (g : Lcg) → after 1 g ≡ (pcg32 g).1
+unfolding after state_after
+one_after g = refl
+
+pub none_after : (g : Lcg) → after 0 g ≡ g
+unfolding after state_after
+none_after g = refl
+
+state_more : (i m n s : ℕ) → state_after 64 multiplier_64 i n (state_after 64 multiplier_64 i m s) ≡ state_after 64 multiplier_64 i (m + n) s
+unfolding state_after
+state_more i zero n s = ap (λ (k : ℕ). state_after 64 multiplier_64 i k s) (sym (zero-add n))
+state_more i (suc m) n s =
+    state_more i m n (next_state 64 multiplier_64 i s) ∙ ap (λ (k : ℕ). state_after 64 multiplier_64 i k s) (sym (suc-add m n))
+
+pub after_after : (m n : ℕ) (g : Lcg) → after n (after m g) ≡ after (m + n) g
+unfolding after
+after_after m n g = ap (λ (s : ℕ). let x : Lcg = record { state = s; increment = g.increment } in x) (state_more g.increment m n g.state)
+
+pub words_after : (m k : ℕ) (g : Lcg) → words_from (after m g) k ≡ words_from g (m + k)
+unfolding words_from after
+words_after m k g = ap (λ (s : ℕ). let x : Lcg = record { state = s; increment = g.increment } in (pcg32 x).0) (state_more g.increment m k g.state)
+
+-- ---- a number that a word picks
+
+abbrev kept : ℤ → ℤ
+kept z = to_z w32 (of_z w32 z)
+
+pub computed : (low high : ℤ) (word : ℕ) → low ≤ℤ high → (high -ℤ low) ≤ℤ pos 2147483646 → FitsSigned w32 low → FitsSigned w32 high
+    → kept (kept low +ℤ to_z w32 (word % (nat_abs (kept (kept high -ℤ kept low)) + 1))) ≡ low +ℤ pos (word % (nat_abs (high -ℤ low) + 1))
+computed low high word ordered short fl fh =
+    let fd : FitsSigned w32 (high -ℤ low) = omega (arith, ints) in
+    let d : kept (kept high -ℤ kept low) ≡ high -ℤ low = rw (to_z-of_z w32 low fl, to_z-of_z w32 high fh) (to_z-of_z w32 _ fd) in
+    let few : nat_abs (high -ℤ low) + 1 ≤ 2147483647 = omega (arith, ints) in
+    let left : word % (nat_abs (high -ℤ low) + 1) < nat_abs (high -ℤ low) + 1 = omega arith in
+    let n : to_z w32 (word % (nat_abs (high -ℤ low) + 1)) ≡ pos (word % (nat_abs (high -ℤ low) + 1)) = to_z_pos w32 _ (omega (arith, few, left)) in
+    let f : FitsSigned w32 (low +ℤ pos (word % (nat_abs (high -ℤ low) + 1))) = within low high (word % (nat_abs (high -ℤ low) + 1)) left fl fh ordered in
+    rw (d, n, to_z-of_z w32 low fl) (to_z-of_z w32 _ f)
+  where
+    within : (low high : ℤ) (x : ℕ) → x < nat_abs (high -ℤ low) + 1 → FitsSigned w32 low → FitsSigned w32 high → low ≤ℤ high → FitsSigned w32 (low +ℤ pos x)
+    within low high x lt fl fh ordered = omega (arith, ints)
+
+-- the word of a call is the first of what is left, and what is left then is left after one
+pub first_is : (g h : Lcg) (word : ℕ) → (word, h) ≡ pcg32 g → word ≡ words_from g 0
+first_is g h word e = ap (λ (p : ℕ × Lcg). p.0) e ∙ sym (first_word g)
+
+pub rest_is : (g h : Lcg) (word : ℕ) → (word, h) ≡ pcg32 g → h ≡ after 1 g
+rest_is g h word e = ap (λ (p : ℕ × Lcg). p.1) e ∙ sym (one_after g)
+
+-- ---- one draw after another
+
+-- what is left after one word more
+pub next_after : (k : ℕ) (g h i : Lcg) → h ≡ after k g → i ≡ after 1 h → i ≡ after (k + 1) g
+next_after k g h i e f = f ∙ ap (after 1) e ∙ after_after k 1 g
+
+-- what the next word picks is what the word at that place picks
+pub picks_at : (k : ℕ) (g h : Lcg) (range : Range) (z : ℤ) → h ≡ after k g → z ≡ picked range (words_from h 0) → z ≡ picked range (words_from g (k + 0))
+picks_at k g h range z e f = f ∙ ap (λ (x : Lcg). picked range (words_from x 0)) e ∙ ap (picked range) (words_after k 0 g)
+
+abbrev pub own_of : (x y alt trk gs vs : ℤ) → Own
+own_of x y alt trk gs vs = record { x = x; y = y; alt = alt; trk = trk; gs = gs; vs = vs }
+
+-- the ownship of four draws
+pub own_drawn : (g g1 g2 g3 g4 : Lcg) (alt trk gs vs : ℤ) → g1 ≡ after 1 g → g2 ≡ after 1 g1 → g3 ≡ after 1 g2 → g4 ≡ after 1 g3
+    → alt ≡ picked own_altitudes (words_from g 0) → trk ≡ picked own_tracks (words_from g1 0) → gs ≡ picked own_ground_speeds (words_from g2 0)
+    → vs ≡ picked drawn_vertical_speeds (words_from g3 0)
+    → (own_of (pos 0) (pos 0) alt trk gs vs ≡ own_at (words_from g) 0) × (g4 ≡ after 4 g)
+unfolding own_at
+own_drawn g g1 g2 g3 g4 alt trk gs vs e1 e2 e3 e4 h1 h2 h3 h4 =
+    let a2 = next_after 1 g g1 g2 e1 e2 in
+    let a3 = next_after 2 g g2 g3 a2 e3 in
+    let k2 = picks_at 1 g g1 own_tracks trk e1 h2 in
+    let k3 = picks_at 2 g g2 own_ground_speeds gs a2 h3 in
+    let k4 = picks_at 3 g g3 drawn_vertical_speeds vs a3 h4 in
+    ((λ i. own_of (pos 0) (pos 0) (h1 i) (k2 i) (k3 i) (k4 i)), next_after 3 g g3 g4 a3 e4)
+
+pub fits_above : (altitude above : ℤ) → pos 0 ≤ℤ altitude → altitude ≤ℤ pos 20000 → neg_ℤ (pos 2000) ≤ℤ above → above ≤ℤ pos 2000
+    → FitsSigned w32 (altitude +ℤ above)
+fits_above altitude above low high least most = omega (arith, ints)
+
+abbrev pub aircraft_of : List ℕ → (x y alt vx vy vs : ℤ) → Traffic
+aircraft_of id x y alt vx vy vs = record { id = id; x = x; y = y; alt = alt; vx = vx; vy = vy; vs = vs; age = 0 }
+
+-- the aircraft of six draws
+pub aircraft_drawn : (g g1 g2 g3 g4 g5 g6 : Lcg) (altitude : ℤ) (number : ℕ) (id : List ℕ) (x y above vx vy vs : ℤ)
+    → g1 ≡ after 1 g → g2 ≡ after 1 g1 → g3 ≡ after 1 g2 → g4 ≡ after 1 g3 → g5 ≡ after 1 g4 → g6 ≡ after 1 g5 → id ≡ name_of number
+    → x ≡ picked drawn_positions (words_from g 0) → y ≡ picked drawn_positions (words_from g1 0) → above ≡ picked heights_above (words_from g2 0)
+    → vx ≡ picked drawn_speeds (words_from g3 0) → vy ≡ picked drawn_speeds (words_from g4 0) → vs ≡ picked drawn_vertical_speeds (words_from g5 0)
+    → (aircraft_of id x y (altitude +ℤ above) vx vy vs ≡ aircraft_at (words_from g) altitude number 0) × (g6 ≡ after 6 g)
+unfolding aircraft_at
+aircraft_drawn g g1 g2 g3 g4 g5 g6 altitude number id x y above vx vy vs e1 e2 e3 e4 e5 e6 n h1 h2 h3 h4 h5 h6 =
+    let a2 = next_after 1 g g1 g2 e1 e2 in
+    let a3 = next_after 2 g g2 g3 a2 e3 in
+    let a4 = next_after 3 g g3 g4 a3 e4 in
+    let a5 = next_after 4 g g4 g5 a4 e5 in
+    let k2 = picks_at 1 g g1 drawn_positions y e1 h2 in
+    let k3 = picks_at 2 g g2 heights_above above a2 h3 in
+    let k4 = picks_at 3 g g3 drawn_speeds vx a3 h4 in
+    let k5 = picks_at 4 g g4 drawn_speeds vy a4 h5 in
+    let k6 = picks_at 5 g g5 drawn_vertical_speeds vs a5 h6 in
+    ((λ i. aircraft_of (n i) (h1 i) (k2 i) (altitude +ℤ k3 i) (k4 i) (k5 i) (k6 i)), next_after 5 g g5 g6 a5 e6)

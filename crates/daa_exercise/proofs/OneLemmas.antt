@@ -1,0 +1,105 @@
+-- An exercise has exactly one summary.
+use Rattle.std.proofs.Common.{◌≡◌, ◌∙◌, ◌<◌, ◌+◌, ℕ, zero, suc, List, [], ◌∷◌, ◌++◌, length, refl, sym, ap, ap₂, arith}
+use Rattle.std.specs.Prelude.{slice_index}
+use Rattle.std.specs.List.{AllZip}
+use Rattle.std.proofs.lemmas.List.{ext_get_or}
+use Rattle.daa_bands.specs.KindBands.{AreShown}
+use Rattle.daa_config.specs.Candidates.{start_of}
+use Rattle.daa_config.specs.Settings.{Settings, IsAccepted}
+use Rattle.daa_config.specs.declared.kind.Kind.{Kind}
+use Rattle.daa_config.proofs.GreatestLemmas.{greatest_once}
+use Rattle.daa_legs.specs.Alerts.{Alerts, IsAlertLevel}
+use Rattle.daa_report.specs.Lines.{Text}
+use Rattle.daa_state.specs.InRange.{IsPictureInRange}
+use Rattle.daa_state.specs.Picture.{aircraft_of}
+use Rattle.daa_state.specs.declared.word.Picture.{Picture}
+use Rattle.daa_state.specs.declared.word.Traffic.{Traffic}
+use Rattle.daa_engine.specs.Covered.{CoveredAt}
+use Rattle.daa_engine.specs.MomentText.{AreAlertLines}
+use Rattle.daa_engine.proofs.SomeText.{one_text}
+use Rattle.daa_exercise.specs.Levels.{HasAlerts, HasShown, AreLevels, aircraft_in, counts_of}
+use Rattle.daa_exercise.specs.Moments.{moment_of, begin_of}
+use Rattle.daa_exercise.specs.OneSummary.{HasOneSummary}
+use Rattle.daa_exercise.specs.Summary.{IsSummaryOf, summary_text}
+use Rattle.daa_exercise.specs.Words.{Words, words_of}
+use Rattle.daa_exercise.proofs.RangeLemmas.{drawn_range}
+
+-- ---- one moment has these levels and no others
+
+module _ (s : Settings) (p : Picture) where
+  -- the lines of the aircraft tell their levels
+  told : (ts : List Traffic) (text : Text) → AreAlertLines s p ts text → (levels : List ℕ) × AllZip (IsAlertLevel s p.own) ts levels
+  told [] text e = ([], tt)
+  told (t ∷ ts) text (first, rest, (now, alert, is_now, is_alert, e), others, e') =
+      let more = told ts rest others in (alert.level ∷ more.0, (is_alert.greatest, more.1))
+
+  some_alerts : IsAccepted s → IsPictureInRange p → (levels : List ℕ) × HasAlerts s p levels
+  some_alerts ok in' = let one = one_text s p ok in' in told (aircraft_of p) one.is.0 one.is.3
+
+  some_shown : IsAccepted s → IsPictureInRange p → (kind : Kind) → (levels : List ℕ) × HasShown s p kind levels
+  some_shown ok in' kind = let bands = ((one_text s p ok in').is.4 kind).1 in (bands.levels, bands.shown)
+
+  zip_once : (ts : List Traffic) (a b : List ℕ) → AllZip (IsAlertLevel s p.own) ts a → AllZip (IsAlertLevel s p.own) ts b → a ≡ b
+  zip_once [] [] [] h k = refl
+  zip_once [] (x ∷ a) b h k = absurd h
+  zip_once [] [] (y ∷ b) h k = absurd k
+  zip_once (t ∷ ts) [] b h k = absurd h
+  zip_once (t ∷ ts) (x ∷ a) [] h k = absurd k
+  zip_once (t ∷ ts) (x ∷ a) (y ∷ b) h k =
+      ap₂ (λ (z : ℕ) (zs : List ℕ). z ∷ zs) (greatest_once (Alerts s p.own t) (length s.levels) x y h.0 k.0) (zip_once ts a b h.1 k.1)
+
+  alerts_once : (a b : List ℕ) → HasAlerts s p a → HasAlerts s p b → a ≡ b
+  alerts_once a b h k = zip_once (aircraft_of p) a b h k
+
+  shown_once : (kind : Kind) (a b : List ℕ) → HasShown s p kind a → HasShown s p kind b → a ≡ b
+  shown_once kind a b h k =
+      let many : length a ≡ length b = h.each ∙ sym k.each in
+      ext_get_or 0 a b many (λ i lt. greatest_once (CoveredAt s p (start_of kind s + i)) (length s.levels) (slice_index a i) (slice_index b i) (h.greatest i lt)
+      (k.greatest i (let n = many in omega arith)))
+
+-- ---- so have all moments
+
+module _ (Has : Picture → List ℕ → Type 0) (word : Words) where
+  some_levels : ((time : ℕ) → (levels : List ℕ) × Has (moment_of word time) levels) → (count : ℕ) → (levels : List ℕ) × AreLevels Has word count levels
+  some_levels some zero = ([], refl)
+  some_levels some (suc count) =
+      let before = some_levels some count in
+      let here = some count in
+      (before.0 ++ here.0, (before.0, here.0, before.1, here.1, refl))
+
+  levels_once : ((p : Picture) (a b : List ℕ) → Has p a → Has p b → a ≡ b) → (count : ℕ) (a b : List ℕ) → AreLevels Has word count a → AreLevels Has word count b → a ≡ b
+  levels_once once zero a b h k = h ∙ sym k
+  levels_once once (suc count) a b (before, here, are, has, e) (before', here', are', has', e') =
+      e ∙ ap₂ (λ (x y : List ℕ). x ++ y) (levels_once once count before before' are are') (once (moment_of word count) here here' has has') ∙ sym e'
+
+-- ---- the summary
+
+module _ (s : Settings) (seed moments : ℕ) (ok : IsAccepted s) where
+  abbrev word : Words
+  word = words_of seed
+
+  range : (time : ℕ) → IsPictureInRange (moment_of word time)
+  range time = drawn_range word time (begin_of word time)
+
+  alerts : (levels : List ℕ) × AreLevels (HasAlerts s) word moments levels
+  alerts = some_levels (HasAlerts s) word (λ time. some_alerts s (moment_of word time) ok (range time)) moments
+
+  shown : (kind : Kind) → (levels : List ℕ) × AreLevels (λ p. HasShown s p kind) word moments levels
+  shown kind = some_levels (λ p. HasShown s p kind) word (λ time. some_shown s (moment_of word time) ok (range time) kind) moments
+
+  abbrev text_of : List ℕ → (Kind → List ℕ) → Text
+  text_of xs ys = summary_text seed moments (aircraft_in word moments) (counts_of (length s.levels) xs) (λ kind. counts_of (length s.levels) (ys kind))
+
+  text_once : (other : Text) → IsSummaryOf s seed moments other → other ≡ text_of alerts.0 (λ kind. (shown kind).0)
+  text_once other (xs, ys, are, each, e) =
+      let a = levels_once (HasAlerts s) word (alerts_once s) moments xs alerts.0 are alerts.1 in
+      let b : (kind : Kind) → ys kind ≡ (shown kind).0 = λ kind.
+      levels_once (λ p. HasShown s p kind) word (λ p. shown_once s p kind) moments (ys kind) (shown kind).0 (each kind) (shown kind).1 in
+      e ∙ (λ i. text_of (a i) (λ kind. b kind i))
+
+  pub one_summary : HasOneSummary s seed moments
+  one_summary = record {
+    text = text_of alerts.0 (λ kind. (shown kind).0);
+    is = (alerts.0, (λ kind. (shown kind).0), alerts.1, (λ kind. (shown kind).1), refl);
+    only = text_once;
+  }

@@ -1,0 +1,100 @@
+-- What a tally counts, level after level.
+use Rattle.std.proofs.Common.{◌≡◌, ◌∙◌, ◌⊎◌, inl, inr, ◌<◌, ◌≤◌, ◌+◌, ℕ, zero, suc, pos, List, [], ◌∷◌, ◌++◌, length, take, take_all, refl, sym, ap, arith, subst, append_assoc, add-one, append-nil}
+use Rattle.std.specs.Prelude.{slice_index, slice_index_or}
+use Rattle.std.specs.List.{AllZip}
+use Rattle.std.proofs.lemmas.List.{length_push, get_or_push, get_or_append_left}
+use Rattle.daa_state.specs.declared.word.Traffic.{Traffic}
+use Rattle.daa_bands.specs.Board.{HasLevelOn, mask_levels}
+use Rattle.daa_bands.specs.KindBands.{AreShown}
+use Rattle.daa_config.specs.Candidates.{start_of, values_of}
+use Rattle.daa_config.specs.Level.{IsGreatestLevel}
+use Rattle.daa_config.specs.Settings.{Settings}
+use Rattle.daa_config.specs.declared.kind.Kind.{Kind}
+use Rattle.daa_exercise.specs.Counting.{Adds, CountsMore, HasRoom}
+use Rattle.daa_exercise.specs.Levels.{counts_of}
+
+-- ---- levels counted one after another
+
+pub counts_none : (tally : List ℕ) → CountsMore [] tally tally
+counts_none tally levels e = e ∙ ap (counts_of mask_levels) (sym (append-nil levels))
+
+pub counts_next : (here : List ℕ) (level : ℕ) (a b c : List ℕ) → CountsMore here a b → CountsMore (level ∷ []) b c → CountsMore (here ++ level ∷ []) a c
+counts_next here level a b c h k levels e = k (levels ++ here) (h levels e) ∙ ap (counts_of mask_levels) (append_assoc levels here (level ∷ []))
+
+-- ---- a relation that holds place by place
+
+pub zip_next : {A : Type 0} (R : A → ℕ → Type 0) (xs : List A) (ys : List ℕ) (n : ℕ) (d : A) (y : ℕ) → n < length xs → AllZip R (take n xs) ys
+    → R (slice_index_or xs n d) y → AllZip R (take (suc n) xs) (ys ++ y ∷ [])
+zip_next {A} R [] ys n d y lt h r = absurd (omega arith)
+zip_next {A} R (x ∷ xs) [] zero d y lt h r = (r, tt)
+zip_next {A} R (x ∷ xs) (z ∷ ys) zero d y lt h r = absurd h
+zip_next {A} R (x ∷ xs) [] (suc n) d y lt h r = absurd h
+zip_next {A} R (x ∷ xs) (z ∷ ys) (suc n) d y lt h r = (h.0, zip_next R xs ys n d y (omega arith) h.1 r)
+
+-- ---- a tally that can take so many levels more
+
+pub room_for : (n m : ℕ) (tally : List ℕ) → n ≤ m → HasRoom m tally → HasRoom n tally
+room_for n m tally le h level = let k = h level in omega arith
+
+-- ---- one aircraft more
+
+module _ {A : Type 0} (R : A → ℕ → Type 0) (xs : List A) where
+  pub add_none : (tally : List ℕ) → Adds (AllZip R []) tally tally
+  add_none tally = ([], tt, counts_none tally)
+
+  pub add_next : (place level : ℕ) (d : A) (a b c : List ℕ) → place < length xs → R (slice_index_or xs place d) level → Adds (AllZip R (take place xs)) a b
+      → CountsMore (level ∷ []) b c → Adds (AllZip R (take (place + 1) xs)) a c
+  add_next place level d a b c lt is (here, are, more) one = (
+    here ++ level ∷ [],
+    subst (λ (n : ℕ). AllZip R (take n xs) (here ++ level ∷ [])) (sym (add-one place)) (zip_next R xs here place d level lt are is),
+    counts_next here level a b c more one,
+  )
+
+  pub add_all : (n : ℕ) (a b : List ℕ) → length xs ≤ n → Adds (AllZip R (take n xs)) a b → Adds (AllZip R xs) a b
+  add_all n a b le (here, are, more) = (here, subst (λ (ys : List A). AllZip R ys here) (take_all n xs le) are, more)
+
+-- an aircraft that stands for those past the end of a list
+abbrev pub no_aircraft : Traffic
+no_aircraft = record { id = []; x = pos 0; y = pos 0; alt = pos 0; vx = pos 0; vy = pos 0; vs = pos 0; age = 0 }
+
+-- ---- one candidate more
+
+-- they are as many, and each is so by its place
+pub record AreFirst (Is : ℕ → ℕ → Type 0) (count : ℕ) (levels : List ℕ) : Type 0 where
+  pub many : length levels ≡ count
+  pub each : (i : ℕ) → i < length levels → Is i (slice_index levels i)
+
+module _ (Is : ℕ → ℕ → Type 0) where
+  pub first_none : (tally : List ℕ) → Adds (AreFirst Is 0) tally tally
+  first_none tally = ([], record { many = refl; each = λ i lt. absurd (omega arith) }, counts_none tally)
+
+  first_more : (count level : ℕ) (here : List ℕ) → AreFirst Is count here → Is count level → AreFirst Is (count + 1) (here ++ level ∷ [])
+  first_more count level here are is = record {
+    many = length_push here level ∙ ap (λ (n : ℕ). n + 1) are.many;
+    each = λ i lt. go i (below_or_at i (length here) (let e = length_push here level in omega (arith, e, lt)));
+  }
+    where
+      below_or_at : (i n : ℕ) → i < n + 1 → (i < n) ⊎ (i ≡ n)
+      below_or_at i n lt = grind arith
+
+      go : (i : ℕ) → (i < length here) ⊎ (i ≡ length here) → Is i (slice_index (here ++ level ∷ []) i)
+      go i (inl lt) = subst (Is i) (sym (get_or_append_left here (level ∷ []) 0 i lt)) (are.each i lt)
+      go i (inr e) =
+          subst (λ (n : ℕ). Is n (slice_index (here ++ level ∷ []) n)) (sym (e ∙ are.many))
+          (subst (Is count) (sym (get_or_push here level 0 count are.many)) is)
+
+  pub first_next : (count level : ℕ) (a b c : List ℕ) → Is count level → Adds (AreFirst Is count) a b → CountsMore (level ∷ []) b c → Adds (AreFirst Is (count + 1)) a c
+  first_next count level a b c is (here, are, more) one = (here ++ level ∷ [], first_more count level here are is, counts_next here level a b c more one)
+
+-- a board's levels of all candidates of a kind
+pub add_shown : (board : List ℕ) (s settings : Settings) (kind : Kind) (start count n : ℕ) (a b : List ℕ) → s ≡ settings → start ≡ start_of kind s
+    → count ≡ length (values_of kind s) → n ≤ count → count ≤ n
+    → Adds (AreFirst (λ i. IsGreatestLevel (HasLevelOn board (start + i)) mask_levels) n) a b → Adds (AreShown (HasLevelOn board) mask_levels settings kind) a b
+add_shown board s settings kind start count n a b same begin many low high (here, are, more) =
+    subst (λ (x : Settings). Adds (AreShown (HasLevelOn board) mask_levels x kind) a b) same (here, shown, more)
+  where
+    shown : AreShown (HasLevelOn board) mask_levels s kind here
+    shown = record {
+      each = (let m = are.many in omega (arith, m, many, low, high));
+      greatest = λ i lt. subst (λ (k : ℕ). IsGreatestLevel (HasLevelOn board (k + i)) mask_levels (slice_index here i)) begin (are.each i lt);
+    }

@@ -1,0 +1,17 @@
+use Rattle.std.proofs.Common.{rules, ◌≡◌, ◌+◌, ℕ, ap}
+use Rattle.daa_config.specs.declared.kind.Kind.TheVariants.{Track, Speed, Climb, Height}
+use Rattle.daa_exercise.proofs.CountLemmas.{add_covered}
+use Rattle.daa_exercise.proofs.counting.Counts.add.Goals as goal
+
+pub returns : goal.returns
+returns c =
+    let covered = add_covered c.args.engine.now.settings c.args.picture.now c.args.engine.now.board in
+    let ok = c.requires.accepted in
+    let board = c.requires.board in record {
+      aircraft = ap (λ (n : ℕ). c.args.self.now.aircraft + n) c.len.ensures.value;
+      alerts = c.count_alerts.ensures;
+      track = covered Track _ _ ok board c.count_shown.ensures;
+      speed = covered Speed _ _ ok board c.count_shown-2.ensures;
+      climb = covered Climb _ _ ok board c.count_shown-3.ensures;
+      height = covered Height _ _ ok board c.count_shown-4.ensures;
+    }

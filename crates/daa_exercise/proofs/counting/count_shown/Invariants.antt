@@ -1,0 +1,13 @@
+use Rattle.std.proofs.Common.{◌≡◌, ◌+◌, ℕ, List}
+use Rattle.daa_bands.specs.Board.{HasLevelOn, mask_levels}
+use Rattle.daa_config.specs.Level.{IsGreatestLevel}
+use Rattle.daa_exercise.specs.Counting.{Adds, HasRoom}
+use Rattle.daa_exercise.proofs.TallyLemmas.{AreFirst}
+use Rattle.daa_exercise.proofs.counting.count_shown.Given as goal
+
+-- the levels of the candidates so far are counted
+abbrev pub invariant-loop-place : goal.invariant-loop-place
+invariant-loop-place l = record {
+  adds : Adds (AreFirst (λ i. IsGreatestLevel (HasLevelOn l.engine.board (l.start + i)) mask_levels) l.place) l.initial.tally l.tally;
+  room : (n : ℕ) → HasRoom (n + l.place) l.initial.tally → HasRoom n l.tally;
+}

@@ -1,0 +1,6 @@
+use Rattle.daa_exercise.specs.Moments.{begin_of}
+use Rattle.daa_exercise.proofs.RangeLemmas.{drawn_range}
+use Rattle.daa_exercise.proofs.laws.drawn_moments_are_in_range.Goals as goal
+
+pub returns : goal.returns
+returns c word time = drawn_range word time (begin_of word time)
