@@ -228,6 +228,7 @@ fn each_type_may_be_sent_and_a_gate_shared(rt: HostRuntime) {
     may_be_sent::<FileShelf<HostRuntime>>();
     may_be_sent::<Failed>();
     may_be_sent::<FetchFault>();
+    may_be_sent::<Open>();
     may_be_shared::<Open>();
     pass(&Open);
     assert_eq!(rt; write(&mut StdSink::new(rt.stdout()), b""), Ok(0));

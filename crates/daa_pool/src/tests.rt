@@ -210,3 +210,13 @@ fn the_gate_is_passed_once_before_each_answer(rt: HostRuntime) {
         assert!(rt; watch.has_passed_each_unit_once_in_time(), "with {workers}");
     }
 }
+
+fn may_be_sent<T: Send>() {}
+
+// The check refuses a type that may not be sent between threads.
+#[test]
+fn values_may_be_sent() {
+    may_be_sent::<Pool>();
+    may_be_sent::<Seat>();
+    may_be_sent::<Piece>();
+}

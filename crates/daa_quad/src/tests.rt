@@ -98,3 +98,12 @@ fn largest_numbers(rt: HostRuntime) -> Result<(), Fail> {
     assert!(rt; sign_at(&low, &latest) == Sign::Below);
     Ok(())
 }
+
+fn may_be_sent<T: Send>() {}
+
+// The check refuses a type that may not be sent between threads.
+#[test]
+fn values_may_be_sent() {
+    may_be_sent::<Quad>();
+    may_be_sent::<Sign>();
+}

@@ -60,3 +60,11 @@ fn a_range_is_its_first_unit_and_the_rest(rt: HostRuntime) {
     assert_eq!(rt; range.first_unit(), Range { first: 3, upto: 4 });
     assert_eq!(rt; range.rest(), Range { first: 4, upto: 6 });
 }
+
+fn may_be_sent<T: Send>() {}
+
+// The check refuses a type that may not be sent between threads.
+#[test]
+fn values_may_be_sent() {
+    may_be_sent::<Range>();
+}

@@ -1,7 +1,7 @@
 ghost use Rattle.std.specs.Prelude.{◌≡◌, ◌*◌, ◌^◌, ◌<◌, ◌≤◌};
 ghost use Rattle.daa_schedule.specs.CoreState.{worker_count, unit_count};
 
-use crate::{Core, Step, StepFault};
+use crate::{Core, NoMemory, Step, StepFault};
 use daa_range::Range;
 use std::alloc::Global;
 use std::process::Abort;
@@ -166,4 +166,15 @@ fn the_faults_are_numbered_from_1(rt: HostRuntime) {
     ] {
         assert!(rt; fault.code() == code, "of {fault:?}");
     }
+}
+
+fn may_be_sent<T: Send>() {}
+
+// The check refuses a type that may not be sent between threads.
+#[test]
+fn values_may_be_sent() {
+    may_be_sent::<Core>();
+    may_be_sent::<Step>();
+    may_be_sent::<StepFault>();
+    may_be_sent::<NoMemory>();
 }

@@ -36,7 +36,7 @@ pub record IsInRange (asked : Asked) : Type 0 where
 abbrev pub number_of : Text → Option ℕ
 number_of text = if is_unsigned_in 0 4294967295 text then Some (digits_value 10 (without_leading_plus text)) else None
 
--- the number at an option, in the text that clap reads there
+-- the number at an option, in the text that clap reads there: clap has taken a minus off it, and lets none but that of a zero pass
 abbrev pub number_at : Text → List Row → Option ℕ
 number_at id rows = option_and_then number_of (one_of id rows)
 

@@ -141,6 +141,16 @@ fn is_shared(rt: HostRuntime) -> Result<(), Fail> {
     Ok(())
 }
 
+fn may_be_sent<T: Send>() {}
+
+// The check refuses a type that may not be sent between threads.
+#[test]
+fn values_may_be_sent() {
+    may_be_sent::<Kind>();
+    may_be_sent::<Resolution>();
+    may_be_sent::<ConfigFault>();
+}
+
 #[test]
 fn laws() {
     accepted_is_in_range();

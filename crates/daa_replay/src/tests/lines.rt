@@ -139,7 +139,7 @@ fn a_moment_has_64_aircraft(rt: HostRuntime) -> Result<(), Fail> {
     let alloc = rt.alloc();
     let mut input = String::from_str(
         alloc,
-        "moment 0\nown 0 0 1000 0 3600 0\nown 1 1 1000 0 3600 0\n",
+        "moment 0\nown 0 0 1000 0 3600 0\nown 100000 0 1000 0 3600 0\n",
     )?;
     let mut text = String::from_str(
         alloc,
