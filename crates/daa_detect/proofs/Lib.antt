@@ -1,4 +1,6 @@
 pub mod ComesNear
 pub mod Approach
+pub mod Margin
 pub mod Nearest
+pub mod Sizes
 pub mod Sometimes
