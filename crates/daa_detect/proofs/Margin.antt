@@ -95,8 +95,8 @@ module _ (leg : Leg) (vol : Volume) (m : Motion) (is : IsMotion leg vol m) (n d 
     taumod_is e = (
       (λ h. inr (closing (subst (λ (k : Model). IsSoon k leg vol n d) (sym e) ((tau_is moves vol.tthr).0 h)))),
       ⊎_elim
-      (λ near. (tau_is moves vol.tthr).1 (near_soon near))
-      (λ c. (tau_is moves vol.tthr).1 (subst (λ (k : Model). IsSoon k leg vol n d) e c.soon)),
+          (λ near. (tau_is moves vol.tthr).1 (near_soon near))
+          (λ c. (tau_is moves vol.tthr).1 (subst (λ (k : Model). IsSoon k leg vol n d) e c.soon)),
     )
 
     abbrev IsClosestWithin : Type 0
@@ -108,11 +108,11 @@ module _ (leg : Leg) (vol : Volume) (m : Motion) (is : IsMotion leg vol m) (n d 
     pub tcpa_is : vol.model ≡ Tcpa → (IsClosestWithin ⊎ IsNear leg vol n d) ↔ ViolatesHorizontally leg vol n d
     tcpa_is e = (
       ⊎_elim
-      (λ h. inr (closing (subst (λ (k : Model). IsSoon k leg vol n d) (sym e) (subst (λ (P : Type 0). P) closest_is h))))
-      inl,
+          (λ h. inr (closing (subst (λ (k : Model). IsSoon k leg vol n d) (sym e) (subst (λ (P : Type 0). P) closest_is h))))
+          inl,
       ⊎_elim
-      inr
-      (λ c. inl (subst (λ (P : Type 0). P) (sym closest_is) (subst (λ (k : Model). IsSoon k leg vol n d) e c.soon))),
+          inr
+          (λ c. inl (subst (λ (P : Type 0). P) (sym closest_is) (subst (λ (k : Model). IsSoon k leg vol n d) e c.soon))),
     )
 
   -- ---- what does not move is as near as at the beginning
