@@ -1,6 +1,6 @@
 -- Which time of the vertical window decides: its first where the distance grows there, its last where it still falls there, and
 -- else the closest approach, which lies between them.
-use Rattle.std.proofs.Common.{[], ◌∷◌, ◌≡◌, inl, refl, sym, subst, ◌∙◌, arith, ℕ, ◌+◌, ◌*◌, ◌^◌, ◌≤◌, ℤ, pos, neg_ℤ, ◌+ℤ◌, ◌*ℤ◌, ◌-ℤ◌, ◌≤ℤ◌, ◌<ℤ◌, Option, None, Some}
+use Rattle.std.proofs.Common.{[], ◌∷◌, ◌≡◌, inl, refl, sym, subst, ◌∙◌, arith, ◌*◌, ◌^◌, ℤ, pos, neg_ℤ, ◌+ℤ◌, ◌*ℤ◌, ◌-ℤ◌, ◌≤ℤ◌, ◌<ℤ◌, Option, None, Some}
 use Rattle.std.proofs.lemmas.Int.{ints}
 use Rattle.std.specs.Prelude.{MatchOption}
 use Rattle.daa_fixed.specs.declared.Leg.{Leg}

@@ -4,7 +4,7 @@ use Rattle.std.proofs.lemmas.Int.{ints}
 use Rattle.daa_fixed.proofs.Ring.{mul_nonneg, square_nonneg, ring, Poly, #, lit, ⊝, ◌⊕◌, ◌⊖◌, ◌⊗◌}
 use Rattle.daa_fixed.proofs.Integers.{mul_pos, cancel_le, rest, by_rest, clash}
 use Rattle.daa_fixed.specs.declared.Leg.{Leg}
-use Rattle.daa_fixed.specs.Flat.{dot_of, cross_of, square_of}
+use Rattle.daa_fixed.specs.Flat.{dot_of, square_of}
 use Rattle.std.proofs.Math.IntN.{*ℤ-zero}
 use Rattle.daa_taumod.specs.declared.Model.{Model}
 use Rattle.daa_taumod.specs.declared.Model.TheVariants.{Taumod, Tcpa}

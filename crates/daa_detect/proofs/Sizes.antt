@@ -1,12 +1,12 @@
 -- How large the products of a leg and of its motion are: what is computed in 64 and 128 bits fits.
-use Rattle.std.proofs.Common.{◌≡◌, ◌≤◌, ◌+◌, ◌*◌, ◌^◌, ℕ, arith, ℤ, pos, neg_ℤ, ◌+ℤ◌, ◌*ℤ◌, ◌-ℤ◌, ◌≤ℤ◌, lit<, w64, to_z, of_z, to_z-of_z}
+use Rattle.std.proofs.Common.{◌≡◌, ◌≤◌, ◌+◌, ◌*◌, ◌^◌, ℕ, arith, pos, ◌+ℤ◌, ◌*ℤ◌, ◌-ℤ◌, lit<, w64, to_z, of_z, to_z-of_z}
 use mir.Syntax.{w128}
 use Rattle.std.proofs.lemmas.Int.{ints}
 use Rattle.daa_fixed.specs.declared.Leg.{Leg}
 use Rattle.daa_fixed.specs.declared.Point.{Point}
 use Rattle.daa_fixed.specs.Leg.{IsLegInRange}
 use Rattle.daa_fixed.specs.Size.{IsWithin}
-use Rattle.daa_fixed.proofs.Bounds.{times, plus, minus, fits, within}
+use Rattle.daa_fixed.proofs.Bounds.{times, plus, fits, within}
 use Rattle.daa_fixed.proofs.LegSizes as size
 use Rattle.daa_fixed.proofs.PointSizes.{IsPointInRange}
 use Rattle.daa_vwindow.specs.Window.{HasSmallNumbers}

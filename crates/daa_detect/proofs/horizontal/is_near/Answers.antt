@@ -1,4 +1,4 @@
-use Rattle.std.proofs.Common.{◌≡◌, ℤ, pos, ◌≤ℤ◌, ◌<ℤ◌, subst, arith, rules}
+use Rattle.std.proofs.Common.{◌≡◌, pos, ◌≤ℤ◌, ◌<ℤ◌, arith, rules}
 use Rattle.std.proofs.lemmas.Int.{ints}
 use Rattle.daa_fixed.specs.Flat.{dot_of}
 use Rattle.daa_taumod.proofs.ClosestApproach.{dot_nonneg}

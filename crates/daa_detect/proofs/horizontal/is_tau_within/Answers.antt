@@ -1,4 +1,4 @@
-use Rattle.std.proofs.Common.{◌≡◌, ◌+◌, ◌*◌, ◌^◌, ap, ℕ, ℤ, pos, ◌+ℤ◌, ◌*ℤ◌, lit<, rules, w64, to_z-of_z, refl}
+use Rattle.std.proofs.Common.{◌*◌, ◌+ℤ◌, ◌*ℤ◌, lit<, rules, w64, to_z-of_z, refl}
 use mir.Syntax.{w128}
 use Rattle.daa_fixed.specs.Size.{IsWithin}
 use Rattle.daa_fixed.proofs.Bounds.{times, plus, fits, as_within, le_test}

@@ -1,7 +1,6 @@
 use Rattle.std.proofs.Common.{rules, lit<, w64}
 use Rattle.daa_fixed.proofs.Bounds.{fits}
 use Rattle.daa_fixed.proofs.PointSizes.{IsPointInRange}
-use Rattle.daa_vwindow.specs.Window.{HasSmallNumbers}
 use Rattle.daa_detect.proofs.Sizes as size
 use Rattle.daa_detect.proofs.Sizes.{IsMotionInRange, of_motion}
 use Rattle.daa_detect.proofs.horizontal.rate_at.Goals as goal

@@ -1,8 +1,7 @@
-use Rattle.std.proofs.Common.{◌≡◌, ◌≤◌, ℕ, pos, arith, lit<, w64, to_z, to_z-of_z, FitsSigned}
+use Rattle.std.proofs.Common.{◌≡◌, ◌≤◌, ℕ, pos, arith, lit<, w64, to_z, to_z-of_z}
 use mir.Syntax.{w128}
 use Rattle.std.proofs.lemmas.Int.{ints}
-use Rattle.daa_fixed.specs.Size.{IsWithin}
-use Rattle.daa_fixed.proofs.Bounds.{times, minus, fits, within}
+use Rattle.daa_fixed.proofs.Bounds.{times, minus, fits}
 use Rattle.daa_fixed.proofs.LegSizes.{natural}
 use Rattle.daa_detect.proofs.products.margin.Goals as goal
 

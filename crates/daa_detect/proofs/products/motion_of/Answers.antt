@@ -1,4 +1,4 @@
-use Rattle.std.proofs.Common.{◌^◌, rules, lit<, w64, to_z-of_z}
+use Rattle.std.proofs.Common.{rules, lit<, w64, to_z-of_z}
 use mir.Syntax.{w128}
 use Rattle.daa_fixed.specs.Leg.{IsLegInRange}
 use Rattle.daa_fixed.specs.Size.{IsWithin}
