@@ -41,7 +41,9 @@ pub fn is_hit(leg: &Leg, volume: &Volume) -> bool
     hits(leg, volume).is_some()
 }
 
-/// As `hits`, without the box test: at most four products of 128 bits.
+/// As `hits`, without the box test. Within the vertical window the nearest time decides: the first where the distance grows
+/// there, the last where it still falls there, and else the closest approach, at which a line that comes within `dthr` is
+/// within `dthr`. It takes two products of 128 bits for a line that misses or that is nearest inside the window, else four.
 pub(crate) fn nearest_hit(leg: &Leg, volume: &Volume) -> Option<Point>
     requires leg { IsLegInRange leg.now }
     requires volume { IsVolumeInRange volume.now }
@@ -63,7 +65,7 @@ pub(crate) fn nearest_hit(leg: &Leg, volume: &Volume) -> Option<Point>
     Some(closest_approach(&motion))
 }
 
-/// The time, if the horizontal part of the volume holds then.
+/// An end of the vertical window, if the horizontal part of the volume holds then.
 fn end_if_held(leg: &Leg, volume: &Volume, motion: &Motion, end: &Point) -> Option<Point>
     requires leg { IsLegInRange leg.now }
     requires volume { IsVolumeInRange volume.now }

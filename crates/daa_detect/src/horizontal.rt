@@ -66,8 +66,9 @@ fn begins_near(leg: &Leg, volume: &Volume) -> bool
     s.east * s.east + s.north * s.north <= dthr * dthr
 }
 
-/// Whether what moves is near, or, where the distance falls, has a modified tau of at most `secs`; with 0 seconds, whether it
-/// is near.
+/// Whether `s.s + secs (s.v)` is at most `dthr^2` at that time, for what moves: with 0 seconds the distance is at most `dthr`,
+/// and where it falls modified tau is at most `secs`. Multiplied by `v.v`, that compares the product of the rate and the rate
+/// `secs` seconds later with the margin.
 fn is_tau_within(motion: &Motion, point: &Point, secs: u32) -> bool
     requires small { HasSmallNumbers point.now }
     requires secs { secs ≤ 120 }
@@ -78,7 +79,7 @@ fn is_tau_within(motion: &Motion, point: &Point, secs: u32) -> bool
     rate as i128 * later as i128 <= (point.den * point.den) as i128 * motion.margin
 }
 
-/// Whether the closest approach is at most `secs` off, where the distance falls.
+/// Whether the closest approach is at most `secs` seconds off, where the distance falls.
 fn is_closest_within(motion: &Motion, point: &Point, secs: u32) -> bool
     requires small { HasSmallNumbers point.now }
     requires secs { secs ≤ 120 }
@@ -87,7 +88,7 @@ fn is_closest_within(motion: &Motion, point: &Point, secs: u32) -> bool
     -rate_at(motion, point) <= gained(motion, point, secs)
 }
 
-/// What the rate gains in `secs` seconds, times the time's denominator.
+/// What the rate gains in `secs` seconds, times the time's denominator: `secs (v.v)`.
 fn gained(motion: &Motion, point: &Point, secs: u32) -> i64
     requires small { HasSmallNumbers point.now }
     requires secs { secs ≤ 120 }
