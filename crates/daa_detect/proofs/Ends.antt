@@ -27,7 +27,7 @@ use Rattle.daa_vwindow.specs.Window.{IsWindow}
 use Rattle.daa_detect.specs.declared.motion.Motion.{Motion}
 use Rattle.daa_detect.specs.Distance.{IsDistance}
 use Rattle.daa_detect.specs.Hit.{IsHit}
-use Rattle.daa_detect.specs.Motion.{IsMotion, rate_of}
+use Rattle.daa_detect.specs.Motion.{IsMotion, IsAhead, rate_of}
 use Rattle.daa_detect.proofs.Margin.{near_is, rate_is, violating_passes}
 use Rattle.daa_detect.proofs.Nearest.{vv, sv, time_between, none_elsewhere}
 
@@ -90,30 +90,32 @@ module _ (leg : Leg) (vol : Volume) (m : Motion) (is : IsMotion leg vol m) where
     tq : IsPointInRange q
     tq = record { n0 = q.not_negative; n1 = q.num_bound; d0 = q.positive; d1 = q.den_bound }
 
-    -- one of the ends, where no time of the window is nearer
-    end_decides : (d : HasDistance leg vol) (e : Point) → IsTime leg.secs e.num e.den → ViolatesVertically leg vol e.num e.den → IsLeast d.quad p q e.num e.den → (o : Option Point)
+    d : HasDistance leg vol
+    d = distance leg vol r v
+
+    s : IsQuadInRange d.quad
+    s = record { a0 = d.quad.convex; a = d.quad.a_bound; b = d.quad.b_bound; c = d.quad.c_bound }
+
+    -- whether the leg violates is whether it violates horizontally at e
+    abbrev Decides : Point → Type 0
+    Decides e = (o : Option Point)
         → MatchOption o (¬ ViolatesHorizontally leg vol e.num e.den) (λ x. (x ≡ e) × ViolatesHorizontally leg vol e.num e.den)
         → MatchOption o (HoldsNever leg.secs (Violates leg vol)) (λ x. IsHit leg vol x.num x.den)
-    end_decides d e time level least None clear =
+
+    -- so it is where no time of the window is nearer
+    least_decides : (e : Point) → IsTime leg.secs e.num e.den → ViolatesVertically leg vol e.num e.den → IsLeast d.quad p q e.num e.den → Decides e
+    least_decides e time level least None clear =
         none_elsewhere leg vol d.quad d.is p q e w p.positive q.positive e.not_negative e.positive ((w.exact e.num e.den time).0 level) least (λ x. clear x.horizontal)
-    end_decides d e time level least (Some x) held =
+    least_decides e time level least (Some x) held =
         subst (λ (y : Point). IsHit leg vol y.num y.den) (sym held.0) (record { time = time; violates = record { horizontal = held.1; vertical = level } })
 
-    pub first_decides : pos 0 ≤ℤ rate_of m p.num p.den → (o : Option Point)
-        → MatchOption o (¬ ViolatesHorizontally leg vol p.num p.den) (λ x. (x ≡ p) × ViolatesHorizontally leg vol p.num p.den)
-        → MatchOption o (HoldsNever leg.secs (Violates leg vol)) (λ x. IsHit leg vol x.num x.den)
+    pub first_decides : pos 0 ≤ℤ rate_of m p.num p.den → Decides p
     first_decides up =
-        let d = distance leg vol r v in
-        let s : IsQuadInRange d.quad = record { a0 = d.quad.convex; a = d.quad.a_bound; b = d.quad.b_bound; c = d.quad.c_bound } in
-        end_decides d p w.first w.holds_first (start-least d.quad p q s tp tq (subst (λ (z : ℤ). pos 0 ≤ℤ z) (sym (twice d.quad d.is p.num p.den)) (mul_nonneg (pos 2) _ (omega (arith, ints)) up)))
+        least_decides p w.first w.holds_first (start-least d.quad p q s tp tq (subst (λ (z : ℤ). pos 0 ≤ℤ z) (sym (twice d.quad d.is p.num p.den)) (mul_nonneg (pos 2) _ (omega (arith, ints)) up)))
 
-    pub last_decides : rate_of m q.num q.den ≤ℤ pos 0 → (o : Option Point)
-        → MatchOption o (¬ ViolatesHorizontally leg vol q.num q.den) (λ x. (x ≡ q) × ViolatesHorizontally leg vol q.num q.den)
-        → MatchOption o (HoldsNever leg.secs (Violates leg vol)) (λ x. IsHit leg vol x.num x.den)
+    pub last_decides : rate_of m q.num q.den ≤ℤ pos 0 → Decides q
     last_decides down =
-        let d = distance leg vol r v in
-        let s : IsQuadInRange d.quad = record { a0 = d.quad.convex; a = d.quad.a_bound; b = d.quad.b_bound; c = d.quad.c_bound } in
-        end_decides d q w.last w.holds_last (end-least d.quad p q s tp tq (subst (λ (z : ℤ). z ≤ℤ pos 0) (sym (twice d.quad d.is q.num q.den)) (doubled _ down)))
+        least_decides q w.last w.holds_last (end-least d.quad p q s tp tq (subst (λ (z : ℤ). z ≤ℤ pos 0) (sym (twice d.quad d.is q.num q.den)) (doubled _ down)))
       where
         doubled : (x : ℤ) → x ≤ℤ pos 0 → (pos 2 *ℤ x) ≤ℤ pos 0
         doubled x h = omega (arith, ints)
@@ -123,17 +125,17 @@ module _ (leg : Leg) (vol : Volume) (m : Motion) (is : IsMotion leg vol m) where
       moves : pos 0 <ℤ vv leg vol
       moves = nearing_moves (place_at leg p.num p.den) leg.velocity.flat (subst (λ (z : ℤ). z <ℤ pos 0) (rate_is leg vol m is p.num p.den) down)
 
-      pub has_speed : pos 1 ≤ℤ m.speed_squared
+      has_speed : pos 1 ≤ℤ m.speed_squared
       has_speed = subst (λ (z : ℤ). pos 1 ≤ℤ z) (sym is.speed_squared) (omega (arith, ints, moves))
 
-      pub between : IsBetween p q (neg_ℤ m.rate) m.speed_squared
+      between : IsBetween p q (neg_ℤ m.rate) m.speed_squared
       between = record {
         fraction = has_speed;
         from = vertex_after p.num p.den m.rate m.speed_squared (omega (arith, ints, down));
         upto = vertex_before q.num q.den m.rate m.speed_squared (omega (arith, ints, up));
       }
 
-      pub not_past : pos 0 ≤ℤ neg_ℤ m.rate
+      not_past : pos 0 ≤ℤ neg_ℤ m.rate
       not_past = cancel_le p.den (neg_ℤ m.rate) (omega (arith, ints, p.positive))
           (swapped (neg_ℤ m.rate) p.den (le_trans_ℤ (pos 0) (p.num *ℤ m.speed_squared) (neg_ℤ m.rate *ℤ p.den) (mul_nonneg p.num m.speed_squared p.not_negative (omega (arith, ints, has_speed))) between.from))
         where
@@ -143,12 +145,17 @@ module _ (leg : Leg) (vol : Volume) (m : Motion) (is : IsMotion leg vol m) where
       time : IsTime leg.secs (neg_ℤ m.rate) m.speed_squared
       time = time_between leg.secs p q (neg_ℤ m.rate) m.speed_squared q.positive w.last not_past between
 
-      pub approach_small : neg_ℤ m.rate ≤ℤ pos (2 ^ 41)
-      approach_small =
-          let l = times (size.natural 180 leg.secs r.short) (size.vv r) in
-          le_trans_ℤ (neg_ℤ m.rate) (pos leg.secs *ℤ m.speed_squared) (pos (2 ^ 41)) time.upto
-          (subst (λ (z : ℤ). (pos leg.secs *ℤ z) ≤ℤ pos (2 ^ 41)) (sym is.speed_squared) (bounded _ l))
+      pub is_ahead : IsAhead m
+      is_ahead = record {
+        moves = has_speed;
+        later = turned m.rate not_past;
+        small = le_trans_ℤ (neg_ℤ m.rate) (pos leg.secs *ℤ m.speed_squared) (pos (2 ^ 41)) time.upto
+            (subst (λ (z : ℤ). (pos leg.secs *ℤ z) ≤ℤ pos (2 ^ 41)) (sym is.speed_squared) (bounded _ (times (size.natural 180 leg.secs r.short) (size.vv r))));
+      }
         where
+          turned : (x : ℤ) → pos 0 ≤ℤ neg_ℤ x → x ≤ℤ pos 0
+          turned x h = omega (arith, ints)
+
           bounded : (x : ℤ) → IsWithin (180 * 3200000000) x → x ≤ℤ pos (2 ^ 41)
           bounded x h = omega (arith, ints, h.size)
 

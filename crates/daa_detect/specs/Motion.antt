@@ -1,5 +1,5 @@
 -- The horizontal motion of a leg, by numbers that are the same at each of its times.
-use Rattle.std.specs.Prelude.{◌≡◌, ℕ, ℤ, pos, ◌+ℤ◌, ◌-ℤ◌, ◌*ℤ◌, ◌≤ℤ◌}
+use Rattle.std.specs.Prelude.{◌≡◌, ℕ, ◌^◌, ℤ, pos, neg_ℤ, ◌+ℤ◌, ◌-ℤ◌, ◌*ℤ◌, ◌≤ℤ◌}
 use Rattle.daa_fixed.specs.Flat.{dot_of, cross_of, square_of}
 use Rattle.daa_fixed.specs.declared.Leg.{Leg}
 use Rattle.daa_taumod.specs.declared.Volume.{Volume}
@@ -10,6 +10,12 @@ pub record IsMotion (leg : Leg) (vol : Volume) (m : Motion) : Type 0 where
   pub speed_squared : m.speed_squared ≡ dot_of leg.velocity.flat leg.velocity.flat
   pub rate : m.rate ≡ dot_of leg.place.flat leg.velocity.flat
   pub margin : m.margin ≡ square_of (pos vol.dthr) *ℤ dot_of leg.velocity.flat leg.velocity.flat -ℤ square_of (cross_of leg.place.flat leg.velocity.flat)
+
+-- the closest approach lies ahead, and its time is a point in range
+pub record IsAhead (m : Motion) : Type 0 where
+  pub moves : pos 1 ≤ℤ m.speed_squared
+  pub later : m.rate ≤ℤ pos 0
+  pub small : neg_ℤ m.rate ≤ℤ pos (2 ^ 41)
 
 -- s.v at n/d, times d
 abbrev pub rate_of : Motion → ℤ → ℤ → ℤ

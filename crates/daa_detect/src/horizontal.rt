@@ -1,11 +1,11 @@
 //! The horizontal part of the volume at one time of a leg, from the numbers of its motion.
 
-ghost use Rattle.std.specs.Prelude.{◌≡◌, ◌↔◌, ◌≤◌, ◌^◌, ◌*ℤ◌, ◌≤ℤ◌, neg_ℤ, pos, IsTrue};
+ghost use Rattle.std.specs.Prelude.{◌≡◌, ◌↔◌, ◌≤◌, ◌*ℤ◌, ◌≤ℤ◌, neg_ℤ, pos, IsTrue};
 ghost use Rattle.daa_fixed.specs.Flat.{dot_of, square_of};
 ghost use Rattle.daa_fixed.specs.Leg.{IsLegInRange};
 ghost use Rattle.daa_taumod.specs.Volume.{IsVolumeInRange, IsNear, ViolatesHorizontally};
 ghost use Rattle.daa_vwindow.specs.Window.{HasSmallNumbers};
-ghost use Rattle.daa_detect.specs.Motion.{IsMotion, IsTauWithin, rate_of};
+ghost use Rattle.daa_detect.specs.Motion.{IsMotion, IsAhead, IsTauWithin, rate_of};
 
 use crate::motion::Motion;
 use daa_fixed::{Leg, Point};
@@ -99,9 +99,7 @@ fn gained(motion: &Motion, point: &Point, secs: u32) -> i64
 
 /// The time of the closest approach, `-(s.v)/(v.v)`.
 pub(crate) fn closest_approach(motion: &Motion) -> Point
-    requires moves { pos 1 ≤ℤ motion.now.speed_squared }
-    requires ahead { motion.now.rate ≤ℤ pos 0 }
-    requires in_range { neg_ℤ motion.now.rate ≤ℤ pos (2 ^ 41) }
+    requires { IsAhead motion.now }
     ensures num { result.num ≡ neg_ℤ motion.now.rate }
     ensures den { result.den ≡ motion.now.speed_squared }
 {

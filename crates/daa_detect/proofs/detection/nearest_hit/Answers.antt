@@ -1,14 +1,11 @@
-use Rattle.std.proofs.Common.{ℤ, pos, neg_ℤ, ◌≤ℤ◌, ◌<ℤ◌, arith, rules}
+use Rattle.std.proofs.Common.{pos, ◌≤ℤ◌, ◌<ℤ◌, arith, rules}
 use Rattle.std.proofs.lemmas.Int.{ints}
 use Rattle.daa_fixed.specs.Leg.{IsLegInRange}
 use Rattle.daa_taumod.specs.Volume.{IsVolumeInRange}
 use Rattle.daa_detect.specs.Motion.{rate_of}
 use Rattle.daa_detect.proofs.Sizes.{IsMotionInRange, margin-kept}
-use Rattle.daa_detect.proofs.Ends.{missed, first_decides, last_decides, has_speed, not_past, approach_small, approach_hits}
+use Rattle.daa_detect.proofs.Ends.{missed, first_decides, last_decides, is_ahead, approach_hits}
 use Rattle.daa_detect.proofs.detection.nearest_hit.Goals as goal
-
-no_later : (x : ℤ) → pos 0 ≤ℤ neg_ℤ x → x ≤ℤ pos 0
-no_later x h = omega (arith, ints)
 
 pub returns-then-motion-lt0 : goal.returns-then-motion-lt0
 returns-then-motion-lt0 c =
@@ -51,8 +48,8 @@ returns-then-rate_at-le0 c =
     let down : rate_of m last.num last.den ≤ℤ pos 0 = omega (arith, ints) in
     last_decides c.args.leg.now c.args.volume.now m c.motion_of-motion.ensures r v first last c.in_ok-first.ensures.times down _ c.end_if_held-then-rate_at-le0.ensures
 
-pub closest_approach-requires-clause-moves : goal.closest_approach-requires-clause-moves
-closest_approach-requires-clause-moves c =
+pub closest_approach-requires : goal.closest_approach-requires
+closest_approach-requires c =
     let m = c.motion_of-motion.result in
     let r : IsLegInRange c.args.leg.now = search rules in
     let v : IsVolumeInRange c.args.volume.now = search rules in
@@ -60,29 +57,7 @@ closest_approach-requires-clause-moves c =
     let last = c.in_ok-first.last in
     let down : rate_of m first.num first.den <ℤ pos 0 = omega (arith, ints) in
     let up : pos 0 <ℤ rate_of m last.num last.den = omega (arith, ints) in
-    has_speed c.args.leg.now c.args.volume.now m c.motion_of-motion.ensures r v first last c.in_ok-first.ensures.times down up
-
-pub closest_approach-requires-clause-ahead : goal.closest_approach-requires-clause-ahead
-closest_approach-requires-clause-ahead c =
-    let m = c.motion_of-motion.result in
-    let r : IsLegInRange c.args.leg.now = search rules in
-    let v : IsVolumeInRange c.args.volume.now = search rules in
-    let first = c.in_ok-first.first in
-    let last = c.in_ok-first.last in
-    let down : rate_of m first.num first.den <ℤ pos 0 = omega (arith, ints) in
-    let up : pos 0 <ℤ rate_of m last.num last.den = omega (arith, ints) in
-    no_later m.rate (not_past c.args.leg.now c.args.volume.now m c.motion_of-motion.ensures r v first last c.in_ok-first.ensures.times down up)
-
-pub closest_approach-requires-clause-in_range : goal.closest_approach-requires-clause-in_range
-closest_approach-requires-clause-in_range c =
-    let m = c.motion_of-motion.result in
-    let r : IsLegInRange c.args.leg.now = search rules in
-    let v : IsVolumeInRange c.args.volume.now = search rules in
-    let first = c.in_ok-first.first in
-    let last = c.in_ok-first.last in
-    let down : rate_of m first.num first.den <ℤ pos 0 = omega (arith, ints) in
-    let up : pos 0 <ℤ rate_of m last.num last.den = omega (arith, ints) in
-    approach_small c.args.leg.now c.args.volume.now m c.motion_of-motion.ensures r v first last c.in_ok-first.ensures.times down up
+    is_ahead c.args.leg.now c.args.volume.now m c.motion_of-motion.ensures r v first last c.in_ok-first.ensures.times down up
 
 pub returns : goal.returns
 returns c =
