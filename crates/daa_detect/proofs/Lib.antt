@@ -1,4 +1,7 @@
 pub mod ComesNear
 pub mod Approach
+pub mod Ends
+pub mod Margin
 pub mod Nearest
+pub mod Sizes
 pub mod Sometimes

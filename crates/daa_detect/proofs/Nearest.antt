@@ -22,40 +22,40 @@ use Rattle.daa_fixed.specs.Point.{IsBetween}
 use Rattle.daa_quad.specs.Quad.{value_of, IsLeast}
 
 -- places and velocities
-abbrev E : Poly
+abbrev pub E : Poly
 E = # 0
 
-abbrev N : Poly
+abbrev pub N : Poly
 N = # 1
 
-abbrev VE : Poly
+abbrev pub VE : Poly
 VE = # 2
 
-abbrev VN : Poly
+abbrev pub VN : Poly
 VN = # 3
 
-abbrev R : Poly
+abbrev pub R : Poly
 R = # 4
 
-abbrev K : Poly
+abbrev pub K : Poly
 K = # 5
 
-abbrev D : Poly
+abbrev pub D : Poly
 D = # 6
 
-abbrev SE : Poly
+abbrev pub SE : Poly
 SE = D ⊗ E ⊕ K ⊗ VE
 
-abbrev SN : Poly
+abbrev pub SN : Poly
 SN = D ⊗ N ⊕ K ⊗ VN
 
-abbrev VV : Poly
+abbrev pub VV : Poly
 VV = VE ⊗ VE ⊕ VN ⊗ VN
 
-abbrev SV : Poly
+abbrev pub SV : Poly
 SV = E ⊗ VE ⊕ N ⊗ VN
 
-abbrev CC : Poly
+abbrev pub CC : Poly
 CC = E ⊗ VN ⊖ N ⊗ VE
 
 -- x / l is at most y / k, and y is not above 0; then neither is x
@@ -70,19 +70,19 @@ no_higher x k y l k1 l0 h y0 =
     negated x h = omega (arith, ints)
 
 module _ (leg : Leg) (vol : Volume) where
-  abbrev vv : ℤ
+  abbrev pub vv : ℤ
   vv = dot_of leg.velocity.flat leg.velocity.flat
 
-  abbrev sv : ℤ
+  abbrev pub sv : ℤ
   sv = dot_of leg.place.flat leg.velocity.flat
 
-  abbrev cc : ℤ
+  abbrev pub cc : ℤ
   cc = cross_of leg.place.flat leg.velocity.flat
 
-  abbrev pp : ℤ → ℤ → ℤ
+  abbrev pub pp : ℤ → ℤ → ℤ
   pp n d = dot_of (place_at leg n d) (place_at leg n d)
 
-  abbrev pv : ℤ → ℤ → ℤ
+  abbrev pub pv : ℤ → ℤ → ℤ
   pv n d = dot_of (place_at leg n d) leg.velocity.flat
 
   abbrev all : ℤ → ℤ → List ℤ
@@ -91,7 +91,7 @@ module _ (leg : Leg) (vol : Volume) where
   products : (n d : ℤ) → vv *ℤ pp n d ≡ pv n d *ℤ pv n d +ℤ (d *ℤ cc) *ℤ (d *ℤ cc)
   products n d = ring (all n d) (VV ⊗ (SE ⊗ SE ⊕ SN ⊗ SN)) ((SE ⊗ VE ⊕ SN ⊗ VN) ⊗ (SE ⊗ VE ⊕ SN ⊗ VN) ⊕ (D ⊗ CC) ⊗ (D ⊗ CC)) tt
 
-  dot_at : (n d : ℤ) → pv n d ≡ d *ℤ sv +ℤ n *ℤ vv
+  pub dot_at : (n d : ℤ) → pv n d ≡ d *ℤ sv +ℤ n *ℤ vv
   dot_at n d = ring (all n d) (SE ⊗ VE ⊕ SN ⊗ VN) (D ⊗ SV ⊕ K ⊗ VV) tt
 
   module _ (q : Quad) (is : IsDistance leg vol q) where

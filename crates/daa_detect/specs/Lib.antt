@@ -1,3 +1,4 @@
 pub mod Hit
 pub mod Distance
 pub mod Far
+pub mod Motion

@@ -1,16 +1,19 @@
 //! The decision over a whole leg. Within the vertical window one time decides: the one of least distance.
 
-ghost use Rattle.std.specs.Prelude.{◌↔◌, IsTrue, MatchOption};
+ghost use Rattle.std.specs.Prelude.{◌≡◌, ◌↔◌, ◌≤ℤ◌, pos, IsTrue, MatchOption};
 ghost use Rattle.daa_fixed.specs.Leg.{IsLegInRange};
 ghost use Rattle.daa_fixed.specs.Time.{HoldsNever, HoldsSometime};
-ghost use Rattle.daa_taumod.specs.Volume.{IsVolumeInRange, Violates};
+ghost use Rattle.daa_taumod.specs.Volume.{IsVolumeInRange, Violates, ViolatesHorizontally};
+ghost use Rattle.daa_vwindow.specs.Window.{HasSmallNumbers};
 ghost use Rattle.daa_detect.specs.Hit.{IsHit};
+ghost use Rattle.daa_detect.specs.Motion.{IsMotion};
 
-use crate::distance::distance;
 use crate::far::is_far;
+use crate::horizontal::{closest_approach, holds_at, rate_at};
+use crate::motion::Motion;
+use crate::products::motion_of;
 use daa_fixed::{Leg, Point};
-use daa_quad::least_point;
-use daa_taumod::{Volume, violates};
+use daa_taumod::Volume;
 use daa_vwindow::window;
 
 /// A time of the leg at which it violates the volume, horizontally and vertically at that one time, and `None` exactly where
@@ -38,7 +41,9 @@ pub fn is_hit(leg: &Leg, volume: &Volume) -> bool
     hits(leg, volume).is_some()
 }
 
-/// As `hits`, without the box test.
+/// As `hits`, without the box test. Within the vertical window the nearest time decides: the first where the distance grows
+/// there, the last where it still falls there, and else the closest approach, at which a line that comes within `dthr` is
+/// within `dthr`. It takes two products of 128 bits for a line that misses or that is nearest inside the window, else four.
 pub(crate) fn nearest_hit(leg: &Leg, volume: &Volume) -> Option<Point>
     requires leg { IsLegInRange leg.now }
     requires volume { IsVolumeInRange volume.now }
@@ -47,7 +52,30 @@ pub(crate) fn nearest_hit(leg: &Leg, volume: &Volume) -> Option<Point>
         (λ p. IsHit leg.now volume.now p.num p.den) }
 {
     let (first, last) = window(leg, volume)?;
-    let nearest = least_point(&distance(leg, volume), &first, &last);
-    let found = violates(leg, volume, &nearest);
-    if found { Some(nearest) } else { None }
+    let motion = motion_of(leg, volume);
+    if motion.margin < 0 {
+        return None;
+    }
+    if rate_at(&motion, &first) >= 0 {
+        return end_if_held(leg, volume, &motion, &first);
+    }
+    if rate_at(&motion, &last) <= 0 {
+        return end_if_held(leg, volume, &motion, &last);
+    }
+    Some(closest_approach(&motion))
+}
+
+/// An end of the vertical window, if the horizontal part of the volume holds then.
+fn end_if_held(leg: &Leg, volume: &Volume, motion: &Motion, end: &Point) -> Option<Point>
+    requires leg { IsLegInRange leg.now }
+    requires volume { IsVolumeInRange volume.now }
+    requires motion { IsMotion leg.now volume.now motion.now }
+    requires passes { pos 0 ≤ℤ motion.now.margin }
+    requires small { HasSmallNumbers end.now }
+    ensures { MatchOption result
+        (¬ ViolatesHorizontally leg.now volume.now end.now.num end.now.den)
+        (λ p. (p ≡ end.now) × ViolatesHorizontally leg.now volume.now end.now.num end.now.den) }
+{
+    let held = holds_at(leg, volume, motion, end);
+    if held { Some(*end) } else { None }
 }

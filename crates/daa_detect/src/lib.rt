@@ -3,8 +3,10 @@
 #![tactic(auto)]
 
 mod detection;
-mod distance;
 mod far;
+mod horizontal;
+mod motion;
+mod products;
 #[cfg(test)]
 mod tests;
 

@@ -1,14 +1,15 @@
 //! Worked legs. The horizontal unit is 1/36000 nautical mile: 23760 units are 0.66 miles, and 3600 a second are 360 knots. The
 //! vertical unit is 1/60 foot, and one a second is a foot a minute.
 
-ghost use Rattle.std.specs.Prelude.{◌≡◌, ◌≤◌};
+ghost use Rattle.std.specs.Prelude.{◌≡◌, ◌<◌, ◌≤◌, unsigned_abs};
 ghost use Rattle.daa_fixed.specs.Leg.{IsLegInRange, IsSolidBelow};
 ghost use Rattle.daa_taumod.specs.Volume.{IsVolumeInRange};
 
 use super::*;
 use crate::detection::nearest_hit;
-use daa_fixed::{Flat, Leg, Point, Solid, before};
+use daa_fixed::{Flat, Leg, Point, Solid, before, dot, square};
 use daa_taumod::{Model, Volume, violates};
+use daa_vwindow::window;
 use std::test::Fail;
 
 const CYLINDER: Volume = Volume {
@@ -193,13 +194,55 @@ fn largest_numbers(rt: HostRuntime) -> Result<(), Fail> {
     Ok(())
 }
 
-/// What `hits` answers, where the body without the box test answers the same.
+/// The closest approach, where it lies on the leg.
+fn closest_of(leg: &Leg) -> Option<Point>
+    requires { IsLegInRange leg.now }
+{
+    let speed = square(&leg.velocity.flat);
+    let ahead = -dot(&leg.place.flat, &leg.velocity.flat);
+    if speed < 1 || speed > 8589934592 || ahead < 0 || ahead > 2199023255552 {
+        return None;
+    }
+    let closest = Point {
+        num: ahead as i64,
+        den: speed as i64,
+    };
+    let end = Point {
+        num: leg.secs as i64,
+        den: 1,
+    };
+    if before(&end, &closest) {
+        None
+    } else {
+        Some(closest)
+    }
+}
+
+/// Whether the volume itself holds at one of three times: the first and the last at which its vertical part does, and the
+/// closest approach.
+fn violates_at_one_of_three(leg: &Leg, volume: &Volume) -> bool
+    requires leg { IsLegInRange leg.now }
+    requires volume { IsVolumeInRange volume.now }
+{
+    let at_end = match window(leg, volume) {
+        Some((first, last)) => violates(leg, volume, &first) || violates(leg, volume, &last),
+        None => false,
+    };
+    let at_closest = match closest_of(leg) {
+        Some(closest) => violates(leg, volume, &closest),
+        None => false,
+    };
+    at_end || at_closest
+}
+
+/// What `hits` answers, where the body without the box test and the plain one answer the same.
 fn agreed(leg: &Leg, volume: &Volume) -> Option<bool>
     requires leg { IsLegInRange leg.now }
     requires volume { IsVolumeInRange volume.now }
 {
     let answer = hits(leg, volume).is_some();
-    if answer == nearest_hit(leg, volume).is_some() {
+    let plain = violates_at_one_of_three(leg, volume);
+    if answer == nearest_hit(leg, volume).is_some() && answer == plain {
         Some(answer)
     } else {
         None
@@ -225,5 +268,89 @@ fn box_test_changes_no_answer(rt: HostRuntime) -> Result<(), Fail> {
     assert!(rt; agreed(&leg(&solid(0, -51409, 0), &NORTHWARD, 1), &ahead) == Some(false));
     assert!(rt; agreed(&leg(&solid(0, -63360, 0), &NORTHWARD, 1), &ahead) == Some(false));
     assert!(rt; agreed(&leg(&solid(0, -63361, 0), &NORTHWARD, 1), &ahead) == Some(false));
+    Ok(())
+}
+
+const HUNDRED_FEET: Volume = Volume {
+    zthr: 6000,
+    ..CYLINDER
+};
+
+/// Ten seconds northward at 360 knots, climbing at 3000 feet a minute from 140 feet below: within 100 feet from 0.8 to 4.8
+/// seconds.
+fn climbing(east: i64, north: i64) -> Leg
+    requires east { unsigned_abs east < 40000000 }
+    requires north { unsigned_abs north < 40000000 }
+    ensures { IsLegInRange result }
+{
+    leg(&solid(east, north, -8400), &solid(0, 3600, 3000), 10)
+}
+
+// It is 0.66 miles off at 0.8 seconds, at 4.8 seconds or at the closest approach, or a unit farther.
+#[test]
+fn nearest_time_of_the_window_decides(rt: HostRuntime) -> Result<(), Fail> {
+    assert!(rt; agreed(&climbing(0, 20880), &HUNDRED_FEET) == Some(true));
+    assert!(rt; agreed(&climbing(0, 20881), &HUNDRED_FEET) == Some(false));
+    assert!(rt; agreed(&climbing(0, -41040), &HUNDRED_FEET) == Some(true));
+    assert!(rt; agreed(&climbing(0, -41041), &HUNDRED_FEET) == Some(false));
+    assert!(rt; agreed(&climbing(23760, -7200), &HUNDRED_FEET) == Some(true));
+    assert!(rt; agreed(&climbing(23761, -7200), &HUNDRED_FEET) == Some(false));
+    assert!(rt; agreed(&climbing(23760, -2880), &HUNDRED_FEET) == Some(true));
+    assert!(rt; agreed(&climbing(23760, -2879), &HUNDRED_FEET) == Some(false));
+    assert!(rt; agreed(&climbing(23760, -17280), &HUNDRED_FEET) == Some(true));
+    assert!(rt; agreed(&climbing(23760, -17281), &HUNDRED_FEET) == Some(false));
+    assert!(rt; is_at(hits(&climbing(23760, -7200), &HUNDRED_FEET), 2, 1));
+    assert!(rt; is_at(hits(&climbing(23760, -17280), &HUNDRED_FEET), 24, 5));
+    Ok(())
+}
+
+// At 4.8 seconds the closest approach is a second ahead, at 23760 units, or ten seconds ahead, at 11880; or a unit farther on.
+#[test]
+fn time_ahead_at_the_end_of_the_window(rt: HostRuntime) -> Result<(), Fail> {
+    let second = Volume {
+        tthr: 1,
+        ..HUNDRED_FEET
+    };
+    let ten = Volume {
+        tthr: 10,
+        ..HUNDRED_FEET
+    };
+    assert!(rt; agreed(&climbing(23760, -20880), &second) == Some(true));
+    assert!(rt; agreed(&climbing(23760, -20881), &second) == Some(false));
+    assert!(rt; agreed(&climbing(23761, -20880), &second) == Some(false));
+    assert!(rt; agreed(&climbing(11880, -53281), &ten) == Some(true));
+    assert!(rt; agreed(&climbing(11880, 30000), &ten) == Some(false));
+    let closest_second = Volume {
+        model: Model::Tcpa,
+        ..second
+    };
+    let closest_ten = Volume {
+        model: Model::Tcpa,
+        ..ten
+    };
+    assert!(rt; agreed(&climbing(23760, -20880), &closest_second) == Some(true));
+    assert!(rt; agreed(&climbing(23760, -20881), &closest_second) == Some(false));
+    assert!(rt; agreed(&climbing(23761, -20880), &closest_second) == Some(false));
+    assert!(rt; agreed(&climbing(11880, -53280), &closest_ten) == Some(true));
+    assert!(rt; agreed(&climbing(11880, -53281), &closest_ten) == Some(false));
+    assert!(rt; agreed(&climbing(11880, 30000), &closest_ten) == Some(false));
+    Ok(())
+}
+
+// It climbs straight up, or its heights meet at the last instant of a second.
+#[test]
+fn no_horizontal_speed_and_one_instant(rt: HostRuntime) -> Result<(), Fail> {
+    let straight_up = solid(0, 0, 3000);
+    let ahead = Volume {
+        tthr: 35,
+        ..HUNDRED_FEET
+    };
+    assert!(rt; agreed(&leg(&solid(16800, 16800, -8400), &straight_up, 10), &ahead) == Some(true));
+    assert!(rt; agreed(&leg(&solid(16801, 16801, -8400), &straight_up, 10), &ahead) == Some(false));
+    let slower = solid(0, 3600, 2400);
+    assert!(rt; agreed(&leg(&solid(0, 20160, -8400), &slower, 1), &HUNDRED_FEET) == Some(true));
+    assert!(rt; agreed(&leg(&solid(0, 20161, -8400), &slower, 1), &HUNDRED_FEET) == Some(false));
+    assert!(rt; agreed(&leg(&solid(0, -27360, -8400), &slower, 1), &HUNDRED_FEET) == Some(true));
+    assert!(rt; agreed(&leg(&solid(0, -27361, -8400), &slower, 1), &HUNDRED_FEET) == Some(false));
     Ok(())
 }

@@ -1,11 +1,11 @@
 //! The times at which a height lies within a band.
 
-ghost use Rattle.std.specs.Prelude.{◌≡◌, ◌≤◌, ◌≤ℤ◌, ◌*ℤ◌, ◌-ℤ◌, neg_ℤ, pos, MatchOption};
+ghost use Rattle.std.specs.Prelude.{◌≡◌, ◌≤◌, ◌≤ℤ◌, ◌*ℤ◌, ◌-ℤ◌, neg_ℤ, pos, IfSome, MatchOption};
 ghost use Rattle.std.specs.Int.{int_max, int_min};
 ghost use Rattle.daa_fixed.specs.Size.{IsWithin};
 ghost use Rattle.daa_fixed.specs.Time.{HoldsNever};
 ghost use Rattle.daa_vwindow.specs.Band.{IsInBand};
-ghost use Rattle.daa_vwindow.specs.Window.{IsWindow};
+ghost use Rattle.daa_vwindow.specs.Window.{HasSmallNumbers, IsWindow};
 
 use daa_fixed::Point;
 
@@ -13,9 +13,10 @@ use daa_fixed::Point;
 pub(crate) fn level(height: i64, high: i64, secs: u32) -> Option<(Point, Point)>
     requires secs { secs ≤ 180 }
     requires height { IsWithin 40000000 height }
-    ensures { MatchOption result
+    ensures times { MatchOption result
         (HoldsNever secs (IsInBand height (pos 0) high high))
         (λ (p, q). IsWindow secs (IsInBand height (pos 0) high high) p q) }
+    ensures small { IfSome result (λ (p, q). HasSmallNumbers p × HasSmallNumbers q) }
 {
     if height.abs() <= high {
         let begin = Point { num: 0, den: 1 };
@@ -43,9 +44,10 @@ pub(crate) fn passage(
     requires height { IsWithin 40000000 height }
     requires low { IsWithin 40000000 low }
     requires high { IsWithin 40000000 high }
-    ensures { MatchOption result
+    ensures times { MatchOption result
         (HoldsNever secs (IsInBand height speed low high))
         (λ (p, q). IsWindow secs (IsInBand height speed low high) p q) }
+    ensures small { IfSome result (λ (p, q). HasSmallNumbers p × HasSmallNumbers q) }
 {
     let first = first_within(height, low);
     let last = last_within(height, speed, high, secs);

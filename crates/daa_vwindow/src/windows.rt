@@ -1,13 +1,13 @@
 //! The vertical window of a leg. An aircraft that descends toward another is treated as its mirror image, one that climbs.
 
-ghost use Rattle.std.specs.Prelude.{◌≤◌, ◌≤ℤ◌, ◌*ℤ◌, pos, MatchOption};
+ghost use Rattle.std.specs.Prelude.{◌≤◌, ◌≤ℤ◌, ◌*ℤ◌, pos, IfSome, MatchOption};
 ghost use Rattle.std.specs.Int.{int_max};
 ghost use Rattle.daa_fixed.specs.Leg.{IsLegInRange};
 ghost use Rattle.daa_fixed.specs.Size.{IsWithin};
 ghost use Rattle.daa_fixed.specs.Time.{HoldsNever};
 ghost use Rattle.daa_taumod.specs.Volume.{IsVolumeInRange, ViolatesVertically};
 ghost use Rattle.daa_vwindow.specs.Band.{IsInBand};
-ghost use Rattle.daa_vwindow.specs.Window.{IsWindow};
+ghost use Rattle.daa_vwindow.specs.Window.{HasSmallNumbers, IsWindow};
 
 use crate::band::{level, passage};
 use daa_fixed::{Leg, Point};
@@ -18,9 +18,10 @@ use daa_taumod::Volume;
 pub fn window(leg: &Leg, volume: &Volume) -> Option<(Point, Point)>
     requires leg { IsLegInRange leg.now }
     requires volume { IsVolumeInRange volume.now }
-    ensures { MatchOption result
+    ensures times { MatchOption result
         (HoldsNever leg.now.secs (ViolatesVertically leg.now volume.now))
         (λ (p, q). IsWindow leg.now.secs (ViolatesVertically leg.now volume.now) p q) }
+    ensures small { IfSome result (λ (p, q). HasSmallNumbers p × HasSmallNumbers q) }
 {
     let height = leg.place.up;
     let speed = leg.velocity.up;
@@ -41,10 +42,11 @@ fn rise(height: i64, speed: i64, volume: &Volume, secs: u32) -> Option<(Point, P
     requires rises { pos 1 ≤ℤ speed }
     requires speed { speed ≤ℤ pos 40000 }
     requires height { IsWithin 40000000 height }
-    ensures { let low = int_max (pos volume.now.zthr) (pos volume.now.tcoa *ℤ speed) in
+    ensures times { let low = int_max (pos volume.now.zthr) (pos volume.now.tcoa *ℤ speed) in
         MatchOption result
         (HoldsNever secs (IsInBand height speed low (pos volume.now.zthr)))
         (λ (p, q). IsWindow secs (IsInBand height speed low (pos volume.now.zthr)) p q) }
+    ensures small { IfSome result (λ (p, q). HasSmallNumbers p × HasSmallNumbers q) }
 {
     let high = volume.zthr as i64;
     let gained = volume.tcoa as i64 * speed;

@@ -1,23 +1,74 @@
-use Rattle.std.proofs.Common.{◌≤◌, rules}
-use Rattle.daa_detect.proofs.Nearest.{time_between, vertex_small, none_elsewhere}
+use Rattle.std.proofs.Common.{pos, ◌≤ℤ◌, ◌<ℤ◌, arith, rules}
+use Rattle.std.proofs.lemmas.Int.{ints}
+use Rattle.daa_fixed.specs.Leg.{IsLegInRange}
+use Rattle.daa_taumod.specs.Volume.{IsVolumeInRange}
+use Rattle.daa_detect.specs.Motion.{rate_of}
+use Rattle.daa_detect.proofs.Sizes.{IsMotionInRange, margin-kept}
+use Rattle.daa_detect.proofs.Ends.{missed, first_decides, last_decides, is_ahead, approach_hits}
 use Rattle.daa_detect.proofs.detection.nearest_hit.Goals as goal
 
-pub least_point-nearest-requires-clause-vertex : goal.least_point-nearest-requires-clause-vertex
-least_point-nearest-requires-clause-vertex c a1 between =
-    let short : c.args.leg.now.secs ≤ 180 = search rules in
-    let w = c.in_ok-first.ensures in
-    vertex_small c.args.leg.now.secs c.in_ok-first.first c.in_ok-first.last c.distance.result.a c.distance.result.b short c.in_ok-first.last.positive w.last a1 c.distance.result.a_bound between
+pub returns-then-motion-lt0 : goal.returns-then-motion-lt0
+returns-then-motion-lt0 c =
+    let m = c.motion_of-motion.result in
+    let s : IsMotionInRange m = search rules in
+    let kept = margin-kept s in
+    missed c.args.leg.now c.args.volume.now m c.motion_of-motion.ensures (omega (arith, ints))
 
-pub returns-then-found : goal.returns-then-found
-returns-then-found c =
-    let w = c.in_ok-first.ensures in
-    let nearest = c.least_point-nearest.result in record {
-      time = time_between c.args.leg.now.secs c.in_ok-first.first c.in_ok-first.last nearest.num nearest.den c.in_ok-first.last.positive w.last nearest.not_negative c.least_point-nearest.ensures.between;
-      violates = search rules;
-    }
+pub end_if_held-requires-clause-passes : goal.end_if_held-requires-clause-passes
+end_if_held-requires-clause-passes c =
+    let m = c.motion_of-motion.result in
+    let s : IsMotionInRange m = search rules in
+    let kept = margin-kept s in
+    omega (arith, ints)
 
-pub returns-else-found : goal.returns-else-found
-returns-else-found c =
-    let w = c.in_ok-first.ensures in
-    let nearest = c.least_point-nearest.result in
-    none_elsewhere c.args.leg.now c.args.volume.now c.distance.result c.distance.ensures c.in_ok-first.first c.in_ok-first.last nearest w c.in_ok-first.first.positive c.in_ok-first.last.positive nearest.not_negative nearest.positive c.least_point-nearest.ensures.between c.least_point-nearest.ensures.least (search rules)
+pub returns-then-rate_at-ge0 : goal.returns-then-rate_at-ge0
+returns-then-rate_at-ge0 c =
+    let m = c.motion_of-motion.result in
+    let r : IsLegInRange c.args.leg.now = search rules in
+    let v : IsVolumeInRange c.args.volume.now = search rules in
+    let first = c.in_ok-first.first in
+    let last = c.in_ok-first.last in
+    let up : pos 0 ≤ℤ rate_of m first.num first.den = omega (arith, ints) in
+    first_decides c.args.leg.now c.args.volume.now m c.motion_of-motion.ensures r v first last c.in_ok-first.ensures.times up _ c.end_if_held.ensures
+
+pub end_if_held-requires-then-rate_at-le0-clause-passes : goal.end_if_held-requires-then-rate_at-le0-clause-passes
+end_if_held-requires-then-rate_at-le0-clause-passes c =
+    let m = c.motion_of-motion.result in
+    let s : IsMotionInRange m = search rules in
+    let kept = margin-kept s in
+    omega (arith, ints)
+
+pub returns-then-rate_at-le0 : goal.returns-then-rate_at-le0
+returns-then-rate_at-le0 c =
+    let m = c.motion_of-motion.result in
+    let r : IsLegInRange c.args.leg.now = search rules in
+    let v : IsVolumeInRange c.args.volume.now = search rules in
+    let first = c.in_ok-first.first in
+    let last = c.in_ok-first.last in
+    let down : rate_of m last.num last.den ≤ℤ pos 0 = omega (arith, ints) in
+    last_decides c.args.leg.now c.args.volume.now m c.motion_of-motion.ensures r v first last c.in_ok-first.ensures.times down _ c.end_if_held-then-rate_at-le0.ensures
+
+pub closest_approach-requires : goal.closest_approach-requires
+closest_approach-requires c =
+    let m = c.motion_of-motion.result in
+    let r : IsLegInRange c.args.leg.now = search rules in
+    let v : IsVolumeInRange c.args.volume.now = search rules in
+    let first = c.in_ok-first.first in
+    let last = c.in_ok-first.last in
+    let down : rate_of m first.num first.den <ℤ pos 0 = omega (arith, ints) in
+    let up : pos 0 <ℤ rate_of m last.num last.den = omega (arith, ints) in
+    is_ahead c.args.leg.now c.args.volume.now m c.motion_of-motion.ensures r v first last c.in_ok-first.ensures.times down up
+
+pub returns : goal.returns
+returns c =
+    let m = c.motion_of-motion.result in
+    let s : IsMotionInRange m = search rules in
+    let kept = margin-kept s in
+    let r : IsLegInRange c.args.leg.now = search rules in
+    let v : IsVolumeInRange c.args.volume.now = search rules in
+    let first = c.in_ok-first.first in
+    let last = c.in_ok-first.last in
+    let down : rate_of m first.num first.den <ℤ pos 0 = omega (arith, ints) in
+    let up : pos 0 <ℤ rate_of m last.num last.den = omega (arith, ints) in
+    let passes : pos 0 ≤ℤ m.margin = omega (arith, ints) in
+    rw (c.closest_approach.ensures.num, c.closest_approach.ensures.den) (approach_hits c.args.leg.now c.args.volume.now m c.motion_of-motion.ensures r v first last c.in_ok-first.ensures.times down up passes)

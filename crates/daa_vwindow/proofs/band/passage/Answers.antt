@@ -35,8 +35,8 @@ invariant_of-end c =
       den_bound = omega (arith, ints);
     }
 
-pub returns-then-first-last : goal.returns-then-first-last
-returns-then-first-last c =
+pub returns-then-first-last-clause-times : goal.returns-then-first-last-clause-times
+returns-then-first-last-clause-times c =
     let f = first_is _ c.args.low c.args.height c.ranges.low c.ranges.height c.first_within-first.ensures in
     let l = last_is c.args.secs _ c.args.high c.args.height c.args.speed c.ranges.high c.ranges.height c.ranges.speed c.last_within-last.ensures in
     let first : to_z w64 (of_z w64 c.first_within-first.result) ≡ c.first_within-first.result = omega (arith, ints) in
@@ -44,8 +44,15 @@ returns-then-first-last c =
     let speed : to_z w64 (of_z w64 c.args.speed) ≡ c.args.speed = to_z-of_z c.ranges.speed in
     window c.args.secs c.args.height c.args.speed c.args.low c.args.high _ _ c.requires.rises f l _ _ first speed last speed (omega (arith, ints))
 
-pub returns-else-first-last : goal.returns-else-first-last
-returns-else-first-last c =
+pub returns-then-first-last-clause-small : goal.returns-then-first-last-clause-small
+returns-then-first-last-clause-small c =
+    let f = first_is _ c.args.low c.args.height c.ranges.low c.ranges.height c.first_within-first.ensures in
+    let l = last_is c.args.secs _ c.args.high c.args.height c.args.speed c.ranges.high c.ranges.height c.ranges.speed c.last_within-last.ensures in
+    let e = ends_are c.args.secs c.args.height c.args.speed c.args.low c.args.high _ _ c.requires.secs c.requires.rises c.requires.speed f l (omega (arith, ints)) in
+    (record { num = omega (arith, ints, e.in_order, e.ended); den = omega (arith, ints) }, record { num = omega (arith, ints, e.ended); den = omega (arith, ints) })
+
+pub returns-else-first-last-clause-times : goal.returns-else-first-last-clause-times
+returns-else-first-last-clause-times c =
     let f = first_is _ c.args.low c.args.height c.ranges.low c.ranges.height c.first_within-first.ensures in
     let l = last_is c.args.secs _ c.args.high c.args.height c.args.speed c.ranges.high c.ranges.height c.ranges.speed c.last_within-last.ensures in
     never c.args.secs c.args.height c.args.speed c.args.low c.args.high _ _ c.requires.rises f l (omega (arith, ints))

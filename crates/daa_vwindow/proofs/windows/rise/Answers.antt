@@ -21,8 +21,8 @@ passage-requires-clause-low c =
     let x = max_is (pos c.args.volume.now.zthr) (pos c.args.volume.now.tcoa *ℤ c.args.speed) (simp (z, t, to_z-of_z) at c.max.ensures.value) in
     simp to_z-of_z (max_small c.requires.volume.zthr g x)
 
-pub returns : goal.returns
-returns c =
+pub returns-clause-times : goal.returns-clause-times
+returns-clause-times c =
     let z = nat_kept c.args.volume.now.zthr c.requires.volume.zthr in
     let t = nat_kept c.args.volume.now.tcoa (omega (arith, c.requires.volume.tcoa)) in
     let h : FitsSigned w64 c.args.height = c.ranges.height in
@@ -30,4 +30,4 @@ returns c =
     let f = fits w64 (gain c.args.volume.now.tcoa c.args.speed c.requires.volume.tcoa c.requires.rises c.requires.speed) (lit< tt) in
     let m : FitsSigned w64 c.max.result = search rules in
     let low = simp (z, t, to_z-of_z) at c.max.ensures.value in
-    rw (← low) (simp (z, to_z-of_z) at c.passage.ensures)
+    rw (← low) (simp (z, to_z-of_z) at c.passage.ensures.times)

@@ -1,0 +1,110 @@
+//! The horizontal part of the volume at one time of a leg, from the numbers of its motion.
+
+ghost use Rattle.std.specs.Prelude.{◌≡◌, ◌↔◌, ◌≤◌, ◌*ℤ◌, ◌≤ℤ◌, neg_ℤ, pos, IsTrue};
+ghost use Rattle.daa_fixed.specs.Flat.{dot_of, square_of};
+ghost use Rattle.daa_fixed.specs.Leg.{IsLegInRange};
+ghost use Rattle.daa_taumod.specs.Volume.{IsVolumeInRange, IsNear, ViolatesHorizontally};
+ghost use Rattle.daa_vwindow.specs.Window.{HasSmallNumbers};
+ghost use Rattle.daa_detect.specs.Motion.{IsMotion, IsAhead, IsTauWithin, rate_of};
+
+use crate::motion::Motion;
+use daa_fixed::{Leg, Point};
+use daa_taumod::{Model, Volume};
+
+/// How fast the distance grows at that time, times the distance and the time's denominator: below 0 where it falls.
+pub(crate) fn rate_at(motion: &Motion, point: &Point) -> i64
+    requires { HasSmallNumbers point.now }
+    ensures { result ≡ rate_of motion.now point.now.num point.now.den }
+{
+    point.den * motion.rate + point.num * motion.speed_squared
+}
+
+/// Whether the horizontal part of the volume holds at that time of a leg whose line comes within `dthr`: two products of 128
+/// bits at most.
+pub(crate) fn holds_at(leg: &Leg, volume: &Volume, motion: &Motion, point: &Point) -> bool
+    requires leg { IsLegInRange leg.now }
+    requires volume { IsVolumeInRange volume.now }
+    requires motion { IsMotion leg.now volume.now motion.now }
+    requires passes { pos 0 ≤ℤ motion.now.margin }
+    requires small { HasSmallNumbers point.now }
+    ensures { IsTrue result ↔ ViolatesHorizontally leg.now volume.now point.now.num point.now.den }
+{
+    if rate_at(motion, point) >= 0 {
+        return is_near(leg, volume, motion, point);
+    }
+    match volume.model {
+        Model::Taumod => is_tau_within(motion, point, volume.tthr),
+        Model::Tcpa => {
+            is_closest_within(motion, point, volume.tthr) || is_near(leg, volume, motion, point)
+        }
+    }
+}
+
+/// Whether the distance is at most `dthr`.
+fn is_near(leg: &Leg, volume: &Volume, motion: &Motion, point: &Point) -> bool
+    requires leg { IsLegInRange leg.now }
+    requires volume { IsVolumeInRange volume.now }
+    requires motion { IsMotion leg.now volume.now motion.now }
+    requires small { HasSmallNumbers point.now }
+    ensures { IsTrue result ↔ IsNear leg.now volume.now point.now.num point.now.den }
+{
+    if motion.speed_squared == 0 {
+        begins_near(leg, volume)
+    } else {
+        is_tau_within(motion, point, 0)
+    }
+}
+
+/// Whether the distance is at most `dthr` at the leg's beginning.
+fn begins_near(leg: &Leg, volume: &Volume) -> bool
+    requires leg { IsLegInRange leg.now }
+    requires volume { IsVolumeInRange volume.now }
+    ensures { IsTrue result ↔ (dot_of leg.now.place.flat leg.now.place.flat ≤ℤ square_of (pos volume.now.dthr)) }
+{
+    let s = &leg.place.flat;
+    let dthr = volume.dthr as i64;
+    s.east * s.east + s.north * s.north <= dthr * dthr
+}
+
+/// Whether `s.s + secs (s.v)` is at most `dthr^2` at that time, for what moves: with 0 seconds the distance is at most `dthr`,
+/// and where it falls modified tau is at most `secs`. Multiplied by `v.v`, that compares the product of the rate and the rate
+/// `secs` seconds later with the margin.
+fn is_tau_within(motion: &Motion, point: &Point, secs: u32) -> bool
+    requires small { HasSmallNumbers point.now }
+    requires secs { secs ≤ 120 }
+    ensures { IsTrue result ↔ IsTauWithin motion.now secs point.now.num point.now.den }
+{
+    let rate = rate_at(motion, point);
+    let later = rate + gained(motion, point, secs);
+    rate as i128 * later as i128 <= (point.den * point.den) as i128 * motion.margin
+}
+
+/// Whether the closest approach is at most `secs` seconds off, where the distance falls.
+fn is_closest_within(motion: &Motion, point: &Point, secs: u32) -> bool
+    requires small { HasSmallNumbers point.now }
+    requires secs { secs ≤ 120 }
+    ensures { IsTrue result ↔ (neg_ℤ (rate_of motion.now point.now.num point.now.den) ≤ℤ (pos secs *ℤ point.now.den *ℤ motion.now.speed_squared)) }
+{
+    -rate_at(motion, point) <= gained(motion, point, secs)
+}
+
+/// What the rate gains in `secs` seconds, times the time's denominator: `secs (v.v)`.
+fn gained(motion: &Motion, point: &Point, secs: u32) -> i64
+    requires small { HasSmallNumbers point.now }
+    requires secs { secs ≤ 120 }
+    ensures { result ≡ pos secs *ℤ point.now.den *ℤ motion.now.speed_squared }
+{
+    secs as i64 * point.den * motion.speed_squared
+}
+
+/// The time of the closest approach, `-(s.v)/(v.v)`.
+pub(crate) fn closest_approach(motion: &Motion) -> Point
+    requires { IsAhead motion.now }
+    ensures num { result.num ≡ neg_ℤ motion.now.rate }
+    ensures den { result.den ≡ motion.now.speed_squared }
+{
+    Point {
+        num: -motion.rate,
+        den: motion.speed_squared,
+    }
+}
