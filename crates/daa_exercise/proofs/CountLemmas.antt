@@ -1,5 +1,5 @@
 -- What is counted of one moment more.
-use Rattle.std.proofs.Common.{◌≡◌, ◌∙◌, ◌⊎◌, inl, inr, ◌<◌, ◌≤◌, ◌+◌, ◌*◌, ◌-◌, ℕ, zero, suc, List, [], ◌∷◌, ◌++◌, length, map, take, refl, sym, ap, arith, subst, add-one, zero-add, length-append}
+use Rattle.std.proofs.Common.{◌≡◌, ◌∙◌, ◌⊎◌, inl, inr, ◌<◌, ◌≤◌, ◌+◌, ℕ, List, ◌++◌, length, map, take, refl, sym, ap, arith, subst, add-one, zero-add, length-append}
 use Rattle.std.specs.Prelude.{Option, Result, slice_index, ◌==◌}
 use Rattle.std.specs.List.{range_with_len}
 use Rattle.std.proofs.lemmas.Bool.{cases_lt}
@@ -10,7 +10,7 @@ use Rattle.std.proofs.lemmas.Slice.Zip.{AllZip-long}
 use Rattle.daa_bands.specs.Board.{HasLevelOn, IsBoardOf, mask_levels}
 use Rattle.daa_bands.specs.KindBands.{AreShown}
 use Rattle.daa_bands.proofs.KindLemmas.{greatest_covered}
-use Rattle.daa_config.specs.Candidates.{start_of, values_of, candidates_of}
+use Rattle.daa_config.specs.Candidates.{start_of}
 use Rattle.daa_config.specs.Settings.{Settings, IsAccepted}
 use Rattle.daa_config.specs.declared.kind.Kind.{Kind}
 use Rattle.daa_config.specs.declared.kind.Kind.TheVariants.{Track, Speed, Climb, Height}

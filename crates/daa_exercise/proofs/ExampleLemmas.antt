@@ -1,5 +1,5 @@
 -- The worked examples, computed.
-use Rattle.std.proofs.Common.{◌≡◌, ◌∷◌, [], ℕ, List, pos, neg_ℤ, refl}
+use Rattle.std.proofs.Common.{◌≡◌, ◌∷◌, [], pos, neg_ℤ, refl}
 use Rattle.std.specs.Prelude.{codes}
 use Rattle.std.specs.Fmt.{digits}
 use Rattle.rand_core.specs.Pcg32Seed.{pcg32_seed}

@@ -1,13 +1,12 @@
 -- How often each level stands among levels adds up to how many levels there are.
-use Rattle.std.proofs.Common.{◌≡◌, ◌∙◌, ◌⊎◌, inl, inr, ◌<◌, ◌≤◌, ◌+◌, ◌*◌, ℕ, zero, suc, true, false, List, [], ◌∷◌, ◌++◌, length, map, refl, sym, ap, ap₂, arith, subst, zero-add, add-one, suc-mul, zero-mul, length-append}
+use Rattle.std.proofs.Common.{◌≡◌, ◌∙◌, ◌⊎◌, inl, inr, ◌<◌, ◌≤◌, ◌+◌, ◌*◌, ℕ, zero, suc, List, [], ◌∷◌, ◌++◌, length, map, refl, sym, ap, arith, subst, zero-add, add-one, suc-mul, zero-mul, length-append}
 use Rattle.std.specs.Prelude.{slice_index, cond, ◌==◌}
-use Rattle.std.specs.List.{AllByRecursion, AllZip, range_with_len, sum, sum_by, count_by}
+use Rattle.std.specs.List.{AllByRecursion, AllZip, range_with_len, sum}
 use Rattle.std.proofs.lemmas.Bool.{cases_lt}
 use Rattle.std.proofs.lemmas.Bool.Decides.{nat_tests}
 use Rattle.std.proofs.lemmas.List.FromFn.{sum_by-map-range_with_len_more}
 use Rattle.std.proofs.lemmas.List.Sums.{sum_by-cons}
 use Rattle.std.proofs.lemmas.Slice.Zip.{AllZip-long}
-use Rattle.daa_bands.specs.KindBands.{AreShown}
 use Rattle.daa_config.specs.Candidates.{values_of}
 use Rattle.daa_config.specs.Settings.{Settings}
 use Rattle.daa_config.specs.declared.kind.Kind.{Kind}

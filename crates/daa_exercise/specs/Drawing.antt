@@ -1,5 +1,5 @@
 -- What a draw leaves of a generator.
-use Rattle.std.specs.Prelude.{ℕ, ◌+◌, ◌≤ℤ◌, ◌-ℤ◌, pos}
+use Rattle.std.specs.Prelude.{ℕ, ◌≤ℤ◌, ◌-ℤ◌, pos}
 use Rattle.rand_pcg.specs.Lcg.{Lcg, advance}
 use Rattle.rand_pcg.specs.Pcg.{multiplier_64}
 use Rattle.daa_state.specs.Ranges.{Range}

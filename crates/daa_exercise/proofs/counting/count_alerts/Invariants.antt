@@ -1,4 +1,4 @@
-use Rattle.std.proofs.Common.{◌≡◌, ◌+◌, ℕ, List, take}
+use Rattle.std.proofs.Common.{◌+◌, ℕ, take}
 use Rattle.std.specs.List.{AllZip}
 use Rattle.daa_legs.specs.Alerts.{IsAlertLevel}
 use Rattle.daa_state.specs.Picture.{aircraft_of}

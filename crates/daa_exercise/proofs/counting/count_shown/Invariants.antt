@@ -1,4 +1,4 @@
-use Rattle.std.proofs.Common.{◌≡◌, ◌+◌, ℕ, List}
+use Rattle.std.proofs.Common.{◌+◌, ℕ}
 use Rattle.daa_bands.specs.Board.{HasLevelOn, mask_levels}
 use Rattle.daa_config.specs.Level.{IsGreatestLevel}
 use Rattle.daa_exercise.specs.Counting.{Adds, HasRoom}

@@ -1,4 +1,4 @@
-use Rattle.std.proofs.Common.{rules, ◌≡◌, ◌∙◌, ap, subst, sym, arith}
+use Rattle.std.proofs.Common.{rules, ◌∙◌, ap, subst, sym, arith}
 use Rattle.daa_bands.specs.Board.{IsBoardOf}
 use Rattle.daa_config.specs.Settings.{Settings, IsAccepted}
 use Rattle.daa_engine.specs.Covered.{CoveredAt}

@@ -1,4 +1,4 @@
-use Rattle.std.proofs.Common.{rules, ◌≡◌, sym, subst}
+use Rattle.std.proofs.Common.{sym, subst}
 use Rattle.daa_state.specs.InRange.{IsPictureInRange}
 use Rattle.daa_exercise.specs.Words.{words_from}
 use Rattle.daa_exercise.proofs.MoveLemmas.{moment_drawn}

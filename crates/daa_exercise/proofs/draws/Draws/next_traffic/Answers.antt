@@ -1,4 +1,4 @@
-use Rattle.std.proofs.Common.{rules, ◌≡◌, ◌<◌, ◌∙◌, List, length, ap, sym, arith}
+use Rattle.std.proofs.Common.{◌≡◌, ◌∙◌, List, length, ap, sym, arith}
 use Rattle.daa_state.specs.declared.word.Traffic.{Traffic}
 use Rattle.daa_exercise.specs.Words.{words_from}
 use Rattle.daa_exercise.proofs.DrawLemmas.{none_after}

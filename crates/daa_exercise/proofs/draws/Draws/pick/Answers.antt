@@ -1,6 +1,5 @@
-use Rattle.std.proofs.Common.{rules, ◌≡◌, ◌∙◌, ap, subst, ℕ, sym}
+use Rattle.std.proofs.Common.{rules, ◌∙◌, ap}
 use Rattle.rand_pcg.specs.Lcg.{Lcg}
-use Rattle.rand_pcg.specs.Pcg.{pcg32}
 use Rattle.daa_exercise.specs.Drawing.{after, range_of}
 use Rattle.daa_exercise.specs.Words.{picked, words_from}
 use Rattle.daa_exercise.proofs.DrawLemmas.{computed, first_is, rest_is}
