@@ -70,7 +70,7 @@ module _ (word : Words) where
   unfolding own_at
   own_altitude at = picks own_altitudes own_altitudes (word at) (omega (arith, ints)) (omega (arith, ints)) (omega (arith, ints))
 
-  count_few : (at : ℕ) → count_at word at ≤ 8
+  pub count_few : (at : ℕ) → count_at word at ≤ 8
   unfolding count_at
   count_few at = let h = (picks aircraft_counts aircraft_counts (word (at + 4)) (omega (arith, ints)) (omega (arith, ints)) (omega (arith, ints))) in size (picked aircraft_counts (word (at + 4))) h.0 h.1
     where
@@ -91,7 +91,7 @@ module _ (word : Words) where
     age = omega arith;
   }
 
-  aircraft_is : (altitude : ℤ) (count at k : ℕ) (d : Traffic) → k < count → slice_index_or (traffic_at word altitude count at) k d ≡ aircraft_at word altitude (k + 1) (at + 6 * k)
+  pub aircraft_is : (altitude : ℤ) (count at k : ℕ) (d : Traffic) → k < count → slice_index_or (traffic_at word altitude count at) k d ≡ aircraft_at word altitude (k + 1) (at + 6 * k)
   unfolding traffic_at
   aircraft_is altitude count at k d lt = get_or-map-range_with_len (λ i. aircraft_at word altitude (i + 1) (at + 6 * i)) 0 count k k d lt (zero-add k)
 

@@ -1,14 +1,16 @@
 //! Laws of the definitions, each the contract of a function that does nothing.
-ghost use Rattle.std.specs.Prelude.{◌≡◌, ◌*◌, ◌∷◌, [], ℕ, List, codes, length, neg_ℤ, pos, sum};
+ghost use Rattle.std.specs.Prelude.{◌≡◌, ◌<◌, ◌*◌, ◌^◌, ◌∷◌, [], ℕ, IfSome, List, None, codes, length, neg_ℤ, pos, sum};
 ghost use Rattle.rand_core.specs.Steps.{first_words};
 ghost use Rattle.rand_pcg.specs.Pcg.{pcg32};
 ghost use Rattle.daa_config.specs.Candidates.{values_of};
 ghost use Rattle.daa_config.specs.Settings.{IsAccepted, Settings};
 ghost use Rattle.daa_config.specs.declared.kind.Kind.{Kind};
 ghost use Rattle.daa_state.specs.InRange.{IsPictureInRange};
+ghost use Rattle.daa_state.specs.MomentStep.{State};
 ghost use Rattle.daa_exercise.specs.Levels.{AreLevels, HasAlerts, HasShown, aircraft_in, counts_of};
 ghost use Rattle.daa_exercise.specs.Moments.{aircraft_at, begin_of, moment_of, own_at};
 ghost use Rattle.daa_exercise.specs.OneSummary.{HasOneSummary};
+ghost use Rattle.daa_exercise.specs.Taken.{IsTaken};
 ghost use Rattle.daa_exercise.specs.Words.{Words, generator_of, words_of};
 
 /// Under a configuration that is accepted exactly one text is the summary of a seed and a number of moments. This holds of
@@ -20,6 +22,14 @@ pub fn every_exercise_has_one_summary()
 /// Every moment that is drawn is in range, whatever the words are.
 pub fn drawn_moments_are_in_range()
     ensures { (word : Words) (time : ℕ) → IsPictureInRange (moment_of word time) }
+{}
+
+/// No moment that is drawn is refused: after any state with no open moment whose last time, if there is one, is earlier, each
+/// word that says the moment is accepted, and its end gives the moment. So the moments of the times 0, 1, .. are accepted one
+/// after the other.
+pub fn drawn_moments_are_taken()
+    ensures { (word : Words) (time : ℕ) (state : State) → time < 2 ^ 32 → state.moment ≡ None → IfSome state.last (λ last. last < time)
+        → IsTaken state (moment_of word time) }
 {}
 
 /// How often each level was an alert level adds up to the number of aircraft, and how often each was shown for a kind to
