@@ -79,7 +79,6 @@ fn expect_summary<R: Abort + Threads + Sync + AllocGlobal>(
     moments: u32,
     summary: &str,
 ) -> Result<(), Fail>
-    requires some { 1 ≤ moments }
     requires few { moments ≤ 10000 }
 {
     let mut engine = engine_of(rt, text)?;
