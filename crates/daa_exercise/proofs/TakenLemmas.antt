@@ -22,7 +22,7 @@ use Rattle.daa_state.specs.declared.word.Word.TheVariants as says
 use Rattle.daa_state.proofs.StepLemmas.{step-Traffic}
 use Rattle.daa_exercise.specs.Moments.{name_of, own_at, count_at, aircraft_at, traffic_at, moment_at}
 use Rattle.daa_exercise.specs.Taken.{IsTaken, moment_words, steps}
-use Rattle.daa_exercise.specs.Words.{Words}
+use Rattle.daa_exercise.specs.Outputs.{Outputs}
 use Rattle.daa_exercise.proofs.MoveLemmas.{picture_of, traffic_count}
 use Rattle.daa_exercise.proofs.RangeLemmas.{aircraft_is, count_few, drawn_range}
 
@@ -95,12 +95,12 @@ module _ (last : Option ℕ) (format time : ℕ) (own : Own) where
   unfolding step ended_picture
   ends items = refl
 
-  module _ (word : Words) (altitude : ℤ) (at : ℕ) where
+  module _ (output : Outputs) (altitude : ℤ) (at : ℕ) where
     abbrev aircraft : ℕ → Traffic
-    aircraft i = aircraft_at word altitude (i + 1) (at + 6 * i)
+    aircraft i = aircraft_at output altitude (i + 1) (at + 6 * i)
 
     abbrev first : ℕ → List Traffic
-    first i = traffic_at word altitude i at
+    first i = traffic_at output altitude i at
 
     name_is : (i : ℕ) → (aircraft i).id ≡ name_of (i + 1)
     unfolding aircraft_at
@@ -108,21 +108,21 @@ module _ (last : Option ℕ) (format time : ℕ) (own : Own) where
 
     new_name : (i : ℕ) → i < 8 → has_id (aircraft i).id (first i) ≡ false
     new_name i few = list_any_none (λ (t : Traffic). bytes_eq t.id (aircraft i).id) (first i) (λ k d lt.
-        let below : k < i = (let n = traffic_count word altitude i at in omega (arith, n, lt)) in
-        ap (λ (t : Traffic). bytes_eq t.id (aircraft i).id) (aircraft_is word altitude i at k d below)
+        let below : k < i = (let n = traffic_count output altitude i at in omega (arith, n, lt)) in
+        ap (λ (t : Traffic). bytes_eq t.id (aircraft i).id) (aircraft_is output altitude i at k d below)
         ∙ ap (λ (id : List ℕ). bytes_eq id (aircraft i).id) (name_is k)
         ∙ ap (λ (id : List ℕ). bytes_eq (name_of (k + 1)) id) (name_is i)
         ∙ other_name (k + 1) (i + 1) (omega arith) (omega arith))
 
     has_room : (i : ℕ) → i < 8 → (length (first i) == 64) ≡ false
-    has_room i few = ap (λ (n : ℕ). n == 64) (traffic_count word altitude i at) ∙ not_64
+    has_room i few = ap (λ (n : ℕ). n == 64) (traffic_count output altitude i at) ∙ not_64
       where
         not_64 : (i == 64) ≡ false
         not_64 = grind (arith, nat_tests)
 
     one_more : (i : ℕ) → first i ++ aircraft i ∷ [] ≡ first (i + 1)
     unfolding traffic_at
-    one_more i = sym (map-range_with_len_more (λ j. aircraft_at word altitude (j + 1) (at + 6 * j)) 0 i i (zero-add i))
+    one_more i = sym (map-range_with_len_more (λ j. aircraft_at output altitude (j + 1) (at + 6 * j)) 0 i i (zero-add i))
 
     adds : (i : ℕ) → i < 8 → step (open_with (first i)).state (says.Traffic (aircraft i)) ≡ Ok (open_with (first (i + 1)))
     adds i few =
@@ -159,15 +159,15 @@ words_in_range picture ok =
 in_time : (time : ℕ) → time < 2 ^ 32 → IsWithin times (pos time)
 in_time time lt = (omega (arith, ints), omega (arith, ints))
 
-module _ (word : Words) (time at : ℕ) (state : State) (closed : state.moment ≡ None) (earlier : IfSome state.last (λ last. last < time)) where
-  all_accepted : steps (stepped state None) (moment_words (moment_at word time at)) ≡ Ok (stepped (record state { moment = None; last = Some time }) (Some (moment_at word time at)))
+module _ (output : Outputs) (time at : ℕ) (state : State) (closed : state.moment ≡ None) (earlier : IfSome state.last (λ last. last < time)) where
+  all_accepted : steps (stepped state None) (moment_words (moment_at output time at)) ≡ Ok (stepped (record state { moment = None; last = Some time }) (Some (moment_at output time at)))
   unfolding moment_at
   all_accepted =
-      let own = own_at word at in
+      let own = own_at output at in
       steps_next (stepped state None) (stepped (record state { moment = Some (empty_moment time) }) None) (says.Moment time) _ (begins state time closed earlier)
       ∙ steps_next (stepped (record state { moment = Some (empty_moment time) }) None) (open_with state.last state.format time own []) (says.Own own) _ (owns state.last state.format time own)
-      ∙ all_said state.last state.format time own word own.alt (at + 5) (count_at word at) (count_few word at)
+      ∙ all_said state.last state.format time own output own.alt (at + 5) (count_at output at) (count_few output at)
 
-  pub drawn_taken : time < 2 ^ 32 → IsTaken state (moment_at word time at)
+  pub drawn_taken : time < 2 ^ 32 → IsTaken state (moment_at output time at)
   unfolding moment_at
-  drawn_taken lt = record { time = in_time time lt; in_range = words_in_range (moment_at word time at) (drawn_range word time at); accepted = all_accepted }
+  drawn_taken lt = record { time = in_time time lt; in_range = words_in_range (moment_at output time at) (drawn_range output time at); accepted = all_accepted }

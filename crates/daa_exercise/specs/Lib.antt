@@ -1,4 +1,4 @@
-pub mod Words
+pub mod Outputs
 pub mod Moments
 pub mod Taken
 pub mod Levels

@@ -3,4 +3,4 @@ use Rattle.daa_exercise.proofs.TakenLemmas.{drawn_taken}
 use Rattle.daa_exercise.proofs.laws.drawn_moments_are_taken.Goals as goal
 
 pub returns : goal.returns
-returns c word time state lt closed earlier = drawn_taken word time (begin_of word time) state closed earlier lt
+returns c output time state lt closed earlier = drawn_taken output time (begin_of output time) state closed earlier lt
