@@ -1,5 +1,5 @@
 -- What is counted of one moment more.
-use Rattle.std.proofs.Common.{◌≡◌, ◌∙◌, ◌⊎◌, inl, inr, ◌<◌, ◌≤◌, ◌+◌, ◌*◌, ◌-◌, ℕ, zero, suc, List, [], ◌∷◌, ◌++◌, length, map, take, refl, sym, ap, arith, subst, add-one, zero-add, length-append}
+use Rattle.std.proofs.Common.{◌≡◌, ◌∙◌, ◌⊎◌, inl, inr, ◌<◌, ◌≤◌, ◌+◌, ℕ, List, ◌++◌, length, map, take, refl, sym, ap, arith, subst, add-one, zero-add, length-append}
 use Rattle.std.specs.Prelude.{Option, Result, slice_index, ◌==◌}
 use Rattle.std.specs.List.{range_with_len}
 use Rattle.std.proofs.lemmas.Bool.{cases_lt}
@@ -10,7 +10,7 @@ use Rattle.std.proofs.lemmas.Slice.Zip.{AllZip-long}
 use Rattle.daa_bands.specs.Board.{HasLevelOn, IsBoardOf, mask_levels}
 use Rattle.daa_bands.specs.KindBands.{AreShown}
 use Rattle.daa_bands.proofs.KindLemmas.{greatest_covered}
-use Rattle.daa_config.specs.Candidates.{start_of, values_of, candidates_of}
+use Rattle.daa_config.specs.Candidates.{start_of}
 use Rattle.daa_config.specs.Settings.{Settings, IsAccepted}
 use Rattle.daa_config.specs.declared.kind.Kind.{Kind}
 use Rattle.daa_config.specs.declared.kind.Kind.TheVariants.{Track, Speed, Climb, Height}
@@ -22,12 +22,12 @@ use Rattle.daa_state.specs.Picture.{aircraft_of}
 use Rattle.daa_state.specs.declared.word.Picture.{Picture}
 use Rattle.daa_report.specs.Says.{Says}
 use Rattle.daa_engine.specs.Covered.{CoveredAt}
-use Rattle.daa_exercise.specs.Counting.{Adds, AreCounted, CountsPicture, HasCounted, HasRoom, IsRoomy, tally_of, written}
-use Rattle.daa_exercise.specs.Levels.{HasAlerts, HasShown, AreLevels, aircraft_in, counts_of, times}
+use Rattle.daa_exercise.specs.Counting.{Adds, AreCounted, CountsPicture, HasCounted, HasRoomFor, IsRoomy, tally_of, written}
+use Rattle.daa_exercise.specs.Levels.{HasAlerts, HasShown, AreLevels, aircraft_in, counts_of, how_often}
 use Rattle.daa_exercise.specs.Moments.{moment_of}
 use Rattle.daa_exercise.specs.Saying.{SaysSummary}
 use Rattle.daa_exercise.specs.Summary.{IsSummaryOf, summary_text}
-use Rattle.daa_exercise.specs.Words.{Words, words_of}
+use Rattle.daa_exercise.specs.Outputs.{Outputs, outputs_of}
 use Rattle.daa_exercise.specs.declared.counting.Counts.{Counts}
 use Rattle.daa_exercise.proofs.TallyLemmas.{room_for}
 
@@ -46,36 +46,36 @@ add_covered s p board kind a b ok is (here, are, more) = (
 
 -- ---- no count is above the number of levels
 
-times_few : (levels : List ℕ) (level : ℕ) → times levels level ≤ length levels
-times_few levels level = count_by-le-length (λ other. other == level) levels
+how_often_few : (levels : List ℕ) (level : ℕ) → how_often levels level ≤ length levels
+how_often_few levels level = count_by-le-length (λ other. other == level) levels
 
 pub count_few : (top level : ℕ) (levels : List ℕ) → slice_index (counts_of top levels) level ≤ length levels
 unfolding counts_of
 count_few top level levels = go (cases_lt level (top + 1))
   where
-    go : (level < top + 1) ⊎ (top + 1 ≤ level) → slice_index (map (times levels) (range_with_len 0 (top + 1))) level ≤ length levels
+    go : (level < top + 1) ⊎ (top + 1 ≤ level) → slice_index (map (how_often levels) (range_with_len 0 (top + 1))) level ≤ length levels
     go (inl lt) =
-        let e = get_or-map-range_with_len (times levels) 0 (top + 1) level level 0 lt (zero-add level) in
-        let h = times_few levels level in
+        let e = get_or-map-range_with_len (how_often levels) 0 (top + 1) level level 0 lt (zero-add level) in
+        let h = how_often_few levels level in
         omega (arith, e, h)
     go (inr past) =
-        let n = length-map-range_with_len (times levels) 0 (top + 1) in
-        let e = get_or_past (map (times levels) (range_with_len 0 (top + 1))) level 0 (omega (arith, n, past)) in
+        let n = length-map-range_with_len (how_often levels) 0 (top + 1) in
+        let e = get_or_past (map (how_often levels) (range_with_len 0 (top + 1))) level 0 (omega (arith, n, past)) in
         omega (arith, e)
 
 -- ---- one moment more
 
-module _ (Has : Picture → List ℕ → Type 0) (word : Words) where
-  pub counted_next : (count : ℕ) (picture : Picture) (a b : List ℕ) → ((levels : List ℕ) → Has picture levels → length levels ≤ 512) → picture ≡ moment_of word count
-      → HasCounted Has word count a → Adds (Has picture) a b → HasCounted Has word (count + 1) b
+module _ (Has : Picture → List ℕ → Type 0) (output : Outputs) where
+  pub counted_next : (count : ℕ) (picture : Picture) (a b : List ℕ) → ((levels : List ℕ) → Has picture levels → length levels ≤ 512) → picture ≡ moment_of output count
+      → HasCounted Has output count a → Adds (Has picture) a b → HasCounted Has output (count + 1) b
   counted_next count picture a b most is h (here, has, more) = record {
     levels = h.levels ++ here;
-    are = subst (λ (n : ℕ). AreLevels Has word n (h.levels ++ here)) (sym (add-one count)) (h.levels, here, h.are, subst (λ (p : Picture). Has p here) is has, refl);
+    are = subst (λ (n : ℕ). AreLevels Has output n (h.levels ++ here)) (sym (add-one count)) (h.levels, here, h.are, subst (λ (p : Picture). Has p here) is has, refl);
     counted = more h.levels h.counted;
     few = (let m = most here has in let f = h.few in let e = length-append h.levels here in omega (arith, m, f, e));
   }
 
-  pub room_of : (count : ℕ) (tally : List ℕ) → count < 10000 → HasCounted Has word count tally → HasRoom 512 tally
+  pub room_of : (count : ℕ) (tally : List ℕ) → count < 10000 → HasCounted Has output count tally → HasRoomFor 512 tally
   room_of count tally lt h level =
       let e = ap (λ (xs : List ℕ). slice_index xs level) h.counted in
       let m = count_few mask_levels level h.levels in
@@ -88,52 +88,52 @@ alerts_few s p in' levels has = let e = AllZip-long (IsAlertLevel s p.own) (airc
 pub shown_few : (s : Settings) (p : Picture) (kind : Kind) → IsAccepted s → (levels : List ℕ) → HasShown s p kind levels → length levels ≤ 512
 shown_few s p kind ok levels has = let e = has.each in let n = length-values kind s in let few = few_of_kind s kind ok in omega (arith, e, n, few)
 
-pub aircraft_none : (word : Words) → aircraft_in word 0 ≡ 0
+pub aircraft_none : (output : Outputs) → aircraft_in output 0 ≡ 0
 unfolding aircraft_in
-aircraft_none word = refl
+aircraft_none output = refl
 
-pub aircraft_next : (word : Words) (count : ℕ) → aircraft_in word (count + 1) ≡ aircraft_in word count + length (aircraft_of (moment_of word count))
+pub aircraft_next : (output : Outputs) (count : ℕ) → aircraft_in output (count + 1) ≡ aircraft_in output count + length (aircraft_of (moment_of output count))
 unfolding aircraft_in
-aircraft_next word count = sum_by-map-range_with_len_more (λ (n : ℕ). n) (λ time. length (aircraft_of (moment_of word time))) 0 count count (zero-add count)
+aircraft_next output count = sum_by-map-range_with_len_more (λ (n : ℕ). n) (λ time. length (aircraft_of (moment_of output time))) 0 count count (zero-add count)
 
-module _ (s : Settings) (word : Words) (ok : IsAccepted s) where
-  pub all_next : (count : ℕ) (picture : Picture) (old new : Counts) → IsPictureInRange picture → picture ≡ moment_of word count → AreCounted s word count old
-      → CountsPicture s picture old new → AreCounted s word (count + 1) new
+module _ (s : Settings) (output : Outputs) (ok : IsAccepted s) where
+  pub all_next : (count : ℕ) (picture : Picture) (old new : Counts) → IsPictureInRange picture → picture ≡ moment_of output count → AreCounted s output count old
+      → CountsPicture s picture old new → AreCounted s output (count + 1) new
   all_next count picture old new in' is h k = record {
     aircraft = k.aircraft ∙ ap (λ (n : ℕ). n + length (aircraft_of picture)) h.aircraft
-        ∙ ap (λ (p : Picture). aircraft_in word count + length (aircraft_of p)) is ∙ sym (aircraft_next word count);
+        ∙ ap (λ (p : Picture). aircraft_in output count + length (aircraft_of p)) is ∙ sym (aircraft_next output count);
     few = (let e = k.aircraft in let f = h.few in let m = in'.count in omega (arith, e, f, m));
-    alerts = counted_next (HasAlerts s) word count picture old.alerts new.alerts (alerts_few s picture in') is h.alerts k.alerts;
-    track = counted_next (λ p. HasShown s p Track) word count picture old.track new.track (shown_few s picture Track ok) is h.track k.track;
-    speed = counted_next (λ p. HasShown s p Speed) word count picture old.speed new.speed (shown_few s picture Speed ok) is h.speed k.speed;
-    climb = counted_next (λ p. HasShown s p Climb) word count picture old.climb new.climb (shown_few s picture Climb ok) is h.climb k.climb;
-    height = counted_next (λ p. HasShown s p Height) word count picture old.height new.height (shown_few s picture Height ok) is h.height k.height;
+    alerts = counted_next (HasAlerts s) output count picture old.alerts new.alerts (alerts_few s picture in') is h.alerts k.alerts;
+    track = counted_next (λ p. HasShown s p Track) output count picture old.track new.track (shown_few s picture Track ok) is h.track k.track;
+    speed = counted_next (λ p. HasShown s p Speed) output count picture old.speed new.speed (shown_few s picture Speed ok) is h.speed k.speed;
+    climb = counted_next (λ p. HasShown s p Climb) output count picture old.climb new.climb (shown_few s picture Climb ok) is h.climb k.climb;
+    height = counted_next (λ p. HasShown s p Height) output count picture old.height new.height (shown_few s picture Height ok) is h.height k.height;
   }
 
-  pub roomy : (count : ℕ) (counts : Counts) → count < 10000 → AreCounted s word count counts → IsRoomy counts
+  pub roomy : (count : ℕ) (counts : Counts) → count < 10000 → AreCounted s output count counts → IsRoomy counts
   roomy count counts lt h = record {
     aircraft = (let f = h.few in omega (arith, f, lt));
-    alerts = room_for 64 512 counts.alerts (omega arith) (room_of (HasAlerts s) word count counts.alerts lt h.alerts);
-    track = room_of (λ p. HasShown s p Track) word count counts.track lt h.track;
-    speed = room_of (λ p. HasShown s p Speed) word count counts.speed lt h.speed;
-    climb = room_of (λ p. HasShown s p Climb) word count counts.climb lt h.climb;
-    height = room_of (λ p. HasShown s p Height) word count counts.height lt h.height;
+    alerts = room_for 64 512 counts.alerts (omega arith) (room_of (HasAlerts s) output count counts.alerts lt h.alerts);
+    track = room_of (λ p. HasShown s p Track) output count counts.track lt h.track;
+    speed = room_of (λ p. HasShown s p Speed) output count counts.speed lt h.speed;
+    climb = room_of (λ p. HasShown s p Climb) output count counts.climb lt h.climb;
+    height = room_of (λ p. HasShown s p Height) output count counts.height lt h.height;
   }
 
 -- ---- what is written of the counts is the summary
 
 upto_top : (top : ℕ) (levels : List ℕ) → top ≤ 8 → take (top + 1) (counts_of mask_levels levels) ≡ counts_of top levels
 unfolding counts_of
-upto_top top levels few = take-map-range_with_len (times levels) 0 9 (top + 1) (omega arith)
+upto_top top levels few = take-map-range_with_len (how_often levels) 0 9 (top + 1) (omega arith)
 
-module _ (s : Settings) (seed moments : ℕ) (counts : Counts) (h : AreCounted s (words_of seed) moments counts) where
+module _ (s : Settings) (seed moments : ℕ) (counts : Counts) (h : AreCounted s (outputs_of seed) moments counts) where
   shown : Kind → List ℕ
   shown Track = h.track.levels
   shown Speed = h.speed.levels
   shown Climb = h.climb.levels
   shown Height = h.height.levels
 
-  are_shown : (kind : Kind) → AreLevels (λ picture. HasShown s picture kind) (words_of seed) moments (shown kind)
+  are_shown : (kind : Kind) → AreLevels (λ picture. HasShown s picture kind) (outputs_of seed) moments (shown kind)
   unfolding shown
   are_shown Track = h.track.are
   are_shown Speed = h.speed.are
@@ -154,7 +154,7 @@ module _ (s : Settings) (seed moments : ℕ) (counts : Counts) (h : AreCounted s
 
   text_is : (top : ℕ) → top ≡ length s.levels → top ≤ 8
       → written seed moments top counts
-      ≡ summary_text seed moments (aircraft_in (words_of seed) moments) (counts_of (length s.levels) h.alerts.levels) (λ kind. counts_of (length s.levels) (shown kind))
+      ≡ summary_text seed moments (aircraft_in (outputs_of seed) moments) (counts_of (length s.levels) h.alerts.levels) (λ kind. counts_of (length s.levels) (shown kind))
   text_is top e few =
       let alerts = counted_upto top counts.alerts h.alerts.levels e few h.alerts.counted in
       let kinds : (kind : Kind) → take (top + 1) (tally_of counts kind) ≡ counts_of (length s.levels) (shown kind) = λ kind.
@@ -168,11 +168,11 @@ module _ (s : Settings) (seed moments : ℕ) (counts : Counts) (h : AreCounted s
 -- ---- all moments are counted, and the text is said
 
 pub said : {E : Type 0} (s : Settings) (seed moments time top : ℕ) (counts : Counts) (piece items : List ℕ) (a b : Option (List ℕ)) (x y : ℕ) (r : Result (Unit {0}) E)
-    → IsAccepted s → top ≡ length s.levels → time ≤ moments → moments ≤ time → AreCounted s (words_of seed) time counts → piece ≡ items
+    → IsAccepted s → top ≡ length s.levels → time ≤ moments → moments ≤ time → AreCounted s (outputs_of seed) time counts → piece ≡ items
     → items ≡ written seed moments top counts → Says {E = E} a b x y piece r → SaysSummary {E = E} s seed moments a b x y r
 said {E} s seed moments time top counts piece items a b x y r ok e low high h same is told =
     let all : time ≡ moments = omega arith in
-    let counted = subst (λ (n : ℕ). AreCounted s (words_of seed) n counts) all h in (
+    let counted = subst (λ (n : ℕ). AreCounted s (outputs_of seed) n counts) all h in (
       written seed moments top counts,
       is_summary s seed moments counts counted top ok e,
       subst (λ (t : List ℕ). Says {E = E} a b x y t r) (same ∙ is) told,

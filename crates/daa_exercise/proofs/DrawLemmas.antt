@@ -1,11 +1,11 @@
--- What is drawn one word after another is what the words say by their places.
+-- What is drawn one output after another is what the outputs say by their places.
 use Rattle.std.proofs.Common.{◌≡◌, ◌∙◌, ◌+◌, ◌%◌, ◌<◌, ◌≤◌, ℕ, zero, suc, ℤ, pos, ◌+ℤ◌, ◌-ℤ◌, ◌≤ℤ◌, neg_ℤ, nat_abs, List, FitsSigned, w32, refl, sym, ap, arith, suc-add, zero-add}
 use Rattle.std.proofs.lemmas.Int.{ints, to_z_pos, to_z-of_z}
 use mir.Val.{to_z, of_z}
 use Rattle.rand_pcg.specs.Lcg.{Lcg, next_state, state_after}
 use Rattle.rand_pcg.specs.Pcg.{multiplier_64, pcg32}
 use Rattle.daa_state.specs.Ranges.{Range}
-use Rattle.daa_exercise.specs.Words.{words_from, picked}
+use Rattle.daa_exercise.specs.Outputs.{outputs_from, picked}
 use Rattle.daa_exercise.specs.Drawing.{after}
 use Rattle.daa_exercise.specs.Moments.{own_altitudes, own_tracks, own_ground_speeds, drawn_vertical_speeds, drawn_positions, heights_above, drawn_speeds, own_at, aircraft_at, name_of}
 use Rattle.daa_state.specs.declared.word.Own.{Own}
@@ -13,9 +13,9 @@ use Rattle.daa_state.specs.declared.word.Traffic.{Traffic}
 
 -- ---- the generator
 
-pub first_word : (g : Lcg) → words_from g 0 ≡ (pcg32 g).0
-unfolding words_from state_after
-first_word g = refl
+pub first_output : (g : Lcg) → outputs_from g 0 ≡ (pcg32 g).0
+unfolding outputs_from state_after
+first_output g = refl
 
 pub one_after : (g : Lcg) → after 1 g ≡ (pcg32 g).1
 unfolding after state_after
@@ -35,54 +35,54 @@ pub after_after : (m n : ℕ) (g : Lcg) → after n (after m g) ≡ after (m + n
 unfolding after
 after_after m n g = ap (λ (s : ℕ). let x : Lcg = record { state = s; increment = g.increment } in x) (state_more g.increment m n g.state)
 
-pub words_after : (m k : ℕ) (g : Lcg) → words_from (after m g) k ≡ words_from g (m + k)
-unfolding words_from after
-words_after m k g = ap (λ (s : ℕ). let x : Lcg = record { state = s; increment = g.increment } in (pcg32 x).0) (state_more g.increment m k g.state)
+pub outputs_after : (m k : ℕ) (g : Lcg) → outputs_from (after m g) k ≡ outputs_from g (m + k)
+unfolding outputs_from after
+outputs_after m k g = ap (λ (s : ℕ). let x : Lcg = record { state = s; increment = g.increment } in (pcg32 x).0) (state_more g.increment m k g.state)
 
--- ---- a number that a word picks
+-- ---- a number that an output picks
 
 abbrev kept : ℤ → ℤ
 kept z = to_z w32 (of_z w32 z)
 
-pub computed : (low high : ℤ) (word : ℕ) → low ≤ℤ high → (high -ℤ low) ≤ℤ pos 2147483646 → FitsSigned w32 low → FitsSigned w32 high
-    → kept (kept low +ℤ to_z w32 (word % (nat_abs (kept (kept high -ℤ kept low)) + 1))) ≡ low +ℤ pos (word % (nat_abs (high -ℤ low) + 1))
-computed low high word ordered short fl fh =
+pub computed : (low high : ℤ) (output : ℕ) → low ≤ℤ high → (high -ℤ low) ≤ℤ pos 2147483646 → FitsSigned w32 low → FitsSigned w32 high
+    → kept (kept low +ℤ to_z w32 (output % (nat_abs (kept (kept high -ℤ kept low)) + 1))) ≡ low +ℤ pos (output % (nat_abs (high -ℤ low) + 1))
+computed low high output ordered short fl fh =
     let fd : FitsSigned w32 (high -ℤ low) = omega (arith, ints) in
     let d : kept (kept high -ℤ kept low) ≡ high -ℤ low = rw (to_z-of_z w32 low fl, to_z-of_z w32 high fh) (to_z-of_z w32 _ fd) in
     let few : nat_abs (high -ℤ low) + 1 ≤ 2147483647 = omega (arith, ints) in
-    let left : word % (nat_abs (high -ℤ low) + 1) < nat_abs (high -ℤ low) + 1 = omega arith in
-    let n : to_z w32 (word % (nat_abs (high -ℤ low) + 1)) ≡ pos (word % (nat_abs (high -ℤ low) + 1)) = to_z_pos w32 _ (omega (arith, few, left)) in
-    let f : FitsSigned w32 (low +ℤ pos (word % (nat_abs (high -ℤ low) + 1))) = within low high (word % (nat_abs (high -ℤ low) + 1)) left fl fh ordered in
+    let left : output % (nat_abs (high -ℤ low) + 1) < nat_abs (high -ℤ low) + 1 = omega arith in
+    let n : to_z w32 (output % (nat_abs (high -ℤ low) + 1)) ≡ pos (output % (nat_abs (high -ℤ low) + 1)) = to_z_pos w32 _ (omega (arith, few, left)) in
+    let f : FitsSigned w32 (low +ℤ pos (output % (nat_abs (high -ℤ low) + 1))) = within low high (output % (nat_abs (high -ℤ low) + 1)) left fl fh ordered in
     rw (d, n, to_z-of_z w32 low fl) (to_z-of_z w32 _ f)
   where
     within : (low high : ℤ) (x : ℕ) → x < nat_abs (high -ℤ low) + 1 → FitsSigned w32 low → FitsSigned w32 high → low ≤ℤ high → FitsSigned w32 (low +ℤ pos x)
     within low high x lt fl fh ordered = omega (arith, ints)
 
--- the word of a call is the first of what is left, and what is left then is left after one
-pub first_is : (g h : Lcg) (word : ℕ) → (word, h) ≡ pcg32 g → word ≡ words_from g 0
-first_is g h word e = ap (λ (p : ℕ × Lcg). p.0) e ∙ sym (first_word g)
+-- the output of a call is the first of what is left, and what is left then is left after one
+pub first_is : (g h : Lcg) (output : ℕ) → (output, h) ≡ pcg32 g → output ≡ outputs_from g 0
+first_is g h output e = ap (λ (p : ℕ × Lcg). p.0) e ∙ sym (first_output g)
 
-pub rest_is : (g h : Lcg) (word : ℕ) → (word, h) ≡ pcg32 g → h ≡ after 1 g
-rest_is g h word e = ap (λ (p : ℕ × Lcg). p.1) e ∙ sym (one_after g)
+pub rest_is : (g h : Lcg) (output : ℕ) → (output, h) ≡ pcg32 g → h ≡ after 1 g
+rest_is g h output e = ap (λ (p : ℕ × Lcg). p.1) e ∙ sym (one_after g)
 
 -- ---- one draw after another
 
--- what is left after one word more
+-- what is left after one output more
 pub next_after : (k : ℕ) (g h i : Lcg) → h ≡ after k g → i ≡ after 1 h → i ≡ after (k + 1) g
 next_after k g h i e f = f ∙ ap (after 1) e ∙ after_after k 1 g
 
--- what the next word picks is what the word at that place picks
-pub picks_at : (k : ℕ) (g h : Lcg) (range : Range) (z : ℤ) → h ≡ after k g → z ≡ picked range (words_from h 0) → z ≡ picked range (words_from g (k + 0))
-picks_at k g h range z e f = f ∙ ap (λ (x : Lcg). picked range (words_from x 0)) e ∙ ap (picked range) (words_after k 0 g)
+-- what the next output picks is what the output at that place picks
+pub picks_at : (k : ℕ) (g h : Lcg) (range : Range) (z : ℤ) → h ≡ after k g → z ≡ picked range (outputs_from h 0) → z ≡ picked range (outputs_from g (k + 0))
+picks_at k g h range z e f = f ∙ ap (λ (x : Lcg). picked range (outputs_from x 0)) e ∙ ap (picked range) (outputs_after k 0 g)
 
 abbrev pub own_of : (x y alt trk gs vs : ℤ) → Own
 own_of x y alt trk gs vs = record { x = x; y = y; alt = alt; trk = trk; gs = gs; vs = vs }
 
 -- the ownship of four draws
 pub own_drawn : (g g1 g2 g3 g4 : Lcg) (alt trk gs vs : ℤ) → g1 ≡ after 1 g → g2 ≡ after 1 g1 → g3 ≡ after 1 g2 → g4 ≡ after 1 g3
-    → alt ≡ picked own_altitudes (words_from g 0) → trk ≡ picked own_tracks (words_from g1 0) → gs ≡ picked own_ground_speeds (words_from g2 0)
-    → vs ≡ picked drawn_vertical_speeds (words_from g3 0)
-    → (own_of (pos 0) (pos 0) alt trk gs vs ≡ own_at (words_from g) 0) × (g4 ≡ after 4 g)
+    → alt ≡ picked own_altitudes (outputs_from g 0) → trk ≡ picked own_tracks (outputs_from g1 0) → gs ≡ picked own_ground_speeds (outputs_from g2 0)
+    → vs ≡ picked drawn_vertical_speeds (outputs_from g3 0)
+    → (own_of (pos 0) (pos 0) alt trk gs vs ≡ own_at (outputs_from g) 0) × (g4 ≡ after 4 g)
 unfolding own_at
 own_drawn g g1 g2 g3 g4 alt trk gs vs e1 e2 e3 e4 h1 h2 h3 h4 =
     let a2 = next_after 1 g g1 g2 e1 e2 in
@@ -102,9 +102,9 @@ aircraft_of id x y alt vx vy vs = record { id = id; x = x; y = y; alt = alt; vx 
 -- the aircraft of six draws
 pub aircraft_drawn : (g g1 g2 g3 g4 g5 g6 : Lcg) (altitude : ℤ) (number : ℕ) (id : List ℕ) (x y above vx vy vs : ℤ)
     → g1 ≡ after 1 g → g2 ≡ after 1 g1 → g3 ≡ after 1 g2 → g4 ≡ after 1 g3 → g5 ≡ after 1 g4 → g6 ≡ after 1 g5 → id ≡ name_of number
-    → x ≡ picked drawn_positions (words_from g 0) → y ≡ picked drawn_positions (words_from g1 0) → above ≡ picked heights_above (words_from g2 0)
-    → vx ≡ picked drawn_speeds (words_from g3 0) → vy ≡ picked drawn_speeds (words_from g4 0) → vs ≡ picked drawn_vertical_speeds (words_from g5 0)
-    → (aircraft_of id x y (altitude +ℤ above) vx vy vs ≡ aircraft_at (words_from g) altitude number 0) × (g6 ≡ after 6 g)
+    → x ≡ picked drawn_positions (outputs_from g 0) → y ≡ picked drawn_positions (outputs_from g1 0) → above ≡ picked heights_above (outputs_from g2 0)
+    → vx ≡ picked drawn_speeds (outputs_from g3 0) → vy ≡ picked drawn_speeds (outputs_from g4 0) → vs ≡ picked drawn_vertical_speeds (outputs_from g5 0)
+    → (aircraft_of id x y (altitude +ℤ above) vx vy vs ≡ aircraft_at (outputs_from g) altitude number 0) × (g6 ≡ after 6 g)
 unfolding aircraft_at
 aircraft_drawn g g1 g2 g3 g4 g5 g6 altitude number id x y above vx vy vs e1 e2 e3 e4 e5 e6 n h1 h2 h3 h4 h5 h6 =
     let a2 = next_after 1 g g1 g2 e1 e2 in

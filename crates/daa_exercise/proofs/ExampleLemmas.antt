@@ -1,5 +1,5 @@
 -- The worked examples, computed.
-use Rattle.std.proofs.Common.{◌≡◌, ◌∷◌, [], ℕ, List, pos, neg_ℤ, refl}
+use Rattle.std.proofs.Common.{◌≡◌, ◌∷◌, [], pos, neg_ℤ, refl}
 use Rattle.std.specs.Prelude.{codes}
 use Rattle.std.specs.Fmt.{digits}
 use Rattle.rand_core.specs.Pcg32Seed.{pcg32_seed}
@@ -10,21 +10,21 @@ use Rattle.daa_state.specs.declared.word.Own.{Own}
 use Rattle.daa_state.specs.declared.word.Traffic.{Traffic}
 use Rattle.daa_exercise.specs.Levels.{counts_of}
 use Rattle.daa_exercise.specs.Moments.{aircraft_at, begin_of, count_at, own_at}
-use Rattle.daa_exercise.specs.Words.{generator_of, words_from, words_of}
+use Rattle.daa_exercise.specs.Outputs.{generator_of, outputs_from, outputs_of}
 
-pub words : first_words pcg32 3 (generator_of 7) ≡ 2442223337 ∷ 414063806 ∷ 2743600285 ∷ []
+pub outputs : first_words pcg32 3 (generator_of 7) ≡ 2442223337 ∷ 414063806 ∷ 2743600285 ∷ []
 unfolding first_words generator_of u32_at pcg32_seed word_bytes
-words = refl
+outputs = refl
 
-pub third : words_of 7 2 ≡ 2743600285
-unfolding words_from state_after generator_of u32_at pcg32_seed word_bytes
+pub third : outputs_of 7 2 ≡ 2743600285
+unfolding outputs_from state_after generator_of u32_at pcg32_seed word_bytes
 third = refl
 
 abbrev the_own : Own
 the_own = record { x = pos 0; y = pos 0; alt = pos 1232; trk = pos 86; gs = pos 2732; vs = pos 1808 }
 
-pub own : own_at (words_of 7) 0 ≡ the_own
-unfolding own_at words_from state_after generator_of u32_at pcg32_seed word_bytes
+pub own : own_at (outputs_of 7) 0 ≡ the_own
+unfolding own_at outputs_from state_after generator_of u32_at pcg32_seed word_bytes
 own = refl
 
 abbrev the_aircraft : Traffic
@@ -39,12 +39,12 @@ the_aircraft = record {
   age = 0;
 }
 
-pub aircraft : aircraft_at (words_of 7) (pos 1232) 1 5 ≡ the_aircraft
-unfolding aircraft_at digits words_from state_after generator_of u32_at pcg32_seed word_bytes
+pub aircraft : aircraft_at (outputs_of 7) (pos 1232) 1 5 ≡ the_aircraft
+unfolding aircraft_at digits outputs_from state_after generator_of u32_at pcg32_seed word_bytes
 aircraft = refl
 
-pub second : begin_of (words_of 7) 1 ≡ 23
-unfolding begin_of count_at words_from state_after generator_of u32_at pcg32_seed word_bytes
+pub second : begin_of (outputs_of 7) 1 ≡ 23
+unfolding begin_of count_at outputs_from state_after generator_of u32_at pcg32_seed word_bytes
 second = refl
 
 pub counts : counts_of 3 (0 ∷ 3 ∷ 0 ∷ 1 ∷ []) ≡ 2 ∷ 1 ∷ 0 ∷ 1 ∷ []

@@ -1,6 +1,7 @@
 pub mod DrawLemmas
 pub mod MoveLemmas
 pub mod RangeLemmas
+pub mod TakenLemmas
 pub mod TallyLemmas
 pub mod CountLemmas
 pub mod SumLemmas

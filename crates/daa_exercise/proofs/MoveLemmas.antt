@@ -1,5 +1,5 @@
--- The moment of words from a place on is that of the words that are left there.
-use Rattle.std.proofs.Common.{◌≡◌, ◌∙◌, ◌+◌, ◌*◌, ℕ, suc, ℤ, pos, ◌+ℤ◌, nat_abs, List, [], ◌∷◌, ◌++◌, length, map, sym, ap, ap₂, arith, add_assoc, add-zero, zero-add, add-one}
+-- The moment of outputs from a place on is that of the outputs that are left there.
+use Rattle.std.proofs.Common.{◌≡◌, ◌∙◌, ◌+◌, ◌*◌, ℕ, ℤ, pos, ◌+ℤ◌, nat_abs, List, [], ◌∷◌, ◌++◌, length, map, sym, ap, ap₂, arith, add_assoc, add-zero, zero-add, add-one}
 use Rattle.std.proofs.lemmas.List.FromFn.{length-map-range_with_len, map-range_with_len_more}
 use Rattle.std.specs.List.{range_with_len}
 use Rattle.rand_pcg.specs.Lcg.{Lcg}
@@ -8,48 +8,48 @@ use Rattle.daa_state.specs.declared.word.Traffic.{Traffic}
 use Rattle.daa_state.specs.declared.word.Picture.{Picture}
 use Rattle.daa_exercise.specs.Drawing.{after}
 use Rattle.daa_exercise.specs.Moments.{aircraft_counts, own_tracks, own_ground_speeds, own_altitudes, drawn_vertical_speeds, drawn_positions, heights_above, drawn_speeds, name_of, own_at, count_at, aircraft_at, traffic_at, moment_at, draws_at, begin_of, moment_of}
-use Rattle.daa_exercise.specs.Words.{Words, words_from, picked}
-use Rattle.daa_exercise.proofs.DrawLemmas.{own_of, aircraft_of, words_after, none_after, after_after, next_after}
+use Rattle.daa_exercise.specs.Outputs.{Outputs, outputs_from, picked}
+use Rattle.daa_exercise.proofs.DrawLemmas.{own_of, aircraft_of, outputs_after, none_after, after_after, next_after}
 
-module _ (word : Words) (m : ℕ) where
-  abbrev left : Words
-  left k = word (m + k)
+module _ (output : Outputs) (m : ℕ) where
+  abbrev left : Outputs
+  left k = output (m + k)
 
-  moved : (at j : ℕ) → left (at + j) ≡ word (m + at + j)
-  moved at j = ap word (sym (add_assoc m at j))
+  moved : (at j : ℕ) → left (at + j) ≡ output (m + at + j)
+  moved at j = ap output (sym (add_assoc m at j))
 
-  pub own_moved : (at : ℕ) → own_at left at ≡ own_at word (m + at)
+  pub own_moved : (at : ℕ) → own_at left at ≡ own_at output (m + at)
   unfolding own_at
   own_moved at =
       let t = moved at 1 in let g = moved at 2 in let v = moved at 3 in
-      λ i. own_of (pos 0) (pos 0) (picked own_altitudes (word (m + at))) (picked own_tracks (t i)) (picked own_ground_speeds (g i)) (picked drawn_vertical_speeds (v i))
+      λ i. own_of (pos 0) (pos 0) (picked own_altitudes (output (m + at))) (picked own_tracks (t i)) (picked own_ground_speeds (g i)) (picked drawn_vertical_speeds (v i))
 
-  pub count_moved : (at : ℕ) → count_at left at ≡ count_at word (m + at)
+  pub count_moved : (at : ℕ) → count_at left at ≡ count_at output (m + at)
   unfolding count_at
-  count_moved at = let c = moved at 4 in λ i. let w : Words = λ _. c i in count_at w at
+  count_moved at = let c = moved at 4 in λ i. let w : Outputs = λ _. c i in count_at w at
 
-  pub aircraft_moved : (altitude : ℤ) (number at : ℕ) → aircraft_at left altitude number at ≡ aircraft_at word altitude number (m + at)
+  pub aircraft_moved : (altitude : ℤ) (number at : ℕ) → aircraft_at left altitude number at ≡ aircraft_at output altitude number (m + at)
   unfolding aircraft_at
   aircraft_moved altitude number at =
       let y = moved at 1 in let h = moved at 2 in let e = moved at 3 in let n = moved at 4 in let v = moved at 5 in
-      λ i. aircraft_of (name_of number) (picked drawn_positions (word (m + at))) (picked drawn_positions (y i)) (altitude +ℤ picked heights_above (h i))
+      λ i. aircraft_of (name_of number) (picked drawn_positions (output (m + at))) (picked drawn_positions (y i)) (altitude +ℤ picked heights_above (h i))
       (picked drawn_speeds (e i)) (picked drawn_speeds (n i)) (picked drawn_vertical_speeds (v i))
 
-  pub traffic_moved : (altitude : ℤ) (count at : ℕ) → traffic_at left altitude count at ≡ traffic_at word altitude count (m + at)
+  pub traffic_moved : (altitude : ℤ) (count at : ℕ) → traffic_at left altitude count at ≡ traffic_at output altitude count (m + at)
   unfolding traffic_at
   traffic_moved altitude count at =
-      let each : (i : ℕ) → aircraft_at left altitude (i + 1) (at + 6 * i) ≡ aircraft_at word altitude (i + 1) (m + at + 6 * i) = λ i.
-      aircraft_moved altitude (i + 1) (at + 6 * i) ∙ ap (aircraft_at word altitude (i + 1)) (sym (add_assoc m at (6 * i))) in
+      let each : (i : ℕ) → aircraft_at left altitude (i + 1) (at + 6 * i) ≡ aircraft_at output altitude (i + 1) (m + at + 6 * i) = λ i.
+      aircraft_moved altitude (i + 1) (at + 6 * i) ∙ ap (aircraft_at output altitude (i + 1)) (sym (add_assoc m at (6 * i))) in
       λ p. map (λ i. each i p) (range_with_len 0 count)
 
-  pub moment_moved : (time at : ℕ) → moment_at left time at ≡ moment_at word time (m + at)
+  pub moment_moved : (time at : ℕ) → moment_at left time at ≡ moment_at output time (m + at)
   unfolding moment_at
   moment_moved time at =
       let own = own_moved at in
       let traffic = traffic_moved (own_at left at).alt (count_at left at) (at + 5)
-      ∙ ap (λ (o : Own). traffic_at word o.alt (count_at left at) (m + (at + 5))) own
-      ∙ ap (λ (n : ℕ). traffic_at word (own_at word (m + at)).alt n (m + (at + 5))) (count_moved at)
-      ∙ ap (traffic_at word (own_at word (m + at)).alt (count_at word (m + at))) (sym (add_assoc m at 5)) in
+      ∙ ap (λ (o : Own). traffic_at output o.alt (count_at left at) (m + (at + 5))) own
+      ∙ ap (λ (n : ℕ). traffic_at output (own_at output (m + at)).alt n (m + (at + 5))) (count_moved at)
+      ∙ ap (traffic_at output (own_at output (m + at)).alt (count_at output (m + at))) (sym (add_assoc m at 5)) in
       λ i. record { time = time; own = own i; traffic = record { items = traffic i } }
 
 abbrev pub picture_of : ℕ → Own → List Traffic → Picture
@@ -58,84 +58,84 @@ picture_of time own items = record { time = time; own = own; traffic = record { 
 -- ---- over a generator
 
 module _ (g : Lcg) where
-  left_after : (m : ℕ) → words_from (after m g) ≡ left (words_from g) m
-  left_after m = λ i k. words_after m k g i
+  left_after : (m : ℕ) → outputs_from (after m g) ≡ left (outputs_from g) m
+  left_after m = λ i k. outputs_after m k g i
 
-  -- the moment of what is left after some words
-  pub moment_after : (m time : ℕ) → moment_at (words_from (after m g)) time 0 ≡ moment_at (words_from g) time m
+  -- the moment of what is left after some outputs
+  pub moment_after : (m time : ℕ) → moment_at (outputs_from (after m g)) time 0 ≡ moment_at (outputs_from g) time m
   moment_after m time =
-      ap (λ (w : Words). moment_at w time 0) (left_after m) ∙ moment_moved (words_from g) m time 0 ∙ ap (moment_at (words_from g) time) (add-zero m)
+      ap (λ (w : Outputs). moment_at w time 0) (left_after m) ∙ moment_moved (outputs_from g) m time 0 ∙ ap (moment_at (outputs_from g) time) (add-zero m)
 
-  pub draws_after : (m : ℕ) → draws_at (words_from (after m g)) 0 ≡ draws_at (words_from g) m
+  pub draws_after : (m : ℕ) → draws_at (outputs_from (after m g)) 0 ≡ draws_at (outputs_from g) m
   draws_after m =
-      ap (λ (w : Words). draws_at w 0) (left_after m) ∙ ap (λ (n : ℕ). 5 + 6 * n) (count_moved (words_from g) m 0) ∙ ap (draws_at (words_from g)) (add-zero m)
+      ap (λ (w : Outputs). draws_at w 0) (left_after m) ∙ ap (λ (n : ℕ). 5 + 6 * n) (count_moved (outputs_from g) m 0) ∙ ap (draws_at (outputs_from g)) (add-zero m)
 
   -- one aircraft more
-  pub aircraft_after : (m : ℕ) (altitude : ℤ) (number : ℕ) → aircraft_at (words_from (after m g)) altitude number 0 ≡ aircraft_at (words_from g) altitude number m
+  pub aircraft_after : (m : ℕ) (altitude : ℤ) (number : ℕ) → aircraft_at (outputs_from (after m g)) altitude number 0 ≡ aircraft_at (outputs_from g) altitude number m
   aircraft_after m altitude number =
-      ap (λ (w : Words). aircraft_at w altitude number 0) (left_after m) ∙ aircraft_moved (words_from g) m altitude number 0
-      ∙ ap (aircraft_at (words_from g) altitude number) (add-zero m)
+      ap (λ (w : Outputs). aircraft_at w altitude number 0) (left_after m) ∙ aircraft_moved (outputs_from g) m altitude number 0
+      ∙ ap (aircraft_at (outputs_from g) altitude number) (add-zero m)
 
 -- ---- one moment after another
 
--- before a moment of a time the words of all earlier ones are drawn; then this is the moment, and those of the next follow
-pub next_is : (g d e : Lcg) (time : ℕ) (picture : Picture) → d ≡ after (begin_of (words_from g) time) g → picture ≡ moment_at (words_from d) time 0
-    → e ≡ after (draws_at (words_from d) 0) d → (picture ≡ moment_of (words_from g) time) × (e ≡ after (begin_of (words_from g) (time + 1)) g)
+-- before a moment of a time the outputs of all earlier ones are drawn; then this is the moment, and those of the next follow
+pub next_is : (g d e : Lcg) (time : ℕ) (picture : Picture) → d ≡ after (begin_of (outputs_from g) time) g → picture ≡ moment_at (outputs_from d) time 0
+    → e ≡ after (draws_at (outputs_from d) 0) d → (picture ≡ moment_of (outputs_from g) time) × (e ≡ after (begin_of (outputs_from g) (time + 1)) g)
 unfolding begin_of
 next_is g d e time picture at is rest =
-    let b = begin_of (words_from g) time in (
-      is ∙ ap (λ (x : Lcg). moment_at (words_from x) time 0) at ∙ moment_after g b time,
-      rest ∙ ap (λ (x : Lcg). after (draws_at (words_from x) 0) x) at ∙ ap (λ (n : ℕ). after n (after b g)) (draws_after g b) ∙ after_after b (draws_at (words_from g) b) g
+    let b = begin_of (outputs_from g) time in (
+      is ∙ ap (λ (x : Lcg). moment_at (outputs_from x) time 0) at ∙ moment_after g b time,
+      rest ∙ ap (λ (x : Lcg). after (draws_at (outputs_from x) 0) x) at ∙ ap (λ (n : ℕ). after n (after b g)) (draws_after g b) ∙ after_after b (draws_at (outputs_from g) b) g
           ∙ ap (λ (n : ℕ). after n g) (next time),
     )
   where
-    next : (time : ℕ) → begin_of (words_from g) time + draws_at (words_from g) (begin_of (words_from g) time) ≡ begin_of (words_from g) (time + 1)
-    next time = ap (begin_of (words_from g)) (sym (add-one time))
+    next : (time : ℕ) → begin_of (outputs_from g) time + draws_at (outputs_from g) (begin_of (outputs_from g) time) ≡ begin_of (outputs_from g) (time + 1)
+    next time = ap (begin_of (outputs_from g)) (sym (add-one time))
 
 -- ---- the parts of a moment, drawn one after another
 
-pub count_drawn : (g d : Lcg) (count : ℕ) → d ≡ after 4 g → count ≡ nat_abs (picked aircraft_counts (words_from d 0)) → count ≡ count_at (words_from g) 0
+pub count_drawn : (g d : Lcg) (count : ℕ) → d ≡ after 4 g → count ≡ nat_abs (picked aircraft_counts (outputs_from d 0)) → count ≡ count_at (outputs_from g) 0
 unfolding count_at
-count_drawn g d count at is = is ∙ ap (λ (x : Lcg). nat_abs (picked aircraft_counts (words_from x 0))) at ∙ ap (λ (w : ℕ). nat_abs (picked aircraft_counts w)) (words_after 4 0 g)
+count_drawn g d count at is = is ∙ ap (λ (x : Lcg). nat_abs (picked aircraft_counts (outputs_from x 0))) at ∙ ap (λ (w : ℕ). nat_abs (picked aircraft_counts w)) (outputs_after 4 0 g)
 
 pub moment_drawn : (g g1 g2 g3 : Lcg) (time count : ℕ) (own : Own) (items : List Traffic) → g1 ≡ after 4 g → g2 ≡ after 1 g1 → g3 ≡ after (6 * count) g2
-    → own ≡ own_at (words_from g) 0 → count ≡ nat_abs (picked aircraft_counts (words_from g1 0)) → items ≡ traffic_at (words_from g2) own.alt count 0
-    → (picture_of time own items ≡ moment_at (words_from g) time 0) × (g3 ≡ after (draws_at (words_from g) 0) g)
+    → own ≡ own_at (outputs_from g) 0 → count ≡ nat_abs (picked aircraft_counts (outputs_from g1 0)) → items ≡ traffic_at (outputs_from g2) own.alt count 0
+    → (picture_of time own items ≡ moment_at (outputs_from g) time 0) × (g3 ≡ after (draws_at (outputs_from g) 0) g)
 unfolding moment_at
 moment_drawn g g1 g2 g3 time count own items e1 e2 e3 is_own is_count is_traffic =
     let at : g2 ≡ after 5 g = next_after 4 g g1 g2 e1 e2 in
     let n = count_drawn g g1 count e1 is_count in
-    let traffic = is_traffic ∙ ap (λ (x : Lcg). traffic_at (words_from x) own.alt count 0) at
-    ∙ ap (λ (w : Words). traffic_at w own.alt count 0) (left_after g 5) ∙ traffic_moved (words_from g) 5 own.alt count 0
-    ∙ ap₂ (λ (o : Own) (c : ℕ). traffic_at (words_from g) o.alt c 5) is_own n in (
+    let traffic = is_traffic ∙ ap (λ (x : Lcg). traffic_at (outputs_from x) own.alt count 0) at
+    ∙ ap (λ (w : Outputs). traffic_at w own.alt count 0) (left_after g 5) ∙ traffic_moved (outputs_from g) 5 own.alt count 0
+    ∙ ap₂ (λ (o : Own) (c : ℕ). traffic_at (outputs_from g) o.alt c 5) is_own n in (
       (λ i. picture_of time (is_own i) (traffic i)),
       e3 ∙ ap (after (6 * count)) at ∙ after_after 5 (6 * count) g ∙ ap (λ (c : ℕ). after (5 + 6 * c) g) n,
     )
 
 -- ---- one aircraft after another
 
-pub no_traffic : (word : Words) (altitude : ℤ) (items : List Traffic) → items ≡ [] → items ≡ traffic_at word altitude 0 0
+pub no_traffic : (output : Outputs) (altitude : ℤ) (items : List Traffic) → items ≡ [] → items ≡ traffic_at output altitude 0 0
 unfolding traffic_at
-no_traffic word altitude items e = e
+no_traffic output altitude items e = e
 
-pub traffic_count : (word : Words) (altitude : ℤ) (count at : ℕ) → length (traffic_at word altitude count at) ≡ count
+pub traffic_count : (output : Outputs) (altitude : ℤ) (count at : ℕ) → length (traffic_at output altitude count at) ≡ count
 unfolding traffic_at
-traffic_count word altitude count at = length-map-range_with_len (λ i. aircraft_at word altitude (i + 1) (at + 6 * i)) 0 count
+traffic_count output altitude count at = length-map-range_with_len (λ i. aircraft_at output altitude (i + 1) (at + 6 * i)) 0 count
 
 pub traffic_more : (g d e : Lcg) (altitude : ℤ) (i : ℕ) (items all : List Traffic) (aircraft : Traffic) → d ≡ after (6 * i) g → e ≡ after 6 d
-    → items ≡ traffic_at (words_from g) altitude i 0 → aircraft ≡ aircraft_at (words_from d) altitude (i + 1) 0 → all ≡ items ++ aircraft ∷ []
-    → (all ≡ traffic_at (words_from g) altitude (i + 1) 0) × (e ≡ after (6 * (i + 1)) g)
+    → items ≡ traffic_at (outputs_from g) altitude i 0 → aircraft ≡ aircraft_at (outputs_from d) altitude (i + 1) 0 → all ≡ items ++ aircraft ∷ []
+    → (all ≡ traffic_at (outputs_from g) altitude (i + 1) 0) × (e ≡ after (6 * (i + 1)) g)
 unfolding traffic_at
 traffic_more g d e altitude i items all aircraft at rest before is pushed =
-    let here : aircraft ≡ aircraft_at (words_from g) altitude (i + 1) (0 + 6 * i) = is ∙ ap (λ (x : Lcg). aircraft_at (words_from x) altitude (i + 1) 0) at ∙ aircraft_after g (6 * i) altitude (i + 1)
-    ∙ ap (aircraft_at (words_from g) altitude (i + 1)) (sym (zero-add (6 * i))) in
+    let here : aircraft ≡ aircraft_at (outputs_from g) altitude (i + 1) (0 + 6 * i) = is ∙ ap (λ (x : Lcg). aircraft_at (outputs_from x) altitude (i + 1) 0) at ∙ aircraft_after g (6 * i) altitude (i + 1)
+    ∙ ap (aircraft_at (outputs_from g) altitude (i + 1)) (sym (zero-add (6 * i))) in
     let count : 6 * i + 6 ≡ 6 * (i + 1) = omega arith in (
       pushed ∙ ap₂ (λ (xs : List Traffic) (x : Traffic). xs ++ x ∷ []) before here
-          ∙ sym (map-range_with_len_more (λ j. aircraft_at (words_from g) altitude (j + 1) (0 + 6 * j)) 0 i i (zero-add i)),
+          ∙ sym (map-range_with_len_more (λ j. aircraft_at (outputs_from g) altitude (j + 1) (0 + 6 * j)) 0 i i (zero-add i)),
       rest ∙ ap (after 6) at ∙ after_after (6 * i) 6 g ∙ ap (λ (n : ℕ). after n g) count,
     )
 
 -- nothing is drawn before the first moment
-pub first_is : (g d : Lcg) → d ≡ g → d ≡ after (begin_of (words_from g) 0) g
+pub first_is : (g d : Lcg) → d ≡ g → d ≡ after (begin_of (outputs_from g) 0) g
 unfolding begin_of
 first_is g d e = e ∙ sym (none_after g)

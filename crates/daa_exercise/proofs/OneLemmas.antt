@@ -1,9 +1,8 @@
 -- An exercise has exactly one summary.
-use Rattle.std.proofs.Common.{◌≡◌, ◌∙◌, ◌<◌, ◌+◌, ℕ, zero, suc, List, [], ◌∷◌, ◌++◌, length, refl, sym, ap, ap₂, arith}
+use Rattle.std.proofs.Common.{◌≡◌, ◌∙◌, ◌+◌, ℕ, zero, suc, List, [], ◌∷◌, ◌++◌, length, refl, sym, ap₂, arith}
 use Rattle.std.specs.Prelude.{slice_index}
 use Rattle.std.specs.List.{AllZip}
 use Rattle.std.proofs.lemmas.List.{ext_get_or}
-use Rattle.daa_bands.specs.KindBands.{AreShown}
 use Rattle.daa_config.specs.Candidates.{start_of}
 use Rattle.daa_config.specs.Settings.{Settings, IsAccepted}
 use Rattle.daa_config.specs.declared.kind.Kind.{Kind}
@@ -21,7 +20,7 @@ use Rattle.daa_exercise.specs.Levels.{HasAlerts, HasShown, AreLevels, aircraft_i
 use Rattle.daa_exercise.specs.Moments.{moment_of, begin_of}
 use Rattle.daa_exercise.specs.OneSummary.{HasOneSummary}
 use Rattle.daa_exercise.specs.Summary.{IsSummaryOf, summary_text}
-use Rattle.daa_exercise.specs.Words.{Words, words_of}
+use Rattle.daa_exercise.specs.Outputs.{Outputs, outputs_of}
 use Rattle.daa_exercise.proofs.RangeLemmas.{drawn_range}
 
 -- ---- one moment has these levels and no others
@@ -59,42 +58,42 @@ module _ (s : Settings) (p : Picture) where
 
 -- ---- so have all moments
 
-module _ (Has : Picture → List ℕ → Type 0) (word : Words) where
-  some_levels : ((time : ℕ) → (levels : List ℕ) × Has (moment_of word time) levels) → (count : ℕ) → (levels : List ℕ) × AreLevels Has word count levels
+module _ (Has : Picture → List ℕ → Type 0) (output : Outputs) where
+  some_levels : ((time : ℕ) → (levels : List ℕ) × Has (moment_of output time) levels) → (count : ℕ) → (levels : List ℕ) × AreLevels Has output count levels
   some_levels some zero = ([], refl)
   some_levels some (suc count) =
       let before = some_levels some count in
       let here = some count in
       (before.0 ++ here.0, (before.0, here.0, before.1, here.1, refl))
 
-  levels_once : ((p : Picture) (a b : List ℕ) → Has p a → Has p b → a ≡ b) → (count : ℕ) (a b : List ℕ) → AreLevels Has word count a → AreLevels Has word count b → a ≡ b
+  levels_once : ((p : Picture) (a b : List ℕ) → Has p a → Has p b → a ≡ b) → (count : ℕ) (a b : List ℕ) → AreLevels Has output count a → AreLevels Has output count b → a ≡ b
   levels_once once zero a b h k = h ∙ sym k
   levels_once once (suc count) a b (before, here, are, has, e) (before', here', are', has', e') =
-      e ∙ ap₂ (λ (x y : List ℕ). x ++ y) (levels_once once count before before' are are') (once (moment_of word count) here here' has has') ∙ sym e'
+      e ∙ ap₂ (λ (x y : List ℕ). x ++ y) (levels_once once count before before' are are') (once (moment_of output count) here here' has has') ∙ sym e'
 
 -- ---- the summary
 
 module _ (s : Settings) (seed moments : ℕ) (ok : IsAccepted s) where
-  abbrev word : Words
-  word = words_of seed
+  abbrev output : Outputs
+  output = outputs_of seed
 
-  range : (time : ℕ) → IsPictureInRange (moment_of word time)
-  range time = drawn_range word time (begin_of word time)
+  range : (time : ℕ) → IsPictureInRange (moment_of output time)
+  range time = drawn_range output time (begin_of output time)
 
-  alerts : (levels : List ℕ) × AreLevels (HasAlerts s) word moments levels
-  alerts = some_levels (HasAlerts s) word (λ time. some_alerts s (moment_of word time) ok (range time)) moments
+  alerts : (levels : List ℕ) × AreLevels (HasAlerts s) output moments levels
+  alerts = some_levels (HasAlerts s) output (λ time. some_alerts s (moment_of output time) ok (range time)) moments
 
-  shown : (kind : Kind) → (levels : List ℕ) × AreLevels (λ p. HasShown s p kind) word moments levels
-  shown kind = some_levels (λ p. HasShown s p kind) word (λ time. some_shown s (moment_of word time) ok (range time) kind) moments
+  shown : (kind : Kind) → (levels : List ℕ) × AreLevels (λ p. HasShown s p kind) output moments levels
+  shown kind = some_levels (λ p. HasShown s p kind) output (λ time. some_shown s (moment_of output time) ok (range time) kind) moments
 
   abbrev text_of : List ℕ → (Kind → List ℕ) → Text
-  text_of xs ys = summary_text seed moments (aircraft_in word moments) (counts_of (length s.levels) xs) (λ kind. counts_of (length s.levels) (ys kind))
+  text_of xs ys = summary_text seed moments (aircraft_in output moments) (counts_of (length s.levels) xs) (λ kind. counts_of (length s.levels) (ys kind))
 
   text_once : (other : Text) → IsSummaryOf s seed moments other → other ≡ text_of alerts.0 (λ kind. (shown kind).0)
   text_once other (xs, ys, are, each, e) =
-      let a = levels_once (HasAlerts s) word (alerts_once s) moments xs alerts.0 are alerts.1 in
+      let a = levels_once (HasAlerts s) output (alerts_once s) moments xs alerts.0 are alerts.1 in
       let b : (kind : Kind) → ys kind ≡ (shown kind).0 = λ kind.
-      levels_once (λ p. HasShown s p kind) word (λ p. shown_once s p kind) moments (ys kind) (shown kind).0 (each kind) (shown kind).1 in
+      levels_once (λ p. HasShown s p kind) output (λ p. shown_once s p kind) moments (ys kind) (shown kind).0 (each kind) (shown kind).1 in
       e ∙ (λ i. text_of (a i) (λ kind. b kind i))
 
   pub one_summary : HasOneSummary s seed moments

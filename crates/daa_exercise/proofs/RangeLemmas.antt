@@ -1,5 +1,5 @@
 -- Every moment that is drawn is in range.
-use Rattle.std.proofs.Common.{◌≡◌, ◌∙◌, ◌<◌, ◌≤◌, ◌+◌, ◌*◌, ◌%◌, ℕ, zero, suc, ℤ, pos, neg_ℤ, ◌+ℤ◌, ◌-ℤ◌, ◌≤ℤ◌, nat_abs, true, List, [], ◌∷◌, length, refl, sym, ap, subst, arith, zero-add}
+use Rattle.std.proofs.Common.{◌≡◌, ◌∙◌, ◌<◌, ◌≤◌, ◌+◌, ◌*◌, ◌%◌, ℕ, zero, suc, ℤ, pos, ◌+ℤ◌, ◌-ℤ◌, ◌≤ℤ◌, nat_abs, true, List, [], ◌∷◌, refl, sym, ap, subst, arith, zero-add}
 use Rattle.std.specs.Prelude.{All, slice_index_or}
 use Rattle.std.proofs.lemmas.Fmt.{decimal_digit}
 use Rattle.std.proofs.lemmas.Int.{ints}
@@ -9,10 +9,10 @@ use Rattle.daa_state.specs.InRange.{IsWithin, IsOwnInRange, IsTrafficInRange, Is
 use Rattle.daa_state.specs.Ranges.{Range, positions, altitudes, tracks, ground_speeds, speeds, vertical_speeds}
 use Rattle.daa_state.specs.declared.word.Traffic.{Traffic}
 use Rattle.daa_exercise.specs.Moments.{own_altitudes, own_tracks, own_ground_speeds, drawn_vertical_speeds, aircraft_counts, drawn_positions, heights_above, drawn_speeds, name_of, own_at, count_at, aircraft_at, traffic_at, moment_at}
-use Rattle.daa_exercise.specs.Words.{Words, picked}
+use Rattle.daa_exercise.specs.Outputs.{Outputs, picked}
 use Rattle.daa_exercise.proofs.MoveLemmas.{traffic_count}
 
--- ---- a number that a word picks is in the range
+-- ---- a number that an output picks is in the range
 
 least : (low size : ℤ) (rest : ℕ) → low ≤ℤ (low +ℤ pos rest)
 least low size rest = omega (arith, ints)
@@ -20,15 +20,15 @@ least low size rest = omega (arith, ints)
 most : (low high : ℤ) (rest : ℕ) → low ≤ℤ high → rest < nat_abs (high -ℤ low) + 1 → (low +ℤ pos rest) ≤ℤ high
 most low high rest ordered lt = omega (arith, ints)
 
-left_over : (word size : ℕ) → word % (size + 1) < size + 1
-left_over word size = omega arith
+left_over : (output size : ℕ) → output % (size + 1) < size + 1
+left_over output size = omega arith
 
 -- and so in every range around it
-pub picks : (range outer : Range) (word : ℕ) → outer.low ≤ℤ range.low → range.low ≤ℤ range.high → range.high ≤ℤ outer.high → IsWithin outer (picked range word)
-picks range outer word low ordered high =
-    let n = word % (nat_abs (range.high -ℤ range.low) + 1) in
+pub picks : (range outer : Range) (output : ℕ) → outer.low ≤ℤ range.low → range.low ≤ℤ range.high → range.high ≤ℤ outer.high → IsWithin outer (picked range output)
+picks range outer output low ordered high =
+    let n = output % (nat_abs (range.high -ℤ range.low) + 1) in
     let a = least range.low range.high n in
-    let b = most range.low range.high n ordered (left_over word (nat_abs (range.high -ℤ range.low))) in
+    let b = most range.low range.high n ordered (left_over output (nat_abs (range.high -ℤ range.low))) in
     (between low a, between b high)
   where
     between : {x y z : ℤ} → x ≤ℤ y → y ≤ℤ z → x ≤ℤ z
@@ -54,56 +54,56 @@ names i h = ap (λ (xs : List ℕ). is_id (65 ∷ xs)) (decimal_digit (i + 1) (o
 above : (altitude height : ℤ) → IsWithin own_altitudes altitude → IsWithin heights_above height → IsWithin altitudes (altitude +ℤ height)
 above altitude height h k = let a = h.0 in let b = h.1 in let c = k.0 in let d = k.1 in (omega (arith, ints), omega (arith, ints))
 
-module _ (word : Words) where
-  own_range : (at : ℕ) → IsOwnInRange (own_at word at)
+module _ (output : Outputs) where
+  own_range : (at : ℕ) → IsOwnInRange (own_at output at)
   unfolding own_at
   own_range at = record {
     x = (omega (arith, ints), omega (arith, ints));
     y = (omega (arith, ints), omega (arith, ints));
-    alt = picks own_altitudes altitudes (word at) (omega (arith, ints)) (omega (arith, ints)) (omega (arith, ints));
-    trk = picks own_tracks tracks (word (at + 1)) (omega (arith, ints)) (omega (arith, ints)) (omega (arith, ints));
-    gs = picks own_ground_speeds ground_speeds (word (at + 2)) (omega (arith, ints)) (omega (arith, ints)) (omega (arith, ints));
-    vs = picks drawn_vertical_speeds vertical_speeds (word (at + 3)) (omega (arith, ints)) (omega (arith, ints)) (omega (arith, ints));
+    alt = picks own_altitudes altitudes (output at) (omega (arith, ints)) (omega (arith, ints)) (omega (arith, ints));
+    trk = picks own_tracks tracks (output (at + 1)) (omega (arith, ints)) (omega (arith, ints)) (omega (arith, ints));
+    gs = picks own_ground_speeds ground_speeds (output (at + 2)) (omega (arith, ints)) (omega (arith, ints)) (omega (arith, ints));
+    vs = picks drawn_vertical_speeds vertical_speeds (output (at + 3)) (omega (arith, ints)) (omega (arith, ints)) (omega (arith, ints));
   }
 
-  own_altitude : (at : ℕ) → IsWithin own_altitudes (own_at word at).alt
+  own_altitude : (at : ℕ) → IsWithin own_altitudes (own_at output at).alt
   unfolding own_at
-  own_altitude at = picks own_altitudes own_altitudes (word at) (omega (arith, ints)) (omega (arith, ints)) (omega (arith, ints))
+  own_altitude at = picks own_altitudes own_altitudes (output at) (omega (arith, ints)) (omega (arith, ints)) (omega (arith, ints))
 
-  count_few : (at : ℕ) → count_at word at ≤ 8
+  pub count_few : (at : ℕ) → count_at output at ≤ 8
   unfolding count_at
-  count_few at = let h = (picks aircraft_counts aircraft_counts (word (at + 4)) (omega (arith, ints)) (omega (arith, ints)) (omega (arith, ints))) in size (picked aircraft_counts (word (at + 4))) h.0 h.1
+  count_few at = let h = (picks aircraft_counts aircraft_counts (output (at + 4)) (omega (arith, ints)) (omega (arith, ints)) (omega (arith, ints))) in size (picked aircraft_counts (output (at + 4))) h.0 h.1
     where
       size : (z : ℤ) → pos 0 ≤ℤ z → z ≤ℤ pos 8 → nat_abs z ≤ 8
       size z low high = omega (arith, ints)
 
-  aircraft_range : (altitude : ℤ) (i at : ℕ) → IsWithin own_altitudes altitude → i < 8 → IsTrafficInRange (aircraft_at word altitude (i + 1) at)
+  aircraft_range : (altitude : ℤ) (i at : ℕ) → IsWithin own_altitudes altitude → i < 8 → IsTrafficInRange (aircraft_at output altitude (i + 1) at)
   unfolding aircraft_at
   aircraft_range altitude i at high lt = record {
     id = names i lt;
-    x = picks drawn_positions positions (word at) (omega (arith, ints)) (omega (arith, ints)) (omega (arith, ints));
-    y = picks drawn_positions positions (word (at + 1)) (omega (arith, ints)) (omega (arith, ints)) (omega (arith, ints));
-    alt = above altitude (picked heights_above (word (at + 2))) high
-        (picks heights_above heights_above (word (at + 2)) (omega (arith, ints)) (omega (arith, ints)) (omega (arith, ints)));
-    vx = picks drawn_speeds speeds (word (at + 3)) (omega (arith, ints)) (omega (arith, ints)) (omega (arith, ints));
-    vy = picks drawn_speeds speeds (word (at + 4)) (omega (arith, ints)) (omega (arith, ints)) (omega (arith, ints));
-    vs = picks drawn_vertical_speeds vertical_speeds (word (at + 5)) (omega (arith, ints)) (omega (arith, ints)) (omega (arith, ints));
+    x = picks drawn_positions positions (output at) (omega (arith, ints)) (omega (arith, ints)) (omega (arith, ints));
+    y = picks drawn_positions positions (output (at + 1)) (omega (arith, ints)) (omega (arith, ints)) (omega (arith, ints));
+    alt = above altitude (picked heights_above (output (at + 2))) high
+        (picks heights_above heights_above (output (at + 2)) (omega (arith, ints)) (omega (arith, ints)) (omega (arith, ints)));
+    vx = picks drawn_speeds speeds (output (at + 3)) (omega (arith, ints)) (omega (arith, ints)) (omega (arith, ints));
+    vy = picks drawn_speeds speeds (output (at + 4)) (omega (arith, ints)) (omega (arith, ints)) (omega (arith, ints));
+    vs = picks drawn_vertical_speeds vertical_speeds (output (at + 5)) (omega (arith, ints)) (omega (arith, ints)) (omega (arith, ints));
     age = omega arith;
   }
 
-  aircraft_is : (altitude : ℤ) (count at k : ℕ) (d : Traffic) → k < count → slice_index_or (traffic_at word altitude count at) k d ≡ aircraft_at word altitude (k + 1) (at + 6 * k)
+  pub aircraft_is : (altitude : ℤ) (count at k : ℕ) (d : Traffic) → k < count → slice_index_or (traffic_at output altitude count at) k d ≡ aircraft_at output altitude (k + 1) (at + 6 * k)
   unfolding traffic_at
-  aircraft_is altitude count at k d lt = get_or-map-range_with_len (λ i. aircraft_at word altitude (i + 1) (at + 6 * i)) 0 count k k d lt (zero-add k)
+  aircraft_is altitude count at k d lt = get_or-map-range_with_len (λ i. aircraft_at output altitude (i + 1) (at + 6 * i)) 0 count k k d lt (zero-add k)
 
-  traffic_range : (altitude : ℤ) (count at : ℕ) → IsWithin own_altitudes altitude → count ≤ 8 → All IsTrafficInRange (traffic_at word altitude count at)
+  traffic_range : (altitude : ℤ) (count at : ℕ) → IsWithin own_altitudes altitude → count ≤ 8 → All IsTrafficInRange (traffic_at output altitude count at)
   traffic_range altitude count at high few k d lt =
-      let below : k < count = (let n = traffic_count word altitude count at in omega (arith, n, lt)) in
+      let below : k < count = (let n = traffic_count output altitude count at in omega (arith, n, lt)) in
       subst IsTrafficInRange (sym (aircraft_is altitude count at k d below)) (aircraft_range altitude k (at + 6 * k) high (omega (arith, below, few)))
 
-  pub drawn_range : (time at : ℕ) → IsPictureInRange (moment_at word time at)
+  pub drawn_range : (time at : ℕ) → IsPictureInRange (moment_at output time at)
   unfolding moment_at
   drawn_range time at = record {
     own = own_range at;
-    traffic = traffic_range (own_at word at).alt (count_at word at) (at + 5) (own_altitude at) (count_few at);
-    count = (let n = traffic_count word (own_at word at).alt (count_at word at) (at + 5) in let few = count_few at in omega (arith, n, few));
+    traffic = traffic_range (own_at output at).alt (count_at output at) (at + 5) (own_altitude at) (count_few at);
+    count = (let n = traffic_count output (own_at output at).alt (count_at output at) (at + 5) in let few = count_few at in omega (arith, n, few));
   }

@@ -1,13 +1,12 @@
 -- How often each level stands among levels adds up to how many levels there are.
-use Rattle.std.proofs.Common.{◌≡◌, ◌∙◌, ◌⊎◌, inl, inr, ◌<◌, ◌≤◌, ◌+◌, ◌*◌, ℕ, zero, suc, true, false, List, [], ◌∷◌, ◌++◌, length, map, refl, sym, ap, ap₂, arith, subst, zero-add, add-one, suc-mul, zero-mul, length-append}
+use Rattle.std.proofs.Common.{◌≡◌, ◌∙◌, ◌⊎◌, inl, inr, ◌<◌, ◌≤◌, ◌+◌, ◌*◌, ℕ, zero, suc, List, [], ◌∷◌, ◌++◌, length, map, refl, sym, ap, arith, subst, zero-add, add-one, suc-mul, zero-mul, length-append}
 use Rattle.std.specs.Prelude.{slice_index, cond, ◌==◌}
-use Rattle.std.specs.List.{AllByRecursion, AllZip, range_with_len, sum, sum_by, count_by}
+use Rattle.std.specs.List.{AllByRecursion, AllZip, range_with_len, sum}
 use Rattle.std.proofs.lemmas.Bool.{cases_lt}
 use Rattle.std.proofs.lemmas.Bool.Decides.{nat_tests}
 use Rattle.std.proofs.lemmas.List.FromFn.{sum_by-map-range_with_len_more}
 use Rattle.std.proofs.lemmas.List.Sums.{sum_by-cons}
 use Rattle.std.proofs.lemmas.Slice.Zip.{AllZip-long}
-use Rattle.daa_bands.specs.KindBands.{AreShown}
 use Rattle.daa_config.specs.Candidates.{values_of}
 use Rattle.daa_config.specs.Settings.{Settings}
 use Rattle.daa_config.specs.declared.kind.Kind.{Kind}
@@ -15,9 +14,9 @@ use Rattle.daa_legs.specs.Alerts.{IsAlertLevel}
 use Rattle.daa_state.specs.Picture.{aircraft_of}
 use Rattle.daa_state.specs.declared.word.Picture.{Picture}
 use Rattle.daa_state.specs.declared.word.Traffic.{Traffic}
-use Rattle.daa_exercise.specs.Levels.{HasAlerts, HasShown, AreLevels, aircraft_in, counts_of, times}
+use Rattle.daa_exercise.specs.Levels.{HasAlerts, HasShown, AreLevels, aircraft_in, counts_of, how_often}
 use Rattle.daa_exercise.specs.Moments.{moment_of}
-use Rattle.daa_exercise.specs.Words.{Words}
+use Rattle.daa_exercise.specs.Outputs.{Outputs}
 use Rattle.daa_exercise.proofs.CountLemmas.{aircraft_next, aircraft_none}
 
 -- ---- one level more
@@ -26,9 +25,9 @@ use Rattle.daa_exercise.proofs.CountLemmas.{aircraft_next, aircraft_none}
 one_at : ℕ → ℕ → ℕ
 one_at x level = cond (x == level) 1 0
 
-times_cons : (x : ℕ) (levels : List ℕ) (level : ℕ) → times (x ∷ levels) level ≡ one_at x level + times levels level
+how_often_cons : (x : ℕ) (levels : List ℕ) (level : ℕ) → how_often (x ∷ levels) level ≡ one_at x level + how_often levels level
 unfolding one_at
-times_cons x levels level = sum_by-cons (λ other. cond (other == level) 1 0) x levels
+how_often_cons x levels level = sum_by-cons (λ other. cond (other == level) 1 0) x levels
 
 -- the sum over the first places
 abbrev total : (ℕ → ℕ) → ℕ → ℕ
@@ -77,17 +76,17 @@ one_below x (suc n) lt = go (λ below. one_below x n below) (cases_lt x n)
 abbrev AreUpto : ℕ → List ℕ → Type 0
 AreUpto top levels = AllByRecursion (λ level. level ≤ top) levels
 
-total_times : (top : ℕ) (levels : List ℕ) → AreUpto top levels → total (times levels) (top + 1) ≡ length levels
-total_times top [] upto = total_none (times []) (λ k. refl) (top + 1)
-total_times top (x ∷ levels) upto =
-    let a = total_sum (one_at x) (times levels) (times (x ∷ levels)) (times_cons x levels) (top + 1) in
+total_how_often : (top : ℕ) (levels : List ℕ) → AreUpto top levels → total (how_often levels) (top + 1) ≡ length levels
+total_how_often top [] upto = total_none (how_often []) (λ k. refl) (top + 1)
+total_how_often top (x ∷ levels) upto =
+    let a = total_sum (one_at x) (how_often levels) (how_often (x ∷ levels)) (how_often_cons x levels) (top + 1) in
     let b = one_below x (top + 1) (let h = upto.0 in omega arith) in
-    let e = total_times top levels upto.1 in
+    let e = total_how_often top levels upto.1 in
     omega (arith, a, b, e)
 
 pub counts_sum : (top : ℕ) (levels : List ℕ) → AreUpto top levels → sum (counts_of top levels) ≡ length levels
 unfolding counts_of
-counts_sum top levels upto = total_times top levels upto
+counts_sum top levels upto = total_how_often top levels upto
 
 upto_append : (top : ℕ) (xs ys : List ℕ) → AreUpto top xs → AreUpto top ys → AreUpto top (xs ++ ys)
 upto_append top [] ys h k = k
@@ -99,13 +98,13 @@ upto_each top (x ∷ xs) h = (h 0 (omega arith), upto_each top xs (λ i lt. h (s
 
 -- ---- the levels of all moments
 
-module _ (Has : Picture → List ℕ → Type 0) (word : Words) (top : ℕ) (each : (picture : Picture) (levels : List ℕ) → Has picture levels → AreUpto top levels) where
-  all_upto : (count : ℕ) (levels : List ℕ) → AreLevels Has word count levels → AreUpto top levels
+module _ (Has : Picture → List ℕ → Type 0) (output : Outputs) (top : ℕ) (each : (picture : Picture) (levels : List ℕ) → Has picture levels → AreUpto top levels) where
+  all_upto : (count : ℕ) (levels : List ℕ) → AreLevels Has output count levels → AreUpto top levels
   all_upto zero levels e = subst (AreUpto top) (sym e) tt
   all_upto (suc count) levels (before, here, are, has, e) =
-      subst (AreUpto top) (sym e) (upto_append top before here (all_upto count before are) (each (moment_of word count) here has))
+      subst (AreUpto top) (sym e) (upto_append top before here (all_upto count before are) (each (moment_of output count) here has))
 
-module _ (s : Settings) (word : Words) where
+module _ (s : Settings) (output : Outputs) where
   alerts_upto : (p : Picture) (levels : List ℕ) → HasAlerts s p levels → AreUpto (length s.levels) levels
   alerts_upto p levels has = go (aircraft_of p) levels has
     where
@@ -115,18 +114,18 @@ module _ (s : Settings) (word : Words) where
       go (t ∷ ts) [] h = absurd h
       go (t ∷ ts) (l ∷ levels) h = (h.0.within, go ts levels h.1)
 
-  alerts_many : (count : ℕ) (levels : List ℕ) → AreLevels (HasAlerts s) word count levels → length levels ≡ aircraft_in word count
-  alerts_many zero levels e = ap (λ (xs : List ℕ). length xs) e ∙ sym (aircraft_none word)
+  alerts_many : (count : ℕ) (levels : List ℕ) → AreLevels (HasAlerts s) output count levels → length levels ≡ aircraft_in output count
+  alerts_many zero levels e = ap (λ (xs : List ℕ). length xs) e ∙ sym (aircraft_none output)
   alerts_many (suc count) levels (before, here, are, has, e) =
       let a = alerts_many count before are in
-      let b = AllZip-long (IsAlertLevel s (moment_of word count).own) (aircraft_of (moment_of word count)) here has in
+      let b = AllZip-long (IsAlertLevel s (moment_of output count).own) (aircraft_of (moment_of output count)) here has in
       let n = ap (λ (xs : List ℕ). length xs) e ∙ length-append before here in
-      let next = ap (aircraft_in word) (sym (add-one count)) ∙ aircraft_next word count in
+      let next = ap (aircraft_in output) (sym (add-one count)) ∙ aircraft_next output count in
       omega (arith, a, b, n, next)
 
-  pub alerts_add_up : (count : ℕ) (levels : List ℕ) → AreLevels (HasAlerts s) word count levels → sum (counts_of (length s.levels) levels) ≡ aircraft_in word count
+  pub alerts_add_up : (count : ℕ) (levels : List ℕ) → AreLevels (HasAlerts s) output count levels → sum (counts_of (length s.levels) levels) ≡ aircraft_in output count
   alerts_add_up count levels are =
-      counts_sum (length s.levels) levels (all_upto (HasAlerts s) word (length s.levels) alerts_upto count levels are) ∙ alerts_many count levels are
+      counts_sum (length s.levels) levels (all_upto (HasAlerts s) output (length s.levels) alerts_upto count levels are) ∙ alerts_many count levels are
 
   module _ (kind : Kind) where
     abbrev Shown : Picture → List ℕ → Type 0
@@ -135,7 +134,7 @@ module _ (s : Settings) (word : Words) where
     shown_upto : (p : Picture) (levels : List ℕ) → Shown p levels → AreUpto (length s.levels) levels
     shown_upto p levels has = upto_each (length s.levels) levels (λ i lt. (has.greatest i lt).within)
 
-    shown_many : (count : ℕ) (levels : List ℕ) → AreLevels Shown word count levels → length levels ≡ count * length (values_of kind s)
+    shown_many : (count : ℕ) (levels : List ℕ) → AreLevels Shown output count levels → length levels ≡ count * length (values_of kind s)
     shown_many zero levels e = ap (λ (xs : List ℕ). length xs) e ∙ sym (zero-mul (length (values_of kind s)))
     shown_many (suc count) levels (before, here, are, has, e) =
         let a = shown_many count before are in
@@ -146,6 +145,6 @@ module _ (s : Settings) (word : Words) where
         next : (x y c m : ℕ) → x ≡ c * m → y ≡ m → x + y ≡ suc c * m
         next x y c m e h = omega (arith, e, h, suc-mul c m)
 
-    pub shown_add_up : (count : ℕ) (levels : List ℕ) → AreLevels Shown word count levels
+    pub shown_add_up : (count : ℕ) (levels : List ℕ) → AreLevels Shown output count levels
         → sum (counts_of (length s.levels) levels) ≡ count * length (values_of kind s)
-    shown_add_up count levels are = counts_sum (length s.levels) levels (all_upto Shown word (length s.levels) shown_upto count levels are) ∙ shown_many count levels are
+    shown_add_up count levels are = counts_sum (length s.levels) levels (all_upto Shown output (length s.levels) shown_upto count levels are) ∙ shown_many count levels are

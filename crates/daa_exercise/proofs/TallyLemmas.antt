@@ -10,7 +10,7 @@ use Rattle.daa_config.specs.Candidates.{start_of, values_of}
 use Rattle.daa_config.specs.Level.{IsGreatestLevel}
 use Rattle.daa_config.specs.Settings.{Settings}
 use Rattle.daa_config.specs.declared.kind.Kind.{Kind}
-use Rattle.daa_exercise.specs.Counting.{Adds, CountsMore, HasRoom}
+use Rattle.daa_exercise.specs.Counting.{Adds, CountsMore, HasRoomFor}
 use Rattle.daa_exercise.specs.Levels.{counts_of}
 
 -- ---- levels counted one after another
@@ -33,7 +33,7 @@ zip_next {A} R (x ∷ xs) (z ∷ ys) (suc n) d y lt h r = (h.0, zip_next R xs ys
 
 -- ---- a tally that can take so many levels more
 
-pub room_for : (n m : ℕ) (tally : List ℕ) → n ≤ m → HasRoom m tally → HasRoom n tally
+pub room_for : (n m : ℕ) (tally : List ℕ) → n ≤ m → HasRoomFor m tally → HasRoomFor n tally
 room_for n m tally le h level = let k = h level in omega arith
 
 -- ---- one aircraft more

@@ -1,11 +1,11 @@
 -- What a draw leaves of a generator.
-use Rattle.std.specs.Prelude.{ℕ, ◌+◌, ◌≤ℤ◌, ◌-ℤ◌, pos}
+use Rattle.std.specs.Prelude.{ℕ, ◌≤ℤ◌, ◌-ℤ◌, pos}
 use Rattle.rand_pcg.specs.Lcg.{Lcg, advance}
 use Rattle.rand_pcg.specs.Pcg.{multiplier_64}
 use Rattle.daa_state.specs.Ranges.{Range}
 use Rattle.daa_exercise.specs.declared.draws.Span.{Span}
 
--- the generator after so many words
+-- the generator after so many outputs
 unfoldable pub after : ℕ → Lcg → Lcg
 after n generator = advance 64 multiplier_64 n generator
 

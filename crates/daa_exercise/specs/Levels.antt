@@ -8,7 +8,7 @@ use Rattle.daa_state.specs.declared.word.Picture.{Picture}
 use Rattle.daa_legs.specs.Alerts.{IsAlertLevel}
 use Rattle.daa_bands.specs.KindBands.{AreShown}
 use Rattle.daa_engine.specs.Covered.{CoveredAt}
-use Rattle.daa_exercise.specs.Words.{Words}
+use Rattle.daa_exercise.specs.Outputs.{Outputs}
 use Rattle.daa_exercise.specs.Moments.{moment_of}
 
 -- ---- one moment
@@ -25,21 +25,21 @@ module _ (settings : Settings) (picture : Picture) where
 -- ---- the first moments
 
 -- the levels of each of so many moments, one moment after the other
-abbrev pub AreLevels : (Picture → List ℕ → Type 0) → Words → ℕ → List ℕ → Type 0
-AreLevels Has word zero levels = levels ≡ []
-AreLevels Has word (suc count) levels =
-    (before : List ℕ) × (here : List ℕ) × AreLevels Has word count before × Has (moment_of word count) here × (levels ≡ before ++ here)
+abbrev pub AreLevels : (Picture → List ℕ → Type 0) → Outputs → ℕ → List ℕ → Type 0
+AreLevels Has output zero levels = levels ≡ []
+AreLevels Has output (suc count) levels =
+    (before : List ℕ) × (here : List ℕ) × AreLevels Has output count before × Has (moment_of output count) here × (levels ≡ before ++ here)
 
 -- how many aircraft there are in so many moments
-unfoldable pub aircraft_in : Words → ℕ → ℕ
-aircraft_in word count = sum (map (λ time. length (aircraft_of (moment_of word time))) (range_with_len 0 count))
+unfoldable pub aircraft_in : Outputs → ℕ → ℕ
+aircraft_in output count = sum (map (λ time. length (aircraft_of (moment_of output time))) (range_with_len 0 count))
 
 -- ---- counting
 
 -- how often a level stands among levels
-abbrev pub times : List ℕ → ℕ → ℕ
-times levels level = count_by (λ other. other == level) levels
+abbrev pub how_often : List ℕ → ℕ → ℕ
+how_often levels level = count_by (λ other. other == level) levels
 
 -- how often each level stands among them, from 0 up to the top one
 unfoldable pub counts_of : ℕ → List ℕ → List ℕ
-counts_of top levels = map (times levels) (range_with_len 0 (top + 1))
+counts_of top levels = map (how_often levels) (range_with_len 0 (top + 1))

@@ -1,5 +1,6 @@
-pub mod Words
+pub mod Outputs
 pub mod Moments
+pub mod Taken
 pub mod Levels
 pub mod Summary
 pub mod OneSummary

@@ -1,12 +1,12 @@
--- The moments that the words of a generator make. Each draw takes the next word, and a moment's draws begin where those of
--- the moment before end.
+-- The moments that the outputs of a generator make. Each draw takes the next output, and a moment's draws begin where
+-- those of the moment before end.
 use Rattle.std.specs.Prelude.{ℕ, zero, suc, ℤ, pos, neg_ℤ, nat_abs, ◌+◌, ◌*◌, ◌+ℤ◌, List, ◌++◌, map, codes, decimal}
 use Rattle.std.specs.List.{range_with_len}
 use Rattle.daa_state.specs.Ranges.{Range}
 use Rattle.daa_state.specs.declared.word.Own.{Own}
 use Rattle.daa_state.specs.declared.word.Traffic.{Traffic}
 use Rattle.daa_state.specs.declared.word.Picture.{Picture}
-use Rattle.daa_exercise.specs.Words.{Words, picked}
+use Rattle.daa_exercise.specs.Outputs.{Outputs, picked}
 
 -- ---- what is drawn, both ends of a range in it
 
@@ -47,39 +47,39 @@ drawn_speeds = record { low = neg_ℤ (pos 5000); high = pos 5000 }
 abbrev pub name_of : ℕ → List ℕ
 name_of number = codes "A" ++ decimal number
 
-module _ (word : Words) where
+module _ (output : Outputs) where
   -- the ownship stands at 0 0; its four numbers are the draws from a place on
   unfoldable pub own_at : ℕ → Own
   own_at at = record {
     x = pos 0;
     y = pos 0;
-    alt = picked own_altitudes (word at);
-    trk = picked own_tracks (word (at + 1));
-    gs = picked own_ground_speeds (word (at + 2));
-    vs = picked drawn_vertical_speeds (word (at + 3));
+    alt = picked own_altitudes (output at);
+    trk = picked own_tracks (output (at + 1));
+    gs = picked own_ground_speeds (output (at + 2));
+    vs = picked drawn_vertical_speeds (output (at + 3));
   }
 
   -- how many aircraft there are is the draw after these
   unfoldable pub count_at : ℕ → ℕ
-  count_at at = nat_abs (picked aircraft_counts (word (at + 4)))
+  count_at at = nat_abs (picked aircraft_counts (output (at + 4)))
 
   -- the aircraft of this number, at a height above the ownship's altitude; its six numbers are the draws from a place on,
   -- and its report is of this second
   unfoldable pub aircraft_at : ℤ → ℕ → ℕ → Traffic
-  aircraft_at altitude number at = record {
+  aircraft_at own_altitude number at = record {
     id = name_of number;
-    x = picked drawn_positions (word at);
-    y = picked drawn_positions (word (at + 1));
-    alt = altitude +ℤ picked heights_above (word (at + 2));
-    vx = picked drawn_speeds (word (at + 3));
-    vy = picked drawn_speeds (word (at + 4));
-    vs = picked drawn_vertical_speeds (word (at + 5));
+    x = picked drawn_positions (output at);
+    y = picked drawn_positions (output (at + 1));
+    alt = own_altitude +ℤ picked heights_above (output (at + 2));
+    vx = picked drawn_speeds (output (at + 3));
+    vy = picked drawn_speeds (output (at + 4));
+    vs = picked drawn_vertical_speeds (output (at + 5));
     age = 0;
   }
 
   -- so many aircraft, one after the other, numbered from 1
   unfoldable pub traffic_at : ℤ → ℕ → ℕ → List Traffic
-  traffic_at altitude count at = map (λ i. aircraft_at altitude (i + 1) (at + 6 * i)) (range_with_len 0 count)
+  traffic_at own_altitude count at = map (λ i. aircraft_at own_altitude (i + 1) (at + 6 * i)) (range_with_len 0 count)
 
   -- the moment of a time, of the draws from a place on: its ownship, how many aircraft there are, and the aircraft
   unfoldable pub moment_at : ℕ → ℕ → Picture

@@ -4,7 +4,7 @@ use Rattle.daa_config.specs.Settings.{Settings}
 use Rattle.daa_config.specs.declared.kind.Kind.{Kind}
 use Rattle.daa_report.specs.Lines.{Text, kind_word, numbers_line}
 use Rattle.daa_engine.specs.MomentText.{of_each}
-use Rattle.daa_exercise.specs.Words.{words_of}
+use Rattle.daa_exercise.specs.Outputs.{outputs_of}
 use Rattle.daa_exercise.specs.Levels.{HasAlerts, HasShown, AreLevels, aircraft_in, counts_of}
 
 -- the lines of a summary: the seed and the number of moments; how many aircraft there were; how often each level, from 0 up
@@ -22,7 +22,7 @@ summary_text seed moments aircraft alerts shown =
 abbrev pub IsSummaryOf : Settings → (seed moments : ℕ) → Text → Type 0
 IsSummaryOf settings seed moments text =
     (alerts : List ℕ) × (shown : Kind → List ℕ)
-    × AreLevels (HasAlerts settings) (words_of seed) moments alerts
-    × ((kind : Kind) → AreLevels (λ picture. HasShown settings picture kind) (words_of seed) moments (shown kind))
-    × (text ≡ summary_text seed moments (aircraft_in (words_of seed) moments)
+    × AreLevels (HasAlerts settings) (outputs_of seed) moments alerts
+    × ((kind : Kind) → AreLevels (λ picture. HasShown settings picture kind) (outputs_of seed) moments (shown kind))
+    × (text ≡ summary_text seed moments (aircraft_in (outputs_of seed) moments)
     (counts_of (length settings.levels) alerts) (λ kind. counts_of (length settings.levels) (shown kind)))

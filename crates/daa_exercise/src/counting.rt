@@ -4,9 +4,9 @@ ghost use Rattle.daa_bands.specs.Board.{HasLevelOn, IsBoardOf, mask_levels};
 ghost use Rattle.daa_bands.specs.KindBands.{AreShown};
 ghost use Rattle.daa_engine.specs.Covered.{CoveredAt};
 ghost use Rattle.daa_state.specs.InRange.{IsPictureInRange};
-ghost use Rattle.daa_exercise.specs.Counting.{Adds, AreCounted, CountsPicture, HasRoom, IsRoomy};
+ghost use Rattle.daa_exercise.specs.Counting.{Adds, AreCounted, CountsPicture, HasRoomFor, IsRoomy};
 ghost use Rattle.daa_exercise.specs.Levels.{HasAlerts};
-ghost use Rattle.daa_exercise.specs.Words.{Words};
+ghost use Rattle.daa_exercise.specs.Outputs.{Outputs};
 ghost use Rattle.daa_config.specs.Settings.{IsAccepted, Settings};
 
 use crate::tally::Tally;
@@ -30,7 +30,7 @@ impl Counts {
     /// No moment is counted.
     #[tactic(auto, unfolding(crate::specs::Levels::aircraft_in))]
     pub(crate) fn new() -> Counts
-        ensures { (settings : Settings) (word : Words) → AreCounted settings word 0 result }
+        ensures { (settings : Settings) (output : Outputs) → AreCounted settings output 0 result }
     {
         Counts {
             aircraft: 0,
@@ -63,7 +63,7 @@ impl Counts {
 fn count_alerts(tally: &mut Tally, engine: &Engine, picture: &Picture)
     requires accepted { IsAccepted engine.now.settings }
     requires picture { IsPictureInRange picture.now }
-    requires room { HasRoom 64 tally.old }
+    requires room { HasRoomFor 64 tally.old }
     ensures { Adds (HasAlerts engine.now.settings picture.now) tally.old tally.new }
 {
     for place in 0..picture.traffic.len() {
@@ -73,7 +73,7 @@ fn count_alerts(tally: &mut Tally, engine: &Engine, picture: &Picture)
 
 /// Counts the levels that the board shows of a kind's candidates.
 fn count_shown(tally: &mut Tally, engine: &Engine, kind: Kind)
-    requires { HasRoom 512 tally.old }
+    requires { HasRoomFor 512 tally.old }
     ensures { Adds (AreShown (HasLevelOn engine.now.board) mask_levels engine.now.settings kind) tally.old tally.new }
 {
     let config = engine.config();

@@ -1,9 +1,9 @@
-//! What is drawn: the words of a generator, the numbers that they pick, and the moments of these numbers.
+//! What is drawn: the outputs of a generator, the numbers that they pick, and the moments of these numbers.
 ghost use Rattle.std.specs.Prelude.{◌≡◌, ◌≤◌, ◌+◌, ◌*◌, ◌≤ℤ◌, nat_abs, pos};
 ghost use Rattle.daa_state.specs.InRange.{IsPictureInRange};
 ghost use Rattle.daa_exercise.specs.Drawing.{after, range_of, IsSpan};
 ghost use Rattle.daa_exercise.specs.Moments.{aircraft_counts, name_of, own_at, aircraft_at, traffic_at, draws_at, moment_at};
-ghost use Rattle.daa_exercise.specs.Words.{generator_of, picked, words_from};
+ghost use Rattle.daa_exercise.specs.Outputs.{generator_of, picked, outputs_from};
 
 use arrayvec::ArrayVec;
 use daa_state::{Id, Own, Picture, Traffic};
@@ -54,7 +54,7 @@ const SPEEDS: Span = Span {
     high: 5000,
 };
 
-/// The words that are still to be drawn. Contracts see the generator that gives them.
+/// The outputs that are still to be drawn. Contracts see the generator that gives them.
 #[derive(Drop)]
 pub(crate) struct Draws {
     generator: Lcg64Xsh32,
@@ -69,8 +69,8 @@ impl Model for Draws {
 }
 
 impl Draws {
-    /// The words of a seed.
-    #[tactic(auto, unfolding(crate::specs::Words::generator_of))]
+    /// The outputs of a seed.
+    #[tactic(auto, unfolding(crate::specs::Outputs::generator_of))]
     pub(crate) fn of(seed: u32) -> Draws
         ensures { result ≡ generator_of seed }
     {
@@ -79,22 +79,22 @@ impl Draws {
         }
     }
 
-    /// The number that the next word picks.
+    /// The number that the next output picks.
     fn pick(&mut self, span: &Span) -> i32
         requires { IsSpan span.now }
-        ensures value { result ≡ picked (range_of span.now) (words_from self.old 0) }
+        ensures value { result ≡ picked (range_of span.now) (outputs_from self.old 0) }
         ensures least { span.now.low ≤ℤ result }
         ensures most { result ≤ℤ span.now.high }
         ensures rest { self.new ≡ after 1 self.old }
     {
-        let word = self.generator.next_word();
+        let output = self.generator.next_word();
         let size = (span.high - span.low) as u32 + 1;
-        span.low + (word % size) as i32
+        span.low + (output % size) as i32
     }
 
-    /// The ownship of the next four words.
+    /// The ownship of the next four outputs.
     fn next_own(&mut self) -> Own
-        ensures value { result ≡ own_at (words_from self.old) 0 }
+        ensures value { result ≡ own_at (outputs_from self.old) 0 }
         ensures low { pos 0 ≤ℤ result.alt }
         ensures high { result.alt ≤ℤ pos 20000 }
         ensures rest { self.new ≡ after 4 self.old }
@@ -113,22 +113,22 @@ impl Draws {
         }
     }
 
-    /// How many aircraft the next word gives a moment: 0 to 8.
+    /// How many aircraft the next output gives a moment: 0 to 8.
     fn next_count(&mut self) -> u32
-        ensures value { result ≡ nat_abs (picked aircraft_counts (words_from self.old 0)) }
+        ensures value { result ≡ nat_abs (picked aircraft_counts (outputs_from self.old 0)) }
         ensures few { result ≤ 8 }
         ensures rest { self.new ≡ after 1 self.old }
     {
         self.pick(&AIRCRAFT_COUNTS) as u32
     }
 
-    /// The aircraft of this number, of the next six words.
+    /// The aircraft of this number, of the next six outputs.
     fn next_aircraft(&mut self, own: &Own, number: u32) -> Traffic
         requires low { pos 0 ≤ℤ own.now.alt }
         requires high { own.now.alt ≤ℤ pos 20000 }
         requires some { 1 ≤ number }
         requires few { number ≤ 8 }
-        ensures value { result ≡ aircraft_at (words_from self.old) own.now.alt number 0 }
+        ensures value { result ≡ aircraft_at (outputs_from self.old) own.now.alt number 0 }
         ensures rest { self.new ≡ after 6 self.old }
     {
         let x = self.pick(&POSITIONS);
@@ -154,7 +154,7 @@ impl Draws {
         requires low { pos 0 ≤ℤ own.now.alt }
         requires high { own.now.alt ≤ℤ pos 20000 }
         requires few { count ≤ 8 }
-        ensures value { result.items ≡ traffic_at (words_from self.old) own.now.alt count 0 }
+        ensures value { result.items ≡ traffic_at (outputs_from self.old) own.now.alt count 0 }
         ensures rest { self.new ≡ after (6 * count) self.old }
     {
         let mut traffic = ArrayVec::new();
@@ -164,10 +164,10 @@ impl Draws {
         traffic
     }
 
-    /// The moment of a time, of the next words.
+    /// The moment of a time, of the next outputs.
     pub(crate) fn next_moment(&mut self, time: u32) -> Picture
-        ensures value { result ≡ moment_at (words_from self.old) time 0 }
-        ensures rest { self.new ≡ after (draws_at (words_from self.old) 0) self.old }
+        ensures value { result ≡ moment_at (outputs_from self.old) time 0 }
+        ensures rest { self.new ≡ after (draws_at (outputs_from self.old) 0) self.old }
         ensures in_range { IsPictureInRange result }
     {
         let own = self.next_own();

@@ -12,5 +12,6 @@ mod tests;
 
 pub use exercising::exercise;
 pub use laws::{
-    counts_add_up, drawn_moments_are_in_range, every_exercise_has_one_summary, worked_examples,
+    counts_add_up, drawn_moments_are_in_range, drawn_moments_are_taken,
+    every_exercise_has_one_summary, worked_examples,
 };

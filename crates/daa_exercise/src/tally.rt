@@ -1,7 +1,7 @@
 //! How often each level came.
 ghost use Rattle.std.specs.Prelude.{◌≡◌, ◌≤◌, ◌+◌, ℕ, [], ◌∷◌, take};
 ghost use Rattle.daa_bands.specs.Board.{mask_levels};
-ghost use Rattle.daa_exercise.specs.Counting.{CountsMore, HasRoom};
+ghost use Rattle.daa_exercise.specs.Counting.{CountsMore, HasRoomFor};
 ghost use Rattle.daa_exercise.specs.Levels.{counts_of};
 
 use std::marker::Model;
@@ -38,9 +38,9 @@ impl Tally {
     #[tactic(auto, unfolding(crate::specs::Levels::counts_of))]
     pub(crate) fn add(&mut self, level: u8)
         requires level { level ≤ mask_levels }
-        requires room { HasRoom 1 self.old }
+        requires room { HasRoomFor 1 self.old }
         ensures counted { CountsMore (level ∷ []) self.old self.new }
-        ensures room { (n : ℕ) → HasRoom (n + 1) self.old → HasRoom n self.new }
+        ensures room { (n : ℕ) → HasRoomFor (n + 1) self.old → HasRoomFor n self.new }
     {
         self.counts[usize::from(level)] += 1;
     }

@@ -1,7 +1,6 @@
-use Rattle.std.proofs.Common.{rules, ◌≡◌, ◌<◌, ◌≤◌, ◌+◌, ◌∙◌, ℕ, length, subst, sym, arith}
+use Rattle.std.proofs.Common.{◌<◌, ◌+◌, length, arith}
 use Rattle.daa_state.specs.Picture.{aircraft_of}
 use Rattle.daa_legs.specs.Alerts.{IsAlertLevel}
-use Rattle.daa_exercise.specs.Counting.{HasRoom}
 use Rattle.daa_exercise.proofs.TallyLemmas.{add_none, add_next, add_all, room_for, no_aircraft}
 use Rattle.daa_exercise.proofs.counting.count_alerts.Goals as goal
 

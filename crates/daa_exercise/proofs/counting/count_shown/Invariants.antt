@@ -1,7 +1,7 @@
-use Rattle.std.proofs.Common.{◌≡◌, ◌+◌, ℕ, List}
+use Rattle.std.proofs.Common.{◌+◌, ℕ}
 use Rattle.daa_bands.specs.Board.{HasLevelOn, mask_levels}
 use Rattle.daa_config.specs.Level.{IsGreatestLevel}
-use Rattle.daa_exercise.specs.Counting.{Adds, HasRoom}
+use Rattle.daa_exercise.specs.Counting.{Adds, HasRoomFor}
 use Rattle.daa_exercise.proofs.TallyLemmas.{AreFirst}
 use Rattle.daa_exercise.proofs.counting.count_shown.Given as goal
 
@@ -9,5 +9,5 @@ use Rattle.daa_exercise.proofs.counting.count_shown.Given as goal
 abbrev pub invariant-loop-place : goal.invariant-loop-place
 invariant-loop-place l = record {
   adds : Adds (AreFirst (λ i. IsGreatestLevel (HasLevelOn l.engine.board (l.start + i)) mask_levels) l.place) l.initial.tally l.tally;
-  room : (n : ℕ) → HasRoom (n + l.place) l.initial.tally → HasRoom n l.tally;
+  room : (n : ℕ) → HasRoomFor (n + l.place) l.initial.tally → HasRoomFor n l.tally;
 }

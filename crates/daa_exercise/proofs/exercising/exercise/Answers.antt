@@ -1,10 +1,10 @@
-use Rattle.std.proofs.Common.{rules, ◌≡◌, ◌∙◌, ap, subst, sym, arith}
+use Rattle.std.proofs.Common.{rules, ◌∙◌, ap, subst, sym, arith}
 use Rattle.daa_bands.specs.Board.{IsBoardOf}
 use Rattle.daa_config.specs.Settings.{Settings, IsAccepted}
 use Rattle.daa_engine.specs.Covered.{CoveredAt}
 use Rattle.daa_engine.specs.Machine.{Machine}
 use Rattle.daa_exercise.specs.Counting.{CountsPicture}
-use Rattle.daa_exercise.specs.Words.{generator_of, words_of}
+use Rattle.daa_exercise.specs.Outputs.{generator_of, outputs_of}
 use Rattle.daa_exercise.proofs.CountLemmas.{all_next, roomy, said}
 use Rattle.daa_exercise.proofs.MoveLemmas.{first_is, next_is}
 use Rattle.daa_exercise.proofs.exercising.exercise.Goals as goal
@@ -13,7 +13,7 @@ pub loop-time-init : goal.loop-time-init
 loop-time-init g c = record {
   kept = search rules;
   drawn = first_is (generator_of c.args.seed) c.of-draws.result c.of-draws.ensures;
-  counted = c.new-counts.ensures c.args.engine.now.settings (words_of c.args.seed);
+  counted = c.new-counts.ensures c.args.engine.now.settings (outputs_of c.args.seed);
 }
 
 pub add-requires : goal.add-requires
@@ -23,7 +23,7 @@ add-requires g c =
       accepted = subst IsAccepted (sym (same ∙ before)) c.config.ensures.accepted;
       picture = c.next_moment-picture.ensures.in_range;
       board = subst (λ (s : Settings). IsBoardOf (CoveredAt s c.next_moment-picture.result) s c.decide.new.self.board) (sym same) c.decide.ensures.board;
-      room = roomy c.args.engine.now.settings (words_of c.args.seed) c.config.ensures.accepted c.loop-time.time c.loop-time.counts
+      room = roomy c.args.engine.now.settings (outputs_of c.args.seed) c.config.ensures.accepted c.loop-time.time c.loop-time.counts
           (omega (arith, c.loop-time-test.true, c.requires.few)) c.loop-time.invariant.counted;
     }
 
@@ -35,7 +35,7 @@ loop-time-preserved g c =
     c.loop-time.invariant.drawn c.next_moment-picture.ensures.value c.next_moment-picture.ensures.rest in record {
       kept = search rules;
       drawn = next.1;
-      counted = all_next c.args.engine.now.settings (words_of c.args.seed) c.config.ensures.accepted c.loop-time.time c.next_moment-picture.result c.loop-time.counts
+      counted = all_next c.args.engine.now.settings (outputs_of c.args.seed) c.config.ensures.accepted c.loop-time.time c.next_moment-picture.result c.loop-time.counts
           c.add.new.self c.next_moment-picture.ensures.in_range next.0 c.loop-time.invariant.counted
           (subst (λ (s : Settings). CountsPicture s c.next_moment-picture.result c.loop-time.counts c.add.new.self) (same ∙ before) c.add.ensures);
     }

@@ -1,4 +1,4 @@
-use Rattle.std.proofs.Common.{rules, ◌≡◌, ◌+◌, ℕ, ap}
+use Rattle.std.proofs.Common.{◌+◌, ℕ, ap}
 use Rattle.daa_config.specs.declared.kind.Kind.TheVariants.{Track, Speed, Climb, Height}
 use Rattle.daa_exercise.proofs.CountLemmas.{add_covered}
 use Rattle.daa_exercise.proofs.counting.Counts.add.Goals as goal

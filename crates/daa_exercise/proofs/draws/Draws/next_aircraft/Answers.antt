@@ -1,4 +1,4 @@
-use Rattle.std.proofs.Common.{rules, ◌≡◌, FitsSigned, w32, to_z-of_z, ◌+ℤ◌}
+use Rattle.std.proofs.Common.{rules, FitsSigned, w32, to_z-of_z, ◌+ℤ◌}
 use Rattle.daa_exercise.proofs.DrawLemmas.{aircraft_drawn, fits_above}
 use Rattle.daa_exercise.proofs.draws.Draws.next_aircraft.Goals as goal
 

@@ -1,6 +1,6 @@
-use Rattle.std.proofs.Common.{rules, ◌≡◌, sym, subst}
+use Rattle.std.proofs.Common.{sym, subst}
 use Rattle.daa_state.specs.InRange.{IsPictureInRange}
-use Rattle.daa_exercise.specs.Words.{words_from}
+use Rattle.daa_exercise.specs.Outputs.{outputs_from}
 use Rattle.daa_exercise.proofs.MoveLemmas.{moment_drawn}
 use Rattle.daa_exercise.proofs.RangeLemmas.{drawn_range}
 use Rattle.daa_exercise.proofs.draws.Draws.next_moment.Goals as goal
@@ -12,5 +12,5 @@ returns c =
     c.next_own-own.ensures.value c.next_count-count.ensures.value c.next_traffic-traffic.ensures.value in record {
       value = drawn.0;
       rest = drawn.1;
-      in_range = subst IsPictureInRange (sym drawn.0) (drawn_range (words_from c.args.self.now) c.args.time 0);
+      in_range = subst IsPictureInRange (sym drawn.0) (drawn_range (outputs_from c.args.self.now) c.args.time 0);
     }

@@ -1,4 +1,4 @@
-use Rattle.std.proofs.Common.{rules, ◌≡◌, FitsSigned, w32, to_z-of_z}
+use Rattle.std.proofs.Common.{rules, FitsSigned, w32, to_z-of_z}
 use Rattle.daa_exercise.proofs.DrawLemmas.{own_drawn}
 use Rattle.daa_exercise.proofs.draws.Draws.next_own.Goals as goal
 

@@ -1,19 +1,19 @@
-use Rattle.std.proofs.Common.{rules, ◌≡◌, ◌<◌, ◌∙◌, List, length, ap, sym, arith}
+use Rattle.std.proofs.Common.{◌≡◌, ◌∙◌, List, length, ap, sym, arith}
 use Rattle.daa_state.specs.declared.word.Traffic.{Traffic}
-use Rattle.daa_exercise.specs.Words.{words_from}
+use Rattle.daa_exercise.specs.Outputs.{outputs_from}
 use Rattle.daa_exercise.proofs.DrawLemmas.{none_after}
 use Rattle.daa_exercise.proofs.MoveLemmas.{no_traffic, traffic_count, traffic_more}
 use Rattle.daa_exercise.proofs.draws.Draws.next_traffic.Goals as goal
 
 pub loop-i-init : goal.loop-i-init
 loop-i-init c = record {
-  items = no_traffic (words_from c.args.self.now) c.args.own.now.alt c.new-traffic.result.items c.new-traffic.ensures;
+  items = no_traffic (outputs_from c.args.self.now) c.args.own.now.alt c.new-traffic.result.items c.new-traffic.ensures;
   rest = sym (none_after c.args.self.now);
 }
 
 pub push-requires : goal.push-requires
 push-requires c =
-    let count : length c.loop-i.traffic.items ≡ c.loop-i.i = ap (λ (xs : List Traffic). length xs) c.loop-i.invariant.items ∙ traffic_count (words_from c.args.self.now) c.args.own.now.alt c.loop-i.i 0 in
+    let count : length c.loop-i.traffic.items ≡ c.loop-i.i = ap (λ (xs : List Traffic). length xs) c.loop-i.invariant.items ∙ traffic_count (outputs_from c.args.self.now) c.args.own.now.alt c.loop-i.i 0 in
     (omega arith, omega (arith, count, c.loop-i-test.true, c.requires.few))
 
 pub loop-i-preserved : goal.loop-i-preserved

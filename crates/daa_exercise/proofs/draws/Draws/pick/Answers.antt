@@ -1,17 +1,16 @@
-use Rattle.std.proofs.Common.{rules, ◌≡◌, ◌∙◌, ap, subst, ℕ, sym}
+use Rattle.std.proofs.Common.{rules, ◌∙◌, ap}
 use Rattle.rand_pcg.specs.Lcg.{Lcg}
-use Rattle.rand_pcg.specs.Pcg.{pcg32}
 use Rattle.daa_exercise.specs.Drawing.{after, range_of}
-use Rattle.daa_exercise.specs.Words.{picked, words_from}
+use Rattle.daa_exercise.specs.Outputs.{picked, outputs_from}
 use Rattle.daa_exercise.proofs.DrawLemmas.{computed, first_is, rest_is}
 use Rattle.daa_exercise.proofs.draws.Draws.pick.Goals as goal
 
 pub returns-clause-value : goal.returns-clause-value
 returns-clause-value c =
-    let word = first_is c.self.inside.generator c.next_word-word.new.self c.next_word-word.result c.next_word-word.ensures in
-    computed c.args.span.now.low c.args.span.now.high c.next_word-word.result c.requires.ordered c.requires.short (search rules) (search rules)
-    ∙ ap (picked (range_of c.args.span.now)) (word ∙ ap (λ (g : Lcg). words_from g 0) c.self.view_is)
+    let output = first_is c.self.inside.generator c.next_word-output.new.self c.next_word-output.result c.next_word-output.ensures in
+    computed c.args.span.now.low c.args.span.now.high c.next_word-output.result c.requires.ordered c.requires.short (search rules) (search rules)
+    ∙ ap (picked (range_of c.args.span.now)) (output ∙ ap (λ (g : Lcg). outputs_from g 0) c.self.view_is)
 
 pub returns-clause-rest : goal.returns-clause-rest
 returns-clause-rest c =
-    rest_is c.self.inside.generator c.next_word-word.new.self c.next_word-word.result c.next_word-word.ensures ∙ ap (after 1) c.self.view_is
+    rest_is c.self.inside.generator c.next_word-output.new.self c.next_word-output.result c.next_word-output.ensures ∙ ap (after 1) c.self.view_is
