@@ -1,7 +1,10 @@
 //! What the readers tell of three configurations.
 
 use crate::tests::texts::{EXAMPLE, LARGE, SMALL};
-use crate::{Candidate, Config, Kind, Rates, accepted_is_in_range, read, values_are_all_steps};
+use crate::{
+    Candidate, Config, ConfigFault, Kind, Rates, Resolution, accepted_is_in_range, read,
+    values_are_all_steps,
+};
 use daa_taumod::Model;
 use std::process::Abort;
 use std::test::Fail;
