@@ -6,6 +6,7 @@
 mod candidate;
 mod config;
 mod document;
+pub mod examples;
 mod fault;
 mod keys;
 mod kind;
