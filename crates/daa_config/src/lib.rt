@@ -23,7 +23,6 @@ pub use fault::ConfigFault;
 pub use kind::Kind;
 pub use laws::{accepted_is_in_range, values_are_all_steps};
 pub use level::Level;
-pub use numbers::{Grid, Numbers};
 pub use reading::read;
 
 #[cfg(test)]
