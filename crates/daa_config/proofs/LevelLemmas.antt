@@ -1,5 +1,5 @@
 -- What holds at a level of a configuration.
-use Rattle.std.proofs.Common.{◌≡◌, ◌↔◌, ◌<◌, ℕ, zero, suc, List, [], ◌∷◌, Option, Some, length, get_or, sym, ap, subst, arith, ⊎_elim}
+use Rattle.std.proofs.Common.{◌≡◌, ◌↔◌, ◌<◌, ℕ, List, Option, Some, length, sym, subst, ⊎_elim}
 use Rattle.std.specs.Prelude.{IsSomeAnd, slice_get}
 use Rattle.std.proofs.lemmas.Bool.{cases_lt}
 use Rattle.std.proofs.lemmas.Option.{slice_get_past}
@@ -12,9 +12,3 @@ at_level levels i level P e = subst (λ (o : Option Level). P level ↔ IsSomeAn
 -- where something holds of a level, it is there
 pub there : (levels : List Level) (i : ℕ) (P : Level → Type 0) → IsSomeAnd (slice_get levels i) P → i < length levels
 there levels i P h = ⊎_elim (λ l. l) (λ l. absurd (subst (λ (o : Option Level). IsSomeAnd o P) (slice_get_past levels i l) h)) (cases_lt i (length levels))
-
--- an element that was read at its place
-pub found_at : (levels : List Level) (i : ℕ) (level : Level) → i < length levels → level ≡ get_or levels i level → slice_get levels i ≡ Some level
-found_at [] i level lt e = absurd (omega arith)
-found_at (x ∷ xs) zero level lt e = ap (λ (l : Level). Some l) (sym e)
-found_at (x ∷ xs) (suc i) level lt e = found_at xs i level (omega arith) e

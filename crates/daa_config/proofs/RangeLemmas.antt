@@ -1,10 +1,11 @@
 -- From the tests of a configuration's numbers to the ranges that they are in.
-use Rattle.std.proofs.Common.{◌≡◌, ◌≤◌, ◌%◌, ◌==◌, ℕ, zero, suc, Bool, true, false, ◌&&◌, ◌||◌, List, [], ◌∷◌, length, map, Some, refl, arith, nat_lt, subst}
+use Rattle.std.proofs.Common.{◌≡◌, ◌≤◌, ◌%◌, ◌==◌, ℕ, zero, suc, true, false, ◌&&◌, List, [], ◌∷◌, length, map, Some, refl, arith, nat_lt, subst}
 use Rattle.std.specs.Prelude.{ℤ, pos, negsuc, ◌≤ℤ◌, int_lt, int_le, nat_abs, slice_get, ◌-◌}
 use Rattle.std.specs.List.{list_all}
 use Rattle.std.proofs.lemmas.Int.{ints}
 use Rattle.std.proofs.lemmas.Bool.Decides.{nat_tests}
 use Rattle.std.proofs.lemmas.List.{length-map}
+use Rattle.std.proofs.lemmas.Bool.{and_parts, or_parts}
 use Rattle.daa_fixed.specs.Size.{IsFrom}
 use Rattle.daa_config.specs.declared.level.Level.{Level}
 use Rattle.daa_config.specs.declared.limits.Bounds.{Bounds}
@@ -19,14 +20,6 @@ use Rattle.daa_config.specs.Settings.{IsInBounds, IsGridInRange, IsLevelInRange,
 use Rattle.daa_config.specs.ConfigOf.{Written, level_of}
 
 -- ---- tests
-
-both_of : (a b : Bool) → (a && b) ≡ true → (a ≡ true) × (b ≡ true)
-both_of true b h = (refl, h)
-both_of false b h = cc
-
-none_of : (a b : Bool) → (a || b) ≡ false → (a ≡ false) × (b ≡ false)
-none_of true b h = cc
-none_of false b h = (refl, h)
 
 at_most : (a b : ℤ) → int_le a b ≡ true → a ≤ℤ b
 at_most a b h = grind (arith, ints)
@@ -43,7 +36,7 @@ some_of n h = grind (arith, nat_tests)
 in_bounds : (bounds : Bounds) (z : ℤ) → is_in bounds z ≡ true → IsInBounds bounds z
 unfolding is_in
 in_bounds bounds z h =
-    let b = both_of (int_le bounds.0 z) (int_le z bounds.1) h in
+    let b = and_parts (int_le bounds.0 z) (int_le z bounds.1) h in
     record { least = at_most _ _ b.0; most = at_most _ _ b.1 }
 
 -- ---- grids
@@ -59,10 +52,10 @@ record Fits (limits : GridLimits) (g : Grid) : Type 0 where
 fits_grid : (limits : GridLimits) (g : Grid) → grid_fits limits g ≡ true → Fits limits g
 unfolding grid_fits
 fits_grid limits g h =
-    let a = both_of (is_in limits.value g.min) _ h in
-    let b = both_of (is_in limits.value g.max) _ a.1 in
-    let d = both_of (int_le g.min g.max) _ b.1 in
-    let e = both_of (is_in limits.step g.step) _ d.1 in
+    let a = and_parts (is_in limits.value g.min) _ h in
+    let b = and_parts (is_in limits.value g.max) _ a.1 in
+    let d = and_parts (int_le g.min g.max) _ b.1 in
+    let e = and_parts (is_in limits.step g.step) _ d.1 in
     record {
       value_min = in_bounds _ _ a.0;
       value_max = in_bounds _ _ b.0;
@@ -97,12 +90,12 @@ equal_from m n h = grind (arith, nat_tests)
 parts : (n : Numbers) → numbers_fit n ≡ true → Parts n
 unfolding numbers_fit track_step_fits
 parts n h =
-    let a = both_of (is_in resolve_bounds n.resolve) _ h in
-    let b = both_of (is_in turn_rate_bounds n.turn_rate) _ a.1 in
-    let d = both_of (track_step_fits n.track_step) _ b.1 in
-    let t = both_of (is_in track_step_bounds n.track_step) _ d.0 in
-    let e = both_of (grid_fits gs_limits n.gs) _ d.1 in
-    let f = both_of (grid_fits vs_limits n.vs) _ e.1 in
+    let a = and_parts (is_in resolve_bounds n.resolve) _ h in
+    let b = and_parts (is_in turn_rate_bounds n.turn_rate) _ a.1 in
+    let d = and_parts (track_step_fits n.track_step) _ b.1 in
+    let t = and_parts (is_in track_step_bounds n.track_step) _ d.0 in
+    let e = and_parts (grid_fits gs_limits n.gs) _ d.1 in
+    let f = and_parts (grid_fits vs_limits n.vs) _ e.1 in
     record {
       resolve = in_bounds _ _ a.0;
       turn_rate = in_bounds _ _ b.0;
@@ -138,12 +131,12 @@ record LevelParts (n : LevelNumbers) : Type 0 where
 level_parts : (n : LevelNumbers) → level_fits n ≡ true → LevelParts n
 unfolding level_fits
 level_parts n h =
-    let a = both_of (is_in level_limits.dthr n.dthr) _ h in
-    let b = both_of (is_in level_limits.zthr n.zthr) _ a.1 in
-    let d = both_of (is_in level_limits.tthr n.tthr) _ b.1 in
-    let e = both_of (is_in level_limits.tcoa n.tcoa) _ d.1 in
-    let f = both_of (is_in level_limits.lookahead n.lookahead) _ e.1 in
-    let g = both_of (is_in level_limits.alert n.alert) _ f.1 in
+    let a = and_parts (is_in level_limits.dthr n.dthr) _ h in
+    let b = and_parts (is_in level_limits.zthr n.zthr) _ a.1 in
+    let d = and_parts (is_in level_limits.tthr n.tthr) _ b.1 in
+    let e = and_parts (is_in level_limits.tcoa n.tcoa) _ d.1 in
+    let f = and_parts (is_in level_limits.lookahead n.lookahead) _ e.1 in
+    let g = and_parts (is_in level_limits.alert n.alert) _ f.1 in
     record {
       dthr = in_bounds _ _ a.0;
       zthr = in_bounds _ _ b.0;
@@ -200,8 +193,8 @@ each_level : (ns : List LevelNumbers) → list_all level_fits ns ≡ true → (i
 each_level [] h i level e = cc
 each_level (n ∷ ns) h zero level e =
     let same : level_of n ≡ level = cc in
-    subst IsLevelInRange same (level_in_range n (both_of (level_fits n) _ h).0)
-each_level (n ∷ ns) h (suc i) level e = each_level ns (both_of (level_fits n) _ h).1 i level e
+    subst IsLevelInRange same (level_in_range n (and_parts (level_fits n) _ h).0)
+each_level (n ∷ ns) h (suc i) level e = each_level ns (and_parts (level_fits n) _ h).1 i level e
 
 -- ---- what is accepted
 
@@ -209,12 +202,12 @@ pub accepted : (w : Written) → (numbers_fit w.numbers && list_all level_fits w
     → has_too_many w.numbers ≡ false → IsAccepted (record { numbers = w.numbers; levels = map level_of w.levels })
 unfolding levels_are_wrong has_too_many
 accepted w fit counted few =
-    let b = both_of (numbers_fit w.numbers) _ fit in
+    let b = and_parts (numbers_fit w.numbers) _ fit in
     let p = parts w.numbers b.0 in
-    let l = none_of (length w.levels == 0) _ counted in
-    let m = none_of (nat_lt most_levels (length w.levels)) _ l.1 in
-    let x = none_of (nat_lt most_values (count_of w.numbers.gs)) _ few in
-    let y = none_of (nat_lt most_values (count_of w.numbers.vs)) _ x.1 in
+    let l = or_parts (length w.levels == 0) _ counted in
+    let m = or_parts (nat_lt most_levels (length w.levels)) _ l.1 in
+    let x = or_parts (nat_lt most_values (count_of w.numbers.gs)) _ few in
+    let y = or_parts (nat_lt most_values (count_of w.numbers.vs)) _ x.1 in
     let same : length (map level_of w.levels) ≡ length w.levels = length-map w.levels level_of in
     let one = some_of (length w.levels) l.0 in
     let four = not_over most_levels (length w.levels) m.0 in

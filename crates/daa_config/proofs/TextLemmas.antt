@@ -5,6 +5,7 @@ use Rattle.std.specs.Str.{IsUtf8, is_utf8}
 use Rattle.std.proofs.lemmas.Str.{IsUtf8-from_is_utf8, is_utf8-from_IsUtf8}
 use Rattle.toml.specs.Data.{Members}
 use Rattle.toml.specs.Parse.{parse_document}
+use Rattle.std.proofs.lemmas.Bool.{not-false}
 use Rattle.daa_config.specs.declared.fault.ConfigFault.{ConfigFault}
 use Rattle.daa_config.specs.Keys.{Text}
 use Rattle.daa_config.specs.Fault.{◌>>=◌}
@@ -35,10 +36,6 @@ past : {Y : Type 0} (b : Bool) (e : ConfigFault) (r : Result Y ConfigFault) (y :
 past true e r y h = cc
 past false e r y h = (refl, h)
 
-passed : (b : Bool) → not b ≡ false → b ≡ true
-passed true h = refl
-passed false h = cc
-
 settled : (w : Written) (s : Settings) → settings_of w ≡ Ok s → IsAccepted s
 unfolding settings_of
 settled w s h =
@@ -47,7 +44,7 @@ settled w s h =
     let levels = past (levels_are_wrong w.numbers.resolve w.levels) _ _ s ranges.1 in
     let many = past (has_too_many w.numbers) _ _ s levels.1 in
     let same : t ≡ s = cc (many.1) in
-    subst IsAccepted same (accepted w (passed _ ranges.0) levels.0 many.0)
+    subst IsAccepted same (accepted w (not-false _ ranges.0) levels.0 many.0)
 
 pub in_range : (text : Text) (s : Settings) → config_of text ≡ Ok s → IsAccepted s
 unfolding config_of

@@ -71,7 +71,7 @@ impl Config {
         &self.levels[(l - 1) as usize]
     }
 
-    /// The level from which on up to the greatest a candidate must be clear to be open.
+    /// The level from which on up to the greatest a candidate must be clear to be open: 1 to the number of levels.
     pub fn resolve(&self) -> u32
         ensures value { pos result ≡ self.now.numbers.resolve }
         ensures numbered { 1 ≤ result }
@@ -81,7 +81,7 @@ impl Config {
         self.numbers.resolve as u32
     }
 
-    /// Degrees of track that a second may change.
+    /// Degrees of track that a second may change, 1 to 30.
     pub fn turn_rate(&self) -> i32
         ensures value { result ≡ self.now.numbers.turn_rate }
         ensures in_range { IsInBounds turn_rate_bounds result }
@@ -90,7 +90,7 @@ impl Config {
         self.numbers.turn_rate as i32
     }
 
-    /// Ground speed, in 0.1 kt, that a second may change.
+    /// Ground speed, in 0.1 kt, that a second may change, 1 to 10000.
     pub fn gs_rate(&self) -> i32
         ensures value { result ≡ self.now.numbers.gs.rate }
         ensures in_range { IsInBounds gs_limits.rate result }
@@ -99,7 +99,7 @@ impl Config {
         self.numbers.gs.rate as i32
     }
 
-    /// Vertical speed, in ft/min, that a second may change.
+    /// Vertical speed, in ft/min, that a second may change, 1 to 10000.
     pub fn vs_rate(&self) -> i32
         ensures value { result ≡ self.now.numbers.vs.rate }
         ensures in_range { IsInBounds vs_limits.rate result }
@@ -108,7 +108,7 @@ impl Config {
         self.numbers.vs.rate as i32
     }
 
-    /// The vertical speed, in ft/min, at which a flight goes to an altitude.
+    /// The vertical speed, in ft/min, at which a flight goes to an altitude, 1 to 10000.
     pub fn alt_rate(&self) -> i32
         ensures value { result ≡ self.now.numbers.alt.rate }
         ensures in_range { IsInBounds alt_limits.rate result }
@@ -160,7 +160,7 @@ impl Config {
         count(&self.grid(kind)) as u32
     }
 
-    /// The value at a place in the kind's rising list, counted from 0.
+    /// The value at a place in the kind's rising list, counted from 0, in the kind's unit.
     pub fn value(&self, kind: Kind, i: u32) -> i32
         requires { i < length (values_of kind self.now) }
         ensures value { slice_get (values_of kind self.now) i ≡ Some result }
@@ -171,23 +171,25 @@ impl Config {
         value_at(&self.grid(kind), i)
     }
 
-    /// The least value of the kind.
+    /// The least value of the kind, in its unit.
     #[tactic(auto, using(crate::proofs::GridLemmas::some_values))]
     pub fn least(&self, kind: Kind) -> i32
         ensures value { result ≡ least_of kind self.now }
         ensures listed { Contains (values_of kind self.now) result }
         ensures least { All (λ v. result ≤ℤ v) (values_of kind self.now) }
         ensures in_range { IsInBounds (value_bounds kind) result }
+        ensures accepted { IsAccepted self.now }
     {
         self.value(kind, 0)
     }
 
-    /// The greatest value of the kind.
+    /// The greatest value of the kind, in its unit.
     pub fn greatest(&self, kind: Kind) -> i32
         ensures value { result ≡ greatest_of kind self.now }
         ensures listed { Contains (values_of kind self.now) result }
         ensures greatest { All (λ v. v ≤ℤ result) (values_of kind self.now) }
         ensures in_range { IsInBounds (value_bounds kind) result }
+        ensures accepted { IsAccepted self.now }
     {
         self.value(kind, self.count(kind) - 1)
     }
@@ -215,6 +217,7 @@ impl Config {
         ensures value { result ≡ length (candidates_of self.now) }
         ensures some { 1 ≤ result }
         ensures few { result ≤ 1897 }
+        ensures accepted { IsAccepted self.now }
     {
         self.start(Kind::Height) + self.count(Kind::Height)
     }

@@ -18,7 +18,7 @@ pub enum ConfigFault {
     UnknownKey,
     /// A table lacks a key that it must have.
     MissingKey,
-    /// A number's place holds no whole number, or a table's place no table.
+    /// A number's place holds no whole number, `gs`, `vs` or `alt` is no table, or `level` is no list of tables.
     NotNumber,
     /// A number is outside its range, `min` is above `max`, or `track_step` does not divide 360.
     OutOfRange,

@@ -6,6 +6,7 @@
 mod candidate;
 mod config;
 mod document;
+pub mod examples;
 mod fault;
 mod keys;
 mod kind;
@@ -22,7 +23,6 @@ pub use fault::ConfigFault;
 pub use kind::Kind;
 pub use laws::{accepted_is_in_range, values_are_all_steps};
 pub use level::Level;
-pub use numbers::{Grid, Numbers};
 pub use reading::read;
 
 #[cfg(test)]

@@ -19,8 +19,8 @@ pub struct Grid {
     pub rate: i64,
 }
 
-/// All numbers of a configuration but those of its levels: the level from which a candidate is not
-/// open, degrees per second, degrees, and the grids in 0.1 kt, ft/min and ft.
+/// All numbers of a configuration but those of its levels: the least level that closes a candidate
+/// which is covered at it, degrees per second, degrees, and the grids in 0.1 kt, ft/min and ft.
 #[derive(Clone, Copy, Debug)]
 pub struct Numbers {
     pub resolve: i64,

@@ -1,5 +1,4 @@
-//! Texts and what they are read as: the code of each fault, and the readers of three configurations.
+//! Texts and what they are read as: the code of each fault, and what the readers tell of the examples.
 
 mod codes;
 mod readers;
-mod texts;

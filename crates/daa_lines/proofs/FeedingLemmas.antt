@@ -2,6 +2,7 @@
 use Rattle.std.proofs.Common.{◌≡◌, ◌<◌, ◌+◌, ◌==◌, ℕ, Bool, true, false, [], ◌∷◌, ◌||◌, ◌∙◌, drop, get_or, length, refl, ap, arith, length-append}
 use Rattle.std.proofs.lemmas.List.{drop_more}
 use Rattle.std.proofs.lemmas.Bool.Decides.{nat_tests}
+use Rattle.std.proofs.lemmas.Bool.{or_parts}
 use Rattle.daa_lines.specs.LinesOf.{Bytes, line_feed, long_length}
 use Rattle.daa_lines.specs.Cutting.{Cutting, is_standing, IsSized}
 use Rattle.daa_lines.specs.Feeding.{bytes_taken}
@@ -50,10 +51,6 @@ at_more Skipping line b rest free size other going = rw other refl
 at_more Whole line b rest free size other going = cc
 at_more Long line b rest free size other going = cc
 
-neither : (x y : Bool) → (x || y) ≡ false → (x ≡ false) × (y ≡ false)
-neither true y e = absurd (cc e)
-neither false y e = (refl, e)
-
 -- the byte at this place, and then the others
 split_taken : (c : Cutting) (piece : Bytes) (i whole : ℕ) → i < length piece → whole ≡ i + bytes_taken c.stage c.line (drop i piece)
     → whole ≡ i + bytes_taken c.stage c.line (get_or piece i 0 ∷ drop (i + 1) piece)
@@ -73,6 +70,6 @@ pub taken_more : (c next : Cutting) (piece : Bytes) (i whole : ℕ) → i < leng
     → (is_standing next.stage ≡ false) × (whole ≡ i + 1 + bytes_taken next.stage next.line (drop (i + 1) piece))
 unfolding after_byte
 taken_more c next piece i whole within value free size last sum =
-    let parts = neither _ _ last in
+    let parts = or_parts _ _ last in
     let more = at_more c.stage c.line (get_or piece i 0) (drop (i + 1) piece) free size parts.0 parts.1 in
     rw value (parts.1, omega (arith, split_taken c piece i whole within sum, more))

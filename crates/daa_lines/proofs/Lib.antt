@@ -6,4 +6,3 @@ pub mod TakingLemmas
 pub mod FeedingLemmas
 pub mod EndingLemmas
 pub mod GrowsLemmas
-pub mod Examples

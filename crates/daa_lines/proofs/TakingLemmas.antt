@@ -76,7 +76,7 @@ pub long_line_of : (bytes : Bytes) (taken : List Bytes) (c : Cutting) → c.stag
     → Stands bytes taken c → IsLineOf (slice_get (lines_of bytes c.ended) (length taken)) result.Long
 long_line_of bytes taken c stage size s = long_is _ c.line (rw stage at (next_line bytes taken c s)) size
 
-standing_none : (stage : Stage) (line : Bytes) → is_standing stage ≡ false → standing stage line ≡ []
+pub standing_none : (stage : Stage) (line : Bytes) → is_standing stage ≡ false → standing stage line ≡ []
 standing_none Open line h = refl
 standing_none Skipping line h = refl
 standing_none Whole line h = cc

@@ -1,10 +1,13 @@
-//! What holds of the lines of every input.
+//! What holds of the lines of every input, and inputs whose lines are known.
 
-ghost use Rattle.std.specs.Prelude.{◌≡◌, List, true, false, ◌++◌};
+ghost use Rattle.std.specs.Prelude.{◌≡◌, List, true, false, [], ◌∷◌, ◌++◌, codes, replicate};
 ghost use Rattle.daa_lines.specs.LinesOf.{Bytes, Cut, cut, lines_of, shown};
 ghost use Rattle.daa_lines.specs.Cutting.{Cutting};
 ghost use Rattle.daa_lines.specs.Stands.{Stands, standing};
 ghost use Rattle.daa_lines.specs.Joined.{IsWithoutFeeds, joined};
+ghost use Rattle.daa_lines.specs.Feeding.{bytes_taken};
+
+use crate::lines::Stage;
 
 /// Joined again with line feeds, the stretches and the rest are the bytes, and no line feed is in them. Bytes have no
 /// other stretches of which this holds.
@@ -26,4 +29,18 @@ pub fn pieces_do_not_matter()
     ensures { (bytes : Bytes) (taken taken' : List Bytes) (lines lines' : Cutting) → lines.ended ≡ lines'.ended
         → Stands bytes taken lines → Stands bytes taken' lines'
         → taken ++ standing lines.stage lines.line ≡ taken' ++ standing lines'.stage lines'.line }
+{}
+
+/// The lines of some bytes, and how many bytes of a piece are taken after some others.
+pub fn worked_examples()
+    ensures kept_return { lines_of (codes "a\r\n\nb") false ≡ codes "a\r" ∷ [] ∷ [] }
+    ensures rest_at_end { lines_of (codes "a\n\nb") true ≡ codes "a" ∷ [] ∷ codes "b" ∷ [] }
+    ensures no_empty_rest { lines_of (codes "a\n") true ≡ codes "a" ∷ [] }
+    ensures rest_of_255 { lines_of (replicate 255 97) false ≡ [] }
+    ensures rest_of_256 { lines_of (replicate 256 97) false ≡ replicate 256 97 ∷ [] }
+    ensures to_line_feed { bytes_taken Stage.Open (codes "a") (codes "b\nc\n") ≡ 2 }
+    ensures to_256 { bytes_taken Stage.Open (codes "a") (replicate 300 97) ≡ 255 }
+    ensures line_feed_after_255 { bytes_taken Stage.Open (replicate 255 97) (codes "\na") ≡ 1 }
+    ensures skips_all { bytes_taken Stage.Skipping [] (replicate 300 97 ++ codes "\n\n") ≡ 301 }
+    ensures none_while_standing { bytes_taken Stage.Long (replicate 256 97) (codes "a") ≡ 0 }
 {}

@@ -2,10 +2,10 @@
 //! The lines do not depend on how the bytes were cut into pieces.
 #![tactic(auto)]
 
-pub mod laws;
-pub mod lines;
+mod laws;
+mod lines;
 #[cfg(test)]
 mod tests;
 
-pub use laws::{lines_only_grow, pieces_do_not_matter, stretches_are_the_bytes};
+pub use laws::{lines_only_grow, pieces_do_not_matter, stretches_are_the_bytes, worked_examples};
 pub use lines::{Line, Lines, Stage};

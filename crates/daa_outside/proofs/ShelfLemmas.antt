@@ -1,12 +1,12 @@
 -- Lemmas on texts under names.
-use Rattle.std.proofs.Common.{◌≡◌, ℕ, ◌+◌, ◌<◌, ◌≤◌, Bool, false, true, not, cond, List, [], zero, suc, Bor, ◌∷◌, length, take, map, Option, None, Some, IfSome, Result, Ok, Err, IfOk, IsErr, is_err, IsNone, ◌≢◌, ◌⊎◌, inl, inr, ◌↔◌, refl, sym, ◌∙◌, ap, arith, length-take}
-use Rattle.std.specs.Prelude.{position, nat_eq, slice_get, string_bytes, vec_items, option_map, option_and_then, slice_index_or, MatchOption, String, Vec}
+use Rattle.std.proofs.Common.{◌≡◌, ℕ, ◌+◌, ◌<◌, ◌≤◌, Bool, false, true, not, cond, List, [], Bor, ◌∷◌, length, take, map, Option, None, Some, IfSome, Result, Ok, Err, IfOk, IsErr, is_err, IsNone, ◌≢◌, ◌⊎◌, inl, inr, ◌↔◌, refl, sym, ◌∙◌, ap, arith, length-take}
+use Rattle.std.specs.Prelude.{position, slice_get, string_bytes, vec_items, option_map, option_and_then, MatchOption, String, Vec}
 use Rattle.std.specs.List.{prefix_len}
 use Rattle.std.specs.Slice.{IsItemAt}
-use Rattle.std.specs.Cmp.Lexicographic.{pointwise}
+use Rattle.std.specs.Str.{bytes_eq}
 use Rattle.std.specs.Global.{Global}
 use Rattle.std.proofs.lemmas.List.{take_all, length-map}
-use Rattle.std.proofs.lemmas.Option.{slice_get-map, slice_get_past}
+use Rattle.std.proofs.lemmas.Option.{slice_get-map, slice_get_past, slice_get_read}
 use Rattle.daa_outside.specs.declared.faults.Failed.{Failed}
 use Rattle.daa_outside.specs.declared.shelf.FetchFault.{FetchFault}
 use Rattle.daa_outside.specs.Shelf.{longest_text}
@@ -22,24 +22,19 @@ position-map f p xs = rw (prefix_len-map f (λ y. not (p y)) xs, length-map xs f
 -- the text under a name, by the names and texts as they are kept
 pub text_of_place : (names : List (String Global)) (texts : List (Vec ℕ Global)) (name : List ℕ)
     → text_under (map string_bytes names) (map vec_items texts) name
-    ≡ option_and_then (λ place. option_map vec_items (slice_get texts place)) (position (λ held. pointwise nat_eq (string_bytes held) name) names)
+    ≡ option_and_then (λ place. option_map vec_items (slice_get texts place)) (position (λ held. bytes_eq (string_bytes held) name) names)
 text_of_place names texts name =
-    rw (position-map string_bytes (λ held. pointwise nat_eq held name) names) (by (position (λ held. pointwise nat_eq (string_bytes held) name) names))
+    rw (position-map string_bytes (λ held. bytes_eq held name) names) (by (position (λ held. bytes_eq (string_bytes held) name) names))
   where
     by : (place : Option ℕ) → option_and_then (slice_get (map vec_items texts)) place ≡ option_and_then (λ i. option_map vec_items (slice_get texts i)) place
     by None = refl
     by (Some i) = slice_get-map vec_items texts i
 
-got : {X : Type 0} (xs : List X) (i : ℕ) (x : X) → i < length xs → x ≡ slice_index_or xs i x → slice_get xs i ≡ Some x
-got [] i x within same = absurd (omega arith)
-got (y ∷ xs) zero x within same = ap Some (sym same)
-got (y ∷ xs) (suc i) x within same = got xs i x (omega arith) same
-
 -- what `get` gives of the texts
 pub got_text : (texts : List (Vec ℕ Global)) (place : ℕ) (found : Option (Bor (Vec ℕ Global))) → IsItemAt texts place found
     → MatchOption found (option_map vec_items (slice_get texts place) ≡ None) (λ text. option_map vec_items (slice_get texts place) ≡ Some text.now.items)
 got_text texts place None is = ap (option_map vec_items) (slice_get_past texts place is.3)
-got_text texts place (Some text) is = ap (option_map vec_items) (got texts place text.now is.3.0 (is.3.1 text.now))
+got_text texts place (Some text) is = ap (option_map vec_items) (slice_get_read texts _ place text.now refl is.3.0 (is.3.1 text.now))
 
 -- a text that stopped before the limit is all of the known bytes
 pub whole_text : (known : Option (List ℕ)) (text : List ℕ) (limit : ℕ)

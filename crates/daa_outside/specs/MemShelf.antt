@@ -1,9 +1,9 @@
 -- What a contract sees of a shelf in memory.
-use Rattle.std.specs.Prelude.{ℕ, List, Option, option_and_then, nat_eq, position, slice_get}
-use Rattle.std.specs.Cmp.Lexicographic.{pointwise}
+use Rattle.std.specs.Prelude.{ℕ, List, Option, option_and_then, position, slice_get}
+use Rattle.std.specs.Str.{bytes_eq}
 
 -- names and the texts at their places, which calls fail, how many calls were made, and how many failed
-pub record Shelf : Type 0 where
+pub record ShelfInMemory : Type 0 where
   pub names : List (List ℕ)
   pub texts : List (List ℕ)
   pub fails : List ℕ
@@ -12,7 +12,7 @@ pub record Shelf : Type 0 where
 
 -- the first place at which the name stands
 abbrev pub place_of : List (List ℕ) → List ℕ → Option ℕ
-place_of names name = position (λ held. pointwise nat_eq held name) names
+place_of names name = position (λ held. bytes_eq held name) names
 
 -- the text at the first place of the name, where there is one
 abbrev pub text_under : List (List ℕ) → List (List ℕ) → List ℕ → Option (List ℕ)

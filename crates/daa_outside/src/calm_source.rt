@@ -18,7 +18,7 @@ pub struct CalmSource {
 
 impl Model for CalmSource {
     ghost use Rattle.std.specs.Prelude.{◌≤◌, drop, vec_len};
-    ghost use Rattle.daa_outside.specs.CalmSource.{Source as CalmSourceInMemory};
+    ghost use Rattle.daa_outside.specs.CalmSource.{CalmSourceInMemory};
 
     ghost Value = { CalmSourceInMemory };
 
@@ -51,7 +51,7 @@ impl CalmSource {
 }
 
 impl Source for CalmSource {
-    ghost use Rattle.std.specs.Prelude.{◌≡◌, ◌≤◌, ◌<◌, Some, length, take, min, IsOkAnd, IfOk, OnErr};
+    ghost use Rattle.std.specs.Prelude.{◌≡◌, ◌≤◌, ◌<◌, Some, length, take, drop, min, IsOkAnd, IfOk, OnErr};
     ghost use Rattle.std.specs.Io.KnownBytes.{Consumes, Keeps, IsAtEnd};
     ghost use Rattle.daa_outside.specs.Faults.{HasRisen, one_more};
     ghost use Rattle.daa_outside.specs.Pieces.{moved_by};
@@ -67,6 +67,7 @@ impl Source for CalmSource {
 
         ensures exactly { IsOkAnd result (λ n. n ≡ moved_by self.old.pieces self.old.calls
             (min (length buf.old) (length self.old.left))) }
+        ensures rest { IfOk result (λ n. drop n buf.new ≡ drop n buf.old) }
         ensures counted { self.new.calls ≡ one_more self.old.calls }
         ensures same_pieces { self.new.pieces ≡ self.old.pieces }
     {

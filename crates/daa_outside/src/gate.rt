@@ -3,6 +3,7 @@
 /// A place that may hold a worker for a while. Several workers may use it at once. All that is
 /// promised of a call is that it returns.
 pub trait Gate: Sync {
+    /// The worker, from 0, is about to answer the unit, from 0.
     fn pass(&self, worker: u32, unit: u32);
 }
 

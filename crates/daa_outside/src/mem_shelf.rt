@@ -1,7 +1,7 @@
 //! A shelf over texts in memory.
 
-ghost use Rattle.std.specs.Prelude.{◌≡◌, map, position, nat_eq, string_bytes, vec_items, None, Some, MatchOption};
-ghost use Rattle.std.specs.Cmp.Lexicographic.{pointwise};
+ghost use Rattle.std.specs.Prelude.{◌≡◌, map, position, string_bytes, vec_items, None, Some, MatchOption};
+ghost use Rattle.std.specs.Str.{bytes_eq};
 ghost use Rattle.daa_outside.specs.MemShelf.{text_under};
 
 use crate::calls::Calls;
@@ -19,7 +19,7 @@ pub struct MemShelf {
 
 impl Model for MemShelf {
     ghost use Rattle.std.specs.Prelude.{map, string_bytes, vec_items};
-    ghost use Rattle.daa_outside.specs.MemShelf.{Shelf as ShelfInMemory};
+    ghost use Rattle.daa_outside.specs.MemShelf.{ShelfInMemory};
 
     ghost Value = { ShelfInMemory };
 
@@ -108,7 +108,7 @@ fn find_text<'a>(names: &[String], texts: &'a [Vec<u8>], name: &str) -> Option<&
 }
 
 fn find_place(names: &[String], name: &str) -> Option<usize>
-    ensures { result ≡ position (λ held. pointwise nat_eq (string_bytes held) name.now) names.now }
+    ensures { result ≡ position (λ held. bytes_eq (string_bytes held) name.now) names.now }
 {
     names.iter().position(|held| held.as_str() == name)
 }

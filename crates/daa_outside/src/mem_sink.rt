@@ -20,7 +20,7 @@ pub struct MemSink {
 
 impl Model for MemSink {
     ghost use Rattle.std.specs.Prelude.{◌≤◌, ◌-◌, take, vec_len};
-    ghost use Rattle.daa_outside.specs.MemSink.{Sink as SinkInMemory};
+    ghost use Rattle.daa_outside.specs.MemSink.{SinkInMemory};
 
     ghost Value = { SinkInMemory };
 

@@ -19,7 +19,7 @@ pub struct MemSource {
 
 impl Model for MemSource {
     ghost use Rattle.std.specs.Prelude.{◌≤◌, drop, vec_len};
-    ghost use Rattle.daa_outside.specs.MemSource.{Source as SourceInMemory};
+    ghost use Rattle.daa_outside.specs.MemSource.{SourceInMemory};
 
     ghost Value = { SourceInMemory };
 
@@ -56,7 +56,7 @@ impl MemSource {
 }
 
 impl Source for MemSource {
-    ghost use Rattle.std.specs.Prelude.{◌≡◌, ◌≤◌, ◌<◌, ◌↔◌, Some, length, take, min, Contains, IsErr, IfOk, OnOk, OnErr};
+    ghost use Rattle.std.specs.Prelude.{◌≡◌, ◌≤◌, ◌<◌, ◌↔◌, Some, length, take, drop, min, Contains, IsErr, IfOk, OnOk, OnErr};
     ghost use Rattle.std.specs.Io.KnownBytes.{Consumes, Keeps, IsAtEnd};
     ghost use Rattle.daa_outside.specs.Faults.{HasRisen, one_more};
     ghost use Rattle.daa_outside.specs.Pieces.{moved_by};
@@ -76,6 +76,8 @@ impl Source for MemSource {
 
         ensures exactly { IfOk result (λ n. n ≡ moved_by self.old.pieces self.old.calls
             (min (length buf.old) (length self.old.left))) }
+        ensures rest { IfOk result (λ n. drop n buf.new ≡ drop n buf.old) }
+        ensures untouched { OnErr result (buf.new ≡ buf.old) }
         ensures fails { IsErr result ↔ Contains self.old.fails self.old.calls }
         ensures no_fault { OnOk result (self.new.faults ≡ self.old.faults) }
         ensures one_fault { OnErr result (self.new.faults ≡ one_more self.old.faults) }

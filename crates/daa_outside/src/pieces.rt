@@ -27,6 +27,7 @@ pub(crate) fn hand_out(
     ensures within { at + result ≤ length bytes.now }
     ensures fits { result ≤ length buf.old }
     ensures next { drop at bytes.now ≡ take result buf.new ++ drop (at + result) bytes.now }
+    ensures rest { drop result buf.new ≡ drop result buf.old }
 {
     let (_, rest) = bytes.split_at(at);
     let n = moved(pieces, call, buf.len().min(rest.len()));
@@ -37,7 +38,8 @@ pub(crate) fn hand_out(
 /// Copies the piece to the front of the buffer.
 fn copy_front(buf: &mut [u8], piece: &[u8])
     requires { length piece.now ≤ length buf.old }
-    ensures { take (length piece.now) buf.new ≡ piece.now }
+    ensures front { take (length piece.now) buf.new ≡ piece.now }
+    ensures rest { drop (length piece.now) buf.new ≡ drop (length piece.now) buf.old }
 {
     buf[..piece.len()].copy_from_slice(piece);
 }

@@ -28,8 +28,8 @@ pub trait Shelf {
     // How many of its calls failed. The count rises in a call that fails, and stands in every other.
     ghost faults: { Self → ℕ };
 
-    /// A copy of the text under the name, which has at most 65536 bytes. A longer one is `TooLong`,
-    /// and a name that is not there is `Failed`. The copy may find no memory.
+    /// A copy of the text under the name, which has at most 65536 bytes. A longer one is `TooLong`
+    /// or `Failed`, and a name that is not there is `Failed`. The copy may find no memory.
     fn fetch(&mut self, alloc: Global, name: &str) -> Result<Vec<u8>, FetchFault>
         ensures held { IfOk result (λ text. IfSome (texts self.old) (λ held. held name.now ≡ Some text.items)) }
         ensures short { IfOk result (λ text. length text.items ≤ longest_text) }

@@ -1,6 +1,6 @@
 //! A sink over standard output.
 
-ghost use Rattle.std.specs.Prelude.{◌≤◌, length, take, IfOk};
+ghost use Rattle.std.specs.Prelude.{◌≤◌, ℕ, length, take, IfOk, OnErr};
 ghost use Rattle.std.specs.Io.KnownBytes.{Appends};
 
 use crate::faults::{Failed, counted};
@@ -31,7 +31,7 @@ impl<W: Write> StdSink<W> {
 }
 
 impl<W: Write> Sink for StdSink<W> {
-    ghost use Rattle.std.specs.Prelude.{◌≡◌, ◌≤◌, ◌<◌, None, length, take, IfOk, OnOk, OnErr};
+    ghost use Rattle.std.specs.Prelude.{◌≡◌, ◌≤◌, ◌<◌, ℕ, None, length, take, IfOk, OnOk, OnErr};
     ghost use Rattle.std.specs.Io.KnownBytes.{Appends};
     ghost use Rattle.daa_outside.specs.Faults.{HasRisen, one_more};
     ghost use Rattle.daa_outside.specs.StdSink.{writer_of, faults_of};
@@ -50,6 +50,8 @@ impl<W: Write> Sink for StdSink<W> {
         // What the writer tells of its own bytes.
         ensures writer_appended { IfOk result (λ n. Appends (W.contents (writer_of self.old))
             (W.contents (writer_of self.new)) (take n piece.now)) }
+        ensures writer_front { OnErr result ((n : ℕ) × Appends (W.contents (writer_of self.old))
+            (W.contents (writer_of self.new)) (take n piece.now)) }
 
         ensures no_fault { OnOk result (faults_of self.new ≡ faults_of self.old) }
         ensures one_fault { OnErr result (faults_of self.new ≡ one_more (faults_of self.old)) }
@@ -67,6 +69,7 @@ impl<W: Write> Sink for StdSink<W> {
 fn write_and_flush<W: Write>(writer: &mut W, piece: &[u8]) -> io::Result<usize>
     ensures within { IfOk result (λ n. n ≤ length piece.now) }
     ensures appended { IfOk result (λ n. Appends (W.contents writer.old) (W.contents writer.new) (take n piece.now)) }
+    ensures front { OnErr result ((n : ℕ) × Appends (W.contents writer.old) (W.contents writer.new) (take n piece.now)) }
 {
     let n = writer.write(piece)?;
     writer.flush()?;

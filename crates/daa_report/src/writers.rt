@@ -8,11 +8,11 @@ use daa_config::{Kind, Resolution};
 use daa_outside::{Failed, Sink};
 use daa_state::Id;
 
-/// The sink failed.
+/// The sink failed: its count of faults rose in the call, and it took no more than a beginning of the text.
 #[derive(Clone, Copy, Debug, PartialEq, Eq)]
 pub struct SinkFault;
 
-/// Writes the whole piece.
+/// Writes the whole piece, by as many writes as it takes.
 pub fn put<K: Sink>(sink: &mut K, piece: &[u8]) -> Result<(), SinkFault>
     ensures { Says (K.taken sink.old) (K.taken sink.new) (K.faults sink.old) (K.faults sink.new) piece.now result }
 {
@@ -33,28 +33,28 @@ fn rest_from(bytes: &[u8], at: usize) -> &[u8]
     &bytes[at..]
 }
 
-/// Writes that a line was refused.
+/// Writes that the line of this number, from 1 on, was refused with this code.
 pub fn refused<K: Sink>(sink: &mut K, number: u64, code: u8) -> Result<(), SinkFault>
     ensures { Says (K.taken sink.old) (K.taken sink.new) (K.faults sink.old) (K.faults sink.new) (refused_line number code) result }
 {
     put(sink, Line::refused(number, code).as_bytes())
 }
 
-/// Writes that a moment begins.
+/// Writes that the moment of this time, in seconds, begins.
 pub fn moment<K: Sink>(sink: &mut K, time: u32) -> Result<(), SinkFault>
     ensures { Says (K.taken sink.old) (K.taken sink.new) (K.faults sink.old) (K.faults sink.new) (moment_line time) result }
 {
     put(sink, Line::moment(time).as_bytes())
 }
 
-/// Writes the level of an aircraft now.
+/// Writes the level of an aircraft now, 0 where none is violated.
 pub fn now<K: Sink>(sink: &mut K, id: &Id, level: u8) -> Result<(), SinkFault>
     ensures { Says (K.taken sink.old) (K.taken sink.new) (K.faults sink.old) (K.faults sink.new) (now_line id.now level) result }
 {
     put(sink, Line::now(id, level).as_bytes())
 }
 
-/// Writes the alert of an aircraft, and from which leg on.
+/// Writes the alert level of an aircraft, and from which leg on: the second, from 0.
 pub fn alert<K: Sink>(sink: &mut K, id: &Id, level: u8, first: Option<u32>) -> Result<(), SinkFault>
     ensures { Says (K.taken sink.old) (K.taken sink.new) (K.faults sink.old) (K.faults sink.new) (alert_line id.now level first) result }
 {
@@ -86,14 +86,14 @@ pub fn resolve<K: Sink>(
     put(sink, Line::resolve(kind, lower, upper).as_bytes())
 }
 
-/// Writes that a moment ends.
+/// Writes that the moment of this time, in seconds, ends.
 pub fn done<K: Sink>(sink: &mut K, time: u32) -> Result<(), SinkFault>
     ensures { Says (K.taken sink.old) (K.taken sink.new) (K.faults sink.old) (K.faults sink.new) (done_line time) result }
 {
     put(sink, Line::done(time).as_bytes())
 }
 
-/// Writes that the configuration was refused.
+/// Writes that the configuration was refused with this code.
 pub fn config<K: Sink>(sink: &mut K, code: u8) -> Result<(), SinkFault>
     ensures { Says (K.taken sink.old) (K.taken sink.new) (K.faults sink.old) (K.faults sink.new) (config_line code) result }
 {

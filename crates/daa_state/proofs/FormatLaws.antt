@@ -1,9 +1,9 @@
 -- Lines without the word `format`, and words that leave the format.
-use Rattle.std.proofs.Common.{ℕ, ◌≡◌, ◌∷◌, [], Bool, true, false, List, Ok, Err, refl}
-use Rattle.std.specs.Prelude.{IfOk, nat_le, length, codes, if◌then◌else◌}
+use Rattle.std.proofs.Common.{ℕ, ◌≡◌, ◌∷◌, [], ◌==◌, false, List, refl}
+use Rattle.std.specs.Prelude.{IfOk, nat_le, length, codes}
 use Rattle.std.specs.Str.{bytes_eq}
 use Rattle.std.specs.Str.Lines.{strip_carriage_return}
-use Rattle.daa_state.specs.Fault.{Checked, ◌>>=◌}
+use Rattle.daa_state.specs.Fault.{Checked}
 use Rattle.daa_state.specs.Fields.{Bytes, fields_of}
 use Rattle.daa_state.specs.FourWords.{begins_with_format, four_word_of_name, four_word_of_fields, four_word_of}
 use Rattle.daa_state.specs.Laws.{is_format_word, OnlyFormatLinesSayFormats, ReadsAsFourWords, OtherWordsLeaveTheFormat}
@@ -12,39 +12,31 @@ use Rattle.daa_state.specs.MomentStep.{step, begun_moment, with_own, with_traffi
 use Rattle.daa_state.specs.WordOf.{is_comment, word_of, word_of_fields, word_of_name, moment_of, own_of, ownship, traffic_of, aged_traffic_of, aircraft, end_of}
 use Rattle.daa_state.specs.declared.word.Word.{Word}
 use Rattle.daa_state.specs.declared.word.Word.TheVariants as says
-
--- what holds of each value that comes next holds of the value at the end
-IfOk-then : {A B : Type 0} (P : B → Type 0) (first : Checked A) (next : A → Checked B) → ((a : A) → IfOk (next a) P) → IfOk (first >>= next) P
-IfOk-then P (Ok a) next h = h a
-IfOk-then P (Err fault) next h = tt
+use Rattle.daa_state.proofs.CheckedLemmas.{IfOk-any, IfOk-if}
 
 abbrev SaysNoFormat : Checked Word → Type 0
 SaysNoFormat said = IfOk said (λ word. is_format_word word ≡ false)
 
-SaysNoFormat-if : (test : Bool) (x y : Checked Word) → SaysNoFormat x → SaysNoFormat y → SaysNoFormat (if test then x else y)
-SaysNoFormat-if true x y h k = h
-SaysNoFormat-if false x y h k = k
-
 moment_of-none : (fields : List Bytes) → SaysNoFormat (moment_of fields)
 unfolding moment_of
 moment_of-none [] = tt
-moment_of-none (a ∷ []) = IfOk-then _ (seconds a) _ (λ time. refl)
+moment_of-none (a ∷ []) = IfOk-any _ (seconds a) _ (λ time. refl)
 moment_of-none (a ∷ b ∷ fields) = tt
 
 own_of-none : (fields : List Bytes) → SaysNoFormat (own_of fields)
 unfolding own_of
-own_of-none (a ∷ b ∷ c ∷ d ∷ e ∷ f ∷ []) = IfOk-then _ (ownship a b c d e f) _ (λ own. refl)
+own_of-none (a ∷ b ∷ c ∷ d ∷ e ∷ f ∷ []) = IfOk-any _ (ownship a b c d e f) _ (λ own. refl)
 own_of-none _ = tt
 
 traffic_of-none : (fields : List Bytes) → SaysNoFormat (traffic_of fields)
 unfolding traffic_of
-traffic_of-none (a ∷ b ∷ c ∷ d ∷ e ∷ f ∷ g ∷ []) = IfOk-then _ (aircraft a b c d e f g) _ (λ traffic. refl)
+traffic_of-none (a ∷ b ∷ c ∷ d ∷ e ∷ f ∷ g ∷ []) = IfOk-any _ (aircraft a b c d e f g) _ (λ traffic. refl)
 traffic_of-none _ = tt
 
 aged_traffic_of-none : (fields : List Bytes) → SaysNoFormat (aged_traffic_of fields)
 unfolding aged_traffic_of
 aged_traffic_of-none (a ∷ b ∷ c ∷ d ∷ e ∷ f ∷ g ∷ h ∷ []) =
-    IfOk-then _ (aircraft a b c d e f g) _ (λ traffic. IfOk-then _ (age h) _ (λ seconds. refl))
+    IfOk-any _ (aircraft a b c d e f g) _ (λ traffic. IfOk-any _ (age h) _ (λ seconds. refl))
 aged_traffic_of-none _ = tt
 
 end_of-none : (fields : List Bytes) → SaysNoFormat (end_of fields)
@@ -57,18 +49,12 @@ word_of_name-none : (format : ℕ) (name : Bytes) (fields : List Bytes) → byte
 unfolding word_of_name
 word_of_name-none format name fields h =
     rw h (
-    SaysNoFormat-if (is_comment name) _ _ refl (
-    SaysNoFormat-if (bytes_eq name (codes "moment")) _ _ (moment_of-none fields) (
-    SaysNoFormat-if (bytes_eq name (codes "own")) _ _ (own_of-none fields) (
-    SaysNoFormat-if (bytes_eq name (codes "traffic")) _ _ (
-    SaysNoFormat-if _ _ _ (aged_traffic_of-none fields) (traffic_of-none fields)
-    ) (
-    SaysNoFormat-if (bytes_eq name (codes "end")) _ _ (end_of-none fields) tt
-    )
-    )
-    )
-    )
-    )
+    IfOk-if _ (is_comment name) _ _ refl (
+    IfOk-if _ (bytes_eq name (codes "moment")) _ _ (moment_of-none fields) (
+    IfOk-if _ (bytes_eq name (codes "own")) _ _ (own_of-none fields) (
+    IfOk-if _ (bytes_eq name (codes "traffic")) _ _
+    (IfOk-if (λ word. is_format_word word ≡ false) (format == 2) _ _ (aged_traffic_of-none fields) (traffic_of-none fields)) (
+    IfOk-if _ (bytes_eq name (codes "end")) _ _ (end_of-none fields) tt)))))
 
 word_of_fields-none : (format : ℕ) (fields : List Bytes) → begins_with_format fields ≡ false → SaysNoFormat (word_of_fields format fields)
 unfolding word_of_fields
@@ -78,7 +64,7 @@ word_of_fields-none format (name ∷ fields) h = word_of_name-none format name f
 pub only_format_lines_say_formats : OnlyFormatLinesSayFormats
 unfolding word_of
 only_format_lines_say_formats line format h =
-    SaysNoFormat-if (nat_le (length line) 255) _ _ (word_of_fields-none format (fields_of (strip_carriage_return line)) h) tt
+    IfOk-if _ (nat_le (length line) 255) _ _ (word_of_fields-none format (fields_of (strip_carriage_return line)) h) tt
 
 word_of_fields-four : (fields : List Bytes) → begins_with_format fields ≡ false → word_of_fields 1 fields ≡ four_word_of_fields fields
 unfolding word_of_fields word_of_name four_word_of_fields four_word_of_name
@@ -91,9 +77,9 @@ word_of-four line h = rw (word_of_fields-four (fields_of (strip_carriage_return 
 
 pub step-format : OtherWordsLeaveTheFormat
 unfolding step
-step-format state (says.Moment time) h = IfOk-then _ (begun_moment state.moment state.last time) _ (λ moment. refl)
-step-format state (says.Own own) h = IfOk-then _ (with_own state.moment own) _ (λ moment. refl)
-step-format state (says.Traffic traffic) h = IfOk-then _ (with_traffic state.moment traffic) _ (λ moment. refl)
+step-format state (says.Moment time) h = IfOk-any _ (begun_moment state.moment state.last time) _ (λ moment. refl)
+step-format state (says.Own own) h = IfOk-any _ (with_own state.moment own) _ (λ moment. refl)
+step-format state (says.Traffic traffic) h = IfOk-any _ (with_traffic state.moment traffic) _ (λ moment. refl)
 step-format state (says.Format format) h = absurd (cc)
-step-format state says.End h = IfOk-then _ (ended_picture state.moment) _ (λ picture. refl)
+step-format state says.End h = IfOk-any _ (ended_picture state.moment) _ (λ picture. refl)
 step-format state says.Skip h = refl

@@ -3,7 +3,9 @@ pub mod IdLemmas
 pub mod WordLemmas
 pub mod StepLemmas
 pub mod WordLaws
+pub mod CheckedLemmas
 pub mod FormatLaws
+pub mod AgeLaws
 pub mod RangeLemmas
 pub mod WordRanges
 pub mod StepRanges

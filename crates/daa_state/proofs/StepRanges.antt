@@ -11,7 +11,7 @@ use Rattle.daa_state.specs.declared.word.Traffic.{Traffic}
 use Rattle.daa_state.specs.declared.word.Word.{Word}
 use Rattle.daa_state.specs.declared.word.Word.TheVariants as says
 use Rattle.daa_state.specs.declared.fault.LineFault.TheVariants.{Full}
-use Rattle.daa_state.proofs.WordRanges.{IfOk-with, IfOk-if}
+use Rattle.daa_state.proofs.CheckedLemmas.{IfOk-with, IfOk-if}
 
 -- its numbers are in range, and it has room for no more than 64 aircraft
 pub record IsOpenInRange (moment : Moment) : Type 0 where

@@ -4,7 +4,6 @@ use Rattle.std.specs.Prelude.{IfOk, nat_le, int_le, length, codes, unsigned_abs,
 use Rattle.std.proofs.lemmas.Int.{ints}
 use Rattle.std.specs.Str.{bytes_eq}
 use Rattle.std.specs.Str.Lines.{strip_carriage_return}
-use Rattle.daa_state.specs.Fault.{Checked, ◌>>=◌}
 use Rattle.daa_state.specs.Fields.{Bytes, fields_of}
 use Rattle.daa_state.specs.Id.{is_id}
 use Rattle.daa_state.specs.InRange.{IsWithin, IsPosition, IsAltitude, IsTrack, IsGroundSpeed, IsSpeed, IsVerticalSpeed, IsAge, IsFormat, IsOwnInRange, IsTrafficInRange, IsWordInRange}
@@ -12,22 +11,7 @@ use Rattle.daa_state.specs.Number.{number, within, position, altitude, track, gr
 use Rattle.daa_state.specs.Ranges.{Range, positions, altitudes, tracks, ground_speeds, speeds, vertical_speeds, ages, formats}
 use Rattle.daa_state.specs.WordOf.{identifier, is_comment, word_of, word_of_fields, word_of_name, moment_of, own_of, ownship, traffic_of, aged_traffic_of, aircraft, format_of, end_of}
 use Rattle.daa_state.specs.declared.fault.LineFault.TheVariants.{OutOfRange, BadId}
-
--- ---- values that are read one after the other
-
--- what holds of what comes next wherever P holds of the first, where P holds of it
-pub IfOk-with : {A B : Type 0} (P : A → Type 0) (Q : B → Type 0) (first : Checked A) (next : A → Checked B) → IfOk first P → ((a : A) → P a → IfOk (next a) Q) → IfOk (first >>= next) Q
-IfOk-with P Q (Ok a) next p h = h a p
-IfOk-with P Q (Err fault) next p h = tt
-
-pub IfOk-if : {A : Type 0} (P : A → Type 0) (test : Bool) (x y : Checked A) → IfOk x P → IfOk y P → IfOk (if test then x else y) P
-IfOk-if P true x y h k = h
-IfOk-if P false x y h k = k
-
--- what needs nothing of the first
-pub IfOk-any : {A B : Type 0} (Q : B → Type 0) (first : Checked A) (next : A → Checked B) → ((a : A) → IfOk (next a) Q) → IfOk (first >>= next) Q
-IfOk-any Q (Ok a) next h = h a
-IfOk-any Q (Err fault) next h = tt
+use Rattle.daa_state.proofs.CheckedLemmas.{IfOk-with, IfOk-if, IfOk-any}
 
 -- ---- numbers
 

@@ -3,6 +3,7 @@ use Rattle.std.specs.Prelude.{ℕ, ◌≡◌, ◌≤◌, Bool, true, false, take
 use Rattle.daa_state.specs.Fields.{Bytes}
 use Rattle.daa_state.specs.WordOf.{word_of}
 use Rattle.daa_state.specs.FourWords.{is_format_line, four_word_of}
+use Rattle.daa_state.specs.Current.{IsCurrentWord, IsCurrentState, IsCurrentStep}
 use Rattle.daa_state.specs.MomentStep.{State, step}
 use Rattle.daa_state.specs.declared.word.Word.{Word}
 use Rattle.daa_state.specs.declared.word.Word.TheVariants as says
@@ -33,3 +34,13 @@ ReadsAsFourWords = (line : Bytes) → is_format_line line ≡ false → word_of 
 abbrev pub OtherWordsLeaveTheFormat : Type 0
 OtherWordsLeaveTheFormat = (state : State) (word : Word) → is_format_word word ≡ false
     → IfOk (step state word) (λ next. next.state.format ≡ state.format)
+
+-- in format 1 the report of an aircraft is of age 0
+abbrev pub Format1SaysNoAges : Type 0
+Format1SaysNoAges = (line : Bytes) → IfOk (word_of line 1) IsCurrentWord
+
+-- where each report of the open moment is of age 0, and that of the word, so is each that the step leaves in the open
+-- moment or in the picture
+abbrev pub NoAgesLeaveNoAges : Type 0
+NoAgesLeaveNoAges = (state : State) (word : Word) → IsCurrentState state → IsCurrentWord word
+    → IfOk (step state word) IsCurrentStep

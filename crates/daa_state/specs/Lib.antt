@@ -10,4 +10,5 @@ pub mod Picture
 pub mod MomentStep
 pub mod InRange
 pub mod FourWords
+pub mod Current
 pub mod Laws

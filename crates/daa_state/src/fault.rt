@@ -15,7 +15,7 @@ pub enum LineFault {
     FieldCount,
     /// A number's field is not an optional sign and 1 to 10 digits.
     BadNumber,
-    /// The identifier's field is not 1 to 8 letters, digits, underscores and dashes.
+    /// The identifier's field is not 1 to 8 bytes, each an ASCII letter or digit, an underscore or a dash.
     BadId,
     /// A number is outside its range.
     OutOfRange,

@@ -3,7 +3,7 @@
 ghost use Rattle.std.specs.Prelude.{◌≡◌, ◌∷◌, [], pos, negsuc, codes, replicate, None};
 ghost use Rattle.daa_state.specs.WordOf.{word_of};
 ghost use Rattle.daa_state.specs.MomentStep.{step, empty_moment};
-ghost use Rattle.daa_state.specs.Laws.{First256BytesDecide, LongFrom256Bytes, OnlyFormatLinesSayFormats, ReadsAsFourWords, OtherWordsLeaveTheFormat};
+ghost use Rattle.daa_state.specs.Laws.{First256BytesDecide, LongFrom256Bytes, OnlyFormatLinesSayFormats, ReadsAsFourWords, OtherWordsLeaveTheFormat, Format1SaysNoAges, NoAgesLeaveNoAges};
 
 use crate::fault::LineFault;
 use crate::word::Word;
@@ -24,6 +24,13 @@ pub fn without_format_lines_four_words_are_read()
 /// A word other than `Format` leaves the format.
 pub fn other_words_leave_the_format()
     ensures { OtherWordsLeaveTheFormat }
+{}
+
+/// In format 1 every report is of age 0, and where all words are such, so is every report of a moment that they open, and
+/// of its picture.
+pub fn format_1_has_no_ages()
+    ensures words { Format1SaysNoAges }
+    ensures steps { NoAgesLeaveNoAges }
 {}
 
 /// The words of lines, and steps, whose answers are known.

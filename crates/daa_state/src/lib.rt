@@ -15,8 +15,8 @@ mod word_of;
 pub use fault::LineFault;
 pub use id::Id;
 pub use laws::{
-    first_256_bytes_decide, other_words_leave_the_format, without_format_lines_four_words_are_read,
-    worked_examples,
+    first_256_bytes_decide, format_1_has_no_ages, other_words_leave_the_format,
+    without_format_lines_four_words_are_read, worked_examples,
 };
 pub use moments::Moments;
 pub use word::{Own, Picture, Traffic, Word};

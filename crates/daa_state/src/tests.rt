@@ -312,3 +312,12 @@ fn values_may_be_sent(rt: HostRuntime) -> Result<(), Fail> {
     assert!(rt; may_be_sent(&Traffic::default()));
     Ok(())
 }
+
+#[test]
+fn laws() {
+    first_256_bytes_decide();
+    format_1_has_no_ages();
+    other_words_leave_the_format();
+    without_format_lines_four_words_are_read();
+    worked_examples();
+}

@@ -1,6 +1,6 @@
 //! The code of each fault: 0 stands for a text that is accepted.
 
-use crate::tests::texts::{EXAMPLE, LARGE, SMALL};
+use crate::examples::{FOUR_LEVELS, LARGEST_VALUES, ONE_LEVEL, THREE_LEVELS};
 use crate::{ConfigFault, read};
 use std::alloc::Global;
 use std::process::Abort;
@@ -31,10 +31,11 @@ fn expect_edited(
     Ok(())
 }
 
-static WHOLE_TEXTS: [(&str, u8); 15] = [
-    (EXAMPLE, 0),
-    (SMALL, 0),
-    (LARGE, 0),
+static WHOLE_TEXTS: [(&str, u8); 16] = [
+    (THREE_LEVELS, 0),
+    (ONE_LEVEL, 0),
+    (LARGEST_VALUES, 0),
+    (FOUR_LEVELS, 0),
     ("a =", 2),
     ("a = 1\na = 2", 2),
     ("[gs]\nmin = 1\n[gs]\nmax = 2", 2),
@@ -62,7 +63,7 @@ fn whole_texts(rt: HostRuntime) -> Result<(), Fail> {
 #[test]
 fn longest_text(rt: HostRuntime) -> Result<(), Fail> {
     for (length, code) in [(65536, 0), (65537, 1)] {
-        let mut text = String::from_str(rt.alloc(), SMALL)?;
+        let mut text = String::from_str(rt.alloc(), ONE_LEVEL)?;
         text.push('#')?;
         for _ in text.len()..length {
             text.push(' ')?;
@@ -96,7 +97,7 @@ fn deep_texts(rt: HostRuntime) -> Result<(), Fail> {
     Ok(())
 }
 
-static OF_THE_EXAMPLE: [(&str, &str, u8); 8] = [
+static OF_THREE_LEVELS: [(&str, &str, u8); 8] = [
     ("track_step = 5\n", "track_step = 7\nx = 1\n", 3),
     ("track_step = 5\n", "track_step = 7\n", 6),
     ("resolve = 2\n", "resolve = 9\ngs.min = 4\n", 2),
@@ -109,12 +110,12 @@ static OF_THE_EXAMPLE: [(&str, &str, u8); 8] = [
 
 #[test]
 fn least_code(rt: HostRuntime) -> Result<(), Fail> {
-    for edit in &OF_THE_EXAMPLE {
-        expect_edited(&rt, EXAMPLE, edit)?;
+    for edit in &OF_THREE_LEVELS {
+        expect_edited(&rt, THREE_LEVELS, edit)?;
     }
-    let lacking = EXAMPLE.replacen(rt.alloc(), "alert = 25\n", "", 1)?;
+    let lacking = THREE_LEVELS.replacen(rt.alloc(), "alert = 25\n", "", 1)?;
     expect_edited(&rt, lacking.as_str(), &("resolve = 2", "resolve = 9", 4))?;
-    let many = SMALL.replacen(
+    let many = ONE_LEVEL.replacen(
         rt.alloc(),
         "max = 1000, step = 1,",
         "max = 60000, step = 1,",
@@ -188,7 +189,7 @@ static SHAPES: [(&str, &str, u8); 25] = [
 #[test]
 fn shapes(rt: HostRuntime) -> Result<(), Fail> {
     for edit in &SHAPES {
-        expect_edited(&rt, SMALL, edit)?;
+        expect_edited(&rt, ONE_LEVEL, edit)?;
     }
     Ok(())
 }
@@ -247,7 +248,7 @@ static NUMBERS: [(&str, &str, u8); 24] = [
 #[test]
 fn numbers(rt: HostRuntime) -> Result<(), Fail> {
     for edit in &NUMBERS {
-        expect_edited(&rt, SMALL, edit)?;
+        expect_edited(&rt, ONE_LEVEL, edit)?;
     }
     Ok(())
 }
@@ -326,7 +327,7 @@ static RANGES: [(&str, &str, u8); 36] = [
 #[test]
 fn tables_of_ranges(rt: HostRuntime) -> Result<(), Fail> {
     for edit in &RANGES {
-        expect_edited(&rt, SMALL, edit)?;
+        expect_edited(&rt, ONE_LEVEL, edit)?;
     }
     Ok(())
 }
@@ -363,7 +364,7 @@ static LEVEL_RANGES: [(&str, &str, u8); 26] = [
 #[test]
 fn level_ranges(rt: HostRuntime) -> Result<(), Fail> {
     for edit in &LEVEL_RANGES {
-        expect_edited(&rt, SMALL, edit)?;
+        expect_edited(&rt, ONE_LEVEL, edit)?;
     }
     Ok(())
 }
@@ -391,16 +392,16 @@ static COUNTS: [(&str, &str, u8); 9] = [
 #[test]
 fn counts(rt: HostRuntime) -> Result<(), Fail> {
     for edit in &COUNTS {
-        expect_edited(&rt, SMALL, edit)?;
+        expect_edited(&rt, ONE_LEVEL, edit)?;
     }
     let level = "{ dthr = 1, zthr = 1, tthr = 1, tcoa = 1, lookahead = 1, alert = 1 }";
     let four = format!(in rt.alloc(); "[ {level}, {level}, {level}, {level} ]\n#")?;
-    expect_edited(&rt, SMALL, &("[", four.as_str(), 0))?;
+    expect_edited(&rt, ONE_LEVEL, &("[", four.as_str(), 0))?;
     let five = format!(in rt.alloc(); "[ {level}, {level}, {level}, {level}, {level} ]\n#")?;
-    expect_edited(&rt, SMALL, &("[", five.as_str(), 7))?;
-    let highest = SMALL.replacen(rt.alloc(), "resolve = 1", "resolve = 4", 1)?;
+    expect_edited(&rt, ONE_LEVEL, &("[", five.as_str(), 7))?;
+    let highest = ONE_LEVEL.replacen(rt.alloc(), "resolve = 1", "resolve = 4", 1)?;
     expect_edited(&rt, highest.as_str(), &("[", four.as_str(), 0))?;
-    let out = SMALL.replacen(rt.alloc(), "resolve = 1", "resolve = 5", 1)?;
+    let out = ONE_LEVEL.replacen(rt.alloc(), "resolve = 1", "resolve = 5", 1)?;
     expect_edited(&rt, out.as_str(), &("[", "[]\n#", 6))?;
     Ok(())
 }

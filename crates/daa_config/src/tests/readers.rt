@@ -1,6 +1,6 @@
-//! What the readers tell of three configurations.
+//! What the readers tell of the examples.
 
-use crate::tests::texts::{EXAMPLE, LARGE, SMALL};
+use crate::examples::{FOUR_LEVELS, LARGEST_VALUES, ONE_LEVEL, THREE_LEVELS};
 use crate::{
     Candidate, Config, ConfigFault, Kind, Rates, Resolution, accepted_is_in_range, read,
     values_are_all_steps,
@@ -19,10 +19,11 @@ fn expect_counts(rt: &impl Abort, config: &Config, counts: &[u32; 5]) {
     assert_eq!(rt; config.total(), total);
 }
 
-static COUNTS: [(&str, [u32; 5]); 3] = [
-    (EXAMPLE, [72, 66, 101, 101, 341]),
-    (SMALL, [4, 1, 1, 1, 8]),
-    (LARGE, [360, 501, 501, 497, 1860]),
+static COUNTS: [(&str, [u32; 5]); 4] = [
+    (THREE_LEVELS, [72, 66, 101, 101, 341]),
+    (ONE_LEVEL, [4, 1, 1, 1, 8]),
+    (LARGEST_VALUES, [360, 501, 501, 497, 1860]),
+    (FOUR_LEVELS, [4, 1, 1, 1, 8]),
 ];
 
 #[test]
@@ -49,7 +50,7 @@ static CANDIDATES: [(u32, Candidate); 10] = [
 
 #[test]
 fn candidates(rt: HostRuntime) -> Result<(), Fail> {
-    let config = read(rt.alloc(), EXAMPLE.as_bytes())?;
+    let config = read(rt.alloc(), THREE_LEVELS.as_bytes())?;
     assert_eq!(rt; config.total(), 341);
     for (index, candidate) in &CANDIDATES {
         if *index < config.total() {
@@ -75,7 +76,7 @@ fn candidates(rt: HostRuntime) -> Result<(), Fail> {
 /// A greatest value that the steps pass by is not listed.
 #[test]
 fn uneven_steps(rt: HostRuntime) -> Result<(), Fail> {
-    let text = SMALL.replacen(
+    let text = ONE_LEVEL.replacen(
         rt.alloc(),
         "min = 1000, max = 1000, step = 1,",
         "min = 1000, max = 1999, step = 250,",
@@ -90,7 +91,7 @@ fn uneven_steps(rt: HostRuntime) -> Result<(), Fail> {
 
 #[test]
 fn numbers_and_levels(rt: HostRuntime) -> Result<(), Fail> {
-    let config = read(rt.alloc(), EXAMPLE.as_bytes())?;
+    let config = read(rt.alloc(), THREE_LEVELS.as_bytes())?;
     assert_eq!(rt; config.resolve(), 2);
     assert_eq!(rt; config.turn_rate(), 3);
     assert_eq!(rt; config.gs_rate(), 20);
@@ -125,7 +126,7 @@ fn numbers_and_levels(rt: HostRuntime) -> Result<(), Fail> {
 fn second_model(rt: HostRuntime) -> Result<(), Fail> {
     for (tcpa, model) in [("tcpa = 0", Model::Taumod), ("tcpa = 1", Model::Tcpa)] {
         let key = format!(in rt.alloc(); "{tcpa}, tcoa = 0")?;
-        let text = SMALL.replacen(rt.alloc(), "tcoa = 0", key.as_str(), 1)?;
+        let text = ONE_LEVEL.replacen(rt.alloc(), "tcoa = 0", key.as_str(), 1)?;
         let config = read(rt.alloc(), text.as_str().as_bytes())?;
         assert_eq!(rt; config.level(1).volume.model, model);
     }
@@ -139,7 +140,7 @@ fn shared<T: Send + Sync>(value: &T) -> &T {
 
 #[test]
 fn is_shared(rt: HostRuntime) -> Result<(), Fail> {
-    let config = read(rt.alloc(), SMALL.as_bytes())?;
+    let config = read(rt.alloc(), ONE_LEVEL.as_bytes())?;
     assert_eq!(rt; shared(&config).total(), 8);
     Ok(())
 }

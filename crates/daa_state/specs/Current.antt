@@ -1,0 +1,34 @@
+-- Aircraft whose reports are of the moment itself.
+use Rattle.std.specs.Prelude.{◌≡◌, All, IfSome}
+use Rattle.daa_state.specs.MomentStep.{State, Stepped}
+use Rattle.daa_state.specs.Picture.{aircraft_of}
+use Rattle.daa_state.specs.declared.moments.Moment.{Moment}
+use Rattle.daa_state.specs.declared.word.Picture.{Picture}
+use Rattle.daa_state.specs.declared.word.Traffic.{Traffic}
+use Rattle.daa_state.specs.declared.word.Word.{Word}
+use Rattle.daa_state.specs.declared.word.Word.TheVariants as says
+
+-- its report is of age 0
+abbrev pub IsCurrent : Traffic → Type 0
+IsCurrent aircraft = aircraft.age ≡ 0
+
+-- the aircraft of the word is so, if it has one
+abbrev pub IsCurrentWord : Word → Type 0
+IsCurrentWord (says.Traffic aircraft) = IsCurrent aircraft
+IsCurrentWord _ = Unit {0}
+
+-- each aircraft of the picture is so
+abbrev pub IsCurrentPicture : Picture → Type 0
+IsCurrentPicture picture = All IsCurrent (aircraft_of picture)
+
+-- each aircraft of the open moment is so
+abbrev pub IsCurrentMoment : Moment → Type 0
+IsCurrentMoment moment = All IsCurrent moment.traffic.items
+
+abbrev pub IsCurrentState : State → Type 0
+IsCurrentState state = IfSome state.moment IsCurrentMoment
+
+-- what a step leaves is so, and the picture of the moment that it ends
+pub record IsCurrentStep (next : Stepped) : Type 0 where
+  pub state : IsCurrentState next.state
+  pub picture : IfSome next.picture IsCurrentPicture
