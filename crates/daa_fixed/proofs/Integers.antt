@@ -33,6 +33,9 @@ mul_neg_neg (negsuc a) (pos (suc b)) h k = absurd (omega (arith, ints))
 mul_neg_neg (negsuc a) (negsuc b) h k = omega (arith, ints)
 
 -- ---- a difference that is a sum of things not negative
+pub sum_nonneg : (x y : ℤ) → pos 0 ≤ℤ x → pos 0 ≤ℤ y → pos 0 ≤ℤ (x +ℤ y)
+sum_nonneg x y h k = omega (arith, ints)
+
 pub by_sum : (x y u v : ℤ) → y -ℤ x ≡ u +ℤ v → pos 0 ≤ℤ u → pos 0 ≤ℤ v → x ≤ℤ y
 by_sum x y u v e h k = omega (arith, ints)
 

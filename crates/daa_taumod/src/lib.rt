@@ -27,6 +27,7 @@ pub struct Volume {
     pub model: Model,
 }
 
+mod examples;
 mod horizontal;
 mod place;
 #[cfg(test)]
@@ -35,4 +36,5 @@ mod threshold;
 mod vertical;
 mod violation;
 
+pub use examples::worked_examples;
 pub use violation::{tcpa_implies_taumod, violates};

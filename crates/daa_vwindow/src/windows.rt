@@ -9,7 +9,7 @@ ghost use Rattle.daa_taumod.specs.Volume.{IsVolumeInRange, ViolatesVertically};
 ghost use Rattle.daa_vwindow.specs.Band.{IsInBand};
 ghost use Rattle.daa_vwindow.specs.Window.{HasSmallNumbers, IsWindow};
 
-use crate::band::{level, passage};
+use crate::band::{level_flight, passage};
 use daa_fixed::{Leg, Point};
 use daa_taumod::Volume;
 
@@ -26,7 +26,7 @@ pub fn window(leg: &Leg, volume: &Volume) -> Option<(Point, Point)>
     let height = leg.place.up;
     let speed = leg.velocity.up;
     if speed == 0 {
-        level(height, volume.zthr as i64, leg.secs)
+        level_flight(height, volume.zthr as i64, leg.secs)
     } else if speed > 0 {
         rise(height, speed, volume, leg.secs)
     } else {

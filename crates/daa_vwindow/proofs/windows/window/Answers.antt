@@ -9,7 +9,7 @@ returns-then-speed-eq0-clause-times c =
     let h = up_kept c.args.leg.now.place.up c.requires.leg.up in
     let z = nat_kept c.args.volume.now.zthr c.requires.volume.zthr in
     let e : c.args.leg.now.velocity.up ≡ pos 0 = omega (arith, ints) in
-    retarget c.args.leg.now.secs _ _ c.level.result (standing c.args.leg.now c.args.volume.now e) (simp (h, z) at c.level.ensures.times)
+    retarget c.args.leg.now.secs _ _ c.level_flight.result (standing c.args.leg.now c.args.volume.now e) (simp (h, z) at c.level_flight.ensures.times)
 
 pub returns-then-speed-gt0-clause-times : goal.returns-then-speed-gt0-clause-times
 returns-then-speed-gt0-clause-times c =
