@@ -1,5 +1,5 @@
--- The square of the distance of a leg in range, as a quadratic whose numbers are in range.
-use Rattle.std.proofs.Common.{refl, arith, pos, ◌*ℤ◌, ◌-ℤ◌}
+-- The square of the distance as a quadratic of the time.
+use Rattle.std.proofs.Common.{◌≡◌, refl, arith, pos, ◌*ℤ◌, ◌-ℤ◌}
 use Rattle.daa_fixed.specs.declared.Leg.{Leg}
 use Rattle.daa_fixed.specs.Flat.{dot_of, square_of}
 use Rattle.daa_fixed.specs.Leg.{IsLegInRange}
@@ -10,8 +10,14 @@ use Rattle.daa_fixed.proofs.Lengths.{dot_nonneg}
 use Rattle.daa_quad.specs.declared.Quad.{Quad}
 use Rattle.daa_taumod.specs.declared.Volume.{Volume}
 use Rattle.daa_taumod.specs.Volume.{IsVolumeInRange}
-use Rattle.daa_detect.specs.Distance.{IsDistance}
 
+-- the quadratic whose value is the square of the distance less that of dthr
+pub record IsDistance (leg : Leg) (vol : Volume) (q : Quad) : Type 0 where
+  pub a : q.a ≡ dot_of leg.velocity.flat leg.velocity.flat
+  pub b : q.b ≡ pos 2 *ℤ dot_of leg.place.flat leg.velocity.flat
+  pub c : q.c ≡ dot_of leg.place.flat leg.place.flat -ℤ square_of (pos vol.dthr)
+
+-- of a leg and a volume in range its numbers are in range
 pub record HasDistance (leg : Leg) (vol : Volume) : Type 0 where
   pub quad : Quad
   pub is : IsDistance leg vol quad

@@ -24,10 +24,9 @@ use Rattle.daa_taumod.specs.Volume.{IsVolumeInRange, ViolatesHorizontally, Viola
 use Rattle.daa_fixed.proofs.Lengths.{nearing_moves}
 use Rattle.daa_vwindow.specs.Window.{IsWindow}
 use Rattle.daa_detect.specs.declared.motion.Motion.{Motion}
-use Rattle.daa_detect.specs.Distance.{IsDistance}
 use Rattle.daa_detect.specs.Hit.{IsHit}
 use Rattle.daa_detect.specs.Motion.{IsMotion, IsAhead, rate_of}
-use Rattle.daa_detect.proofs.Distance.{HasDistance, distance}
+use Rattle.daa_detect.proofs.Distance.{IsDistance, HasDistance, distance}
 use Rattle.daa_detect.proofs.Margin.{near_is, rate_is, violating_passes}
 use Rattle.daa_detect.proofs.Nearest.{vv, sv, time_between, none_elsewhere}
 
