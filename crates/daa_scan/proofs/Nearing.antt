@@ -1,5 +1,5 @@
 -- What violates a volume is near: at most the threshold and the way of the time threshold off.
-use Rattle.std.proofs.Common.{[], ◌∷◌, ◌≡◌, inl, inr, ⊎_elim, refl, sym, subst, ◌∙◌, arith, ℤ, pos, neg_ℤ, ◌+ℤ◌, ◌*ℤ◌, ◌-ℤ◌, ◌≤ℤ◌, ◌<ℤ◌, unsigned_abs}
+use Rattle.std.proofs.Common.{[], ◌∷◌, ◌≡◌, inl, inr, ⊎_elim, subst, ◌∙◌, arith, ℤ, pos, neg_ℤ, ◌+ℤ◌, ◌*ℤ◌, ◌-ℤ◌, ◌≤ℤ◌, ◌<ℤ◌, unsigned_abs}
 use Rattle.std.proofs.lemmas.Int.{ints}
 use Rattle.daa_fixed.proofs.Ring.{mul_nonneg, square_nonneg, ring, #, ⊝, ◌⊕◌, ◌⊖◌, ◌⊗◌}
 use Rattle.daa_fixed.proofs.Integers.{rest, by_rest, le_trans_ℤ, root_within, mul_le_mul, sum_nonneg}
