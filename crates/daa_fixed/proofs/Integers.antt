@@ -53,6 +53,11 @@ mul_le x y d hd h =
     let X = # 0 in let Y = # 1 in let D = # 2 in
     by_rest (x *ℤ d) (y *ℤ d) ((y -ℤ x) *ℤ d) (ring (x ∷ y ∷ d ∷ []) (Y ⊗ D ⊖ X ⊗ D) ((Y ⊖ X) ⊗ D) tt) (mul_nonneg (y -ℤ x) d (rest x y h) hd)
 
+pub mul_le_left : (x y z : ℤ) → pos 0 ≤ℤ x → y ≤ℤ z → (x *ℤ y) ≤ℤ (x *ℤ z)
+mul_le_left x y z h k =
+    let X = # 0 in let Y = # 1 in let Z = # 2 in
+    by_rest (x *ℤ y) (x *ℤ z) (x *ℤ (z -ℤ y)) (ring (x ∷ y ∷ z ∷ []) (X ⊗ Z ⊖ X ⊗ Y) (X ⊗ (Z ⊖ Y)) tt) (mul_nonneg x (z -ℤ y) h (rest y z k))
+
 pub mul_lt : (x y d : ℤ) → pos 0 <ℤ d → x <ℤ y → (x *ℤ d) <ℤ (y *ℤ d)
 mul_lt x y d hd h =
     let X = # 0 in let Y = # 1 in let D = # 2 in

@@ -2,7 +2,7 @@
 use Rattle.std.proofs.Common.{[], ◌∷◌, ◌≡◌, inl, inr, ⊎_elim, subst, ◌∙◌, arith, ℤ, pos, neg_ℤ, ◌+ℤ◌, ◌*ℤ◌, ◌-ℤ◌, ◌≤ℤ◌, ◌<ℤ◌, unsigned_abs}
 use Rattle.std.proofs.lemmas.Int.{ints}
 use Rattle.daa_fixed.proofs.Ring.{mul_nonneg, square_nonneg, ring, #, ⊝, ◌⊕◌, ◌⊖◌, ◌⊗◌}
-use Rattle.daa_fixed.proofs.Integers.{rest, by_rest, le_trans_ℤ, root_within, mul_le_mul, sum_nonneg}
+use Rattle.daa_fixed.proofs.Integers.{rest, by_rest, le_trans_ℤ, root_within, mul_le_mul, mul_le_left, sum_nonneg}
 use Rattle.daa_fixed.proofs.Lengths.{lagrange, dot_nonneg, nearing_moves}
 use Rattle.daa_taumod.proofs.ClosestApproach.{tau_from_closest}
 use Rattle.daa_fixed.proofs.Axes.{not_far}
@@ -55,7 +55,7 @@ module _ (leg : Leg) (vol : Volume) (n d speed : ℤ) (d1 : pos 1 ≤ℤ d) (s0 
       (by_rest _ _ _ (spread t (dot_of place v) speed (dot_of place place))
       (mul_nonneg (t *ℤ t) _ (square_nonneg t) (rest _ _ (le_trans_ℤ (dot_of place v *ℤ dot_of place v) (dot_of place place *ℤ dot_of v v) (dot_of place place *ℤ (speed *ℤ speed))
       (by_rest _ _ _ (cauchy place v) (square_nonneg (cross_of place v)))
-      (longer (dot_of place place) (dot_of v v) (speed *ℤ speed) (dot_nonneg place) slow)))))
+      (mul_le_left (dot_of place place) (dot_of v v) (speed *ℤ speed) (dot_nonneg place) slow)))))
     where
       turn : (x t y r : ℤ) → t *ℤ neg_ℤ y -ℤ (x -ℤ r) ≡ r -ℤ (x +ℤ t *ℤ y)
       turn x t y r = let X = # 0 in let T = # 1 in let Y = # 2 in let R = # 3 in ring (x ∷ t ∷ y ∷ r ∷ []) (T ⊗ ⊝ Y ⊖ (X ⊖ R)) (R ⊖ (X ⊕ T ⊗ Y)) tt
@@ -69,10 +69,6 @@ module _ (leg : Leg) (vol : Volume) (n d speed : ℤ) (d1 : pos 1 ≤ℤ d) (s0 
         where
           left : (x y : ℤ) → (x +ℤ y) -ℤ x ≡ y
           left x y = omega (arith, ints)
-
-      longer : (x y z : ℤ) → pos 0 ≤ℤ x → y ≤ℤ z → (x *ℤ y) ≤ℤ (x *ℤ z)
-      longer x y z h k = let X = # 0 in let Y = # 1 in let Z = # 2 in
-          by_rest _ _ _ (ring (x ∷ y ∷ z ∷ []) (X ⊗ Z ⊖ X ⊗ Y) (X ⊗ (Z ⊖ Y)) tt) (mul_nonneg x (z -ℤ y) h (rest _ _ k))
 
   -- the square of the place
   pub flat_near : ViolatesHorizontally leg vol n d → dot_of place place ≤ℤ ((a +ℤ b) *ℤ (a +ℤ b))
@@ -107,7 +103,7 @@ module _ (leg : Leg) (vol : Volume) (n d speed : ℤ) (d1 : pos 1 ≤ℤ d) (s0 
 pub up_near : (leg : Leg) (vol : Volume) (n d speed : ℤ) → pos 1 ≤ℤ d → pos 0 ≤ℤ speed → pos (unsigned_abs leg.velocity.up) ≤ℤ speed → ViolatesVertically leg vol n d → IsFrom (neg_ℤ (pos vol.zthr *ℤ d +ℤ pos vol.tcoa *ℤ d *ℤ speed)) (pos vol.zthr *ℤ d +ℤ pos vol.tcoa *ℤ d *ℤ speed) (height_at leg n d)
 up_near leg vol n d speed d1 s0 slow h = both (height_at leg n d) _ (⊎_elim
     (λ l. grow_left _ _ _ (mul_nonneg (pos vol.tcoa *ℤ d) speed cd0 s0) l)
-    (λ l. grow_right _ _ _ (mul_nonneg (pos vol.zthr) d (omega (arith, ints)) (omega (arith, ints))) (le_trans_ℤ _ _ _ l.soon (longer (pos vol.tcoa *ℤ d) _ _ cd0 slow)))
+    (λ l. grow_right _ _ _ (mul_nonneg (pos vol.zthr) d (omega (arith, ints)) (omega (arith, ints))) (le_trans_ℤ _ _ _ l.soon (mul_le_left (pos vol.tcoa *ℤ d) _ _ cd0 slow)))
     h)
   where
     cd0 : pos 0 ≤ℤ (pos vol.tcoa *ℤ d)
@@ -121,7 +117,3 @@ up_near leg vol n d speed d1 s0 slow h = both (height_at leg n d) _ (⊎_elim
 
     grow_right : (x y z : ℤ) → pos 0 ≤ℤ y → x ≤ℤ z → x ≤ℤ (y +ℤ z)
     grow_right x y z h k = omega (arith, ints)
-
-    longer : (x y z : ℤ) → pos 0 ≤ℤ x → y ≤ℤ z → (x *ℤ y) ≤ℤ (x *ℤ z)
-    longer x y z h k = let X = # 0 in let Y = # 1 in let Z = # 2 in
-        by_rest _ _ _ (ring (x ∷ y ∷ z ∷ []) (X ⊗ Z ⊖ X ⊗ Y) (X ⊗ (Z ⊖ Y)) tt) (mul_nonneg x (z -ℤ y) h (rest _ _ k))

@@ -5,7 +5,8 @@
 /// Which time to a horizontal conflict a volume looks at.
 #[derive(Clone, Copy, Debug, PartialEq, Eq)]
 pub enum Model {
-    /// Modified tau: the time in which the square of the distance would reach that of `dthr`.
+    /// Modified tau: what the square of the distance has above that of `dthr`, over the distance times how fast
+    /// it falls.
     Taumod,
     /// The time to the closest approach.
     Tcpa,

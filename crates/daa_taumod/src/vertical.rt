@@ -26,7 +26,7 @@ fn is_near_in_height(leg: &Leg, volume: &Volume, point: &Point) -> bool
     height_then(leg, point).abs() as i128 <= scaled(volume.zthr, point)
 }
 
-/// Whether the time to co-altitude is from 0 to `tcoa`.
+/// Whether the difference in height falls, and the time to co-altitude is at most `tcoa`.
 fn is_co_altitude_soon(leg: &Leg, volume: &Volume, point: &Point) -> bool
     requires leg { IsLegInRange leg.now }
     requires volume { IsVolumeInRange volume.now }

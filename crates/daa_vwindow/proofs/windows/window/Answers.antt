@@ -1,7 +1,8 @@
 use Rattle.std.proofs.Common.{◌≡◌, pos, ◌≤ℤ◌, ◌<ℤ◌, arith, refl}
 use Rattle.std.proofs.lemmas.Int.{ints}
+use Rattle.daa_fixed.proofs.Bounds.{nat_kept}
 use Rattle.daa_vwindow.proofs.Bands.{max_is}
-use Rattle.daa_vwindow.proofs.Heights.{retarget, rising, falling, standing, up_kept, down_kept, nat_kept}
+use Rattle.daa_vwindow.proofs.Heights.{retarget, rising, falling, standing, up_kept, down_kept}
 use Rattle.daa_vwindow.proofs.windows.window.Goals as goal
 
 pub returns-then-speed-eq0-clause-times : goal.returns-then-speed-eq0-clause-times
