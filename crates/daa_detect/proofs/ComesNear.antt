@@ -2,7 +2,7 @@
 use Rattle.std.proofs.Common.{[], ◌∷◌, ◌≡◌, ℕ, ◌+◌, ◌≤◌, inl, inr, sym, subst, ◌∙◌, arith, ℤ, pos, ◌+ℤ◌, ◌*ℤ◌, ◌-ℤ◌, neg_ℤ, ◌≤ℤ◌, ◌<ℤ◌}
 use Rattle.std.proofs.lemmas.Int.{ints, by_lt_z}
 use Rattle.daa_fixed.proofs.Ring.{mul_nonneg, square_nonneg, ring, #, lit, ⊝, ◌⊕◌, ◌⊖◌, ◌⊗◌}
-use Rattle.daa_fixed.proofs.Integers.{mul_pos, cancel_lt, rest, by_rest, below_by_rest, root_within, clash}
+use Rattle.daa_fixed.proofs.Integers.{mul_pos, cancel_lt, rest, by_rest, below_by_rest, root_within, clash, sum_nonneg}
 use Rattle.daa_fixed.specs.declared.Flat.{Flat}
 use Rattle.daa_fixed.specs.declared.Leg.{Leg}
 use Rattle.daa_fixed.specs.Flat.{dot_of, cross_of, square_of}
@@ -11,11 +11,8 @@ use Rattle.daa_taumod.specs.declared.Model.{Model}
 use Rattle.daa_taumod.specs.declared.Model.TheVariants.{Taumod, Tcpa}
 use Rattle.daa_taumod.specs.declared.Volume.{Volume}
 use Rattle.daa_taumod.specs.Volume.{place_at, IsNear, IsClosing, IsSoon, ViolatesHorizontally, Violates}
-use Rattle.daa_taumod.proofs.ClosestApproach.{nearing_moves}
+use Rattle.daa_fixed.proofs.Lengths.{nearing_moves}
 use Rattle.daa_detect.specs.Far.{StaysBeyond, IsFar}
-
-pub sum_nonneg : (x y : ℤ) → pos 0 ≤ℤ x → pos 0 ≤ℤ y → pos 0 ≤ℤ (x +ℤ y)
-sum_nonneg x y h k = omega (arith, ints)
 
 -- ---- at the closest approach, and after tthr seconds
 -- the square of a s - (s.v) v, where a is v.v: a times that of s x v

@@ -1,16 +1,15 @@
 -- Which time of the vertical window decides: its first where the distance grows there, its last where it still falls there, and
 -- else the closest approach, which lies between them.
-use Rattle.std.proofs.Common.{[], ◌∷◌, ◌≡◌, inl, refl, sym, subst, ◌∙◌, arith, ◌*◌, ◌^◌, ℤ, pos, neg_ℤ, ◌+ℤ◌, ◌*ℤ◌, ◌-ℤ◌, ◌≤ℤ◌, ◌<ℤ◌, Option, None, Some}
+use Rattle.std.proofs.Common.{[], ◌∷◌, ◌≡◌, inl, sym, subst, ◌∙◌, arith, ◌*◌, ◌^◌, ℤ, pos, neg_ℤ, ◌+ℤ◌, ◌*ℤ◌, ◌-ℤ◌, ◌≤ℤ◌, ◌<ℤ◌, Option, None, Some}
 use Rattle.std.proofs.lemmas.Int.{ints}
 use Rattle.std.specs.Prelude.{MatchOption}
 use Rattle.daa_fixed.specs.declared.Leg.{Leg}
 use Rattle.daa_fixed.specs.declared.Point.{Point}
-use Rattle.daa_fixed.specs.Flat.{dot_of, square_of}
 use Rattle.daa_fixed.specs.Leg.{IsLegInRange}
 use Rattle.daa_fixed.specs.Point.{IsBetween}
 use Rattle.daa_fixed.specs.Size.{IsWithin}
 use Rattle.daa_fixed.specs.Time.{IsTime, HoldsNever}
-use Rattle.daa_fixed.proofs.Bounds.{times, minus}
+use Rattle.daa_fixed.proofs.Bounds.{times}
 use Rattle.daa_fixed.proofs.Integers.{cancel_le, rest, by_rest, le_trans_ℤ}
 use Rattle.daa_fixed.proofs.LegSizes as size
 use Rattle.daa_fixed.proofs.PointSizes.{IsPointInRange}
@@ -22,12 +21,12 @@ use Rattle.daa_quad.proofs.Sizes.{IsQuadInRange}
 use Rattle.daa_quad.proofs.Parabolas.{start-least, end-least}
 use Rattle.daa_taumod.specs.declared.Volume.{Volume}
 use Rattle.daa_taumod.specs.Volume.{IsVolumeInRange, ViolatesHorizontally, ViolatesVertically, Violates, place_at}
-use Rattle.daa_taumod.proofs.ClosestApproach.{dot_nonneg, nearing_moves}
+use Rattle.daa_fixed.proofs.Lengths.{nearing_moves}
 use Rattle.daa_vwindow.specs.Window.{IsWindow}
 use Rattle.daa_detect.specs.declared.motion.Motion.{Motion}
-use Rattle.daa_detect.specs.Distance.{IsDistance}
 use Rattle.daa_detect.specs.Hit.{IsHit}
 use Rattle.daa_detect.specs.Motion.{IsMotion, IsAhead, rate_of}
+use Rattle.daa_detect.proofs.Distance.{IsDistance, HasDistance, distance}
 use Rattle.daa_detect.proofs.Margin.{near_is, rate_is, violating_passes}
 use Rattle.daa_detect.proofs.Nearest.{vv, sv, time_between, none_elsewhere}
 
@@ -40,33 +39,6 @@ vertex_after n d s a h =
 vertex_before : (n d s a : ℤ) → pos 0 ≤ℤ (d *ℤ s +ℤ n *ℤ a) → (neg_ℤ s *ℤ d) ≤ℤ (n *ℤ a)
 vertex_before n d s a h =
     by_rest (neg_ℤ s *ℤ d) (n *ℤ a) (d *ℤ s +ℤ n *ℤ a) (ring (n ∷ d ∷ s ∷ a ∷ []) (# 0 ⊗ # 3 ⊕ ⊝ (⊝ (# 2) ⊗ # 1)) (# 1 ⊗ # 2 ⊕ # 0 ⊗ # 3) tt) h
-
--- ---- the square of the distance as a quadratic
-record HasDistance (leg : Leg) (vol : Volume) : Type 0 where
-  quad : Quad
-  is : IsDistance leg vol quad
-
-distance : (leg : Leg) (vol : Volume) → IsLegInRange leg → IsVolumeInRange vol → HasDistance leg vol
-distance leg vol r v =
-    let wa = size.vv r in
-    let wb = times two (size.sv r) in
-    let wd = size.natural 360000 vol.dthr v.dthr in
-    let wc = minus (size.ss r) (times wd wd) in
-    record {
-      quad = record {
-        a = dot_of leg.velocity.flat leg.velocity.flat;
-        b = pos 2 *ℤ dot_of leg.place.flat leg.velocity.flat;
-        c = dot_of leg.place.flat leg.place.flat -ℤ square_of (pos vol.dthr);
-        convex = dot_nonneg leg.velocity.flat;
-        a_bound = omega (arith, wa.size);
-        b_bound = omega (arith, wb.size);
-        c_bound = omega (arith, wc.size);
-      };
-      is = record { a = refl; b = refl; c = refl };
-    }
-  where
-    two : IsWithin 2 (pos 2)
-    two = record { size = omega arith }
 
 module _ (leg : Leg) (vol : Volume) (m : Motion) (is : IsMotion leg vol m) where
   -- where the line misses, nothing violates
@@ -104,10 +76,10 @@ module _ (leg : Leg) (vol : Volume) (m : Motion) (is : IsMotion leg vol m) where
 
     -- so it is where no time of the window is nearer
     least_decides : (e : Point) → IsTime leg.secs e.num e.den → ViolatesVertically leg vol e.num e.den → IsLeast d.quad p q e.num e.den → Decides e
-    least_decides e time level least None clear =
-        none_elsewhere leg vol d.quad d.is p q e w p.positive q.positive e.not_negative e.positive ((w.exact e.num e.den time).0 level) least (λ x. clear x.horizontal)
-    least_decides e time level least (Some x) held =
-        subst (λ (y : Point). IsHit leg vol y.num y.den) (sym held.0) (record { time = time; violates = record { horizontal = held.1; vertical = level } })
+    least_decides e time vertical least None clear =
+        none_elsewhere leg vol d.quad d.is p q e w p.positive q.positive e.not_negative e.positive ((w.exact e.num e.den time).0 vertical) least (λ x. clear x.horizontal)
+    least_decides e time vertical least (Some x) held =
+        subst (λ (y : Point). IsHit leg vol y.num y.den) (sym held.0) (record { time = time; violates = record { horizontal = held.1; vertical = vertical } })
 
     pub first_decides : pos 0 ≤ℤ rate_of m p.num p.den → Decides p
     first_decides up =

@@ -1,5 +1,7 @@
 pub mod ComesNear
 pub mod Approach
+pub mod Choices
+pub mod Distance
 pub mod Ends
 pub mod Margin
 pub mod Nearest

@@ -2,7 +2,7 @@
 use Rattle.std.proofs.Common.{List, [], ◌∷◌, ◌≡◌, ◌↔◌, ◌⊎◌, inl, inr, ⊎_elim, zero, suc, negsuc, refl, sym, subst, ◌∙◌, arith, ℕ, ℤ, pos, ◌+ℤ◌, ◌*ℤ◌, ◌-ℤ◌, neg_ℤ, ◌≤ℤ◌, ◌<ℤ◌}
 use Rattle.std.proofs.lemmas.Int.{ints}
 use Rattle.daa_fixed.proofs.Ring.{mul_nonneg, square_nonneg, ring, Poly, #, lit, ⊝, ◌⊕◌, ◌⊖◌, ◌⊗◌}
-use Rattle.daa_fixed.proofs.Integers.{mul_pos, cancel_le, rest, by_rest, clash}
+use Rattle.daa_fixed.proofs.Integers.{mul_pos, cancel_le, rest, by_rest, clash, sum_nonneg}
 use Rattle.daa_fixed.specs.declared.Leg.{Leg}
 use Rattle.daa_fixed.specs.Flat.{dot_of, square_of}
 use Rattle.std.proofs.Math.IntN.{*ℤ-zero}
@@ -10,10 +10,10 @@ use Rattle.daa_taumod.specs.declared.Model.{Model}
 use Rattle.daa_taumod.specs.declared.Model.TheVariants.{Taumod, Tcpa}
 use Rattle.daa_taumod.specs.declared.Volume.{Volume}
 use Rattle.daa_taumod.specs.Volume.{place_at, IsNear, IsClosing, IsSoon, ViolatesHorizontally}
-use Rattle.daa_taumod.proofs.ClosestApproach.{lagrange, nearing_moves, passes_near-always}
+use Rattle.daa_fixed.proofs.Lengths.{lagrange, nearing_moves}
+use Rattle.daa_taumod.proofs.ClosestApproach.{passes_near-always}
 use Rattle.daa_detect.specs.declared.motion.Motion.{Motion}
 use Rattle.daa_detect.specs.Motion.{IsMotion, IsTauWithin, rate_of}
-use Rattle.daa_detect.proofs.ComesNear.{sum_nonneg}
 use Rattle.daa_detect.proofs.Nearest.{E, N, VE, VN, R, K, D, SE, SN, VV, SV, CC, pp, pv, vv, sv, cc, dot_at}
 
 abbrev S : Poly

@@ -2,9 +2,10 @@
 use Rattle.std.proofs.Common.{List, [], ◌∷◌, ◌≡◌, inl, inr, ⊎_elim, refl, subst, ◌∙◌, arith, ℕ, ◌*◌, ◌<◌, ◌≤◌, ℤ, pos, negsuc, ◌+ℤ◌, ◌*ℤ◌, ◌-ℤ◌, neg_ℤ, ◌≤ℤ◌, ◌<ℤ◌, unsigned_abs, ◌^◌}
 use Rattle.std.proofs.lemmas.Int.{ints, by_lt_z}
 use Rattle.daa_fixed.proofs.Ring.{mul_nonneg, square_nonneg, ring, Poly, #, lit, ⊝, ◌⊕◌, ◌⊖◌, ◌⊗◌}
-use Rattle.daa_fixed.proofs.Integers.{mul_pos, cancel_le, rest, by_rest, le_trans_ℤ}
-use Rattle.daa_taumod.proofs.ClosestApproach.{nearing_moves, passes_near-always}
-use Rattle.daa_detect.proofs.ComesNear.{sum_nonneg}
+use Rattle.daa_fixed.proofs.Integers.{mul_pos, cancel_le, rest, by_rest, le_trans_ℤ, sum_nonneg}
+use Rattle.daa_fixed.proofs.Lengths.{nearing_moves}
+use Rattle.daa_taumod.proofs.ClosestApproach.{passes_near-always}
+use Rattle.daa_detect.proofs.Distance.{IsDistance}
 use Rattle.daa_detect.proofs.Approach.{tau_still_soon, closest_still_soon}
 use Rattle.daa_fixed.specs.declared.Leg.{Leg}
 use Rattle.daa_taumod.specs.declared.Model.{Model}
@@ -14,7 +15,6 @@ use Rattle.daa_fixed.specs.declared.Point.{Point}
 use Rattle.daa_quad.specs.declared.Quad.{Quad}
 use Rattle.daa_fixed.specs.Flat.{dot_of, cross_of, square_of}
 use Rattle.daa_taumod.specs.Volume.{place_at, IsNear, IsClosing, IsSoon, ViolatesHorizontally, ViolatesVertically, Violates}
-use Rattle.daa_detect.specs.Distance.{IsDistance}
 use Rattle.daa_fixed.specs.Time.{IsTime, HoldsNever}
 use Rattle.daa_vwindow.specs.Window.{IsWindow}
 use Rattle.std.proofs.lemmas.Nat.{mul-le}

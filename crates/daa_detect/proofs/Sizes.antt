@@ -15,47 +15,35 @@ use Rattle.daa_detect.specs.Motion.{rate_of}
 
 -- ---- of a leg
 module _ {leg : Leg} (r : IsLegInRange leg) where
-  pe : IsWithin 40000000 leg.place.flat.east
-  pe = record { size = omega (arith, r.east) }
-
-  pn : IsWithin 40000000 leg.place.flat.north
-  pn = record { size = omega (arith, r.north) }
-
-  ve : IsWithin 40000 leg.velocity.flat.east
-  ve = record { size = omega (arith, r.east_speed) }
-
-  vn : IsWithin 40000 leg.velocity.flat.north
-  vn = record { size = omega (arith, r.north_speed) }
-
   pub pe-kept : to_z w64 (of_z w64 leg.place.flat.east) ≡ leg.place.flat.east
-  pe-kept = to_z-of_z (fits w64 pe (lit< tt))
+  pe-kept = to_z-of_z (fits w64 (size.pe r) (lit< tt))
 
   pub pn-kept : to_z w64 (of_z w64 leg.place.flat.north) ≡ leg.place.flat.north
-  pn-kept = to_z-of_z (fits w64 pn (lit< tt))
+  pn-kept = to_z-of_z (fits w64 (size.pn r) (lit< tt))
 
   pub ve-kept : to_z w64 (of_z w64 leg.velocity.flat.east) ≡ leg.velocity.flat.east
-  ve-kept = to_z-of_z (fits w64 ve (lit< tt))
+  ve-kept = to_z-of_z (fits w64 (size.ve r) (lit< tt))
 
   pub vn-kept : to_z w64 (of_z w64 leg.velocity.flat.north) ≡ leg.velocity.flat.north
-  vn-kept = to_z-of_z (fits w64 vn (lit< tt))
+  vn-kept = to_z-of_z (fits w64 (size.vn r) (lit< tt))
 
   pub ee-kept : to_z w64 (of_z w64 (leg.place.flat.east *ℤ leg.velocity.flat.east)) ≡ leg.place.flat.east *ℤ leg.velocity.flat.east
-  ee-kept = to_z-of_z (fits w64 (times pe ve) (lit< tt))
+  ee-kept = to_z-of_z (fits w64 (times (size.pe r) (size.ve r)) (lit< tt))
 
   pub nn-kept : to_z w64 (of_z w64 (leg.place.flat.north *ℤ leg.velocity.flat.north)) ≡ leg.place.flat.north *ℤ leg.velocity.flat.north
-  nn-kept = to_z-of_z (fits w64 (times pn vn) (lit< tt))
+  nn-kept = to_z-of_z (fits w64 (times (size.pn r) (size.vn r)) (lit< tt))
 
   pub en-kept : to_z w64 (of_z w64 (leg.place.flat.east *ℤ leg.velocity.flat.north)) ≡ leg.place.flat.east *ℤ leg.velocity.flat.north
-  en-kept = to_z-of_z (fits w64 (times pe vn) (lit< tt))
+  en-kept = to_z-of_z (fits w64 (times (size.pe r) (size.vn r)) (lit< tt))
 
   pub ne-kept : to_z w64 (of_z w64 (leg.place.flat.north *ℤ leg.velocity.flat.east)) ≡ leg.place.flat.north *ℤ leg.velocity.flat.east
-  ne-kept = to_z-of_z (fits w64 (times pn ve) (lit< tt))
+  ne-kept = to_z-of_z (fits w64 (times (size.pn r) (size.ve r)) (lit< tt))
 
   pub pee-kept : to_z w64 (of_z w64 (leg.place.flat.east *ℤ leg.place.flat.east)) ≡ leg.place.flat.east *ℤ leg.place.flat.east
-  pee-kept = to_z-of_z (fits w64 (times pe pe) (lit< tt))
+  pee-kept = to_z-of_z (fits w64 (times (size.pe r) (size.pe r)) (lit< tt))
 
   pub pnn-kept : to_z w64 (of_z w64 (leg.place.flat.north *ℤ leg.place.flat.north)) ≡ leg.place.flat.north *ℤ leg.place.flat.north
-  pnn-kept = to_z-of_z (fits w64 (times pn pn) (lit< tt))
+  pnn-kept = to_z-of_z (fits w64 (times (size.pn r) (size.pn r)) (lit< tt))
 
   pub sv-kept : to_z w64 (of_z w64 (leg.place.flat.east *ℤ leg.velocity.flat.east +ℤ leg.place.flat.north *ℤ leg.velocity.flat.north)) ≡ leg.place.flat.east *ℤ leg.velocity.flat.east +ℤ leg.place.flat.north *ℤ leg.velocity.flat.north
   sv-kept = to_z-of_z (fits w64 (size.sv r) (lit< tt))

@@ -1,4 +1,3 @@
 pub mod Hit
-pub mod Distance
 pub mod Far
 pub mod Motion

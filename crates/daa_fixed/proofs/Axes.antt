@@ -2,7 +2,7 @@
 use Rattle.std.proofs.Common.{[], ◌∷◌, ◌≡◌, refl, subst, arith, ℤ, pos, ◌+ℤ◌, ◌*ℤ◌, ◌-ℤ◌, neg_ℤ, ◌≤ℤ◌, ◌<ℤ◌}
 use Rattle.std.proofs.lemmas.Int.{ints, by_lt_z}
 use Rattle.daa_fixed.proofs.Ring.{mul_nonneg, square_nonneg, ring, #, lit, ⊝, ◌⊕◌, ◌⊖◌, ◌⊗◌}
-use Rattle.daa_fixed.proofs.Integers.{mul_pos, cancel_le, rest, by_rest, below_by_rest, le_trans_ℤ, clash, root_within, mul_le_mul}
+use Rattle.daa_fixed.proofs.Integers.{mul_pos, cancel_le, rest, by_rest, below_by_rest, le_trans_ℤ, clash, root_within, mul_le_mul, sum_nonneg}
 
 six_nonneg : (a b c d e f : ℤ) → pos 0 ≤ℤ a → pos 0 ≤ℤ b → pos 0 ≤ℤ c → pos 0 ≤ℤ d → pos 0 ≤ℤ e → pos 0 ≤ℤ f → pos 0 ≤ℤ (a +ℤ b +ℤ c +ℤ d +ℤ e +ℤ f)
 six_nonneg a b c d e f ha hb hc hd he hf = omega (arith, ints)
@@ -73,11 +73,11 @@ pub apart_within : (a b c d p q : ℤ) → pos 0 ≤ℤ p → pos 0 ≤ℤ q →
 apart_within a b c d p q p0 q0 h k =
     let A = # 0 in let B = # 1 in let C = # 2 in let D = # 3 in let P = # 4 in let Q = # 5 in
     let both : ((a *ℤ a +ℤ b *ℤ b) *ℤ (c *ℤ c +ℤ d *ℤ d)) ≤ℤ ((p *ℤ p) *ℤ (q *ℤ q)) =
-    mul_le_mul (a *ℤ a +ℤ b *ℤ b) (c *ℤ c +ℤ d *ℤ d) (p *ℤ p) (q *ℤ q) (plus _ _ (square_nonneg a) (square_nonneg b)) (square_nonneg q) h k (plus _ _ (square_nonneg c) (square_nonneg d)) in
+    mul_le_mul (a *ℤ a +ℤ b *ℤ b) (c *ℤ c +ℤ d *ℤ d) (p *ℤ p) (q *ℤ q) (sum_nonneg _ _ (square_nonneg a) (square_nonneg b)) (square_nonneg q) h k (sum_nonneg _ _ (square_nonneg c) (square_nonneg d)) in
     let inner : (neg_ℤ (a *ℤ c +ℤ b *ℤ d) *ℤ neg_ℤ (a *ℤ c +ℤ b *ℤ d)) ≤ℤ ((p *ℤ q) *ℤ (p *ℤ q)) =
     by_rest _ _ _
     (ring (a ∷ b ∷ c ∷ d ∷ p ∷ q ∷ []) ((P ⊗ Q) ⊗ (P ⊗ Q) ⊖ ⊝ (A ⊗ C ⊕ B ⊗ D) ⊗ ⊝ (A ⊗ C ⊕ B ⊗ D)) (((P ⊗ P) ⊗ (Q ⊗ Q) ⊖ (A ⊗ A ⊕ B ⊗ B) ⊗ (C ⊗ C ⊕ D ⊗ D)) ⊕ (A ⊗ D ⊖ B ⊗ C) ⊗ (A ⊗ D ⊖ B ⊗ C)) tt)
-    (plus _ _ (rest _ _ both) (square_nonneg (a *ℤ d -ℤ b *ℤ c))) in
+    (sum_nonneg _ _ (rest _ _ both) (square_nonneg (a *ℤ d -ℤ b *ℤ c))) in
     let turn : neg_ℤ (a *ℤ c +ℤ b *ℤ d) ≤ℤ (p *ℤ q) = root_within _ _ (mul_nonneg p q p0 q0) inner in
     by_rest _ _ _
     (ring (a ∷ b ∷ c ∷ d ∷ p ∷ q ∷ [])
@@ -86,8 +86,5 @@ apart_within a b c d p q p0 q0 h k =
     tt)
     (three _ _ _ (rest _ _ h) (rest _ _ k) (rest _ _ turn))
   where
-    plus : (x y : ℤ) → pos 0 ≤ℤ x → pos 0 ≤ℤ y → pos 0 ≤ℤ (x +ℤ y)
-    plus x y h k = omega (arith, ints)
-
     three : (x y z : ℤ) → pos 0 ≤ℤ x → pos 0 ≤ℤ y → pos 0 ≤ℤ z → pos 0 ≤ℤ (x +ℤ y +ℤ pos 2 *ℤ z)
     three x y z h k l = omega (arith, ints)

@@ -33,6 +33,9 @@ mul_neg_neg (negsuc a) (pos (suc b)) h k = absurd (omega (arith, ints))
 mul_neg_neg (negsuc a) (negsuc b) h k = omega (arith, ints)
 
 -- ---- a difference that is a sum of things not negative
+pub sum_nonneg : (x y : ℤ) → pos 0 ≤ℤ x → pos 0 ≤ℤ y → pos 0 ≤ℤ (x +ℤ y)
+sum_nonneg x y h k = omega (arith, ints)
+
 pub by_sum : (x y u v : ℤ) → y -ℤ x ≡ u +ℤ v → pos 0 ≤ℤ u → pos 0 ≤ℤ v → x ≤ℤ y
 by_sum x y u v e h k = omega (arith, ints)
 
@@ -49,6 +52,11 @@ pub mul_le : (x y d : ℤ) → pos 0 ≤ℤ d → x ≤ℤ y → (x *ℤ d) ≤�
 mul_le x y d hd h =
     let X = # 0 in let Y = # 1 in let D = # 2 in
     by_rest (x *ℤ d) (y *ℤ d) ((y -ℤ x) *ℤ d) (ring (x ∷ y ∷ d ∷ []) (Y ⊗ D ⊖ X ⊗ D) ((Y ⊖ X) ⊗ D) tt) (mul_nonneg (y -ℤ x) d (rest x y h) hd)
+
+pub mul_le_left : (x y z : ℤ) → pos 0 ≤ℤ x → y ≤ℤ z → (x *ℤ y) ≤ℤ (x *ℤ z)
+mul_le_left x y z h k =
+    let X = # 0 in let Y = # 1 in let Z = # 2 in
+    by_rest (x *ℤ y) (x *ℤ z) (x *ℤ (z -ℤ y)) (ring (x ∷ y ∷ z ∷ []) (X ⊗ Z ⊖ X ⊗ Y) (X ⊗ (Z ⊖ Y)) tt) (mul_nonneg x (z -ℤ y) h (rest y z k))
 
 pub mul_lt : (x y d : ℤ) → pos 0 <ℤ d → x <ℤ y → (x *ℤ d) <ℤ (y *ℤ d)
 mul_lt x y d hd h =

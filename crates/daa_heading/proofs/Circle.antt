@@ -5,6 +5,7 @@ use Rattle.std.proofs.lemmas.Int.{ints, unsigned_abs-mul}
 use Rattle.std.proofs.lemmas.Nat.{mul-le}
 use Rattle.std.proofs.Math.Nat.{eq-or-lt_of_le}
 use Rattle.daa_fixed.specs.Size.{IsFrom}
+use Rattle.daa_heading.proofs.Sines.{split}
 use Rattle.daa_heading.specs.Heading.{sines, sine_at, upper_sine, sine_of, cosine_of, velocity_of, IsNearCircle}
 
 -- the squares of sine and cosine
@@ -20,10 +21,6 @@ is_near n = cond (leb 99985000 n) (leb n 100015000) false
 abbrev all_near : ℕ → Bool
 all_near zero = true
 all_near (suc d) = cond (is_near (length_at d)) (all_near d) false
-
-split : (a b : Bool) → T (cond a b false) → T a × T b
-split true b t = (tt, t)
-split false b t = absurd t
 
 near_below : (m : ℕ) → T (all_near m) → (d : ℕ) → d < m → T (is_near (length_at d))
 near_below zero t d h = absurd (omega (arith, h))

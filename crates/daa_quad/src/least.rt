@@ -8,8 +8,9 @@ ghost use Rattle.daa_quad.specs.Slope.{slope_of};
 use crate::{Quad, Sign, sign_at};
 use daa_fixed::Point;
 
-/// A time from `from` to `upto` whose value no fraction between them undercuts: one of the two ends, or the vertex `-b/2a`
-/// where that lies between them. Such a vertex has to be a point in range; one that lies outside is never made into a point.
+/// A time from `from` to `upto` whose value no fraction between them undercuts; which one, where several are least, is left
+/// open. The vertex `-b/2a`, where it lies between the two, has to be a point in range; one that lies outside is never made
+/// into a point.
 pub fn least_point(q: &Quad, from: &Point, upto: &Point) -> Point
     requires in_order { IsInOrder from.now upto.now }
     requires vertex { HasVertexInRange q.now from.now upto.now }

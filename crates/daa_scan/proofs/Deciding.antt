@@ -6,13 +6,9 @@ use Rattle.std.specs.Int.{int_max, int_min}
 use Rattle.std.proofs.lemmas.Int.{ints, by_lt_z}
 use Rattle.daa_fixed.specs.declared.Leg.{Leg}
 use Rattle.daa_fixed.specs.declared.Point.{Point}
-use Rattle.daa_fixed.specs.Flat.{dot_of, square_of}
 use Rattle.daa_fixed.specs.Leg.{IsLegInRange}
 use Rattle.daa_fixed.specs.Point.{IsBetween}
-use Rattle.daa_fixed.specs.Size.{IsWithin}
 use Rattle.daa_fixed.specs.Time.{IsTime, HoldsSometime, HoldsNever}
-use Rattle.daa_fixed.proofs.Bounds.{times, minus}
-use Rattle.daa_fixed.proofs.LegSizes as size
 use Rattle.daa_fixed.proofs.PointSizes.{IsPointInRange}
 use Rattle.daa_quad.specs.declared.Quad.{Quad}
 use Rattle.daa_quad.specs.Quad.{IsLeast}
@@ -22,16 +18,15 @@ use Rattle.daa_quad.proofs.Parabolas.{start-least, end-least, vertex-least, vert
 use Rattle.daa_taumod.specs.declared.Model.{Model}
 use Rattle.daa_taumod.specs.declared.Model.TheVariants.{Taumod, Tcpa}
 use Rattle.daa_taumod.specs.declared.Volume.{Volume}
-use Rattle.daa_taumod.specs.Volume.{IsVolumeInRange, IsSoon, IsClosing, IsLevelling, ViolatesVertically, Violates}
-use Rattle.daa_taumod.proofs.ClosestApproach.{dot_nonneg}
+use Rattle.daa_taumod.specs.Volume.{IsVolumeInRange, IsSoon, IsClosing, IsCoAltitudeSoon, ViolatesVertically, Violates}
 use Rattle.daa_vwindow.specs.Band.{IsInBand}
 use Rattle.daa_vwindow.specs.Window.{IsWindow}
 use Rattle.daa_vwindow.proofs.Bands.{IsMax, IsMin, max_is, min_is, ends_are, window, never, level_window, level_never, abs_within, abs_beyond}
 use Rattle.daa_vwindow.proofs.Heights.{retarget, rising, falling, standing}
-use Rattle.daa_detect.specs.Distance.{IsDistance}
 use Rattle.daa_detect.specs.Hit.{IsHit}
+use Rattle.daa_detect.proofs.Distance.{HasDistance, distance}
 use Rattle.daa_detect.proofs.Nearest.{time_between, vertex_small, none_elsewhere}
-use Rattle.daa_scan.specs.Packed.{is_soon, is_near, passes_near, is_closing, is_level, is_levelling, is_violated, is_violated_at, is_violated_sometime}
+use Rattle.daa_scan.specs.Packed.{is_soon, is_near, passes_near, is_closing, is_near_in_height, is_co_altitude_soon, is_violated, is_violated_at, is_violated_sometime}
 use Rattle.daa_scan.proofs.Trying.{le_is, lt_is, both_is, either_is, some_is}
 
 -- ---- the volume at n/d
@@ -46,8 +41,8 @@ closing_is leg vol n d =
       (λ c. e.1 (c.nearing, (c.soon, c.near))),
     )
 
-levelling_is : (leg : Leg) (vol : Volume) (n d : ℤ) → IsTrue (is_levelling leg vol n d) ↔ IsLevelling leg vol n d
-levelling_is leg vol n d =
+co_altitude_soon_is : (leg : Leg) (vol : Volume) (n d : ℤ) → IsTrue (is_co_altitude_soon leg vol n d) ↔ IsCoAltitudeSoon leg vol n d
+co_altitude_soon_is leg vol n d =
     let e = both_is _ _ (lt_is _ _) (le_is _ _) in (
       (λ t. let p = e.0 t in record { nearing = p.0; soon = p.1 }),
       (λ c. e.1 (c.nearing, c.soon)),
@@ -58,7 +53,7 @@ unfolding is_violated
 violated_is leg vol n d =
     let e = both_is _ _
     (either_is (is_near leg vol n d) (is_closing leg vol n d) (le_is _ _) (closing_is leg vol n d))
-    (either_is (is_level leg vol n d) (is_levelling leg vol n d) (le_is _ _) (levelling_is leg vol n d)) in (
+    (either_is (is_near_in_height leg vol n d) (is_co_altitude_soon leg vol n d) (le_is _ _) (co_altitude_soon_is leg vol n d)) in (
       (λ t. let p = e.0 t in record { horizontal = p.0; vertical = p.1 }),
       (λ v. e.1 (v.horizontal, v.vertical)),
     )
@@ -152,32 +147,6 @@ least_between secs q p r short last in_order =
 
     same : (x : ℤ) → x ≤ℤ x
     same x = omega (arith, ints)
-
-record HasDistance (leg : Leg) (vol : Volume) : Type 0 where
-  quad : Quad
-  is : IsDistance leg vol quad
-
-distance : (leg : Leg) (vol : Volume) → IsLegInRange leg → IsVolumeInRange vol → HasDistance leg vol
-distance leg vol r v =
-    let wa = size.vv r in
-    let wb = times two (size.sv r) in
-    let wd = size.natural 360000 vol.dthr v.dthr in
-    let wc = minus (size.ss r) (times wd wd) in
-    record {
-      quad = record {
-        a = dot_of leg.velocity.flat leg.velocity.flat;
-        b = pos 2 *ℤ dot_of leg.place.flat leg.velocity.flat;
-        c = dot_of leg.place.flat leg.place.flat -ℤ square_of (pos vol.dthr);
-        convex = dot_nonneg leg.velocity.flat;
-        a_bound = omega (arith, wa.size);
-        b_bound = omega (arith, wb.size);
-        c_bound = omega (arith, wc.size);
-      };
-      is = record { a = refl; b = refl; c = refl };
-    }
-  where
-    two : IsWithin 2 (pos 2)
-    two = record { size = omega arith }
 
 -- ---- the leg
 record IsDecided (leg : Leg) (vol : Volume) : Type 0 where

@@ -1,8 +1,10 @@
 -- What violates a volume is near: at most the threshold and the way of the time threshold off.
-use Rattle.std.proofs.Common.{[], ◌∷◌, ◌≡◌, inl, inr, ⊎_elim, refl, sym, subst, ◌∙◌, arith, ℤ, pos, neg_ℤ, ◌+ℤ◌, ◌*ℤ◌, ◌-ℤ◌, ◌≤ℤ◌, ◌<ℤ◌, unsigned_abs}
+use Rattle.std.proofs.Common.{[], ◌∷◌, ◌≡◌, inl, inr, ⊎_elim, subst, ◌∙◌, arith, ℤ, pos, neg_ℤ, ◌+ℤ◌, ◌*ℤ◌, ◌-ℤ◌, ◌≤ℤ◌, ◌<ℤ◌, unsigned_abs}
 use Rattle.std.proofs.lemmas.Int.{ints}
 use Rattle.daa_fixed.proofs.Ring.{mul_nonneg, square_nonneg, ring, #, ⊝, ◌⊕◌, ◌⊖◌, ◌⊗◌}
-use Rattle.daa_fixed.proofs.Integers.{mul_pos, cancel_le, cancel_lt, rest, by_rest, le_trans_ℤ, root_within, mul_le_mul}
+use Rattle.daa_fixed.proofs.Integers.{rest, by_rest, le_trans_ℤ, root_within, mul_le_mul, mul_le_left, sum_nonneg}
+use Rattle.daa_fixed.proofs.Lengths.{lagrange, dot_nonneg, nearing_moves}
+use Rattle.daa_taumod.proofs.ClosestApproach.{tau_from_closest}
 use Rattle.daa_fixed.proofs.Axes.{not_far}
 use Rattle.daa_fixed.specs.Size.{IsFrom}
 use Rattle.daa_fixed.specs.declared.Flat.{Flat}
@@ -12,32 +14,6 @@ use Rattle.daa_taumod.specs.declared.Model.{Model}
 use Rattle.daa_taumod.specs.declared.Model.TheVariants.{Taumod, Tcpa}
 use Rattle.daa_taumod.specs.declared.Volume.{Volume}
 use Rattle.daa_taumod.specs.Volume.{place_at, height_at, IsSoon, IsClosing, ViolatesHorizontally, ViolatesVertically}
-
-plus : (x y : ℤ) → pos 0 ≤ℤ x → pos 0 ≤ℤ y → pos 0 ≤ℤ (x +ℤ y)
-plus x y h k = omega (arith, ints)
-
--- the square of the length, times that of the other, is at least the square of the dot product
-lagrange : (s v : Flat) → dot_of s s *ℤ dot_of v v ≡ dot_of s v *ℤ dot_of s v +ℤ cross_of s v *ℤ cross_of s v
-lagrange s v =
-    let A = # 0 in let B = # 1 in let C = # 2 in let D = # 3 in
-    ring (s.east ∷ s.north ∷ v.east ∷ v.north ∷ [])
-    ((A ⊗ A ⊕ B ⊗ B) ⊗ (C ⊗ C ⊕ D ⊗ D))
-    ((A ⊗ C ⊕ B ⊗ D) ⊗ (A ⊗ C ⊕ B ⊗ D) ⊕ (A ⊗ D ⊖ B ⊗ C) ⊗ (A ⊗ D ⊖ B ⊗ C))
-    tt
-
-size_nonneg : (s : Flat) → pos 0 ≤ℤ dot_of s s
-size_nonneg s = plus _ _ (square_nonneg s.east) (square_nonneg s.north)
-
--- the closest approach in time has a modified tau in time
-by_tau : (x y a c r t : ℤ) → pos 0 <ℤ a → y <ℤ pos 0 → x *ℤ a ≡ y *ℤ y +ℤ c *ℤ c → (c *ℤ c) ≤ℤ (r *ℤ r *ℤ a) → neg_ℤ y ≤ℤ (t *ℤ a) → (x +ℤ t *ℤ y) ≤ℤ (r *ℤ r)
-by_tau x y a c r t a1 y1 e near soon =
-    let X = # 0 in let Y = # 1 in let A = # 2 in let C = # 3 in let R = # 4 in let T = # 5 in
-    by_rest _ _ _ refl (cancel_le a _ a1
-    (subst (λ (z : ℤ). pos 0 ≤ℤ z)
-    (ring (x ∷ y ∷ a ∷ c ∷ r ∷ t ∷ []) ((R ⊗ R ⊗ A ⊖ C ⊗ C) ⊕ ⊝ Y ⊗ (T ⊗ A ⊖ ⊝ Y)) (R ⊗ R ⊗ A ⊖ T ⊗ Y ⊗ A ⊖ (Y ⊗ Y ⊕ C ⊗ C)) tt
-    ∙ (λ i. r *ℤ r *ℤ a -ℤ t *ℤ y *ℤ a -ℤ sym e i)
-    ∙ ring (x ∷ y ∷ a ∷ c ∷ r ∷ t ∷ []) (R ⊗ R ⊗ A ⊖ T ⊗ Y ⊗ A ⊖ X ⊗ A) (A ⊗ (R ⊗ R ⊖ (X ⊕ T ⊗ Y))) tt)
-    (plus _ _ (rest _ _ near) (mul_nonneg (neg_ℤ y) _ (omega (arith, ints)) (rest _ _ soon)))))
 
 module _ (leg : Leg) (vol : Volume) (n d speed : ℤ) (d1 : pos 1 ≤ℤ d) (s0 : pos 0 ≤ℤ speed) (slow : dot_of leg.velocity.flat leg.velocity.flat ≤ℤ (speed *ℤ speed)) where
   abbrev place : Flat
@@ -64,19 +40,9 @@ module _ (leg : Leg) (vol : Volume) (n d speed : ℤ) (d1 : pos 1 ≤ℤ d) (s0 
   b0 : pos 0 ≤ℤ b
   b0 = mul_nonneg (pos vol.tthr *ℤ d) speed td0 s0
 
-  moving : dot_of place v <ℤ pos 0 → pos 0 <ℤ dot_of v v
-  moving h = cancel_lt (dot_of place place) (dot_of v v) (size_nonneg place)
-      (subst (λ (z : ℤ). pos 0 <ℤ z) (sym (lagrange place v)) (more _ _ (mul_pos_neg (dot_of place v) h) (square_nonneg (cross_of place v))))
-    where
-      more : (x y : ℤ) → pos 0 <ℤ x → pos 0 ≤ℤ y → pos 0 <ℤ (x +ℤ y)
-      more x y h k = omega (arith, ints)
-
-      mul_pos_neg : (x : ℤ) → x <ℤ pos 0 → pos 0 <ℤ (x *ℤ x)
-      mul_pos_neg x h = subst (λ (z : ℤ). pos 0 <ℤ z) (let X = # 0 in ring (x ∷ []) (⊝ X ⊗ ⊝ X) (X ⊗ X) tt) (mul_pos (neg_ℤ x) (neg_ℤ x) (omega (arith, ints)) (omega (arith, ints)))
-
   tau_soon : (w : Model) → IsSoon w leg vol n d → dot_of place v <ℤ pos 0 → (cross_of place v *ℤ cross_of place v) ≤ℤ (a *ℤ a *ℤ dot_of v v) → (dot_of place place +ℤ pos vol.tthr *ℤ d *ℤ dot_of place v) ≤ℤ (a *ℤ a)
   tau_soon Taumod s h near = s
-  tau_soon Tcpa s h near = by_tau (dot_of place place) (dot_of place v) (dot_of v v) (cross_of place v) a (pos vol.tthr *ℤ d) (moving h) h (lagrange place v) near s
+  tau_soon Tcpa s h near = tau_from_closest (dot_of v v) (cross_of place v) (dot_of place place) (dot_of place v) a (pos vol.tthr *ℤ d) (nearing_moves place v h) h (lagrange place v) near s
 
   closing_near : IsClosing leg vol n d → dot_of place place ≤ℤ ((a +ℤ b) *ℤ (a +ℤ b))
   closing_near c =
@@ -89,7 +55,7 @@ module _ (leg : Leg) (vol : Volume) (n d speed : ℤ) (d1 : pos 1 ≤ℤ d) (s0 
       (by_rest _ _ _ (spread t (dot_of place v) speed (dot_of place place))
       (mul_nonneg (t *ℤ t) _ (square_nonneg t) (rest _ _ (le_trans_ℤ (dot_of place v *ℤ dot_of place v) (dot_of place place *ℤ dot_of v v) (dot_of place place *ℤ (speed *ℤ speed))
       (by_rest _ _ _ (cauchy place v) (square_nonneg (cross_of place v)))
-      (longer (dot_of place place) (dot_of v v) (speed *ℤ speed) (size_nonneg place) slow)))))
+      (mul_le_left (dot_of place place) (dot_of v v) (speed *ℤ speed) (dot_nonneg place) slow)))))
     where
       turn : (x t y r : ℤ) → t *ℤ neg_ℤ y -ℤ (x -ℤ r) ≡ r -ℤ (x +ℤ t *ℤ y)
       turn x t y r = let X = # 0 in let T = # 1 in let Y = # 2 in let R = # 3 in ring (x ∷ t ∷ y ∷ r ∷ []) (T ⊗ ⊝ Y ⊖ (X ⊖ R)) (R ⊖ (X ⊕ T ⊗ Y)) tt
@@ -104,10 +70,6 @@ module _ (leg : Leg) (vol : Volume) (n d speed : ℤ) (d1 : pos 1 ≤ℤ d) (s0 
           left : (x y : ℤ) → (x +ℤ y) -ℤ x ≡ y
           left x y = omega (arith, ints)
 
-      longer : (x y z : ℤ) → pos 0 ≤ℤ x → y ≤ℤ z → (x *ℤ y) ≤ℤ (x *ℤ z)
-      longer x y z h k = let X = # 0 in let Y = # 1 in let Z = # 2 in
-          by_rest _ _ _ (ring (x ∷ y ∷ z ∷ []) (X ⊗ Z ⊖ X ⊗ Y) (X ⊗ (Z ⊖ Y)) tt) (mul_nonneg x (z -ℤ y) h (rest _ _ k))
-
   -- the square of the place
   pub flat_near : ViolatesHorizontally leg vol n d → dot_of place place ≤ℤ ((a +ℤ b) *ℤ (a +ℤ b))
   flat_near (inl h) = le_trans_ℤ (dot_of place place) (a *ℤ a) ((a +ℤ b) *ℤ (a +ℤ b)) h (wider a b a0 b0)
@@ -118,7 +80,7 @@ module _ (leg : Leg) (vol : Volume) (n d speed : ℤ) (d1 : pos 1 ≤ℤ d) (s0 
 
   reached : (x y : ℤ) → (x *ℤ x +ℤ y *ℤ y) ≤ℤ ((a +ℤ b) *ℤ (a +ℤ b)) → IsFrom (neg_ℤ (a +ℤ b)) (a +ℤ b) x
   reached x y h =
-      let r0 : pos 0 ≤ℤ (a +ℤ b) = plus a b a0 b0 in
+      let r0 : pos 0 ≤ℤ (a +ℤ b) = sum_nonneg a b a0 b0 in
       let own : (x *ℤ x) ≤ℤ ((a +ℤ b) *ℤ (a +ℤ b)) = part (x *ℤ x) (y *ℤ y) _ (square_nonneg y) h in
       let other : (neg_ℤ x *ℤ neg_ℤ x) ≤ℤ ((a +ℤ b) *ℤ (a +ℤ b)) = subst (λ (z : ℤ). z ≤ℤ ((a +ℤ b) *ℤ (a +ℤ b))) (let X = # 0 in ring (x ∷ []) (X ⊗ X) (⊝ X ⊗ ⊝ X) tt) own in
       let up = root_within x (a +ℤ b) r0 own in
@@ -141,7 +103,7 @@ module _ (leg : Leg) (vol : Volume) (n d speed : ℤ) (d1 : pos 1 ≤ℤ d) (s0 
 pub up_near : (leg : Leg) (vol : Volume) (n d speed : ℤ) → pos 1 ≤ℤ d → pos 0 ≤ℤ speed → pos (unsigned_abs leg.velocity.up) ≤ℤ speed → ViolatesVertically leg vol n d → IsFrom (neg_ℤ (pos vol.zthr *ℤ d +ℤ pos vol.tcoa *ℤ d *ℤ speed)) (pos vol.zthr *ℤ d +ℤ pos vol.tcoa *ℤ d *ℤ speed) (height_at leg n d)
 up_near leg vol n d speed d1 s0 slow h = both (height_at leg n d) _ (⊎_elim
     (λ l. grow_left _ _ _ (mul_nonneg (pos vol.tcoa *ℤ d) speed cd0 s0) l)
-    (λ l. grow_right _ _ _ (mul_nonneg (pos vol.zthr) d (omega (arith, ints)) (omega (arith, ints))) (le_trans_ℤ _ _ _ l.soon (longer (pos vol.tcoa *ℤ d) _ _ cd0 slow)))
+    (λ l. grow_right _ _ _ (mul_nonneg (pos vol.zthr) d (omega (arith, ints)) (omega (arith, ints))) (le_trans_ℤ _ _ _ l.soon (mul_le_left (pos vol.tcoa *ℤ d) _ _ cd0 slow)))
     h)
   where
     cd0 : pos 0 ≤ℤ (pos vol.tcoa *ℤ d)
@@ -155,7 +117,3 @@ up_near leg vol n d speed d1 s0 slow h = both (height_at leg n d) _ (⊎_elim
 
     grow_right : (x y z : ℤ) → pos 0 ≤ℤ y → x ≤ℤ z → x ≤ℤ (y +ℤ z)
     grow_right x y z h k = omega (arith, ints)
-
-    longer : (x y z : ℤ) → pos 0 ≤ℤ x → y ≤ℤ z → (x *ℤ y) ≤ℤ (x *ℤ z)
-    longer x y z h k = let X = # 0 in let Y = # 1 in let Z = # 2 in
-        by_rest _ _ _ (ring (x ∷ y ∷ z ∷ []) (X ⊗ Z ⊖ X ⊗ Y) (X ⊗ (Z ⊖ Y)) tt) (mul_nonneg x (z -ℤ y) h (rest _ _ k))

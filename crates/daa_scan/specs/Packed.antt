@@ -41,15 +41,15 @@ passes_near leg vol n d = int_le (square_of (cross_of (place_at leg n d) leg.vel
 abbrev pub is_closing : Leg → Volume → ℤ → ℤ → Bool
 is_closing leg vol n d = int_lt (dot_of (place_at leg n d) leg.velocity.flat) (pos 0) && (is_soon vol.model leg vol n d && passes_near leg vol n d)
 
-abbrev pub is_level : Leg → Volume → ℤ → ℤ → Bool
-is_level leg vol n d = int_le (pos (unsigned_abs (height_at leg n d))) (pos vol.zthr *ℤ d)
+abbrev pub is_near_in_height : Leg → Volume → ℤ → ℤ → Bool
+is_near_in_height leg vol n d = int_le (pos (unsigned_abs (height_at leg n d))) (pos vol.zthr *ℤ d)
 
-abbrev pub is_levelling : Leg → Volume → ℤ → ℤ → Bool
-is_levelling leg vol n d =
+abbrev pub is_co_altitude_soon : Leg → Volume → ℤ → ℤ → Bool
+is_co_altitude_soon leg vol n d =
     int_lt (height_at leg n d *ℤ leg.velocity.up) (pos 0) && int_le (pos (unsigned_abs (height_at leg n d))) (pos vol.tcoa *ℤ d *ℤ pos (unsigned_abs leg.velocity.up))
 
 unfoldable pub is_violated : Leg → Volume → ℤ → ℤ → Bool
-is_violated leg vol n d = (is_near leg vol n d || is_closing leg vol n d) && (is_level leg vol n d || is_levelling leg vol n d)
+is_violated leg vol n d = (is_near leg vol n d || is_closing leg vol n d) && (is_near_in_height leg vol n d || is_co_altitude_soon leg vol n d)
 
 -- ---- by trying
 

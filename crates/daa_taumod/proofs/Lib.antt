@@ -1,2 +1,1 @@
 pub mod ClosestApproach
-pub mod Examples

@@ -54,11 +54,11 @@ pub record IsClosing (leg : Leg) (vol : Volume) (n d : ℤ) : Type 0 where
   pub near : PassesNear leg vol n d
 
 -- the difference in height is at most zthr
-abbrev pub IsLevel : Leg → Volume → ℤ → ℤ → Type 0
-IsLevel leg vol n d = pos (unsigned_abs (height_at leg n d)) ≤ℤ (pos vol.zthr *ℤ d)
+abbrev pub IsNearInHeight : Leg → Volume → ℤ → ℤ → Type 0
+IsNearInHeight leg vol n d = pos (unsigned_abs (height_at leg n d)) ≤ℤ (pos vol.zthr *ℤ d)
 
 -- the difference in height falls, and the time to co-altitude is at most tcoa
-pub record IsLevelling (leg : Leg) (vol : Volume) (n d : ℤ) : Type 0 where
+pub record IsCoAltitudeSoon (leg : Leg) (vol : Volume) (n d : ℤ) : Type 0 where
   pub nearing : (height_at leg n d *ℤ leg.velocity.up) <ℤ pos 0
   pub soon : pos (unsigned_abs (height_at leg n d)) ≤ℤ (pos vol.tcoa *ℤ d *ℤ pos (unsigned_abs leg.velocity.up))
 
@@ -68,7 +68,7 @@ ViolatesHorizontally leg vol n d = IsNear leg vol n d ⊎ IsClosing leg vol n d
 
 -- vertically: the difference in height is at most zthr, or co-altitude is near in time
 abbrev pub ViolatesVertically : Leg → Volume → ℤ → ℤ → Type 0
-ViolatesVertically leg vol n d = IsLevel leg vol n d ⊎ IsLevelling leg vol n d
+ViolatesVertically leg vol n d = IsNearInHeight leg vol n d ⊎ IsCoAltitudeSoon leg vol n d
 
 -- the volume is violated at n/d: both parts hold at that one time
 pub record Violates (leg : Leg) (vol : Volume) (n d : ℤ) : Type 0 where

@@ -5,7 +5,8 @@
 /// Which time to a horizontal conflict a volume looks at.
 #[derive(Clone, Copy, Debug, PartialEq, Eq)]
 pub enum Model {
-    /// Modified tau: the time in which the square of the distance would reach that of `dthr`.
+    /// Modified tau: what the square of the distance has above that of `dthr`, over the distance times how fast
+    /// it falls.
     Taumod,
     /// The time to the closest approach.
     Tcpa,
@@ -27,6 +28,7 @@ pub struct Volume {
     pub model: Model,
 }
 
+mod examples;
 mod horizontal;
 mod place;
 #[cfg(test)]
@@ -35,4 +37,5 @@ mod threshold;
 mod vertical;
 mod violation;
 
+pub use examples::worked_examples;
 pub use violation::{tcpa_implies_taumod, violates};

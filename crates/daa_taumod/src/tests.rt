@@ -86,6 +86,7 @@ fn times_of_the_two_models(rt: HostRuntime) -> Result<(), Fail> {
     assert!(rt; !violates(&APPROACHING, &by_closest, &Point { num: 199, den: 100 }));
     assert!(rt; violates(&APPROACHING, &by_closest, &Point { num: 2, den: 1 }));
     tcpa_implies_taumod();
+    worked_examples();
     Ok(())
 }
 

@@ -2,7 +2,7 @@
 
 ghost use Rattle.std.specs.Prelude.{◌↔◌, ◌≤ℤ◌, ◌<ℤ◌, ◌*ℤ◌, IsTrue, pos, unsigned_abs};
 ghost use Rattle.daa_fixed.specs.Leg.{IsLegInRange};
-ghost use Rattle.daa_taumod.specs.Volume.{IsVolumeInRange, ViolatesVertically, IsLevel, IsLevelling, height_at};
+ghost use Rattle.daa_taumod.specs.Volume.{IsVolumeInRange, ViolatesVertically, IsNearInHeight, IsCoAltitudeSoon, height_at};
 
 use crate::Volume;
 use crate::place::height_then;
@@ -14,29 +14,29 @@ pub(crate) fn violates_vertically(leg: &Leg, volume: &Volume, point: &Point) -> 
     requires volume { IsVolumeInRange volume.now }
     ensures { IsTrue result ↔ ViolatesVertically leg.now volume.now point.now.num point.now.den }
 {
-    is_level(leg, volume, point) || is_levelling(leg, volume, point)
+    is_near_in_height(leg, volume, point) || is_co_altitude_soon(leg, volume, point)
 }
 
 /// Whether the difference in height is at most `zthr`.
-fn is_level(leg: &Leg, volume: &Volume, point: &Point) -> bool
+fn is_near_in_height(leg: &Leg, volume: &Volume, point: &Point) -> bool
     requires leg { IsLegInRange leg.now }
     requires volume { IsVolumeInRange volume.now }
-    ensures { IsTrue result ↔ IsLevel leg.now volume.now point.now.num point.now.den }
+    ensures { IsTrue result ↔ IsNearInHeight leg.now volume.now point.now.num point.now.den }
 {
     height_then(leg, point).abs() as i128 <= scaled(volume.zthr, point)
 }
 
-/// Whether the time to co-altitude is from 0 to `tcoa`.
-fn is_levelling(leg: &Leg, volume: &Volume, point: &Point) -> bool
+/// Whether the difference in height falls, and the time to co-altitude is at most `tcoa`.
+fn is_co_altitude_soon(leg: &Leg, volume: &Volume, point: &Point) -> bool
     requires leg { IsLegInRange leg.now }
     requires volume { IsVolumeInRange volume.now }
-    ensures { IsTrue result ↔ IsLevelling leg.now volume.now point.now.num point.now.den }
+    ensures { IsTrue result ↔ IsCoAltitudeSoon leg.now volume.now point.now.num point.now.den }
 {
-    is_height_falling(leg, point) && is_level_soon(leg, volume, point)
+    is_nearing_in_height(leg, point) && is_within_tcoa(leg, volume, point)
 }
 
 /// Whether the difference in height falls.
-fn is_height_falling(leg: &Leg, point: &Point) -> bool
+fn is_nearing_in_height(leg: &Leg, point: &Point) -> bool
     requires { IsLegInRange leg.now }
     ensures { IsTrue result ↔ ((height_at leg.now point.now.num point.now.den *ℤ leg.now.velocity.up) <ℤ pos 0) }
 {
@@ -44,7 +44,7 @@ fn is_height_falling(leg: &Leg, point: &Point) -> bool
 }
 
 /// Whether the height lost in `tcoa` seconds is at least the difference.
-fn is_level_soon(leg: &Leg, volume: &Volume, point: &Point) -> bool
+fn is_within_tcoa(leg: &Leg, volume: &Volume, point: &Point) -> bool
     requires leg { IsLegInRange leg.now }
     requires volume { IsVolumeInRange volume.now }
     ensures { let height = unsigned_abs (height_at leg.now point.now.num point.now.den) in

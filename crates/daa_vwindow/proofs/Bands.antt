@@ -47,21 +47,18 @@ min_is {m} x y e = record {
     swapped (inr b) = inl b
 
 -- ---- a bound on the height is one on the time
-lower : (h a low n d : ℤ) → (neg_ℤ low *ℤ d) ≤ℤ (d *ℤ h +ℤ n *ℤ a) → ((neg_ℤ low -ℤ h) *ℤ d) ≤ℤ (n *ℤ a)
-lower h a low n d k = rw (split h low d) (move (neg_ℤ low *ℤ d) (d *ℤ h) (n *ℤ a) k)
-  where
-    split : (h low d : ℤ) → (neg_ℤ low -ℤ h) *ℤ d ≡ neg_ℤ low *ℤ d -ℤ d *ℤ h
-    split h low d = let H = # 0 in let L = # 1 in let D = # 2 in ring (h ∷ low ∷ d ∷ []) ((⊝ L ⊖ H) ⊗ D) (⊝ L ⊗ D ⊖ D ⊗ H) tt
+split_low : (h low d : ℤ) → (neg_ℤ low -ℤ h) *ℤ d ≡ neg_ℤ low *ℤ d -ℤ d *ℤ h
+split_low h low d = let H = # 0 in let L = # 1 in let D = # 2 in ring (h ∷ low ∷ d ∷ []) ((⊝ L ⊖ H) ⊗ D) (⊝ L ⊗ D ⊖ D ⊗ H) tt
 
+lower : (h a low n d : ℤ) → (neg_ℤ low *ℤ d) ≤ℤ (d *ℤ h +ℤ n *ℤ a) → ((neg_ℤ low -ℤ h) *ℤ d) ≤ℤ (n *ℤ a)
+lower h a low n d k = rw (split_low h low d) (move (neg_ℤ low *ℤ d) (d *ℤ h) (n *ℤ a) k)
+  where
     move : (x y z : ℤ) → x ≤ℤ (y +ℤ z) → (x -ℤ y) ≤ℤ z
     move x y z h = omega (arith, ints)
 
 raise : (h a low n d : ℤ) → ((neg_ℤ low -ℤ h) *ℤ d) ≤ℤ (n *ℤ a) → (neg_ℤ low *ℤ d) ≤ℤ (d *ℤ h +ℤ n *ℤ a)
-raise h a low n d k = move (neg_ℤ low *ℤ d) (d *ℤ h) (n *ℤ a) (rw (← split h low d) k)
+raise h a low n d k = move (neg_ℤ low *ℤ d) (d *ℤ h) (n *ℤ a) (rw (← split_low h low d) k)
   where
-    split : (h low d : ℤ) → (neg_ℤ low -ℤ h) *ℤ d ≡ neg_ℤ low *ℤ d -ℤ d *ℤ h
-    split h low d = let H = # 0 in let L = # 1 in let D = # 2 in ring (h ∷ low ∷ d ∷ []) ((⊝ L ⊖ H) ⊗ D) (⊝ L ⊗ D ⊖ D ⊗ H) tt
-
     move : (x y z : ℤ) → (x -ℤ y) ≤ℤ z → x ≤ℤ (y +ℤ z)
     move x y z h = omega (arith, ints)
 
@@ -80,6 +77,9 @@ sink h a high n d k = move (high *ℤ d) (d *ℤ h) (n *ℤ a) (rw (← split_hi
     move : (x y z : ℤ) → z ≤ℤ (x -ℤ y) → (y +ℤ z) ≤ℤ x
     move x y z h = omega (arith, ints)
 
+pub turn : (t a d : ℤ) → t *ℤ a *ℤ d ≡ t *ℤ d *ℤ a
+turn t a d = let T = # 0 in let A = # 1 in let D = # 2 in ring (t ∷ a ∷ d ∷ []) (T ⊗ A ⊗ D) (T ⊗ D ⊗ A) tt
+
 -- ---- what rises from h at a: first and last time, times a
 module _ (secs : ℕ) (h a low high f l : ℤ) (a1 : pos 1 ≤ℤ a) (fm : IsMax f (neg_ℤ low -ℤ h) (pos 0)) (lm : IsMin l (high -ℤ h) (pos secs *ℤ a)) where
   a0 : pos 0 ≤ℤ a
@@ -96,9 +96,6 @@ module _ (secs : ℕ) (h a low high f l : ℤ) (a1 : pos 1 ≤ℤ a) (fm : IsMax
       (λ e. subst (λ (x : ℤ). (n *ℤ a) ≤ℤ (x *ℤ d)) (sym e) (upper h a high n d b.below))
       (λ e. subst (λ (x : ℤ). (n *ℤ a) ≤ℤ (x *ℤ d)) (sym e) (rw (turn (pos secs) a d) (mul_le n (pos secs *ℤ d) a a0 t.upto)))
       lm.one
-    where
-      turn : (s a d : ℤ) → s *ℤ a *ℤ d ≡ s *ℤ d *ℤ a
-      turn s a d = let S = # 0 in let A = # 1 in let D = # 2 in ring (s ∷ a ∷ d ∷ []) (S ⊗ A ⊗ D) (S ⊗ D ⊗ A) tt
 
   in_band : (n d : ℤ) → pos 0 ≤ℤ d → (f *ℤ d) ≤ℤ (n *ℤ a) → (n *ℤ a) ≤ℤ (l *ℤ d) → IsInBand h a low high n d
   in_band n d d0 from upto = record {

@@ -4,7 +4,7 @@ use Rattle.std.specs.Prelude.{MatchOption}
 use Rattle.std.proofs.lemmas.Int.{ints}
 use Rattle.daa_fixed.proofs.Ring.{mul_nonneg, ring, #, ⊝, ◌⊕◌, ◌⊗◌}
 use Rattle.daa_fixed.proofs.Integers.{mul_le, clash}
-use Rattle.daa_vwindow.proofs.Bands.{IsMax}
+use Rattle.daa_vwindow.proofs.Bands.{IsMax, turn}
 use Rattle.daa_fixed.specs.Size.{IsWithin, IsFrom}
 use Rattle.daa_fixed.proofs.Bounds.{times, within}
 use Rattle.std.proofs.Common.{to_z, of_z, w64}
@@ -64,9 +64,6 @@ scaled_max m x y d h k = record {
   right = mul_le y m d h k.right;
   one = ⊎_elim (λ e. inl (ap (λ (z : ℤ). z *ℤ d) e)) (λ e. inr (ap (λ (z : ℤ). z *ℤ d) e)) k.one;
 }
-
-turn : (t a d : ℤ) → t *ℤ a *ℤ d ≡ t *ℤ d *ℤ a
-turn t a d = let T = # 0 in let A = # 1 in let D = # 2 in ring (t ∷ a ∷ d ∷ []) (T ⊗ A ⊗ D) (T ⊗ D ⊗ A) tt
 
 neg-times : (m d : ℤ) → neg_ℤ m *ℤ d ≡ neg_ℤ (m *ℤ d)
 neg-times m d = let M = # 0 in let D = # 1 in ring (m ∷ d ∷ []) (⊝ M ⊗ D) (⊝ (M ⊗ D)) tt
@@ -145,9 +142,6 @@ up_kept x h = omega (arith, ints)
 
 pub down_kept : (x : ℤ) → unsigned_abs x < 40000000 → to_z w64 (of_z w64 (pos 0 -ℤ to_z w64 (of_z w64 x))) ≡ neg_ℤ x
 down_kept x h = omega (arith, ints)
-
-pub nat_kept : (n : ℕ) → n ≤ 600000 → to_z w64 n ≡ pos n
-nat_kept n h = omega (arith, ints)
 
 -- the height gained in the time to co-altitude
 pub gain : (secs : ℕ) (a : ℤ) → secs ≤ 120 → pos 1 ≤ℤ a → a ≤ℤ pos 40000 → IsWithin (120 * 40000) (pos secs *ℤ a)

@@ -10,7 +10,7 @@ ghost use Rattle.daa_vwindow.specs.Window.{HasSmallNumbers, IsWindow};
 use daa_fixed::Point;
 
 /// The times at which what stays at `height` is at most `high` off.
-pub(crate) fn level(height: i64, high: i64, secs: u32) -> Option<(Point, Point)>
+pub(crate) fn level_flight(height: i64, high: i64, secs: u32) -> Option<(Point, Point)>
     requires secs { secs ≤ 180 }
     requires height { IsWithin 40000000 height }
     ensures times { MatchOption result

@@ -9,12 +9,13 @@ ghost use Rattle.daa_taumod.specs.Volume.{IsVolumeInRange, ViolatesVertically};
 ghost use Rattle.daa_vwindow.specs.Band.{IsInBand};
 ghost use Rattle.daa_vwindow.specs.Window.{HasSmallNumbers, IsWindow};
 
-use crate::band::{level, passage};
+use crate::band::{level_flight, passage};
 use daa_fixed::{Leg, Point};
 use daa_taumod::Volume;
 
 /// The first and the last time of the leg at which the vertical part of the volume holds: it holds at a fraction of the leg
 /// exactly where that is not before the first and not after the last. `None` exactly where it holds at no fraction.
+/// The numbers of both times are small: num at most 7200000, den at most 40000.
 pub fn window(leg: &Leg, volume: &Volume) -> Option<(Point, Point)>
     requires leg { IsLegInRange leg.now }
     requires volume { IsVolumeInRange volume.now }
@@ -26,7 +27,7 @@ pub fn window(leg: &Leg, volume: &Volume) -> Option<(Point, Point)>
     let height = leg.place.up;
     let speed = leg.velocity.up;
     if speed == 0 {
-        level(height, volume.zthr as i64, leg.secs)
+        level_flight(height, volume.zthr as i64, leg.secs)
     } else if speed > 0 {
         rise(height, speed, volume, leg.secs)
     } else {

@@ -1,13 +1,9 @@
-use Rattle.std.proofs.Common.{◌≡◌, ◌↔◌, ◌⊎◌, inl, inr, ⊎_elim, Bool, false, pos, ◌≤ℤ◌, ◌<ℤ◌, arith}
+use Rattle.std.proofs.Common.{inl, pos, ◌≤ℤ◌, ◌<ℤ◌, arith}
 use Rattle.std.proofs.lemmas.Int.{ints}
-use Rattle.std.specs.Prelude.{IsTrue}
 use Rattle.daa_detect.specs.Motion.{rate_of}
+use Rattle.daa_detect.proofs.Choices.{second}
 use Rattle.daa_detect.proofs.Margin.{opening_is, taumod_is, tcpa_is}
 use Rattle.daa_detect.proofs.horizontal.holds_at.Goals as goal
-
--- where the first fact does not hold, the second decides
-second : {A B : Type 0} (a b : Bool) → (IsTrue a ↔ A) → (IsTrue b ↔ B) → a ≡ false → IsTrue b ↔ (A ⊎ B)
-second a b h k e = ((λ t. inr (k.0 t)), ⊎_elim (λ x. absurd (cc (h.1 x, e))) k.1)
 
 pub returns-then-rate_at-ge0 : goal.returns-then-rate_at-ge0
 returns-then-rate_at-ge0 c =

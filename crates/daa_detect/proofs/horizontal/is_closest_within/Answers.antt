@@ -1,17 +1,10 @@
-use Rattle.std.proofs.Common.{◌≡◌, ◌∙◌, ◌*◌, ap, ℕ, ℤ, pos, neg_ℤ, ◌-ℤ◌, arith, lit<, rules, w64, to_z-of_z}
-use Rattle.std.proofs.lemmas.Int.{ints}
+use Rattle.std.proofs.Common.{◌∙◌, ◌*◌, ap, neg_ℤ, lit<, rules, w64, to_z-of_z}
 use Rattle.daa_fixed.specs.Size.{IsWithin}
-use Rattle.daa_fixed.proofs.Bounds.{fits, as_within, le_test}
+use Rattle.daa_fixed.proofs.Bounds.{fits, as_within, le_test, zero_less, zero_less-within}
 use Rattle.daa_fixed.proofs.PointSizes.{IsPointInRange}
 use Rattle.daa_detect.proofs.Sizes as size
 use Rattle.daa_detect.proofs.Sizes.{IsMotionInRange, most_rate}
 use Rattle.daa_detect.proofs.horizontal.is_closest_within.Goals as goal
-
-zero_less : (x : ℤ) → pos 0 -ℤ x ≡ neg_ℤ x
-zero_less x = omega (arith, ints)
-
-zero_less-within : {m : ℕ} (x : ℤ) → IsWithin m x → IsWithin m (pos 0 -ℤ x)
-zero_less-within {m} x h = record { size = omega (arith, ints, h.size) }
 
 pub returns : goal.returns
 returns c =

@@ -1,7 +1,7 @@
 use Rattle.std.proofs.Common.{◌≡◌, pos, ◌≤ℤ◌, ◌<ℤ◌, arith, rules}
 use Rattle.std.proofs.lemmas.Int.{ints}
 use Rattle.daa_fixed.specs.Flat.{dot_of}
-use Rattle.daa_taumod.proofs.ClosestApproach.{dot_nonneg}
+use Rattle.daa_fixed.proofs.Lengths.{dot_nonneg}
 use Rattle.daa_detect.proofs.Sizes.{IsMotionInRange}
 use Rattle.daa_detect.proofs.Margin.{near_is, still_near}
 use Rattle.daa_detect.proofs.horizontal.is_near.Goals as goal

@@ -1,16 +1,12 @@
-use Rattle.std.proofs.Common.{◌≡◌, ◌≤◌, ℕ, pos, arith, lit<, w64, to_z, to_z-of_z}
+use Rattle.std.proofs.Common.{arith, lit<, w64, to_z-of_z}
 use mir.Syntax.{w128}
-use Rattle.std.proofs.lemmas.Int.{ints}
-use Rattle.daa_fixed.proofs.Bounds.{times, minus, fits}
+use Rattle.daa_fixed.proofs.Bounds.{times, minus, fits, nat_kept}
 use Rattle.daa_fixed.proofs.LegSizes.{natural}
 use Rattle.daa_detect.proofs.products.margin.Goals as goal
 
-kept : (n : ℕ) → n ≤ 360000 → to_z w64 n ≡ pos n
-kept n h = omega (arith, ints)
-
 pub overflow_sub-result : goal.overflow_sub-result
 overflow_sub-result c =
-    let e = kept c.args.dthr c.requires.dthr in
+    let e = nat_kept c.args.dthr (omega (arith, c.requires.dthr)) in
     let wd = natural 360000 c.args.dthr c.requires.dthr in
     let f1 = fits w64 (times wd wd) (lit< tt) in
     let f2 = fits w128 (times wd wd) (lit< tt) in
@@ -24,7 +20,7 @@ overflow_sub-result c =
 
 pub returns-clause-value : goal.returns-clause-value
 returns-clause-value c =
-    let e = kept c.args.dthr c.requires.dthr in
+    let e = nat_kept c.args.dthr (omega (arith, c.requires.dthr)) in
     let wd = natural 360000 c.args.dthr c.requires.dthr in
     let f1 = fits w64 (times wd wd) (lit< tt) in
     let f2 = fits w128 (times wd wd) (lit< tt) in
@@ -39,7 +35,7 @@ returns-clause-value c =
 
 pub returns-clause-size : goal.returns-clause-size
 returns-clause-size c =
-    let e = kept c.args.dthr c.requires.dthr in
+    let e = nat_kept c.args.dthr (omega (arith, c.requires.dthr)) in
     let wd = natural 360000 c.args.dthr c.requires.dthr in
     let f1 = fits w64 (times wd wd) (lit< tt) in
     let f2 = fits w128 (times wd wd) (lit< tt) in

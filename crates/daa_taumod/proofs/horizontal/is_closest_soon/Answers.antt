@@ -1,22 +1,15 @@
-use Rattle.std.proofs.Common.{◌≡◌, ◌≤◌, ℕ, ℤ, pos, neg_ℤ, lit<, arith, rules, to_z-of_z, ◌+◌, ◌*◌, ◌^◌, ◌*ℤ◌, ◌-ℤ◌, ap, ◌∙◌}
+use Rattle.std.proofs.Common.{◌≤◌, neg_ℤ, lit<, rules, to_z-of_z, ◌+◌, ◌*◌, ◌^◌, ◌*ℤ◌, ap, ◌∙◌}
 use mir.Syntax.{w128}
-use Rattle.std.proofs.lemmas.Int.{ints}
 use Rattle.daa_fixed.specs.declared.Flat.{Flat}
 use Rattle.daa_fixed.specs.Flat.{dot_of}
 use Rattle.daa_fixed.specs.Size.{IsWithin}
 use Rattle.daa_fixed.specs.Leg.{IsLegInRange}
-use Rattle.daa_fixed.proofs.Bounds.{times, fits, as_within, le_test}
+use Rattle.daa_fixed.proofs.Bounds.{times, fits, as_within, le_test, zero_less, zero_less-within}
 use Rattle.daa_fixed.proofs.LegSizes as size
 use Rattle.daa_fixed.proofs.LegSizes.{natural, room}
 use Rattle.daa_fixed.proofs.PointSizes as point
 use Rattle.daa_fixed.proofs.PointSizes.{IsPointInRange}
 use Rattle.daa_taumod.proofs.horizontal.is_closest_soon.Goals as goal
-
-zero_less : (x : ℤ) → pos 0 -ℤ x ≡ neg_ℤ x
-zero_less x = omega (arith, ints)
-
-zero_less-within : {m : ℕ} (x : ℤ) → IsWithin m x → IsWithin m (pos 0 -ℤ x)
-zero_less-within {m} x h = record { size = omega (arith, ints, h.size) }
 
 pub overflow_sub-result : goal.overflow_sub-result
 overflow_sub-result c =

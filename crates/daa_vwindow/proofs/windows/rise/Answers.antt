@@ -1,7 +1,7 @@
 use Rattle.std.proofs.Common.{◌*ℤ◌, pos, arith, lit<, rules, w64, to_z-of_z, FitsSigned}
-use Rattle.daa_fixed.proofs.Bounds.{fits}
+use Rattle.daa_fixed.proofs.Bounds.{fits, nat_kept}
 use Rattle.daa_vwindow.proofs.Bands.{max_is}
-use Rattle.daa_vwindow.proofs.Heights.{nat_kept, gain, max_small}
+use Rattle.daa_vwindow.proofs.Heights.{gain, max_small}
 use Rattle.daa_vwindow.proofs.windows.rise.Goals as goal
 
 pub overflow_mul-gained : goal.overflow_mul-gained

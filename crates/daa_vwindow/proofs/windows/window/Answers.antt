@@ -1,7 +1,8 @@
 use Rattle.std.proofs.Common.{◌≡◌, pos, ◌≤ℤ◌, ◌<ℤ◌, arith, refl}
 use Rattle.std.proofs.lemmas.Int.{ints}
+use Rattle.daa_fixed.proofs.Bounds.{nat_kept}
 use Rattle.daa_vwindow.proofs.Bands.{max_is}
-use Rattle.daa_vwindow.proofs.Heights.{retarget, rising, falling, standing, up_kept, down_kept, nat_kept}
+use Rattle.daa_vwindow.proofs.Heights.{retarget, rising, falling, standing, up_kept, down_kept}
 use Rattle.daa_vwindow.proofs.windows.window.Goals as goal
 
 pub returns-then-speed-eq0-clause-times : goal.returns-then-speed-eq0-clause-times
@@ -9,7 +10,7 @@ returns-then-speed-eq0-clause-times c =
     let h = up_kept c.args.leg.now.place.up c.requires.leg.up in
     let z = nat_kept c.args.volume.now.zthr c.requires.volume.zthr in
     let e : c.args.leg.now.velocity.up ≡ pos 0 = omega (arith, ints) in
-    retarget c.args.leg.now.secs _ _ c.level.result (standing c.args.leg.now c.args.volume.now e) (simp (h, z) at c.level.ensures.times)
+    retarget c.args.leg.now.secs _ _ c.level_flight.result (standing c.args.leg.now c.args.volume.now e) (simp (h, z) at c.level_flight.ensures.times)
 
 pub returns-then-speed-gt0-clause-times : goal.returns-then-speed-gt0-clause-times
 returns-then-speed-gt0-clause-times c =

@@ -6,7 +6,7 @@ use Rattle.daa_fixed.proofs.Bounds.{times, fits, as_within, below, le_test}
 use Rattle.daa_fixed.proofs.LegSizes.{natural}
 use Rattle.daa_fixed.proofs.PointSizes as point
 use Rattle.daa_fixed.proofs.PointSizes.{IsPointInRange}
-use Rattle.daa_taumod.proofs.vertical.is_level_soon.Goals as goal
+use Rattle.daa_taumod.proofs.vertical.is_within_tcoa.Goals as goal
 
 pub overflow_mul-result : goal.overflow_mul-result
 overflow_mul-result c =

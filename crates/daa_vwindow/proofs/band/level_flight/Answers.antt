@@ -1,7 +1,7 @@
 use Rattle.std.proofs.Common.{arith, w64, to_z-of_z, FitsSigned}
 use Rattle.std.proofs.lemmas.Int.{ints}
 use Rattle.daa_vwindow.proofs.Bands.{level_window, level_never, abs_within, abs_beyond}
-use Rattle.daa_vwindow.proofs.band.level.Goals as goal
+use Rattle.daa_vwindow.proofs.band.level_flight.Goals as goal
 
 pub returns-then-abs-high-clause-times : goal.returns-then-abs-high-clause-times
 returns-then-abs-high-clause-times c =

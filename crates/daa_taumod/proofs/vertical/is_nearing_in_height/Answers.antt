@@ -3,7 +3,7 @@ use mir.Syntax.{w128}
 use Rattle.daa_fixed.specs.Size.{IsWithin}
 use Rattle.daa_fixed.specs.Leg.{IsLegInRange}
 use Rattle.daa_fixed.proofs.Bounds.{times, fits, lt_test, below}
-use Rattle.daa_taumod.proofs.vertical.is_height_falling.Goals as goal
+use Rattle.daa_taumod.proofs.vertical.is_nearing_in_height.Goals as goal
 
 pub returns : goal.returns
 returns c =
