@@ -3,10 +3,11 @@
 ghost use Rattle.std.specs.Prelude.{IfSome};
 ghost use Rattle.daa_state.specs.InRange.{IsOwnInRange, IsTrafficInRange};
 
+mod by_seconds;
 mod texts;
 
 use super::*;
-use crate::by_seconds::first_leg_by_seconds;
+use by_seconds::first_leg_by_seconds;
 use daa_config::{Config, read};
 use daa_state::{Own, Traffic, Word, read_line};
 use std::process::Abort;

@@ -9,3 +9,4 @@ pub mod Steady
 pub mod Running
 pub mod Holds
 pub mod AtLevel
+pub mod Walks

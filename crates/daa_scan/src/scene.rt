@@ -8,7 +8,7 @@ ghost use Rattle.daa_state.specs.InRange.{IsPictureInRange};
 ghost use Rattle.daa_state.specs.Picture.{aircraft_of};
 ghost use Rattle.daa_scan.specs.Reach.{IsInReachAt};
 ghost use Rattle.daa_scan.specs.Situation.{MeetsAt};
-ghost use Rattle.daa_scan.specs.Units.{group_count, most_groups, IsCountInReach};
+ghost use Rattle.daa_scan.specs.Units.{group_count, most_groups};
 ghost use Rattle.daa_scan.specs.Packed.{places_in_reach, packed_word, entry_at};
 
 use crate::reach::is_in_reach;
@@ -88,8 +88,7 @@ impl<'a> Scene<'a> {
     }
 
     /// How many aircraft are in reach, at most 64.
-    pub fn count_in_reach(&self) -> u32
-        ensures value { IsCountInReach self.now result }
+    pub(crate) fn count_in_reach(&self) -> u32
         ensures listed { result ≡ length (places_in_reach self.now) }
         ensures few { result ≤ 64 }
     {
