@@ -1,5 +1,5 @@
 -- Facts that can be told: each holds, or it is known that it does not.
-use Rattle.std.proofs.Common.{◌≡◌, ◌↔◌, ◌⊎◌, inl, inr, refl, arith, ℕ, zero, suc, ◌<◌, Bool, true, false, below_more}
+use Rattle.std.proofs.Common.{◌↔◌, ◌⊎◌, inl, inr, refl, arith, ℕ, zero, suc, ◌<◌, Bool, true, false, below_more}
 use Rattle.std.specs.Prelude.{IsTrue}
 
 abbrev pub IsTold : Type 0 → Type 0

@@ -10,3 +10,4 @@ pub mod Running
 pub mod Holds
 pub mod AtLevel
 pub mod Walks
+pub mod Arriving

@@ -45,7 +45,7 @@ pub rem_range : (z : ℤ) → IsFrom (pos 0) (pos 359) (int_rem_euclid z (pos 36
 rem_range (pos a) = record { least = omega (arith, ints); most = omega (arith, ints) }
 rem_range (negsuc a) = record { least = omega (arith, ints); most = omega (arith, ints) }
 
-rem_small : (z : ℤ) → IsFrom (pos 0) (pos 359) z → int_rem_euclid z (pos 360) ≡ z
+pub rem_small : (z : ℤ) → IsFrom (pos 0) (pos 359) z → int_rem_euclid z (pos 360) ≡ z
 rem_small (pos a) h = omega (arith, ints, h.most)
 rem_small (negsuc a) h = absurd (omega (arith, ints, h.least))
 

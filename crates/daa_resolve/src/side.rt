@@ -18,7 +18,7 @@ pub enum Side {
 }
 
 /// What the ownship has now of what a kind changes.
-pub fn present(own: &Own, kind: Kind) -> i32
+pub(crate) fn present(own: &Own, kind: Kind) -> i32
     ensures { result ≡ present_of kind own.now }
 {
     match kind {
@@ -47,7 +47,7 @@ fn angle(degrees: &i64) -> i64
 }
 
 /// How far a value is from the present one on a side.
-pub fn distance(kind: Kind, side: Side, now: &i32, value: &i32) -> i64
+pub(crate) fn distance(kind: Kind, side: Side, now: &i32, value: &i32) -> i64
     ensures { result ≡ distance_of kind side now.now value.now }
 {
     let way = way(side, now, value);
@@ -80,7 +80,7 @@ fn is_beyond(side: Side, now: &i32, value: &i32) -> bool
 }
 
 /// Whether a value is on a side of the present one.
-pub fn is_on_side(kind: Kind, side: Side, now: &i32, value: &i32) -> bool
+pub(crate) fn is_on_side(kind: Kind, side: Side, now: &i32, value: &i32) -> bool
     ensures { IsTrue result ↔ IsOnSide kind side now.now value.now }
 {
     match kind {

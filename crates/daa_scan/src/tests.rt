@@ -6,7 +6,6 @@ ghost use Rattle.daa_state.specs.InRange.{IsPictureInRange};
 mod by_seconds;
 mod reaching;
 mod rows;
-mod texts;
 mod words;
 
 use super::*;

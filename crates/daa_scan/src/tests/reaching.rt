@@ -1,6 +1,6 @@
 //! Which aircraft are in reach: the last place that is, and the first that is not.
 
-use super::texts::SMALL;
+use daa_config::examples::ONE_LEVEL;
 use super::{Settings, config_of, picture_in};
 use crate::Scene;
 use std::test::Fail;
@@ -201,7 +201,7 @@ fn the_last_place_in_reach(rt: HostRuntime) -> Result<(), Fail> {
         let config = config_of(
             &rt,
             &Settings {
-                text: SMALL,
+                text: ONE_LEVEL,
                 edits: row.edits,
             },
         )?;
