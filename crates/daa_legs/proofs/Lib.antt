@@ -11,3 +11,4 @@ pub mod Holds
 pub mod AtLevel
 pub mod Walks
 pub mod Arriving
+pub mod Fits

@@ -84,7 +84,7 @@ impl<'a> Scene<'a> {
         ensures some { 1 ≤ result }
         ensures few { result ≤ most_groups }
     {
-        groups_of(self.config)
+        self.groups
     }
 
     /// How many aircraft are in reach, at most 64.
@@ -190,8 +190,6 @@ impl<'a> Answers for Scene<'a> {
 #[tactic(auto, using(daa_config::proofs::CandidateLemmas::whole_ends))]
 fn groups_of(config: &Config) -> u32
     ensures value { result ≡ group_count config.now }
-    ensures some { 1 ≤ result }
-    ensures few { result ≤ most_groups }
     ensures accepted { IsAccepted config.now }
 {
     (config.start(Kind::Height) + config.count(Kind::Height)).div_ceil(GROUP)

@@ -55,3 +55,8 @@ fn may_be_shared<T: Send + Sync>() {}
 fn scenes_may_be_shared() {
     may_be_shared::<Scene<'static>>();
 }
+
+#[test]
+fn laws() {
+    worked_examples();
+}

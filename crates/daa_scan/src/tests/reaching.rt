@@ -1,8 +1,8 @@
 //! Which aircraft are in reach: the last place that is, and the first that is not.
 
-use daa_config::examples::ONE_LEVEL;
 use super::{Settings, config_of, picture_in};
 use crate::Scene;
+use daa_config::examples::ONE_LEVEL;
 use std::test::Fail;
 
 /// What stands in the place of parts of the configuration, the lines of an ownship and of an aircraft, and whether it is in

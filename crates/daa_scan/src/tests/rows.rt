@@ -3,10 +3,10 @@
 ghost use Rattle.daa_state.specs.InRange.{IsPictureInRange};
 
 use super::by_seconds::meets_by_seconds;
-use daa_config::examples::{FOUR_LEVELS, ONE_LEVEL, THREE_LEVELS};
 use super::{Settings, config_of, picture_in};
 use crate::Scene;
 use daa_config::Config;
+use daa_config::examples::{FOUR_LEVELS, ONE_LEVEL, THREE_LEVELS};
 use daa_state::Picture;
 use std::process::Abort;
 use std::test::Fail;

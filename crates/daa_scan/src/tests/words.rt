@@ -3,10 +3,10 @@
 ghost use Rattle.std.specs.Prelude.{◌≡◌, ◌<◌, length};
 ghost use Rattle.daa_state.specs.Picture.{aircraft_of};
 
-use daa_config::examples::ONE_LEVEL;
 use super::{Settings, config_of, picture_in};
 use crate::Scene;
 use daa_config::Config;
+use daa_config::examples::ONE_LEVEL;
 use daa_schedule::Answers;
 use std::process::Abort;
 use std::test::Fail;
