@@ -1,6 +1,5 @@
 pub mod Greatest
 pub mod Halves
 pub mod Alerted
-pub mod Walks
 pub mod OneAlert
 pub mod SomeAlert

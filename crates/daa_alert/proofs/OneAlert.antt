@@ -10,7 +10,7 @@ use Rattle.daa_state.specs.declared.word.Own.{Own}
 use Rattle.daa_state.specs.declared.word.Traffic.{Traffic}
 use Rattle.daa_legs.specs.Alerts.{Alerts, ViolatesNow, IsNowLevel, IsFirstLeg}
 use Rattle.daa_legs.specs.Meeting.{ViolatesOn}
-use Rattle.daa_alert.specs.declared.warning.Alert.{Alert}
+use Rattle.daa_alert.specs.declared.aircraft_alert.Alert.{Alert}
 use Rattle.daa_alert.specs.Alert.{IsAlertOf}
 
 module _ (settings : Settings) (own : Own) (aircraft : Traffic) where

@@ -1,21 +1,21 @@
 -- An aircraft has a level now, and an alert, wherever it can be told what is violated.
-use Rattle.std.proofs.Common.{◌≡◌, ◌⊎◌, inl, inr, ℕ, zero, suc, ◌-◌, ◌<◌, ◌≤◌, None, Some, length, subst, refl, arith, ⊎_elim}
-use Rattle.std.proofs.lemmas.Bool.{cases_lt}
+use Rattle.std.proofs.Common.{◌≡◌, ◌⊎◌, inl, inr, ℕ, zero, suc, ◌-◌, ◌<◌, ◌≤◌, None, Some, length, subst, refl, arith, below_more}
 use Rattle.daa_config.specs.declared.candidate.Candidate.TheVariants.{Hold}
 use Rattle.daa_config.specs.declared.level.Level.{Level}
 use Rattle.daa_config.specs.Level.{IsGreatestLevel}
 use Rattle.daa_config.specs.Settings.{Settings, IsLevelAt}
+use Rattle.daa_config.proofs.Telling.{IsTold}
 use Rattle.daa_state.specs.declared.word.Own.{Own}
 use Rattle.daa_state.specs.declared.word.Traffic.{Traffic}
 use Rattle.daa_legs.specs.Alerts.{Alerts, ViolatesNow, IsNowLevel, IsFirstLeg}
 use Rattle.daa_legs.specs.Meeting.{ViolatesOn}
-use Rattle.daa_alert.specs.declared.warning.Alert.{Alert}
+use Rattle.daa_alert.specs.declared.aircraft_alert.Alert.{Alert}
 use Rattle.daa_alert.specs.Alert.{IsAlertOf}
 use Rattle.daa_alert.proofs.Greatest.{IsNoneAbove, none_start, none_next, greatest_here, greatest_none}
 
 -- ---- the greatest level
 
-module _ (Holds : ℕ → Type 0) (told : (l : ℕ) → Holds l ⊎ (Holds l → ⊥)) (top : ℕ) where
+module _ (Holds : ℕ → Type 0) (told : (l : ℕ) → IsTold (Holds l)) (top : ℕ) where
   -- the levels are tried from l down
   tried_from : (l : ℕ) → IsNoneAbove Holds top l → (level : ℕ) × IsGreatestLevel Holds top level
   tried_from zero h = (0, greatest_none Holds top 0 (omega arith) h)
@@ -24,7 +24,7 @@ module _ (Holds : ℕ → Type 0) (told : (l : ℕ) → Holds l ⊎ (Holds l →
       back : suc l - 1 ≡ l
       back = omega arith
 
-      go : ((Holds (suc l) → ⊥) → (level : ℕ) × IsGreatestLevel Holds top level) → Holds (suc l) ⊎ (Holds (suc l) → ⊥) → (level : ℕ) × IsGreatestLevel Holds top level
+      go : ((Holds (suc l) → ⊥) → (level : ℕ) × IsGreatestLevel Holds top level) → IsTold (Holds (suc l)) → (level : ℕ) × IsGreatestLevel Holds top level
       go lower (inl p) = (suc l, greatest_here Holds top (suc l) h p)
       go lower (inr n) = lower n
 
@@ -33,7 +33,7 @@ module _ (Holds : ℕ → Type 0) (told : (l : ℕ) → Holds l ⊎ (Holds l →
 
 -- ---- the least leg
 
-module _ (Holds : ℕ → Type 0) (most : ℕ) (told : (k : ℕ) → k < most → Holds k ⊎ (Holds k → ⊥)) where
+module _ (Holds : ℕ → Type 0) (most : ℕ) (told : (k : ℕ) → k < most → IsTold (Holds k)) where
   -- one below n is the least, or there is none
   abbrev Least : ℕ → Type 0
   Least n = ((k : ℕ) × (k < n) × Holds k × ((j : ℕ) → j < k → Holds j → ⊥)) ⊎ ((j : ℕ) → j < n → Holds j → ⊥)
@@ -42,16 +42,10 @@ module _ (Holds : ℕ → Type 0) (most : ℕ) (told : (k : ℕ) → k < most �
   least_below zero h = inr (λ j l p. omega arith)
   least_below (suc n) h = go (least_below n (omega arith)) (told n (omega arith))
     where
-      none : ((j : ℕ) → j < n → Holds j → ⊥) → (Holds n → ⊥) → (j : ℕ) → j < suc n → Holds j → ⊥
-      none before here j l p = ⊎_elim
-          (λ lt. before j lt p)
-          (λ ge. let e : j ≡ n = omega (arith, l, ge) in here (subst Holds e p))
-          (cases_lt j n)
-
-      go : Least n → Holds n ⊎ (Holds n → ⊥) → Least (suc n)
+      go : Least n → IsTold (Holds n) → Least (suc n)
       go (inl (k, l, p, before)) t = inl (k, omega arith, p, before)
       go (inr before) (inl p) = inl (n, omega arith, p, before)
-      go (inr before) (inr not) = inr (none before not)
+      go (inr before) (inr not) = inr (λ j l. below_more (λ i. Holds i → ⊥) n before not j (omega (arith, l)))
 
   pub some_least : (k : ℕ) → k < most → Holds k → (least : ℕ) × (least < most) × Holds least × ((j : ℕ) → j < least → Holds j → ⊥)
   some_least k l p = go (least_below most (omega arith))
@@ -63,13 +57,13 @@ module _ (Holds : ℕ → Type 0) (most : ℕ) (told : (k : ℕ) → k < most �
 -- ---- an aircraft
 
 module _ (settings : Settings) (own : Own) (aircraft : Traffic) where
-  pub some_now : ((l : ℕ) → ViolatesNow settings own aircraft l ⊎ (ViolatesNow settings own aircraft l → ⊥)) → (now : ℕ) × IsNowLevel settings own aircraft now
+  pub some_now : ((l : ℕ) → IsTold (ViolatesNow settings own aircraft l)) → (now : ℕ) × IsNowLevel settings own aircraft now
   some_now told = some_greatest (ViolatesNow settings own aircraft) told (length settings.levels)
 
   -- on each leg before a level's alert time it can be told whether its volume is violated
   abbrev pub AreLegsTold : Type 0
   AreLegsTold = (l : ℕ) (level : Level) → IsLevelAt settings l level → (k : ℕ) → k < level.alert
-      → ViolatesOn settings own Hold aircraft level.volume k ⊎ (ViolatesOn settings own Hold aircraft level.volume k → ⊥)
+      → IsTold (ViolatesOn settings own Hold aircraft level.volume k)
 
   module _ (legs : AreLegsTold) where
     first_leg : (l : ℕ) → Alerts settings own aircraft l → (k : ℕ) × IsFirstLeg settings own aircraft l k
@@ -77,7 +71,7 @@ module _ (settings : Settings) (own : Own) (aircraft : Traffic) where
         let m = some_least (ViolatesOn settings own Hold aircraft a.level.volume) a.level.alert (legs l a.level a.there) a.meets.leg a.meets.before a.meets.violates in
         (m.0, record { level = a.level; there = a.there; in_time = m.1; violates = m.2; none_before = m.3 })
 
-    pub some_alert : ((l : ℕ) → Alerts settings own aircraft l ⊎ (Alerts settings own aircraft l → ⊥)) → (alert : Alert) × IsAlertOf settings own aircraft alert
+    pub some_alert : ((l : ℕ) → IsTold (Alerts settings own aircraft l)) → (alert : Alert) × IsAlertOf settings own aircraft alert
     some_alert told = let g = some_greatest (Alerts settings own aircraft) told (length settings.levels) in by_level g.0 g.1
       where
         by_level : (l : ℕ) → IsGreatestLevel (Alerts settings own aircraft) (length settings.levels) l → (alert : Alert) × IsAlertOf settings own aircraft alert

@@ -3,8 +3,8 @@
 ghost use Rattle.daa_state.specs.InRange.{IsOwnInRange, IsTrafficInRange};
 ghost use Rattle.daa_alert.specs.Alert.{IsAlertOf};
 
+use crate::aircraft_alert::Alert;
 use crate::halving::first_leg;
-use crate::warning::Alert;
 use daa_config::Config;
 use daa_state::{Own, Traffic};
 

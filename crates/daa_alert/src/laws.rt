@@ -5,7 +5,7 @@ ghost use Rattle.daa_config.specs.Settings.{Settings};
 ghost use Rattle.daa_legs.specs.Alerts.{IsNowLevel};
 ghost use Rattle.daa_state.specs.declared.word.Own.{Own};
 ghost use Rattle.daa_state.specs.declared.word.Traffic.{Traffic};
-ghost use Rattle.daa_alert.specs.declared.warning.Alert.{Alert};
+ghost use Rattle.daa_alert.specs.declared.aircraft_alert.Alert.{Alert};
 ghost use Rattle.daa_alert.specs.Alert.{IsAlertOf};
 
 /// An aircraft has one level now, and one alert.

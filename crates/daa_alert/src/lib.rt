@@ -2,17 +2,16 @@
 //! violates within the level's alert time, with the first second on which it does.
 #![tactic(auto)]
 
+mod aircraft_alert;
 mod alerting;
-mod by_seconds;
 mod halving;
 mod laws;
 mod now;
 #[cfg(test)]
 mod tests;
-mod warning;
 
+pub use aircraft_alert::Alert;
 pub use alerting::alert;
 pub use halving::first_leg;
 pub use laws::alerts_are_unique;
 pub use now::now_level;
-pub use warning::Alert;

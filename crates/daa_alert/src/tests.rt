@@ -3,15 +3,15 @@
 ghost use Rattle.std.specs.Prelude.{IfSome};
 ghost use Rattle.daa_state.specs.InRange.{IsOwnInRange, IsTrafficInRange};
 
-mod texts;
+mod by_seconds;
 
 use super::*;
-use crate::by_seconds::first_leg_by_seconds;
+use by_seconds::first_leg_by_seconds;
+use daa_config::examples::{FOUR_LEVELS, LARGEST_VALUES, ONE_LEVEL, THREE_LEVELS};
 use daa_config::{Config, read};
 use daa_state::{Own, Traffic, Word, read_line};
 use std::process::Abort;
 use std::test::Fail;
-use texts::{EXAMPLE, FOUR, LARGE, SMALL};
 
 /// A configuration's text with parts replaced, the lines of an ownship and of an aircraft with its age, and the answers:
 /// the level now, the alert level and its first leg.
@@ -36,7 +36,7 @@ const ABEAM: &str = "traffic A 660 1000 1000 0 0 0 0";
 static ROWS: [Row; 27] = [
     Row {
         shows: "same place and velocity",
-        text: SMALL,
+        text: ONE_LEVEL,
         edits: &[],
         own: NORTH,
         aircraft: "traffic A 0 0 1000 0 3600 0 0",
@@ -46,7 +46,7 @@ static ROWS: [Row; 27] = [
     },
     Row {
         shows: "the same by a report of 10 seconds",
-        text: SMALL,
+        text: ONE_LEVEL,
         edits: &[],
         own: NORTH,
         aircraft: "traffic A 0 -1000 1000 0 3600 0 10",
@@ -56,7 +56,7 @@ static ROWS: [Row; 27] = [
     },
     Row {
         shows: "a foot apart from 0.48 to 0.52 seconds",
-        text: SMALL,
+        text: ONE_LEVEL,
         edits: &[("zthr = 450", "zthr = 1")],
         own: CLIMBING,
         aircraft: "traffic A 0 0 1025 0 3600 0 0",
@@ -66,7 +66,7 @@ static ROWS: [Row; 27] = [
     },
     Row {
         shows: "touch at exactly 10 seconds",
-        text: SMALL,
+        text: ONE_LEVEL,
         edits: &[("tthr = 35", "tthr = 0")],
         own: NORTH,
         aircraft: ABEAM,
@@ -76,7 +76,7 @@ static ROWS: [Row; 27] = [
     },
     Row {
         shows: "the same, alerted 9 seconds ahead",
-        text: SMALL,
+        text: ONE_LEVEL,
         edits: &[("tthr = 35", "tthr = 0"), ("alert = 10", "alert = 9")],
         own: NORTH,
         aircraft: ABEAM,
@@ -86,7 +86,7 @@ static ROWS: [Row; 27] = [
     },
     Row {
         shows: "the same, a thousandth of a mile too far",
-        text: SMALL,
+        text: ONE_LEVEL,
         edits: &[("tthr = 35", "tthr = 0"), ("dthr = 660", "dthr = 659")],
         own: NORTH,
         aircraft: ABEAM,
@@ -96,7 +96,7 @@ static ROWS: [Row; 27] = [
     },
     Row {
         shows: "an alert time past the lookahead",
-        text: SMALL,
+        text: ONE_LEVEL,
         edits: &[
             ("tthr = 35", "tthr = 0"),
             ("lookahead = 10", "lookahead = 1"),
@@ -109,7 +109,7 @@ static ROWS: [Row; 27] = [
     },
     Row {
         shows: "touch at 10.5 seconds",
-        text: SMALL,
+        text: ONE_LEVEL,
         edits: &[
             ("tthr = 35", "tthr = 0"),
             ("lookahead = 10", "lookahead = 11"),
@@ -123,7 +123,7 @@ static ROWS: [Row; 27] = [
     },
     Row {
         shows: "modified tau of at most 35 seconds",
-        text: SMALL,
+        text: ONE_LEVEL,
         edits: &[],
         own: NORTH,
         aircraft: ABEAM,
@@ -133,7 +133,7 @@ static ROWS: [Row; 27] = [
     },
     Row {
         shows: "the closest approach in at most 35 seconds",
-        text: SMALL,
+        text: ONE_LEVEL,
         edits: &[("tcoa = 0,", "tcoa = 0, tcpa = 1,")],
         own: NORTH,
         aircraft: ABEAM,
@@ -143,7 +143,7 @@ static ROWS: [Row; 27] = [
     },
     Row {
         shows: "one leg, different times",
-        text: SMALL,
+        text: ONE_LEVEL,
         edits: &[
             ("zthr = 450", "zthr = 100"),
             ("tthr = 35", "tthr = 0"),
@@ -158,7 +158,7 @@ static ROWS: [Row; 27] = [
     },
     Row {
         shows: "diverging",
-        text: SMALL,
+        text: ONE_LEVEL,
         edits: &[],
         own: NORTH,
         aircraft: "traffic A 0 -661 1000 0 0 0 0",
@@ -168,7 +168,7 @@ static ROWS: [Row; 27] = [
     },
     Row {
         shows: "the largest values",
-        text: LARGE,
+        text: LARGEST_VALUES,
         edits: &[],
         own: "own -200000 -200000 -2000 45 10000 10000",
         aircraft: "traffic A 200000 200000 60000 -10000 -10000 -10000 0",
@@ -178,7 +178,7 @@ static ROWS: [Row; 27] = [
     },
     Row {
         shows: "modified tau of at most 8 seconds",
-        text: SMALL,
+        text: ONE_LEVEL,
         edits: &[("tthr = 35", "tthr = 8")],
         own: NORTH,
         aircraft: "traffic A 330 1000 1000 0 0 0 0",
@@ -188,7 +188,7 @@ static ROWS: [Row; 27] = [
     },
     Row {
         shows: "the closest approach 8 seconds after second 2",
-        text: SMALL,
+        text: ONE_LEVEL,
         edits: &[
             ("tthr = 35", "tthr = 8"),
             ("tcoa = 0,", "tcoa = 0, tcpa = 1,"),
@@ -201,7 +201,7 @@ static ROWS: [Row; 27] = [
     },
     Row {
         shows: "four levels",
-        text: FOUR,
+        text: FOUR_LEVELS,
         edits: &[],
         own: NORTH,
         aircraft: ABEAM,
@@ -211,7 +211,7 @@ static ROWS: [Row; 27] = [
     },
     Row {
         shows: "the third of four levels",
-        text: FOUR,
+        text: FOUR_LEVELS,
         edits: &[("dthr = 660", "dthr = 659")],
         own: NORTH,
         aircraft: ABEAM,
@@ -221,7 +221,7 @@ static ROWS: [Row; 27] = [
     },
     Row {
         shows: "the second of four levels is clear",
-        text: FOUR,
+        text: FOUR_LEVELS,
         edits: &[("dthr = 690", "dthr = 600")],
         own: NORTH,
         aircraft: ABEAM,
@@ -231,7 +231,7 @@ static ROWS: [Row; 27] = [
     },
     Row {
         shows: "now at the third of four levels alone",
-        text: FOUR,
+        text: FOUR_LEVELS,
         edits: &[(
             "dthr = 680, zthr = 450, tthr = 0",
             "dthr = 680, zthr = 450, tthr = 35",
@@ -244,7 +244,7 @@ static ROWS: [Row; 27] = [
     },
     Row {
         shows: "the first of four levels alone",
-        text: FOUR,
+        text: FOUR_LEVELS,
         edits: &[
             ("dthr = 690", "dthr = 600"),
             ("dthr = 680", "dthr = 600"),
@@ -260,7 +260,7 @@ static ROWS: [Row; 27] = [
     // 252000, in 73.8 of 396000.
     Row {
         shows: "ahead, within 25 seconds",
-        text: EXAMPLE,
+        text: THREE_LEVELS,
         edits: &[],
         own: NORTH,
         aircraft: "traffic A 0 5000 1000 0 0 0 0",
@@ -270,7 +270,7 @@ static ROWS: [Row; 27] = [
     },
     Row {
         shows: "ahead, within 55 seconds",
-        text: EXAMPLE,
+        text: THREE_LEVELS,
         edits: &[],
         own: NORTH,
         aircraft: "traffic A 0 7000 1000 0 0 0 0",
@@ -280,7 +280,7 @@ static ROWS: [Row; 27] = [
     },
     Row {
         shows: "ahead, 600 feet above",
-        text: EXAMPLE,
+        text: THREE_LEVELS,
         edits: &[],
         own: NORTH,
         aircraft: "traffic A 0 7000 1600 0 0 0 0",
@@ -290,7 +290,7 @@ static ROWS: [Row; 27] = [
     },
     Row {
         shows: "ahead, within the lookahead alone",
-        text: EXAMPLE,
+        text: THREE_LEVELS,
         edits: &[],
         own: NORTH,
         aircraft: "traffic A 0 11000 1000 0 0 0 0",
@@ -300,7 +300,7 @@ static ROWS: [Row; 27] = [
     },
     Row {
         shows: "touch at the end of the one second",
-        text: SMALL,
+        text: ONE_LEVEL,
         edits: &[("tthr = 35", "tthr = 0"), ("alert = 10", "alert = 1")],
         own: NORTH,
         aircraft: "traffic A 660 100 1000 0 0 0 0",
@@ -310,7 +310,7 @@ static ROWS: [Row; 27] = [
     },
     Row {
         shows: "touch at the end of 180 seconds",
-        text: SMALL,
+        text: ONE_LEVEL,
         edits: &[("tthr = 35", "tthr = 0"), ("alert = 10", "alert = 180")],
         own: NORTH,
         aircraft: "traffic A 660 18000 1000 0 0 0 0",
@@ -320,7 +320,7 @@ static ROWS: [Row; 27] = [
     },
     Row {
         shows: "touch after 180 seconds",
-        text: SMALL,
+        text: ONE_LEVEL,
         edits: &[("tthr = 35", "tthr = 0"), ("alert = 10", "alert = 180")],
         own: NORTH,
         aircraft: "traffic A 660 18001 1000 0 0 0 0",
@@ -398,4 +398,9 @@ fn may_be_sent<T: Send>() {}
 #[test]
 fn values_may_be_sent() {
     may_be_sent::<Alert>();
+}
+
+#[test]
+fn laws() {
+    alerts_are_unique();
 }

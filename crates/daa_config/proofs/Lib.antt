@@ -5,3 +5,4 @@ pub mod GridLemmas
 pub mod CandidateLemmas
 pub mod LevelLemmas
 pub mod GreatestLemmas
+pub mod Telling

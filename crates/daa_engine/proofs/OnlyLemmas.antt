@@ -9,7 +9,7 @@ use Rattle.daa_config.specs.declared.kind.Kind.TheVariants.{Track, Speed, Climb,
 use Rattle.daa_state.specs.Picture.{aircraft_of}
 use Rattle.daa_state.specs.declared.word.Picture.{Picture}
 use Rattle.daa_state.specs.declared.word.Traffic.{Traffic}
-use Rattle.daa_alert.specs.declared.warning.Alert.{Alert}
+use Rattle.daa_alert.specs.declared.aircraft_alert.Alert.{Alert}
 use Rattle.daa_alert.proofs.OneAlert.{now_once, alert_once}
 use Rattle.daa_bands.specs.Board.{HasLevelOn, IsBoardOf}
 use Rattle.daa_bands.proofs.KindLemmas.{kind_bands_only}

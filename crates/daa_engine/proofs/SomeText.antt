@@ -11,7 +11,8 @@ use Rattle.daa_state.specs.Picture.{aircraft_of}
 use Rattle.daa_state.specs.declared.word.Picture.{Picture}
 use Rattle.daa_state.specs.declared.word.Traffic.{Traffic}
 use Rattle.daa_scan.specs.Situation.{MeetsAt}
-use Rattle.daa_scan.proofs.Telling.{IsTold, on_told, alerts_told, now_told, met_at_told}
+use Rattle.daa_config.proofs.Telling.{IsTold}
+use Rattle.daa_scan.proofs.Telling.{on_told, alerts_told, now_told, met_at_told}
 use Rattle.daa_alert.proofs.SomeAlert.{some_greatest, some_now, some_alert}
 use Rattle.daa_bands.specs.KindBands.{HasOneKindList}
 use Rattle.daa_bands.proofs.SomeBands.{one_kind_list}

@@ -7,7 +7,7 @@ use Rattle.daa_state.specs.declared.word.Own.{Own}
 use Rattle.daa_state.specs.declared.word.Traffic.{Traffic}
 use Rattle.daa_legs.specs.Alerts.{IsNowLevel}
 use Rattle.daa_alert.specs.Alert.{IsAlertOf}
-use Rattle.daa_alert.specs.declared.warning.Alert.{Alert}
+use Rattle.daa_alert.specs.declared.aircraft_alert.Alert.{Alert}
 use Rattle.daa_resolve.specs.Resolution.{IsResolution}
 use Rattle.daa_resolve.specs.declared.side.Side.TheVariants.{Lower, Upper}
 use Rattle.daa_engine.specs.declared.warnings.Warning.{Warning}

@@ -10,7 +10,7 @@ use Rattle.daa_state.specs.declared.word.Picture.{Picture}
 use Rattle.daa_state.specs.declared.word.Traffic.{Traffic}
 use Rattle.daa_legs.specs.Alerts.{IsNowLevel}
 use Rattle.daa_alert.specs.Alert.{IsAlertOf}
-use Rattle.daa_alert.specs.declared.warning.Alert.{Alert}
+use Rattle.daa_alert.specs.declared.aircraft_alert.Alert.{Alert}
 use Rattle.daa_bands.specs.KindBands.{AreKindBands}
 use Rattle.daa_bands.specs.declared.band.Band.{Band}
 use Rattle.daa_resolve.specs.Resolution.{IsResolution}

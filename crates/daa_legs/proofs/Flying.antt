@@ -2,26 +2,26 @@
 use Rattle.std.proofs.Common.{◌≡◌, ◌+◌, ◌<◌, arith, subst, sym, ◌∙◌}
 use Rattle.daa_fixed.specs.declared.Solid.{Solid}
 use Rattle.daa_fixed.specs.Leg.{IsSolidBelow, plus}
-use Rattle.daa_legs.specs.Course.{Course, IsFlown}
+use Rattle.daa_legs.specs.FlightProgress.{FlightProgress, IsFlown}
 use Rattle.daa_legs.specs.Motion.{velocity_on}
 use Rattle.daa_legs.proofs.Places.{place-next, place_on-below, velocity_on-below}
 
-module _ (course : Course) (place : Solid) (flown : IsFlown course place) where
+module _ (flight : FlightProgress) (place : Solid) (flown : IsFlown flight place) where
   pub flown-place : IsSolidBelow 20000000 place
   flown-place =
       let r = flown.in_range in
-      subst (λ (x : Solid). IsSolidBelow 20000000 x) (sym flown.at) (place_on-below course.own course.rates course.candidate r.own r.rates r.candidate course.taken r.taken)
+      subst (λ (x : Solid). IsSolidBelow 20000000 x) (sym flown.at) (place_on-below flight.own flight.rates flight.candidate r.own r.rates r.candidate flight.taken r.taken)
 
-  module _ (velocity : Solid) (is : velocity ≡ velocity_on course.own course.rates course.candidate course.taken) where
+  module _ (velocity : Solid) (is : velocity ≡ velocity_on flight.own flight.rates flight.candidate flight.taken) where
     pub flown-velocity : IsSolidBelow 20000 velocity
     flown-velocity =
         let r = flown.in_range in
-        subst (λ (x : Solid). IsSolidBelow 20000 x) (sym is) (velocity_on-below course.own course.rates course.candidate r.own r.rates r.candidate course.taken)
+        subst (λ (x : Solid). IsSolidBelow 20000 x) (sym is) (velocity_on-below flight.own flight.rates flight.candidate r.own r.rates r.candidate flight.taken)
 
-    pub flown-next : course.taken < 180 → (next : Solid) → next ≡ plus place velocity → IsFlown (record course { taken = course.taken + 1 }) next
+    pub flown-next : flight.taken < 180 → (next : Solid) → next ≡ plus place velocity → IsFlown (record flight { taken = flight.taken + 1 }) next
     flown-next left next e =
         let r = flown.in_range in
         record {
           in_range = record { own = r.own; rates = r.rates; candidate = r.candidate; taken = omega (arith, left) };
-          at = e ∙ (λ i. plus (flown.at i) (is i)) ∙ place-next course.own course.rates course.candidate course.taken;
+          at = e ∙ (λ i. plus (flown.at i) (is i)) ∙ place-next flight.own flight.rates flight.candidate flight.taken;
         }

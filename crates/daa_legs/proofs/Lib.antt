@@ -9,3 +9,6 @@ pub mod Steady
 pub mod Running
 pub mod Holds
 pub mod AtLevel
+pub mod Walks
+pub mod Arriving
+pub mod Fits

@@ -1,21 +1,21 @@
 -- A run in the making.
 use Rattle.std.proofs.Common.{◌≡◌, ℕ, ◌+◌, ◌<◌, below_more, ap, sym, ◌∙◌, arith}
-use Rattle.daa_legs.specs.Course.{Course}
+use Rattle.daa_legs.specs.FlightProgress.{FlightProgress}
 use Rattle.daa_legs.specs.declared.own_leg.OwnLeg.{OwnLeg}
 use Rattle.daa_legs.specs.Motion.{velocity_on}
 use Rattle.daa_legs.specs.OwnLegs.{own_leg, IsOwnLegInRange}
 
 -- so many legs were taken, all with the first one's velocity
-pub record IsRunning (begun now : Course) (first : OwnLeg) (secs : ℕ) : Type 0 where
-  pub course : now ≡ record begun { taken = begun.taken + secs }
+pub record IsRunning (begun now : FlightProgress) (first : OwnLeg) (secs : ℕ) : Type 0 where
+  pub at : now ≡ record begun { taken = begun.taken + secs }
   pub leg : first ≡ own_leg begun.own begun.rates begun.candidate begun.taken
   pub in_range : IsOwnLegInRange first
   pub same : (j : ℕ) → j < secs → velocity_on begun.own begun.rates begun.candidate (begun.taken + j) ≡ first.velocity
 
-module _ (begun : Course) (first : OwnLeg) where
-  pub running_start : (now : Course) → now ≡ record begun { taken = begun.taken + 1 } → first ≡ own_leg begun.own begun.rates begun.candidate begun.taken → IsOwnLegInRange first → IsRunning begun now first 1
+module _ (begun : FlightProgress) (first : OwnLeg) where
+  pub running_start : (now : FlightProgress) → now ≡ record begun { taken = begun.taken + 1 } → first ≡ own_leg begun.own begun.rates begun.candidate begun.taken → IsOwnLegInRange first → IsRunning begun now first 1
   running_start now e l r = record {
-    course = e;
+    at = e;
     leg = l;
     in_range = r;
     same = λ j h. ap (velocity_on begun.own begun.rates begun.candidate) (only j h) ∙ sym (ap (λ (l : OwnLeg). l.velocity) l);
@@ -25,12 +25,12 @@ module _ (begun : Course) (first : OwnLeg) where
       only j h = omega (arith, h)
 
   -- the next leg's velocity, where the flight stands
-  pub running_ahead : (now : Course) (secs : ℕ) → IsRunning begun now first secs → velocity_on now.own now.rates now.candidate now.taken ≡ velocity_on begun.own begun.rates begun.candidate (begun.taken + secs)
-  running_ahead now secs r = ap (λ (c : Course). velocity_on c.own c.rates c.candidate c.taken) r.course
+  pub running_ahead : (now : FlightProgress) (secs : ℕ) → IsRunning begun now first secs → velocity_on now.own now.rates now.candidate now.taken ≡ velocity_on begun.own begun.rates begun.candidate (begun.taken + secs)
+  running_ahead now secs r = ap (λ (c : FlightProgress). velocity_on c.own c.rates c.candidate c.taken) r.at
 
-  pub running_next : (now new : Course) (secs : ℕ) → IsRunning begun now first secs → new ≡ record now { taken = now.taken + 1 } → velocity_on now.own now.rates now.candidate now.taken ≡ first.velocity → IsRunning begun new first (secs + 1)
+  pub running_next : (now new : FlightProgress) (secs : ℕ) → IsRunning begun now first secs → new ≡ record now { taken = now.taken + 1 } → velocity_on now.own now.rates now.candidate now.taken ≡ first.velocity → IsRunning begun new first (secs + 1)
   running_next now new secs r e v = record {
-    course = e ∙ ap (λ (c : Course). record c { taken = c.taken + 1 }) r.course ∙ ap (λ (n : ℕ). record begun { taken = n }) one;
+    at = e ∙ ap (λ (c : FlightProgress). record c { taken = c.taken + 1 }) r.at ∙ ap (λ (n : ℕ). record begun { taken = n }) one;
     leg = r.leg;
     in_range = r.in_range;
     same = below_more _ _ r.same (sym (running_ahead now secs r) ∙ v);

@@ -41,11 +41,11 @@ more_toward x y a r a0 r0 =
 pub next_toward : (x y r : ℤ) (k : ℕ) → pos 0 ≤ℤ r → toward_of x y (pos (k + 1) *ℤ r) ≡ toward_of (toward_of x y (pos k *ℤ r)) y r
 next_toward x y r k r0 = ap (λ (z : ℤ). toward_of x y z) (next_product k r) ∙ more_toward x y (pos k *ℤ r) r (product_nonneg k r r0) r0
 
-rem_range : (z : ℤ) → IsFrom (pos 0) (pos 359) (int_rem_euclid z (pos 360))
+pub rem_range : (z : ℤ) → IsFrom (pos 0) (pos 359) (int_rem_euclid z (pos 360))
 rem_range (pos a) = record { least = omega (arith, ints); most = omega (arith, ints) }
 rem_range (negsuc a) = record { least = omega (arith, ints); most = omega (arith, ints) }
 
-rem_small : (z : ℤ) → IsFrom (pos 0) (pos 359) z → int_rem_euclid z (pos 360) ≡ z
+pub rem_small : (z : ℤ) → IsFrom (pos 0) (pos 359) z → int_rem_euclid z (pos 360) ≡ z
 rem_small (pos a) h = omega (arith, ints, h.most)
 rem_small (negsuc a) h = absurd (omega (arith, ints, h.least))
 

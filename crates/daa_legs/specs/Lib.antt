@@ -1,7 +1,7 @@
 pub mod Turn
 pub mod Motion
 pub mod OwnLegs
-pub mod Course
+pub mod FlightProgress
 pub mod Relative
 pub mod Meeting
 pub mod Runs

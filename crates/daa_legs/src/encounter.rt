@@ -40,7 +40,8 @@ pub fn relative(leg: &OwnLeg, aircraft: &Traffic, k: u32) -> Leg
 pub fn relative_run(run: &OwnRun, aircraft: &Traffic, k: u32) -> Leg
     requires run { IsOwnRunInRange run.now }
     requires aircraft { IsTrafficInRange aircraft.now }
-    requires k { k + run.now.secs ≤ 180 }
+    requires k { k < 180 }
+    requires short { run.now.secs ≤ 180 }
     ensures value { result ≡ relative_for run.now.secs (first_leg_of run.now) aircraft.now k }
     ensures in_range { IsLegInRange result }
     ensures seconds { (settings : Settings) (own : Own) (candidate : Candidate) (volume : Volume)

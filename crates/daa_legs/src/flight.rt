@@ -26,9 +26,9 @@ pub struct Flight {
 }
 
 impl Model for Flight {
-    ghost use Rattle.daa_legs.specs.Course.{Course, IsFlown};
+    ghost use Rattle.daa_legs.specs.FlightProgress.{FlightProgress, IsFlown};
 
-    ghost Value = { Course };
+    ghost Value = { FlightProgress };
 
     ghost view = { λ f. record { own = f.own; rates = f.rates; candidate = f.candidate; taken = f.taken } };
 

@@ -6,7 +6,7 @@ ghost use Rattle.daa_fixed.specs.Leg.{plus, times};
 ghost use Rattle.daa_heading.specs.Heading.{velocity_of};
 ghost use Rattle.daa_config.specs.declared.config.Rates.{Rates};
 ghost use Rattle.daa_config.specs.declared.candidate.Candidate.{Candidate};
-ghost use Rattle.daa_config.specs.Settings.{AreRatesInRange};
+ghost use Rattle.daa_config.specs.Settings.{AreRatesInRange, IsCandidateInRange};
 ghost use Rattle.daa_state.specs.declared.word.Own.{Own};
 ghost use Rattle.daa_state.specs.declared.word.Traffic.{Traffic};
 ghost use Rattle.daa_state.specs.InRange.{IsOwnInRange};
@@ -41,6 +41,12 @@ pub fn legs_move_by_the_rates()
         vertical_speed_on own rates (Candidate.Climb w) (k + 1) ≡ toward_of (vertical_speed_on own rates (Candidate.Climb w) k) w rates.vs }
     ensures height { (own : Own) (rates : Rates) (a : ℤ) (k : ℕ) → AreRatesInRange rates →
         (place_on own rates (Candidate.Height a) (k + 1)).up ≡ toward_of (place_on own rates (Candidate.Height a) k).up (pos 60 *ℤ a) rates.alt }
+{}
+
+/// A turn arrives: once half a turn could have been flown, the track is that of the candidate, and stays.
+pub fn turns_arrive()
+    ensures { (own : Own) (rates : Rates) (c : ℤ) (k : ℕ) → IsOwnInRange own → IsCandidateInRange (Candidate.Track c)
+        → pos 180 ≤ℤ (pos k *ℤ rates.turn) → track_on own rates (Candidate.Track c) k ≡ c }
 {}
 
 /// Turns, and places of an aircraft, that are known.

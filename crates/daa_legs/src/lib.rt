@@ -15,6 +15,7 @@ mod turn;
 pub use encounter::{relative, relative_run};
 pub use flight::Flight;
 pub use laws::{
-    flights_begin_as_now, legs_join, legs_move_by_the_rates, new_reports_stand, worked_examples,
+    flights_begin_as_now, legs_join, legs_move_by_the_rates, new_reports_stand, turns_arrive,
+    worked_examples,
 };
 pub use own_leg::{OwnLeg, OwnRun};

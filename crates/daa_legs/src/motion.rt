@@ -55,7 +55,7 @@ fn ground_speed_at(own: &Own, rates: &Rates, candidate: Candidate, k: u32) -> i3
     ensures in_range { IsFrom (pos 0) (pos 10000) result }
 {
     match candidate {
-        Candidate::Speed(g) => moved(i64::from(own.gs), i64::from(g), rates.gs, k) as i32,
+        Candidate::Speed(g) => speed_after(own.gs, g, rates.gs, k) as i32,
         _ => own.gs,
     }
 }
@@ -70,10 +70,21 @@ fn vertical_speed_at(own: &Own, rates: &Rates, candidate: Candidate, k: u32) -> 
     ensures size { IsWithin 10000 result }
 {
     match candidate {
-        Candidate::Climb(w) => moved(i64::from(own.vs), i64::from(w), rates.vs, k),
+        Candidate::Climb(w) => speed_after(own.vs, w, rates.vs, k),
         Candidate::Height(a) => rise(own.alt, a, rates.alt, k),
         _ => i64::from(own.vs),
     }
+}
+
+/// A speed moved toward another at a rate per second, for `k` seconds.
+fn speed_after(now: i32, target: i32, rate: i32, k: u32) -> i64
+    requires now { IsFrom (negsuc 9999) (pos 10000) now }
+    requires target { IsFrom (negsuc 9999) (pos 10000) target }
+    requires rate { IsFrom (pos 1) (pos 10000) rate }
+    requires k { k < 180 }
+    ensures { result ≡ toward_of now target (pos k *ℤ rate) }
+{
+    moved(i64::from(now), i64::from(target), rate, k)
 }
 
 /// What second `k` rises, in units, on the way from one altitude to another.

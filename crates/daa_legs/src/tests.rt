@@ -6,19 +6,11 @@ ghost use Rattle.daa_state.specs.InRange.{IsOwnInRange};
 ghost use Rattle.daa_legs.specs.OwnLegs.{IsOwnLegInRange};
 
 use super::*;
+use daa_config::examples::ONE_LEVEL;
 use daa_config::{Candidate, Config, read};
 use daa_fixed::{Flat, Leg, Solid};
 use daa_state::{Id, Own, Traffic};
 use std::test::Fail;
-
-static RATES: &str = "resolve = 1
-turn_rate = 3
-track_step = 90
-gs = { min = 3600, max = 3600, step = 1, rate = 10 }
-vs = { min = 0, max = 0, step = 1, rate = 100 }
-alt = { min = 1000, max = 1000, step = 1, rate = 1000 }
-level = [ { dthr = 660, zthr = 450, tthr = 35, tcoa = 0, lookahead = 10, alert = 10 } ]
-";
 
 const OWN: Own = Own {
     x: 0,
@@ -71,7 +63,7 @@ fn has_runs(config: &Config, own: &Own, candidate: Candidate, lengths: &[u32]) -
 // Sines of 3 and 1 degrees are 0.0523 and 0.0175. The turns of 179 and 180 degrees go right, that of 181 goes left.
 #[test]
 fn half_a_turn_goes_right(rt: HostRuntime) -> Result<(), Fail> {
-    let config = read(rt.alloc(), RATES.as_bytes())?;
+    let config = read(rt.alloc(), ONE_LEVEL.as_bytes())?;
     assert!(rt; flies(&config, Candidate::Track(180), 0, (0, 3600, 0)));
     assert!(rt; flies(&config, Candidate::Track(179), 1, (188, 3594, 0)));
     assert!(rt; flies(&config, Candidate::Track(180), 1, (188, 3594, 0)));
@@ -85,7 +77,7 @@ fn half_a_turn_goes_right(rt: HostRuntime) -> Result<(), Fail> {
 
 #[test]
 fn speeds_move_by_their_rates(rt: HostRuntime) -> Result<(), Fail> {
-    let config = read(rt.alloc(), RATES.as_bytes())?;
+    let config = read(rt.alloc(), ONE_LEVEL.as_bytes())?;
     assert!(rt; flies(&config, Candidate::Speed(3625), 0, (0, 3600, 0)));
     assert!(rt; flies(&config, Candidate::Speed(3625), 2, (0, 3620, 0)));
     assert!(rt; flies(&config, Candidate::Speed(3625), 3, (0, 3625, 0)));
@@ -100,7 +92,7 @@ fn speeds_move_by_their_rates(rt: HostRuntime) -> Result<(), Fail> {
 // 40 feet are 2400 units. What climbs at present levels off at once where it goes to the present altitude.
 #[test]
 fn climbs_to_an_altitude_and_stays(rt: HostRuntime) -> Result<(), Fail> {
-    let config = read(rt.alloc(), RATES.as_bytes())?;
+    let config = read(rt.alloc(), ONE_LEVEL.as_bytes())?;
     assert!(rt; flies(&config, Candidate::Height(1040), 0, (0, 3600, 1000)));
     assert!(rt; flies(&config, Candidate::Height(1040), 1, (0, 3600, 1000)));
     assert!(rt; flies(&config, Candidate::Height(1040), 2, (0, 3600, 400)));
@@ -120,7 +112,7 @@ fn climbs_to_an_altitude_and_stays(rt: HostRuntime) -> Result<(), Fail> {
 // The last leg begins after 179 seconds.
 #[test]
 fn places_of_the_first_and_the_last_leg(rt: HostRuntime) -> Result<(), Fail> {
-    let config = read(rt.alloc(), RATES.as_bytes())?;
+    let config = read(rt.alloc(), ONE_LEVEL.as_bytes())?;
     let own = Own {
         x: 10,
         y: -20,
@@ -151,7 +143,7 @@ static TURN_OF_TWENTY: [u32; 21] = [
 
 #[test]
 fn runs_of_180_seconds(rt: HostRuntime) -> Result<(), Fail> {
-    let config = read(rt.alloc(), RATES.as_bytes())?;
+    let config = read(rt.alloc(), ONE_LEVEL.as_bytes())?;
     assert!(rt; has_runs(&config, &OWN, Candidate::Hold, &[180]));
     assert!(rt; has_runs(&config, &OWN, Candidate::Height(1040), &[2, 1, 177]));
     assert!(rt; has_runs(&config, &OWN, Candidate::Track(60), &TURN_OF_TWENTY));
@@ -163,7 +155,7 @@ fn runs_of_180_seconds(rt: HostRuntime) -> Result<(), Fail> {
 // A run begins where the one before it ended, and is cut at the number that is asked for.
 #[test]
 fn runs_follow_one_another(rt: HostRuntime) -> Result<(), Fail> {
-    let config = read(rt.alloc(), RATES.as_bytes())?;
+    let config = read(rt.alloc(), ONE_LEVEL.as_bytes())?;
     let mut flight = Flight::begin(&OWN, &config, Candidate::Height(1040));
     let one = flight.next_run(1);
     let two = flight.next_run(100);
@@ -186,7 +178,7 @@ fn run(place: Solid, velocity: Solid, secs: u32) -> OwnRun {
 // 0.66 miles east, and 60 feet a minute of climb. A report of 10 seconds is one of now from 10 seconds further on.
 #[test]
 fn an_aircraft_flies_on_from_its_report(rt: HostRuntime) -> Result<(), Fail> {
-    let config = read(rt.alloc(), RATES.as_bytes())?;
+    let config = read(rt.alloc(), ONE_LEVEL.as_bytes())?;
     let aircraft = Traffic {
         id: Id::of(b"A").expect(&rt, "an identifier"),
         x: 660,
@@ -220,7 +212,7 @@ fn seen_leg(place: Solid, velocity: Solid, secs: u32) -> Leg {
 // The same run as one leg of all its seconds.
 #[test]
 fn a_run_is_one_leg(rt: HostRuntime) -> Result<(), Fail> {
-    let config = read(rt.alloc(), RATES.as_bytes())?;
+    let config = read(rt.alloc(), ONE_LEVEL.as_bytes())?;
     let aircraft = Traffic {
         id: Id::of(b"A").expect(&rt, "an identifier"),
         x: 0,
@@ -249,8 +241,14 @@ fn values_may_be_sent() {
     may_be_sent::<OwnLeg>();
     may_be_sent::<OwnRun>();
     may_be_sent::<Flight>();
+}
+
+#[test]
+fn laws() {
     flights_begin_as_now();
     legs_join();
     legs_move_by_the_rates();
+    new_reports_stand();
+    turns_arrive();
     worked_examples();
 }

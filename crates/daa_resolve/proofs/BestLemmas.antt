@@ -1,5 +1,5 @@
 -- The best of one place more.
-use Rattle.std.proofs.Common.{◌≡◌, ◌<◌, ◌+◌, ◌⊎◌, ◌∙◌, ℕ, ℤ, ◌≤ℤ◌, Option, Some, None, length, slice_get, subst, arith, inl, inr, Bool, true, false, w64, FitsSigned, to_z, of_z}
+use Rattle.std.proofs.Common.{◌≡◌, ◌<◌, ◌+◌, ◌∙◌, ℕ, ℤ, ◌≤ℤ◌, Option, Some, None, length, slice_get, subst, arith, below_more, Bool, true, false, w64, FitsSigned, to_z, of_z}
 use lib.Signed.{le_z}
 use Rattle.std.proofs.lemmas.Int.{ints, to_z-of_z}
 use Rattle.std.proofs.lemmas.Option.{slice_get_within}
@@ -13,9 +13,6 @@ use Rattle.daa_resolve.specs.Open.{IsOpen}
 use Rattle.daa_resolve.specs.Resolution.{IsOpenOnSide, IsNearest, IsResolution, distance_to}
 use Rattle.daa_resolve.specs.Best.{IsBest}
 
-below_or_at : (p n : ℕ) → p < n + 1 → (p < n) ⊎ (p ≡ n)
-below_or_at p n h = grind arith
-
 module _ (Covered : ℕ → ℕ → Type 0) (s : Settings) (own : Own) (kind : Kind) (side : Side) (n : ℕ) where
   abbrev Open : ℕ → ℤ → Type 0
   Open p v = IsOpenOnSide Covered s own kind side p v
@@ -23,43 +20,29 @@ module _ (Covered : ℕ → ℕ → Type 0) (s : Settings) (own : Own) (kind : K
   abbrev far : ℤ → ℤ
   far v = distance_to Covered s own kind side v
 
+  -- a value open at place n is v
   same_value : (v w : ℤ) → Open n v → Open n w → v ≡ w
   same_value v w a b = let x = a.value_is in let y = b.value_is in cc
 
+  -- what is no farther than the values open below n, and than v at n, is no farther than those below n + 1
+  none_nearer : (u v : ℤ) → ((p : ℕ) (w : ℤ) → p < n → Open p w → far u ≤ℤ far w) → Open n v → far u ≤ℤ far v → (p : ℕ) (w : ℤ) → p < n + 1 → Open p w → far u ≤ℤ far w
+  none_nearer u v near c order p w k d = below_more (λ q. (x : ℤ) → Open q x → far u ≤ℤ far x) n (λ q l x e. near q x l e)
+      (λ x e. subst (λ (y : ℤ). far u ≤ℤ far y) (same_value v x c e) order) p k w d
+
   pub skip : (best : Option ℕ) → IsBest Covered s own kind side n best → ((v : ℤ) → Open n v → ⊥) → IsBest Covered s own kind side (n + 1) best
-  skip None h none = λ p v k c. go p v c (below_or_at p n k)
-    where
-      go : (p : ℕ) (v : ℤ) → Open p v → (p < n) ⊎ (p ≡ n) → ⊥
-      go p v c (inl k) = h p v k c
-      go p v c (inr e) = none v (subst (λ (q : ℕ). Open q v) e c)
-  skip (Some other) (u, k, c, near) none = (u, omega arith, c, λ p v k d. go p v d (below_or_at p n k))
-    where
-      go : (p : ℕ) (v : ℤ) → Open p v → (p < n) ⊎ (p ≡ n) → far u ≤ℤ far v
-      go p v d (inl k) = near p v k d
-      go p v d (inr e) = absurd (none v (subst (λ (q : ℕ). Open q v) e d))
+  skip None h none = λ p v k c. below_more (λ q. (x : ℤ) → Open q x → ⊥) n (λ q l x e. h q x l e) none p k v c
+  skip (Some other) (u, k, c, near) none = (u, omega arith, c, λ p v l d. below_more (λ q. (x : ℤ) → Open q x → far u ≤ℤ far x) n (λ q i x e. near q x i e) (λ x e. absurd (none x e)) p l v d)
 
   pub first : (v : ℤ) → IsBest Covered s own kind side n None → Open n v → IsBest Covered s own kind side (n + 1) (Some n)
-  first v h c = (v, omega arith, c, λ p w k d. go p w d (below_or_at p n k))
-    where
-      go : (p : ℕ) (w : ℤ) → Open p w → (p < n) ⊎ (p ≡ n) → far v ≤ℤ far w
-      go p w d (inl k) = absurd (h p w k d)
-      go p w d (inr e) = let f = same_value v w c (subst (λ (q : ℕ). Open q w) e d) in subst (λ (x : ℤ). far v ≤ℤ far x) f (omega (arith, ints))
+  first v h c = (v, omega arith, c, none_nearer v v (λ p w k d. absurd (h p w k d)) c (omega (arith, ints)))
 
   pub keep : (other : ℕ) (v : ℤ) → (b : IsBest Covered s own kind side n (Some other)) → Open n v → far b.0 ≤ℤ far v
       → IsBest Covered s own kind side (n + 1) (Some other)
-  keep other v (u, k, c, near) d order = (u, omega arith, c, λ p w k e. go p w e (below_or_at p n k))
-    where
-      go : (p : ℕ) (w : ℤ) → Open p w → (p < n) ⊎ (p ≡ n) → far u ≤ℤ far w
-      go p w x (inl k) = near p w k x
-      go p w x (inr e) = let f = same_value v w d (subst (λ (q : ℕ). Open q w) e x) in subst (λ (x : ℤ). far u ≤ℤ far x) f order
+  keep other v (u, k, c, near) d order = (u, omega arith, c, none_nearer u v near d order)
 
   pub change : (other : ℕ) (v : ℤ) → (b : IsBest Covered s own kind side n (Some other)) → Open n v → far v ≤ℤ far b.0
       → IsBest Covered s own kind side (n + 1) (Some n)
-  change other v (u, k, c, near) d order = (v, omega arith, d, λ p w k e. go p w e (below_or_at p n k))
-    where
-      go : (p : ℕ) (w : ℤ) → Open p w → (p < n) ⊎ (p ≡ n) → far v ≤ℤ far w
-      go p w x (inl k) = let m = near p w k x in omega (arith, ints)
-      go p w x (inr e) = let f = same_value v w d (subst (λ (q : ℕ). Open q w) e x) in subst (λ (x : ℤ). far v ≤ℤ far x) f (omega (arith, ints))
+  change other v (u, k, c, near) d order = (v, omega arith, d, none_nearer v v (λ p w l e. let m = near p w l e in omega (arith, ints)) d (omega (arith, ints)))
 
 module _ (Covered : ℕ → ℕ → Type 0) (s : Settings) (own : Own) (kind : Kind) (side : Side) where
   pub nothing : (IsOpen Covered s 0 → ⊥) → IsBest Covered s own kind side (length (values_of kind s)) None → IsResolution Covered s own kind side Nothing

@@ -10,6 +10,7 @@ use Rattle.daa_config.specs.declared.candidate.Resolution.TheVariants.{Keep, To,
 use Rattle.daa_config.specs.declared.kind.Kind.{Kind}
 use Rattle.daa_config.specs.declared.kind.Kind.TheVariants.{Track, Speed, Climb, Height}
 use Rattle.daa_config.proofs.GridLemmas.{get-values}
+use Rattle.daa_config.proofs.Telling.{IsTold, both_told, some_told}
 use Rattle.daa_state.specs.declared.word.Own.{Own}
 use Rattle.daa_bands.specs.Board.{HasLevelOn}
 use Rattle.daa_resolve.specs.Best.{IsBest}
@@ -20,15 +21,6 @@ use Rattle.daa_resolve.specs.declared.side.Side.{Side}
 use Rattle.daa_resolve.specs.declared.side.Side.TheVariants.{Lower, Upper}
 use Rattle.daa_resolve.proofs.BestLemmas.{skip, first, keep, change, nothing, going}
 use Rattle.daa_resolve.proofs.OnlyLemmas.{one_answer}
-
--- a fact, or that it does not hold
-abbrev pub IsTold : Type 0 → Type 0
-IsTold A = A ⊎ (A → ⊥)
-
-both_told : (A B : Type 0) → IsTold A → IsTold B → IsTold (A × B)
-both_told A B (inl a) (inl b) = inl (a, b)
-both_told A B (inl a) (inr n) = inr (λ p. n p.1)
-both_told A B (inr n) b = inr (λ p. n p.0)
 
 -- one of two numbers is not greater
 order_of : (x y : ℤ) → (x ≤ℤ y) ⊎ (y <ℤ x)
@@ -75,34 +67,21 @@ side_told Height side now value = beyond_told side now value
 
 -- ---- open candidates
 
-below_or_at : (p n : ℕ) → p < suc n → (p < n) ⊎ (p ≡ n)
-below_or_at p n h = grind arith
-
 module _ (Covered : ℕ → ℕ → Type 0) (told : (index l : ℕ) → IsTold (Covered index l)) (s : Settings) where
   -- covered at a corrective level below n
   abbrev CoveredBelow : ℕ → ℕ → Type 0
-  CoveredBelow index n = (l : ℕ) × (s.numbers.resolve ≤ℤ pos l) × (l < n) × Covered index l
+  CoveredBelow index n = (l : ℕ) × (l < n) × ((s.numbers.resolve ≤ℤ pos l) × Covered index l)
 
   covered_below : (index n : ℕ) → IsTold (CoveredBelow index n)
-  covered_below index zero = inr (λ (l, a, b, c). absurd (omega arith))
-  covered_below index (suc n) = go (covered_below index n) (at_most_told s.numbers.resolve (pos n)) (told index n)
-    where
-      none : (CoveredBelow index n → ⊥) → ((s.numbers.resolve ≤ℤ pos n) × Covered index n → ⊥) → (l : ℕ) → s.numbers.resolve ≤ℤ pos l → (l < n) ⊎ (l ≡ n) → Covered index l → ⊥
-      none before here l a (inl b) c = before (l, a, b, c)
-      none before here l a (inr e) c = here (subst (λ (k : ℕ). (s.numbers.resolve ≤ℤ pos k) × Covered index k) e (a, c))
-
-      go : IsTold (CoveredBelow index n) → IsTold (s.numbers.resolve ≤ℤ pos n) → IsTold (Covered index n) → IsTold (CoveredBelow index (suc n))
-      go (inl (l, a, b, c)) x y = inl (l, a, omega arith, c)
-      go (inr before) (inl a) (inl c) = inl (n, a, omega arith, c)
-      go (inr before) (inl a) (inr y) = inr (λ (l, r, b, c). none before (λ h. y h.1) l r (below_or_at l n b) c)
-      go (inr before) (inr x) y = inr (λ (l, r, b, c). none before (λ h. x h.0) l r (below_or_at l n b) c)
+  covered_below index n = some_told (λ l. (s.numbers.resolve ≤ℤ pos l) × Covered index l) n
+      (λ l b. both_told (s.numbers.resolve ≤ℤ pos l) (Covered index l) (at_most_told s.numbers.resolve (pos l)) (told index l))
 
   open_told : (index : ℕ) → IsTold (IsOpen Covered s index)
   open_told index = go (covered_below index (length s.levels + 1))
     where
       go : IsTold (CoveredBelow index (length s.levels + 1)) → IsTold (IsOpen Covered s index)
-      go (inl (l, a, b, c)) = inr (λ o. o l a (omega arith) c)
-      go (inr none) = inl (λ l a b c. none (l, a, omega arith, c))
+      go (inl (l, b, (a, c))) = inr (λ o. o l a (omega arith) c)
+      go (inr none) = inl (λ l a b c. none (l, omega arith, (a, c)))
 
   module _ (own : Own) (kind : Kind) (side : Side) where
     open_on_side_told : (p : ℕ) (v : ℤ) → slice_get (values_of kind s) p ≡ Some v → IsTold (IsOpenOnSide Covered s own kind side p v)

@@ -1,15 +1,12 @@
 -- The two sides of a present value, and how far a value is on a side.
-use Rattle.std.specs.Prelude.{ℕ, ℤ, pos, ◌-ℤ◌, ◌≤ℤ◌, ◌<ℤ◌}
+use Rattle.std.specs.Prelude.{ℤ, pos, ◌-ℤ◌, ◌≤ℤ◌, ◌<ℤ◌}
 use Rattle.std.specs.Int.{int_rem_euclid}
+use Rattle.daa_config.specs.Limits.{full_turn}
 use Rattle.daa_config.specs.declared.kind.Kind.{Kind}
 use Rattle.daa_config.specs.declared.kind.Kind.TheVariants.{Track, Speed, Climb, Height}
 use Rattle.daa_state.specs.declared.word.Own.{Own}
 use Rattle.daa_resolve.specs.declared.side.Side.{Side}
 use Rattle.daa_resolve.specs.declared.side.Side.TheVariants.{Lower, Upper}
-
--- degrees of a full turn
-abbrev pub full_turn : ℕ
-full_turn = 360
 
 -- the ownship's present value of what a kind changes: its track, ground speed, vertical speed or altitude
 abbrev pub present_of : Kind → Own → ℤ

@@ -7,7 +7,7 @@ use daa_bands::Board;
 use daa_config::Config;
 
 /// Whether a candidate is covered at no level from `resolve` up to the greatest.
-pub fn is_open(board: &Board, config: &Config, index: u32) -> bool
+pub(crate) fn is_open(board: &Board, config: &Config, index: u32) -> bool
     requires { index < board_size }
     ensures { IsTrue result ↔ IsOpen (HasLevelOn board.now) config.now index }
 {

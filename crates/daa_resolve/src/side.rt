@@ -1,7 +1,8 @@
 //! The two sides of a present value, and how far a value is on a side.
 ghost use Rattle.std.specs.Prelude.{◌≡◌, ◌↔◌, IsTrue, pos};
 ghost use Rattle.std.specs.Int.{int_rem_euclid};
-ghost use Rattle.daa_resolve.specs.Side.{full_turn, present_of, way_of, distance_of, IsTurn, IsBeyond, IsOnSide};
+ghost use Rattle.daa_config.specs.Limits.{full_turn};
+ghost use Rattle.daa_resolve.specs.Side.{present_of, way_of, distance_of, IsTurn, IsBeyond, IsOnSide};
 
 use daa_config::Kind;
 use daa_state::Own;
@@ -17,7 +18,7 @@ pub enum Side {
 }
 
 /// What the ownship has now of what a kind changes.
-pub fn present(own: &Own, kind: Kind) -> i32
+pub(crate) fn present(own: &Own, kind: Kind) -> i32
     ensures { result ≡ present_of kind own.now }
 {
     match kind {
@@ -46,7 +47,7 @@ fn angle(degrees: &i64) -> i64
 }
 
 /// How far a value is from the present one on a side.
-pub fn distance(kind: Kind, side: Side, now: &i32, value: &i32) -> i64
+pub(crate) fn distance(kind: Kind, side: Side, now: &i32, value: &i32) -> i64
     ensures { result ≡ distance_of kind side now.now value.now }
 {
     let way = way(side, now, value);
@@ -79,7 +80,7 @@ fn is_beyond(side: Side, now: &i32, value: &i32) -> bool
 }
 
 /// Whether a value is on a side of the present one.
-pub fn is_on_side(kind: Kind, side: Side, now: &i32, value: &i32) -> bool
+pub(crate) fn is_on_side(kind: Kind, side: Side, now: &i32, value: &i32) -> bool
     ensures { IsTrue result ↔ IsOnSide kind side now.now value.now }
 {
     match kind {

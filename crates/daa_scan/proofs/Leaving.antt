@@ -1,7 +1,6 @@
 -- No candidate gets to an aircraft that is out of reach.
 use Rattle.std.proofs.Common.{[], ◌∷◌, ◌≡◌, ℕ, zero, suc, ◌+◌, ◌<◌, refl, sym, subst, arith, ℤ, pos, negsuc, neg_ℤ, ◌+ℤ◌, ◌*ℤ◌, ◌-ℤ◌, ◌≤ℤ◌, unsigned_abs}
-use Rattle.std.specs.Int.{int_max}
-use Rattle.std.proofs.lemmas.Int.{ints, int_max_is}
+use Rattle.std.proofs.lemmas.Int.{ints}
 use Rattle.daa_fixed.proofs.Ring.{mul_nonneg, ring, #, lit, ⊝, ◌⊕◌, ◌⊖◌, ◌⊗◌}
 use Rattle.daa_fixed.proofs.Integers.{by_rest, mul_le_mul}
 use Rattle.daa_fixed.proofs.Axes.{begun_within, apart_within}
@@ -26,12 +25,6 @@ use Rattle.daa_legs.specs.Meeting.{relative_leg, Meets}
 use Rattle.daa_scan.proofs.Speeds.{top_of, rise_of, east-top, north-top, up-top, length-top}
 use Rattle.daa_scan.specs.Reach.{size_of, place_now, horizontal_speed, vertical_speed, IsInReach}
 use Rattle.daa_scan.proofs.Nearing.{east_near, north_near, up_near}
-
-max_left : (x y : ℤ) → x ≤ℤ int_max x y
-max_left x y = omega (arith, ints, int_max_is x y)
-
-max_right : (x y : ℤ) → y ≤ℤ int_max x y
-max_right x y = omega (arith, ints, int_max_is x y)
 
 -- ---- a sum of numbers that are small
 sum_within : (proj : Solid → ℤ) (f : ℕ → Solid) (g : ℤ) → proj (sum_below f 0) ≡ pos 0 → ((x y : Solid) → proj (plus x y) ≡ proj x +ℤ proj y) → ((j : ℕ) → IsFrom (neg_ℤ g) g (proj (f j))) → (k : ℕ) → IsFrom (neg_ℤ (pos k *ℤ g)) (pos k *ℤ g) (proj (sum_below f k))

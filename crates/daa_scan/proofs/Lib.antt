@@ -1,4 +1,3 @@
-pub mod Walks
 pub mod Masks
 pub mod Speeds
 pub mod Nearing

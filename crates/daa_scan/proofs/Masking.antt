@@ -165,18 +165,14 @@ there_is (x ∷ xs) (suc i) h = let t = there_is xs i (omega (arith, h)) in reco
 pub at_place : {X : Type 0} (P : X → Type 0) (xs : List X) (i : ℕ) (x : X) → All P xs → slice_get xs i ≡ Some x → P x
 at_place P xs i x h e = subst P (get_or_from_slice_get xs i x x e) (h i x (slice_get_within xs i x e))
 
--- what is met at two places of their lists is met by what stands there
-retold : (s : Situation) (index at top m : ℕ) (candidate : Candidate) (aircraft : Traffic) → slice_get (candidates_of s.settings) index ≡ Some candidate → slice_get (aircraft_of s.picture) at ≡ Some aircraft
-    → IsMaskOf (MeetsAt s index at) top m → IsMaskOf (Meets s.settings s.picture.own candidate aircraft) top m
-retold s index at top m candidate aircraft ec ea h = record {
-  each = λ l one upto. let e = h.each l one upto in (
-    (λ b. let x = e.0 b in
-        subst (λ (c : Candidate). Meets s.settings s.picture.own c aircraft l) (same_Some x.candidate candidate (sym x.listed ∙ ec))
-        (subst (λ (t : Traffic). Meets s.settings s.picture.own x.candidate t l) (same_Some x.aircraft aircraft (sym x.there ∙ ea)) x.meets)),
-    (λ x. e.1 (record { candidate = candidate; aircraft = aircraft; listed = ec; there = ea; meets = x })),
-  );
-  none_above = h.none_above;
-}
+-- what is met at two places of their lists is what stands there meeting
+pub met_at : (s : Situation) (index at l : ℕ) (candidate : Candidate) (aircraft : Traffic) → slice_get (candidates_of s.settings) index ≡ Some candidate → slice_get (aircraft_of s.picture) at ≡ Some aircraft
+    → Meets s.settings s.picture.own candidate aircraft l ↔ MeetsAt s index at l
+met_at s index at l candidate aircraft ec ea = (
+  (λ m. record { candidate = candidate; aircraft = aircraft; listed = ec; there = ea; meets = m }),
+  (λ m. subst (λ (c : Candidate). Meets s.settings s.picture.own c aircraft l) (same_Some m.candidate candidate (sym m.listed ∙ ec))
+      (subst (λ (t : Traffic). Meets s.settings s.picture.own m.candidate t l) (same_Some m.aircraft aircraft (sym m.there ∙ ea)) m.meets)),
+)
 
 entry-some : (s : Situation) (at index : ℕ) (candidate : Candidate) (aircraft : Traffic) → slice_get (candidates_of s.settings) index ≡ Some candidate → slice_get (aircraft_of s.picture) at ≡ Some aircraft
     → entry_at s at index ≡ 1 + 2 * mask_of s.settings s.picture.own candidate aircraft s.settings.levels
@@ -192,20 +188,6 @@ four (suc (suc (suc (suc zero)))) h = omega arith
 four (suc (suc (suc (suc (suc n))))) h = absurd (omega (arith, h))
 
 module _ (s : Situation) (a : IsAccepted s.settings) (p : IsPictureInRange s.picture) where
-  pub entry_is : (at index m : ℕ) → index < length (candidates_of s.settings) → at < length (aircraft_of s.picture) → m < 2 ^ 8
-      → IsMaskOf (MeetsAt s index at) (length s.settings.levels) m → 1 + 2 * m ≡ entry_at s at index
-  entry_is at index m hi ha small h =
-      let c = there_is (candidates_of s.settings) index hi in
-      let t = there_is (aircraft_of s.picture) at ha in
-      let l = listed s.settings a index c.item c.is in
-      let r = at_place IsTrafficInRange (aircraft_of s.picture) at t.item p.traffic t.is in
-      let k = mask_is s.settings s.picture.own c.item t.item a p.own l.in_range r in
-      let short = mask-small s.settings s.picture.own c.item t.item s.settings.levels in
-      let few = four (length s.settings.levels) a.few_levels in
-      let same : m ≡ mask_of s.settings s.picture.own c.item t.item s.settings.levels =
-      same_bits 8 m _ small (omega (arith, short, few)) (same_mask _ _ m _ (retold s index at _ m c.item t.item c.is t.is h) k) in
-      ap (λ (n : ℕ). 1 + 2 * n) same ∙ sym (entry-some s at index c.item t.item c.is t.is)
-
   -- an entry where the list has the candidate
   pub record IsEntry (at index entry : ℕ) : Type 0 where
     pub mask : ℕ
@@ -227,14 +209,18 @@ module _ (s : Situation) (a : IsAccepted s.settings) (p : IsPictureInRange s.pic
         is = entry-some s at index c.item t.item c.is t.is;
         small = omega (arith, short, few);
         met = record {
-          each = λ l one upto. let e = k.each l one upto in (
-            (λ b. record { candidate = c.item; aircraft = t.item; listed = c.is; there = t.is; meets = e.0 b }),
-            (λ x. e.1 (subst (λ (d : Candidate). Meets s.settings s.picture.own d t.item l) (same_Some x.candidate c.item (sym x.listed ∙ c.is))
-                (subst (λ (u : Traffic). Meets s.settings s.picture.own x.candidate u l) (same_Some x.aircraft t.item (sym x.there ∙ t.is)) x.meets))),
-          );
+          each = λ l one upto. let e = k.each l one upto in let m = met_at s index at l c.item t.item c.is t.is in ((λ b. m.0 (e.0 b)), (λ x. e.1 (m.1 x)));
           none_above = k.none_above;
         };
       }
+
+  -- a mask of what is met makes the entry
+  pub entry_is : (at index m : ℕ) → index < length (candidates_of s.settings) → at < length (aircraft_of s.picture) → m < 2 ^ 8
+      → IsMaskOf (MeetsAt s index at) (length s.settings.levels) m → 1 + 2 * m ≡ entry_at s at index
+  entry_is at index m hi ha small h =
+      let e = entry_there at index hi ha in
+      let same : m ≡ e.mask = same_bits 8 m e.mask small (omega (arith, e.small)) (same_mask _ _ m e.mask h e.met) in
+      ap (λ (n : ℕ). 1 + 2 * n) same ∙ sym e.is
 
 past : (s : Situation) (at : ℕ) (c : Option Candidate) → c ≡ None → entry_for s c (slice_get (aircraft_of s.picture) at) ≡ 0
 past s at c e = ap (λ (o : Option Candidate). entry_for s o (slice_get (aircraft_of s.picture) at)) e

@@ -12,6 +12,9 @@ set_same a l = omega (arith, bit_at_or a (2 ^ l) l, bit_at-pow_same l, bit_at-lt
 set_other : (a l j : ℕ) → j ≢ l → bit_at (bit_or a (2 ^ l)) j ≡ bit_at a j
 set_other a l j n = omega (arith, bit_at_or a (2 ^ l) j, bit_at-pow_other l j n)
 
+below : (l j : ℕ) → j ≤ l + 1 → (j ≡ l + 1 → ⊥) → j ≤ l
+below l j h n = ⊎_elim (λ k. omega (arith, k)) (λ k. absurd (n (omega (arith, h, k)))) (cases_lt j (l + 1))
+
 module _ (Holds : ℕ → Type 0) where
   pub mask_start : IsMaskOf Holds 0 0
   mask_start = record {
@@ -23,7 +26,7 @@ module _ (Holds : ℕ → Type 0) where
   mask_set l mask h m = record {
     each = λ j one upto. ⊎_elim
         (λ e. let here : bit_at (bit_or mask (2 ^ l)) (j - 1) ≡ 1 = ap (bit_at (bit_or mask (2 ^ l))) (before j one e) ∙ set_same mask l in ((λ _. subst Holds (sym e) m), (λ _. here)))
-        (λ n. let o = set_other mask l (j - 1) (apart j one n) in let is = h.each j one (below j upto n) in ((λ b. is.0 (sym o ∙ b)), (λ x. o ∙ is.1 x)))
+        (λ n. let o = set_other mask l (j - 1) (apart j one n) in let is = h.each j one (below l j upto n) in ((λ b. is.0 (sym o ∙ b)), (λ x. o ∙ is.1 x)))
         (cases_eq j (l + 1));
     none_above = λ j over b. h.none_above j (omega (arith, over)) (sym (set_other mask l (j - 1) (beyond j over)) ∙ b);
   }
@@ -34,9 +37,6 @@ module _ (Holds : ℕ → Type 0) where
       apart : (j : ℕ) → 1 ≤ j → (j ≡ l + 1 → ⊥) → j - 1 ≢ l
       apart j h n e = n (omega (arith, h, e))
 
-      below : (j : ℕ) → j ≤ l + 1 → (j ≡ l + 1 → ⊥) → j ≤ l
-      below j h n = ⊎_elim (λ k. omega (arith, k)) (λ k. absurd (n (omega (arith, h, k)))) (cases_lt j (l + 1))
-
       beyond : (j : ℕ) → l + 1 < j → j - 1 ≢ l
       beyond j h e = absurd (omega (arith, h, e))
 
@@ -44,10 +44,7 @@ module _ (Holds : ℕ → Type 0) where
   mask_keep l mask h m = record {
     each = λ j one upto. ⊎_elim
         (λ e. ((λ b. absurd (h.none_above j (omega (arith, e)) b)), (λ x. absurd (m (subst Holds e x)))))
-        (λ n. h.each j one (below j upto n))
+        (λ n. h.each j one (below l j upto n))
         (cases_eq j (l + 1));
     none_above = λ j over b. h.none_above j (omega (arith, over)) b;
   }
-    where
-      below : (j : ℕ) → j ≤ l + 1 → (j ≡ l + 1 → ⊥) → j ≤ l
-      below j h n = ⊎_elim (λ k. omega (arith, k)) (λ k. absurd (n (omega (arith, h, k)))) (cases_lt j (l + 1))

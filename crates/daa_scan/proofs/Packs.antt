@@ -37,6 +37,10 @@ pub record IsPackedFrom (f : ℕ → ℕ) (j word : ℕ) : Type 0 where
 pub packed_start : (f : ℕ → ℕ) → IsPackedFrom f 12 0
 packed_start f = record { within = omega arith; is = sym (packed-none f 12); small = omega arith }
 
+-- one entry more has five bits more
+room : (v e r q t : ℕ) → v ≡ e + 32 * r → e < 32 → r < q → t ≡ 2 ^ 5 * q → v < t
+room v e r q t a b c d = omega (arith, a, b, c, d)
+
 pub packed_step : (f : ℕ → ℕ) (j word e : ℕ) → 0 < j → IsPackedFrom f j word → e ≡ f (j - 1) → e < 32 → IsPackedFrom f (j - 1) (word * 32 % 2 ^ 64 + e)
 packed_step f j word e some p is small =
     let longer : 12 - (j - 1) ≡ suc (12 - j) = omega (arith, some, p.within) in
@@ -59,9 +63,6 @@ packed_step f j word e some p is small =
     kept : (w q e : ℕ) → w < q → q ≤ 2 ^ 55 → e < 32 → w * 32 % 2 ^ 64 + e ≡ e + 32 * w
     kept w q e h k l = omega (arith, h, k, l)
 
-    room : (v e r q t : ℕ) → v ≡ e + 32 * r → e < 32 → r < q → t ≡ 2 ^ 5 * q → v < t
-    room v e r q t a b c d = omega (arith, a, b, c, d)
-
 -- ---- entries below 32
 module _ (f : ℕ → ℕ) (small : (i : ℕ) → f i < 32) where
   pub packed-small : (j n : ℕ) → packed_from f j n < 2 ^ (5 * n)
@@ -73,9 +74,6 @@ module _ (f : ℕ → ℕ) (small : (i : ℕ) → f i < 32) where
       let five : 5 * suc n ≡ 5 + 5 * n = omega arith in
       let p : 2 ^ (5 + 5 * n) ≡ 2 ^ 5 * 2 ^ (5 * n) = pow-add 2 5 (5 * n) in
       subst (λ (x : ℕ). packed_from f j (suc n) < 2 ^ x) (sym five) (room (packed_from f j (suc n)) (f j) (packed_from f (suc j) n) (2 ^ (5 * n)) (2 ^ (5 + 5 * n)) e s h p)
-    where
-      room : (w e r q t : ℕ) → w ≡ e + 32 * r → e < 32 → r < q → t ≡ 2 ^ 5 * q → w < t
-      room w e r q t a b c d = omega (arith, a, b, c, d)
 
   shifted : (j i m : ℕ) → packed_from f j (i + m) / 2 ^ (5 * i) ≡ packed_from f (j + i) m
   shifted j zero m =

@@ -1,12 +1,13 @@
 -- How fast a listed candidate can fly.
 use Rattle.std.proofs.Common.{◌≡◌, ℕ, ◌+◌, ◌-◌, ◌*◌, ◌≤◌, Bool, true, false, arith, ℤ, pos, negsuc, neg_ℤ, ◌+ℤ◌, ◌-ℤ◌, ◌*ℤ◌, ◌≤ℤ◌, unsigned_abs}
 use Rattle.std.specs.Prelude.{if◌then◌else◌, int_le}
-use Rattle.std.specs.Int.{int_max, int_min, int_rem_euclid}
+use Rattle.std.specs.Int.{int_max, int_min}
 use Rattle.std.proofs.lemmas.Int.{ints, int_max_is}
 use Rattle.std.proofs.lemmas.Nat.{mul-le}
 use Rattle.daa_fixed.specs.Size.{IsFrom, IsWithin}
 use Rattle.daa_fixed.specs.Flat.{dot_of}
 use Rattle.daa_fixed.proofs.Towards.{toward_of-between}
+use Rattle.daa_fixed.proofs.Integers.{le_trans_ℤ}
 use Rattle.daa_heading.specs.Heading.{velocity_of}
 use Rattle.daa_heading.proofs.Sines.{east-within, north-within}
 use Rattle.daa_heading.proofs.Circle.{velocity-short}
@@ -24,6 +25,7 @@ use Rattle.daa_legs.specs.Turn.{right_angle, turned}
 use Rattle.daa_legs.specs.Motion.{track_on, ground_speed_on, vertical_speed_on, velocity_on}
 use Rattle.daa_legs.proofs.Cases.{product_nonneg, height_step}
 use Rattle.daa_legs.proofs.StateRanges as state
+use Rattle.daa_legs.proofs.Steady.{rem_range}
 
 -- no ground speed of a listed candidate is greater
 abbrev pub top_of : Settings → Own → ℤ
@@ -43,10 +45,6 @@ max_right x y = omega (arith, ints, int_max_is x y)
 max_least : (x y z : ℤ) → x ≤ℤ z → y ≤ℤ z → int_max x y ≤ℤ z
 max_least x y z h k = omega (arith, ints, int_max_is x y)
 
-rem_range : (z : ℤ) → IsFrom (pos 0) (pos 359) (int_rem_euclid z (pos 360))
-rem_range (pos a) = record { least = omega (arith, ints); most = omega (arith, ints) }
-rem_range (negsuc a) = record { least = omega (arith, ints); most = omega (arith, ints) }
-
 either : {low high : ℤ} (b : Bool) (x y : ℤ) → IsFrom low high x → IsFrom low high y → IsFrom low high (if b then x else y)
 either true x y h k = h
 either false x y h k = k
@@ -54,9 +52,6 @@ either false x y h k = k
 turned-in_range : (trk c by : ℤ) → IsFrom (pos 0) (pos 359) (turned trk c by)
 unfolding turned
 turned-in_range trk c by = either (int_le (right_angle trk c) (pos 180)) _ _ (rem_range (trk +ℤ int_min by (right_angle trk c))) (rem_range (trk -ℤ int_min by (pos 360 -ℤ right_angle trk c)))
-
-at_least : (x y z : ℤ) → x ≤ℤ y → y ≤ℤ z → x ≤ℤ z
-at_least x y z h k = omega (arith, ints)
 
 least_in : (k : Kind) (s : Settings) → IsAccepted s → IsInBounds (value_bounds k) (least_of k s)
 unfolding least_of
@@ -89,10 +84,7 @@ module _ (settings : Settings) (own : Own) (settled : IsAccepted settings) (o : 
   ground_speed_on-top Hold k h = own_speed
   ground_speed_on-top (Track c) k h = own_speed
   ground_speed_on-top (Speed g) k h = toward_of-between (pos 0) (top_of settings own) own.gs g (pos k *ℤ settings.numbers.gs.rate) (product_nonneg k settings.numbers.gs.rate (omega (arith, ints, settled.rates.gs.least))) own_speed
-      (record { least = at_least _ _ _ (least_in kind.Speed settings settled).least h.least; most = chain _ _ _ h.most (max_right own.gs (greatest_of kind.Speed settings)) })
-    where
-      chain : (x y z : ℤ) → x ≤ℤ y → y ≤ℤ z → x ≤ℤ z
-      chain x y z h k = omega (arith, ints)
+      (record { least = le_trans_ℤ _ _ _ (least_in kind.Speed settings settled).least h.least; most = le_trans_ℤ _ _ _ h.most (max_right own.gs (greatest_of kind.Speed settings)) })
   ground_speed_on-top (Climb c) k h = own_speed
   ground_speed_on-top (Height c) k h = own_speed
 
@@ -101,28 +93,16 @@ module _ (settings : Settings) (own : Own) (settled : IsAccepted settings) (o : 
   sized x r h = record { least = omega (arith, ints); most = omega (arith, ints) }
 
   vs_size : pos (unsigned_abs own.vs) ≤ℤ rise_of settings own
-  vs_size = chain _ _ _ (max_left _ (pos (unsigned_abs (least_of kind.Climb settings)))) (max_left _ (int_max (pos (unsigned_abs (greatest_of kind.Climb settings))) settings.numbers.alt.rate))
-    where
-      chain : (x y z : ℤ) → x ≤ℤ y → y ≤ℤ z → x ≤ℤ z
-      chain x y z h k = omega (arith, ints)
+  vs_size = le_trans_ℤ _ _ _ (max_left _ (pos (unsigned_abs (least_of kind.Climb settings)))) (max_left _ (int_max (pos (unsigned_abs (greatest_of kind.Climb settings))) settings.numbers.alt.rate))
 
   low_size : pos (unsigned_abs (least_of kind.Climb settings)) ≤ℤ rise_of settings own
-  low_size = chain _ _ _ (max_right (pos (unsigned_abs own.vs)) _) (max_left _ (int_max (pos (unsigned_abs (greatest_of kind.Climb settings))) settings.numbers.alt.rate))
-    where
-      chain : (x y z : ℤ) → x ≤ℤ y → y ≤ℤ z → x ≤ℤ z
-      chain x y z h k = omega (arith, ints)
+  low_size = le_trans_ℤ _ _ _ (max_right (pos (unsigned_abs own.vs)) _) (max_left _ (int_max (pos (unsigned_abs (greatest_of kind.Climb settings))) settings.numbers.alt.rate))
 
   high_size : pos (unsigned_abs (greatest_of kind.Climb settings)) ≤ℤ rise_of settings own
-  high_size = chain _ _ _ (max_left _ settings.numbers.alt.rate) (max_right (int_max (pos (unsigned_abs own.vs)) (pos (unsigned_abs (least_of kind.Climb settings)))) _)
-    where
-      chain : (x y z : ℤ) → x ≤ℤ y → y ≤ℤ z → x ≤ℤ z
-      chain x y z h k = omega (arith, ints)
+  high_size = le_trans_ℤ _ _ _ (max_left _ settings.numbers.alt.rate) (max_right (int_max (pos (unsigned_abs own.vs)) (pos (unsigned_abs (least_of kind.Climb settings)))) _)
 
   alt_size : settings.numbers.alt.rate ≤ℤ rise_of settings own
-  alt_size = chain _ _ _ (max_right (pos (unsigned_abs (greatest_of kind.Climb settings))) _) (max_right (int_max (pos (unsigned_abs own.vs)) (pos (unsigned_abs (least_of kind.Climb settings)))) _)
-    where
-      chain : (x y z : ℤ) → x ≤ℤ y → y ≤ℤ z → x ≤ℤ z
-      chain x y z h k = omega (arith, ints)
+  alt_size = le_trans_ℤ _ _ _ (max_right (pos (unsigned_abs (greatest_of kind.Climb settings))) _) (max_right (int_max (pos (unsigned_abs own.vs)) (pos (unsigned_abs (least_of kind.Climb settings)))) _)
 
   vertical_speed_on-top : (candidate : Candidate) (k : ℕ) → IsCandidateOf settings candidate → IsFrom (neg_ℤ (rise_of settings own)) (rise_of settings own) (vertical_speed_on own (rates_of settings) candidate k)
   unfolding vertical_speed_on
@@ -161,11 +141,8 @@ module _ (settings : Settings) (own : Own) (settled : IsAccepted settings) (o : 
         let speed : ℤ = ground_speed_on own (rates_of settings) candidate k in
         let s = ground_speed_on-top candidate k listed in
         squared (velocity_of speed (track_on own (rates_of settings) candidate k)).east (velocity_of speed (track_on own (rates_of settings) candidate k)).north speed (top_of settings own) s
-        (velocity-short speed (track_on own (rates_of settings) candidate k) (record { least = s.least; most = below _ _ _ s.most top-small.most }) (track_on-in_range candidate k))
+        (velocity-short speed (track_on own (rates_of settings) candidate k) (record { least = s.least; most = le_trans_ℤ _ _ _ s.most top-small.most }) (track_on-in_range candidate k))
       where
-        below : (x y z : ℤ) → x ≤ℤ y → y ≤ℤ z → x ≤ℤ z
-        below x y z h k = omega (arith, ints)
-
         square_size : (x : ℤ) → x *ℤ x ≡ pos (unsigned_abs x * unsigned_abs x)
         square_size (pos x) = omega (arith, ints)
         square_size (negsuc x) = omega (arith, ints)

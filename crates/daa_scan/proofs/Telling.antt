@@ -1,11 +1,11 @@
 -- What is met, and what is violated, can be told.
-use Rattle.std.proofs.Common.{◌≡◌, ◌↔◌, ◌⊎◌, inl, inr, refl, sym, subst, ◌∙◌, arith, ℕ, zero, suc, ◌-◌, ◌<◌, Bool, true, false, Option, Some, None, pos}
-use Rattle.std.specs.Prelude.{IsTrue, slice_get}
-use Rattle.std.proofs.lemmas.Option.{same_Some}
+use Rattle.std.proofs.Common.{◌≡◌, ◌⊎◌, inl, inr, refl, arith, ℕ, zero, suc, ◌-◌, ◌<◌, Option, Some, None, pos}
+use Rattle.std.specs.Prelude.{slice_get}
 use Rattle.daa_config.specs.declared.candidate.Candidate.{Candidate}
 use Rattle.daa_config.specs.declared.candidate.Candidate.TheVariants.{Hold}
 use Rattle.daa_config.specs.declared.level.Level.{Level}
 use Rattle.daa_config.specs.Candidates.{candidates_of}
+use Rattle.daa_config.proofs.Telling.{IsTold, by_test, as_told}
 use Rattle.daa_config.specs.Settings.{Settings, IsAccepted, IsCandidateInRange, IsLevelAt}
 use Rattle.daa_state.specs.declared.word.Own.{Own}
 use Rattle.daa_state.specs.declared.word.Traffic.{Traffic}
@@ -18,19 +18,7 @@ use Rattle.daa_scan.specs.Situation.{Situation, MeetsAt}
 use Rattle.daa_scan.specs.Packed.{is_violated, is_violated_sometime, is_met_within}
 use Rattle.daa_scan.proofs.Listed.{listed}
 use Rattle.daa_scan.proofs.Deciding.{violated_is}
-use Rattle.daa_scan.proofs.Masking.{on_is, within_is, at_place}
-
--- a fact, or that it does not hold
-abbrev pub IsTold : Type 0 → Type 0
-IsTold A = A ⊎ (A → ⊥)
-
-by_test : {A : Type 0} (b : Bool) → IsTrue b ↔ A → IsTold A
-by_test true h = inl (h.0 refl)
-by_test false h = inr (λ a. absurd (cc (h.1 a)))
-
-as_told : {A B : Type 0} → A ↔ B → IsTold A → IsTold B
-as_told h (inl a) = inl (h.0 a)
-as_told h (inr n) = inr (λ b. n (h.1 b))
+use Rattle.daa_scan.proofs.Masking.{on_is, within_is, at_place, met_at}
 
 -- what is there, or that there is none
 looked : {X : Type 0} (o : Option X) → ((x : X) × (o ≡ Some x)) ⊎ (o ≡ None)
@@ -85,22 +73,13 @@ module _ (settings : Settings) (own : Own) (aircraft : Traffic) (a : IsAccepted 
       go (inr none) = inr (λ m. none m.level m.there)
 
 module _ (s : Situation) (a : IsAccepted s.settings) (p : IsPictureInRange s.picture) where
-  -- what is met at two places is what stands there meeting
-  same : (index at l : ℕ) (candidate : Candidate) (aircraft : Traffic) → slice_get (candidates_of s.settings) index ≡ Some candidate → slice_get (aircraft_of s.picture) at ≡ Some aircraft
-      → Meets s.settings s.picture.own candidate aircraft l ↔ MeetsAt s index at l
-  same index at l candidate aircraft ec ea = (
-    (λ m. record { candidate = candidate; aircraft = aircraft; listed = ec; there = ea; meets = m }),
-    (λ m. subst (λ (c : Candidate). Meets s.settings s.picture.own c aircraft l) (same_Some m.candidate candidate (sym m.listed ∙ ec))
-        (subst (λ (t : Traffic). Meets s.settings s.picture.own m.candidate t l) (same_Some m.aircraft aircraft (sym m.there ∙ ea)) m.meets)),
-  )
-
   pub met_at_told : (index at l : ℕ) → IsTold (MeetsAt s index at l)
   met_at_told index at l = go (looked (slice_get (candidates_of s.settings) index)) (looked (slice_get (aircraft_of s.picture) at))
     where
       go : ((c : Candidate) × (slice_get (candidates_of s.settings) index ≡ Some c)) ⊎ (slice_get (candidates_of s.settings) index ≡ None)
           → ((t : Traffic) × (slice_get (aircraft_of s.picture) at ≡ Some t)) ⊎ (slice_get (aircraft_of s.picture) at ≡ None) → IsTold (MeetsAt s index at l)
       go (inl (c, ec)) (inl (t, ea)) =
-          as_told (same index at l c t ec ea)
+          as_told (met_at s index at l c t ec ea)
           (meets_told s.settings s.picture.own t a p.own (at_place IsTrafficInRange (aircraft_of s.picture) at t p.traffic ea) c (listed s.settings a index c ec).in_range l)
       go (inl (c, ec)) (inr none) = inr (λ m. nothing m.aircraft _ none m.there)
       go (inr none) x = inr (λ m. nothing m.candidate _ none m.listed)

@@ -36,12 +36,6 @@ pub record AreInReach (s : Situation) (places : List ℕ) : Type 0 where
   pub every : (at : ℕ) → IsInReachAt s at → Contains places at
   pub in_order : (i j : ℕ) → i < j → j < length places → slice_index places i < slice_index places j
 
--- so many aircraft are in reach
-pub record IsCountInReach (s : Situation) (count : ℕ) : Type 0 where
-  pub places : List ℕ
-  pub in_reach : AreInReach s places
-  pub counted : count ≡ length places
-
 -- the word of a group of candidates and the aircraft at a place of the moment's list: at each place of the group, whether the list has
 -- the candidate, and the mask of the levels at which it meets the aircraft; the bits past the places are 0
 pub record IsWordOf (s : Situation) (at group word : ℕ) : Type 0 where

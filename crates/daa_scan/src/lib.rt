@@ -2,10 +2,12 @@
 //! how the answers are divided into units of work. Nothing here takes memory.
 #![tactic(auto)]
 
+mod laws;
 mod reach;
 mod scene;
 #[cfg(test)]
 mod tests;
 mod walk;
 
+pub use laws::worked_examples;
 pub use scene::Scene;

@@ -8,7 +8,7 @@ ghost use Rattle.daa_state.specs.InRange.{IsPictureInRange};
 ghost use Rattle.daa_state.specs.Picture.{aircraft_of};
 ghost use Rattle.daa_scan.specs.Reach.{IsInReachAt};
 ghost use Rattle.daa_scan.specs.Situation.{MeetsAt};
-ghost use Rattle.daa_scan.specs.Units.{group_count, most_groups, IsCountInReach};
+ghost use Rattle.daa_scan.specs.Units.{group_count, most_groups};
 ghost use Rattle.daa_scan.specs.Packed.{places_in_reach, packed_word, entry_at};
 
 use crate::reach::is_in_reach;
@@ -84,12 +84,11 @@ impl<'a> Scene<'a> {
         ensures some { 1 ≤ result }
         ensures few { result ≤ most_groups }
     {
-        groups_of(self.config)
+        self.groups
     }
 
     /// How many aircraft are in reach, at most 64.
-    pub fn count_in_reach(&self) -> u32
-        ensures value { IsCountInReach self.now result }
+    pub(crate) fn count_in_reach(&self) -> u32
         ensures listed { result ≡ length (places_in_reach self.now) }
         ensures few { result ≤ 64 }
     {
@@ -191,8 +190,6 @@ impl<'a> Answers for Scene<'a> {
 #[tactic(auto, using(daa_config::proofs::CandidateLemmas::whole_ends))]
 fn groups_of(config: &Config) -> u32
     ensures value { result ≡ group_count config.now }
-    ensures some { 1 ≤ result }
-    ensures few { result ≤ most_groups }
     ensures accepted { IsAccepted config.now }
 {
     (config.start(Kind::Height) + config.count(Kind::Height)).div_ceil(GROUP)

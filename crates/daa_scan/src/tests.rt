@@ -6,7 +6,6 @@ ghost use Rattle.daa_state.specs.InRange.{IsPictureInRange};
 mod by_seconds;
 mod reaching;
 mod rows;
-mod texts;
 mod words;
 
 use super::*;
@@ -55,4 +54,9 @@ fn may_be_shared<T: Send + Sync>() {}
 #[test]
 fn scenes_may_be_shared() {
     may_be_shared::<Scene<'static>>();
+}
+
+#[test]
+fn laws() {
+    worked_examples();
 }

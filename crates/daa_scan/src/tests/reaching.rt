@@ -1,8 +1,8 @@
 //! Which aircraft are in reach: the last place that is, and the first that is not.
 
-use super::texts::SMALL;
 use super::{Settings, config_of, picture_in};
 use crate::Scene;
+use daa_config::examples::ONE_LEVEL;
 use std::test::Fail;
 
 /// What stands in the place of parts of the configuration, the lines of an ownship and of an aircraft, and whether it is in
@@ -201,7 +201,7 @@ fn the_last_place_in_reach(rt: HostRuntime) -> Result<(), Fail> {
         let config = config_of(
             &rt,
             &Settings {
-                text: SMALL,
+                text: ONE_LEVEL,
                 edits: row.edits,
             },
         )?;

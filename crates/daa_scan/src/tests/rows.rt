@@ -3,10 +3,10 @@
 ghost use Rattle.daa_state.specs.InRange.{IsPictureInRange};
 
 use super::by_seconds::meets_by_seconds;
-use super::texts::{EXAMPLE, FOUR, SMALL};
 use super::{Settings, config_of, picture_in};
 use crate::Scene;
 use daa_config::Config;
+use daa_config::examples::{FOUR_LEVELS, ONE_LEVEL, THREE_LEVELS};
 use daa_state::Picture;
 use std::process::Abort;
 use std::test::Fail;
@@ -32,7 +32,7 @@ static ROWS: [Row; 17] = [
     Row {
         shows: "same place and velocity",
         settings: Settings {
-            text: SMALL,
+            text: ONE_LEVEL,
             edits: &[],
         },
         own: NORTH,
@@ -42,7 +42,7 @@ static ROWS: [Row; 17] = [
     Row {
         shows: "the same by a report of 10 seconds",
         settings: Settings {
-            text: SMALL,
+            text: ONE_LEVEL,
             edits: &[],
         },
         own: NORTH,
@@ -52,7 +52,7 @@ static ROWS: [Row; 17] = [
     Row {
         shows: "a foot apart from 0.48 to 0.52 seconds",
         settings: Settings {
-            text: SMALL,
+            text: ONE_LEVEL,
             edits: &[("zthr = 450", "zthr = 1")],
         },
         own: CLIMBING,
@@ -62,7 +62,7 @@ static ROWS: [Row; 17] = [
     Row {
         shows: "touch at exactly 10 seconds",
         settings: Settings {
-            text: SMALL,
+            text: ONE_LEVEL,
             edits: &[("tthr = 35", "tthr = 0")],
         },
         own: NORTH,
@@ -72,7 +72,7 @@ static ROWS: [Row; 17] = [
     Row {
         shows: "the same, alerted 9 seconds ahead",
         settings: Settings {
-            text: SMALL,
+            text: ONE_LEVEL,
             edits: &[("tthr = 35", "tthr = 0"), ("alert = 10", "alert = 9")],
         },
         own: NORTH,
@@ -82,7 +82,7 @@ static ROWS: [Row; 17] = [
     Row {
         shows: "the same, a thousandth of a mile too far",
         settings: Settings {
-            text: SMALL,
+            text: ONE_LEVEL,
             edits: &[("tthr = 35", "tthr = 0"), ("dthr = 660", "dthr = 659")],
         },
         own: NORTH,
@@ -92,7 +92,7 @@ static ROWS: [Row; 17] = [
     Row {
         shows: "touch at 10.5 seconds",
         settings: Settings {
-            text: SMALL,
+            text: ONE_LEVEL,
             edits: &[
                 ("tthr = 35", "tthr = 0"),
                 ("lookahead = 10", "lookahead = 11"),
@@ -106,7 +106,7 @@ static ROWS: [Row; 17] = [
     Row {
         shows: "modified tau of at most 35 seconds",
         settings: Settings {
-            text: SMALL,
+            text: ONE_LEVEL,
             edits: &[],
         },
         own: NORTH,
@@ -116,7 +116,7 @@ static ROWS: [Row; 17] = [
     Row {
         shows: "one leg, different times",
         settings: Settings {
-            text: SMALL,
+            text: ONE_LEVEL,
             edits: &[
                 ("zthr = 450", "zthr = 100"),
                 ("tthr = 35", "tthr = 0"),
@@ -131,7 +131,7 @@ static ROWS: [Row; 17] = [
     Row {
         shows: "diverging",
         settings: Settings {
-            text: SMALL,
+            text: ONE_LEVEL,
             edits: &[],
         },
         own: NORTH,
@@ -141,7 +141,7 @@ static ROWS: [Row; 17] = [
     Row {
         shows: "four levels",
         settings: Settings {
-            text: FOUR,
+            text: FOUR_LEVELS,
             edits: &[],
         },
         own: NORTH,
@@ -151,7 +151,7 @@ static ROWS: [Row; 17] = [
     Row {
         shows: "the first three of four levels straight ahead",
         settings: Settings {
-            text: FOUR,
+            text: FOUR_LEVELS,
             edits: &[("dthr = 660", "dthr = 659")],
         },
         own: NORTH,
@@ -161,7 +161,7 @@ static ROWS: [Row; 17] = [
     Row {
         shows: "the second of four levels is clear straight ahead",
         settings: Settings {
-            text: FOUR,
+            text: FOUR_LEVELS,
             edits: &[("dthr = 690", "dthr = 659")],
         },
         own: NORTH,
@@ -171,7 +171,7 @@ static ROWS: [Row; 17] = [
     Row {
         shows: "touch at the end of the one second",
         settings: Settings {
-            text: SMALL,
+            text: ONE_LEVEL,
             edits: &[
                 ("tthr = 35", "tthr = 0"),
                 ("lookahead = 10", "lookahead = 1"),
@@ -184,7 +184,7 @@ static ROWS: [Row; 17] = [
     Row {
         shows: "touch after the one second",
         settings: Settings {
-            text: SMALL,
+            text: ONE_LEVEL,
             edits: &[
                 ("tthr = 35", "tthr = 0"),
                 ("lookahead = 10", "lookahead = 1"),
@@ -197,7 +197,7 @@ static ROWS: [Row; 17] = [
     Row {
         shows: "touch at the end of 180 seconds",
         settings: Settings {
-            text: SMALL,
+            text: ONE_LEVEL,
             edits: &[
                 ("tthr = 35", "tthr = 0"),
                 ("lookahead = 10", "lookahead = 180"),
@@ -210,7 +210,7 @@ static ROWS: [Row; 17] = [
     Row {
         shows: "touch after 180 seconds",
         settings: Settings {
-            text: SMALL,
+            text: ONE_LEVEL,
             edits: &[
                 ("tthr = 35", "tthr = 0"),
                 ("lookahead = 10", "lookahead = 180"),
@@ -288,7 +288,7 @@ fn the_example_is_the_same_second_by_second(rt: HostRuntime) -> Result<(), Fail>
     let config = config_of(
         &rt,
         &Settings {
-            text: EXAMPLE,
+            text: THREE_LEVELS,
             edits: &[],
         },
     )?;

@@ -3,10 +3,10 @@
 ghost use Rattle.std.specs.Prelude.{◌≡◌, ◌<◌, length};
 ghost use Rattle.daa_state.specs.Picture.{aircraft_of};
 
-use super::texts::SMALL;
 use super::{Settings, config_of, picture_in};
 use crate::Scene;
 use daa_config::Config;
+use daa_config::examples::ONE_LEVEL;
 use daa_schedule::Answers;
 use std::process::Abort;
 use std::test::Fail;
@@ -28,7 +28,7 @@ fn words_of_one_group(rt: HostRuntime) -> Result<(), Fail> {
     let config = config_of(
         &rt,
         &Settings {
-            text: SMALL,
+            text: ONE_LEVEL,
             edits: &[("tthr = 35", "tthr = 0")],
         },
     )?;
@@ -65,7 +65,7 @@ fn words_of_two_groups(rt: HostRuntime) -> Result<(), Fail> {
     let config = config_of(
         &rt,
         &Settings {
-            text: SMALL,
+            text: ONE_LEVEL,
             edits: &[
                 ("track_step = 90", "track_step = 30"),
                 ("tthr = 35", "tthr = 0"),
@@ -90,7 +90,7 @@ fn no_units_where_none_is_in_reach(rt: HostRuntime) -> Result<(), Fail> {
     let config = config_of(
         &rt,
         &Settings {
-            text: SMALL,
+            text: ONE_LEVEL,
             edits: &[],
         },
     )?;

@@ -24,7 +24,7 @@ returns-clause-value c = known c
 pub returns-clause-in_range : goal.returns-clause-in_range
 returns-clause-in_range c =
     subst (λ (leg : Leg). IsLegInRange leg) (sym (known c))
-    (relative_for-in_range c.args.run.now.secs (first_leg_of c.args.run.now) c.args.aircraft.now c.args.k c.requires.run.leg c.requires.aircraft (omega (arith, c.requires.k)) c.requires.run.some (omega (arith, c.requires.k)))
+    (relative_for-in_range c.args.run.now.secs (first_leg_of c.args.run.now) c.args.aircraft.now c.args.k c.requires.run.leg c.requires.aircraft (omega (arith, c.requires.k)) c.requires.run.some c.requires.short)
 
 pub returns-clause-seconds : goal.returns-clause-seconds
 returns-clause-seconds c settings own candidate volume r =

@@ -1,5 +1,4 @@
-use Rattle.std.proofs.Common.{rules, ◌∙◌, ◌≡◌, pos, ◌*ℤ◌, FitsSigned, w32, w64, to_z-of_z}
-use Rattle.daa_fixed.specs.Toward.{toward_of}
+use Rattle.std.proofs.Common.{rules, ◌∙◌, ◌≡◌, FitsSigned, w32, w64, to_z-of_z}
 use Rattle.daa_fixed.proofs.Bounds.{as_within}
 use Rattle.daa_fixed.proofs.Towards.{from_within}
 use Rattle.daa_legs.specs.Motion.{vertical_speed_on}
@@ -7,27 +6,22 @@ use Rattle.daa_legs.proofs.StateRanges.{own_climb}
 use Rattle.daa_legs.proofs.Cases.{climb-case, height-case, climb-other, vertical_speed_on-within}
 use Rattle.daa_legs.proofs.motion.vertical_speed_at.Goals as goal
 
-known : (c : goal.After-moved) → c.moved.result ≡ vertical_speed_on c.args.own.now c.args.rates.now c.args.candidate c.args.k
+known : (c : goal.After-speed_after) → c.speed_after.result ≡ vertical_speed_on c.args.own.now c.args.rates.now c.args.candidate c.args.k
 known c =
     let f1 : FitsSigned w32 c.args.own.now.vs = search rules in
     let f2 : FitsSigned w32 c.in-Climb.w = search rules in
     let f3 : FitsSigned w32 c.args.rates.now.vs = search rules in
-    let g1 : FitsSigned w64 c.from.result = search rules in
-    let g2 : FitsSigned w64 c.from-in-Climb.result = search rules in
-    let h1 : c.from.result ≡ c.args.own.now.vs = simp to_z-of_z at c.from.ensures in
-    let h2 : c.from-in-Climb.result ≡ c.in-Climb.w = simp to_z-of_z at c.from-in-Climb.ensures in
-    (simp to_z-of_z at c.moved.ensures)
-    ∙ (λ i. toward_of (h1 i) (h2 i) (pos c.args.k *ℤ c.args.rates.now.vs))
+    (simp to_z-of_z at c.speed_after.ensures)
     ∙ climb-case c.args.own.now c.args.rates.now c.args.candidate c.in-Climb.w c.args.k c.in-Climb.is
 
 pub returns-in-Climb-clause-value : goal.returns-in-Climb-clause-value
 returns-in-Climb-clause-value c =
-    let f : FitsSigned w64 c.moved.result = search rules in
+    let f : FitsSigned w64 c.speed_after.result = search rules in
     simp to_z-of_z (known c)
 
 pub returns-in-Climb-clause-size : goal.returns-in-Climb-clause-size
 returns-in-Climb-clause-size c =
-    let f : FitsSigned w64 c.moved.result = search rules in
+    let f : FitsSigned w64 c.speed_after.result = search rules in
     simp to_z-of_z (as_within (known c) (vertical_speed_on-within c.args.own.now c.args.rates.now c.requires.own c.requires.rates c.args.candidate c.args.k c.requires.candidate))
 
 pub returns-in-Height-clause-value : goal.returns-in-Height-clause-value
@@ -41,8 +35,8 @@ returns-in-Height-clause-value c =
 pub returns-in_default : goal.returns-in_default
 returns-in_default c =
     let f : FitsSigned w32 c.args.own.now.vs = search rules in
-    let g : FitsSigned w64 c.from-in_default.result = search rules in
-    let e : c.from-in_default.result ≡ c.args.own.now.vs = simp to_z-of_z at c.from-in_default.ensures in
+    let g : FitsSigned w64 c.from.result = search rules in
+    let e : c.from.result ≡ c.args.own.now.vs = simp to_z-of_z at c.from.ensures in
     simp to_z-of_z (record {
       value = e ∙ climb-other c.args.own.now c.args.rates.now c.args.candidate c.args.k c.in_default.not-Climb c.in_default.not-Height;
       size = as_within e (from_within 10000 tt tt (own_climb c.requires.own));

@@ -48,35 +48,42 @@ parts c =
       third_size = as_within ey (small _ c.requires.aircraft.vy);
     }
 
+-- the sums of the parts, one after the other, fit
+record AreFitting (f x y : ℤ) : Type 0 where
+  first : FitsSigned w64 f
+  second : FitsSigned w64 x
+  third : FitsSigned w64 y
+  rounded : FitsSigned w64 (f +ℤ pos 1)
+  with_second : FitsSigned w64 (f +ℤ pos 1 +ℤ x)
+  whole : FitsSigned w64 (f +ℤ pos 1 +ℤ x +ℤ y)
+  size : IsWithin 30001 (f +ℤ pos 1 +ℤ x +ℤ y)
+
+fitting : (c : After-size-2) → AreFitting c.from.result c.size.result c.size-2.result
+fitting c =
+    let p = parts c in
+    let w = plus (plus (plus p.first_size one) p.second_size) p.third_size in
+    record {
+      first = fits w64 p.first_size (lit< tt);
+      second = fits w64 p.second_size (lit< tt);
+      third = fits w64 p.third_size (lit< tt);
+      rounded = fits w64 (plus p.first_size one) (lit< tt);
+      with_second = fits w64 (plus (plus p.first_size one) p.second_size) (lit< tt);
+      whole = fits w64 w (lit< tt);
+      size = w;
+    }
+
 pub overflow_add-result-3 : goal.overflow_add-result-3
 overflow_add-result-3 c =
-    let p = parts c in
-    let f1 : FitsSigned w64 c.from.result = search rules in
-    let f2 : FitsSigned w64 c.size.result = search rules in
-    let f3 : FitsSigned w64 c.size-2.result = search rules in
-    let g1 : FitsSigned w64 (c.from.result +ℤ pos 1) = fits w64 (plus p.first_size one) (lit< tt) in
-    let g2 : FitsSigned w64 (c.from.result +ℤ pos 1 +ℤ c.size.result) = fits w64 (plus (plus p.first_size one) p.second_size) (lit< tt) in
-    simp to_z-of_z (fits w64 (plus (plus (plus p.first_size one) p.second_size) p.third_size) (lit< tt))
+    let t = fitting c in
+    simp (to_z-of_z t.first, to_z-of_z t.second, to_z-of_z t.third, to_z-of_z t.rounded, to_z-of_z t.with_second) t.whole
 
 pub returns-clause-value : goal.returns-clause-value
 returns-clause-value c =
     let p = parts c in
-    let f1 : FitsSigned w64 c.from.result = search rules in
-    let f2 : FitsSigned w64 c.size.result = search rules in
-    let f3 : FitsSigned w64 c.size-2.result = search rules in
-    let g1 : FitsSigned w64 (c.from.result +ℤ pos 1) = fits w64 (plus p.first_size one) (lit< tt) in
-    let g2 : FitsSigned w64 (c.from.result +ℤ pos 1 +ℤ c.size.result) = fits w64 (plus (plus p.first_size one) p.second_size) (lit< tt) in
-    let g3 : FitsSigned w64 (c.from.result +ℤ pos 1 +ℤ c.size.result +ℤ c.size-2.result) = fits w64 (plus (plus (plus p.first_size one) p.second_size) p.third_size) (lit< tt) in
-    simp to_z-of_z (λ i. p.first i +ℤ pos 1 +ℤ p.second i +ℤ p.third i)
+    let t = fitting c in
+    simp (to_z-of_z t.first, to_z-of_z t.second, to_z-of_z t.third, to_z-of_z t.rounded, to_z-of_z t.with_second, to_z-of_z t.whole) (λ i. p.first i +ℤ pos 1 +ℤ p.second i +ℤ p.third i)
 
 pub returns-clause-size : goal.returns-clause-size
 returns-clause-size c =
-    let p = parts c in
-    let f1 : FitsSigned w64 c.from.result = search rules in
-    let f2 : FitsSigned w64 c.size.result = search rules in
-    let f3 : FitsSigned w64 c.size-2.result = search rules in
-    let g1 : FitsSigned w64 (c.from.result +ℤ pos 1) = fits w64 (plus p.first_size one) (lit< tt) in
-    let g2 : FitsSigned w64 (c.from.result +ℤ pos 1 +ℤ c.size.result) = fits w64 (plus (plus p.first_size one) p.second_size) (lit< tt) in
-    let w = plus (plus (plus p.first_size one) p.second_size) p.third_size in
-    let g3 : FitsSigned w64 (c.from.result +ℤ pos 1 +ℤ c.size.result +ℤ c.size-2.result) = fits w64 w (lit< tt) in
-    simp to_z-of_z (record { size = omega (arith, w.size) })
+    let t = fitting c in
+    simp (to_z-of_z t.first, to_z-of_z t.second, to_z-of_z t.third, to_z-of_z t.rounded, to_z-of_z t.with_second, to_z-of_z t.whole) (record { size = omega (arith, t.size.size) })

@@ -1,7 +1,7 @@
 use Rattle.std.proofs.Common.{◌↔◌, ◌≤◌, ◌+◌, refl, arith}
 use Rattle.std.specs.Prelude.{IsTrue}
 use Rattle.daa_legs.specs.Runs.{MeetsBetween}
-use Rattle.daa_scan.proofs.Walks.{run_is, run_walked, met}
+use Rattle.daa_legs.proofs.Walks.{run_is, run_walked, met}
 use Rattle.daa_scan.proofs.walk.meets.Goals as goal
 use Rattle.daa_scan.proofs.walk.meets.Goals.{After-is_hit}
 
@@ -14,7 +14,7 @@ inside c = omega (arith, c.next_run-run.ensures.longest.within, c.loop-k.invaria
 
 pub loop-k-init : goal.loop-k-init
 loop-k-init c = record {
-  walked = record { course = c.begin-flight.ensures; none = λ j h. absurd (omega (arith, h)) };
+  walked = record { at = c.begin-flight.ensures; none = λ j h. absurd (omega (arith, h)) };
   upto = omega arith;
 }
 

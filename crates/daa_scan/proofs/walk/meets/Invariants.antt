@@ -1,5 +1,5 @@
 use Rattle.std.proofs.Common.{◌-◌, ◌≤◌}
-use Rattle.daa_scan.proofs.Walks.{IsWalked}
+use Rattle.daa_legs.proofs.Walks.{IsWalked}
 use Rattle.daa_scan.proofs.walk.meets.Given as goal
 
 abbrev pub invariant-loop-k : goal.invariant-loop-k

@@ -1,8 +1,8 @@
 use Rattle.std.proofs.Common.{◌≡◌, ◌+◌, ℕ, sym, ap, ◌∙◌, arith, length}
 use Rattle.daa_state.specs.Picture.{aircraft_of}
 use Rattle.daa_scan.specs.Situation.{Situation}
-use Rattle.daa_scan.specs.Packed.{is_reached_at, numbers_below, places_in_reach}
-use Rattle.daa_scan.proofs.Numbers.{none_below, count_small, counted_here, passed_here, are_in_reach}
+use Rattle.daa_scan.specs.Packed.{is_reached_at, numbers_below}
+use Rattle.daa_scan.proofs.Numbers.{none_below, count_small, counted_here, passed_here}
 use Rattle.daa_scan.proofs.scene.Scene.count_in_reach.Goals as goal
 use Rattle.daa_scan.proofs.scene.Scene.count_in_reach.Goals.{After-loop-aircraft, then-in_reach, else-in_reach}
 
@@ -27,14 +27,8 @@ all c =
     let e : c.loop-aircraft.aircraft ≡ length (aircraft_of c.self.inside.picture.now) = omega (arith, c.loop-aircraft-test.false, c.loop-aircraft.auto.aircraft-end, c.len-aircraft-end.ensures.value) in
     e ∙ ap (λ (s : Situation). length (aircraft_of s.picture)) c.self.view_is
 
-listed : (c : After-loop-aircraft) → c.loop-aircraft.count ≡ length (places_in_reach c.args.self.now)
-listed c = c.loop-aircraft.invariant ∙ ap (λ (n : ℕ). length (numbers_below (is_reached_at c.args.self.now) n)) (all c)
-
-pub returns-clause-value : goal.returns-clause-value
-returns-clause-value c = record { places = places_in_reach c.args.self.now; in_reach = are_in_reach c.args.self.now; counted = listed c }
-
 pub returns-clause-listed : goal.returns-clause-listed
-returns-clause-listed c = listed c
+returns-clause-listed c = c.loop-aircraft.invariant ∙ ap (λ (n : ℕ). length (numbers_below (is_reached_at c.args.self.now) n)) (all c)
 
 pub returns-clause-few : goal.returns-clause-few
 returns-clause-few c =

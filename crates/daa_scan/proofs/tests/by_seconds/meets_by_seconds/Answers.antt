@@ -1,13 +1,13 @@
 use Rattle.std.proofs.Common.{◌≡◌, refl, ap, arith}
-use Rattle.daa_legs.specs.Course.{Course}
-use Rattle.daa_scan.proofs.Walks.{next_is, next_walked, walked_none}
+use Rattle.daa_legs.specs.FlightProgress.{FlightProgress}
+use Rattle.daa_legs.proofs.Walks.{next_is, next_walked, walked_none}
 use Rattle.daa_scan.proofs.tests.by_seconds.meets_by_seconds.Goals as goal
 
 pub loop-k-init : goal.loop-k-init
-loop-k-init c = record { course = c.begin-flight.ensures; none = λ j h. absurd (omega (arith, h)) }
+loop-k-init c = record { at = c.begin-flight.ensures; none = λ j h. absurd (omega (arith, h)) }
 
 pub next_leg-requires : goal.next_leg-requires
-next_leg-requires c = let e : c.loop-k.flight.taken ≡ c.loop-k.k = ap (λ (f : Course). f.taken) c.loop-k.invariant.course in
+next_leg-requires c = let e : c.loop-k.flight.taken ≡ c.loop-k.k = ap (λ (f : FlightProgress). f.taken) c.loop-k.invariant.at in
     omega (arith, e, c.loop-k-test.true, c.requires.level.lookahead_most)
 
 pub returns-then-is_hit : goal.returns-then-is_hit

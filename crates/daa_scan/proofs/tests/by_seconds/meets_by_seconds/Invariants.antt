@@ -1,4 +1,4 @@
-use Rattle.daa_scan.proofs.Walks.{IsWalked}
+use Rattle.daa_legs.proofs.Walks.{IsWalked}
 use Rattle.daa_scan.proofs.tests.by_seconds.meets_by_seconds.Given as goal
 
 abbrev pub invariant-loop-k : goal.invariant-loop-k

@@ -8,20 +8,20 @@ use Rattle.daa_state.specs.declared.word.Own.{Own}
 use Rattle.daa_state.specs.InRange.{IsOwnInRange}
 use Rattle.daa_legs.specs.OwnLegs.{place_on}
 
-pub record Course : Type 0 where
+pub record FlightProgress : Type 0 where
   pub own : Own
   pub rates : Rates
   pub candidate : Candidate
   pub taken : ℕ
 
 -- its values are in their ranges, and no more than 180 legs were taken
-pub record IsCourseInRange (course : Course) : Type 0 where
-  pub own : IsOwnInRange course.own
-  pub rates : AreRatesInRange course.rates
-  pub candidate : IsCandidateInRange course.candidate
-  pub taken : course.taken ≤ 180
+pub record IsFlightInRange (flight : FlightProgress) : Type 0 where
+  pub own : IsOwnInRange flight.own
+  pub rates : AreRatesInRange flight.rates
+  pub candidate : IsCandidateInRange flight.candidate
+  pub taken : flight.taken ≤ 180
 
 -- what a running flight keeps: its place is that of the next leg
-pub record IsFlown (course : Course) (place : Solid) : Type 0 where
-  pub in_range : IsCourseInRange course
-  pub at : place ≡ place_on course.own course.rates course.candidate course.taken
+pub record IsFlown (flight : FlightProgress) (place : Solid) : Type 0 where
+  pub in_range : IsFlightInRange flight
+  pub at : place ≡ place_on flight.own flight.rates flight.candidate flight.taken
