@@ -1,6 +1,6 @@
 -- The steps of a seat on another's range, and what it keeps of a stolen half.
 use Rattle.std.proofs.Common.{◌≡◌, ◌≢◌, ℕ, ◌-◌, ◌^◌, ◌<◌, ◌≤◌, inl, inr, true, false, eqb, List, [], ◌∷◌, length, get_or, set, sym, refl, ap, ◌∙◌, subst, arith, get_or-set_same, get_or-set_other, eq-eqb, ne_eqb}
-use Rattle.std.proofs.lemmas.List.{set-get_or}
+use Rattle.std.proofs.lemmas.List.{set-get_or, append-nil}
 use mathlib.Core.Option.{none, some}
 use mathlib.Core.Logic.{dite}
 use native.Mathlib.Decide.{ℕ_discrete}
@@ -24,14 +24,15 @@ use Rattle.daa_pool.specs.Rule.{Pools, word_at, Ruled, Holds}
 use Rattle.daa_pool.specs.Steps as play
 use Rattle.daa_pool.specs.Seat.{IsFree}
 use Rattle.daa_pool.proofs.Views.{not_blank}
+use Rattle.daa_pool.proofs.History.{sees_none}
 use Rattle.daa_pool.proofs.Frame.{Moves, follows}
 use Rattle.daa_pool.proofs.Words.{packed_in_order, word_is, shows_range}
 use Rattle.daa_pool.proofs.Home.{same_place, own, known, ranges_known, stays}
 
 -- the other range is seen, and nothing changes
 module _ (workers : ℕ) (s : Pools) (r : Ruled workers s) (id : ℕ) (v : View) (at : get_elem? s.views id ≡ some v) (alive : v.live ≡ true) where
-  pub looks_away_moves : (other n : ℕ) (ws : List ℕ) → ws ≡ s.words → Moves workers r.made s.words ws r.core r.core v (looked v other n)
-  looks_away_moves other n ws e = let o = own workers s r id v at alive in stays workers s r id v at alive ws (looked v other n) e refl refl refl refl o.first o.upto
+  pub looks_away_moves : (other : ℕ) (ws : List ℕ) → other < workers → ws ≡ s.words → Moves workers r.made s.words ws r.core r.core v (looked v other (word_at s.words other))
+  looks_away_moves other ws there e = let o = own workers s r id v at alive in stays workers s r id v at alive ws (looked v other (word_at s.words other)) other there refl e refl refl refl refl o.first o.upto
 
 pub look_away_at : (k : Size) (slots id : ℕ) (me : play.Sat) (other : ℕ) → me.0.live ≡ true → me.0.over ≡ false → other < k.workers
     → Allows (Holds k) slots id me other (λ n. n) (play.looks_away (step slots other 0 0 none) me)
@@ -41,7 +42,7 @@ look_away_at k slots id me other alive going there s (inr r) long at small = let
   keeps,
   tt,
   inr (follows k.workers s r id v (looked v other x) at alive going (same_place v _ _ _ _ _ _) (set s.words other x) r.core s.homes
-      (looks_away_moves k.workers s r id v at alive other x (set s.words other x) (set-get_or s.words other 0))),
+      (looks_away_moves k.workers s r id v at alive other (set s.words other x) there (set-get_or s.words other 0))),
   ((refl, refl), sh.in_order other there),
 )
 
@@ -97,6 +98,9 @@ module _ (workers : ℕ) (s : Pools) (r : Ruled workers s) (id : ℕ) (v : View)
         moves = refl;
         mine = steps_of_own (core.Steal v.number other) v.number refl;
         not_others = λ m n. steps_of_other (core.Steal v.number other) m (λ e. n (sym e));
+        seen = [];
+        looks = sym (append-nil v.looks);
+        saw = λ log h m. sees_none (opened r.core.answers workers) log v.number;
       }
 
   -- the units that are stolen have answers
@@ -137,7 +141,7 @@ steal_at k slots id me other old new x eo en alive free bare there apart two sma
       tt,
       subst (λ b. Holds k (stepped s other (either b new y) id me.1 (looked v other y) keeps)) (sym (ne_eqb y old miss))
           (inr (follows k.workers s r id v (looked v other y) at alive free.going (same_place v _ _ _ _ _ _) (set s.words other y) r.core s.homes
-          (looks_away_moves k.workers s r id v at alive other y (set s.words other y) (set-get_or s.words other 0)))),
+          (looks_away_moves k.workers s r id v at alive other (set s.words other y) there (set-get_or s.words other 0)))),
       ((λ e. absurd (miss e)), λ _. ((refl, refl), sh.in_order other there)),
     ))
 
@@ -175,6 +179,9 @@ module _ (workers : ℕ) (s : Pools) (r : Ruled workers s) (id : ℕ) (v : View)
         moves = refl;
         mine = steps_of_own (core.Keep v.number) v.number refl;
         not_others = λ m n. steps_of_other (core.Keep v.number) m (λ e. n (sym e));
+        seen = [];
+        looks = sym (append-nil v.looks);
+        saw = λ log h m. sees_none (opened r.core.answers workers) log v.number;
       }
 
 pub keep_at : (k : Size) (slots id : ℕ) (me : play.Sat) (i new : ℕ) → me.0.number ≡ i → packed (rest_of me.0.hand) ≡ new → me.0.live ≡ true → me.0.over ≡ false → 2 ≤ span_len me.0.hand → me.0.hand.upto < 2 ^ 32

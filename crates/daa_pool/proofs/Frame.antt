@@ -13,10 +13,13 @@ use Rattle.daa_schedule.proofs.Histories.{steps_of-append}
 use Rattle.std.proofs.lemmas.Bool.{true≢false}
 use Rattle.std.proofs.lemmas.List.{append-nil}
 use Rattle.daa_pool.specs.declared.view.View.{View}
+use Rattle.daa_pool.specs.declared.view.Look.{Look}
 use Rattle.daa_pool.specs.declared.view.Part.{Part}
-use Rattle.daa_pool.specs.View.{times, HasNumber}
+use Rattle.daa_pool.specs.View.{times, part_of, HasNumber}
+use Rattle.daa_pool.specs.History.{WasSo, IsPartOf}
 use Rattle.daa_pool.specs.Rule.{Pools, word_at, Shows, IsSeated, IsHeld, Ruled}
 use Rattle.daa_pool.proofs.Lists.{found_at, total_set}
+use Rattle.daa_pool.proofs.History.{part_still, part_more}
 
 -- the other workers of the core are as they were, but a range may be shorter
 pub record IsLike (c d : CoreState) (m : ℕ) : Type 0 where
@@ -48,10 +51,13 @@ pub record Moves (workers made : ℕ) (words words' : List ℕ) (c d : CoreState
   pub unmade : (m : ℕ) → made ≤ m → m < workers → word_at words' m ≡ word_at words m
   pub settled : (u : ℕ) → times u w.settled + times_on u c.board ≡ times u v.settled + times_on u d.board
   pub steps : List Step
+  pub seen : List Look
   pub path : (log : List Step) → IsHistory (opened c.answers workers) log c → IsHistory (opened d.answers workers) (log ++ steps) d
   pub moves : w.moves ≡ v.moves ++ steps
   pub mine : steps_of v.number steps ≡ steps
   pub not_others : (m : ℕ) → m ≢ v.number → steps_of m steps ≡ []
+  pub looks : w.looks ≡ v.looks ++ seen
+  pub saw : (log : List Step) → IsHistory (opened c.answers workers) log c → steps_of v.number log ≡ v.moves → (look : Look) → Contains seen look → WasSo (opened c.answers workers) log v.number look
 
 module _ (workers : ℕ) (s : Pools) (r : Ruled workers s) (id : ℕ) (v w : View) (at : get_elem? s.views id ≡ some v) (alive : v.live ≡ true)
     (going : v.over ≡ false) (place : SamePlace v w) where
@@ -84,9 +90,14 @@ module _ (workers : ℕ) (s : Pools) (r : Ruled workers s) (id : ℕ) (v w : Vie
     like : (m : ℕ) → m ≢ v.number → IsLike r.core d m
     like = moves.others
 
-    -- the steps of another worker are what they were
-    no_more : (m : ℕ) → m ≢ v.number → steps_of m (r.log ++ moves.steps) ≡ steps_of m r.log
-    no_more m n = steps_of-append m r.log moves.steps ∙ (ap (λ (l : List Step). steps_of m r.log ++ l) (moves.not_others m n) ∙ append-nil (steps_of m r.log))
+    -- what another worker did and saw
+    its_part : (part : Part) → part.number ≢ v.number → IsPartOf (opened r.core.answers workers) r.log part → IsPartOf (opened d.answers workers) (r.log ++ moves.steps) part
+    its_part part n p = subst (λ (xs : List ℕ). IsPartOf (opened xs workers) (r.log ++ moves.steps) part) (sym moves.answers)
+        (part_still (opened r.core.answers workers) r.log moves.steps part (moves.not_others part.number n) p)
+
+    own_part : IsPartOf (opened d.answers workers) (r.log ++ moves.steps) (part_of w)
+    own_part = let o = own in let p = o.part in subst (λ (xs : List ℕ). IsPartOf (opened xs workers) (r.log ++ moves.steps) (part_of w)) (sym moves.answers)
+        (part_more (opened r.core.answers workers) r.log moves.steps v w moves.seen place.number moves.moves moves.looks moves.mine (moves.saw r.log r.history p.moves) p)
 
     own_seated : IsSeated d (r.log ++ moves.steps) workers r.made r.carrier r.holder id w
     own_seated = let o = own in record {
@@ -96,10 +107,10 @@ module _ (workers : ℕ) (s : Pools) (r : Ruled workers s) (id : ℕ) (v w : Vie
       answers = place.answers ∙ (o.answers ∙ sym moves.answers);
       hand = ap (λ (m : ℕ). hand_at d m) place.number ∙ moves.hand;
       over = ap (λ (m : ℕ). has_ended d m) place.number ∙ moves.over;
-      moves = ap (λ (m : ℕ). steps_of m (r.log ++ moves.steps)) place.number ∙ (steps_of-append v.number r.log moves.steps ∙ (ap (λ (l : List Step). l ++ steps_of v.number moves.steps) o.moves ∙ (ap (λ (l : List Step). v.moves ++ l) moves.mine ∙ sym moves.moves)));
+      part = own_part;
       joined = λ part h. let p = o.joined part (subst (λ (parts : List Part). Contains parts part) place.joined h) in
           let ne : part.number ≢ v.number = (λ e. true≢false ((sym p.1 ∙ ap (λ (m : ℕ). has_ended r.core m) e) ∙ (o.over ∙ going))) in
-          let l = like part.number ne in (l.hand ∙ p.0, l.over ∙ p.1, no_more part.number ne ∙ p.2);
+          let l = like part.number ne in (l.hand ∙ p.0, l.over ∙ p.1, its_part part ne p.2);
       first = ap (λ (m : ℕ). (range_at d m).first) place.number ∙ moves.first;
       upto = subst (λ (m : ℕ). (range_at d m).upto ≤ w.bound.upto) (sym place.number) moves.upto;
     }
@@ -113,9 +124,9 @@ module _ (workers : ℕ) (s : Pools) (r : Ruled workers s) (id : ℕ) (v w : Vie
           answers = o.answers ∙ sym moves.answers;
           hand = l.hand ∙ o.hand;
           over = l.over ∙ o.over;
-          moves = no_more x.number ne' ∙ o.moves;
+          part = its_part (part_of x) ne' o.part;
           joined = λ part h. let p = o.joined part h in let ne'' = apart j part.number ne (o.number part.number (inr (part, h, refl))).1 in
-              let k = like part.number ne'' in (k.hand ∙ p.0, k.over ∙ p.1, no_more part.number ne'' ∙ p.2);
+              let k = like part.number ne'' in (k.hand ∙ p.0, k.over ∙ p.1, its_part part ne'' p.2);
           first = l.first ∙ o.first;
           upto = let a = l.upto in let b = o.upto in omega arith;
         }
@@ -139,7 +150,7 @@ module _ (workers : ℕ) (s : Pools) (r : Ruled workers s) (id : ℕ) (v w : Vie
           (λ n. (c.0, set_else s.views id r.carrier w n ∙ c.1, c.2, c.3));
       unmade = λ n a b. let u = r.unmade n a b in
           let ne : n ≢ v.number = (λ e. let p = (own).number v.number (inl refl) in absurd (let q = p.0 in omega arith)) in let l = like n ne in
-          record { word = moves.unmade n a b ∙ u.word; hand = l.hand ∙ u.hand; going = l.over ∙ u.going; moves = no_more n ne ∙ u.moves };
+          record { word = moves.unmade n a b ∙ u.word; hand = l.hand ∙ u.hand; going = l.over ∙ u.going; moves = steps_of-append n r.log moves.steps ∙ (ap (λ (l : List Step). steps_of n r.log ++ l) (moves.not_others n ne) ∙ (append-nil (steps_of n r.log) ∙ u.moves)) };
       seats = λ j x e l. ⊎_elim
           (λ t. subst (λ (p : ℕ × View). IsSeated d (r.log ++ moves.steps) workers r.made r.carrier r.holder p.0 p.1) (λ i. (sym t.0 i, t.1 i)) own_seated)
           (λ t. other_seated j x t.0 (r.seats j x t.1 l))

@@ -23,12 +23,13 @@ use Rattle.daa_pool.proofs.Few.{few_settled}
 use Rattle.daa_pool.specs.declared.view.View.{View}
 use Rattle.daa_pool.specs.declared.view.Look.{Look}
 use Rattle.daa_pool.specs.declared.view.Size.{Size}
-use Rattle.daa_pool.specs.View.{looked_home, claimed, settled, ended, times}
+use Rattle.daa_pool.specs.View.{look, looked_home, claimed, settled, ended, times}
 use Rattle.daa_pool.specs.Rule.{Pools, word_at, Shows, IsSeated, Ruled, Holds}
 use Rattle.daa_pool.specs.Steps.{Sat, IsHome, looks_home, claims, settles, ends}
 use Rattle.daa_pool.specs.Seat.{IsFree, HasPiece}
 use Rattle.daa_pool.proofs.Lists.{found_at}
 use Rattle.daa_pool.proofs.Views.{not_blank}
+use Rattle.daa_pool.proofs.History.{sees_none, sees_one}
 use Rattle.atomic_table.proofs.Lists.{set_here}
 use Rattle.daa_pool.proofs.Frame.{IsLike, SamePlace, Moves, follows}
 use Rattle.daa_pool.proofs.Words.{packed_in_order, word_is, shows_range, shows_board, times_settle}
@@ -59,10 +60,10 @@ module _ (workers : ℕ) (s : Pools) (r : Ruled workers s) (id : ℕ) (v : View)
       let f = o.first in let u = o.upto in
       record { in_order = order; first = sym a ∙ f; upto = omega arith }
 
-  -- nothing has changed but what the seat has seen
-  pub stays : (ws : List ℕ) (w : View) → ws ≡ s.words → w.hand ≡ v.hand → w.over ≡ v.over → w.settled ≡ v.settled → w.moves ≡ v.moves
+  -- nothing has changed but what the seat has seen, which is a worker's range
+  pub stays : (ws : List ℕ) (w : View) (other : ℕ) → other < workers → w.looks ≡ v.looks ++ look v other (word_at s.words other) ∷ [] → ws ≡ s.words → w.hand ≡ v.hand → w.over ≡ v.over → w.settled ≡ v.settled → w.moves ≡ v.moves
       → (range_at r.core v.number).first ≡ w.bound.first → (range_at r.core v.number).upto ≤ w.bound.upto → Moves workers r.made s.words ws r.core r.core v w
-  stays ws w e hand over settled moves first upto = let o = own in record {
+  stays ws w other there looks e hand over settled moves first upto = let o = own in let sh = r.shows in record {
     shaped = r.shaped;
     whole = r.whole;
     answers = refl;
@@ -79,10 +80,13 @@ module _ (workers : ℕ) (s : Pools) (r : Ruled workers s) (id : ℕ) (v : View)
     moves = moves ∙ sym (append-nil v.moves);
     mine = refl;
     not_others = λ m n. refl;
+    seen = look v other (word_at s.words other) ∷ [];
+    looks = looks;
+    saw = λ log h m. sees_one (opened r.core.answers workers) r.core log v other (word_at s.words other) (sh.in_order other there) (sh.ranges other there) h m;
   }
 
   pub looks_home_moves : (ws : List ℕ) → ws ≡ s.words → Moves workers r.made s.words ws r.core r.core v (looked_home v (word_at s.words v.number))
-  looks_home_moves ws e = stays ws (looked_home v (word_at s.words v.number)) e refl refl refl refl (ap (λ (x : Span). x.first) home_word) (let b = ap (λ (x : Span). x.upto) home_word in omega arith)
+  looks_home_moves ws e = stays ws (looked_home v (word_at s.words v.number)) v.number known refl e refl refl refl refl (ap (λ (x : Span). x.first) home_word) (let b = ap (λ (x : Span). x.upto) home_word in omega arith)
 
 pub look_home_allowed : (k : Size) (slots id : ℕ) (me : Sat) → me.0.live ≡ true → me.0.over ≡ false
     → Allows (Holds k) slots id me me.0.number (λ n. n) (looks_home (step slots me.0.number 0 0 none) me)
@@ -136,6 +140,9 @@ module _ (workers : ℕ) (s : Pools) (r : Ruled workers s) (id : ℕ) (v : View)
         moves = refl;
         mine = steps_of_own (core.Claim v.number) v.number refl;
         not_others = λ m n. steps_of_other (core.Claim v.number) m (λ e. n (sym e));
+        seen = [];
+        looks = sym (append-nil v.looks);
+        saw = λ log h m. sees_none (opened r.core.answers workers) log v.number;
       }
 
   -- the unit that is claimed has an answer
@@ -201,6 +208,9 @@ module _ (workers : ℕ) (s : Pools) (r : Ruled workers s) (id : ℕ) (v : View)
         moves = refl;
         mine = steps_of_own (core.End v.number) v.number refl;
         not_others = λ m n. steps_of_other (core.End v.number) m (λ e. n (sym e));
+        seen = look v v.number (word_at s.words v.number) ∷ [];
+        looks = refl;
+        saw = λ log h m. sees_one (opened r.core.answers workers) r.core log v v.number (word_at s.words v.number) (w.in_order v.number (known workers s r id v at alive)) (home_word workers s r id v at alive) h m;
       }
 
 pub end_allowed : (k : Size) (slots id : ℕ) (me : Sat) → me.0.live ≡ true → IsFree me.0 → span_len me.0.bound ≡ 0
@@ -263,6 +273,9 @@ module _ (workers : ℕ) (s : Pools) (r : Ruled workers s) (id : ℕ) (v : View)
         moves = refl;
         mine = steps_of_own (core.Settle v.number word) v.number refl;
         not_others = λ m n. steps_of_other (core.Settle v.number word) m (λ e. n (sym e));
+        seen = [];
+        looks = sym (append-nil v.looks);
+        saw = λ log h m. sees_none (opened r.core.answers workers) log v.number;
       }
 
 pub settle_allowed : (k : Size) (slots id : ℕ) (me : Sat) (f word : ℕ) → me.0.live ≡ true → HasPiece me.0 f → word ≡ slice_index me.0.answers f

@@ -1,5 +1,6 @@
 pub mod Lists
 pub mod Views
+pub mod History
 pub mod Frame
 pub mod Words
 pub mod Few

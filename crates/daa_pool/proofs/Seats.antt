@@ -10,7 +10,7 @@ use Rattle.atomic_table.specs.Table.{Splits}
 use Rattle.atomic_table.proofs.Lists.{at_set, set_here, set_else, at_longer, at_last}
 use Rattle.daa_range.specs.Range.{Span}
 use Rattle.daa_range.specs.Word.{unpacked}
-use Rattle.daa_schedule.specs.CoreState.{range_at, hand_at, has_ended}
+use Rattle.daa_schedule.specs.CoreState.{range_at, hand_at, has_ended, opened}
 use Rattle.daa_schedule.specs.Runs.{steps_of}
 use Rattle.daa_pool.specs.declared.view.View.{View}
 use Rattle.daa_pool.specs.declared.view.Size.{Size}
@@ -18,6 +18,7 @@ use Rattle.daa_pool.specs.View.{left_behind, next_seat, times, HasNumber}
 use Rattle.daa_pool.specs.Rule.{Pools, IsSeated, IsHeld, Ruled, Holds}
 use Rattle.daa_pool.proofs.Lists.{Contains-nil, at_end, found_at, total_set}
 use Rattle.daa_pool.proofs.Views.{not_blank}
+use Rattle.daa_pool.proofs.History.{sees_none}
 
 module _ (workers : ℕ) (s : Pools) (r : Ruled workers s) (id : ℕ) (v : View) (at : get_elem? s.views id ≡ some v) (alive : v.live ≡ true)
     (carries : v.carries ≡ true) (room : v.made < workers) where
@@ -66,7 +67,7 @@ module _ (workers : ℕ) (s : Pools) (r : Ruled workers s) (id : ℕ) (v : View)
         answers = o.answers;
         hand = ap (λ (n : ℕ). hand_at r.core n) made_is ∙ u.hand;
         over = ap (λ (n : ℕ). has_ended r.core n) made_is ∙ u.going;
-        moves = ap (λ (n : ℕ). steps_of n r.log) made_is ∙ u.moves;
+        part = record { moves = ap (λ (n : ℕ). steps_of n r.log) made_is ∙ u.moves; looks = sees_none (opened r.core.answers workers) r.log v.made };
         joined = λ part h. absurd (Contains-nil part h);
         first = ap (λ (n : ℕ). (range_at r.core n).first) made_is ∙ ap (λ (x : Span). x.first) range;
         upto = subst (λ (n : ℕ). (range_at r.core n).upto ≤ 0) (sym made_is) (let a = ap (λ (x : Span). x.upto) range in omega arith);
@@ -80,7 +81,7 @@ module _ (workers : ℕ) (s : Pools) (r : Ruled workers s) (id : ℕ) (v : View)
     answers = o.answers;
     hand = o.hand;
     over = o.over;
-    moves = o.moves;
+    part = o.part;
     joined = o.joined;
     first = o.first;
     upto = o.upto;
@@ -94,7 +95,7 @@ module _ (workers : ℕ) (s : Pools) (r : Ruled workers s) (id : ℕ) (v : View)
     answers = o.answers;
     hand = o.hand;
     over = o.over;
-    moves = o.moves;
+    part = o.part;
     joined = o.joined;
     first = o.first;
     upto = o.upto;

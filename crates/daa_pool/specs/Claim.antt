@@ -16,6 +16,10 @@ pub record IsLater (before after : View) (seen : List Look) (steps : List Step) 
   pub looks : after.looks ≡ before.looks ++ seen
   pub moves : after.moves ≡ before.moves ++ steps
 
+-- when these looks were made, the seat had made the steps that it shows here, and no more
+abbrev pub AreFresh : View → List Look → Type 0
+AreFresh view seen = (look : Look) → Contains seen look → look.moves ≡ length view.moves
+
 -- a look found the worker's range empty
 abbrev pub SawEmpty : List Look → ℕ → Type 0
 SawEmpty seen worker = (look : Look) × Contains seen look × (look.worker ≡ worker) × (span_len (unpacked look.word) ≡ 0)
@@ -56,10 +60,11 @@ pub record Claims (before after : View) (unit : ℕ) : Type 0 where
   pub piece : HasPiece after unit
   pub brief : IsBrief before.number seen
 
--- a call that gives none: it saw the own range empty and each other range short or changing, and it ends the worker, which has settled no more units than there are
+-- a call that gives none: it saw the own range empty and each other range short or changing, each as it was after the last step that the worker made before the call, and it ends the worker, which has settled no more units than there are
 pub record FindsNothing (before after : View) : Type 0 where
   pub seen : List Look
   pub later : IsLater before after seen (End before.number ∷ [])
+  pub fresh : AreFresh before seen
   pub over : IsOver after
   pub empty : SawEmpty seen before.number
   pub others : (other : ℕ) → other < before.workers → other ≢ before.number → IsBare seen other

@@ -5,7 +5,7 @@ use Rattle.daa_schedule.specs.declared.step.Step.{Step}
 use Rattle.daa_pool.specs.declared.view.View.{View}
 use Rattle.daa_pool.specs.declared.view.Look.{Look}
 use Rattle.daa_pool.specs.Seat.{IsFree, HasPiece}
-use Rattle.daa_pool.specs.Claim.{IsLater, IsTaking, IsBare, looks_at}
+use Rattle.daa_pool.specs.Claim.{IsLater, IsTaking, AreFresh, IsBare, looks_at}
 
 -- the seat goes on to other ranges: it is free, and its own range is empty, as the last look showed
 pub record IsSeeking (view : View) : Type 0 where
@@ -25,6 +25,7 @@ pub record TakesFrom (before after : View) (first upto : ℕ) (unit : ℕ) : Typ
 pub record Toured (before after : View) (first upto : ℕ) : Type 0 where
   pub seen : List Look
   pub later : IsLater before after seen []
+  pub fresh : AreFresh before seen
   pub seeking : IsSeeking after
   pub bare : (other : ℕ) → first ≤ other → other < upto → IsBare seen other
   pub brief : (other : ℕ) → looks_at other seen ≤ 2 * times_in other (span first upto)
