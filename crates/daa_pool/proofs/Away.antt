@@ -16,9 +16,9 @@ use Rattle.daa_schedule.proofs.Histories.{one_more, steps_of_own, steps_of_other
 use Rattle.daa_schedule.specs.declared.step.Step.TheVariants as core
 use Rattle.daa_schedule.proofs.Faults.{Steals, Keeps}
 use Rattle.daa_schedule.proofs.Steps.{steal_whole, steal_shaped, keep_whole, keep_shaped, in_range}
-use Rattle.daa_schedule.proofs.Workers.{times_in_inside}
+use Rattle.daa_range.proofs.Ranges.{times_in_inside}
 use Rattle.daa_pool.specs.declared.view.View.{View}
-use Rattle.daa_pool.specs.declared.view.Size.{Size}
+use Rattle.daa_pool.specs.declared.pool.Size.{Size}
 use Rattle.daa_pool.specs.View.{looked, stolen, kept}
 use Rattle.daa_pool.specs.Rule.{Pools, word_at, Ruled, Holds}
 use Rattle.daa_pool.specs.Steps as play

@@ -1,5 +1,5 @@
 -- What a step of one seat owes, and that the rule then holds after it.
-use Rattle.std.proofs.Common.{◌≡◌, ◌≢◌, ℕ, ◌+◌, ◌<◌, ◌≤◌, inl, inr, ⊎_elim, true, false, List, [], ◌++◌, set, sym, refl, ap, ◌∙◌, subst, arith}
+use Rattle.std.proofs.Common.{◌≡◌, ◌≢◌, ℕ, ◌+◌, ◌<◌, ◌≤◌, inl, inr, ⊎_elim, Bool, true, false, List, [], ◌++◌, set, sym, refl, ap, ◌∙◌, subst, arith}
 use mathlib.Core.Option.{Option, some, some-injective}
 use mathlib.Core.Logic.{dite}
 use native.Mathlib.Decide.{ℕ_discrete}
@@ -17,6 +17,7 @@ use Rattle.daa_pool.specs.declared.view.Look.{Look}
 use Rattle.daa_pool.specs.declared.view.Part.{Part}
 use Rattle.daa_pool.specs.View.{times, part_of, HasNumber}
 use Rattle.daa_pool.specs.History.{WasSo, IsPartOf}
+use Rattle.daa_pool.specs.Seat.{IsSamePlace}
 use Rattle.daa_pool.specs.Rule.{Pools, word_at, Shows, IsSeated, IsHeld, Ruled}
 use Rattle.daa_pool.proofs.Lists.{found_at, total_set}
 use Rattle.daa_pool.proofs.History.{part_still, part_more}
@@ -28,14 +29,26 @@ pub record IsLike (c d : CoreState) (m : ℕ) : Type 0 where
   pub first : (range_at d m).first ≡ (range_at c m).first
   pub upto : (range_at d m).upto ≤ (range_at c m).upto
 
+-- a live view among seats that are counted or numbered anew. It may have given the count of seats made to another
+pub seated_anew : (c : CoreState) (log : List Step) (workers made made' carrier carrier' : ℕ) (holder holder' : ℕ → ℕ) (id : ℕ) (v : View) (b : Bool)
+    → ((n : ℕ) → HasNumber v n → (n < made') × (holder' n ≡ id)) → (b ≡ true → (id ≡ carrier') × (v.made ≡ made'))
+    → IsSeated c log workers made carrier holder id v → IsSeated c log workers made' carrier' holder' id (record v { carries = b })
+seated_anew c log workers made made' carrier carrier' holder holder' id v b number carries o = record {
+  number = number;
+  carries = carries;
+  crew = o.crew;
+  answers = o.answers;
+  hand = o.hand;
+  over = o.over;
+  part = o.part;
+  joined = o.joined;
+  first = o.first;
+  upto = o.upto;
+}
+
 pub record SamePlace (v w : View) : Type 0 where
   pub live : w.live ≡ v.live
-  pub number : w.number ≡ v.number
-  pub workers : w.workers ≡ v.workers
-  pub answers : w.answers ≡ v.answers
-  pub joined : w.joined ≡ v.joined
-  pub carries : w.carries ≡ v.carries
-  pub made : w.made ≡ v.made
+  pub place : IsSamePlace v w
 
 -- the core c becomes d, the words become words', and the seat's view v becomes w
 pub record Moves (workers made : ℕ) (words words' : List ℕ) (c d : CoreState) (v w : View) : Type 0 where
@@ -60,7 +73,10 @@ pub record Moves (workers made : ℕ) (words words' : List ℕ) (c d : CoreState
   pub saw : (log : List Step) → IsHistory (opened c.answers workers) log c → steps_of v.number log ≡ v.moves → (look : Look) → Contains seen look → WasSo (opened c.answers workers) log v.number look
 
 module _ (workers : ℕ) (s : Pools) (r : Ruled workers s) (id : ℕ) (v w : View) (at : get_elem? s.views id ≡ some v) (alive : v.live ≡ true)
-    (going : v.over ≡ false) (place : SamePlace v w) where
+    (going : v.over ≡ false) (same : SamePlace v w) where
+  place : IsSamePlace v w
+  place = same.place
+
   abbrev own : IsSeated r.core r.log workers r.made r.carrier r.holder id v
   own = r.seats id v at alive
 
@@ -79,7 +95,7 @@ module _ (workers : ℕ) (s : Pools) (r : Ruled workers s) (id : ℕ) (v w : Vie
   held_still : (i n : ℕ) → IsHeld s.views i n → IsHeld (set s.views id w) i n
   held_still i n h = dite (ℕ_discrete i id)
       (λ e. let x : View = h.0 in let is : x ≡ v = some-injective x v (sym h.1 ∙ (ap (λ (k : ℕ). get_elem? s.views k) e ∙ at)) in
-      (w, ap (λ (k : ℕ). get_elem? (set s.views id w) k) e ∙ here, place.live ∙ alive, same_number n (subst (λ (y : View). HasNumber y n) is h.3)))
+      (w, ap (λ (k : ℕ). get_elem? (set s.views id w) k) e ∙ here, same.live ∙ alive, same_number n (subst (λ (y : View). HasNumber y n) is h.3)))
       (λ n'. (h.0, set_else s.views id i w n' ∙ h.1, h.2, h.3))
 
   -- the worker of another seat has another number
@@ -146,7 +162,7 @@ module _ (workers : ℕ) (s : Pools) (r : Ruled workers s) (id : ℕ) (v w : Vie
       held = λ n h. held_still (r.holder n) n (r.held n h);
       carried = let c = r.carried in dite (ℕ_discrete r.carrier id)
           (λ e. let x : View = c.0 in let is : x ≡ v = some-injective x v (sym c.1 ∙ (ap (λ (k : ℕ). get_elem? s.views k) e ∙ at)) in
-          (w, ap (λ (k : ℕ). get_elem? (set s.views id w) k) e ∙ here, place.live ∙ alive, place.carries ∙ (ap (λ (y : View). y.carries) (sym is) ∙ c.3)))
+          (w, ap (λ (k : ℕ). get_elem? (set s.views id w) k) e ∙ here, same.live ∙ alive, place.carries ∙ (ap (λ (y : View). y.carries) (sym is) ∙ c.3)))
           (λ n. (c.0, set_else s.views id r.carrier w n ∙ c.1, c.2, c.3));
       unmade = λ n a b. let u = r.unmade n a b in
           let ne : n ≢ v.number = (λ e. let p = (own).number v.number (inl refl) in absurd (let q = p.0 in omega arith)) in let l = like n ne in
@@ -156,7 +172,7 @@ module _ (workers : ℕ) (s : Pools) (r : Ruled workers s) (id : ℕ) (v w : Vie
           (λ t. other_seated j x t.0 (r.seats j x t.1 l))
           (at_set s.views id j w x e);
       others = λ j x e l. ⊎_elim
-          (λ t. absurd (true≢false (sym (place.live ∙ alive) ∙ (ap (λ (y : View). y.live) t.1 ∙ l))))
+          (λ t. absurd (true≢false (sym (same.live ∙ alive) ∙ (ap (λ (y : View). y.live) t.1 ∙ l))))
           (λ t. r.others j x t.1 l)
           (at_set s.views id j w x e);
       settled = λ u. let t = total_set (λ (x : View). times u x.settled) s.views id v w at in let a = r.settled u in let b = moves.settled u in omega arith;

@@ -18,11 +18,11 @@ use Rattle.daa_schedule.proofs.Histories.{one_more, steps_of_own, steps_of_other
 use Rattle.daa_schedule.specs.declared.step.Step.TheVariants as core
 use Rattle.daa_schedule.proofs.Faults.{Claims, Settles, Ends}
 use Rattle.daa_schedule.proofs.Steps.{claim_whole, claim_shaped, settle_whole, settle_shaped, end_whole, end_shaped, in_hand, in_range}
-use Rattle.daa_schedule.proofs.Workers.{times_in_here, times_in_inside}
+use Rattle.daa_range.proofs.Ranges.{times_in_inside}
 use Rattle.daa_pool.proofs.Few.{few_settled}
 use Rattle.daa_pool.specs.declared.view.View.{View}
 use Rattle.daa_pool.specs.declared.view.Look.{Look}
-use Rattle.daa_pool.specs.declared.view.Size.{Size}
+use Rattle.daa_pool.specs.declared.pool.Size.{Size}
 use Rattle.daa_pool.specs.View.{look, looked_home, claimed, settled, ended, times}
 use Rattle.daa_pool.specs.Rule.{Pools, word_at, Shows, IsSeated, Ruled, Holds}
 use Rattle.daa_pool.specs.Steps.{Sat, IsHome, looks_home, claims, settles, ends}
@@ -36,7 +36,7 @@ use Rattle.daa_pool.proofs.Words.{packed_in_order, word_is, shows_range, shows_b
 
 -- only what a seat does has changed, and not its place
 pub same_place : (v : View) (b h : Span) (st : List ℕ) (ls : List Look) (o : Bool) (ms : List Step) → SamePlace v (record v { bound = b; hand = h; settled = st; looks = ls; over = o; moves = ms })
-same_place v b h st ls o ms = record { live = refl; number = refl; workers = refl; answers = refl; joined = refl; carries = refl; made = refl }
+same_place v b h st ls o ms = record { live = refl; place = record { number = refl; workers = refl; answers = refl; joined = refl; carries = refl; made = refl } }
 
 pub like_itself : (c : CoreState) (m : ℕ) → IsLike c c m
 like_itself c m = record { hand = refl; over = refl; first = refl; upto = omega arith }
@@ -252,7 +252,7 @@ module _ (workers : ℕ) (s : Pools) (r : Ruled workers s) (id : ℕ) (v : View)
       let low : f < length r.core.answers = subst (λ (xs : List ℕ). f < length xs) o.answers piece.below in
       let D : ℕ → CoreState = λ g. record r.core { hands = set r.core.hands v.number no_units; board = set r.core.board g word } in
       let d : CoreState = moved r.core (core.Settle v.number word) in
-      let none : slice_index r.core.board f ≡ 0 = (in_hand r.core r.shaped r.whole v.number f k (ap (λ (x : Span). times_in f x) hand_is ∙ times_in_here f)).1 in
+      let none : slice_index r.core.board f ≡ 0 = (in_hand r.core r.shaped r.whole v.number f k (ap (λ (x : Span). times_in f x) hand_is ∙ times_in_inside f (span f (f + 1)) (omega arith) (omega arith))).1 in
       let real : word ≢ 0 = (λ z. sh.answers f 0 low (sym (right ∙ ap (λ (xs : List ℕ). slice_index xs f) o.answers) ∙ z)) in
       record {
         shaped = settle_shaped r.core r.shaped r.whole v.number word;

@@ -18,7 +18,7 @@ use Rattle.daa_schedule.specs.Runs.{AllEnded, IsHistory}
 use Rattle.daa_schedule.proofs.Runs.{all_answered}
 use Rattle.daa_pool.specs.declared.view.View.{View}
 use Rattle.daa_pool.specs.declared.view.Part.{Part}
-use Rattle.daa_pool.specs.declared.view.Size.{Size}
+use Rattle.daa_pool.specs.declared.pool.Size.{Size}
 use Rattle.daa_pool.specs.View.{part_of, HasPart, HasNumber, times, spent, gathered}
 use Rattle.daa_pool.specs.Rule.{Pools, word_at, IsSeated, IsHeld, Ruled, Holds}
 use Rattle.daa_pool.specs.Steps.{Sat, reads}
@@ -26,6 +26,7 @@ use Rattle.daa_pool.specs.History.{IsPartOf, IsOneHistory}
 use Rattle.daa_pool.specs.Seat.{IsOver}
 use Rattle.daa_pool.proofs.Lists.{Contains-cons_cases, found_at, total_set, sum_alone}
 use Rattle.daa_pool.proofs.Views.{not_blank}
+use Rattle.daa_pool.proofs.Frame.{seated_anew}
 
 -- the parts and the numbers of a seat that took in another
 pub joined_left : (v w : View) (part : Part) → Contains v.joined part → Contains (gathered v w).joined part
@@ -134,18 +135,10 @@ module _ (workers : ℕ) (s : Pools) (r : Ruled workers s) (id other : ℕ) (v w
   }
 
   third : (j : ℕ) (x : View) → j ≢ other → IsSeated r.core r.log workers r.made r.carrier r.holder j x → IsSeated r.core r.log workers r.made (moved r.carrier) holder' j x
-  third j x n o = record {
-    number = λ k h. let p = o.number k h in (p.0, ap moved p.1 ∙ moved-else j n);
-    carries = λ c. let p = o.carries c in (sym (moved-else j n) ∙ ap moved p.0, p.1);
-    crew = o.crew;
-    answers = o.answers;
-    hand = o.hand;
-    over = o.over;
-    part = o.part;
-    joined = o.joined;
-    first = o.first;
-    upto = o.upto;
-  }
+  third j x n o = seated_anew r.core r.log workers r.made r.made r.carrier (moved r.carrier) r.holder holder' j x x.carries
+      (λ k h. let p = o.number k h in (p.0, ap moved p.1 ∙ moved-else j n))
+      (λ c. let p = o.carries c in (sym (moved-else j n) ∙ ap moved p.0, p.1))
+      o
 
   same_view : (i : ℕ) (x y : View) (j : ℕ) → get_elem? s.views i ≡ some x → i ≡ j → get_elem? s.views j ≡ some y → x ≡ y
   same_view i x y j a e b = some-injective x y (sym a ∙ (ap (λ (k : ℕ). get_elem? s.views k) e ∙ b))

@@ -14,7 +14,7 @@ use Rattle.daa_pool.specs.declared.view.View.{View}
 use Rattle.daa_pool.proofs.Lists.{Contains-nil}
 use Rattle.daa_pool.proofs.History.{sees_none}
 use Rattle.daa_pool.proofs.Words.{packed_in_order, word_is}
-use Rattle.daa_pool.specs.declared.view.Size.{Size}
+use Rattle.daa_pool.specs.declared.pool.Size.{Size}
 use Rattle.daa_pool.specs.View.{blank, opener}
 use Rattle.daa_pool.specs.Rule.{word_at, Shows, IsSeated, Ruled, Holds, opening_words}
 use Rattle.daa_pool.specs.Steps.{Sat, begins}

@@ -11,7 +11,7 @@ use Rattle.daa_schedule.specs.Runs.{steps_of, IsHistory}
 use Rattle.daa_schedule.specs.declared.step.Step.{Step}
 use Rattle.daa_pool.specs.declared.view.View.{View}
 use Rattle.daa_pool.specs.declared.view.Part.{Part}
-use Rattle.daa_pool.specs.declared.view.Size.{Size}
+use Rattle.daa_pool.specs.declared.pool.Size.{Size}
 use Rattle.daa_pool.specs.View.{blank, spent, part_of, times, HasNumber}
 use Rattle.daa_pool.specs.History.{IsPartOf}
 

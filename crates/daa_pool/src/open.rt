@@ -5,10 +5,10 @@ ghost use Rattle.daa_pool.specs.Seat.{view, workers_of, units_of, IsSeatOf};
 ghost use Rattle.daa_pool.specs.Pool.{AreOpening};
 ghost use Rattle.daa_pool.specs.Dealing.{IsLast};
 
-use crate::pool::Pool;
+use crate::pool::{Pool, Size};
 use crate::rule::{Begin, Cut, Law, Telling};
 use crate::seat::Seat;
-use crate::view::{Size, View};
+use crate::view::View;
 use atomic_table::{Shared, Table};
 use daa_range::{Range, pack};
 use daa_schedule::{Answers, NoMemory};

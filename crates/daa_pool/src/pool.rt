@@ -2,7 +2,7 @@
 ghost use Rattle.std.specs.Prelude.{◌≡◌, ◌+◌, ◌<◌, ◌≤◌, ◌^◌};
 
 use crate::rule::Law;
-use crate::view::{Size, View};
+use crate::view::View;
 use atomic_table::Table;
 use std::alloc::Global;
 
@@ -15,4 +15,11 @@ pub struct Pool {
     ghost crew: { (table.shared.key.workers ≡ workers) × (0 < workers) × (workers ≤ 16) },
     ghost units: { (0 < table.shared.key.units) × (table.shared.key.units < 2 ^ 32) },
     ghost words: { table.shared.table_id.words ≡ workers + table.shared.key.units },
+}
+
+/// How many workers a pool has, and how many units.
+#[derive(Clone, Copy)]
+pub(crate) struct Size {
+    pub(crate) workers: u32,
+    pub(crate) units: u32,
 }

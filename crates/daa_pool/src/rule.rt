@@ -3,7 +3,8 @@ ghost use Rattle.std.specs.Prelude.{ℕ, List, []};
 ghost use Rattle.daa_pool.specs.View.{left_behind, next_seat, gathered, spent};
 ghost use Rattle.daa_pool.specs.Steps.{begins, looks_home, claims, looks_away, steals, keeps, settles, ends, reads};
 
-use crate::view::{Size, View};
+use crate::pool::Size;
+use crate::view::View;
 use atomic_table::{Join, Play, Split, TableRule};
 use std::marker::{Brand, PhantomData};
 

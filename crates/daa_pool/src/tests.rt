@@ -4,7 +4,7 @@ ghost use Rattle.daa_pool.specs.Numbers.{numbers};
 ghost use Rattle.daa_pool.specs.Seat.{view, workers_of, units_of, IsSeatOf, IsSamePlace, IsFree, HasPiece, IsReady, IsDone};
 ghost use Rattle.daa_pool.specs.Pool.{AllReady, AllWorked, IsWorked};
 
-use crate::{NoMemory, Piece, Pool, Seat, answer_all, unit};
+use crate::{Look, NoMemory, Part, Piece, Pool, Seat, View, answer_all, unit};
 use daa_outside::{Gate, Open};
 use daa_schedule::Answers;
 use std::alloc::{AllocError, Global};
@@ -219,4 +219,7 @@ fn values_may_be_sent() {
     may_be_sent::<Pool>();
     may_be_sent::<Seat>();
     may_be_sent::<Piece>();
+    may_be_sent::<View>();
+    may_be_sent::<Look>();
+    may_be_sent::<Part>();
 }

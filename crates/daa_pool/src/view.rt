@@ -50,10 +50,3 @@ pub struct View {
     /// That count.
     pub made: u64,
 }
-
-/// How many workers a pool has, and how many units.
-#[derive(Clone, Copy)]
-pub(crate) struct Size {
-    pub(crate) workers: u32,
-    pub(crate) units: u32,
-}

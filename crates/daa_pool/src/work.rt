@@ -10,7 +10,7 @@ use daa_outside::Gate;
 use daa_schedule::Answers;
 
 impl Pool {
-    /// Puts the answer of the unit on the board, whose piece this seat holds.
+    /// Puts the answer of the unit on the board, whose piece this seat holds. The word is that answer.
     pub fn settle(&self, seat: &mut Seat, piece: Piece, word: u64)
         requires pool { IsSeatOf self.now seat.old }
         requires piece { HasPiece (view seat.old) piece }
