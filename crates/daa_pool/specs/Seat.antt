@@ -23,7 +23,7 @@ pub record IsSeatOf (pool : Pool) (seat : Seat) : Type 0 where
   pub number : (view seat).number < workers_of pool
   pub units : length (view seat).answers ≡ units_of pool
 
--- the seat's number, its pool's workers and answers, and what was joined to it: what no claim and no answer changes
+-- the seat's number, its pool's workers and answers, what was joined to it, and the count of seats made: what no claim and no answer changes
 pub record IsSamePlace (before after : View) : Type 0 where
   pub number : after.number ≡ before.number
   pub workers : after.workers ≡ before.workers

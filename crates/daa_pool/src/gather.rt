@@ -8,7 +8,7 @@ ghost use Rattle.daa_pool.specs.Seat.{view, workers_of, units_of, IsDone};
 ghost use Rattle.daa_pool.specs.Pool.{AreAll, HaveAnswers, HasPartOf};
 
 use crate::pool::Pool;
-use crate::rule::Glue;
+use crate::rule::JoinSeat;
 use crate::seat::Seat;
 
 impl Pool {
@@ -45,6 +45,8 @@ impl Pool {
             number: _,
             over: _,
         } = other;
-        self.table.shared.join_seat::<Glue>(&mut seat.seat, taken);
+        self.table
+            .shared
+            .join_seat::<JoinSeat>(&mut seat.seat, taken);
     }
 }
