@@ -1,6 +1,6 @@
 -- The steps of a seat on another's range, and what it keeps of a stolen half.
 use Rattle.std.proofs.Common.{◌≡◌, ◌≢◌, ℕ, ◌-◌, ◌^◌, ◌<◌, ◌≤◌, inl, inr, true, false, eqb, List, [], ◌∷◌, length, get_or, set, sym, refl, ap, ◌∙◌, subst, arith, get_or-set_same, get_or-set_other, eq-eqb, ne_eqb}
-use Rattle.std.proofs.lemmas.List.{set-get_or, append-nil}
+use Rattle.std.proofs.lemmas.List.{set-get_or}
 use mathlib.Core.Option.{none, some}
 use mathlib.Core.Logic.{dite}
 use native.Mathlib.Decide.{ℕ_discrete}
@@ -24,7 +24,7 @@ use Rattle.daa_pool.specs.Rule.{Pools, word_at, Ruled, Holds}
 use Rattle.daa_pool.specs.Steps as play
 use Rattle.daa_pool.specs.Seat.{IsFree}
 use Rattle.daa_pool.proofs.Views.{not_blank}
-use Rattle.daa_pool.proofs.History.{sees_none}
+use Rattle.daa_pool.proofs.History.{sees_nothing}
 use Rattle.daa_pool.proofs.Frame.{Moves, follows}
 use Rattle.daa_pool.proofs.Words.{packed_in_order, word_is, shows_range}
 use Rattle.daa_pool.proofs.Home.{same_place, own, known, ranges_known, stays}
@@ -98,9 +98,7 @@ module _ (workers : ℕ) (s : Pools) (r : Ruled workers s) (id : ℕ) (v : View)
         moves = refl;
         mine = steps_of_own (core.Steal v.number other) v.number refl;
         not_others = λ m n. steps_of_other (core.Steal v.number other) m (λ e. n (sym e));
-        seen = [];
-        looks = sym (append-nil v.looks);
-        saw = λ log h m. sees_none (opened r.core.answers workers) log v.number;
+        sees = sees_nothing (opened r.core.answers workers) r.core v _ refl;
       }
 
   -- the units that are stolen have answers
@@ -179,9 +177,7 @@ module _ (workers : ℕ) (s : Pools) (r : Ruled workers s) (id : ℕ) (v : View)
         moves = refl;
         mine = steps_of_own (core.Keep v.number) v.number refl;
         not_others = λ m n. steps_of_other (core.Keep v.number) m (λ e. n (sym e));
-        seen = [];
-        looks = sym (append-nil v.looks);
-        saw = λ log h m. sees_none (opened r.core.answers workers) log v.number;
+        sees = sees_nothing (opened r.core.answers workers) r.core v _ refl;
       }
 
 pub keep_at : (k : Size) (slots id : ℕ) (me : play.Sat) (i new : ℕ) → me.0.number ≡ i → packed (rest_of me.0.hand) ≡ new → me.0.live ≡ true → me.0.over ≡ false → 2 ≤ span_len me.0.hand → me.0.hand.upto < 2 ^ 32

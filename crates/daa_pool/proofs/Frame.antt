@@ -13,14 +13,13 @@ use Rattle.daa_schedule.proofs.Histories.{steps_of-append}
 use Rattle.std.proofs.lemmas.Bool.{true≢false}
 use Rattle.std.proofs.lemmas.List.{append-nil}
 use Rattle.daa_pool.specs.declared.view.View.{View}
-use Rattle.daa_pool.specs.declared.view.Look.{Look}
 use Rattle.daa_pool.specs.declared.view.Part.{Part}
 use Rattle.daa_pool.specs.View.{times, part_of, HasNumber}
-use Rattle.daa_pool.specs.History.{WasSo, IsPartOf}
+use Rattle.daa_pool.specs.History.{IsPartOf}
 use Rattle.daa_pool.specs.Seat.{IsSamePlace}
 use Rattle.daa_pool.specs.Rule.{Pools, word_at, Shows, IsSeated, IsHeld, Ruled}
 use Rattle.daa_pool.proofs.Lists.{found_at, total_set}
-use Rattle.daa_pool.proofs.History.{part_still, part_more}
+use Rattle.daa_pool.proofs.History.{Sees, part_still, part_more}
 
 -- the other workers of the core are as they were, but a range may be shorter
 pub record IsLike (c d : CoreState) (m : ℕ) : Type 0 where
@@ -64,13 +63,11 @@ pub record Moves (workers made : ℕ) (words words' : List ℕ) (c d : CoreState
   pub unmade : (m : ℕ) → made ≤ m → m < workers → word_at words' m ≡ word_at words m
   pub settled : (u : ℕ) → times u w.settled + times_on u c.board ≡ times u v.settled + times_on u d.board
   pub steps : List Step
-  pub seen : List Look
   pub path : (log : List Step) → IsHistory (opened c.answers workers) log c → IsHistory (opened d.answers workers) (log ++ steps) d
   pub moves : w.moves ≡ v.moves ++ steps
   pub mine : steps_of v.number steps ≡ steps
   pub not_others : (m : ℕ) → m ≢ v.number → steps_of m steps ≡ []
-  pub looks : w.looks ≡ v.looks ++ seen
-  pub saw : (log : List Step) → IsHistory (opened c.answers workers) log c → steps_of v.number log ≡ v.moves → (look : Look) → Contains seen look → WasSo (opened c.answers workers) log v.number look
+  pub sees : Sees (opened c.answers workers) c v w
 
 module _ (workers : ℕ) (s : Pools) (r : Ruled workers s) (id : ℕ) (v w : View) (at : get_elem? s.views id ≡ some v) (alive : v.live ≡ true)
     (going : v.over ≡ false) (same : SamePlace v w) where
@@ -112,8 +109,8 @@ module _ (workers : ℕ) (s : Pools) (r : Ruled workers s) (id : ℕ) (v w : Vie
         (part_still (opened r.core.answers workers) r.log moves.steps part (moves.not_others part.number n) p)
 
     own_part : IsPartOf (opened d.answers workers) (r.log ++ moves.steps) (part_of w)
-    own_part = let o = own in let p = o.part in subst (λ (xs : List ℕ). IsPartOf (opened xs workers) (r.log ++ moves.steps) (part_of w)) (sym moves.answers)
-        (part_more (opened r.core.answers workers) r.log moves.steps v w moves.seen place.number moves.moves moves.looks moves.mine (moves.saw r.log r.history p.moves) p)
+    own_part = let o = own in let p = o.part in let sees = moves.sees in subst (λ (xs : List ℕ). IsPartOf (opened xs workers) (r.log ++ moves.steps) (part_of w)) (sym moves.answers)
+        (part_more (opened r.core.answers workers) r.log moves.steps v w sees.seen place.number moves.moves sees.looks moves.mine (sees.so r.log r.history p.moves) p)
 
     own_seated : IsSeated d (r.log ++ moves.steps) workers r.made r.carrier r.holder id w
     own_seated = let o = own in record {

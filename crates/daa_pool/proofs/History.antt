@@ -43,24 +43,38 @@ part_more opening log more before after seen same moves looks mine saw p = recor
       (⊎_elim (λ t. p.looks l t) (λ t. saw l t) (Contains-append_cases before.looks seen l (subst (λ (xs : List Look). Contains xs l) looks h))));
 }
 
--- nothing is seen
-pub sees_none : (opening : CoreState) (log : List Step) (number : ℕ) (l : Look) → Contains [] l → WasSo opening log number l
-sees_none opening log number l h = absurd (Contains-nil l h)
+-- a seat that has not looked
+pub never_looked : (opening : CoreState) (log : List Step) (number : ℕ) (l : Look) → Contains [] l → WasSo opening log number l
+never_looked opening log number l h = absurd (Contains-nil l h)
 
--- a look at what is so
-pub sees_one : (opening core : CoreState) (log : List Step) (v : View) (worker word : ℕ) → IsInOrder word → range_at core worker ≡ unpacked word → IsHistory opening log core → steps_of v.number log ≡ v.moves
-    → (l : Look) → Contains (look v worker word ∷ []) l → WasSo opening log v.number l
-sees_one opening core log v worker word order range history moves l h = ⊎_elim
-    (λ t. absurd (Contains-nil l t))
-    (λ e. subst (λ (x : Look). WasSo opening log v.number x) e here)
-    (Contains-push_cases [] (look v worker word) l h)
-  where
-    here : WasSo opening log v.number (look v worker word)
-    here = record {
-      earlier = log;
-      later = [];
-      point = sym (append-nil log);
-      moves = ap (λ (xs : List Step). length xs) moves;
-      in_order = order;
-      range = ap (λ (c : CoreState). range_at c worker) history.reached ∙ range;
-    }
+-- what a step of a seat sees is so at the end of the history until then
+pub record Sees (opening core : CoreState) (before after : View) : Type 0 where
+  pub seen : List Look
+  pub looks : after.looks ≡ before.looks ++ seen
+  pub so : (log : List Step) → IsHistory opening log core → steps_of before.number log ≡ before.moves → (l : Look) → Contains seen l → WasSo opening log before.number l
+
+pub sees_nothing : (opening core : CoreState) (before after : View) → after.looks ≡ before.looks → Sees opening core before after
+sees_nothing opening core before after same = record {
+  seen = [];
+  looks = same ∙ sym (append-nil before.looks);
+  so = λ log history moves. never_looked opening log before.number;
+}
+
+-- it looks at a worker's range
+pub sees_range : (opening core : CoreState) (before after : View) (worker word : ℕ) → IsInOrder word → range_at core worker ≡ unpacked word → after.looks ≡ before.looks ++ look before worker word ∷ []
+    → Sees opening core before after
+sees_range opening core before after worker word order range looks = record {
+  seen = look before worker word ∷ [];
+  looks = looks;
+  so = λ log history moves l h. ⊎_elim
+      (λ t. absurd (Contains-nil l t))
+      (λ e. subst (λ (x : Look). WasSo opening log before.number x) e (record {
+        earlier = log;
+        later = [];
+        point = sym (append-nil log);
+        moves = ap (λ (xs : List Step). length xs) moves;
+        in_order = order;
+        range = ap (λ (c : CoreState). range_at c worker) history.reached ∙ range;
+      }))
+      (Contains-push_cases [] (look before worker word) l h);
+}

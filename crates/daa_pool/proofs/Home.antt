@@ -29,7 +29,7 @@ use Rattle.daa_pool.specs.Steps.{Sat, IsHome, looks_home, claims, settles, ends}
 use Rattle.daa_pool.specs.Seat.{IsFree, HasPiece}
 use Rattle.daa_pool.proofs.Lists.{found_at}
 use Rattle.daa_pool.proofs.Views.{not_blank}
-use Rattle.daa_pool.proofs.History.{sees_none, sees_one}
+use Rattle.daa_pool.proofs.History.{sees_nothing, sees_range}
 use Rattle.atomic_table.proofs.Lists.{set_here}
 use Rattle.daa_pool.proofs.Frame.{IsLike, SamePlace, Moves, follows}
 use Rattle.daa_pool.proofs.Words.{packed_in_order, word_is, shows_range, shows_board, times_settle}
@@ -80,9 +80,7 @@ module _ (workers : ℕ) (s : Pools) (r : Ruled workers s) (id : ℕ) (v : View)
     moves = moves ∙ sym (append-nil v.moves);
     mine = refl;
     not_others = λ m n. refl;
-    seen = look v other (word_at s.words other) ∷ [];
-    looks = looks;
-    saw = λ log h m. sees_one (opened r.core.answers workers) r.core log v other (word_at s.words other) (sh.in_order other there) (sh.ranges other there) h m;
+    sees = sees_range (opened r.core.answers workers) r.core v w other (word_at s.words other) (sh.in_order other there) (sh.ranges other there) looks;
   }
 
   pub looks_home_moves : (ws : List ℕ) → ws ≡ s.words → Moves workers r.made s.words ws r.core r.core v (looked_home v (word_at s.words v.number))
@@ -140,9 +138,7 @@ module _ (workers : ℕ) (s : Pools) (r : Ruled workers s) (id : ℕ) (v : View)
         moves = refl;
         mine = steps_of_own (core.Claim v.number) v.number refl;
         not_others = λ m n. steps_of_other (core.Claim v.number) m (λ e. n (sym e));
-        seen = [];
-        looks = sym (append-nil v.looks);
-        saw = λ log h m. sees_none (opened r.core.answers workers) log v.number;
+        sees = sees_nothing (opened r.core.answers workers) r.core v _ refl;
       }
 
   -- the unit that is claimed has an answer
@@ -208,9 +204,7 @@ module _ (workers : ℕ) (s : Pools) (r : Ruled workers s) (id : ℕ) (v : View)
         moves = refl;
         mine = steps_of_own (core.End v.number) v.number refl;
         not_others = λ m n. steps_of_other (core.End v.number) m (λ e. n (sym e));
-        seen = look v v.number (word_at s.words v.number) ∷ [];
-        looks = refl;
-        saw = λ log h m. sees_one (opened r.core.answers workers) r.core log v v.number (word_at s.words v.number) (w.in_order v.number (known workers s r id v at alive)) (home_word workers s r id v at alive) h m;
+        sees = sees_range (opened r.core.answers workers) r.core v _ v.number (word_at s.words v.number) (w.in_order v.number (known workers s r id v at alive)) (home_word workers s r id v at alive) refl;
       }
 
 pub end_allowed : (k : Size) (slots id : ℕ) (me : Sat) → me.0.live ≡ true → IsFree me.0 → span_len me.0.bound ≡ 0
@@ -273,9 +267,7 @@ module _ (workers : ℕ) (s : Pools) (r : Ruled workers s) (id : ℕ) (v : View)
         moves = refl;
         mine = steps_of_own (core.Settle v.number word) v.number refl;
         not_others = λ m n. steps_of_other (core.Settle v.number word) m (λ e. n (sym e));
-        seen = [];
-        looks = sym (append-nil v.looks);
-        saw = λ log h m. sees_none (opened r.core.answers workers) log v.number;
+        sees = sees_nothing (opened r.core.answers workers) r.core v _ refl;
       }
 
 pub settle_allowed : (k : Size) (slots id : ℕ) (me : Sat) (f word : ℕ) → me.0.live ≡ true → HasPiece me.0 f → word ≡ slice_index me.0.answers f

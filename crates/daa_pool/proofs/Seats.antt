@@ -19,7 +19,7 @@ use Rattle.daa_pool.specs.Rule.{Pools, IsSeated, IsHeld, Ruled, Holds}
 use Rattle.daa_pool.proofs.Lists.{Contains-nil, at_end, found_at, total_set}
 use Rattle.daa_pool.proofs.Views.{not_blank}
 use Rattle.daa_pool.proofs.Frame.{seated_anew}
-use Rattle.daa_pool.proofs.History.{sees_none}
+use Rattle.daa_pool.proofs.History.{never_looked}
 
 module _ (workers : ℕ) (s : Pools) (r : Ruled workers s) (id : ℕ) (v : View) (at : get_elem? s.views id ≡ some v) (alive : v.live ≡ true)
     (carries : v.carries ≡ true) (room : v.made < workers) where
@@ -68,7 +68,7 @@ module _ (workers : ℕ) (s : Pools) (r : Ruled workers s) (id : ℕ) (v : View)
         answers = o.answers;
         hand = ap (λ (n : ℕ). hand_at r.core n) made_is ∙ u.hand;
         over = ap (λ (n : ℕ). has_ended r.core n) made_is ∙ u.going;
-        part = record { moves = ap (λ (n : ℕ). steps_of n r.log) made_is ∙ u.moves; looks = sees_none (opened r.core.answers workers) r.log v.made };
+        part = record { moves = ap (λ (n : ℕ). steps_of n r.log) made_is ∙ u.moves; looks = never_looked (opened r.core.answers workers) r.log v.made };
         joined = λ part h. absurd (Contains-nil part h);
         first = ap (λ (n : ℕ). (range_at r.core n).first) made_is ∙ ap (λ (x : Span). x.first) range;
         upto = subst (λ (n : ℕ). (range_at r.core n).upto ≤ 0) (sym made_is) (let a = ap (λ (x : Span). x.upto) range in omega arith);
