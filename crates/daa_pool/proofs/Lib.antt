@@ -6,6 +6,7 @@ pub mod Words
 pub mod Few
 pub mod Home
 pub mod Away
+pub mod Rounds
 pub mod Looks
 pub mod Seats
 pub mod Opening

@@ -13,11 +13,12 @@ use Rattle.daa_schedule.specs.declared.step.Step.{Step}
 use Rattle.daa_schedule.specs.declared.step.Step.TheVariants as by
 use Rattle.daa_pool.specs.declared.view.View.{View}
 use Rattle.daa_pool.specs.declared.view.Look.{Look}
-use Rattle.daa_pool.specs.View.{look, looked, looked_home, ended}
-use Rattle.daa_pool.specs.Seat.{HasPiece}
-use Rattle.daa_pool.specs.Claim.{IsLater, AreFresh, SawEmpty, IsBare, looks_at, IsBrief, IsTaking, Claims, FindsNothing}
+use Rattle.daa_pool.specs.View.{look, looked, looked_home, claimed, ended}
+use Rattle.daa_pool.specs.Seat.{IsFree, HasPiece}
+use Rattle.daa_pool.specs.Claim.{IsLater, AreFresh, SawEmpty, IsBare, looks_at, IsBrief, GoesRound, IsTaking, Claims, FindsNothing}
 use Rattle.daa_pool.specs.Tour.{IsSeeking, TakesFrom, Toured}
 use Rattle.daa_pool.proofs.Lists.{Contains-nil}
+use Rattle.daa_pool.proofs.Rounds.{AtHome, turn_none, turn_one, turn_again, turn_more, home_one, home_more, round_up, round_both, round_home, round_after, round_before}
 
 pub later_same : (v : View) → IsLater v v [] []
 later_same v = record {
@@ -91,7 +92,7 @@ empty_right xs ys o h = (h.0, Contains-append_right xs ys h.0 h.1, h.2, h.3)
 
 -- a round that goes on
 pub toured_none : (v : View) (first : ℕ) → IsSeeking v → Toured v v first first
-toured_none v first s = record { seen = []; later = later_same v; fresh = fresh_none v; seeking = s; bare = λ o a b. absurd (omega arith); brief = λ o. omega arith }
+toured_none v first s = record { seen = []; later = later_same v; fresh = fresh_none v; seeking = s; bare = λ o a b. absurd (omega arith); brief = λ o. omega arith; turn = turn_none first first }
 
 pub toured_more : (u v w : View) (first mid upto : ℕ) → first ≤ mid → mid ≤ upto → Toured u v first mid → Toured v w mid upto → Toured u w first upto
 toured_more u v w first mid upto low high a b = record {
@@ -101,6 +102,7 @@ toured_more u v w first mid upto low high a b = record {
   seeking = b.seeking;
   bare = λ o lo hi. go o lo hi (cases_lt o mid);
   brief = λ o. let x = a.brief o in let y = b.brief o in let z = looks_at-append o a.seen b.seen in let t = times_in_cut o first mid upto low high in omega arith;
+  turn = turn_more first mid upto upto a.seen b.seen low high (omega arith) a.turn b.turn;
 }
   where
     go : (o : ℕ) → first ≤ o → o < upto → (o < mid) ⊎ (mid ≤ o) → IsBare (a.seen ++ b.seen) o
@@ -117,6 +119,7 @@ takes_more u v w first mid last upto unit low high end a b = let l = a.later in 
   piece = b.piece;
   brief = λ o. let x = a.brief o in let y = b.brief o in let z = looks_at-append o a.seen b.seen in
       let s = times_in_cut o first mid last low high in let t = times_in_cut o first last upto (omega arith) end in omega arith;
+  turn = turn_more first mid last upto a.seen b.seen low high end a.turn b.turn;
 }
 
 -- one other worker, whose range is short
@@ -128,6 +131,7 @@ short v other word s few = let f = s.free in record {
   seeking = record { free = record { hand = f.hand; going = f.going }; bare = s.bare };
   bare = λ o lo hi. inl (look v other word, Contains-push [] (look v other word), (let e : other ≡ o = omega arith in e), few);
   brief = λ o. let e = looks_at-one v o other word in omega arith;
+  turn = turn_one v other word;
 }
 
 -- one other worker, whose range changed
@@ -147,6 +151,7 @@ changed v other word again s ne = let f = s.free in record {
     ne,
   );
   brief = λ o. let x = looks_at-one v o other word in let y = looks_at-one v o other again in let z = looks_at-append o (look v other word ∷ []) (look v other again ∷ []) in omega arith;
+  turn = turn_again other (look v other word ∷ []) (look v other again ∷ []) (turn_one v other word) (turn_one v other again);
 }
 
 -- a look at another worker, and then the steps that take from it
@@ -158,6 +163,7 @@ takes_from v w other word unit steps later taking piece = record {
   taking = taking;
   piece = piece;
   brief = λ o. let x = looks_at-one v o other word in let z = looks_at-append o (look v other word ∷ []) [] in omega arith;
+  turn = turn_again other (look v other word ∷ []) [] (turn_one v other word) (turn_none other (other + 1));
 }
 
 -- the looks of a call at the own range
@@ -166,9 +172,10 @@ pub record LooksHome (before after : View) : Type 0 where
   pub later : IsLater before after seen []
   pub fresh : AreFresh before seen
   pub home : (other : ℕ) → other ≢ before.number → looks_at other seen ≡ 0
+  pub own : AtHome before.number seen
 
 pub looks_home_first : (v : View) (word : ℕ) → LooksHome v (looked_home v word)
-looks_home_first v word = record { seen = look v v.number word ∷ []; later = looked_home_later v word; fresh = fresh_one v v.number word; home = λ o n. looks_at-not v o v.number word n }
+looks_home_first v word = record { seen = look v v.number word ∷ []; later = looked_home_later v word; fresh = fresh_one v v.number word; home = λ o n. looks_at-not v o v.number word n; own = home_one v word }
 
 pub looks_home_more : (u v : View) (word : ℕ) → LooksHome u v → LooksHome u (looked_home v word)
 looks_home_more u v word a = let l = a.later in let p = l.place in record {
@@ -176,6 +183,7 @@ looks_home_more u v word a = let l = a.later in let p = l.place in record {
   later = later_trans u v (looked_home v word) a.seen (look v v.number word ∷ []) [] [] a.later (looked_home_later v word);
   fresh = fresh_more u v a.seen (look v v.number word ∷ []) a.later a.fresh (fresh_one v v.number word);
   home = λ o n. let x = a.home o n in let y = looks_at-not v o v.number word (λ e. n (e ∙ p.number)) in let z = looks_at-append o a.seen (look v v.number word ∷ []) in omega arith;
+  own = home_more u.number a.seen (look v v.number word ∷ []) a.own (subst (λ (n : ℕ). AtHome n (look v v.number word ∷ [])) p.number (home_one v word));
 }
 
 -- the own range's first unit is claimed
@@ -187,7 +195,19 @@ claims_home u v w unit steps a later taking piece = let l = a.later in let p = l
   taking = subst (λ (n : ℕ). IsTaking n steps) p.number taking;
   piece = piece;
   brief = λ o n. let x = a.home o n in let z = looks_at-append o a.seen [] in omega arith;
+  round = round_home u.number u.workers (a.seen ++ []) (home_more u.number a.seen [] a.own (λ l h. absurd (Contains-nil l h)));
 }
+
+pub claimed_home : (u v : View) → LooksHome u v → IsFree v → v.bound.first < length v.answers → Claims u (claimed v) v.bound.first
+claimed_home u v a free below = claims_home u v (claimed v) v.bound.first (by.Claim v.number ∷ []) a
+    (record {
+      place = record { number = refl; workers = refl; answers = refl; joined = refl; carries = refl; made = refl };
+      settled = refl;
+      looks = sym (append-nil v.looks);
+      moves = refl;
+    })
+    (inl refl)
+    (record { hand = refl; below = below; going = free.going })
 
 after_home : (u v : View) → LooksHome u v → (ys : List Look) → IsBrief v.number ys → (xs : List Look) → ((o : ℕ) → o ≢ u.number → looks_at o xs ≡ 0) → v.number ≡ u.number → IsBrief u.number (xs ++ ys)
 after_home u v a ys brief xs home same = λ o n. let x = home o n in let y = brief o (λ e. n (e ∙ same)) in let z = looks_at-append o xs ys in omega arith
@@ -201,6 +221,7 @@ claims_after u v w unit a b = let l = a.later in let p = l.place in record {
   taking = subst (λ (n : ℕ). IsTaking n b.steps) p.number b.taking;
   piece = b.piece;
   brief = after_home u v a b.seen b.brief a.seen a.home p.number;
+  round = round_after u.number u.workers a.seen b.seen a.own (subst (λ (t : ℕ × ℕ). GoesRound t.0 t.1 b.seen) (λ i. (p.number i, p.workers i)) b.round);
 }
 
 pub nothing_after : (u v w : View) → LooksHome u v → FindsNothing v w → FindsNothing u w
@@ -212,6 +233,7 @@ nothing_after u v w a b = let l = a.later in let p = l.place in record {
   empty = subst (λ (n : ℕ). SawEmpty (a.seen ++ b.seen) n) p.number (empty_right a.seen b.seen v.number b.empty);
   others = λ o lo ne. bare_right a.seen b.seen o (b.others o (subst (λ (n : ℕ). o < n) (sym p.workers) lo) (λ e. ne (e ∙ p.number)));
   brief = after_home u v a b.seen b.brief a.seen a.home p.number;
+  round = round_after u.number u.workers a.seen b.seen a.own (subst (λ (t : ℕ × ℕ). GoesRound t.0 t.1 b.seen) (λ i. (p.number i, p.workers i)) b.round);
   few = b.few;
 }
 
@@ -228,25 +250,27 @@ apart : (o number workers : ℕ) → o ≢ number → times_in o (span (number +
 apart o number workers n = grind (arith, nat_tests)
 
 -- what the first round takes
-pub seeks_first : (v w : View) (number workers unit : ℕ) → v.number ≡ number → TakesFrom v w (number + 1) workers unit → Claims v w unit
-seeks_first v w number workers unit en a = record {
+pub seeks_first : (v w : View) (number workers unit : ℕ) → v.number ≡ number → v.workers ≡ workers → TakesFrom v w (number + 1) workers unit → Claims v w unit
+seeks_first v w number workers unit en ew a = record {
   seen = a.seen;
   steps = a.steps;
   later = a.later;
   taking = a.taking;
   piece = a.piece;
   brief = λ o n. let x = a.brief o in let y = apart o number workers (λ e. n (e ∙ sym en)) in omega arith;
+  round = subst (λ (t : ℕ × ℕ). GoesRound t.0 t.1 a.seen) (λ i. (sym en i, sym ew i)) (round_up number workers a.seen a.turn);
 }
 
 -- what the second round takes
-pub seeks_second : (v w x : View) (number workers unit : ℕ) → v.number ≡ number → Toured v w (number + 1) workers → TakesFrom w x 0 number unit → Claims v x unit
-seeks_second v w x number workers unit en a b = let l = a.later in let p = l.place in record {
+pub seeks_second : (v w x : View) (number workers unit : ℕ) → v.number ≡ number → v.workers ≡ workers → Toured v w (number + 1) workers → TakesFrom w x 0 number unit → Claims v x unit
+seeks_second v w x number workers unit en ew a b = let l = a.later in let p = l.place in record {
   seen = a.seen ++ b.seen;
   steps = b.steps;
   later = later_trans v w x a.seen b.seen [] b.steps a.later b.later;
   taking = subst (λ (n : ℕ). IsTaking n b.steps) p.number b.taking;
   piece = b.piece;
   brief = λ o n. let s = a.brief o in let t = b.brief o in let y = apart o number workers (λ e. n (e ∙ sym en)) in let z = looks_at-append o a.seen b.seen in omega arith;
+  round = subst (λ (t : ℕ × ℕ). GoesRound t.0 t.1 (a.seen ++ b.seen)) (λ i. (sym en i, sym ew i)) (round_both number workers a.seen b.seen a.turn b.turn);
 }
 
 -- two rounds that take nothing, and then the end
@@ -268,6 +292,9 @@ seeks_nothing v w x word number workers en ew a b empty few =
       others = λ o lo ne. bare_left (a.seen ++ b.seen) l o (go o lo ne (cases_lt o number));
       brief = λ o n. let p = a.brief o in let q = b.brief o in let y = apart o number workers (λ e. n (e ∙ sym en)) in
           let z = looks_at-append o a.seen b.seen in let z' = looks_at-append o (a.seen ++ b.seen) l in let h = looks_at-not x o x.number word (λ e. n (e ∙ place.number)) in omega arith;
+      round = round_before v.number v.workers (a.seen ++ b.seen) l
+          (subst (λ (t : ℕ × ℕ). GoesRound t.0 t.1 (a.seen ++ b.seen)) (λ i. (sym en i, sym ew i)) (round_both number workers a.seen b.seen a.turn b.turn))
+          (subst (λ (n : ℕ). AtHome n l) place.number (home_one x word));
       few = few;
     }
   where
