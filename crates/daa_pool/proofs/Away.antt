@@ -16,22 +16,23 @@ use Rattle.daa_schedule.proofs.Histories.{one_more, steps_of_own, steps_of_other
 use Rattle.daa_schedule.specs.declared.step.Step.TheVariants as core
 use Rattle.daa_schedule.proofs.Faults.{Steals, Keeps}
 use Rattle.daa_schedule.proofs.Steps.{steal_whole, steal_shaped, keep_whole, keep_shaped, in_range}
-use Rattle.daa_schedule.proofs.Workers.{times_in_inside}
+use Rattle.daa_range.proofs.Ranges.{times_in_inside}
 use Rattle.daa_pool.specs.declared.view.View.{View}
-use Rattle.daa_pool.specs.declared.view.Size.{Size}
+use Rattle.daa_pool.specs.declared.pool.Size.{Size}
 use Rattle.daa_pool.specs.View.{looked, stolen, kept}
 use Rattle.daa_pool.specs.Rule.{Pools, word_at, Ruled, Holds}
 use Rattle.daa_pool.specs.Steps as play
 use Rattle.daa_pool.specs.Seat.{IsFree}
 use Rattle.daa_pool.proofs.Views.{not_blank}
+use Rattle.daa_pool.proofs.History.{sees_nothing}
 use Rattle.daa_pool.proofs.Frame.{Moves, follows}
 use Rattle.daa_pool.proofs.Words.{packed_in_order, word_is, shows_range}
 use Rattle.daa_pool.proofs.Home.{same_place, own, known, ranges_known, stays}
 
 -- the other range is seen, and nothing changes
 module _ (workers : ℕ) (s : Pools) (r : Ruled workers s) (id : ℕ) (v : View) (at : get_elem? s.views id ≡ some v) (alive : v.live ≡ true) where
-  pub looks_away_moves : (other n : ℕ) (ws : List ℕ) → ws ≡ s.words → Moves workers r.made s.words ws r.core r.core v (looked v other n)
-  looks_away_moves other n ws e = let o = own workers s r id v at alive in stays workers s r id v at alive ws (looked v other n) e refl refl refl refl o.first o.upto
+  pub looks_away_moves : (other : ℕ) (ws : List ℕ) → other < workers → ws ≡ s.words → Moves workers r.made s.words ws r.core r.core v (looked v other (word_at s.words other))
+  looks_away_moves other ws there e = let o = own workers s r id v at alive in stays workers s r id v at alive ws (looked v other (word_at s.words other)) other there refl e refl refl refl refl o.first o.upto
 
 pub look_away_at : (k : Size) (slots id : ℕ) (me : play.Sat) (other : ℕ) → me.0.live ≡ true → me.0.over ≡ false → other < k.workers
     → Allows (Holds k) slots id me other (λ n. n) (play.looks_away (step slots other 0 0 none) me)
@@ -41,7 +42,7 @@ look_away_at k slots id me other alive going there s (inr r) long at small = let
   keeps,
   tt,
   inr (follows k.workers s r id v (looked v other x) at alive going (same_place v _ _ _ _ _ _) (set s.words other x) r.core s.homes
-      (looks_away_moves k.workers s r id v at alive other x (set s.words other x) (set-get_or s.words other 0))),
+      (looks_away_moves k.workers s r id v at alive other (set s.words other x) there (set-get_or s.words other 0))),
   ((refl, refl), sh.in_order other there),
 )
 
@@ -97,6 +98,7 @@ module _ (workers : ℕ) (s : Pools) (r : Ruled workers s) (id : ℕ) (v : View)
         moves = refl;
         mine = steps_of_own (core.Steal v.number other) v.number refl;
         not_others = λ m n. steps_of_other (core.Steal v.number other) m (λ e. n (sym e));
+        sees = sees_nothing (opened r.core.answers workers) r.core v _ refl;
       }
 
   -- the units that are stolen have answers
@@ -137,7 +139,7 @@ steal_at k slots id me other old new x eo en alive free bare there apart two sma
       tt,
       subst (λ b. Holds k (stepped s other (either b new y) id me.1 (looked v other y) keeps)) (sym (ne_eqb y old miss))
           (inr (follows k.workers s r id v (looked v other y) at alive free.going (same_place v _ _ _ _ _ _) (set s.words other y) r.core s.homes
-          (looks_away_moves k.workers s r id v at alive other y (set s.words other y) (set-get_or s.words other 0)))),
+          (looks_away_moves k.workers s r id v at alive other (set s.words other y) there (set-get_or s.words other 0)))),
       ((λ e. absurd (miss e)), λ _. ((refl, refl), sh.in_order other there)),
     ))
 
@@ -175,6 +177,7 @@ module _ (workers : ℕ) (s : Pools) (r : Ruled workers s) (id : ℕ) (v : View)
         moves = refl;
         mine = steps_of_own (core.Keep v.number) v.number refl;
         not_others = λ m n. steps_of_other (core.Keep v.number) m (λ e. n (sym e));
+        sees = sees_nothing (opened r.core.answers workers) r.core v _ refl;
       }
 
 pub keep_at : (k : Size) (slots id : ℕ) (me : play.Sat) (i new : ℕ) → me.0.number ≡ i → packed (rest_of me.0.hand) ≡ new → me.0.live ≡ true → me.0.over ≡ false → 2 ≤ span_len me.0.hand → me.0.hand.upto < 2 ^ 32

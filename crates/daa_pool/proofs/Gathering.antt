@@ -5,13 +5,13 @@ use Rattle.std.proofs.lemmas.List.{ext_get_or}
 use Rattle.std.proofs.lemmas.List.Sums.{sum_by_push, sum_by-append}
 use Rattle.std.proofs.lemmas.List.Elements.{All-pop, All-contains, Contains-push, Contains-push_cases}
 use Rattle.daa_schedule.specs.CoreState.{opened, once_below}
-use Rattle.daa_schedule.specs.Runs.{steps_of, IsHistory}
+use Rattle.daa_schedule.specs.Runs.{IsHistory}
 use Rattle.daa_pool.specs.declared.view.View.{View}
 use Rattle.daa_pool.specs.declared.view.Part.{Part}
 use Rattle.daa_pool.specs.declared.seat.Seat.{Seat}
 use Rattle.daa_pool.specs.declared.pool.Pool.{Pool}
 use Rattle.daa_pool.specs.View.{part_of, HasPart, HasNumber, times, gathered}
-use Rattle.daa_pool.specs.History.{IsOneHistory}
+use Rattle.daa_pool.specs.History.{IsPartOf, IsOneHistory}
 use Rattle.daa_pool.specs.Seat.{view, workers_of, units_of, IsDone}
 use Rattle.daa_pool.specs.Pool.{AreAll, HaveAnswers, HasPartOf}
 use Rattle.daa_pool.proofs.Lists.{Contains-nil}
@@ -128,5 +128,6 @@ all_told p seats seat words count r some answers h = let t = r.history some in l
   core = t.core;
   history = subst (λ (q : List ℕ × ℕ). IsHistory (opened q.0 q.1) t.log t.core) (λ i. (r.answers_are answers h i, of.workers i)) t.history;
   ended = t.ended;
-  parts = λ part q. subst (λ (x : Part). steps_of x.number t.log ≡ x.moves) q.2 (t.parts (part_of (view q.0)) (r.parts q.0 q.1));
+  parts = λ part q. subst (λ (z : List ℕ × ℕ). IsPartOf (opened z.0 z.1) t.log part) (λ i. (r.answers_are answers h i, of.workers i))
+      (subst (λ (x : Part). IsPartOf (opened (view seat).answers (view seat).workers) t.log x) q.2 (t.parts (part_of (view q.0)) (r.parts q.0 q.1)));
 }

@@ -18,24 +18,25 @@ use Rattle.daa_schedule.proofs.Histories.{one_more, steps_of_own, steps_of_other
 use Rattle.daa_schedule.specs.declared.step.Step.TheVariants as core
 use Rattle.daa_schedule.proofs.Faults.{Claims, Settles, Ends}
 use Rattle.daa_schedule.proofs.Steps.{claim_whole, claim_shaped, settle_whole, settle_shaped, end_whole, end_shaped, in_hand, in_range}
-use Rattle.daa_schedule.proofs.Workers.{times_in_here, times_in_inside}
+use Rattle.daa_range.proofs.Ranges.{times_in_inside}
 use Rattle.daa_pool.proofs.Few.{few_settled}
 use Rattle.daa_pool.specs.declared.view.View.{View}
 use Rattle.daa_pool.specs.declared.view.Look.{Look}
-use Rattle.daa_pool.specs.declared.view.Size.{Size}
-use Rattle.daa_pool.specs.View.{looked_home, claimed, settled, ended, times}
+use Rattle.daa_pool.specs.declared.pool.Size.{Size}
+use Rattle.daa_pool.specs.View.{look, looked_home, claimed, settled, ended, times}
 use Rattle.daa_pool.specs.Rule.{Pools, word_at, Shows, IsSeated, Ruled, Holds}
 use Rattle.daa_pool.specs.Steps.{Sat, IsHome, looks_home, claims, settles, ends}
 use Rattle.daa_pool.specs.Seat.{IsFree, HasPiece}
 use Rattle.daa_pool.proofs.Lists.{found_at}
 use Rattle.daa_pool.proofs.Views.{not_blank}
+use Rattle.daa_pool.proofs.History.{sees_nothing, sees_range}
 use Rattle.atomic_table.proofs.Lists.{set_here}
 use Rattle.daa_pool.proofs.Frame.{IsLike, SamePlace, Moves, follows}
 use Rattle.daa_pool.proofs.Words.{packed_in_order, word_is, shows_range, shows_board, times_settle}
 
 -- only what a seat does has changed, and not its place
 pub same_place : (v : View) (b h : Span) (st : List ℕ) (ls : List Look) (o : Bool) (ms : List Step) → SamePlace v (record v { bound = b; hand = h; settled = st; looks = ls; over = o; moves = ms })
-same_place v b h st ls o ms = record { live = refl; number = refl; workers = refl; answers = refl; joined = refl; carries = refl; made = refl }
+same_place v b h st ls o ms = record { live = refl; place = record { number = refl; workers = refl; answers = refl; joined = refl; carries = refl; made = refl } }
 
 pub like_itself : (c : CoreState) (m : ℕ) → IsLike c c m
 like_itself c m = record { hand = refl; over = refl; first = refl; upto = omega arith }
@@ -59,10 +60,10 @@ module _ (workers : ℕ) (s : Pools) (r : Ruled workers s) (id : ℕ) (v : View)
       let f = o.first in let u = o.upto in
       record { in_order = order; first = sym a ∙ f; upto = omega arith }
 
-  -- nothing has changed but what the seat has seen
-  pub stays : (ws : List ℕ) (w : View) → ws ≡ s.words → w.hand ≡ v.hand → w.over ≡ v.over → w.settled ≡ v.settled → w.moves ≡ v.moves
+  -- nothing has changed but what the seat has seen, which is a worker's range
+  pub stays : (ws : List ℕ) (w : View) (other : ℕ) → other < workers → w.looks ≡ v.looks ++ look v other (word_at s.words other) ∷ [] → ws ≡ s.words → w.hand ≡ v.hand → w.over ≡ v.over → w.settled ≡ v.settled → w.moves ≡ v.moves
       → (range_at r.core v.number).first ≡ w.bound.first → (range_at r.core v.number).upto ≤ w.bound.upto → Moves workers r.made s.words ws r.core r.core v w
-  stays ws w e hand over settled moves first upto = let o = own in record {
+  stays ws w other there looks e hand over settled moves first upto = let o = own in let sh = r.shows in record {
     shaped = r.shaped;
     whole = r.whole;
     answers = refl;
@@ -79,10 +80,11 @@ module _ (workers : ℕ) (s : Pools) (r : Ruled workers s) (id : ℕ) (v : View)
     moves = moves ∙ sym (append-nil v.moves);
     mine = refl;
     not_others = λ m n. refl;
+    sees = sees_range (opened r.core.answers workers) r.core v w other (word_at s.words other) (sh.in_order other there) (sh.ranges other there) looks;
   }
 
   pub looks_home_moves : (ws : List ℕ) → ws ≡ s.words → Moves workers r.made s.words ws r.core r.core v (looked_home v (word_at s.words v.number))
-  looks_home_moves ws e = stays ws (looked_home v (word_at s.words v.number)) e refl refl refl refl (ap (λ (x : Span). x.first) home_word) (let b = ap (λ (x : Span). x.upto) home_word in omega arith)
+  looks_home_moves ws e = stays ws (looked_home v (word_at s.words v.number)) v.number known refl e refl refl refl refl (ap (λ (x : Span). x.first) home_word) (let b = ap (λ (x : Span). x.upto) home_word in omega arith)
 
 pub look_home_allowed : (k : Size) (slots id : ℕ) (me : Sat) → me.0.live ≡ true → me.0.over ≡ false
     → Allows (Holds k) slots id me me.0.number (λ n. n) (looks_home (step slots me.0.number 0 0 none) me)
@@ -136,6 +138,7 @@ module _ (workers : ℕ) (s : Pools) (r : Ruled workers s) (id : ℕ) (v : View)
         moves = refl;
         mine = steps_of_own (core.Claim v.number) v.number refl;
         not_others = λ m n. steps_of_other (core.Claim v.number) m (λ e. n (sym e));
+        sees = sees_nothing (opened r.core.answers workers) r.core v _ refl;
       }
 
   -- the unit that is claimed has an answer
@@ -201,6 +204,7 @@ module _ (workers : ℕ) (s : Pools) (r : Ruled workers s) (id : ℕ) (v : View)
         moves = refl;
         mine = steps_of_own (core.End v.number) v.number refl;
         not_others = λ m n. steps_of_other (core.End v.number) m (λ e. n (sym e));
+        sees = sees_range (opened r.core.answers workers) r.core v _ v.number (word_at s.words v.number) (w.in_order v.number (known workers s r id v at alive)) (home_word workers s r id v at alive) refl;
       }
 
 pub end_allowed : (k : Size) (slots id : ℕ) (me : Sat) → me.0.live ≡ true → IsFree me.0 → span_len me.0.bound ≡ 0
@@ -242,7 +246,7 @@ module _ (workers : ℕ) (s : Pools) (r : Ruled workers s) (id : ℕ) (v : View)
       let low : f < length r.core.answers = subst (λ (xs : List ℕ). f < length xs) o.answers piece.below in
       let D : ℕ → CoreState = λ g. record r.core { hands = set r.core.hands v.number no_units; board = set r.core.board g word } in
       let d : CoreState = moved r.core (core.Settle v.number word) in
-      let none : slice_index r.core.board f ≡ 0 = (in_hand r.core r.shaped r.whole v.number f k (ap (λ (x : Span). times_in f x) hand_is ∙ times_in_here f)).1 in
+      let none : slice_index r.core.board f ≡ 0 = (in_hand r.core r.shaped r.whole v.number f k (ap (λ (x : Span). times_in f x) hand_is ∙ times_in_inside f (span f (f + 1)) (omega arith) (omega arith))).1 in
       let real : word ≢ 0 = (λ z. sh.answers f 0 low (sym (right ∙ ap (λ (xs : List ℕ). slice_index xs f) o.answers) ∙ z)) in
       record {
         shaped = settle_shaped r.core r.shaped r.whole v.number word;
@@ -263,6 +267,7 @@ module _ (workers : ℕ) (s : Pools) (r : Ruled workers s) (id : ℕ) (v : View)
         moves = refl;
         mine = steps_of_own (core.Settle v.number word) v.number refl;
         not_others = λ m n. steps_of_other (core.Settle v.number word) m (λ e. n (sym e));
+        sees = sees_nothing (opened r.core.answers workers) r.core v _ refl;
       }
 
 pub settle_allowed : (k : Size) (slots id : ℕ) (me : Sat) (f word : ℕ) → me.0.live ≡ true → HasPiece me.0 f → word ≡ slice_index me.0.answers f

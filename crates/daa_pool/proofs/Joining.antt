@@ -14,18 +14,19 @@ use Rattle.atomic_table.specs.Table.{Joins, Allows, step, keeps}
 use Rattle.atomic_table.proofs.Lists.{at_set, set_here, set_else, set_again}
 use Rattle.daa_schedule.specs.CoreState.{no_units, hand_at, has_ended, opened, times_on, once_below}
 use Rattle.daa_schedule.specs.Answers.{AreAnswers}
-use Rattle.daa_schedule.specs.Runs.{AllEnded, steps_of, IsHistory}
+use Rattle.daa_schedule.specs.Runs.{AllEnded, IsHistory}
 use Rattle.daa_schedule.proofs.Runs.{all_answered}
 use Rattle.daa_pool.specs.declared.view.View.{View}
 use Rattle.daa_pool.specs.declared.view.Part.{Part}
-use Rattle.daa_pool.specs.declared.view.Size.{Size}
+use Rattle.daa_pool.specs.declared.pool.Size.{Size}
 use Rattle.daa_pool.specs.View.{part_of, HasPart, HasNumber, times, spent, gathered}
 use Rattle.daa_pool.specs.Rule.{Pools, word_at, IsSeated, IsHeld, Ruled, Holds}
 use Rattle.daa_pool.specs.Steps.{Sat, reads}
-use Rattle.daa_pool.specs.History.{IsOneHistory}
+use Rattle.daa_pool.specs.History.{IsPartOf, IsOneHistory}
 use Rattle.daa_pool.specs.Seat.{IsOver}
 use Rattle.daa_pool.proofs.Lists.{Contains-cons_cases, found_at, total_set, sum_alone}
 use Rattle.daa_pool.proofs.Views.{not_blank}
+use Rattle.daa_pool.proofs.Frame.{seated_anew}
 
 -- the parts and the numbers of a seat that took in another
 pub joined_left : (v w : View) (part : Part) → Contains v.joined part → Contains (gathered v w).joined part
@@ -120,12 +121,12 @@ module _ (workers : ℕ) (s : Pools) (r : Ruled workers s) (id other : ℕ) (v w
     answers = o.answers;
     hand = o.hand;
     over = o.over;
-    moves = o.moves;
+    part = o.part;
     joined = λ part h. ⊎_elim
         (λ t. o.joined part t)
         (λ t. ⊎_elim
-        (λ e. subst (λ (p : Part). (hand_at r.core p.number ≡ no_units) × (has_ended r.core p.number ≡ true) × (steps_of p.number r.log ≡ p.moves)) e
-        (i.hand ∙ over.hand, i.over ∙ over.over, i.moves))
+        (λ e. subst (λ (p : Part). (hand_at r.core p.number ≡ no_units) × (has_ended r.core p.number ≡ true) × IsPartOf (opened r.core.answers workers) r.log p) e
+        (i.hand ∙ over.hand, i.over ∙ over.over, i.part))
         (λ q. i.joined part q)
         t)
         (joined_cases v w part h);
@@ -134,18 +135,10 @@ module _ (workers : ℕ) (s : Pools) (r : Ruled workers s) (id other : ℕ) (v w
   }
 
   third : (j : ℕ) (x : View) → j ≢ other → IsSeated r.core r.log workers r.made r.carrier r.holder j x → IsSeated r.core r.log workers r.made (moved r.carrier) holder' j x
-  third j x n o = record {
-    number = λ k h. let p = o.number k h in (p.0, ap moved p.1 ∙ moved-else j n);
-    carries = λ c. let p = o.carries c in (sym (moved-else j n) ∙ ap moved p.0, p.1);
-    crew = o.crew;
-    answers = o.answers;
-    hand = o.hand;
-    over = o.over;
-    moves = o.moves;
-    joined = o.joined;
-    first = o.first;
-    upto = o.upto;
-  }
+  third j x n o = seated_anew r.core r.log workers r.made r.made r.carrier (moved r.carrier) r.holder holder' j x x.carries
+      (λ k h. let p = o.number k h in (p.0, ap moved p.1 ∙ moved-else j n))
+      (λ c. let p = o.carries c in (sym (moved-else j n) ∙ ap moved p.0, p.1))
+      o
 
   same_view : (i : ℕ) (x y : View) (j : ℕ) → get_elem? s.views i ≡ some x → i ≡ j → get_elem? s.views j ≡ some y → x ≡ y
   same_view i x y j a e b = some-injective x y (sym a ∙ (ap (λ (k : ℕ). get_elem? s.views k) e ∙ b))
@@ -263,8 +256,8 @@ read_at k slots id me i u e alive over all low s (inr r) size at tiny = let v : 
         (sym t ∙ r.settled u) ∙ (ap (λ (xs : List ℕ). times_on u xs) (all_answered r.core (r.shaped, r.whole) all_over)
         ∙ (on_all u r.core.answers sh.answers ∙ ap (λ (xs : List ℕ). once_below u (length xs)) (sym o.answers)))
 
-    one_log : (part : Part) → HasPart me.0 part → steps_of part.number r.log ≡ part.moves
-    one_log part (inl e) = subst (λ (p : Part). steps_of p.number r.log ≡ p.moves) e o.moves
+    one_log : (part : Part) → HasPart me.0 part → IsPartOf (opened r.core.answers k.workers) r.log part
+    one_log part (inl e) = subst (λ (p : Part). IsPartOf (opened r.core.answers k.workers) r.log p) e o.part
     one_log part (inr h) = (o.joined part h).2
 
     history : IsOneHistory me.0.answers me.0.workers (HasPart me.0)
@@ -273,5 +266,5 @@ read_at k slots id me i u e alive over all low s (inr r) size at tiny = let v : 
       core = r.core;
       history = subst (λ (t : List ℕ × ℕ). IsHistory (opened t.0 t.1) r.log r.core) (λ j. (sym o.answers j, sym o.crew j)) r.history;
       ended = all_over;
-      parts = one_log;
+      parts = λ part h. subst (λ (t : List ℕ × ℕ). IsPartOf (opened t.0 t.1) r.log part) (λ j. (sym o.answers j, sym o.crew j)) (one_log part h);
     }

@@ -1,10 +1,12 @@
 pub mod Lists
 pub mod Views
+pub mod History
 pub mod Frame
 pub mod Words
 pub mod Few
 pub mod Home
 pub mod Away
+pub mod Rounds
 pub mod Looks
 pub mod Seats
 pub mod Opening

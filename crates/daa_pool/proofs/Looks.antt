@@ -1,11 +1,11 @@
 -- Looks that were made one after another, and what they show.
-use Rattle.std.proofs.Common.{◌≡◌, ◌≢◌, ℕ, ◌+◌, ◌<◌, ◌≤◌, ◌⊎◌, inl, inr, eqb, cond, List, [], ◌∷◌, ◌++◌, length, sym, refl, ap, ◌∙◌, subst, arith, append_assoc, Option, Some, None}
+use Rattle.std.proofs.Common.{◌≡◌, ◌≢◌, ℕ, ◌+◌, ◌<◌, ◌≤◌, ◌⊎◌, inl, inr, ⊎_elim, eqb, cond, List, [], ◌∷◌, ◌++◌, length, sym, refl, ap, ◌∙◌, subst, arith, append_assoc, Option, Some, None}
 use Rattle.std.specs.Option.{IfSome, IfNone, MatchOption}
 use Rattle.std.proofs.lemmas.Bool.{cases_lt}
 use Rattle.std.proofs.lemmas.Bool.Decides.{nat_tests}
 use Rattle.std.proofs.lemmas.List.{append-nil}
 use Rattle.std.proofs.lemmas.List.Sums.{sum_by-append, sum_by-cons}
-use Rattle.std.proofs.lemmas.List.Elements.{Contains-append_left, Contains-append_right, Contains-push}
+use Rattle.std.proofs.lemmas.List.Elements.{Contains-append_left, Contains-append_right, Contains-append_cases, Contains-push, Contains-push_cases}
 use Rattle.daa_range.specs.Range.{span, span_len, times_in}
 use Rattle.daa_range.specs.Word.{unpacked}
 use Rattle.daa_range.proofs.Ranges.{times_in_cut}
@@ -13,10 +13,12 @@ use Rattle.daa_schedule.specs.declared.step.Step.{Step}
 use Rattle.daa_schedule.specs.declared.step.Step.TheVariants as by
 use Rattle.daa_pool.specs.declared.view.View.{View}
 use Rattle.daa_pool.specs.declared.view.Look.{Look}
-use Rattle.daa_pool.specs.View.{look, looked, looked_home, ended}
-use Rattle.daa_pool.specs.Seat.{HasPiece}
-use Rattle.daa_pool.specs.Claim.{IsLater, SawEmpty, IsBare, looks_at, IsBrief, IsTaking, Claims, FindsNothing}
+use Rattle.daa_pool.specs.View.{look, looked, looked_home, claimed, ended}
+use Rattle.daa_pool.specs.Seat.{IsFree, HasPiece}
+use Rattle.daa_pool.specs.Claim.{IsLater, AreFresh, SawEmpty, IsBare, looks_at, IsBrief, GoesRound, IsTaking, Claims, FindsNothing}
 use Rattle.daa_pool.specs.Tour.{IsSeeking, TakesFrom, Toured}
+use Rattle.daa_pool.proofs.Lists.{Contains-nil}
+use Rattle.daa_pool.proofs.Rounds.{AtHome, turn_none, turn_one, turn_again, turn_more, home_one, home_more, round_up, round_both, round_home, round_after, round_before}
 
 pub later_same : (v : View) → IsLater v v [] []
 later_same v = record {
@@ -35,7 +37,7 @@ later_trans u v w xs ys ms ns a b = let p = a.place in let q = b.place in record
 }
 
 -- one look
-pub looked_later : (v : View) (worker word : ℕ) → IsLater v (looked v worker word) (look worker word ∷ []) []
+pub looked_later : (v : View) (worker word : ℕ) → IsLater v (looked v worker word) (look v worker word ∷ []) []
 looked_later v worker word = record {
   place = record { number = refl; workers = refl; answers = refl; joined = refl; carries = refl; made = refl };
   settled = refl;
@@ -43,7 +45,7 @@ looked_later v worker word = record {
   moves = sym (append-nil v.moves);
 }
 
-pub looked_home_later : (v : View) (word : ℕ) → IsLater v (looked_home v word) (look v.number word ∷ []) []
+pub looked_home_later : (v : View) (word : ℕ) → IsLater v (looked_home v word) (look v v.number word ∷ []) []
 looked_home_later v word = record {
   place = record { number = refl; workers = refl; answers = refl; joined = refl; carries = refl; made = refl };
   settled = refl;
@@ -54,17 +56,27 @@ looked_home_later v word = record {
 looks_at-append : (worker : ℕ) (xs ys : List Look) → looks_at worker (xs ++ ys) ≡ looks_at worker xs + looks_at worker ys
 looks_at-append worker xs ys = sum_by-append (λ (l : Look). cond (eqb l.worker worker) 1 0) xs ys
 
-looks_at-one : (worker o word : ℕ) → looks_at worker (look o word ∷ []) ≡ times_in worker (span o (o + 1))
-looks_at-one worker o word = sum_by-cons (λ (l : Look). cond (eqb l.worker worker) 1 0) (look o word) [] ∙ same
+looks_at-one : (v : View) (worker o word : ℕ) → looks_at worker (look v o word ∷ []) ≡ times_in worker (span o (o + 1))
+looks_at-one v worker o word = sum_by-cons (λ (l : Look). cond (eqb l.worker worker) 1 0) (look v o word) [] ∙ same
   where
     same : cond (eqb o worker) 1 0 + 0 ≡ times_in worker (span o (o + 1))
     same = grind (arith, nat_tests)
 
-looks_at-not : (worker o word : ℕ) → worker ≢ o → looks_at worker (look o word ∷ []) ≡ 0
-looks_at-not worker o word n = sum_by-cons (λ (l : Look). cond (eqb l.worker worker) 1 0) (look o word) [] ∙ none
+looks_at-not : (v : View) (worker o word : ℕ) → worker ≢ o → looks_at worker (look v o word ∷ []) ≡ 0
+looks_at-not v worker o word n = sum_by-cons (λ (l : Look). cond (eqb l.worker worker) 1 0) (look v o word) [] ∙ none
   where
     none : ◌≡◌ {A = ℕ} (cond (eqb o worker) 1 0 + 0) 0
     none = grind (arith, nat_tests)
+
+-- looks after the same steps
+fresh_none : (v : View) → AreFresh v []
+fresh_none v = λ l h. absurd (Contains-nil l h)
+
+fresh_one : (v : View) (worker word : ℕ) → AreFresh v (look v worker word ∷ [])
+fresh_one v worker word = λ l h. ⊎_elim (λ t. absurd (Contains-nil l t)) (λ e. sym (ap (λ (x : Look). x.moves) e)) (Contains-push_cases [] (look v worker word) l h)
+
+fresh_more : (u v : View) (xs ys : List Look) → IsLater u v xs [] → AreFresh u xs → AreFresh v ys → AreFresh u (xs ++ ys)
+fresh_more u v xs ys later a b = λ l h. ⊎_elim (λ t. a l t) (λ t. b l t ∙ ap (λ (ms : List Step). length ms) (later.moves ∙ append-nil u.moves)) (Contains-append_cases xs ys l h)
 
 -- what looks show, more looks show
 bare_left : (xs ys : List Look) (o : ℕ) → IsBare xs o → IsBare (xs ++ ys) o
@@ -80,15 +92,17 @@ empty_right xs ys o h = (h.0, Contains-append_right xs ys h.0 h.1, h.2, h.3)
 
 -- a round that goes on
 pub toured_none : (v : View) (first : ℕ) → IsSeeking v → Toured v v first first
-toured_none v first s = record { seen = []; later = later_same v; seeking = s; bare = λ o a b. absurd (omega arith); brief = λ o. omega arith }
+toured_none v first s = record { seen = []; later = later_same v; fresh = fresh_none v; seeking = s; bare = λ o a b. absurd (omega arith); brief = λ o. omega arith; turn = turn_none first first }
 
 pub toured_more : (u v w : View) (first mid upto : ℕ) → first ≤ mid → mid ≤ upto → Toured u v first mid → Toured v w mid upto → Toured u w first upto
 toured_more u v w first mid upto low high a b = record {
   seen = a.seen ++ b.seen;
   later = later_trans u v w a.seen b.seen [] [] a.later b.later;
+  fresh = fresh_more u v a.seen b.seen a.later a.fresh b.fresh;
   seeking = b.seeking;
   bare = λ o lo hi. go o lo hi (cases_lt o mid);
   brief = λ o. let x = a.brief o in let y = b.brief o in let z = looks_at-append o a.seen b.seen in let t = times_in_cut o first mid upto low high in omega arith;
+  turn = turn_more first mid upto upto a.seen b.seen low high (omega arith) a.turn b.turn;
 }
   where
     go : (o : ℕ) → first ≤ o → o < upto → (o < mid) ⊎ (mid ≤ o) → IsBare (a.seen ++ b.seen) o
@@ -105,61 +119,71 @@ takes_more u v w first mid last upto unit low high end a b = let l = a.later in 
   piece = b.piece;
   brief = λ o. let x = a.brief o in let y = b.brief o in let z = looks_at-append o a.seen b.seen in
       let s = times_in_cut o first mid last low high in let t = times_in_cut o first last upto (omega arith) end in omega arith;
+  turn = turn_more first mid last upto a.seen b.seen low high end a.turn b.turn;
 }
 
 -- one other worker, whose range is short
 pub short : (v : View) (other word : ℕ) → IsSeeking v → span_len (unpacked word) < 2 → Toured v (looked v other word) other (other + 1)
 short v other word s few = let f = s.free in record {
-  seen = look other word ∷ [];
+  seen = look v other word ∷ [];
   later = looked_later v other word;
+  fresh = fresh_one v other word;
   seeking = record { free = record { hand = f.hand; going = f.going }; bare = s.bare };
-  bare = λ o lo hi. inl (look other word, Contains-push [] (look other word), (let e : other ≡ o = omega arith in e), few);
-  brief = λ o. let e = looks_at-one o other word in omega arith;
+  bare = λ o lo hi. inl (look v other word, Contains-push [] (look v other word), (let e : other ≡ o = omega arith in e), few);
+  brief = λ o. let e = looks_at-one v o other word in omega arith;
+  turn = turn_one v other word;
 }
 
 -- one other worker, whose range changed
 pub changed : (v : View) (other word again : ℕ) → IsSeeking v → word ≢ again → Toured v (looked (looked v other word) other again) other (other + 1)
 changed v other word again s ne = let f = s.free in record {
-  seen = (look other word ∷ []) ++ look other again ∷ [];
-  later = later_trans v (looked v other word) (looked (looked v other word) other again) (look other word ∷ []) (look other again ∷ []) [] [] (looked_later v other word) (looked_later (looked v other word) other again);
+  seen = (look v other word ∷ []) ++ look v other again ∷ [];
+  later = later_trans v (looked v other word) (looked (looked v other word) other again) (look v other word ∷ []) (look v other again ∷ []) [] [] (looked_later v other word) (looked_later (looked v other word) other again);
+  fresh = fresh_more v (looked v other word) (look v other word ∷ []) (look v other again ∷ []) (looked_later v other word) (fresh_one v other word) (fresh_one (looked v other word) other again);
   seeking = record { free = record { hand = f.hand; going = f.going }; bare = s.bare };
   bare = λ o lo hi. let e : other ≡ o = omega arith in inr (
-    look other word,
-    look other again,
-    Contains-append_left (look other word ∷ []) (look other again ∷ []) (look other word) (Contains-push [] (look other word)),
-    Contains-append_right (look other word ∷ []) (look other again ∷ []) (look other again) (Contains-push [] (look other again)),
+    look v other word,
+    look v other again,
+    Contains-append_left (look v other word ∷ []) (look v other again ∷ []) (look v other word) (Contains-push [] (look v other word)),
+    Contains-append_right (look v other word ∷ []) (look v other again ∷ []) (look v other again) (Contains-push [] (look v other again)),
     e,
     e,
     ne,
   );
-  brief = λ o. let x = looks_at-one o other word in let y = looks_at-one o other again in let z = looks_at-append o (look other word ∷ []) (look other again ∷ []) in omega arith;
+  brief = λ o. let x = looks_at-one v o other word in let y = looks_at-one v o other again in let z = looks_at-append o (look v other word ∷ []) (look v other again ∷ []) in omega arith;
+  turn = turn_again other (look v other word ∷ []) (look v other again ∷ []) (turn_one v other word) (turn_one v other again);
 }
 
 -- a look at another worker, and then the steps that take from it
 pub takes_from : (v w : View) (other word unit : ℕ) (steps : List Step) → IsLater (looked v other word) w [] steps → IsTaking v.number steps → HasPiece w unit → TakesFrom v w other (other + 1) unit
 takes_from v w other word unit steps later taking piece = record {
-  seen = (look other word ∷ []) ++ [];
+  seen = (look v other word ∷ []) ++ [];
   steps = steps;
-  later = later_trans v (looked v other word) w (look other word ∷ []) [] [] steps (looked_later v other word) later;
+  later = later_trans v (looked v other word) w (look v other word ∷ []) [] [] steps (looked_later v other word) later;
   taking = taking;
   piece = piece;
-  brief = λ o. let x = looks_at-one o other word in let z = looks_at-append o (look other word ∷ []) [] in omega arith;
+  brief = λ o. let x = looks_at-one v o other word in let z = looks_at-append o (look v other word ∷ []) [] in omega arith;
+  turn = turn_again other (look v other word ∷ []) [] (turn_one v other word) (turn_none other (other + 1));
 }
 
 -- the looks of a call at the own range
 pub record LooksHome (before after : View) : Type 0 where
   pub seen : List Look
   pub later : IsLater before after seen []
+  pub fresh : AreFresh before seen
   pub home : (other : ℕ) → other ≢ before.number → looks_at other seen ≡ 0
+  pub own : AtHome before.number seen
 
 pub looks_home_first : (v : View) (word : ℕ) → LooksHome v (looked_home v word)
-looks_home_first v word = record { seen = look v.number word ∷ []; later = looked_home_later v word; home = λ o n. looks_at-not o v.number word n }
+looks_home_first v word = record { seen = look v v.number word ∷ []; later = looked_home_later v word; fresh = fresh_one v v.number word; home = λ o n. looks_at-not v o v.number word n; own = home_one v word }
 
 pub looks_home_more : (u v : View) (word : ℕ) → LooksHome u v → LooksHome u (looked_home v word)
 looks_home_more u v word a = let l = a.later in let p = l.place in record {
-  seen = a.seen ++ look v.number word ∷ [];
-  later = later_trans u v (looked_home v word) a.seen (look v.number word ∷ []) [] [] a.later (looked_home_later v word);
-  home = λ o n. let x = a.home o n in let y = looks_at-not o v.number word (λ e. n (e ∙ p.number)) in let z = looks_at-append o a.seen (look v.number word ∷ []) in omega arith;
+  seen = a.seen ++ look v v.number word ∷ [];
+  later = later_trans u v (looked_home v word) a.seen (look v v.number word ∷ []) [] [] a.later (looked_home_later v word);
+  fresh = fresh_more u v a.seen (look v v.number word ∷ []) a.later a.fresh (fresh_one v v.number word);
+  home = λ o n. let x = a.home o n in let y = looks_at-not v o v.number word (λ e. n (e ∙ p.number)) in let z = looks_at-append o a.seen (look v v.number word ∷ []) in omega arith;
+  own = home_more u.number a.seen (look v v.number word ∷ []) a.own (subst (λ (n : ℕ). AtHome n (look v v.number word ∷ [])) p.number (home_one v word));
 }
 
 -- the own range's first unit is claimed
@@ -171,7 +195,19 @@ claims_home u v w unit steps a later taking piece = let l = a.later in let p = l
   taking = subst (λ (n : ℕ). IsTaking n steps) p.number taking;
   piece = piece;
   brief = λ o n. let x = a.home o n in let z = looks_at-append o a.seen [] in omega arith;
+  round = round_home u.number u.workers (a.seen ++ []) (home_more u.number a.seen [] a.own (λ l h. absurd (Contains-nil l h)));
 }
+
+pub claimed_home : (u v : View) → LooksHome u v → IsFree v → v.bound.first < length v.answers → Claims u (claimed v) v.bound.first
+claimed_home u v a free below = claims_home u v (claimed v) v.bound.first (by.Claim v.number ∷ []) a
+    (record {
+      place = record { number = refl; workers = refl; answers = refl; joined = refl; carries = refl; made = refl };
+      settled = refl;
+      looks = sym (append-nil v.looks);
+      moves = refl;
+    })
+    (inl refl)
+    (record { hand = refl; below = below; going = free.going })
 
 after_home : (u v : View) → LooksHome u v → (ys : List Look) → IsBrief v.number ys → (xs : List Look) → ((o : ℕ) → o ≢ u.number → looks_at o xs ≡ 0) → v.number ≡ u.number → IsBrief u.number (xs ++ ys)
 after_home u v a ys brief xs home same = λ o n. let x = home o n in let y = brief o (λ e. n (e ∙ same)) in let z = looks_at-append o xs ys in omega arith
@@ -185,16 +221,19 @@ claims_after u v w unit a b = let l = a.later in let p = l.place in record {
   taking = subst (λ (n : ℕ). IsTaking n b.steps) p.number b.taking;
   piece = b.piece;
   brief = after_home u v a b.seen b.brief a.seen a.home p.number;
+  round = round_after u.number u.workers a.seen b.seen a.own (subst (λ (t : ℕ × ℕ). GoesRound t.0 t.1 b.seen) (λ i. (p.number i, p.workers i)) b.round);
 }
 
 pub nothing_after : (u v w : View) → LooksHome u v → FindsNothing v w → FindsNothing u w
 nothing_after u v w a b = let l = a.later in let p = l.place in record {
   seen = a.seen ++ b.seen;
   later = subst (λ (n : ℕ). IsLater u w (a.seen ++ b.seen) (by.End n ∷ [])) p.number (later_trans u v w a.seen b.seen [] (by.End v.number ∷ []) a.later b.later);
+  fresh = fresh_more u v a.seen b.seen a.later a.fresh b.fresh;
   over = b.over;
   empty = subst (λ (n : ℕ). SawEmpty (a.seen ++ b.seen) n) p.number (empty_right a.seen b.seen v.number b.empty);
   others = λ o lo ne. bare_right a.seen b.seen o (b.others o (subst (λ (n : ℕ). o < n) (sym p.workers) lo) (λ e. ne (e ∙ p.number)));
   brief = after_home u v a b.seen b.brief a.seen a.home p.number;
+  round = round_after u.number u.workers a.seen b.seen a.own (subst (λ (t : ℕ × ℕ). GoesRound t.0 t.1 b.seen) (λ i. (p.number i, p.workers i)) b.round);
   few = b.few;
 }
 
@@ -211,32 +250,34 @@ apart : (o number workers : ℕ) → o ≢ number → times_in o (span (number +
 apart o number workers n = grind (arith, nat_tests)
 
 -- what the first round takes
-pub seeks_first : (v w : View) (number workers unit : ℕ) → v.number ≡ number → TakesFrom v w (number + 1) workers unit → Claims v w unit
-seeks_first v w number workers unit en a = record {
+pub seeks_first : (v w : View) (number workers unit : ℕ) → v.number ≡ number → v.workers ≡ workers → TakesFrom v w (number + 1) workers unit → Claims v w unit
+seeks_first v w number workers unit en ew a = record {
   seen = a.seen;
   steps = a.steps;
   later = a.later;
   taking = a.taking;
   piece = a.piece;
   brief = λ o n. let x = a.brief o in let y = apart o number workers (λ e. n (e ∙ sym en)) in omega arith;
+  round = subst (λ (t : ℕ × ℕ). GoesRound t.0 t.1 a.seen) (λ i. (sym en i, sym ew i)) (round_up number workers a.seen a.turn);
 }
 
 -- what the second round takes
-pub seeks_second : (v w x : View) (number workers unit : ℕ) → v.number ≡ number → Toured v w (number + 1) workers → TakesFrom w x 0 number unit → Claims v x unit
-seeks_second v w x number workers unit en a b = let l = a.later in let p = l.place in record {
+pub seeks_second : (v w x : View) (number workers unit : ℕ) → v.number ≡ number → v.workers ≡ workers → Toured v w (number + 1) workers → TakesFrom w x 0 number unit → Claims v x unit
+seeks_second v w x number workers unit en ew a b = let l = a.later in let p = l.place in record {
   seen = a.seen ++ b.seen;
   steps = b.steps;
   later = later_trans v w x a.seen b.seen [] b.steps a.later b.later;
   taking = subst (λ (n : ℕ). IsTaking n b.steps) p.number b.taking;
   piece = b.piece;
   brief = λ o n. let s = a.brief o in let t = b.brief o in let y = apart o number workers (λ e. n (e ∙ sym en)) in let z = looks_at-append o a.seen b.seen in omega arith;
+  round = subst (λ (t : ℕ × ℕ). GoesRound t.0 t.1 (a.seen ++ b.seen)) (λ i. (sym en i, sym ew i)) (round_both number workers a.seen b.seen a.turn b.turn);
 }
 
 -- two rounds that take nothing, and then the end
 pub seeks_nothing : (v w x : View) (word number workers : ℕ) → v.number ≡ number → v.workers ≡ workers → Toured v w (number + 1) workers → Toured w x 0 number → span_len (unpacked word) ≡ 0 → length x.settled ≤ length x.answers → FindsNothing v (ended x word)
 seeks_nothing v w x word number workers en ew a b empty few =
     let t : IsLater v x (a.seen ++ b.seen) [] = later_trans v w x a.seen b.seen [] [] a.later b.later in let place = t.place in let s : IsSeeking x = b.seeking in let f = s.free in
-    let l : List Look = look x.number word ∷ [] in
+    let l : List Look = look x x.number word ∷ [] in
     let e : IsLater x (ended x word) l (by.End x.number ∷ []) = record {
       place = record { number = refl; workers = refl; answers = refl; joined = refl; carries = refl; made = refl };
       settled = refl;
@@ -245,11 +286,15 @@ seeks_nothing v w x word number workers en ew a b empty few =
     } in record {
       seen = (a.seen ++ b.seen) ++ l;
       later = subst (λ (n : ℕ). IsLater v (ended x word) ((a.seen ++ b.seen) ++ l) (by.End n ∷ [])) place.number (later_trans v x (ended x word) (a.seen ++ b.seen) l [] (by.End x.number ∷ []) t e);
+      fresh = fresh_more v x (a.seen ++ b.seen) l t (fresh_more v w a.seen b.seen a.later a.fresh b.fresh) (fresh_one x x.number word);
       over = record { hand = f.hand; over = refl };
-      empty = (look x.number word, Contains-append_right (a.seen ++ b.seen) l (look x.number word) (Contains-push [] (look x.number word)), place.number, empty);
+      empty = (look x x.number word, Contains-append_right (a.seen ++ b.seen) l (look x x.number word) (Contains-push [] (look x x.number word)), place.number, empty);
       others = λ o lo ne. bare_left (a.seen ++ b.seen) l o (go o lo ne (cases_lt o number));
       brief = λ o n. let p = a.brief o in let q = b.brief o in let y = apart o number workers (λ e. n (e ∙ sym en)) in
-          let z = looks_at-append o a.seen b.seen in let z' = looks_at-append o (a.seen ++ b.seen) l in let h = looks_at-not o x.number word (λ e. n (e ∙ place.number)) in omega arith;
+          let z = looks_at-append o a.seen b.seen in let z' = looks_at-append o (a.seen ++ b.seen) l in let h = looks_at-not x o x.number word (λ e. n (e ∙ place.number)) in omega arith;
+      round = round_before v.number v.workers (a.seen ++ b.seen) l
+          (subst (λ (t : ℕ × ℕ). GoesRound t.0 t.1 (a.seen ++ b.seen)) (λ i. (sym en i, sym ew i)) (round_both number workers a.seen b.seen a.turn b.turn))
+          (subst (λ (n : ℕ). AtHome n l) place.number (home_one x word));
       few = few;
     }
   where

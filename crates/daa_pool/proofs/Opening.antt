@@ -12,8 +12,9 @@ use Rattle.daa_schedule.specs.Answers.{AreAnswers}
 use Rattle.daa_schedule.proofs.Runs.{opened_good, same_at}
 use Rattle.daa_pool.specs.declared.view.View.{View}
 use Rattle.daa_pool.proofs.Lists.{Contains-nil}
+use Rattle.daa_pool.proofs.History.{never_looked}
 use Rattle.daa_pool.proofs.Words.{packed_in_order, word_is}
-use Rattle.daa_pool.specs.declared.view.Size.{Size}
+use Rattle.daa_pool.specs.declared.pool.Size.{Size}
 use Rattle.daa_pool.specs.View.{blank, opener}
 use Rattle.daa_pool.specs.Rule.{word_at, Shows, IsSeated, Ruled, Holds, opening_words}
 use Rattle.daa_pool.specs.Steps.{Sat, begins}
@@ -65,7 +66,7 @@ module _ (workers units : ℕ) (answers : List ℕ) (some_workers : 0 < workers)
     answers = refl;
     hand = same_at workers no_units 0;
     over = same_at workers false 0;
-    moves = refl;
+    part = record { moves = refl; looks = never_looked c [] 0 };
     joined = λ part h. absurd (Contains-nil part h);
     first = refl;
     upto = omega arith;

@@ -10,14 +10,16 @@ use Rattle.atomic_table.specs.Table.{Splits}
 use Rattle.atomic_table.proofs.Lists.{at_set, set_here, set_else, at_longer, at_last}
 use Rattle.daa_range.specs.Range.{Span}
 use Rattle.daa_range.specs.Word.{unpacked}
-use Rattle.daa_schedule.specs.CoreState.{range_at, hand_at, has_ended}
+use Rattle.daa_schedule.specs.CoreState.{range_at, hand_at, has_ended, opened}
 use Rattle.daa_schedule.specs.Runs.{steps_of}
 use Rattle.daa_pool.specs.declared.view.View.{View}
-use Rattle.daa_pool.specs.declared.view.Size.{Size}
+use Rattle.daa_pool.specs.declared.pool.Size.{Size}
 use Rattle.daa_pool.specs.View.{left_behind, next_seat, times, HasNumber}
 use Rattle.daa_pool.specs.Rule.{Pools, IsSeated, IsHeld, Ruled, Holds}
 use Rattle.daa_pool.proofs.Lists.{Contains-nil, at_end, found_at, total_set}
 use Rattle.daa_pool.proofs.Views.{not_blank}
+use Rattle.daa_pool.proofs.Frame.{seated_anew}
+use Rattle.daa_pool.proofs.History.{never_looked}
 
 module _ (workers : ℕ) (s : Pools) (r : Ruled workers s) (id : ℕ) (v : View) (at : get_elem? s.views id ≡ some v) (alive : v.live ≡ true)
     (carries : v.carries ≡ true) (room : v.made < workers) where
@@ -66,39 +68,17 @@ module _ (workers : ℕ) (s : Pools) (r : Ruled workers s) (id : ℕ) (v : View)
         answers = o.answers;
         hand = ap (λ (n : ℕ). hand_at r.core n) made_is ∙ u.hand;
         over = ap (λ (n : ℕ). has_ended r.core n) made_is ∙ u.going;
-        moves = ap (λ (n : ℕ). steps_of n r.log) made_is ∙ u.moves;
+        part = record { moves = ap (λ (n : ℕ). steps_of n r.log) made_is ∙ u.moves; looks = never_looked (opened r.core.answers workers) r.log v.made };
         joined = λ part h. absurd (Contains-nil part h);
         first = ap (λ (n : ℕ). (range_at r.core n).first) made_is ∙ ap (λ (x : Span). x.first) range;
         upto = subst (λ (n : ℕ). (range_at r.core n).upto ≤ 0) (sym made_is) (let a = ap (λ (x : Span). x.upto) range in omega arith);
       }
 
-  old : (j : ℕ) (x : View) → (x.carries ≡ true → ⊥) → IsSeated r.core r.log workers r.made r.carrier r.holder j x → IsSeated r.core r.log workers (r.made + 1) last holder' j x
-  old j x bare o = record {
-    number = λ n h. let p = o.number n h in let a = p.0 in (omega arith, holder-old n a ∙ p.1);
-    carries = λ c. absurd (bare c);
-    crew = o.crew;
-    answers = o.answers;
-    hand = o.hand;
-    over = o.over;
-    moves = o.moves;
-    joined = o.joined;
-    first = o.first;
-    upto = o.upto;
-  }
-
-  left : IsSeated r.core r.log workers r.made r.carrier r.holder id (left_behind v)
-  left = let o = own in record {
-    number = o.number;
-    carries = λ c. absurd (true≢false (sym c));
-    crew = o.crew;
-    answers = o.answers;
-    hand = o.hand;
-    over = o.over;
-    moves = o.moves;
-    joined = o.joined;
-    first = o.first;
-    upto = o.upto;
-  }
+  old : (j : ℕ) (x : View) (b : Bool) → (b ≡ true → ⊥) → IsSeated r.core r.log workers r.made r.carrier r.holder j x → IsSeated r.core r.log workers (r.made + 1) last holder' j (record x { carries = b })
+  old j x b bare o = seated_anew r.core r.log workers r.made (r.made + 1) r.carrier last r.holder holder' j x b
+      (λ n h. let p = o.number n h in let a = p.0 in (omega arith, holder-old n a ∙ p.1))
+      (λ c. absurd (bare c))
+      o
 
   held_in : (i n : ℕ) → IsHeld s.views i n → IsHeld (vs ++ next_seat v ∷ []) i n
   held_in i n h = dite (ℕ_discrete i id)
@@ -125,8 +105,8 @@ module _ (workers : ℕ) (s : Pools) (r : Ruled workers s) (id : ℕ) (v : View)
     unmade = λ n a b. r.unmade n (omega arith) b;
     seats = λ j x e l. ⊎_elim
         (λ t. ⊎_elim
-        (λ q. subst (λ (p : ℕ × View). IsSeated r.core r.log workers (r.made + 1) last holder' p.0 p.1) (λ i. (sym q.0 i, q.1 i)) (old id (left_behind v) (λ c. true≢false (sym c)) left))
-        (λ q. let o = r.seats j x q.1 l in old j x (λ c. q.0 ((o.carries c).0 ∙ sym carrier_is)) o)
+        (λ q. subst (λ (p : ℕ × View). IsSeated r.core r.log workers (r.made + 1) last holder' p.0 p.1) (λ i. (sym q.0 i, q.1 i)) (old id v false (λ c. true≢false (sym c)) own))
+        (λ q. let o = r.seats j x q.1 l in old j x x.carries (λ c. q.0 ((o.carries c).0 ∙ sym carrier_is)) o)
         (at_set s.views id j (left_behind v) x t.1))
         (λ t. subst (λ (p : ℕ × View). IsSeated r.core r.log workers (r.made + 1) last holder' p.0 p.1) (λ i. (sym t.0 i, t.1 i)) fresh)
         (at_end vs (next_seat v) x j e);

@@ -1,6 +1,6 @@
 -- What one call of `claim` does: it takes a unit, or it shows why there is none to take.
-use Rattle.std.specs.Prelude.{◌≡◌, ◌≢◌, ℕ, ◌<◌, ◌≤◌, ◌==◌, List, [], ◌∷◌, ◌++◌, length, ◌⊎◌, if◌then◌else◌}
-use Rattle.std.specs.List.{Contains, sum_by}
+use Rattle.std.specs.Prelude.{◌≡◌, ◌≢◌, ℕ, ◌+◌, ◌-◌, ◌<◌, ◌≤◌, ◌==◌, nat_lt, List, [], ◌∷◌, ◌++◌, length, ◌⊎◌, if◌then◌else◌}
+use Rattle.std.specs.List.{AllPairs, Contains, sum_by}
 use Rattle.daa_range.specs.Range.{span_len}
 use Rattle.daa_range.specs.Word.{unpacked}
 use Rattle.daa_schedule.specs.declared.step.Step.{Step}
@@ -15,6 +15,10 @@ pub record IsLater (before after : View) (seen : List Look) (steps : List Step) 
   pub settled : after.settled ≡ before.settled
   pub looks : after.looks ≡ before.looks ++ seen
   pub moves : after.moves ≡ before.moves ++ steps
+
+-- when these looks were made, the seat had made the steps that it shows here, and no more
+abbrev pub AreFresh : View → List Look → Type 0
+AreFresh view seen = (look : Look) → Contains seen look → look.moves ≡ length view.moves
 
 -- a look found the worker's range empty
 abbrev pub SawEmpty : List Look → ℕ → Type 0
@@ -40,6 +44,14 @@ looks_at worker seen = sum_by (λ look. if look.worker == worker then 1 else 0) 
 abbrev pub IsBrief : ℕ → List Look → Type 0
 IsBrief number seen = (other : ℕ) → other ≢ number → looks_at other seen ≤ 2
 
+-- how far on from the seat's own number a worker is, going round
+abbrev pub way_to : ℕ → ℕ → ℕ → ℕ
+way_to number workers worker = if nat_lt number worker then worker - number else worker + workers - number
+
+-- the looks at other workers were made from the next number round
+abbrev pub GoesRound : ℕ → ℕ → List Look → Type 0
+GoesRound number workers seen = AllPairs (λ look next. look.worker ≢ number → next.worker ≢ number → way_to number workers look.worker ≤ way_to number workers next.worker) seen
+
 -- how a unit comes to the hand: by Claim, by Steal, or by Steal and Keep
 abbrev pub IsTaking : ℕ → List Step → Type 0
 IsTaking number steps =
@@ -55,13 +67,16 @@ pub record Claims (before after : View) (unit : ℕ) : Type 0 where
   pub taking : IsTaking before.number steps
   pub piece : HasPiece after unit
   pub brief : IsBrief before.number seen
+  pub round : GoesRound before.number before.workers seen
 
--- a call that gives none: it saw the own range empty and each other range short or changing, and it ends the worker, which has settled no more units than there are
+-- a call that gives none: it saw the own range empty and each other range short or changing, each as it was after the last step that the worker made before the call, and it ends the worker, which has settled no more units than there are
 pub record FindsNothing (before after : View) : Type 0 where
   pub seen : List Look
   pub later : IsLater before after seen (End before.number ∷ [])
+  pub fresh : AreFresh before seen
   pub over : IsOver after
   pub empty : SawEmpty seen before.number
   pub others : (other : ℕ) → other < before.workers → other ≢ before.number → IsBare seen other
   pub brief : IsBrief before.number seen
+  pub round : GoesRound before.number before.workers seen
   pub few : length after.settled ≤ length after.answers

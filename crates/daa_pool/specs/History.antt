@@ -1,9 +1,26 @@
--- All that the workers of a pool did, as one list of steps of the core.
-use Rattle.std.specs.Prelude.{◌≡◌, ℕ, List}
-use Rattle.daa_schedule.specs.CoreState.{CoreState, opened}
-use Rattle.daa_schedule.specs.Runs.{AllEnded, steps_of, IsHistory}
+-- All that the workers of a pool did and saw, as one list of steps of the core.
+use Rattle.std.specs.Prelude.{◌≡◌, ℕ, List, ◌++◌, length}
+use Rattle.std.specs.List.{Contains}
+use Rattle.daa_range.specs.Word.{unpacked, IsInOrder}
+use Rattle.daa_schedule.specs.CoreState.{CoreState, range_at, opened}
+use Rattle.daa_schedule.specs.Runs.{run, AllEnded, steps_of, IsHistory}
 use Rattle.daa_schedule.specs.declared.step.Step.{Step}
+use Rattle.daa_pool.specs.declared.view.Look.{Look}
 use Rattle.daa_pool.specs.declared.view.Part.{Part}
+
+-- the look tells what was so: at some point of the history, at which the worker that looked had made so many steps as the look says, the range was the one found
+pub record WasSo (opening : CoreState) (log : List Step) (number : ℕ) (look : Look) : Type 0 where
+  pub earlier : List Step
+  pub later : List Step
+  pub point : log ≡ earlier ++ later
+  pub moves : length (steps_of number earlier) ≡ look.moves
+  pub in_order : IsInOrder look.word
+  pub range : range_at (run opening earlier) look.worker ≡ unpacked look.word
+
+-- the worker's steps in the history are those of the part, and each of its looks tells what was so
+pub record IsPartOf (opening : CoreState) (log : List Step) (part : Part) : Type 0 where
+  pub moves : steps_of part.number log ≡ part.moves
+  pub looks : (look : Look) → Contains part.looks look → WasSo opening log part.number look
 
 -- the parts are those of one history of steps, none of them refused, which leads from the opening until all workers have ended
 pub record IsOneHistory (answers : List ℕ) (workers : ℕ) (Has : Part → Type 0) : Type 0 where
@@ -11,4 +28,4 @@ pub record IsOneHistory (answers : List ℕ) (workers : ℕ) (Has : Part → Typ
   pub core : CoreState
   pub history : IsHistory (opened answers workers) log core
   pub ended : AllEnded core
-  pub parts : (part : Part) → Has part → steps_of part.number log ≡ part.moves
+  pub parts : (part : Part) → Has part → IsPartOf (opened answers workers) log part

@@ -4,6 +4,7 @@ pub mod Steps
 pub mod Seat
 pub mod Claim
 pub mod Tour
+pub mod Work
 pub mod History
 pub mod Pool
 pub mod Dealing

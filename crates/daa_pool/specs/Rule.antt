@@ -11,8 +11,9 @@ use Rattle.daa_schedule.specs.Runs.{steps_of, IsHistory}
 use Rattle.daa_schedule.specs.declared.step.Step.{Step}
 use Rattle.daa_pool.specs.declared.view.View.{View}
 use Rattle.daa_pool.specs.declared.view.Part.{Part}
-use Rattle.daa_pool.specs.declared.view.Size.{Size}
-use Rattle.daa_pool.specs.View.{blank, spent, times, HasNumber}
+use Rattle.daa_pool.specs.declared.pool.Size.{Size}
+use Rattle.daa_pool.specs.View.{blank, spent, part_of, times, HasNumber}
+use Rattle.daa_pool.specs.History.{IsPartOf}
 
 -- the table of a pool: its words, and the views of its seats
 abbrev pub Pools : Type 0
@@ -37,15 +38,15 @@ pub record IsSeated (core : CoreState) (history : List Step) (workers made carri
   -- all views carry the same answers and number of workers
   pub crew : view.workers ≡ workers
   pub answers : view.answers ≡ core.answers
-  -- the view shows its worker's hand and mark, and its worker's steps in the history
+  -- the view shows its worker's hand and mark, and its worker's steps in the history, and each of its looks tells what was so
   pub hand : hand_at core view.number ≡ view.hand
   pub over : has_ended core view.number ≡ view.over
-  pub moves : steps_of view.number history ≡ view.moves
+  pub part : IsPartOf (opened core.answers workers) history (part_of view)
   -- the own range begins where the bound begins, and ends there or before
   pub first : (range_at core view.number).first ≡ view.bound.first
   pub upto : (range_at core view.number).upto ≤ view.bound.upto
   -- what was joined to it has ended, with an empty hand
-  pub joined : (part : Part) → Contains view.joined part → (hand_at core part.number ≡ no_units) × (has_ended core part.number ≡ true) × (steps_of part.number history ≡ part.moves)
+  pub joined : (part : Part) → Contains view.joined part → (hand_at core part.number ≡ no_units) × (has_ended core part.number ≡ true) × IsPartOf (opened core.answers workers) history part
 
 -- the seat id has a live view that has the number
 abbrev pub IsHeld : List View → ℕ → ℕ → Type 0
@@ -58,7 +59,7 @@ pub record IsUnmade (core : CoreState) (history : List Step) (words : List ℕ) 
   pub going : has_ended core number ≡ false
   pub moves : steps_of number history ≡ []
 
--- The words and the views show a core that is whole. A history of steps, none of them refused, leads to it from the opening, and each worker's steps in it are those that its view tells
+-- The words and the views show a core that is whole. A history of steps, none of them refused, leads to it from the opening, and each worker's steps in it are those that its view tells, and each look of a view was so at some point of it
 pub record Ruled (workers : ℕ) (table : Pools) : Type 0 where
   pub core : CoreState
   pub log : List Step

@@ -1,5 +1,5 @@
 -- What contracts say of one seat of a pool.
-use Rattle.std.specs.Prelude.{◌≡◌, ℕ, ◌+◌, ◌<◌, ◌≤◌, true, false, List, [], ◌++◌, length}
+use Rattle.std.specs.Prelude.{◌≡◌, ℕ, ◌+◌, ◌<◌, true, false, List, [], length}
 use Rattle.daa_range.specs.Range.{span}
 use Rattle.daa_schedule.specs.CoreState.{no_units, opened, range_at}
 use Rattle.daa_pool.specs.declared.view.View.{View}
@@ -23,7 +23,7 @@ pub record IsSeatOf (pool : Pool) (seat : Seat) : Type 0 where
   pub number : (view seat).number < workers_of pool
   pub units : length (view seat).answers ≡ units_of pool
 
--- the seat's number, its pool's workers and answers, and what was joined to it: what no claim and no answer changes
+-- the seat's number, its pool's workers and answers, what was joined to it, and the count of seats made: what no claim and no answer changes
 pub record IsSamePlace (before after : View) : Type 0 where
   pub number : after.number ≡ before.number
   pub workers : after.workers ≡ before.workers
@@ -70,9 +70,3 @@ pub record IsReady (pool : Pool) (seat : Seat) (answers : List ℕ) : Type 0 whe
 pub record IsDone (pool : Pool) (seat : Seat) : Type 0 where
   pub of : IsSeatOf pool seat
   pub over : IsOver (view seat)
-
--- what a seat settled while it worked comes after what it had settled, and is no more than there are units
-pub record SettlesMore (before after : View) : Type 0 where
-  pub more : List ℕ
-  pub settled : after.settled ≡ before.settled ++ more
-  pub few : length after.settled ≤ length after.answers

@@ -9,12 +9,13 @@ use Rattle.daa_pool.specs.declared.view.View.{View}
 use Rattle.daa_pool.specs.declared.view.Look.{Look}
 use Rattle.daa_pool.specs.declared.view.Part.{Part}
 
-abbrev pub look : ℕ → ℕ → Look
-look worker word = record { worker = worker; word = word }
+-- what a seat finds in a worker's range
+abbrev pub look : View → ℕ → ℕ → Look
+look view worker word = record { worker = worker; word = word; moves = length view.moves }
 
--- the steps that this worker made
+-- what this worker did and saw
 abbrev pub part_of : View → Part
-part_of view = record { number = view.number; moves = view.moves }
+part_of view = record { number = view.number; moves = view.moves; looks = view.looks }
 
 -- the part is the view's own, or one that was joined to it
 abbrev pub HasPart : View → Part → Type 0
@@ -60,11 +61,11 @@ opener workers answers = record (newcomer 0 workers answers) { bound = span 0 (l
 
 -- after a look at a worker's range
 abbrev pub looked : View → ℕ → ℕ → View
-looked view worker word = record view { looks = view.looks ++ look worker word ∷ [] }
+looked view worker word = record view { looks = view.looks ++ look view worker word ∷ [] }
 
 -- after a look at the own range, which bounds it from then on
 abbrev pub looked_home : View → ℕ → View
-looked_home view word = record view { bound = unpacked word; looks = view.looks ++ look view.number word ∷ [] }
+looked_home view word = record view { bound = unpacked word; looks = view.looks ++ look view view.number word ∷ [] }
 
 -- after a Claim: the first unit of the own range is in the hand
 abbrev pub claimed : View → View
@@ -84,7 +85,7 @@ settled view word = record view { hand = no_units; settled = view.settled ++ vie
 
 -- after an End, which looks at the own range
 abbrev pub ended : View → ℕ → View
-ended view word = record view { over = true; looks = view.looks ++ look view.number word ∷ []; moves = view.moves ++ End view.number ∷ [] }
+ended view word = record view { over = true; looks = view.looks ++ look view view.number word ∷ []; moves = view.moves ++ End view.number ∷ [] }
 
 -- a seat that another was split from: it has no count of the seats any more
 abbrev pub left_behind : View → View
@@ -94,7 +95,7 @@ left_behind view = record view { carries = false }
 abbrev pub next_seat : View → View
 next_seat view = record (newcomer view.made view.workers view.answers) { carries = true; made = view.made + 1 }
 
--- a seat that another was joined to: it has what both settled, the numbers of both, and the count of seats made where one of them had it
+-- a seat that another was joined to: it has what both settled, what both did and saw, and the count of seats made where one of them had it
 abbrev pub gathered : View → View → View
 gathered view other = record view {
   settled = view.settled ++ other.settled;

@@ -9,8 +9,9 @@ use crate::seat::{Piece, Seat};
 use daa_range::{pack, unpack};
 
 impl Pool {
-    /// A unit to answer, for a seat of this pool that holds no piece and is not over. With `None` the seat is over: the
-    /// own range was empty, and each other worker's range had fewer than two units, or changed, at a look of this call.
+    /// A unit to answer, for a seat of this pool that holds no piece and is not over. Where the own range is empty, the
+    /// others are looked at from the next number round. With `None` the seat is over: the own range was empty, and each
+    /// other worker's range had fewer than two units, or changed, at a look of this call.
     pub fn claim(&self, seat: &mut Seat) -> Option<Piece>
         requires pool { IsSeatOf self.now seat.old }
         requires free { IsFree (view seat.old) }

@@ -8,13 +8,14 @@ ghost use Rattle.daa_pool.specs.Seat.{view, workers_of, units_of, IsDone};
 ghost use Rattle.daa_pool.specs.Pool.{AreAll, HaveAnswers, HasPartOf};
 
 use crate::pool::Pool;
-use crate::rule::Glue;
+use crate::rule::JoinSeat;
 use crate::seat::Seat;
 
 impl Pool {
     /// Fills the words with the answers in order of units. All seats of this pool are given, each of them over, and there
     /// is a word for each unit. Over all seats each unit was settled once, and the steps that the seats made are one
-    /// history of the core, none of them refused, from the opening until all workers have ended.
+    /// history of the core, none of them refused, from the opening until all workers have ended; what a seat found where
+    /// it looked was so at a point of it.
     pub fn gather(self, mut seats: Vec<Seat>, words: &mut [u64])
         requires seats { All (λ seat. IsDone self seat) seats.items }
         requires all { AreAll (workers_of self) seats.items }
@@ -45,6 +46,8 @@ impl Pool {
             number: _,
             over: _,
         } = other;
-        self.table.shared.join_seat::<Glue>(&mut seat.seat, taken);
+        self.table
+            .shared
+            .join_seat::<JoinSeat>(&mut seat.seat, taken);
     }
 }

@@ -5,10 +5,10 @@ ghost use Rattle.daa_pool.specs.Seat.{view, workers_of, units_of, IsSeatOf};
 ghost use Rattle.daa_pool.specs.Pool.{AreOpening};
 ghost use Rattle.daa_pool.specs.Dealing.{IsLast};
 
-use crate::pool::Pool;
-use crate::rule::{Begin, Cut, Law, Telling};
+use crate::pool::{Pool, Size};
+use crate::rule::{Begin, PoolRule, SplitSeat, Telling};
 use crate::seat::Seat;
-use crate::view::{Size, View};
+use crate::view::View;
 use atomic_table::{Shared, Table};
 use daa_range::{Range, pack};
 use daa_schedule::{Answers, NoMemory};
@@ -69,7 +69,7 @@ impl Pool {
         ensures left { view seat.new ≡ left_behind (view seat.old) }
         ensures right { view result ≡ next_seat (view seat.old) }
     {
-        let seat = self.table.shared.split_seat::<Cut>(&mut seat.seat);
+        let seat = self.table.shared.split_seat::<SplitSeat>(&mut seat.seat);
         Seat {
             seat,
             number,
@@ -80,7 +80,7 @@ impl Pool {
 
 // The first seat is told the answers and the number of workers.
 fn told<A: Answers>(
-    shared: &Shared<(), View, Size, Law>,
+    shared: &Shared<(), View, Size, PoolRule>,
     seat: &mut atomic_table::Seat<(), View>,
     answers: &A,
     workers: u32,
@@ -95,7 +95,7 @@ fn told<A: Answers>(
 
 // The same, where `J` names what is told.
 fn begin<J: Telling, A: Answers>(
-    shared: &Shared<(), View, Size, Law>,
+    shared: &Shared<(), View, Size, PoolRule>,
     seat: &mut atomic_table::Seat<(), View>,
     answers: &A,
     workers: u32,

@@ -3,14 +3,15 @@ ghost use Rattle.std.specs.Prelude.{ℕ, List, []};
 ghost use Rattle.daa_pool.specs.View.{left_behind, next_seat, gathered, spent};
 ghost use Rattle.daa_pool.specs.Steps.{begins, looks_home, claims, looks_away, steals, keeps, settles, ends, reads};
 
-use crate::view::{Size, View};
+use crate::pool::Size;
+use crate::view::View;
 use atomic_table::{Join, Play, Split, TableRule};
 use std::marker::{Brand, PhantomData};
 
 /// The rule of the table: its words and the views of its seats show a core that is whole.
-pub(crate) struct Law;
+pub(crate) struct PoolRule;
 
-impl TableRule<(), View, Size> for Law {
+impl TableRule<(), View, Size> for PoolRule {
     ghost use Rattle.daa_pool.specs.Rule.{Holds};
     ghost use Rattle.daa_pool.specs.View.{blank};
 
@@ -90,17 +91,17 @@ impl Play<(), View> for Read {
     ghost then = { reads };
 }
 
-pub(crate) struct Cut;
+pub(crate) struct SplitSeat;
 
-impl Split<View> for Cut {
+impl Split<View> for SplitSeat {
     ghost left = { left_behind };
 
     ghost right = { next_seat };
 }
 
-pub(crate) struct Glue;
+pub(crate) struct JoinSeat;
 
-impl Join<View> for Glue {
+impl Join<View> for JoinSeat {
     ghost both = { gathered };
 
     ghost spent = { spent };

@@ -4,7 +4,7 @@ ghost use Rattle.daa_pool.specs.Numbers.{numbers};
 ghost use Rattle.daa_pool.specs.Seat.{view, workers_of, units_of, IsSeatOf, IsSamePlace, IsFree, HasPiece, IsReady, IsDone};
 ghost use Rattle.daa_pool.specs.Pool.{AllReady, AllWorked, IsWorked};
 
-use crate::{NoMemory, Piece, Pool, Seat, answer_all, unit};
+use crate::{Look, NoMemory, Part, Piece, Pool, Seat, View, answer_all, unit};
 use daa_outside::{Gate, Open};
 use daa_schedule::Answers;
 use std::alloc::{AllocError, Global};
@@ -143,6 +143,14 @@ fn answer_unit(pool: &Pool, seat: &mut Seat, given: &Numbers, piece: Piece)
     pool.settle(seat, piece, word);
 }
 
+fn answer_the_rest(pool: &Pool, seat: &mut Seat, given: &Numbers)
+    requires { IsReady pool.now seat.old (numbers given.now.units) }
+    ensures done { IsDone pool.now seat.new }
+    ensures place { IsSamePlace (view seat.old) (view seat.new) }
+{
+    pool.work(seat, given, &Open);
+}
+
 fn gather_two(alloc: Global, pool: Pool, zero: Seat, one: Seat) -> Result<[u64; 5], AllocError>
     requires pool { (workers_of pool ≡ 2) × (units_of pool ≡ 5) }
     requires zero { IsDone pool zero × ((view zero).number ≡ 0) }
@@ -174,8 +182,8 @@ fn two_seats_share_five_units(rt: HostRuntime) -> Result<(), Fail> {
     let four = claim_unit(&rt, &pool, &mut one, 4);
     answer_unit(&pool, &mut one, &given, four);
     assert!(rt; !pool.is_over(&zero) && !pool.is_over(&one));
-    pool.work(&mut zero, &given, &Open);
-    pool.work(&mut one, &given, &Open);
+    answer_the_rest(&pool, &mut zero, &given);
+    answer_the_rest(&pool, &mut one, &given);
     assert!(rt; pool.is_over(&zero) && pool.is_over(&one));
     assert!(rt; given.calls() == 5);
     let words = gather_two(rt.alloc(), pool, zero, one)?;
@@ -219,4 +227,7 @@ fn values_may_be_sent() {
     may_be_sent::<Pool>();
     may_be_sent::<Seat>();
     may_be_sent::<Piece>();
+    may_be_sent::<View>();
+    may_be_sent::<Look>();
+    may_be_sent::<Part>();
 }

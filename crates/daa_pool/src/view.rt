@@ -7,14 +7,18 @@ use std::collections::LinkedList;
 pub struct Look {
     pub worker: u64,
     pub word: u64,
+    /// How many steps of the core the seat that looked had made by then.
+    pub moves: u64,
 }
 
-/// What one worker did.
+/// What one worker did and saw.
 pub struct Part {
     /// The number of the worker.
     pub number: u64,
     /// Its steps of the core, in order.
     pub moves: LinkedList<Step>,
+    /// The words that it found where it looked.
+    pub looks: LinkedList<Look>,
 }
 
 /// What a seat knows.
@@ -39,17 +43,10 @@ pub struct View {
     pub moves: LinkedList<Step>,
     /// Whether its worker has ended.
     pub over: bool,
-    /// What the seats did that were joined to this one.
+    /// What the seats did and saw that were joined to this one.
     pub joined: LinkedList<Part>,
     /// Whether the view has the count of seats made.
     pub carries: bool,
     /// That count.
     pub made: u64,
-}
-
-/// How many workers a pool has, and how many units.
-#[derive(Clone, Copy)]
-pub(crate) struct Size {
-    pub(crate) workers: u32,
-    pub(crate) units: u32,
 }

@@ -1,7 +1,8 @@
 //! Settling units, and working until nothing is left.
 ghost use Rattle.std.specs.Prelude.{◌≡◌, ◌≤◌, length, slice_index};
 ghost use Rattle.daa_pool.specs.View.{settled};
-ghost use Rattle.daa_pool.specs.Seat.{view, IsSeatOf, IsSamePlace, HasPiece, IsReady, IsDone, SettlesMore};
+ghost use Rattle.daa_pool.specs.Seat.{view, IsSeatOf, IsSamePlace, HasPiece, IsReady, IsDone};
+ghost use Rattle.daa_pool.specs.Work.{SettlesMore, GivesUp};
 
 use crate::pool::Pool;
 use crate::seat::{Piece, Seat, unit};
@@ -9,7 +10,7 @@ use daa_outside::Gate;
 use daa_schedule::Answers;
 
 impl Pool {
-    /// Puts the answer of the unit on the board, whose piece this seat holds.
+    /// Puts the answer of the unit on the board, whose piece this seat holds. The word is that answer.
     pub fn settle(&self, seat: &mut Seat, piece: Piece, word: u64)
         requires pool { IsSeatOf self.now seat.old }
         requires piece { HasPiece (view seat.old) piece }
@@ -29,13 +30,14 @@ impl Pool {
         seat.over
     }
 
-    /// Claims, passes the gate, answers and settles until the seat is over. The answers are those that the pool was
-    /// opened for.
+    /// Claims, passes the gate, answers and settles until a claim finds nothing; the seat is over then. The answers are
+    /// those that the pool was opened for.
     pub fn work<A: Answers, G: Gate>(&self, seat: &mut Seat, answers: &A, gate: &G)
         requires ready { IsReady self.now seat.old (A.answers answers.now) }
         ensures done { IsDone self.now seat.new }
         ensures place { IsSamePlace (view seat.old) (view seat.new) }
         ensures settles { SettlesMore (view seat.old) (view seat.new) }
+        ensures gives_up { GivesUp (view seat.old) (view seat.new) }
     {
         while let Some(piece) = self.claim(seat) {
             let unit = unit(&piece);

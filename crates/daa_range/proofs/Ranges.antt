@@ -1,5 +1,5 @@
 -- Ranges cut in two, and their units counted.
-use Rattle.std.proofs.Common.{◌≡◌, ℕ, zero, suc, ◌+◌, ◌-◌, ◌≤◌, min, arith}
+use Rattle.std.proofs.Common.{◌≡◌, ℕ, zero, suc, ◌+◌, ◌-◌, ◌<◌, ◌≤◌, min, arith}
 use Rattle.std.proofs.lemmas.Bool.Decides.{nat_tests}
 use Rattle.daa_range.specs.Range.{Span, span, span_len, IsOrdered, times_in, times_below}
 
@@ -7,6 +7,16 @@ use Rattle.daa_range.specs.Range.{Span, span, span_len, IsOrdered, times_in, tim
 pub times_in_cut : (unit first middle upto : ℕ) → first ≤ middle → middle ≤ upto
     → times_in unit (span first upto) ≡ times_in unit (span first middle) + times_in unit (span middle upto)
 times_in_cut unit first middle upto a b = grind (arith, nat_tests)
+
+-- a range without units, the first unit and the rest, and a unit inside
+pub times_in_none : (u : ℕ) (r : Span) → IsOrdered r → span_len r ≡ 0 → times_in u r ≡ 0
+times_in_none u r o e = grind (arith, nat_tests)
+
+pub times_in_first : (u : ℕ) (r : Span) → 0 < span_len r → times_in u r ≡ times_in u (span r.first (r.first + 1)) + times_in u (span (r.first + 1) r.upto)
+times_in_first u r h = times_in_cut u r.first (r.first + 1) r.upto (omega arith) (omega arith)
+
+pub times_in_inside : (u : ℕ) (r : Span) → r.first ≤ u → u < r.upto → times_in u r ≡ 1
+times_in_inside u r a b = grind (arith, nat_tests)
 
 -- one unit more
 counted_step : (unit : ℕ) (range : Span) → IsOrdered range → (min unit range.upto - range.first) + times_in unit range ≡ min (suc unit) range.upto - range.first

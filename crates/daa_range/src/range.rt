@@ -51,7 +51,7 @@ impl Range {
         self.len() == 0
     }
 
-    /// The range of the first unit alone.
+    /// The range of the first unit alone, where there is one.
     pub fn first_unit(self) -> Range
         requires { 0 < span_len self }
         ensures { result ≡ first_unit_of self }
@@ -62,7 +62,7 @@ impl Range {
         }
     }
 
-    /// All but the first unit.
+    /// All but the first unit, where there is one.
     pub fn rest(self) -> Range
         requires { 0 < span_len self }
         ensures { result ≡ rest_of self }

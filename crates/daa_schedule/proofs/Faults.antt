@@ -1,5 +1,6 @@
 -- What is known where nothing refuses a step.
-use Rattle.std.proofs.Common.{◌≡◌, ◌≢◌, ℕ, ◌<◌, ◌≤◌, Bool, true, false, leb, ltb, eqb, not, ◌||◌, cond, List, [], ◌∷◌, length, Option, Some, None, slice_index, refl, arith}
+use Rattle.std.proofs.Common.{◌≡◌, ◌≢◌, ℕ, ◌<◌, ◌≤◌, Bool, true, false, leb, ltb, eqb, not, cond, List, [], ◌∷◌, length, Option, Some, None, slice_index, refl, arith}
+use Rattle.std.proofs.lemmas.Bool.{or_parts}
 use Rattle.std.proofs.lemmas.Bool.Decides.{nat_tests}
 use Rattle.daa_range.specs.Range.{span_len}
 use Rattle.daa_schedule.specs.CoreState.{CoreState, range_at, hand_at, has_ended}
@@ -31,10 +32,6 @@ some_left n e = grind (arith, nat_tests)
 pub at_least : (n k : ℕ) → ltb n k ≡ false → k ≤ n
 at_least n k e = grind (arith, nat_tests)
 
-pub neither : (a b : Bool) → (a || b) ≡ false → (a ≡ false) × (b ≡ false)
-neither true b e = cc
-neither false b e = (refl, e)
-
 pub record Claims (c : CoreState) (by : ℕ) : Type 0 where
   pub known : by < length c.ranges
   pub going : has_ended c by ≡ false
@@ -58,7 +55,7 @@ apart_from : (a b : ℕ) → eqb a b ≡ false → a ≢ b
 apart_from a b e = grind (arith, nat_tests)
 
 pub steals : (c : CoreState) (by other : ℕ) → fault_of c (Steal by other) ≡ None → Steals c by other
-steals c by other e = let t = all_false (checks c (Steal by other)) e in let k = neither _ _ t.0 in
+steals c by other e = let t = all_false (checks c (Steal by other)) e in let k = or_parts _ _ t.0 in
     record { known = below _ _ k.0; other_known = below _ _ k.1; going = t.1.0; apart = apart_from _ _ t.1.1.0; free = empty _ t.1.1.1.0; none = empty _ t.1.1.1.1.0; two = at_least _ _ t.1.1.1.1.1.0 }
 
 pub record Keeps (c : CoreState) (by : ℕ) : Type 0 where

@@ -7,7 +7,7 @@ use Rattle.daa_schedule.specs.Step.{fault_of}
 use Rattle.daa_schedule.specs.declared.step.Step.TheVariants.{Claim, Steal, Keep, Settle}
 use Rattle.daa_schedule.proofs.Faults.{claims, steals, keeps, settles}
 use Rattle.daa_schedule.proofs.Steps.{in_hand, in_range}
-use Rattle.daa_schedule.proofs.Workers.{times_in_inside}
+use Rattle.daa_range.proofs.Ranges.{times_in_inside}
 use Rattle.daa_schedule.proofs.Runs.{Good, moved_good}
 
 two_changed : (c : CoreState) (i j : ℕ) (r r' h h' : Span) → r ≡ r' → h ≡ h'

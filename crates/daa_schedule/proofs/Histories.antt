@@ -1,5 +1,6 @@
 -- Histories of accepted steps, one step longer.
-use Rattle.std.proofs.Common.{◌≡◌, ◌≢◌, ℕ, ◌<◌, ◌≤◌, Bool, true, false, leb, ltb, eqb, not, ◌||◌, cond, List, [], ◌∷◌, ◌++◌, Option, Some, None, sym, refl, ap, ◌∙◌, subst, arith, eq-eqb, ne_eqb}
+use Rattle.std.proofs.Common.{◌≡◌, ◌≢◌, ℕ, ◌<◌, ◌≤◌, Bool, true, false, leb, ltb, eqb, not, cond, List, [], ◌∷◌, ◌++◌, Option, Some, None, sym, refl, ap, ◌∙◌, subst, arith, eq-eqb, ne_eqb}
+use Rattle.std.proofs.lemmas.Bool.{or_from}
 use Rattle.std.proofs.lemmas.Bool.Decides.{nat_tests}
 use Rattle.daa_schedule.specs.CoreState.{CoreState, has_ended}
 use Rattle.daa_schedule.specs.Step.{first_fault, fault_of, checks, moved, stepped, unless}
@@ -55,10 +56,6 @@ not_none n h = grind (arith, nat_tests)
 not_short : (n k : ℕ) → k ≤ n → ltb n k ≡ false
 not_short n k h = grind (arith, nat_tests)
 
-neither : (a b : Bool) → a ≡ false → b ≡ false → (a || b) ≡ false
-neither true b e f = cc
-neither false b e f = f
-
 not_wrong : (a b : ℕ) → a ≡ b → not (eqb a b) ≡ false
 not_wrong a b e = grind (arith, nat_tests)
 
@@ -67,7 +64,7 @@ claims_none c by k = no_fault (checks c (Claim by)) (stranger_not _ _ k.known, (
 
 pub steals_none : (c : CoreState) (by other : ℕ) → Steals c by other → fault_of c (Steal by other) ≡ None
 steals_none c by other k = no_fault (checks c (Steal by other))
-    (neither _ _ (stranger_not _ _ k.known) (stranger_not _ _ k.other_known), (k.going, (ne_eqb by other k.apart, (none_left _ k.free, (none_left _ k.none, (not_short _ _ k.two, tt))))))
+    (or_from _ _ (stranger_not _ _ k.known) (stranger_not _ _ k.other_known), (k.going, (ne_eqb by other k.apart, (none_left _ k.free, (none_left _ k.none, (not_short _ _ k.two, tt))))))
 
 pub keeps_none : (c : CoreState) (by : ℕ) → Keeps c by → fault_of c (Keep by) ≡ None
 keeps_none c by k = let two = k.two in no_fault (checks c (Keep by)) (stranger_not _ _ k.known, (k.going, (not_none _ (omega arith), (not_short _ _ two, tt))))

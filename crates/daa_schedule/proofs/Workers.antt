@@ -1,10 +1,8 @@
 -- Lists of ranges, hands and marks, read at one worker after a change.
-use Rattle.std.proofs.Common.{◌≡◌, ℕ, ◌+◌, ◌<◌, ◌≤◌, ◌≢◌, List, length, get_or, set, sym, subst, arith, get_or-set_same, get_or-set_other}
+use Rattle.std.proofs.Common.{ℕ, ◌<◌, List, length, get_or, set, sym, subst, get_or-set_same, get_or-set_other}
 use mathlib.Core.Logic.{dite}
 use native.Mathlib.Decide.{ℕ_discrete}
-use Rattle.std.proofs.lemmas.Bool.Decides.{nat_tests}
-use Rattle.daa_range.specs.Range.{Span, span, span_len, IsOrdered, times_in}
-use Rattle.daa_range.proofs.Ranges.{times_in_cut}
+use Rattle.daa_range.specs.Range.{Span}
 use Rattle.daa_schedule.specs.CoreState.{no_units}
 
 -- what holds of each worker holds of each after one worker's range and hand have changed
@@ -23,18 +21,3 @@ pub one_set : {A : Type 0} (P : ℕ → A → Type 0) (xs : List A) (i : ℕ) (x
 one_set {A} P xs i x d a here old w = dite (ℕ_discrete w i)
     (λ e. subst (λ (v : ℕ). P v (get_or (set xs i x) v d)) (sym e) (subst (λ (p : A). P i p) (sym (get_or-set_same xs i x d a)) here))
     (λ n. subst (λ (p : A). P w p) (sym (get_or-set_other xs i w x d n)) (old w))
-
-pub times_in_none : (u : ℕ) (r : Span) → IsOrdered r → span_len r ≡ 0 → times_in u r ≡ 0
-times_in_none u r o e = grind (arith, nat_tests)
-
-pub times_in_first : (u : ℕ) (r : Span) → 0 < span_len r → times_in u r ≡ times_in u (span r.first (r.first + 1)) + times_in u (span (r.first + 1) r.upto)
-times_in_first u r h = times_in_cut u r.first (r.first + 1) r.upto (omega arith) (omega arith)
-
-pub times_in_one : (u f : ℕ) → u ≢ f → times_in u (span f (f + 1)) ≡ 0
-times_in_one u f n = grind (arith, nat_tests)
-
-pub times_in_here : (f : ℕ) → times_in f (span f (f + 1)) ≡ 1
-times_in_here f = grind (arith, nat_tests)
-
-pub times_in_inside : (u : ℕ) (r : Span) → r.first ≤ u → u < r.upto → times_in u r ≡ 1
-times_in_inside u r a b = grind (arith, nat_tests)

@@ -54,7 +54,7 @@ impl Core {
         })
     }
 
-    /// The units that a worker has not taken to its hand yet.
+    /// The units that a worker, one of the core, has not taken to its hand yet.
     pub fn range(&self, worker: u32) -> Range
         requires { worker < worker_count self.now }
         ensures range { result ≡ range_at self.now worker }
@@ -63,7 +63,7 @@ impl Core {
         self.ranges[worker as usize]
     }
 
-    /// The units in a worker's hand.
+    /// The units in the hand of a worker of the core.
     pub fn hand(&self, worker: u32) -> Range
         requires { worker < worker_count self.now }
         ensures hand { result ≡ hand_at self.now worker }
@@ -72,7 +72,7 @@ impl Core {
         self.hands[worker as usize]
     }
 
-    /// Whether a worker has ended.
+    /// Whether a worker of the core has ended.
     pub fn ended(&self, worker: u32) -> bool
         requires { worker < worker_count self.now }
         ensures { result ≡ has_ended self.now worker }
@@ -80,7 +80,7 @@ impl Core {
         self.ended[worker as usize]
     }
 
-    /// The word that stands on the board for a unit, 0 where none does.
+    /// The word that stands on the board for a unit of the core, 0 where none does.
     pub fn board(&self, unit: u32) -> u64
         requires { unit < unit_count self.now }
         ensures { result ≡ word_on self.now unit }

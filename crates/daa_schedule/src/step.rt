@@ -1,7 +1,7 @@
 //! The steps of the schedule, and what may refuse one.
 ghost use Rattle.std.specs.Prelude.{◌≡◌};
 
-/// One step by one worker.
+/// One step by one worker; `by` and `from` are numbers of workers.
 #[derive(Clone, Copy, PartialEq, Eq, Debug)]
 pub enum Step {
     /// The first unit of the own range goes to the hand.

@@ -1,13 +1,13 @@
-use Rattle.std.proofs.Common.{◌≡◌, ℕ, ◌-◌, List, ◌++◌, length}
-use Rattle.daa_pool.specs.Seat.{view, IsSeatOf, IsFree, IsSamePlace}
+use Rattle.std.proofs.Common.{◌-◌, length}
+use Rattle.daa_pool.specs.Seat.{view, IsSeatOf, IsFree}
+use Rattle.daa_pool.specs.Work.{GoesOn}
 use Rattle.daa_pool.proofs.pool.Pool.work.Given as goal
 
 abbrev pub invariant-loop-piece : goal.invariant-loop-piece
 invariant-loop-piece g l = record {
   pool : IsSeatOf l.self l.seat;
   free : IsFree (view l.seat);
-  place : IsSamePlace (view l.initial.seat) (view l.seat);
-  settles : (more : List ℕ) × ((view l.seat).settled ≡ (view l.initial.seat).settled ++ more);
+  until : GoesOn (view l.initial.seat) (view l.seat);
 }
 
 abbrev pub decreases-loop-piece : goal.decreases-loop-piece
