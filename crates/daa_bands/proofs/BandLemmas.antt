@@ -4,7 +4,8 @@ use Rattle.std.specs.List.{All, AllByRecursion}
 use Rattle.std.proofs.lemmas.List.Elements.{recursion_from_All, All-from_recursion}
 use Rattle.std.proofs.lemmas.Bool.Decides.{nat_tests}
 use Rattle.daa_bands.specs.declared.band.Band.{Band}
-use Rattle.daa_bands.specs.Band.{Mark, IsStretch, DiffersFromFirst, AreBands, HasOneList}
+use Rattle.daa_config.specs.One.{HasOne}
+use Rattle.daa_bands.specs.Band.{Mark, IsStretch, DiffersFromFirst, AreBands}
 use Rattle.daa_bands.specs.Walk.{with_mark, bands_of}
 
 -- a band of one value
@@ -147,5 +148,5 @@ only [] (band ∷ bands) (stretch, rest, e, s, d, r) = let f = s.first.1 in let 
 only (mark ∷ marks) [] h = cc
 only (mark ∷ marks) (band ∷ bands) (stretch, rest, e, s, d, r) = take_first mark marks band bands stretch rest (bands_of marks) (λ bs k. only marks bs k) e s d r
 
-pub one_list : (marks : List Mark) → HasOneList marks
-one_list marks = record { bands = bands_of marks; are = found marks; only = λ others h. only marks others h }
+pub one_list : (marks : List Mark) → HasOne (AreBands marks)
+one_list marks = record { one = bands_of marks; is = found marks; only = λ others h. only marks others h }

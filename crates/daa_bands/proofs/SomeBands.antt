@@ -3,10 +3,11 @@ use Rattle.std.proofs.Common.{◌≡◌, ◌<◌, ◌+◌, ℕ, zero, suc, List,
 use Rattle.std.specs.Prelude.{slice_index}
 use Rattle.std.specs.List.{zip}
 use Rattle.daa_config.specs.Candidates.{values_of, start_of}
-use Rattle.daa_config.specs.Level.{IsGreatestLevel}
+use Rattle.daa_config.specs.Mask.{IsGreatestLevel}
 use Rattle.daa_config.specs.Settings.{Settings}
 use Rattle.daa_config.specs.declared.kind.Kind.{Kind}
-use Rattle.daa_bands.specs.KindBands.{AreKindBands, HasOneKindList}
+use Rattle.daa_config.specs.One.{HasOne}
+use Rattle.daa_bands.specs.KindBands.{AreKindBands}
 use Rattle.daa_bands.specs.Walk.{bands_of}
 use Rattle.daa_bands.proofs.BandLemmas.{found}
 use Rattle.daa_bands.proofs.KindLemmas.{kind_bands_only}
@@ -34,10 +35,10 @@ module _ (Covered : ℕ → ℕ → Type 0) (top : ℕ) (s : Settings) (kind : K
   abbrev levels : List ℕ
   levels = from (λ index. (shown index).0) (start_of kind s) (length (values_of kind s))
 
-  pub one_kind_list : HasOneKindList Covered top s kind
+  pub one_kind_list : HasOne (AreKindBands Covered top s kind)
   one_kind_list = record {
-    bands = bands_of (zip (values_of kind s) levels);
-    are = are;
+    one = bands_of (zip (values_of kind s) levels);
+    is = are;
     only = λ others h. kind_bands_only Covered top s kind others (bands_of (zip (values_of kind s) levels)) h are;
   }
     where

@@ -12,11 +12,12 @@ use Rattle.daa_config.specs.Candidates.{values_of, start_of}
 use Rattle.daa_config.specs.declared.kind.Kind.{Kind}
 use Rattle.daa_bands.specs.declared.band.Band.{Band}
 use Rattle.daa_bands.specs.Walk.{shown_of}
-use Rattle.daa_config.specs.Level.{HasLevel, IsGreatestLevel}
+use Rattle.daa_config.specs.Mask.{HasLevel, IsGreatestLevel}
 use Rattle.daa_bands.specs.Band.{Mark, DiffersFromFirst, AreBands}
 use Rattle.daa_bands.specs.Walk.{with_mark, bands_of, marks_from, bands_left}
 use Rattle.daa_bands.specs.Board.{HasLevelOn, mask_levels}
-use Rattle.daa_bands.specs.KindBands.{AreKindBands, HasOneKindList}
+use Rattle.daa_config.specs.One.{HasOne}
+use Rattle.daa_bands.specs.KindBands.{AreKindBands}
 use Rattle.daa_bands.proofs.BandLemmas.{with_mark_same, with_mark_new, found}
 use Rattle.daa_bands.proofs.KindLemmas.{kind_bands_only}
 use Rattle.daa_bands.proofs.MaskLemmas.{greatest_shown}
@@ -154,10 +155,10 @@ all_bands board s kind =
           (subst (λ (ms : List Mark). AreBands ms (bands_of (marks_from board start values))) (sym (zip_levels board start values)) (found (marks_from board start values)));
     }
 
-pub one_kind_list : (board : List ℕ) (s : Settings) (kind : Kind) → HasOneKindList (HasLevelOn board) mask_levels s kind
+pub one_kind_list : (board : List ℕ) (s : Settings) (kind : Kind) → HasOne (AreKindBands (HasLevelOn board) mask_levels s kind)
 one_kind_list board s kind = record {
-  bands = bands_left board s kind 0;
-  are = all_bands board s kind;
+  one = bands_left board s kind 0;
+  is = all_bands board s kind;
   only = λ others h. kind_bands_only (HasLevelOn board) mask_levels s kind others (bands_left board s kind 0) h (all_bands board s kind);
 }
 

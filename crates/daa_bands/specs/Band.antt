@@ -28,9 +28,3 @@ AreBands marks [] = marks ≡ []
 AreBands marks (band ∷ bands) =
     (stretch : List Mark) × (rest : List Mark) × (marks ≡ stretch ++ rest) × IsStretch band stretch
     × DiffersFromFirst band bands × AreBands rest bands
-
--- one list is that of the bands, and no other
-pub record HasOneList (marks : List Mark) : Type 0 where
-  pub bands : List Band
-  pub are : AreBands marks bands
-  pub only : (others : List Band) → AreBands marks others → others ≡ bands

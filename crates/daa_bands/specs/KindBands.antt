@@ -2,7 +2,7 @@
 use Rattle.std.specs.Prelude.{◌≡◌, ◌+◌, ◌<◌, ℕ, List, length, slice_index}
 use Rattle.std.specs.List.{zip}
 use Rattle.daa_config.specs.Candidates.{values_of, start_of}
-use Rattle.daa_config.specs.Level.{IsGreatestLevel}
+use Rattle.daa_config.specs.Mask.{IsGreatestLevel}
 use Rattle.daa_config.specs.Settings.{Settings}
 use Rattle.daa_config.specs.declared.kind.Kind.{Kind}
 use Rattle.daa_bands.specs.Band.{AreBands}
@@ -18,9 +18,3 @@ pub record AreKindBands (Covered : ℕ → ℕ → Type 0) (top : ℕ) (s : Sett
   pub levels : List ℕ
   pub shown : AreShown Covered top s kind levels
   pub are : AreBands (zip (values_of kind s) levels) bands
-
--- one list is that of the kind's bands, and no other
-pub record HasOneKindList (Covered : ℕ → ℕ → Type 0) (top : ℕ) (s : Settings) (kind : Kind) : Type 0 where
-  pub bands : List Band
-  pub are : AreKindBands Covered top s kind bands
-  pub only : (others : List Band) → AreKindBands Covered top s kind others → others ≡ bands

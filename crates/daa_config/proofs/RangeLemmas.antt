@@ -17,7 +17,8 @@ use Rattle.daa_config.specs.Limits.{full_turn, resolve_bounds, turn_rate_bounds,
 use Rattle.daa_config.specs.Numbers.{is_in, grid_fits, track_step_fits, numbers_fit, level_fits, levels_are_wrong, count_of, has_too_many}
 use Rattle.daa_config.specs.Stepped.{IsStepped}
 use Rattle.daa_config.specs.Settings.{IsInBounds, IsGridInRange, IsLevelInRange, IsAccepted}
-use Rattle.daa_config.specs.ConfigOf.{Written, level_of}
+use Rattle.daa_config.specs.ConfigOf.{Written}
+use Rattle.daa_config.specs.Level.{level_of}
 
 -- ---- tests
 

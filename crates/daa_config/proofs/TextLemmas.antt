@@ -11,7 +11,8 @@ use Rattle.daa_config.specs.Keys.{Text}
 use Rattle.daa_config.specs.Fault.{◌>>=◌}
 use Rattle.daa_config.specs.Numbers.{numbers_fit, level_fits, levels_are_wrong, has_too_many}
 use Rattle.daa_config.specs.Settings.{Settings, IsAccepted}
-use Rattle.daa_config.specs.ConfigOf.{document, document_of, written_of, settings_of, config_of, Written, level_of}
+use Rattle.daa_config.specs.ConfigOf.{document, document_of, written_of, settings_of, config_of, Written}
+use Rattle.daa_config.specs.Level.{level_of}
 use Rattle.daa_config.proofs.RangeLemmas.{accepted}
 
 pub document_read : (t : List ℕ) (ms : Members) → IsUtf8 t → parse_document t ≡ Some ms → document t ≡ Some ms

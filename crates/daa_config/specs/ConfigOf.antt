@@ -1,20 +1,17 @@
 -- The configuration that a text is, or the fault of least number that applies anywhere in it.
-use Rattle.std.specs.Prelude.{◌&&◌, not, ◌*◌, zero, ℤ, pos, List, length, map, nat_lt, nat_abs, Option, Some, None, Result, Ok, Err, if◌then◌else◌, option_and_then}
+use Rattle.std.specs.Prelude.{◌&&◌, not, List, length, map, nat_lt, Option, Some, None, Result, Ok, Err, if◌then◌else◌, option_and_then}
 use Rattle.std.specs.List.{list_all}
 use Rattle.std.specs.Option.{option_map_or}
 use Rattle.std.specs.Str.{is_utf8}
 use Rattle.toml.specs.Data.{Members}
 use Rattle.toml.specs.Parse.{parse_document}
-use Rattle.daa_taumod.specs.declared.Model.{Model}
-use Rattle.daa_taumod.specs.declared.Model.TheVariants.{Taumod, Tcpa}
-use Rattle.daa_taumod.specs.declared.Volume.{Volume}
 use Rattle.daa_config.specs.declared.fault.ConfigFault.{ConfigFault}
 use Rattle.daa_config.specs.declared.fault.ConfigFault.TheVariants.{TooLong, NotToml, UnknownKey, MissingKey, NotNumber, OutOfRange, Levels, TooMany}
-use Rattle.daa_config.specs.declared.level.Level.{Level}
 use Rattle.daa_config.specs.declared.numbers.Numbers.{Numbers}
 use Rattle.daa_config.specs.declared.numbers.LevelNumbers.{LevelNumbers}
 use Rattle.daa_config.specs.Document.{numbers_in, levels_in}
 use Rattle.daa_config.specs.Fault.{◌>>=◌}
+use Rattle.daa_config.specs.Level.{level_of}
 use Rattle.daa_config.specs.Keys.{Text, any_table, has_other_key, lacks_key}
 use Rattle.daa_config.specs.Limits.{longest_text}
 use Rattle.daa_config.specs.Numbers.{numbers_fit, level_fits, levels_are_wrong, has_too_many}
@@ -24,24 +21,6 @@ use Rattle.daa_config.specs.Settings.{Settings}
 pub record Written : Type 0 where
   pub numbers : Numbers
   pub levels : List LevelNumbers
-
--- ---- a level in units: 36 to 0.001 NM and 60 to a foot
-
-abbrev pub model_of : ℤ → Model
-model_of (pos zero) = Taumod
-model_of _ = Tcpa
-
-abbrev pub volume_of : LevelNumbers → Volume
-volume_of n = record {
-  dthr = 36 * nat_abs n.dthr;
-  zthr = 60 * nat_abs n.zthr;
-  tthr = nat_abs n.tthr;
-  tcoa = nat_abs n.tcoa;
-  model = model_of n.tcpa;
-}
-
-abbrev pub level_of : LevelNumbers → Level
-level_of n = record { volume = volume_of n; lookahead = nat_abs n.lookahead; alert = nat_abs n.alert }
 
 -- ---- the faults, in the order of their numbers
 

@@ -1,18 +1,23 @@
--- Levels at which something holds.
-use Rattle.std.specs.Prelude.{◌≡◌, ◌<◌, ◌≤◌, ◌-◌, ◌↔◌, ℕ}
-use Rattle.std.specs.Int.{bit_at}
+-- A level in units: 36 to 0.001 NM and 60 to a foot.
+use Rattle.std.specs.Prelude.{◌*◌, zero, ℤ, pos, nat_abs}
+use Rattle.daa_taumod.specs.declared.Model.{Model}
+use Rattle.daa_taumod.specs.declared.Model.TheVariants.{Taumod, Tcpa}
+use Rattle.daa_taumod.specs.declared.Volume.{Volume}
+use Rattle.daa_config.specs.declared.level.Level.{Level}
+use Rattle.daa_config.specs.declared.numbers.LevelNumbers.{LevelNumbers}
 
--- bit l - 1 of a mask stands for level l, from 1 on
-abbrev pub HasLevel : ℕ → ℕ → Type 0
-HasLevel mask level = bit_at mask (level - 1) ≡ 1
+abbrev pub model_of : ℤ → Model
+model_of (pos zero) = Taumod
+model_of _ = Tcpa
 
--- the greatest level from 1 to top at which something holds, or 0 where it holds at none
-pub record IsGreatestLevel (Holds : ℕ → Type 0) (top level : ℕ) : Type 0 where
-  pub within : level ≤ top
-  pub holds : 0 < level → Holds level
-  pub none_above : (l : ℕ) → level < l → l ≤ top → Holds l → ⊥
+abbrev pub volume_of : LevelNumbers → Volume
+volume_of n = record {
+  dthr = 36 * nat_abs n.dthr;
+  zthr = 60 * nat_abs n.zthr;
+  tthr = nat_abs n.tthr;
+  tcoa = nat_abs n.tcoa;
+  model = model_of n.tcpa;
+}
 
--- a mask has exactly the levels from 1 to top at which something holds
-pub record IsMaskOf (Holds : ℕ → Type 0) (top mask : ℕ) : Type 0 where
-  pub each : (l : ℕ) → 1 ≤ l → l ≤ top → HasLevel mask l ↔ Holds l
-  pub none_above : (l : ℕ) → top < l → HasLevel mask l → ⊥
+abbrev pub level_of : LevelNumbers → Level
+level_of n = record { volume = volume_of n; lookahead = nat_abs n.lookahead; alert = nat_abs n.alert }

@@ -6,8 +6,10 @@ pub mod KeyLists
 pub mod Document
 pub mod Settings
 pub mod Fault
+pub mod Level
 pub mod ConfigOf
 pub mod Written
 pub mod Candidates
-pub mod Level
+pub mod Mask
 pub mod Packing
+pub mod One

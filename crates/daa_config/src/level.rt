@@ -3,7 +3,7 @@ ghost use Rattle.std.specs.Prelude.{◌≡◌, ◌*◌, ℕ, pos, nat_abs, true,
 ghost use Rattle.std.specs.List.{list_all};
 ghost use Rattle.daa_fixed.specs.Size.{IsFrom};
 ghost use Rattle.daa_config.specs.Numbers.{level_fits};
-ghost use Rattle.daa_config.specs.ConfigOf.{level_of, model_of};
+ghost use Rattle.daa_config.specs.Level.{level_of, model_of};
 
 use crate::numbers::LevelNumbers;
 use daa_fixed::{feet, mils};

@@ -1,5 +1,5 @@
 -- A board that is filled aircraft by aircraft.
-use Rattle.std.proofs.Common.{◌≡◌, ◌≢◌, ◌<◌, ◌≤◌, ◌+◌, ◌-◌, ◌⊎◌, ◌∙◌, ℕ, List, length, bit_or, replicate, refl, sym, ap, subst, arith, inl, inr}
+use Rattle.std.proofs.Common.{◌≡◌, ◌≢◌, ◌<◌, ◌≤◌, ◌+◌, ◌-◌, ◌⊎◌, ◌∙◌, ℕ, List, length, bit_or, replicate, refl, sym, ap, subst, arith, inl, inr, below_more}
 use Rattle.std.specs.Prelude.{slice_index}
 use Rattle.std.specs.Int.Bits.{or_zero_r}
 use Rattle.std.proofs.lemmas.Nat.Bits.{bit_at-zero}
@@ -7,7 +7,7 @@ use Rattle.std.proofs.lemmas.Bool.{cases_lt}
 use Rattle.std.proofs.lemmas.Option.{slice_get_within}
 use Rattle.daa_config.specs.Settings.{Settings}
 use Rattle.daa_config.specs.Candidates.{candidates_of}
-use Rattle.daa_config.specs.Level.{HasLevel, IsMaskOf}
+use Rattle.daa_config.specs.Mask.{HasLevel, IsMaskOf}
 use Rattle.daa_bands.specs.Board.{HasLevelOn, IsBoardOf}
 use Rattle.daa_state.specs.Picture.{aircraft_of}
 use Rattle.daa_state.specs.declared.word.Picture.{Picture}
@@ -24,19 +24,11 @@ pub mark_more : (scene : Situation) (place index mask : ℕ) (first old new : Li
     → ((i : ℕ) → i ≢ index → slice_index new i ≡ slice_index old i)
     → AddsAircraft scene place (index + 1) first new
 mark_more scene place index mask first old new h k marked others = record {
-  inside = λ i lt. inner i (below_or_at i index lt);
+  inside = below_more (λ (j : ℕ). (x : ℕ) × IsMaskOf (MeetsAt scene j place) (length scene.settings.levels) x × (slice_index new j ≡ bit_or (slice_index first j) x)) index
+      (λ i lt. let before = h.inside i lt in (before.0, before.1, others i (omega arith) ∙ before.2))
+      (mask, k, marked ∙ ap (λ (x : ℕ). bit_or x mask) (h.outside index (omega arith)));
   outside = λ i le. others i (omega arith) ∙ h.outside i (omega arith);
 }
-  where
-    below_or_at : (p n : ℕ) → p < n + 1 → (p < n) ⊎ (p ≡ n)
-    below_or_at p n lt = grind arith
-
-    inner : (i : ℕ) → (i < index) ⊎ (i ≡ index)
-        → (x : ℕ) × IsMaskOf (MeetsAt scene i place) (length scene.settings.levels) x × (slice_index new i ≡ bit_or (slice_index first i) x)
-    inner i (inl lt) = let old' = h.inside i lt in (old'.0, old'.1, others i (omega arith) ∙ old'.2)
-    inner i (inr e) =
-        subst (λ (j : ℕ). (x : ℕ) × IsMaskOf (MeetsAt scene j place) (length scene.settings.levels) x × (slice_index new j ≡ bit_or (slice_index first j) x)) (sym e)
-        (mask, k, marked ∙ ap (λ (x : ℕ). bit_or x mask) (h.outside index (omega arith)))
 
 pub mark_none : (scene : Situation) (place : ℕ) (first : List ℕ) → AddsAircraft scene place 0 first first
 mark_none scene place first = record { inside = λ i lt. absurd (omega arith); outside = λ i le. refl }
@@ -72,18 +64,15 @@ module _ (scene : Situation) (n : ℕ) (old new : List ℕ) (board : IsBoardOf (
       go (inr k) = (n, omega arith, ((adds.inside index in').1.each l low high).0 k)
 
   marked : (index l : ℕ) → index < length (candidates_of scene.settings) → 1 ≤ l → l ≤ length scene.settings.levels → CoveredBelow scene (n + 1) index l → HasLevelOn new index l
-  marked index l in' low high (place, lt, meets) = go (below_or_at place n lt)
+  marked index l in' low high (place, lt, meets) = below_more (λ (p : ℕ). MeetsAt scene index p l → HasLevelOn new index l) n earlier latest place lt meets
     where
-      below_or_at : (p n : ℕ) → p < n + 1 → (p < n) ⊎ (p ≡ n)
-      below_or_at p n lt = grind arith
+      earlier : (p : ℕ) → p < n → MeetsAt scene index p l → HasLevelOn new index l
+      earlier p k m =
+          let a = adds.inside index in' in
+          along _ _ l (sym a.2) (left (slice_index old index) a.0 l ((board.each index l in' low high).1 (p, k, m)))
 
-      go : (place < n) ⊎ (place ≡ n) → HasLevelOn new index l
-      go (inl k) =
-          let a = adds.inside index in' in
-          along _ _ l (sym a.2) (left (slice_index old index) a.0 l ((board.each index l in' low high).1 (place, k, meets)))
-      go (inr e) =
-          let a = adds.inside index in' in
-          along _ _ l (sym a.2) (right (slice_index old index) a.0 l ((a.1.each l low high).1 (subst (λ (p : ℕ). MeetsAt scene index p l) e meets)))
+      latest : MeetsAt scene index n l → HasLevelOn new index l
+      latest m = let a = adds.inside index in' in along _ _ l (sym a.2) (right (slice_index old index) a.0 l ((a.1.each l low high).1 m))
 
   pub aircraft_more : IsBoardOf (CoveredBelow scene (n + 1)) scene.settings new
   aircraft_more = record {

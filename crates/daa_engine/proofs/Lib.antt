@@ -1,5 +1,5 @@
 pub mod FillingLemmas
-pub mod WarningLemmas
+pub mod AlertLemmas
 pub mod LoopLemmas
 pub mod TextLemmas
 pub mod OnlyLemmas

@@ -12,7 +12,7 @@ use Rattle.daa_bands.specs.KindBands.{AreKindBands}
 use Rattle.daa_bands.proofs.WalkLemmas.{all_bands}
 use Rattle.daa_bands.proofs.KindLemmas.{kind_bands_only}
 use Rattle.daa_state.specs.declared.word.Traffic.{Traffic}
-use Rattle.daa_engine.specs.declared.warnings.Warning.{Warning}
+use Rattle.daa_engine.specs.declared.alerts.AircraftAlert.{AircraftAlert}
 
 -- ---- bands
 
@@ -28,25 +28,25 @@ next_split all done left rest x split e = split ∙ ap (λ (bs : List Band). don
 -- ---- aircraft
 
 abbrev Pair : Type 0
-Pair = Traffic × Warning
+Pair = Traffic × AircraftAlert
 
-long : (traffic : List Traffic) (warnings : List Warning) → length warnings ≡ length traffic → length (zip traffic warnings) ≡ length traffic
-long traffic warnings e = let z = length-zip traffic warnings in omega arith
+long : (traffic : List Traffic) (alerts : List AircraftAlert) → length alerts ≡ length traffic → length (zip traffic alerts) ≡ length traffic
+long traffic alerts e = let z = length-zip traffic alerts in omega arith
 
-pub pair_more : (traffic : List Traffic) (warnings : List Warning) (i : ℕ) (t : Traffic) (d : Warning) → length warnings ≡ length traffic → i < length traffic
+pub pair_more : (traffic : List Traffic) (alerts : List AircraftAlert) (i : ℕ) (t : Traffic) (d : AircraftAlert) → length alerts ≡ length traffic → i < length traffic
     → t ≡ slice_index_or traffic i t
-    → (take (i + 1) (zip traffic warnings) ≡ take i (zip traffic warnings) ++ (t, slice_index_or warnings i d) ∷ [])
-    × (zip traffic warnings ≡ take i (zip traffic warnings) ++ (t, slice_index_or warnings i d) ∷ drop (i + 1) (zip traffic warnings))
-pair_more traffic warnings i t d e lt at_t =
-    let l = long traffic warnings e in
-    let ps : List Pair = zip traffic warnings in
-    let f : Warning = slice_index_or warnings i d in
+    → (take (i + 1) (zip traffic alerts) ≡ take i (zip traffic alerts) ++ (t, slice_index_or alerts i d) ∷ [])
+    × (zip traffic alerts ≡ take i (zip traffic alerts) ++ (t, slice_index_or alerts i d) ∷ drop (i + 1) (zip traffic alerts))
+pair_more traffic alerts i t d e lt at_t =
+    let l = long traffic alerts e in
+    let ps : List Pair = zip traffic alerts in
+    let f : AircraftAlert = slice_index_or alerts i d in
     let within : i < length ps = omega arith in
-    let g : slice_index_or ps i (t, d) ≡ (t, f) = get_or-zip traffic warnings i (t, d) lt (omega arith)
+    let g : slice_index_or ps i (t, d) ≡ (t, f) = get_or-zip traffic alerts i (t, d) lt (omega arith)
     ∙ ap (λ (x : Traffic). (x, f)) (sym at_t) in (
       take_more ps i (t, d) within ∙ ap (λ (p : Pair). take i ps ++ p ∷ []) g,
       sym (take-append-drop i ps) ∙ ap (λ (qs : List Pair). take i ps ++ qs) (drop_more ps i (t, d) within ∙ ap (λ (p : Pair). p ∷ drop (i + 1) ps) g),
     )
 
-pub pairs_all : (traffic : List Traffic) (warnings : List Warning) (n : ℕ) → length warnings ≡ length traffic → length traffic ≤ n → take n (zip traffic warnings) ≡ zip traffic warnings
-pairs_all traffic warnings n e le = let l = long traffic warnings e in take_all n (zip traffic warnings) (omega arith)
+pub pairs_all : (traffic : List Traffic) (alerts : List AircraftAlert) (n : ℕ) → length alerts ≡ length traffic → length traffic ≤ n → take n (zip traffic alerts) ≡ zip traffic alerts
+pairs_all traffic alerts n e le = let l = long traffic alerts e in take_all n (zip traffic alerts) (omega arith)

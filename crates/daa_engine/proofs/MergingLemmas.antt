@@ -1,12 +1,12 @@
 -- A board that is filled from the words of the units.
-use Rattle.std.proofs.Common.{◌≡◌, ◌<◌, ◌≤◌, ◌+◌, ◌-◌, ◌*◌, ◌/◌, ◌%◌, ◌⊎◌, ◌∙◌, ℕ, List, length, replicate, sym, ap, subst, arith, inl, inr, ⊎_elim}
+use Rattle.std.proofs.Common.{below_more, ◌≡◌, ◌<◌, ◌≤◌, ◌+◌, ◌-◌, ◌*◌, ◌/◌, ◌%◌, ◌⊎◌, ◌∙◌, ℕ, List, length, replicate, sym, ap, subst, arith, inl, inr, ⊎_elim}
 use Rattle.std.specs.Prelude.{slice_index}
 use Rattle.std.proofs.lemmas.Bool.{cases_lt}
 use Rattle.std.proofs.lemmas.List.{get_or_default}
 use Rattle.std.proofs.lemmas.Nat.{div-mul-add, mod-mul-add}
 use Rattle.std.proofs.lemmas.Option.{slice_get_within}
 use Rattle.daa_config.specs.Candidates.{candidates_of}
-use Rattle.daa_config.specs.Level.{HasLevel, IsMaskOf}
+use Rattle.daa_config.specs.Mask.{HasLevel, IsMaskOf}
 use Rattle.daa_config.specs.Packing.{group_size, mask_in}
 use Rattle.daa_bands.specs.Board.{HasLevelOn, IsBoardOf, AddsWord}
 use Rattle.daa_scan.specs.Situation.{Situation, MeetsAt}
@@ -32,9 +32,6 @@ in_or_out base index = ⊎_elim
     (λ k. inl (inr k))
     (cases_lt index (base + 12)))
     (cases_lt index base)
-
-before_or_at : (p n : ℕ) → p < n + 1 → (p < n) ⊎ (p ≡ n)
-before_or_at p n h = grind arith
 
 module _ (groups : ℕ) (words : List ℕ) where
   pub merged_none : (n : ℕ) → IsMerged groups words 0 (replicate n 0)
@@ -62,12 +59,11 @@ module _ (groups : ℕ) (words : List ℕ) where
         (in_or_out (group_size * (n % groups)) index)
 
     shown : (index l : ℕ) → SaysLevel groups words (n + 1) index l → HasLevelOn new index l
-    shown index l s = ⊎_elim
-        (λ k. kept index l ((merged index l).1 (record { unit = s.unit; place = s.place; before = k; inside = s.inside; at = s.at; level = s.level })))
-        (λ e. let is : index ≡ group_size * (n % groups) + s.place = s.at ∙ ap (λ (u : ℕ). group_size * (u % groups) + s.place) e in
-        subst (λ (i : ℕ). HasLevelOn new i l) (sym is)
-        (along _ _ l (sym (adds.inside s.place s.inside)) (right _ _ l (subst (λ (u : ℕ). HasLevel (mask_in (slice_index words u) s.place) l) e s.level))))
-        (before_or_at s.unit n s.before)
+    shown index l s =
+        below_more (λ (u : ℕ). index ≡ group_size * (u % groups) + s.place → HasLevel (mask_in (slice_index words u) s.place) l → HasLevelOn new index l) n
+        (λ u before at level. kept index l ((merged index l).1 (record { unit = u; place = s.place; before = before; inside = s.inside; at = at; level = level })))
+        (λ at level. subst (λ (i : ℕ). HasLevelOn new i l) (sym at) (along _ _ l (sym (adds.inside s.place s.inside)) (right _ _ l level)))
+        s.unit s.before s.at s.level
 
     pub merged_more : IsMerged groups words (n + 1) new
     merged_more index l = (said index l, shown index l)

@@ -14,9 +14,10 @@ use Rattle.daa_scan.specs.Situation.{MeetsAt}
 use Rattle.daa_config.proofs.Telling.{IsTold}
 use Rattle.daa_scan.proofs.Telling.{on_told, alerts_told, now_told, met_at_told}
 use Rattle.daa_alert.proofs.SomeAlert.{some_greatest, some_now, some_alert}
-use Rattle.daa_bands.specs.KindBands.{HasOneKindList}
+use Rattle.daa_config.specs.One.{HasOne}
+use Rattle.daa_bands.specs.KindBands.{AreKindBands}
 use Rattle.daa_bands.proofs.SomeBands.{one_kind_list}
-use Rattle.daa_resolve.specs.Resolution.{HasOneResolution}
+use Rattle.daa_resolve.specs.Resolution.{IsResolution}
 use Rattle.daa_resolve.specs.declared.side.Side.{Side}
 use Rattle.daa_resolve.specs.declared.side.Side.TheVariants.{Lower, Upper}
 use Rattle.daa_resolve.proofs.SomeLemmas.{one_resolution}
@@ -24,7 +25,6 @@ use Rattle.daa_report.specs.Lines.{Text, now_line, alert_line, resolve_line, mom
 use Rattle.daa_engine.specs.Covered.{CoveredAt, scene_of}
 use Rattle.daa_engine.specs.Filling.{CoveredBelow}
 use Rattle.daa_engine.specs.MomentText.{AreAircraftLines, AreAlertLines, IsMomentText, line_of, of_each}
-use Rattle.daa_engine.specs.OneText.{HasOneText}
 use Rattle.daa_engine.proofs.OnlyLemmas.{text_only}
 
 module _ (s : Settings) (p : Picture) (a : IsAccepted s) (r : IsPictureInRange p) where
@@ -67,28 +67,28 @@ module _ (s : Settings) (p : Picture) (a : IsAccepted s) (r : IsPictureInRange p
       let rest = alert_lines ts in'.1 in
       (first.0 ++ rest.0, (first.0, rest.0, first.1, rest.1, refl))
 
-  bands : (kind : Kind) → HasOneKindList (CoveredAt s p) (length s.levels) s kind
+  bands : (kind : Kind) → HasOne (AreKindBands (CoveredAt s p) (length s.levels) s kind)
   bands kind = one_kind_list (CoveredAt s p) (length s.levels) s kind (λ index. some_greatest (CoveredAt s p index) (covered_told index) (length s.levels))
 
-  answer : (kind : Kind) (side : Side) → HasOneResolution (CoveredAt s p) s p.own kind side
+  answer : (kind : Kind) (side : Side) → HasOne (IsResolution (CoveredAt s p) s p.own kind side)
   answer kind side = one_resolution (CoveredAt s p) covered_told s p.own kind side a
 
   some_text : (text : Text) × IsMomentText s p text
   some_text =
       let alerts = alert_lines (aircraft_of p) (recursion_from_All IsTrafficInRange (aircraft_of p) r.traffic) in
-      let band_text = λ (kind : Kind). flat_map (line_of kind) (bands kind).bands in
-      let answer_text = λ (kind : Kind). resolve_line kind (answer kind Lower).answer (answer kind Upper).answer in (
+      let band_text = λ (kind : Kind). flat_map (line_of kind) (bands kind).one in
+      let answer_text = λ (kind : Kind). resolve_line kind (answer kind Lower).one (answer kind Upper).one in (
         moment_line p.time ++ (alerts.0 ++ (of_each band_text ++ (of_each answer_text ++ done_line p.time))),
         (
           alerts.0,
           band_text,
           answer_text,
           alerts.1,
-          (λ kind. ((bands kind).bands, (bands kind).are, refl)),
-          (λ kind. ((answer kind Lower).answer, (answer kind Upper).answer, (answer kind Lower).is, (answer kind Upper).is, refl)),
+          (λ kind. ((bands kind).one, (bands kind).is, refl)),
+          (λ kind. ((answer kind Lower).one, (answer kind Upper).one, (answer kind Lower).is, (answer kind Upper).is, refl)),
           refl,
         ),
       )
 
-  pub one_text : HasOneText s p
-  one_text = record { text = some_text.0; is = some_text.1; only = λ other h. text_only s p a other some_text.0 h some_text.1 }
+  pub one_text : HasOne (IsMomentText s p)
+  one_text = record { one = some_text.0; is = some_text.1; only = λ other h. text_only s p a other some_text.0 h some_text.1 }

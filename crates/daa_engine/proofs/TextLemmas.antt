@@ -14,28 +14,27 @@ use Rattle.daa_bands.proofs.KindLemmas.{bands_covered}
 use Rattle.daa_bands.proofs.WalkLemmas.{all_bands}
 use Rattle.daa_resolve.specs.declared.side.Side.TheVariants.{Lower, Upper}
 use Rattle.daa_resolve.proofs.BoardLemmas.{resolved}
-use Rattle.daa_report.specs.Says.{Says}
+use Rattle.daa_report.specs.Says.{Says, SaysSome}
 use Rattle.daa_engine.specs.Covered.{CoveredAt}
-use Rattle.daa_engine.specs.Saying.{SaysMoment}
-use Rattle.daa_engine.specs.declared.warnings.Warning.{Warning}
+use Rattle.daa_engine.specs.declared.alerts.AircraftAlert.{AircraftAlert}
 use Rattle.daa_engine.specs.declared.advice.Sides.{Sides}
 use Rattle.daa_engine.specs.declared.advice.Advice.{Advice}
-use Rattle.daa_engine.specs.Findings.{IsWarning, AreWarnings, AreSides, IsAdvice, alert_of}
+use Rattle.daa_engine.specs.Findings.{IsAircraftAlert, AreAircraftAlerts, AreSides, IsAdvice, alert_of}
 use Rattle.daa_engine.specs.MomentText.{AreAlertLines, AreBandLines, IsAnswerLine, IsMomentText}
-use Rattle.daa_engine.specs.Written.{warning_text, warnings_text, bands_text, bands_texts, sides_of, sides_text, advice_text, written}
+use Rattle.daa_engine.specs.Written.{aircraft_text, alerts_text, bands_text, bands_texts, sides_of, sides_text, advice_text, written}
 
 -- ---- aircraft
 
-alerts_are : (s : Settings) (p : Picture) (ts : List Traffic) (ws : List Warning) → length ws ≡ length ts
-    → ((i : ℕ) (t : Traffic) (w : Warning) → i < length ts → IsWarning s p.own (slice_index_or ts i t) (slice_index_or ws i w))
-    → AreAlertLines s p ts (flat_map warning_text (zip ts ws))
-unfolding warning_text
+alerts_are : (s : Settings) (p : Picture) (ts : List Traffic) (ws : List AircraftAlert) → length ws ≡ length ts
+    → ((i : ℕ) (t : Traffic) (w : AircraftAlert) → i < length ts → IsAircraftAlert s p.own (slice_index_or ts i t) (slice_index_or ws i w))
+    → AreAlertLines s p ts (flat_map aircraft_text (zip ts ws))
+unfolding aircraft_text
 alerts_are s p [] ws e h = refl
 alerts_are s p (t ∷ ts) [] e h = absurd (omega arith)
 alerts_are s p (t ∷ ts) (w ∷ ws) e h =
     let first = h 0 t w (omega arith) in (
-      warning_text (t, w),
-      flat_map warning_text (zip ts ws),
+      aircraft_text (t, w),
+      flat_map aircraft_text (zip ts ws),
       (w.level_now, alert_of w, first.level_now, first.alert, refl),
       alerts_are s p ts ws (omega arith) (λ i a b lt. h (suc i) a b (omega arith)),
       refl,
@@ -57,14 +56,14 @@ module _ (s : Settings) (p : Picture) (board : List ℕ) (is : IsBoardOf (Covere
     refl,
   )
 
-  pub moment_text : (warnings : List Warning) (advice : Advice) → AreWarnings s p.own (aircraft_of p) (length (aircraft_of p)) warnings
-      → IsAdvice (HasLevelOn board) s p.own advice → IsMomentText s p (written s p board warnings advice)
-  unfolding written warnings_text bands_texts advice_text
-  moment_text warnings advice w a = (
-    flat_map warning_text (zip (aircraft_of p) warnings),
+  pub moment_text : (alerts : List AircraftAlert) (advice : Advice) → AreAircraftAlerts s p.own (aircraft_of p) (length (aircraft_of p)) alerts
+      → IsAdvice (HasLevelOn board) s p.own advice → IsMomentText s p (written s p board alerts advice)
+  unfolding written alerts_text bands_texts advice_text
+  moment_text alerts advice w a = (
+    flat_map aircraft_text (zip (aircraft_of p) alerts),
     bands_text s board,
     (λ kind. sides_text kind (sides_of advice kind)),
-    alerts_are s p (aircraft_of p) warnings w.many w.each,
+    alerts_are s p (aircraft_of p) alerts w.many w.each,
     band_lines,
     lines,
     refl,
@@ -78,18 +77,18 @@ module _ (s : Settings) (p : Picture) (board : List ℕ) (is : IsBoardOf (Covere
 
 -- ---- what was said is the moment's text, by whatever names it was found
 
-module _ {E : Type 0} (s : Settings) (p : Picture) (board : List ℕ) (warnings : List Warning) (advice : Advice) (a b : Option (List ℕ)) (x y : ℕ)
+module _ {E : Type 0} (s : Settings) (p : Picture) (board : List ℕ) (alerts : List AircraftAlert) (advice : Advice) (a b : Option (List ℕ)) (x y : ℕ)
     (r : Result (Unit {0}) E) (is : IsBoardOf (CoveredAt s p) s board) where
-  abbrev Reported : Settings → List ℕ → List Warning → Type 0
+  abbrev Reported : Settings → List ℕ → List AircraftAlert → Type 0
   Reported s' board' slice =
-      IsAccepted s' → AreWarnings s' p.own (aircraft_of p) (length (aircraft_of p)) warnings → IsAdvice (HasLevelOn board') s' p.own advice
-      → Says {E = E} a b x y (written s' p board' slice advice) r → SaysMoment {E = E} s p a b x y r
+      IsAccepted s' → AreAircraftAlerts s' p.own (aircraft_of p) (length (aircraft_of p)) alerts → IsAdvice (HasLevelOn board') s' p.own advice
+      → Says {E = E} a b x y (written s' p board' slice advice) r → SaysSome {E = E} (IsMomentText s p) a b x y r
 
-  known : Reported s board warnings
-  known ok w a said = (written s p board warnings advice, moment_text s p board is ok warnings advice w a, said)
+  known : Reported s board alerts
+  known ok w a said = (written s p board alerts advice, moment_text s p board is ok alerts advice w a, said)
 
-  pub reported : (s' : Settings) (board' : List ℕ) (slice : List Warning) → s' ≡ s → board' ≡ board → slice ≡ warnings → Reported s' board' slice
+  pub reported : (s' : Settings) (board' : List ℕ) (slice : List AircraftAlert) → s' ≡ s → board' ≡ board → slice ≡ alerts → Reported s' board' slice
   reported s' board' slice e f h =
       subst (λ (z : Settings). Reported z board' slice) (sym e)
       (subst (λ (z : List ℕ). Reported s z slice) (sym f)
-      (subst (λ (z : List Warning). Reported s board z) (sym h) known))
+      (subst (λ (z : List AircraftAlert). Reported s board z) (sym h) known))

@@ -1,6 +1,6 @@
 -- How far a board is filled.
 use Rattle.std.specs.Prelude.{◌≡◌, ◌<◌, ◌≤◌, ℕ, List, length, slice_index, bit_or}
-use Rattle.daa_config.specs.Level.{IsMaskOf}
+use Rattle.daa_config.specs.Mask.{IsMaskOf}
 use Rattle.daa_scan.specs.Situation.{Situation, MeetsAt}
 
 module _ (scene : Situation) where

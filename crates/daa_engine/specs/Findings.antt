@@ -10,23 +10,23 @@ use Rattle.daa_alert.specs.Alert.{IsAlertOf}
 use Rattle.daa_alert.specs.declared.aircraft_alert.Alert.{Alert}
 use Rattle.daa_resolve.specs.Resolution.{IsResolution}
 use Rattle.daa_resolve.specs.declared.side.Side.TheVariants.{Lower, Upper}
-use Rattle.daa_engine.specs.declared.warnings.Warning.{Warning}
+use Rattle.daa_engine.specs.declared.alerts.AircraftAlert.{AircraftAlert}
 use Rattle.daa_engine.specs.declared.advice.Sides.{Sides}
 use Rattle.daa_engine.specs.declared.advice.Advice.{Advice}
 
--- the alert that a warning tells
-abbrev pub alert_of : Warning → Alert
-alert_of warning = record { level = warning.level; first = warning.first }
+-- the alert by itself, without the level now
+abbrev pub alert_of : AircraftAlert → Alert
+alert_of found = record { level = found.level; first = found.first }
 
--- it tells the level now and the alert of an aircraft
-pub record IsWarning (settings : Settings) (own : Own) (aircraft : Traffic) (warning : Warning) : Type 0 where
-  pub level_now : IsNowLevel settings own aircraft warning.level_now
-  pub alert : IsAlertOf settings own aircraft (alert_of warning)
+-- the level now and the alert are those of the aircraft
+pub record IsAircraftAlert (settings : Settings) (own : Own) (aircraft : Traffic) (found : AircraftAlert) : Type 0 where
+  pub level_now : IsNowLevel settings own aircraft found.level_now
+  pub alert : IsAlertOf settings own aircraft (alert_of found)
 
 -- they are those of the first aircraft
-pub record AreWarnings (settings : Settings) (own : Own) (traffic : List Traffic) (count : ℕ) (warnings : List Warning) : Type 0 where
-  pub many : length warnings ≡ count
-  pub each : (i : ℕ) (t : Traffic) (w : Warning) → i < count → IsWarning settings own (slice_index_or traffic i t) (slice_index_or warnings i w)
+pub record AreAircraftAlerts (settings : Settings) (own : Own) (traffic : List Traffic) (count : ℕ) (alerts : List AircraftAlert) : Type 0 where
+  pub many : length alerts ≡ count
+  pub each : (i : ℕ) (t : Traffic) (w : AircraftAlert) → i < count → IsAircraftAlert settings own (slice_index_or traffic i t) (slice_index_or alerts i w)
 
 -- these are the answers on the sides of a kind
 pub record AreSides (Covered : ℕ → ℕ → Type 0) (settings : Settings) (own : Own) (kind : Kind) (sides : Sides) : Type 0 where

@@ -1,9 +1,7 @@
 pub mod Covered
-pub mod Machine
+pub mod EngineState
 pub mod MomentText
-pub mod Saying
 pub mod Filling
 pub mod Merging
 pub mod Findings
 pub mod Written
-pub mod OneText

@@ -10,16 +10,16 @@ use Rattle.daa_state.specs.declared.word.Traffic.{Traffic}
 use Rattle.daa_bands.specs.Walk.{bands_left}
 use Rattle.daa_report.specs.Lines.{Text, moment_line, now_line, alert_line, resolve_line, done_line}
 use Rattle.daa_engine.specs.MomentText.{of_each, line_of}
-use Rattle.daa_engine.specs.declared.warnings.Warning.{Warning}
+use Rattle.daa_engine.specs.declared.alerts.AircraftAlert.{AircraftAlert}
 use Rattle.daa_engine.specs.declared.advice.Sides.{Sides}
 use Rattle.daa_engine.specs.declared.advice.Advice.{Advice}
 
 -- the two lines of an aircraft
-unfoldable pub warning_text : Traffic × Warning → Text
-warning_text pair = now_line pair.0.id pair.1.level_now ++ alert_line pair.0.id pair.1.level pair.1.first
+unfoldable pub aircraft_text : Traffic × AircraftAlert → Text
+aircraft_text pair = now_line pair.0.id pair.1.level_now ++ alert_line pair.0.id pair.1.level pair.1.first
 
-unfoldable pub warnings_text : List Traffic → List Warning → Text
-warnings_text traffic warnings = flat_map warning_text (zip traffic warnings)
+unfoldable pub alerts_text : List Traffic → List AircraftAlert → Text
+alerts_text traffic alerts = flat_map aircraft_text (zip traffic alerts)
 
 -- the lines of the bands that a board shows
 unfoldable pub bands_text : Settings → List ℕ → Kind → Text
@@ -40,7 +40,7 @@ sides_text kind sides = resolve_line kind sides.lower sides.upper
 unfoldable pub advice_text : Advice → Text
 advice_text advice = of_each (λ kind. sides_text kind (sides_of advice kind))
 
-unfoldable pub written : Settings → Picture → List ℕ → List Warning → Advice → Text
-written settings picture board warnings advice =
+unfoldable pub written : Settings → Picture → List ℕ → List AircraftAlert → Advice → Text
+written settings picture board alerts advice =
     moment_line picture.time
-    ++ (warnings_text (aircraft_of picture) warnings ++ (bands_texts settings board ++ (advice_text advice ++ done_line picture.time)))
+    ++ (alerts_text (aircraft_of picture) alerts ++ (bands_texts settings board ++ (advice_text advice ++ done_line picture.time)))

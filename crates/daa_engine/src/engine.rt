@@ -7,14 +7,15 @@ ghost use Rattle.daa_state.specs.Picture.{aircraft_of};
 ghost use Rattle.daa_state.specs.declared.word.Traffic.{Traffic};
 ghost use Rattle.daa_alert.specs.Alert.{IsAlertOf};
 ghost use Rattle.daa_engine.specs.Covered.{CoveredAt};
-ghost use Rattle.daa_engine.specs.Machine.{IsCrew};
-ghost use Rattle.daa_engine.specs.Saying.{SaysMoment};
+ghost use Rattle.daa_engine.specs.EngineState.{IsWorkerCount};
+ghost use Rattle.daa_engine.specs.MomentText.{IsMomentText};
+ghost use Rattle.daa_report.specs.Says.{SaysSome};
 
 use crate::advice::advise;
+use crate::alerts::find_alerts;
 use crate::filling::fill;
 use crate::say::say;
 use crate::together::fill_together;
-use crate::warnings::find_warnings;
 use daa_alert::{Alert, alert};
 use daa_bands::Board;
 use daa_config::Config;
@@ -41,20 +42,20 @@ pub struct Engine {
 
 impl Model for Engine {
     ghost use Rattle.std.specs.Prelude.{◌≡◌, length};
-    ghost use Rattle.daa_engine.specs.Machine.{Machine, IsMachine, HasRoom};
+    ghost use Rattle.daa_engine.specs.EngineState.{EngineState, IsEngine, HasRoom};
 
-    ghost Value = { Machine };
+    ghost Value = { EngineState };
 
     ghost view = { λ e. record { settings = e.config; workers = e.workers; board = e.board } };
 
-    ghost invariant = { λ e. IsMachine (record { settings = e.config; workers = e.workers; board = e.board }) × HasRoom e.words.items };
+    ghost invariant = { λ e. IsEngine (record { settings = e.config; workers = e.workers; board = e.board }) × HasRoom e.words.items };
 }
 
 impl Engine {
     /// An engine of this configuration and so many workers, 1 to 16, before its first moment. `NoMemory` says that there
     /// was no memory for it.
     pub fn new(alloc: Global, config: Config, workers: u32) -> Result<Engine, NoMemory>
-        requires { IsCrew workers }
+        requires { IsWorkerCount workers }
         ensures { IfOk result (λ engine. engine ≡ record { settings = config; workers = workers; board = replicate board_size 0 }) }
     {
         // tells that its numbers are in range
@@ -72,7 +73,7 @@ impl Engine {
     pub fn config(&self) -> &Config
         ensures value { result.now ≡ self.now.settings }
         ensures accepted { IsAccepted self.now.settings }
-        ensures crew { IsCrew self.now.workers }
+        ensures workers { IsWorkerCount self.now.workers }
     {
         &self.config
     }
@@ -142,11 +143,11 @@ impl Engine {
         requires { IsPictureInRange picture.now }
         ensures kept { self.new ≡ record self.old { board = self.new.board } }
         ensures board { IsBoardOf (CoveredAt self.old.settings picture.now) self.old.settings self.new.board }
-        ensures says { SaysMoment self.old.settings picture.now (K.taken sink.old) (K.taken sink.new) (K.faults sink.old) (K.faults sink.new) result }
+        ensures says { SaysSome (IsMomentText self.old.settings picture.now) (K.taken sink.old) (K.taken sink.new) (K.faults sink.old) (K.faults sink.new) result }
     {
         self.decide(rt, alloc, picture, gate);
-        let warnings = find_warnings(&self.config, picture);
+        let alerts = find_alerts(&self.config, picture);
         let advice = advise(&self.board, &self.config, &picture.own);
-        say(sink, &self.config, picture, &self.board, &warnings, &advice)
+        say(sink, &self.config, picture, &self.board, &alerts, &advice)
     }
 }

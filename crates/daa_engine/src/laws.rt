@@ -5,6 +5,7 @@ ghost use Rattle.daa_bands.specs.KindBands.{AreKindBands};
 ghost use Rattle.daa_bands.specs.declared.band.Band.{Band};
 ghost use Rattle.daa_config.specs.declared.candidate.Resolution.{Resolution};
 ghost use Rattle.daa_config.specs.declared.kind.Kind.{Kind};
+ghost use Rattle.daa_config.specs.One.{HasOne};
 ghost use Rattle.daa_config.specs.Settings.{Settings, IsAccepted};
 ghost use Rattle.daa_state.specs.declared.word.Picture.{Picture};
 ghost use Rattle.daa_state.specs.InRange.{IsPictureInRange};
@@ -13,12 +14,11 @@ ghost use Rattle.daa_resolve.specs.Resolution.{IsResolution};
 ghost use Rattle.daa_resolve.specs.declared.side.Side.{Side};
 ghost use Rattle.daa_engine.specs.Covered.{CoveredAt};
 ghost use Rattle.daa_engine.specs.MomentText.{IsMomentText};
-ghost use Rattle.daa_engine.specs.OneText.{HasOneText};
 
 /// Under a configuration that is accepted exactly one text is that of a picture in range. This holds of the definitions
 /// alone, whatever a program does: no memory or sink is in it.
 pub fn every_picture_has_one_text()
-    ensures { (s : Settings) (p : Picture) → IsAccepted s → IsPictureInRange p → HasOneText s p }
+    ensures { (s : Settings) (p : Picture) → IsAccepted s → IsPictureInRange p → HasOne (IsMomentText s p) }
 {}
 
 /// Under a configuration that is accepted a picture has no two texts, in range or not.

@@ -3,6 +3,7 @@
 #![tactic(auto)]
 
 mod advice;
+mod alerts;
 mod engine;
 mod filling;
 mod laws;
@@ -10,8 +11,8 @@ mod say;
 #[cfg(test)]
 mod tests;
 mod together;
-mod warnings;
 
+pub use daa_schedule::NoMemory;
 pub use engine::Engine;
 pub use laws::{
     boards_tell_what_is_covered, every_picture_has_one_text, has_one_board, has_one_text,

@@ -5,10 +5,10 @@ ghost use Rattle.daa_report.specs.Says.{Says};
 ghost use Rattle.daa_report.specs.PageSays.{PageSays};
 ghost use Rattle.daa_report.specs.Lines.{moment_line, now_line, alert_line, done_line};
 ghost use Rattle.daa_engine.specs.MomentText.{line_of};
-ghost use Rattle.daa_engine.specs.Written.{warning_text, warnings_text, bands_text, bands_texts, sides_text, advice_text, written};
+ghost use Rattle.daa_engine.specs.Written.{aircraft_text, alerts_text, bands_text, bands_texts, sides_text, advice_text, written};
 
 use crate::advice::{Advice, Sides};
-use crate::warnings::Warning;
+use crate::alerts::AircraftAlert;
 use daa_bands::{Band, Board, runs};
 use daa_config::{Config, Kind};
 use daa_outside::Sink;
@@ -20,11 +20,11 @@ fn say_now<K: Sink>(
     page: &mut Page,
     sink: &mut K,
     aircraft: &Traffic,
-    warning: &Warning,
+    alert: &AircraftAlert,
 ) -> Result<(), SinkFault>
-    ensures { PageSays (K.taken sink.old) (K.taken sink.new) page.old page.new (K.faults sink.old) (K.faults sink.new) (now_line aircraft.now.id warning.now.level_now) result }
+    ensures { PageSays (K.taken sink.old) (K.taken sink.new) page.old page.new (K.faults sink.old) (K.faults sink.new) (now_line aircraft.now.id alert.now.level_now) result }
 {
-    page.say(sink, &Line::now(&aircraft.id, warning.level_now))
+    page.say(sink, &Line::now(&aircraft.id, alert.level_now))
 }
 
 /// Says the alert of an aircraft.
@@ -32,14 +32,11 @@ fn say_alert<K: Sink>(
     page: &mut Page,
     sink: &mut K,
     aircraft: &Traffic,
-    warning: &Warning,
+    alert: &AircraftAlert,
 ) -> Result<(), SinkFault>
-    ensures { PageSays (K.taken sink.old) (K.taken sink.new) page.old page.new (K.faults sink.old) (K.faults sink.new) (alert_line aircraft.now.id warning.now.level warning.now.first) result }
+    ensures { PageSays (K.taken sink.old) (K.taken sink.new) page.old page.new (K.faults sink.old) (K.faults sink.new) (alert_line aircraft.now.id alert.now.level alert.now.first) result }
 {
-    page.say(
-        sink,
-        &Line::alert(&aircraft.id, warning.level, warning.first),
-    )
+    page.say(sink, &Line::alert(&aircraft.id, alert.level, alert.first))
 }
 
 /// Says the two lines of an aircraft.
@@ -47,26 +44,26 @@ fn say_aircraft<K: Sink>(
     page: &mut Page,
     sink: &mut K,
     aircraft: &Traffic,
-    warning: &Warning,
+    alert: &AircraftAlert,
 ) -> Result<(), SinkFault>
-    ensures { PageSays (K.taken sink.old) (K.taken sink.new) page.old page.new (K.faults sink.old) (K.faults sink.new) (warning_text (aircraft.now, warning.now)) result }
+    ensures { PageSays (K.taken sink.old) (K.taken sink.new) page.old page.new (K.faults sink.old) (K.faults sink.new) (aircraft_text (aircraft.now, alert.now)) result }
 {
-    say_now(page, sink, aircraft, warning)?;
-    say_alert(page, sink, aircraft, warning)
+    say_now(page, sink, aircraft, alert)?;
+    say_alert(page, sink, aircraft, alert)
 }
 
 /// Says the lines of all aircraft.
-fn say_warnings<K: Sink>(
+fn say_alerts<K: Sink>(
     page: &mut Page,
     sink: &mut K,
     traffic: &[Traffic],
-    warnings: &[Warning],
+    alerts: &[AircraftAlert],
 ) -> Result<(), SinkFault>
-    requires { length warnings.now ≡ length traffic.now }
-    ensures { PageSays (K.taken sink.old) (K.taken sink.new) page.old page.new (K.faults sink.old) (K.faults sink.new) (warnings_text traffic.now warnings.now) result }
+    requires { length alerts.now ≡ length traffic.now }
+    ensures { PageSays (K.taken sink.old) (K.taken sink.new) page.old page.new (K.faults sink.old) (K.faults sink.new) (alerts_text traffic.now alerts.now) result }
 {
     for place in 0..traffic.len() {
-        say_aircraft(page, sink, &traffic[place], &warnings[place])?;
+        say_aircraft(page, sink, &traffic[place], &alerts[place])?;
     }
     Ok(())
 }
@@ -155,12 +152,12 @@ fn say_traffic<K: Sink>(
     page: &mut Page,
     sink: &mut K,
     picture: &Picture,
-    warnings: &[Warning],
+    alerts: &[AircraftAlert],
 ) -> Result<(), SinkFault>
-    requires { length warnings.now ≡ length (aircraft_of picture.now) }
-    ensures { PageSays (K.taken sink.old) (K.taken sink.new) page.old page.new (K.faults sink.old) (K.faults sink.new) (warnings_text (aircraft_of picture.now) warnings.now) result }
+    requires { length alerts.now ≡ length (aircraft_of picture.now) }
+    ensures { PageSays (K.taken sink.old) (K.taken sink.new) page.old page.new (K.faults sink.old) (K.faults sink.new) (alerts_text (aircraft_of picture.now) alerts.now) result }
 {
-    say_warnings(page, sink, picture.traffic.as_slice(), warnings)
+    say_alerts(page, sink, picture.traffic.as_slice(), alerts)
 }
 
 /// Says the lines of a moment; those of the aircraft are written before the others are said.
@@ -170,14 +167,14 @@ fn say_parts<K: Sink>(
     config: &Config,
     picture: &Picture,
     board: &Board,
-    warnings: &[Warning],
+    alerts: &[AircraftAlert],
     advice: &Advice,
 ) -> Result<(), SinkFault>
-    requires { length warnings.now ≡ length (aircraft_of picture.now) }
-    ensures { PageSays (K.taken sink.old) (K.taken sink.new) page.old page.new (K.faults sink.old) (K.faults sink.new) (written config.now picture.now board.now warnings.now advice.now) result }
+    requires { length alerts.now ≡ length (aircraft_of picture.now) }
+    ensures { PageSays (K.taken sink.old) (K.taken sink.new) page.old page.new (K.faults sink.old) (K.faults sink.new) (written config.now picture.now board.now alerts.now advice.now) result }
 {
     say_head(page, sink, picture)?;
-    say_traffic(page, sink, picture, warnings)?;
+    say_traffic(page, sink, picture, alerts)?;
     page.flush(sink)?;
     say_all_bands(page, sink, board, config)?;
     say_advice(page, sink, advice)?;
@@ -190,13 +187,13 @@ pub(crate) fn say<K: Sink>(
     config: &Config,
     picture: &Picture,
     board: &Board,
-    warnings: &[Warning],
+    alerts: &[AircraftAlert],
     advice: &Advice,
 ) -> Result<(), SinkFault>
-    requires { length warnings.now ≡ length (aircraft_of picture.now) }
-    ensures { Says (K.taken sink.old) (K.taken sink.new) (K.faults sink.old) (K.faults sink.new) (written config.now picture.now board.now warnings.now advice.now) result }
+    requires { length alerts.now ≡ length (aircraft_of picture.now) }
+    ensures { Says (K.taken sink.old) (K.taken sink.new) (K.faults sink.old) (K.faults sink.new) (written config.now picture.now board.now alerts.now advice.now) result }
 {
     let mut page = Page::new();
-    say_parts(&mut page, sink, config, picture, board, warnings, advice)?;
+    say_parts(&mut page, sink, config, picture, board, alerts, advice)?;
     page.flush(sink)
 }

@@ -3,12 +3,12 @@
 ghost use Rattle.std.specs.Prelude.{◌<◌, ◌≤◌, IfSome, length};
 ghost use Rattle.daa_config.specs.Candidates.{candidates_of};
 ghost use Rattle.daa_state.specs.InRange.{IsPictureInRange};
-ghost use Rattle.daa_engine.specs.Machine.{IsCrew};
+ghost use Rattle.daa_engine.specs.EngineState.{IsWorkerCount};
 
-mod texts;
 mod workers;
 
 use super::*;
+use daa_config::examples::{FOUR_LEVELS, LARGEST_VALUES, ONE_LEVEL, THREE_LEVELS};
 use daa_config::{Config, read};
 use daa_detect::is_hit;
 use daa_legs::{Flight, relative};
@@ -19,7 +19,6 @@ use std::alloc::Global;
 use std::process::Abort;
 use std::test::Fail;
 use std::thread::Threads;
-use texts::{EXAMPLE, FOUR, LARGE, SMALL};
 
 /// A configuration's text with parts replaced, the lines of a moment, and its text.
 struct Row {
@@ -68,28 +67,28 @@ done 0
 static ROWS: [Row; 18] = [
     Row {
         shows: "no aircraft",
-        text: SMALL,
+        text: ONE_LEVEL,
         edits: &[],
         lines: &[NORTH],
         report: CLEAR,
     },
     Row {
         shows: "same place and velocity",
-        text: SMALL,
+        text: ONE_LEVEL,
         edits: &[],
         lines: &[NORTH, "traffic A 0 0 1000 0 3600 0 0"],
         report: TOGETHER,
     },
     Row {
         shows: "the same by a report of 10 seconds",
-        text: SMALL,
+        text: ONE_LEVEL,
         edits: &[],
         lines: &[NORTH, "traffic A 0 -1000 1000 0 3600 0 10"],
         report: TOGETHER,
     },
     Row {
         shows: "a foot apart from 0.48 to 0.52 seconds, and only where it climbs on",
-        text: SMALL,
+        text: ONE_LEVEL,
         edits: &[("zthr = 450", "zthr = 1")],
         lines: &[CLIMBING, "traffic A 0 0 1025 0 3600 0 0"],
         report: "moment 0
@@ -108,7 +107,7 @@ done 0
     },
     Row {
         shows: "a touch at exactly 10 seconds",
-        text: SMALL,
+        text: ONE_LEVEL,
         edits: &[("tthr = 35", "tthr = 0")],
         lines: &[NORTH, ABEAM],
         report: "moment 0
@@ -128,7 +127,7 @@ done 0
     },
     Row {
         shows: "the same, alerted 9 seconds ahead",
-        text: SMALL,
+        text: ONE_LEVEL,
         edits: &[("tthr = 35", "tthr = 0"), ("alert = 10", "alert = 9")],
         lines: &[NORTH, ABEAM],
         report: "moment 0
@@ -148,7 +147,7 @@ done 0
     },
     Row {
         shows: "the same, a unit too far",
-        text: SMALL,
+        text: ONE_LEVEL,
         edits: &[("tthr = 35", "tthr = 0"), ("dthr = 660", "dthr = 659")],
         lines: &[NORTH, ABEAM],
         report: "moment 0
@@ -169,7 +168,7 @@ done 0
     },
     Row {
         shows: "a touch at 10.5 seconds",
-        text: SMALL,
+        text: ONE_LEVEL,
         edits: &[
             ("tthr = 35", "tthr = 0"),
             ("lookahead = 10, alert = 10", "lookahead = 11, alert = 11"),
@@ -192,14 +191,14 @@ done 0
     },
     Row {
         shows: "near by the time of modified tau",
-        text: SMALL,
+        text: ONE_LEVEL,
         edits: &[],
         lines: &[NORTH, ABEAM],
         report: TOGETHER,
     },
     Row {
         shows: "within the volume level and up at different times of one second",
-        text: SMALL,
+        text: ONE_LEVEL,
         edits: &[
             ("zthr = 450", "zthr = 100"),
             ("tthr = 35", "tthr = 0"),
@@ -222,7 +221,7 @@ done 0
     },
     Row {
         shows: "left behind",
-        text: SMALL,
+        text: ONE_LEVEL,
         edits: &[],
         lines: &[NORTH, "traffic A 0 -661 1000 0 0 0 0"],
         report: "moment 0
@@ -241,7 +240,7 @@ done 0
     },
     Row {
         shows: "four levels",
-        text: FOUR,
+        text: FOUR_LEVELS,
         edits: &[],
         lines: &[NORTH, ABEAM],
         report: "moment 0
@@ -261,7 +260,7 @@ done 0
     },
     Row {
         shows: "four levels, and the fourth is a unit too far",
-        text: FOUR,
+        text: FOUR_LEVELS,
         edits: &[("dthr = 660", "dthr = 659")],
         lines: &[NORTH, ABEAM],
         report: "moment 0
@@ -282,14 +281,14 @@ done 0
     },
     Row {
         shows: "modified tau of 8 seconds now",
-        text: SMALL,
+        text: ONE_LEVEL,
         edits: &[("tthr = 35", "tthr = 8")],
         lines: &[NORTH, "traffic A 330 1000 1000 0 0 0 0"],
         report: TOGETHER,
     },
     Row {
         shows: "closest approach in 8 seconds, 2 seconds from now",
-        text: SMALL,
+        text: ONE_LEVEL,
         edits: &[
             ("tthr = 35", "tthr = 8"),
             ("tcoa = 0", "tcoa = 0, tcpa = 1"),
@@ -311,14 +310,14 @@ done 0
     },
     Row {
         shows: "a touch at the closest approach, 10 seconds from now",
-        text: SMALL,
+        text: ONE_LEVEL,
         edits: &[("tcoa = 0", "tcoa = 0, tcpa = 1")],
         lines: &[NORTH, ABEAM],
         report: TOGETHER,
     },
     Row {
         shows: "the second of two aircraft is met, and each has its lines",
-        text: SMALL,
+        text: ONE_LEVEL,
         edits: &[],
         lines: &[
             NORTH,
@@ -343,7 +342,7 @@ done 0
     },
     Row {
         shows: "the values of each kind",
-        text: EXAMPLE,
+        text: THREE_LEVELS,
         edits: &[],
         lines: &[NORTH],
         report: "moment 0
@@ -402,16 +401,16 @@ fn engine_of(
     text: &str,
     edits: &[(&str, &str)],
 ) -> Result<Engine, Fail> {
-    crew_of(rt, text, edits, 1)
+    engine_of_workers(rt, text, edits, 1)
 }
 
-fn crew_of(
+fn engine_of_workers(
     rt: &(impl AllocGlobal + Abort),
     text: &str,
     edits: &[(&str, &str)],
     workers: u32,
 ) -> Result<Engine, Fail>
-    requires { IsCrew workers }
+    requires { IsWorkerCount workers }
 {
     Ok(Engine::new(rt.alloc(), config_of(rt, text, edits)?, workers)?)
 }
@@ -446,7 +445,7 @@ fn worked_rows(rt: HostRuntime) -> Result<(), Fail> {
     for workers in [1, 4] {
         assert!(rt; 0 < workers && workers <= 16);
         for row in &ROWS {
-            let mut engine = crew_of(&rt, row.text, row.edits, workers)?;
+            let mut engine = engine_of_workers(&rt, row.text, row.edits, workers)?;
             expect_report(&rt, &mut engine, row.shows, row.lines, row.report)?;
         }
     }
@@ -455,7 +454,7 @@ fn worked_rows(rt: HostRuntime) -> Result<(), Fail> {
 
 #[test]
 fn the_alert_of_an_aircraft(rt: HostRuntime) -> Result<(), Fail> {
-    let engine = engine_of(&rt, SMALL, &[("tthr = 35", "tthr = 0")])?;
+    let engine = engine_of(&rt, ONE_LEVEL, &[("tthr = 35", "tthr = 0")])?;
     let picture = picture_in(&[NORTH, "traffic FAR 5162 0 1000 0 0 0 0", ABEAM]).expect(
         &rt,
         "the lines of a moment",
@@ -471,7 +470,7 @@ fn the_alert_of_an_aircraft(rt: HostRuntime) -> Result<(), Fail> {
 /// What one moment left is not there in the next.
 #[test]
 fn moments_one_after_the_other(rt: HostRuntime) -> Result<(), Fail> {
-    let mut engine = engine_of(&rt, SMALL, &[])?;
+    let mut engine = engine_of(&rt, ONE_LEVEL, &[])?;
     let together = [NORTH, "traffic A 0 0 1000 0 3600 0 0"];
     expect_report(&rt, &mut engine, "first", &together, TOGETHER)?;
     expect_report(&rt, &mut engine, "second", &[NORTH], CLEAR)?;
@@ -481,7 +480,7 @@ fn moments_one_after_the_other(rt: HostRuntime) -> Result<(), Fail> {
 /// Places, speeds and thresholds at the ends of their ranges.
 #[test]
 fn largest_values(rt: HostRuntime) -> Result<(), Fail> {
-    let mut engine = engine_of(&rt, LARGE, &[])?;
+    let mut engine = engine_of(&rt, LARGEST_VALUES, &[])?;
     let picture = picture_in(&[
         "own -200000 -200000 -2000 45 10000 10000",
         "traffic A 200000 200000 60000 -10000 -10000 -10000 0",
@@ -500,7 +499,7 @@ fn largest_values(rt: HostRuntime) -> Result<(), Fail> {
 #[test]
 fn sinks_that_fail(rt: HostRuntime) -> Result<(), Fail> {
     let alloc = rt.alloc();
-    let mut engine = engine_of(&rt, SMALL, &[])?;
+    let mut engine = engine_of(&rt, ONE_LEVEL, &[])?;
     let picture = picture_in(&[NORTH, "traffic A 0 0 1000 0 3600 0 0"]).expect(
         &rt,
         "the lines of a moment",
@@ -574,7 +573,7 @@ fn has_mask(engine: &Engine, mask: u8) -> bool {
 /// In both moments some candidates are clear, some are covered at level 1 alone and some at all three.
 #[test]
 fn boards_are_those_of_a_walk_second_by_second(rt: HostRuntime) -> Result<(), Fail> {
-    let mut engine = engine_of(&rt, EXAMPLE, &[])?;
+    let mut engine = engine_of(&rt, THREE_LEVELS, &[])?;
     for lines in [
         [
             "own 0 0 10000 30 2500 500",

@@ -5,7 +5,7 @@ ghost use Rattle.daa_scan.specs.Reach.{NoneIsMetOutOfReach};
 ghost use Rattle.daa_scan.specs.Units.{most_groups, most_units, AreWordsOf};
 ghost use Rattle.daa_state.specs.InRange.{IsPictureInRange};
 ghost use Rattle.daa_engine.specs.Covered.{CoveredAt};
-ghost use Rattle.daa_engine.specs.Machine.{IsCrew, HasRoom};
+ghost use Rattle.daa_engine.specs.EngineState.{IsWorkerCount, HasRoom};
 ghost use Rattle.daa_engine.specs.Merging.{IsMerged};
 
 use daa_bands::Board;
@@ -33,7 +33,7 @@ pub(crate) fn fill_together<R: Threads + Sync, G: Gate>(
 ) -> Result<(), NoMemory>
     requires picture { IsPictureInRange picture.now }
     requires room { HasRoom words.old.items }
-    requires crew { IsCrew workers }
+    requires workers { IsWorkerCount workers }
     ensures room { HasRoom words.new.items }
     ensures board { OnOk result (IsBoardOf (CoveredAt config.now picture.now) config.now board.new) }
     ensures kept { OnErr result (board.new ≡ board.old) }

@@ -20,12 +20,11 @@ use Rattle.daa_legs.specs.Alerts.{IsAlertLevel}
 use Rattle.daa_state.specs.InRange.{IsPictureInRange}
 use Rattle.daa_state.specs.Picture.{aircraft_of}
 use Rattle.daa_state.specs.declared.word.Picture.{Picture}
-use Rattle.daa_report.specs.Says.{Says}
+use Rattle.daa_report.specs.Says.{Says, SaysSome}
 use Rattle.daa_engine.specs.Covered.{CoveredAt}
 use Rattle.daa_exercise.specs.Counting.{Adds, AreCounted, CountsPicture, HasCounted, HasRoomFor, IsRoomy, tally_of, written}
 use Rattle.daa_exercise.specs.Levels.{HasAlerts, HasShown, AreLevels, aircraft_in, counts_of, how_often}
 use Rattle.daa_exercise.specs.Moments.{moment_of}
-use Rattle.daa_exercise.specs.Saying.{SaysSummary}
 use Rattle.daa_exercise.specs.Summary.{IsSummaryOf, summary_text}
 use Rattle.daa_exercise.specs.Outputs.{Outputs, outputs_of}
 use Rattle.daa_exercise.specs.declared.counting.Counts.{Counts}
@@ -169,7 +168,7 @@ module _ (s : Settings) (seed moments : ℕ) (counts : Counts) (h : AreCounted s
 
 pub said : {E : Type 0} (s : Settings) (seed moments time top : ℕ) (counts : Counts) (piece items : List ℕ) (a b : Option (List ℕ)) (x y : ℕ) (r : Result (Unit {0}) E)
     → IsAccepted s → top ≡ length s.levels → time ≤ moments → moments ≤ time → AreCounted s (outputs_of seed) time counts → piece ≡ items
-    → items ≡ written seed moments top counts → Says {E = E} a b x y piece r → SaysSummary {E = E} s seed moments a b x y r
+    → items ≡ written seed moments top counts → Says {E = E} a b x y piece r → SaysSome {E = E} (IsSummaryOf s seed moments) a b x y r
 said {E} s seed moments time top counts piece items a b x y r ok e low high h same is told =
     let all : time ≡ moments = omega arith in
     let counted = subst (λ (n : ℕ). AreCounted s (outputs_of seed) n counts) all h in (

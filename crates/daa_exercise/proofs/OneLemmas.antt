@@ -4,6 +4,7 @@ use Rattle.std.specs.Prelude.{slice_index}
 use Rattle.std.specs.List.{AllZip}
 use Rattle.std.proofs.lemmas.List.{ext_get_or}
 use Rattle.daa_config.specs.Candidates.{start_of}
+use Rattle.daa_config.specs.One.{HasOne}
 use Rattle.daa_config.specs.Settings.{Settings, IsAccepted}
 use Rattle.daa_config.specs.declared.kind.Kind.{Kind}
 use Rattle.daa_config.proofs.GreatestLemmas.{greatest_once}
@@ -18,7 +19,6 @@ use Rattle.daa_engine.specs.MomentText.{AreAlertLines}
 use Rattle.daa_engine.proofs.SomeText.{one_text}
 use Rattle.daa_exercise.specs.Levels.{HasAlerts, HasShown, AreLevels, aircraft_in, counts_of}
 use Rattle.daa_exercise.specs.Moments.{moment_of, begin_of}
-use Rattle.daa_exercise.specs.OneSummary.{HasOneSummary}
 use Rattle.daa_exercise.specs.Summary.{IsSummaryOf, summary_text}
 use Rattle.daa_exercise.specs.Outputs.{Outputs, outputs_of}
 use Rattle.daa_exercise.proofs.RangeLemmas.{drawn_range}
@@ -96,9 +96,9 @@ module _ (s : Settings) (seed moments : ℕ) (ok : IsAccepted s) where
       levels_once (λ p. HasShown s p kind) output (λ p. shown_once s p kind) moments (ys kind) (shown kind).0 (each kind) (shown kind).1 in
       e ∙ (λ i. text_of (a i) (λ kind. b kind i))
 
-  pub one_summary : HasOneSummary s seed moments
+  pub one_summary : HasOne (IsSummaryOf s seed moments)
   one_summary = record {
-    text = text_of alerts.0 (λ kind. (shown kind).0);
+    one = text_of alerts.0 (λ kind. (shown kind).0);
     is = (alerts.0, (λ kind. (shown kind).0), alerts.1, (λ kind. (shown kind).1), refl);
     only = text_once;
   }

@@ -1,5 +1,5 @@
 -- What a tally counts, level after level.
-use Rattle.std.proofs.Common.{◌≡◌, ◌∙◌, ◌⊎◌, inl, inr, ◌<◌, ◌≤◌, ◌+◌, ℕ, zero, suc, pos, List, [], ◌∷◌, ◌++◌, length, take, take_all, refl, sym, ap, arith, subst, append_assoc, add-one, append-nil}
+use Rattle.std.proofs.Common.{◌≡◌, ◌∙◌, ◌⊎◌, inl, inr, ◌<◌, ◌≤◌, ◌+◌, ℕ, zero, suc, pos, List, [], ◌∷◌, ◌++◌, length, take, take_all, below_more, refl, sym, ap, arith, subst, append_assoc, add-one, append-nil}
 use Rattle.std.specs.Prelude.{slice_index, slice_index_or}
 use Rattle.std.specs.List.{AllZip}
 use Rattle.std.proofs.lemmas.List.{length_push, get_or_push, get_or_append_left}
@@ -7,7 +7,7 @@ use Rattle.daa_state.specs.declared.word.Traffic.{Traffic}
 use Rattle.daa_bands.specs.Board.{HasLevelOn, mask_levels}
 use Rattle.daa_bands.specs.KindBands.{AreShown}
 use Rattle.daa_config.specs.Candidates.{start_of, values_of}
-use Rattle.daa_config.specs.Level.{IsGreatestLevel}
+use Rattle.daa_config.specs.Mask.{IsGreatestLevel}
 use Rattle.daa_config.specs.Settings.{Settings}
 use Rattle.daa_config.specs.declared.kind.Kind.{Kind}
 use Rattle.daa_exercise.specs.Counting.{Adds, CountsMore, HasRoomFor}
@@ -71,16 +71,13 @@ module _ (Is : ℕ → ℕ → Type 0) where
   first_more : (count level : ℕ) (here : List ℕ) → AreFirst Is count here → Is count level → AreFirst Is (count + 1) (here ++ level ∷ [])
   first_more count level here are is = record {
     many = length_push here level ∙ ap (λ (n : ℕ). n + 1) are.many;
-    each = λ i lt. go i (below_or_at i (length here) (let e = length_push here level in omega (arith, e, lt)));
+    each = λ i lt. below_more (λ (j : ℕ). Is j (slice_index (here ++ level ∷ []) j)) (length here)
+        (λ j below. subst (Is j) (sym (get_or_append_left here (level ∷ []) 0 j below)) (are.each j below)) last i
+        (let e = length_push here level in omega (arith, e, lt));
   }
     where
-      below_or_at : (i n : ℕ) → i < n + 1 → (i < n) ⊎ (i ≡ n)
-      below_or_at i n lt = grind arith
-
-      go : (i : ℕ) → (i < length here) ⊎ (i ≡ length here) → Is i (slice_index (here ++ level ∷ []) i)
-      go i (inl lt) = subst (Is i) (sym (get_or_append_left here (level ∷ []) 0 i lt)) (are.each i lt)
-      go i (inr e) =
-          subst (λ (n : ℕ). Is n (slice_index (here ++ level ∷ []) n)) (sym (e ∙ are.many))
+      last : Is (length here) (slice_index (here ++ level ∷ []) (length here))
+      last = subst (λ (n : ℕ). Is n (slice_index (here ++ level ∷ []) n)) (sym are.many)
           (subst (Is count) (sym (get_or_push here level 0 count are.many)) is)
 
   pub first_next : (count level : ℕ) (a b c : List ℕ) → Is count level → Adds (AreFirst Is count) a b → CountsMore (level ∷ []) b c → Adds (AreFirst Is (count + 1)) a c

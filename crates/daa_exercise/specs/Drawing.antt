@@ -13,7 +13,7 @@ after n generator = advance 64 multiplier_64 n generator
 abbrev pub range_of : Span → Range
 range_of span = record { low = span.low; high = span.high }
 
--- a span of at least one number and at most 2 ^ 31
+-- a span of at least one number and fewer than 2 ^ 31
 pub record IsSpan (span : Span) : Type 0 where
   pub ordered : span.low ≤ℤ span.high
   pub short : (span.high -ℤ span.low) ≤ℤ pos 2147483646

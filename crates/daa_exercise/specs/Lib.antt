@@ -3,7 +3,5 @@ pub mod Moments
 pub mod Taken
 pub mod Levels
 pub mod Summary
-pub mod OneSummary
-pub mod Saying
 pub mod Drawing
 pub mod Counting

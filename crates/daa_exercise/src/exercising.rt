@@ -1,6 +1,7 @@
 //! An exercise of an engine.
 ghost use Rattle.std.specs.Prelude.{◌≡◌, ◌≤◌};
-ghost use Rattle.daa_exercise.specs.Saying.{SaysSummary};
+ghost use Rattle.daa_report.specs.Says.{SaysSome};
+ghost use Rattle.daa_exercise.specs.Summary.{IsSummaryOf};
 
 use crate::counting::Counts;
 use crate::draws::Draws;
@@ -27,7 +28,7 @@ pub fn exercise<R: Threads + Sync, K: Sink, G: Gate>(
 ) -> Result<(), SinkFault>
     requires few { moments ≤ 10000 }
     ensures kept { engine.new ≡ record engine.old { board = engine.new.board } }
-    ensures says { SaysSummary engine.old.settings seed moments (K.taken sink.old) (K.taken sink.new) (K.faults sink.old) (K.faults sink.new) result }
+    ensures says { SaysSome (IsSummaryOf engine.old.settings seed moments) (K.taken sink.old) (K.taken sink.new) (K.faults sink.old) (K.faults sink.new) result }
 {
     let top = engine.config().levels();
     let mut draws = Draws::of(seed);

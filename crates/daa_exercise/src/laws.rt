@@ -3,20 +3,21 @@ ghost use Rattle.std.specs.Prelude.{◌≡◌, ◌<◌, ◌*◌, ◌^◌, ◌∷
 ghost use Rattle.rand_core.specs.Steps.{first_words};
 ghost use Rattle.rand_pcg.specs.Pcg.{pcg32};
 ghost use Rattle.daa_config.specs.Candidates.{values_of};
+ghost use Rattle.daa_config.specs.One.{HasOne};
 ghost use Rattle.daa_config.specs.Settings.{IsAccepted, Settings};
 ghost use Rattle.daa_config.specs.declared.kind.Kind.{Kind};
 ghost use Rattle.daa_state.specs.InRange.{IsPictureInRange};
 ghost use Rattle.daa_state.specs.MomentStep.{State};
 ghost use Rattle.daa_exercise.specs.Levels.{AreLevels, HasAlerts, HasShown, aircraft_in, counts_of};
 ghost use Rattle.daa_exercise.specs.Moments.{aircraft_at, begin_of, moment_of, own_at};
-ghost use Rattle.daa_exercise.specs.OneSummary.{HasOneSummary};
+ghost use Rattle.daa_exercise.specs.Summary.{IsSummaryOf};
 ghost use Rattle.daa_exercise.specs.Taken.{IsTaken};
 ghost use Rattle.daa_exercise.specs.Outputs.{Outputs, generator_of, outputs_of};
 
 /// Under a configuration that is accepted exactly one text is the summary of a seed and a number of moments. This holds of
 /// the definitions alone, whatever a program does.
 pub fn every_exercise_has_one_summary()
-    ensures { (s : Settings) (seed moments : ℕ) → IsAccepted s → HasOneSummary s seed moments }
+    ensures { (s : Settings) (seed moments : ℕ) → IsAccepted s → HasOne (IsSummaryOf s seed moments) }
 {}
 
 /// Every moment that is drawn is in range, whatever the outputs are.

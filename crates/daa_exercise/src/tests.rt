@@ -2,20 +2,20 @@
 
 ghost use Rattle.std.specs.Prelude.{◌≤◌};
 
-mod texts;
-
 use super::*;
 use crate::draws::Draws;
+use daa_config::examples::{ONE_LEVEL, THREE_LEVELS};
 use daa_config::read;
 use daa_engine::Engine;
-use daa_outside::{MemSink, Open};
+use daa_outside::{Gate, MemSink, Open};
 use daa_report::SinkFault;
 use daa_state::{Id, Own, Picture, Traffic};
 use std::alloc::Global;
 use std::process::Abort;
+use std::sync::atomic::AtomicU64;
+use std::sync::atomic::Ordering::SeqCst;
 use std::test::Fail;
 use std::thread::Threads;
-use texts::{EXAMPLE, SMALL};
 
 /// Three levels, twenty moments.
 const TWENTY: &str = "exercise 7 20
@@ -91,18 +91,18 @@ fn expect_summary<R: Abort + Threads + Sync + AllocGlobal>(
 
 #[test]
 fn twenty_moments_of_three_levels(rt: HostRuntime) -> Result<(), Fail> {
-    expect_summary(&rt, EXAMPLE, 7, 20, TWENTY)
+    expect_summary(&rt, THREE_LEVELS, 7, 20, TWENTY)
 }
 
 /// A third of a second as the gate builds it, but minutes under `rt try`, which wants `--seconds 400` here.
 #[test]
 fn a_hundred_moments_of_three_levels(rt: HostRuntime) -> Result<(), Fail> {
-    expect_summary(&rt, EXAMPLE, 7, 100, HUNDRED)
+    expect_summary(&rt, THREE_LEVELS, 7, 100, HUNDRED)
 }
 
 #[test]
 fn three_moments_of_one_level(rt: HostRuntime) -> Result<(), Fail> {
-    expect_summary(&rt, SMALL, 1, 3, THREE)
+    expect_summary(&rt, ONE_LEVEL, 1, 3, THREE)
 }
 
 /// The numbers that the first moment of a seed draws, in their order.
@@ -136,10 +136,41 @@ fn the_first_moment_of_a_seed(rt: HostRuntime) {
     }
 }
 
+/// A gate that counts who passes.
+#[derive(Drop)]
+struct Counter {
+    passes: AtomicU64,
+}
+
+impl Gate for Counter {
+    fn pass(&self, _worker: u32, _unit: u32) {
+        self.passes.fetch_add(1, SeqCst);
+    }
+}
+
+/// Of the seven aircraft of three moments four are in reach, each of which is one unit of work; one thread passes no gate.
+#[test]
+fn the_gate_is_passed_once_for_each_unit(rt: HostRuntime) -> Result<(), Fail> {
+    for (workers, passes) in [(1, 0), (2, 4)] {
+        assert!(rt; 0 < workers && workers <= 16);
+        let config = read(rt.alloc(), ONE_LEVEL.as_bytes())?;
+        let mut engine = Engine::new(rt.alloc(), config, workers)?;
+        let mut out = sink(rt.alloc(), 512, &[], &[])?;
+        let gate = Counter {
+            passes: AtomicU64::new(0),
+        };
+        let said = exercise(&mut engine, &rt, rt.alloc(), 1, 3, &mut out, &gate);
+        assert_eq!(rt; said, Ok(()));
+        assert_eq!(rt; out.taken(), THREE.as_bytes());
+        assert_eq!(rt; gate.passes.load(SeqCst), passes);
+    }
+    Ok(())
+}
+
 /// What a sink took before it failed is a beginning of the summary.
 #[test]
 fn a_sink_that_fails(rt: HostRuntime) -> Result<(), Fail> {
-    let mut engine = engine_of(&rt, SMALL)?;
+    let mut engine = engine_of(&rt, ONE_LEVEL)?;
     let mut out = sink(rt.alloc(), 512, &[7, 7], &[2])?;
     let said = exercise(&mut engine, &rt, rt.alloc(), 1, 3, &mut out, &Open);
     assert_eq!(rt; said, Err(SinkFault));

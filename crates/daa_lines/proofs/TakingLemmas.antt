@@ -76,6 +76,12 @@ pub long_line_of : (bytes : Bytes) (taken : List Bytes) (c : Cutting) → c.stag
     → Stands bytes taken c → IsLineOf (slice_get (lines_of bytes c.ended) (length taken)) result.Long
 long_line_of bytes taken c stage size s = long_is _ c.line (rw stage at (next_line bytes taken c s)) size
 
+pub standing_one : (stage : Stage) (line : Bytes) → is_standing stage ≡ true → standing stage line ≡ line ∷ []
+standing_one Whole line h = refl
+standing_one Long line h = refl
+standing_one Open line h = cc
+standing_one Skipping line h = cc
+
 pub standing_none : (stage : Stage) (line : Bytes) → is_standing stage ≡ false → standing stage line ≡ []
 standing_none Open line h = refl
 standing_none Skipping line h = refl

@@ -9,10 +9,11 @@ use Rattle.daa_report.specs.Lines.{Text}
 use Rattle.daa_words.specs.Order.{Asked, order_of}
 use Rattle.daa_words.specs.declared.order.Task.{Task}
 use Rattle.daa_words.specs.declared.order.Task.TheVariants.{Replay, Exercise}
-use Rattle.daa_replay.specs.Outside.{Outside, Shown}
-use Rattle.daa_replay.specs.Opening.{IsHeld, Opens, IsRefused, IsMissing}
+use Rattle.daa_replay.specs.Outside.{Outside, StreamState}
+use Rattle.daa_replay.specs.Opening.{IsHeld, Opens, IsRefused, HoldsNone}
 use Rattle.daa_replay.specs.Replaying.{ReadsAll, WriteFails, PassesLimit, IsSpent}
-use Rattle.daa_replay.specs.Run.{Under, EndsExercise, BreaksUsage, BreaksCode, BreaksExercise, Runs, RunsAreComplete, EndsAsGiven, IsQuiet, IsOpened, Breaks}
+use Rattle.daa_replay.specs.Run.{Under, EndsExercise, BreaksUsage, BreaksCode, BreaksExercise, Runs, Breaks}
+use Rattle.daa_replay.specs.Complete.{RunsAreComplete, EndsAsGiven, IsQuiet, HoldsAccepted}
 
 -- ---- how many bytes there were
 
@@ -33,7 +34,7 @@ spent_size (Some xs) (Some ys) all bytes e h s =
     let none : ys ≡ [] = cc in
     omega (arith, ap length h, ap length same, ap length none, length-append bytes ys)
 
-module _ (settings : Settings) (most : ℕ) (so sn ko kn : Shown) (all : Bytes) (told : so.bytes ≡ Some all) where
+module _ (settings : Settings) (most : ℕ) (so sn ko kn : StreamState) (all : Bytes) (told : so.bytes ≡ Some all) where
   pub short : (refused : Bool) → ReadsAll settings most refused so sn ko kn → length all ≤ most
   short refused r =
       let size = spent_size so.bytes sn.bytes all r.bytes told r.handed.handed r.over in
@@ -99,10 +100,10 @@ module _ (words : List Text) where
       let e : Ok settings ≡ Err k.fault = sym h.accepted ∙ ap config_of same ∙ k.refused in
       cc
 
-  open_or_missing : (texts : Option Texts) (task : Task) (settings : Settings) → Opens words texts task settings → IsMissing words texts → ⊥
+  open_or_missing : (texts : Option Texts) (task : Task) (settings : Settings) → Opens words texts task settings → HoldsNone words texts → ⊥
   open_or_missing texts task settings h m = not_held texts m.held m.asked h.asked h.text m.told (taken_twice m.asked h.asked m.taken h.taken) m.missing h.held
 
-  refused_or_missing : (texts : Option Texts) (code : ℕ) → IsRefused words texts code → IsMissing words texts → ⊥
+  refused_or_missing : (texts : Option Texts) (code : ℕ) → IsRefused words texts code → HoldsNone words texts → ⊥
   refused_or_missing texts code h m = not_held texts m.held m.asked h.asked h.text m.told (taken_twice m.asked h.asked m.taken h.taken) m.missing h.held
 
 -- ---- by the status
@@ -133,7 +134,7 @@ module _ (most status : ℕ) (words : List Text) (old new : Outside) (r : Runs m
       go (inr x) = let u = x.exercise in (Exercise u.seed u.moments, u.settings, u.opens)
 
   -- a replay with an accepted configuration
-  module _ (o : IsOpened words old.shelf.texts Replay) (q : IsQuiet old new) where
+  module _ (o : HoldsAccepted words old.shelf.texts Replay) (q : IsQuiet old new) where
     never_refused : (code : ℕ) → IsRefused words old.shelf.texts code → ⊥
     never_refused code k = open_or_refused words old.shelf.texts o.held Replay o.settings code o.told o.opens k
 
@@ -158,7 +159,7 @@ module _ (most status : ℕ) (words : List Text) (old new : Outside) (r : Runs m
         (λ e. s8 (r.limit e) e)
 
   -- an exercise with an accepted configuration
-  module _ (seed moments : ℕ) (o : IsOpened words old.shelf.texts (Exercise seed moments)) (q : IsQuiet old new) where
+  module _ (seed moments : ℕ) (o : HoldsAccepted words old.shelf.texts (Exercise seed moments)) (q : IsQuiet old new) where
     no_replay : (settings : Settings) → Opens words old.shelf.texts Replay settings → ⊥
     no_replay settings h = no_exercise words old.shelf.texts seed moments settings o.settings h o.opens
 

@@ -13,21 +13,10 @@ use Rattle.daa_replay.specs.declared.event.Event.{Event}
 use Rattle.daa_state.specs.Fault.{Checked}
 use Rattle.daa_state.specs.WordOf.{word_of}
 use Rattle.daa_state.specs.declared.word.Word.{Word}
+use Rattle.daa_lines.proofs.TakingLemmas.{standing_none, standing_one}
 use Rattle.daa_replay.specs.Events.{word_step, line_step, next_state, line_event, end_event, events_from, events_of}
 use Rattle.daa_replay.specs.Follows.{Follows, state_after, given_with}
 use Rattle.daa_replay.proofs.EventLemmas.{events_from-append, events_begin, events_from-push, events_from-end, events_from-shown, state_after-append}
-
-standing_one : (stage : Stage) (line : Bytes) → is_standing stage ≡ true → standing stage line ≡ line ∷ []
-standing_one Whole line h = refl
-standing_one Long line h = refl
-standing_one Open line h = cc
-standing_one Skipping line h = cc
-
-standing_none : (stage : Stage) (line : Bytes) → is_standing stage ≡ false → standing stage line ≡ []
-standing_none Open line h = refl
-standing_none Skipping line h = refl
-standing_none Whole line h = cc
-standing_none Long line h = cc
 
 -- the line that stands is taken, and its event is given
 pub follows-line : (bytes : Bytes) (given : List Event) (old new : Cutting) (before : State) → is_standing old.stage ≡ true

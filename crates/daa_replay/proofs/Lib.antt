@@ -7,5 +7,7 @@ pub mod FourWordLemmas
 pub mod OneText
 pub mod CompleteLemmas
 pub mod OpeningLemmas
+pub mod PictureLemmas
 pub mod SomeReport
+pub mod AgeLemmas
 pub mod PerformLemmas

@@ -10,8 +10,8 @@ use Rattle.daa_report.specs.Lines.{Text}
 use Rattle.daa_report.specs.Says.{Says}
 use Rattle.daa_replay.specs.declared.status.Status.{Status}
 use Rattle.daa_replay.specs.declared.status.Status.TheVariants.{WriteFault}
-use Rattle.daa_replay.specs.Outside.{Shown}
-use Rattle.daa_replay.specs.Ready.{Fetched, unready_of}
+use Rattle.daa_replay.specs.Outside.{StreamState}
+use Rattle.daa_replay.specs.Ready.{FetchesAs, unready_of}
 use Rattle.daa_replay.specs.Telling.{Writes}
 
 too_long : (text : Text) → longest_text < length text → config_of text ≡ Err TooLong
@@ -20,18 +20,18 @@ too_long text h = rw (lt-ltb longest_text (length text) h) refl
 
 -- a text that is too long to be fetched is refused as one; where the shelf tells no text, some long text is
 pub refused_long : (texts : Option Texts) (name : Text)
-    → IfSome texts (λ held. IsSomeAnd (held name) (λ text. longest_text < length text)) → Fetched texts name (Err (unready_of TooLong))
+    → IfSome texts (λ held. IsSomeAnd (held name) (λ text. longest_text < length text)) → FetchesAs texts name (Err (unready_of TooLong))
 refused_long None name h =
     let text : Text = replicate 65537 0 in
     (text, tt, (TooLong, too_long text (omega (arith, length-replicate {A = ℕ} 65537 0)), refl))
 refused_long (Some held) name h = go (held name) refl h
   where
-    go : (found : Option Text) → held name ≡ found → IsSomeAnd found (λ text. longest_text < length text) → Fetched (Some held) name (Err (unready_of TooLong))
+    go : (found : Option Text) → held name ≡ found → IsSomeAnd found (λ text. longest_text < length text) → FetchesAs (Some held) name (Err (unready_of TooLong))
     go None e k = absurd k
     go (Some text) e k = (text, e, (TooLong, too_long text k, refl))
 
 -- a line was written, or the sink failed within it
-pub writes : {E : Type 0} (old new : Shown) (text : Text) (r : Result (Unit {0}) E) (said result : Status)
+pub writes : {E : Type 0} (old new : StreamState) (text : Text) (r : Result (Unit {0}) E) (said result : Status)
     → Says old.bytes new.bytes old.faults new.faults text r → OnOk r (result ≡ said) → OnErr r (result ≡ WriteFault)
     → Writes said old new text result
 writes old new text (Ok x) said result s whole broken = inl (whole, record { taken = s.whole; calm = s.cause.steady })

@@ -11,27 +11,27 @@ use Rattle.daa_replay.specs.declared.status.Status.{Status}
 use Rattle.daa_replay.specs.declared.status.Status.TheVariants.{Accepted, WriteFault}
 use Rattle.daa_replay.specs.Exercising.{Exercises}
 use Rattle.daa_replay.specs.Opening.{Opens}
-use Rattle.daa_replay.specs.Outside.{Outside, Shown}
-use Rattle.daa_replay.specs.Ready.{Performs}
+use Rattle.daa_replay.specs.Outside.{Outside, StreamState}
+use Rattle.daa_replay.specs.Performing.{Performs}
 use Rattle.daa_replay.specs.Replaying.{Replays}
 use Rattle.daa_replay.specs.Run.{Runs}
 use Rattle.daa_replay.specs.Status.{code_of}
 
 -- ---- the task
 
-pub by_task : (most status : ℕ) (settings : Settings) (task known : Task) (so sn ko kn : Shown) → task ≡ known
+pub by_task : (most status : ℕ) (settings : Settings) (task known : Task) (so sn ko kn : StreamState) → task ≡ known
     → Performs most status settings known so sn ko kn → Performs most status settings task so sn ko kn
 by_task most status settings task known so sn ko kn e h = subst (λ (t : Task). Performs most status settings t so sn ko kn) (sym e) h
 
 -- the summary was written, or the sink failed within it
-pub exercised : {E : Type 0} (settings : Settings) (seed moments : ℕ) (so ko kn : Shown) (text : Text) (r : Result (Unit {0}) E) (result : Status)
+pub exercised : {E : Type 0} (settings : Settings) (seed moments : ℕ) (so ko kn : StreamState) (text : Text) (r : Result (Unit {0}) E) (result : Status)
     → IsSummaryOf settings seed moments text → Says ko.bytes kn.bytes ko.faults kn.faults text r
     → OnOk r (result ≡ Accepted) → OnErr r (result ≡ WriteFault) → Exercises settings seed moments (code_of result) so so ko kn
 exercised settings seed moments so ko kn text (Ok x) result i s whole broken =
     let steady = s.cause.steady in
     subst (λ (st : Status). Exercises settings seed moments (code_of st) so so ko kn) (sym whole) (record {
       named = inl refl;
-      ended = λ e. record { text = text; summary = i; taken = s.whole; calm = steady };
+      ended = λ e. record { text = text; summary = i; written = record { taken = s.whole; calm = steady } };
       write_fault = λ e. absurd (omega (arith, e));
       source = refl;
       writes = omega (arith, steady);
@@ -115,7 +115,7 @@ module _ (most status : ℕ) (words : List Text) (old new : Outside) (settings :
         texts = texts;
         shelf_calm = λ n. fetches;
         fetches = omega (arith, fetches);
-        reads = same old.source.faults new.source.faults (ap (λ (s : Shown). s.faults) source);
+        reads = same old.source.faults new.source.faults (ap (λ (s : StreamState). s.faults) source);
         writes = r.writes;
       }
     where

@@ -18,7 +18,9 @@ use Rattle.daa_replay.specs.declared.progress.Progress.{Progress}
 use Rattle.daa_replay.specs.Events.{events_of, is_refusal}
 use Rattle.daa_replay.specs.Follows.{Follows}
 use Rattle.daa_replay.specs.Report.{IsEventText, AreTexts}
-use Rattle.daa_replay.specs.Reporting.{Told, Reports, ReportsAll, Stops}
+use Rattle.daa_replay.specs.Outside.{ToldBytes}
+use Rattle.daa_replay.specs.Replaying.{TakesFront}
+use Rattle.daa_replay.specs.Reporting.{Reports, ReportsAll}
 use Rattle.daa_replay.proofs.EventLemmas.{events_begin}
 use Rattle.daa_replay.proofs.FollowsLemmas.{given_begins, follows-fed, follows-as}
 use Rattle.daa_replay.proofs.TextLemmas.{texts-push, begins-more}
@@ -46,7 +48,7 @@ on_err (Err e) P p = p
 
 module _ {settings : Settings} where
   -- an event was given, and its text was written
-  pub reports-event : (first before now : Told) (bytes : Bytes) (old new : Progress) (event : Event) (text : Text)
+  pub reports-event : (first before now : ToldBytes) (bytes : Bytes) (old new : Progress) (event : Event) (text : Text)
       → ((b : Bytes) (g : List Event) → Follows b g old.lines old.moments → Follows b (g ++ event ∷ []) new.lines new.moments)
       → new.any_refused ≡ (old.any_refused || is_refusal event)
       → IsEventText settings event text → Appends before now text
@@ -61,10 +63,10 @@ module _ {settings : Settings} where
   }
 
   -- the sink failed within the text of an event
-  stops-event : (first before now : Told) (bytes : Bytes) (ended : Bool) (given more : List Event) (event : Event) (whole text : Text)
+  stops-event : (first before now : ToldBytes) (bytes : Bytes) (ended : Bool) (given more : List Event) (event : Event) (whole text : Text)
       → events_of bytes ended ≡ (given ++ event ∷ []) ++ more
       → AreTexts settings given whole → Appends first before whole → IsEventText settings event text → AppendsFront before now text
-      → Stops settings first bytes ended now
+      → TakesFront settings first now bytes ended
   stops-event first before now bytes ended given more event whole text events texts taken is front = record {
     text = whole ++ front.0;
     front = record {
@@ -81,18 +83,18 @@ module _ {settings : Settings} where
   }
 
   -- the same for an event that a line gave
-  pub stops-line : (first before now : Told) (bytes : Bytes) (old : Progress) (lines : Cutting) (moments : State) (event : Event) (text : Text)
+  pub stops-line : (first before now : ToldBytes) (bytes : Bytes) (old : Progress) (lines : Cutting) (moments : State) (event : Event) (text : Text)
       → ((b : Bytes) (g : List Event) → Follows b g old.lines old.moments → Follows b (g ++ event ∷ []) lines moments)
       → lines.ended ≡ old.lines.ended
       → IsEventText settings event text → AppendsFront before now text
-      → Reports settings first bytes old before → Stops settings first bytes old.lines.ended now
+      → Reports settings first bytes old before → TakesFront settings first now bytes old.lines.ended
   stops-line first before now bytes old lines moments event text kept same is front r =
       let begins = given_begins bytes (r.given ++ event ∷ []) lines moments (kept bytes r.given r.follows) in
       stops-event first before now bytes old.lines.ended r.given begins.0 event r.text text
       (ap (events_of bytes) (sym same) ∙ begins.1) r.texts r.taken is front
 
   -- a beginning of the report of some bytes is one of the report of more bytes
-  pub stops-more : (first now : Told) (bytes more : Bytes) → Stops settings first bytes false now → Stops settings first (bytes ++ more) false now
+  pub stops-more : (first now : ToldBytes) (bytes more : Bytes) → TakesFront settings first now bytes false → TakesFront settings first now (bytes ++ more) false
   stops-more first now bytes more s =
       let longer = events_begin bytes more in record {
         text = s.text;
@@ -110,7 +112,7 @@ module _ {settings : Settings} where
       }
 
   -- the lines in hand changed, and stand for the same bytes and lines
-  pub reports-lines : (first now : Told) (bytes : Bytes) (old : Progress) (lines : Cutting)
+  pub reports-lines : (first now : ToldBytes) (bytes : Bytes) (old : Progress) (lines : Cutting)
       → ((b : Bytes) (t : List Bytes) → Stands b t old.lines → Stands b t lines)
       → Reports settings first bytes old now → Reports settings first bytes (record old { lines = lines }) now
   reports-lines first now bytes old lines kept r = record {
@@ -123,7 +125,7 @@ module _ {settings : Settings} where
   }
 
   -- n bytes more were fed, of a piece of which `done` were fed before
-  pub reports-part : (first now : Told) (bytes piece : Bytes) (old : Progress) (lines : Cutting) (done n : ℕ) → n ≤ length piece - done
+  pub reports-part : (first now : ToldBytes) (bytes piece : Bytes) (old : Progress) (lines : Cutting) (done n : ℕ) → n ≤ length piece - done
       → ((b : Bytes) (t : List Bytes) → Stands b t old.lines → Stands (b ++ take n (take (length piece - done) (drop done piece))) t lines)
       → Reports settings first (bytes ++ take done piece) old now → Reports settings first (bytes ++ take (done + n) piece) (record old { lines = lines }) now
   reports-part first now bytes piece old lines done n within kept r =
@@ -139,46 +141,46 @@ module _ {settings : Settings} where
       })
 
   -- the sink failed after n bytes more of the piece
-  pub stops-part : (first now : Told) (bytes piece : Bytes) (ended : Bool) (m : ℕ) → ended ≡ false
-      → Stops settings first (bytes ++ take m piece) ended now → Stops settings first (bytes ++ piece) false now
+  pub stops-part : (first now : ToldBytes) (bytes piece : Bytes) (ended : Bool) (m : ℕ) → ended ≡ false
+      → TakesFront settings first now (bytes ++ take m piece) ended → TakesFront settings first now (bytes ++ piece) false
   stops-part first now bytes piece ended m going s =
-      let here : Stops settings first (bytes ++ take m piece) false now = subst (λ (e : Bool). Stops settings first (bytes ++ take m piece) e now) going s in
+      let here : TakesFront settings first now (bytes ++ take m piece) false = subst (λ (e : Bool). TakesFront settings first now (bytes ++ take m piece) e) going s in
       let whole = append_assoc bytes (take m piece) (drop m piece) ∙ ap (λ (x : Bytes). bytes ++ x) (take-append-drop m piece) in
-      subst (λ (x : Bytes). Stops settings first x false now) whole (stops-more first now (bytes ++ take m piece) (drop m piece) here)
+      subst (λ (x : Bytes). TakesFront settings first now x false) whole (stops-more first now (bytes ++ take m piece) (drop m piece) here)
 
   -- ---- at the end of the input
 
   -- the end gave no event
-  pub whole-none : (first now : Told) (bytes : Bytes) (progress : Progress)
+  pub whole-none : (first now : ToldBytes) (bytes : Bytes) (progress : Progress)
       → ((b : Bytes) (g : List Event) → Follows b g progress.lines progress.moments → g ≡ events_of b true)
       → Reports settings first bytes progress now → ReportsAll settings first bytes progress.any_refused now
   whole-none first now bytes progress whole r =
       let all = whole bytes r.given r.follows in record {
-        text = r.text;
-        report = subst (λ (e : List Event). AreTexts settings e r.text) all r.texts;
-        taken = r.taken;
+        written = record { text = r.text; report = subst (λ (e : List Event). AreTexts settings e r.text) all r.texts; taken = r.taken };
         refusals = ap (list_any is_refusal) (sym all) ∙ r.refusals;
       }
 
   -- the end gave an event, and its text was written
-  pub whole-event : (first before now : Told) (bytes : Bytes) (progress : Progress) (event : Event) (text : Text) (refused : Bool)
+  pub whole-event : (first before now : ToldBytes) (bytes : Bytes) (progress : Progress) (event : Event) (text : Text) (refused : Bool)
       → ((b : Bytes) (g : List Event) → Follows b g progress.lines progress.moments → g ++ event ∷ [] ≡ events_of b true)
       → refused ≡ (progress.any_refused || is_refusal event)
       → IsEventText settings event text → Appends before now text
       → Reports settings first bytes progress before → ReportsAll settings first bytes refused now
   whole-event first before now bytes progress event text refused whole flag is appends r =
       let all = whole bytes r.given r.follows in record {
-        text = r.text ++ text;
-        report = subst (λ (e : List Event). AreTexts settings e (r.text ++ text)) all (texts-push settings r.given event r.text text r.texts is);
-        taken = Appends-trans first before now r.text text r.taken appends;
+        written = record {
+          text = r.text ++ text;
+          report = subst (λ (e : List Event). AreTexts settings e (r.text ++ text)) all (texts-push settings r.given event r.text text r.texts is);
+          taken = Appends-trans first before now r.text text r.taken appends;
+        };
         refusals = ap (list_any is_refusal) (sym all) ∙ refusals-push r.given event progress.any_refused refused r.refusals flag;
       }
 
   -- the end gave an event, and the sink failed within its text
-  pub stops-end : (first before now : Told) (bytes : Bytes) (progress : Progress) (event : Event) (text : Text)
+  pub stops-end : (first before now : ToldBytes) (bytes : Bytes) (progress : Progress) (event : Event) (text : Text)
       → ((b : Bytes) (g : List Event) → Follows b g progress.lines progress.moments → g ++ event ∷ [] ≡ events_of b true)
       → IsEventText settings event text → AppendsFront before now text
-      → Reports settings first bytes progress before → Stops settings first bytes true now
+      → Reports settings first bytes progress before → TakesFront settings first now bytes true
   stops-end first before now bytes progress event text whole is front r =
       stops-event first before now bytes true r.given [] event r.text text
       (sym (append-nil (r.given ++ event ∷ []) ∙ whole bytes r.given r.follows)) r.texts r.taken is front

@@ -55,7 +55,11 @@ abbrev pub is_refusal : Event → Bool
 is_refusal (event.Refused number fault) = true
 is_refusal (event.Ended picture) = false
 
+-- P holds of the picture of an ended moment
+abbrev pub OfPicture : (Picture → Type 0) → Event → Type 0
+OfPicture P (event.Refused number fault) = Unit {0}
+OfPicture P (event.Ended picture) = P picture
+
 -- the picture of an event is in range
 abbrev pub IsEventInRange : Event → Type 0
-IsEventInRange (event.Refused number fault) = Unit {0}
-IsEventInRange (event.Ended picture) = IsPictureInRange picture
+IsEventInRange event = OfPicture IsPictureInRange event

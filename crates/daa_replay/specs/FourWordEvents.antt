@@ -1,11 +1,12 @@
 -- The events of an input where there is no word `format` and no age: each line says one of the four words alone.
 use Rattle.std.specs.Prelude.{ℕ, ◌≡◌, ◌+◌, ◌++◌, Bool, true, false, List, [], ◌∷◌, All}
 use Rattle.daa_lines.specs.LinesOf.{Bytes, lines_of}
+use Rattle.daa_state.specs.Current.{IsCurrentPicture}
 use Rattle.daa_state.specs.Fault.{Checked}
 use Rattle.daa_state.specs.FourWords.{four_word_of, is_format_line}
 use Rattle.daa_state.specs.MomentStep.{State, Stepped, start, finished}
 use Rattle.daa_replay.specs.declared.event.Event.{Event}
-use Rattle.daa_replay.specs.Events.{word_step, next_state, line_event, end_event, events_of}
+use Rattle.daa_replay.specs.Events.{word_step, next_state, line_event, end_event, events_of, OfPicture}
 
 abbrev pub four_line_step : State → Bytes → Checked Stepped
 four_line_step state line = word_step state (four_word_of line)
@@ -26,3 +27,7 @@ HasNoFormatLine bytes ended = All (λ line. is_format_line line ≡ false) (line
 -- an input without such a line reads as it did without that word
 abbrev pub ReadsAsFourWords : Type 0
 ReadsAsFourWords = (bytes : Bytes) (ended : Bool) → HasNoFormatLine bytes ended → events_of bytes ended ≡ four_events_of bytes ended
+
+-- and the reports of its aircraft are of the moment itself
+abbrev pub HasNoAges : Type 0
+HasNoAges = (bytes : Bytes) (ended : Bool) → HasNoFormatLine bytes ended → All (OfPicture IsCurrentPicture) (events_of bytes ended)

@@ -7,9 +7,9 @@ pub mod Ready
 pub mod Telling
 pub mod Replaying
 pub mod Exercising
+pub mod Performing
 pub mod Run
+pub mod Complete
 pub mod Status
 pub mod Follows
-pub mod Saying
 pub mod Reporting
-pub mod OneReport

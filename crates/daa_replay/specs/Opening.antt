@@ -37,9 +37,14 @@ pub record IsRefused (words : List Text) (texts : Option Texts) (code : ℕ) : T
   pub numbered : code_of fault ≡ Some code
 
 -- the words are taken, and the shelf, which tells its texts, holds none under the name that they give
-pub record IsMissing (words : List Text) (texts : Option Texts) : Type 0 where
+pub record HoldsNone (words : List Text) (texts : Option Texts) : Type 0 where
   pub asked : Asked
   pub taken : order_of words ≡ Some asked
   pub held : Texts
   pub told : texts ≡ Some held
   pub missing : held asked.config ≡ None
+
+-- a shelf that tells its texts gives words one task and one configuration at most
+abbrev pub ConfigurationsAreUnique : Type 0
+ConfigurationsAreUnique = (words : List Text) (held : Texts) (task other_task : Task) (settings other : Settings)
+    → Opens words (Some held) task settings → Opens words (Some held) other_task other → (task ≡ other_task) × (settings ≡ other)

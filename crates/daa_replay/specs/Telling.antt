@@ -8,20 +8,19 @@ use Rattle.daa_replay.specs.declared.opening.Unready.TheVariants as unready
 use Rattle.daa_replay.specs.declared.status.Status.{Status}
 use Rattle.daa_replay.specs.declared.status.Status.TheVariants as status
 use Rattle.daa_replay.specs.Opening.{usage_line}
-use Rattle.daa_replay.specs.Outside.{Shown}
-use Rattle.daa_replay.specs.Run.{Takes}
+use Rattle.daa_replay.specs.Outside.{StreamState, Takes}
 
 -- the line was not written whole, since the sink failed
-pub record FailsWithin (old new : Shown) (text : Text) : Type 0 where
+pub record FailsWithin (old new : StreamState) (text : Text) : Type 0 where
   pub risen : HasRisen old.faults new.faults
   pub later : old.faults ≤ new.faults
   pub front : AppendsFront old.bytes new.bytes text
 
 -- the line was written, with this status, or the sink failed within it
-abbrev pub Writes : Status → Shown → Shown → Text → Status → Type 0
+abbrev pub Writes : Status → StreamState → StreamState → Text → Status → Type 0
 Writes said old new text result = ((result ≡ said) × Takes old new text) ⊎ ((result ≡ status.WriteFault) × FailsWithin old new text)
 
-abbrev pub Tells : Unready → Shown → Shown → Status → Type 0
+abbrev pub Tells : Unready → StreamState → StreamState → Status → Type 0
 Tells unready.NotTaken old new result = Writes status.NotTaken old new usage_line result
 Tells (unready.Refused code) old new result = Writes status.BadConfiguration old new (config_line code) result
 Tells unready.FetchFault old new result = (result ≡ status.FetchFault) × (new ≡ old)

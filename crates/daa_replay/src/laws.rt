@@ -1,15 +1,16 @@
 //! What holds of the events and the report of every input, and inputs whose events are known.
 
 ghost use Rattle.std.specs.Prelude.{◌≡◌, ◌++◌, ◌∷◌, [], All, Bool, List, codes, replicate, pos, true, false};
+ghost use Rattle.daa_config.specs.One.{HasOne};
 ghost use Rattle.daa_config.specs.Settings.{IsAccepted, Settings};
 ghost use Rattle.daa_lines.specs.LinesOf.{Bytes};
 ghost use Rattle.daa_report.specs.Lines.{Text};
 ghost use Rattle.daa_replay.specs.declared.event.Event.{Event};
 ghost use Rattle.daa_replay.specs.Events.{events_of, IsEventInRange};
-ghost use Rattle.daa_replay.specs.FourWordEvents.{ReadsAsFourWords};
-ghost use Rattle.daa_replay.specs.OneReport.{HasOneReport};
+ghost use Rattle.daa_replay.specs.FourWordEvents.{HasNoAges, ReadsAsFourWords};
 ghost use Rattle.daa_replay.specs.Report.{IsReportFront, IsReportOf};
-ghost use Rattle.daa_replay.specs.Run.{ConfigurationsAreUnique, RunsAreComplete};
+ghost use Rattle.daa_replay.specs.Complete.{RunsAreComplete};
+ghost use Rattle.daa_replay.specs.Opening.{ConfigurationsAreUnique};
 
 use crate::event::Event;
 use daa_state::LineFault;
@@ -17,7 +18,7 @@ use daa_state::LineFault;
 /// Under an accepted configuration exactly one text is the report of an input: every run of bytes has one, whether they
 /// are the whole input or its beginning, and no other text is it.
 pub fn every_input_has_one_report()
-    ensures { (settings : Settings) (bytes : Bytes) (ended : Bool) → IsAccepted settings → HasOneReport settings bytes ended }
+    ensures { (settings : Settings) (bytes : Bytes) (ended : Bool) → IsAccepted settings → HasOne (IsReportOf settings bytes ended) }
 {}
 
 /// The picture of every moment that an input ends is in range.
@@ -37,15 +38,17 @@ pub fn events_only_grow()
     ensures whole { (bytes : Bytes) → (events : List Event) × (events_of bytes true ≡ events_of bytes false ++ events) }
 {}
 
-/// An input without a line whose first field is `format` reads as where there are neither that word nor ages.
+/// An input without a line whose first field is `format` reads as where there are neither that word nor ages, and the
+/// reports of its aircraft are of the moment itself.
 pub fn format_lines_alone_matter()
-    ensures { ReadsAsFourWords }
+    ensures words { ReadsAsFourWords }
+    ensures ages { HasNoAges }
 {}
 
 /// How a run ends where the words, the shelf and the number of bytes say it: a replay with an accepted configuration and no
-/// fault with 0 or 1, or with 8 where there are more bytes than may be read; such an exercise with 0; with words that are not taken with 2 or 5; with a
-/// refused configuration with 3, 5 or 7; with none under the name with 7. Want of memory, 6, may come in each. Where the
-/// count of faults of the source, the sink or the shelf did not rise, 4, 5 or 7 does not come.
+/// fault with 0 or 1, or with 8 where there are more bytes than may be read; such an exercise with 0; with words that are
+/// not taken with 2 or 5; with a refused configuration with 3, 5 or 7; with none under the name with 7. Want of memory, 6,
+/// may come in each. Where the count of faults of the source, the sink or the shelf did not rise, 4, 5 or 7 does not come.
 pub fn runs_are_complete()
     ensures { RunsAreComplete }
 {}

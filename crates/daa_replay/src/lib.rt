@@ -4,6 +4,7 @@
 #![tactic(auto)]
 
 mod event;
+mod event_text;
 mod laws;
 mod opening;
 mod perform;

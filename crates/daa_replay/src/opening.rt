@@ -3,12 +3,11 @@
 ghost use Rattle.std.specs.Prelude.{◌≡◌, ◌≢◌, ◌≤◌, map, string_bytes, Err, IfOk};
 ghost use Rattle.daa_outside.specs.Faults.{HasRisen};
 ghost use Rattle.daa_words.specs.Order.{IsInRange, TaskIsInRange, meaning};
-ghost use Rattle.daa_replay.specs.Ready.{Fetched, Opened, Read, opened_in, settings_in, unready_of};
+ghost use Rattle.daa_replay.specs.Ready.{FetchesAs, OpensAs, ReadsAs, opened_in, settings_in, unready_of};
 
 use daa_config::{Config, ConfigFault, read};
-use daa_engine::Engine;
+use daa_engine::{Engine, NoMemory};
 use daa_outside::{FetchFault, Shelf};
-use daa_schedule::NoMemory;
 use daa_words::{Order, Task, WordsFault, read_words};
 use std::alloc::Global;
 
@@ -44,7 +43,7 @@ fn cause_of(fault: ConfigFault) -> Unready
 
 /// The configuration that the text is.
 fn read_text(alloc: Global, text: &[u8]) -> Result<Config, Unready>
-    ensures { Read text.now result }
+    ensures { ReadsAs text.now result }
 {
     match read(alloc, text) {
         Ok(config) => Ok(config),
@@ -54,7 +53,7 @@ fn read_text(alloc: Global, text: &[u8]) -> Result<Config, Unready>
 
 /// The configuration that the shelf holds under the name.
 fn fetch<F: Shelf>(alloc: Global, shelf: &mut F, name: &str) -> Result<Config, Unready>
-    ensures fetched { Fetched (F.texts shelf.old) name.now result }
+    ensures fetched { FetchesAs (F.texts shelf.old) name.now result }
     ensures risen { result ≡ Err Unready.FetchFault → HasRisen (F.faults shelf.old) (F.faults shelf.new) }
     ensures never_falls { F.faults shelf.old ≤ F.faults shelf.new }
     ensures no_fault { result ≢ Err Unready.FetchFault → F.faults shelf.new ≡ F.faults shelf.old }
@@ -71,8 +70,9 @@ fn fetch<F: Shelf>(alloc: Global, shelf: &mut F, name: &str) -> Result<Config, U
 /// The engine of the configuration that the shelf holds under the order's name, with the order's workers and its task.
 fn make_ready<F: Shelf>(alloc: Global, order: &Order<'_>, shelf: &mut F) -> Result<Ready, Unready>
     requires { IsInRange (meaning order.now) }
-    ensures fetched { Fetched (F.texts shelf.old) order.now.config.now (settings_in result) }
+    ensures fetched { FetchesAs (F.texts shelf.old) order.now.config.now (settings_in result) }
     ensures task { IfOk result (λ ready. ready.task ≡ order.now.task) }
+    ensures workers { IfOk result (λ ready. ready.engine.workers ≡ order.now.workers) }
     ensures risen { result ≡ Err Unready.FetchFault → HasRisen (F.faults shelf.old) (F.faults shelf.new) }
     ensures never_falls { F.faults shelf.old ≤ F.faults shelf.new }
     ensures no_fault { result ≢ Err Unready.FetchFault → F.faults shelf.new ≡ F.faults shelf.old }
@@ -96,7 +96,7 @@ pub(crate) fn open<F: Shelf>(
     words: &[String],
     shelf: &mut F,
 ) -> Result<Ready, Unready>
-    ensures opened { Opened (map string_bytes words.now) (F.texts shelf.old) (opened_in result) }
+    ensures opened { OpensAs (map string_bytes words.now) (F.texts shelf.old) (opened_in result) }
     ensures in_range { IfOk result (λ ready. TaskIsInRange ready.task) }
     ensures risen { result ≡ Err Unready.FetchFault → HasRisen (F.faults shelf.old) (F.faults shelf.new) }
     ensures never_falls { F.faults shelf.old ≤ F.faults shelf.new }

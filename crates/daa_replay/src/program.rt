@@ -1,38 +1,21 @@
 //! The top call: all that the program does.
 
 ghost use Rattle.std.specs.Prelude.{◌≡◌, ◌≤◌, ◌^◌, map, string_bytes};
-ghost use Rattle.daa_replay.specs.Outside.{outside, shelf_shown, shown};
+ghost use Rattle.daa_replay.specs.Outside.{outside, shelf_state, stream_state};
 ghost use Rattle.daa_replay.specs.Run.{Runs};
 ghost use Rattle.daa_replay.specs.Status.{code_of};
-ghost use Rattle.daa_replay.specs.Telling.{Tells};
 
-use crate::opening::{Unready, open};
-use crate::perform::{after, perform};
+use crate::opening::open;
+use crate::perform::perform;
 use crate::status::Status;
+use crate::telling::tell;
 use crate::tools::Tools;
 use daa_outside::{Gate, Shelf, Sink, Source};
-use daa_report::{config, put};
 use std::alloc::Global;
 use std::thread::Threads;
 
 /// The most bytes that a run reads.
 const MOST_BYTES: u64 = 1 << 40;
-
-/// What is written where the command words are not taken.
-const USAGE: &[u8] =
-    b"usage: daidalus replay --config FILE [--workers N] | exercise --config FILE --seed N --moments M [--workers N]\n";
-
-/// Says why a run has no configuration.
-fn tell<K: Sink>(why: Unready, sink: &mut K) -> Status
-    ensures { Tells why (shown (K.taken sink.old) (K.faults sink.old)) (shown (K.taken sink.new) (K.faults sink.new)) result }
-{
-    match why {
-        Unready::NotTaken => after(put(sink, USAGE), Status::NotTaken),
-        Unready::Refused(code) => after(config(sink, code), Status::BadConfiguration),
-        Unready::FetchFault => Status::FetchFault,
-        Unready::NoMemory => Status::NoMemory,
-    }
-}
 
 /// Makes ready, and performs what the words ask for.
 fn conduct<R: Threads + Sync, F: Shelf, S: Source, K: Sink, G: Gate>(
@@ -45,8 +28,8 @@ fn conduct<R: Threads + Sync, F: Shelf, S: Source, K: Sink, G: Gate>(
 ) -> Status
     requires { most ≤ 2 ^ 40 }
     ensures { Runs most (map string_bytes words.now) (code_of result)
-        (outside (shelf_shown (F.texts shelf.old) (F.faults shelf.old)) (shown (S.left source.old) (S.faults source.old)) (shown (K.taken sink.old) (K.faults sink.old)))
-        (outside (shelf_shown (F.texts shelf.new) (F.faults shelf.new)) (shown (S.left source.new) (S.faults source.new)) (shown (K.taken sink.new) (K.faults sink.new))) }
+        (outside (shelf_state (F.texts shelf.old) (F.faults shelf.old)) (stream_state (S.left source.old) (S.faults source.old)) (stream_state (K.taken sink.old) (K.faults sink.old)))
+        (outside (shelf_state (F.texts shelf.new) (F.faults shelf.new)) (stream_state (S.left source.new) (S.faults source.new)) (stream_state (K.taken sink.new) (K.faults sink.new))) }
 {
     match open(tools.alloc, words, shelf) {
         Ok(mut ready) => perform(tools, &mut ready, source, sink, most),
@@ -80,8 +63,8 @@ pub fn run_within<R: Threads + Sync, F: Shelf, S: Source, K: Sink, G: Gate>(
     requires some { 1 ≤ most }
     requires bound { most ≤ 2 ^ 40 }
     ensures runs { Runs most (map string_bytes words.now) result
-        (outside (shelf_shown (F.texts shelf.old) (F.faults shelf.old)) (shown (S.left source.old) (S.faults source.old)) (shown (K.taken sink.old) (K.faults sink.old)))
-        (outside (shelf_shown (F.texts shelf.new) (F.faults shelf.new)) (shown (S.left source.new) (S.faults source.new)) (shown (K.taken sink.new) (K.faults sink.new))) }
+        (outside (shelf_state (F.texts shelf.old) (F.faults shelf.old)) (stream_state (S.left source.old) (S.faults source.old)) (stream_state (K.taken sink.old) (K.faults sink.old)))
+        (outside (shelf_state (F.texts shelf.new) (F.faults shelf.new)) (stream_state (S.left source.new) (S.faults source.new)) (stream_state (K.taken sink.new) (K.faults sink.new))) }
 {
     let tools = Tools { rt, alloc, gate };
     conduct(&tools, words, shelf, source, sink, most).code()
@@ -98,8 +81,8 @@ pub fn run<R: Threads + Sync, F: Shelf, S: Source, K: Sink, G: Gate>(
     gate: &G,
 ) -> u8
     ensures runs { Runs (2 ^ 40) (map string_bytes words.now) result
-        (outside (shelf_shown (F.texts shelf.old) (F.faults shelf.old)) (shown (S.left source.old) (S.faults source.old)) (shown (K.taken sink.old) (K.faults sink.old)))
-        (outside (shelf_shown (F.texts shelf.new) (F.faults shelf.new)) (shown (S.left source.new) (S.faults source.new)) (shown (K.taken sink.new) (K.faults sink.new))) }
+        (outside (shelf_state (F.texts shelf.old) (F.faults shelf.old)) (stream_state (S.left source.old) (S.faults source.old)) (stream_state (K.taken sink.old) (K.faults sink.old)))
+        (outside (shelf_state (F.texts shelf.new) (F.faults shelf.new)) (stream_state (S.left source.new) (S.faults source.new)) (stream_state (K.taken sink.new) (K.faults sink.new))) }
 {
     run_within(rt, alloc, words, shelf, source, sink, gate, MOST_BYTES)
 }

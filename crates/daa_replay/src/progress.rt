@@ -6,11 +6,13 @@ ghost use Rattle.daa_lines.specs.LinesOf.{Bytes};
 ghost use Rattle.daa_lines.specs.Cutting.{is_standing};
 ghost use Rattle.daa_report.specs.Says.{HasCause};
 ghost use Rattle.daa_replay.specs.Events.{is_refusal};
-ghost use Rattle.daa_replay.specs.Reporting.{Reports, Stops, Told, ReportsAll};
+ghost use Rattle.daa_replay.specs.Outside.{ToldBytes};
+ghost use Rattle.daa_replay.specs.Replaying.{TakesFront};
+ghost use Rattle.daa_replay.specs.Reporting.{Reports, ReportsAll};
 
 use crate::event::Event;
+use crate::event_text::say_event;
 use crate::reading::{take_end, take_event};
-use crate::telling::say_event;
 use crate::tools::Tools;
 use daa_engine::Engine;
 use daa_lines::Lines;
@@ -32,7 +34,7 @@ pub(crate) fn begin() -> Progress
     ensures free { is_standing result.lines.stage ≡ false }
     ensures going { result.lines.ended ≡ false }
     ensures fed { result.lines.fed ≡ 0 }
-    ensures reports { (settings : Settings) (first : Told) → Reports settings first [] result first }
+    ensures reports { (settings : Settings) (first : ToldBytes) → Reports settings first [] result first }
 {
     Progress {
         lines: Lines::new(),
@@ -58,10 +60,10 @@ fn report_line<R: Threads + Sync, K: Sink, G: Gate>(
     ensures free { is_standing progress.new.lines.stage ≡ false }
     ensures ended { progress.new.lines.ended ≡ progress.old.lines.ended }
     ensures fed { progress.new.lines.fed ≡ progress.old.lines.fed }
-    ensures ok { OnOk result ((settings : Settings) (first : Told) (bytes : Bytes) → engine.old.settings ≡ settings → Reports settings first bytes progress.old (K.taken sink.old)
+    ensures ok { OnOk result ((settings : Settings) (first : ToldBytes) (bytes : Bytes) → engine.old.settings ≡ settings → Reports settings first bytes progress.old (K.taken sink.old)
         → Reports settings first bytes progress.new (K.taken sink.new)) }
-    ensures err { OnErr result ((settings : Settings) (first : Told) (bytes : Bytes) → engine.old.settings ≡ settings → Reports settings first bytes progress.old (K.taken sink.old)
-        → Stops settings first bytes progress.old.lines.ended (K.taken sink.new)) }
+    ensures err { OnErr result ((settings : Settings) (first : ToldBytes) (bytes : Bytes) → engine.old.settings ≡ settings → Reports settings first bytes progress.old (K.taken sink.old)
+        → TakesFront settings first (K.taken sink.new) bytes progress.old.lines.ended) }
     ensures same { engine.new.settings ≡ engine.old.settings }
     ensures cause { HasCause (K.faults sink.old) (K.faults sink.new) result }
 {
@@ -88,10 +90,10 @@ pub(crate) fn report_piece<R: Threads + Sync, K: Sink, G: Gate>(
     ensures free { is_standing progress.new.lines.stage ≡ false }
     ensures going { progress.new.lines.ended ≡ false }
     ensures fed { OnOk result (progress.new.lines.fed ≡ progress.old.lines.fed + length piece.now) }
-    ensures ok { OnOk result ((settings : Settings) (first : Told) (bytes : Bytes) → engine.old.settings ≡ settings → Reports settings first bytes progress.old (K.taken sink.old)
+    ensures ok { OnOk result ((settings : Settings) (first : ToldBytes) (bytes : Bytes) → engine.old.settings ≡ settings → Reports settings first bytes progress.old (K.taken sink.old)
         → Reports settings first (bytes ++ piece.now) progress.new (K.taken sink.new)) }
-    ensures err { OnErr result ((settings : Settings) (first : Told) (bytes : Bytes) → engine.old.settings ≡ settings → Reports settings first bytes progress.old (K.taken sink.old)
-        → Stops settings first (bytes ++ piece.now) false (K.taken sink.new)) }
+    ensures err { OnErr result ((settings : Settings) (first : ToldBytes) (bytes : Bytes) → engine.old.settings ≡ settings → Reports settings first bytes progress.old (K.taken sink.old)
+        → TakesFront settings first (K.taken sink.new) (bytes ++ piece.now) false) }
     ensures same { engine.new.settings ≡ engine.old.settings }
     ensures cause { HasCause (K.faults sink.old) (K.faults sink.new) result }
 {
@@ -113,10 +115,10 @@ pub(crate) fn report_end<R: Threads + Sync, K: Sink, G: Gate>(
     requires free { is_standing progress.old.lines.stage ≡ false }
     requires going { progress.old.lines.ended ≡ false }
     requires room { progress.old.lines.fed < 2 ^ 63 }
-    ensures ok { IfOk result (λ refused. (settings : Settings) (first : Told) (bytes : Bytes) → engine.old.settings ≡ settings → Reports settings first bytes progress.old (K.taken sink.old)
+    ensures ok { IfOk result (λ refused. (settings : Settings) (first : ToldBytes) (bytes : Bytes) → engine.old.settings ≡ settings → Reports settings first bytes progress.old (K.taken sink.old)
         → ReportsAll settings first bytes refused (K.taken sink.new)) }
-    ensures err { OnErr result ((settings : Settings) (first : Told) (bytes : Bytes) → engine.old.settings ≡ settings → Reports settings first bytes progress.old (K.taken sink.old)
-        → Stops settings first bytes true (K.taken sink.new)) }
+    ensures err { OnErr result ((settings : Settings) (first : ToldBytes) (bytes : Bytes) → engine.old.settings ≡ settings → Reports settings first bytes progress.old (K.taken sink.old)
+        → TakesFront settings first (K.taken sink.new) bytes true) }
     ensures same { engine.new.settings ≡ engine.old.settings }
     ensures cause { HasCause (K.faults sink.old) (K.faults sink.new) result }
 {

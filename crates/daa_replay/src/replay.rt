@@ -5,9 +5,9 @@ ghost use Rattle.daa_config.specs.Settings.{Settings};
 ghost use Rattle.daa_lines.specs.LinesOf.{Bytes};
 ghost use Rattle.daa_lines.specs.Cutting.{is_standing};
 ghost use Rattle.daa_outside.specs.Faults.{HasRisen};
-ghost use Rattle.daa_replay.specs.Outside.{shown};
-ghost use Rattle.daa_replay.specs.Replaying.{Replays};
-ghost use Rattle.daa_replay.specs.Reporting.{Reports, ReportsAll, Stops, Told};
+ghost use Rattle.daa_replay.specs.Outside.{ToldBytes, stream_state};
+ghost use Rattle.daa_replay.specs.Replaying.{TakesFront, Replays};
+ghost use Rattle.daa_replay.specs.Reporting.{Reports, ReportsAll};
 ghost use Rattle.daa_replay.specs.Status.{Ends, code_of};
 
 use crate::progress::{Progress, begin, report_end};
@@ -32,12 +32,12 @@ fn over<R: Threads + Sync, K: Sink, G: Gate>(
     requires going { progress.old.lines.ended ≡ false }
     requires room { progress.old.lines.fed < 2 ^ 63 }
     ensures ended { Ends result }
-    ensures accepted { result ≡ Status.Accepted → (settings : Settings) (first : Told) (bytes : Bytes) → engine.old.settings ≡ settings → Reports settings first bytes progress.old (K.taken sink.old)
+    ensures accepted { result ≡ Status.Accepted → (settings : Settings) (first : ToldBytes) (bytes : Bytes) → engine.old.settings ≡ settings → Reports settings first bytes progress.old (K.taken sink.old)
         → ReportsAll settings first bytes false (K.taken sink.new) }
-    ensures refused { result ≡ Status.Refused → (settings : Settings) (first : Told) (bytes : Bytes) → engine.old.settings ≡ settings → Reports settings first bytes progress.old (K.taken sink.old)
+    ensures refused { result ≡ Status.Refused → (settings : Settings) (first : ToldBytes) (bytes : Bytes) → engine.old.settings ≡ settings → Reports settings first bytes progress.old (K.taken sink.old)
         → ReportsAll settings first bytes true (K.taken sink.new) }
-    ensures stopped { result ≡ Status.WriteFault → (settings : Settings) (first : Told) (bytes : Bytes) → engine.old.settings ≡ settings → Reports settings first bytes progress.old (K.taken sink.old)
-        → Stops settings first bytes true (K.taken sink.new) }
+    ensures stopped { result ≡ Status.WriteFault → (settings : Settings) (first : ToldBytes) (bytes : Bytes) → engine.old.settings ≡ settings → Reports settings first bytes progress.old (K.taken sink.old)
+        → TakesFront settings first (K.taken sink.new) bytes true }
     ensures write { result ≡ Status.WriteFault → HasRisen (K.faults sink.old) (K.faults sink.new) }
     ensures writes { K.faults sink.old ≤ K.faults sink.new }
     ensures write_steady { result ≢ Status.WriteFault → K.faults sink.new ≡ K.faults sink.old }
@@ -58,8 +58,8 @@ pub(crate) fn replay_within<R: Threads + Sync, S: Source, K: Sink, G: Gate>(
     most: u64,
 ) -> Status
     requires { most ≤ 2 ^ 40 }
-    ensures { Replays engine.old.settings most (code_of result) (shown (S.left source.old) (S.faults source.old)) (shown (S.left source.new) (S.faults source.new))
-        (shown (K.taken sink.old) (K.faults sink.old)) (shown (K.taken sink.new) (K.faults sink.new)) }
+    ensures { Replays engine.old.settings most (code_of result) (stream_state (S.left source.old) (S.faults source.old)) (stream_state (S.left source.new) (S.faults source.new))
+        (stream_state (K.taken sink.old) (K.faults sink.old)) (stream_state (K.taken sink.new) (K.faults sink.new)) }
 {
     let mut progress = begin();
     let mut buf = [0u8; PIECE];

@@ -1,7 +1,9 @@
 //! How a run ends.
 
-ghost use Rattle.std.specs.Prelude.{◌≡◌};
+ghost use Rattle.std.specs.Prelude.{◌≡◌, OnErr, OnOk};
 ghost use Rattle.daa_replay.specs.Status.{code_of};
+
+use daa_report::SinkFault;
 
 /// How a run ended.
 #[derive(Clone, Copy, Debug, PartialEq, Eq)]
@@ -42,5 +44,16 @@ impl Status {
             Status::FetchFault => 7,
             Status::Limit => 8,
         }
+    }
+}
+
+/// This status where a text was written, and a fault of the sink where it was not.
+pub(crate) fn status_of(written: Result<(), SinkFault>, status: Status) -> Status
+    ensures whole { OnOk written (result ≡ status) }
+    ensures broken { OnErr written (result ≡ Status.WriteFault) }
+{
+    match written {
+        Ok(()) => status,
+        Err(SinkFault) => Status::WriteFault,
     }
 }

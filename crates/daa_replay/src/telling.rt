@@ -1,29 +1,25 @@
-//! Writes the text of an event.
+//! Says why a run could not be made ready.
 
-ghost use Rattle.std.specs.Prelude.{◌≡◌};
-ghost use Rattle.daa_replay.specs.Events.{IsEventInRange};
-ghost use Rattle.daa_replay.specs.Saying.{SaysEvent};
+ghost use Rattle.daa_replay.specs.Outside.{stream_state};
+ghost use Rattle.daa_replay.specs.Telling.{Tells};
 
-use crate::event::Event;
-use crate::tools::Tools;
-use daa_engine::Engine;
-use daa_outside::{Gate, Sink};
-use daa_report::{SinkFault, refused};
-use std::thread::Threads;
+use crate::opening::Unready;
+use crate::status::{Status, status_of};
+use daa_outside::Sink;
+use daa_report::{config, put};
 
-/// Writes the text of an event: the line of a refusal, or the lines of an ended moment.
-pub(crate) fn say_event<R: Threads + Sync, K: Sink, G: Gate>(
-    tools: &Tools<'_, R, G>,
-    engine: &mut Engine,
-    sink: &mut K,
-    event: &Event,
-) -> Result<(), SinkFault>
-    requires { IsEventInRange event.now }
-    ensures kept { engine.new.settings ≡ engine.old.settings }
-    ensures says { SaysEvent engine.old.settings event.now (K.taken sink.old) (K.taken sink.new) (K.faults sink.old) (K.faults sink.new) result }
+/// What is written where the command words are not taken.
+const USAGE: &[u8] =
+    b"usage: daidalus replay --config FILE [--workers N] | exercise --config FILE --seed N --moments M [--workers N]\n";
+
+/// Writes the usage line or the code of a refused configuration, and answers the status.
+pub(crate) fn tell<K: Sink>(why: Unready, sink: &mut K) -> Status
+    ensures { Tells why (stream_state (K.taken sink.old) (K.faults sink.old)) (stream_state (K.taken sink.new) (K.faults sink.new)) result }
 {
-    match event {
-        Event::Refused(number, fault) => refused(sink, *number, fault.code()),
-        Event::Ended(picture) => engine.report(tools.rt, tools.alloc, picture, sink, tools.gate),
+    match why {
+        Unready::NotTaken => status_of(put(sink, USAGE), Status::NotTaken),
+        Unready::Refused(code) => status_of(config(sink, code), Status::BadConfiguration),
+        Unready::FetchFault => Status::FetchFault,
+        Unready::NoMemory => Status::NoMemory,
     }
 }

@@ -8,6 +8,7 @@ mod opening;
 mod workers;
 
 use super::{Event, ended_moments_are_in_range, every_input_has_one_report, run_within};
+use daa_config::examples::ONE_LEVEL;
 use daa_outside::{CalmShelf, CalmSource, MemShelf, MemSink, MemSource, Open, Void};
 use std::alloc::AllocError;
 use std::process::Abort;
@@ -19,7 +20,7 @@ use std::thread::Threads;
 #[derive(Clone, Copy)]
 struct Outside<'a> {
     words: &'a [&'a str],
-    config: &'a [u8],
+    config: &'a str,
     fetch_fails: &'a [u64],
     read_pieces: &'a [usize],
     read_fails: &'a [u64],
@@ -28,16 +29,6 @@ struct Outside<'a> {
     write_fails: &'a [u64],
     most: u64,
 }
-
-/// A configuration of one level, 0.66 nautical miles, 450 feet and 35 seconds of modified tau, ten seconds ahead.
-const ONE_LEVEL: &[u8] = b"resolve = 1
-turn_rate = 3
-track_step = 90
-gs = { min = 3600, max = 3600, step = 1, rate = 10 }
-vs = { min = 0, max = 0, step = 1, rate = 100 }
-alt = { min = 1000, max = 1000, step = 1, rate = 1000 }
-level = [ { dthr = 660, zthr = 450, tthr = 35, tcoa = 0, lookahead = 10, alert = 10 } ]
-";
 
 /// A replay under one level; nothing fails, and pieces have any size.
 const PLAIN: Outside<'static> = Outside {
@@ -52,10 +43,10 @@ const PLAIN: Outside<'static> = Outside {
     most: 1 << 40,
 };
 
-/// Pieces of one byte, and of seven, for inputs and texts of at most 64 pieces.
-const ONES: [usize; 64] = [1; 64];
+/// Pieces of one byte, and of seven, for inputs of at most 72 bytes and texts of at most 72 pieces.
+const ONES: [usize; 72] = [1; 72];
 
-const SEVENS: [usize; 64] = [7; 64];
+const SEVENS: [usize; 72] = [7; 72];
 
 /// One moment with one aircraft at the ownship's place, 63 bytes.
 const ONE: &[u8] = b"moment 0\nown 0 0 1000 0 3600 0\ntraffic A 0 0 1000 0 3600 0\nend\n";
@@ -122,14 +113,10 @@ fn strings<R: AllocGlobal>(rt: &R, words: &[&str]) -> Result<Vec<String>, AllocE
 }
 
 /// A shelf that holds the configuration under the name `c`.
-fn shelf_with<R: AllocGlobal>(
-    rt: &R,
-    config: &[u8],
-    fails: &[u64],
-) -> Result<MemShelf, AllocError> {
+fn shelf_with<R: AllocGlobal>(rt: &R, config: &str, fails: &[u64]) -> Result<MemShelf, AllocError> {
     let alloc = rt.alloc();
     let mut texts = Vec::new(alloc);
-    texts.push(config.to_vec(alloc)?)?;
+    texts.push(config.as_bytes().to_vec(alloc)?)?;
     Ok(MemShelf::new(strings(rt, &["c"])?, texts, fails.to_vec(alloc)?))
 }
 
@@ -207,7 +194,7 @@ fn a_run_reads_to_its_end(rt: HostRuntime) -> Result<(), Fail> {
 #[test]
 fn a_run_without_faults_is_accepted(rt: HostRuntime) -> Result<(), Fail> {
     let alloc = rt.alloc();
-    let mut shelf = CalmShelf::of(ONE_LEVEL.to_vec(alloc)?);
+    let mut shelf = CalmShelf::of(ONE_LEVEL.as_bytes().to_vec(alloc)?);
     let mut source = CalmSource::new(ONE.to_vec(alloc)?, Vec::new(alloc));
     let words = strings(&rt, PLAIN.words)?;
     let status = super::run(

@@ -5,7 +5,8 @@ ghost use Rattle.daa_config.specs.Settings.{Settings};
 ghost use Rattle.daa_lines.specs.LinesOf.{Bytes};
 ghost use Rattle.daa_lines.specs.Cutting.{is_standing};
 ghost use Rattle.daa_outside.specs.Faults.{HasRisen};
-ghost use Rattle.daa_replay.specs.Reporting.{Handed, Reports, Told, Turned};
+ghost use Rattle.daa_replay.specs.Outside.{ToldBytes};
+ghost use Rattle.daa_replay.specs.Reporting.{Handed, Reports, Turned};
 
 use crate::progress::{Progress, report_piece};
 use crate::tools::Tools;
@@ -40,7 +41,7 @@ pub(crate) fn take_turn<R: Threads + Sync, S: Source, K: Sink, G: Gate>(
     ensures free { is_standing progress.new.lines.stage ≡ false }
     ensures going { progress.new.lines.ended ≡ false }
     ensures fed { (n : ℕ) → result ≡ Turn.More n → (progress.new.lines.fed ≡ progress.old.lines.fed + n) × (0 < n) × (n ≤ length buf.old) }
-    ensures went { (settings : Settings) (first : Told) (bytes : Bytes) → engine.old.settings ≡ settings → Reports settings first bytes progress.old (K.taken sink.old)
+    ensures went { (settings : Settings) (first : ToldBytes) (bytes : Bytes) → engine.old.settings ≡ settings → Reports settings first bytes progress.old (K.taken sink.old)
         → Handed (S.left source.old) (S.left source.new) (length buf.old) (λ more.
         Turned settings result first bytes more progress.new (K.taken sink.new) (S.left source.old) (S.left source.new)) }
     ensures same { engine.new.settings ≡ engine.old.settings }

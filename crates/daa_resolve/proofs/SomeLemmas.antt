@@ -15,7 +15,8 @@ use Rattle.daa_state.specs.declared.word.Own.{Own}
 use Rattle.daa_bands.specs.Board.{HasLevelOn}
 use Rattle.daa_resolve.specs.Best.{IsBest}
 use Rattle.daa_resolve.specs.Open.{IsOpen}
-use Rattle.daa_resolve.specs.Resolution.{IsOpenOnSide, IsResolution, HasOneResolution, distance_to}
+use Rattle.daa_config.specs.One.{HasOne}
+use Rattle.daa_resolve.specs.Resolution.{IsOpenOnSide, IsResolution, distance_to}
 use Rattle.daa_resolve.specs.Side.{present_of, distance_of, IsTurn, IsBeyond, IsOnSide}
 use Rattle.daa_resolve.specs.declared.side.Side.{Side}
 use Rattle.daa_resolve.specs.declared.side.Side.TheVariants.{Lower, Upper}
@@ -124,10 +125,10 @@ module _ (Covered : ℕ → ℕ → Type 0) (told : (index l : ℕ) → IsTold (
         go (inr closed) (None, h) = (Nothing, nothing Covered s own kind side closed h)
         go (inr closed) (Some place, h) = (To h.0, going Covered s own kind side closed place h.0 h h.2.value_is)
 
-    pub one_resolution : IsAccepted s → HasOneResolution Covered s own kind side
+    pub one_resolution : IsAccepted s → HasOne (IsResolution Covered s own kind side)
     one_resolution ok =
         let a = some_answer in
-        record { answer = a.0; is = a.1; only = λ other h. one_answer Covered s own ok kind side other a.0 h a.1 }
+        record { one = a.0; is = a.1; only = λ other h. one_answer Covered s own ok kind side other a.0 h a.1 }
 
-pub has_one : (board : List ℕ) (s : Settings) (own : Own) (kind : Kind) (side : Side) → IsAccepted s → HasOneResolution (HasLevelOn board) s own kind side
+pub has_one : (board : List ℕ) (s : Settings) (own : Own) (kind : Kind) (side : Side) → IsAccepted s → HasOne (IsResolution (HasLevelOn board) s own kind side)
 has_one board s own kind side ok = one_resolution (HasLevelOn board) (λ index l. one_told (bit_at (slice_index board index) (l - 1))) s own kind side ok

@@ -32,9 +32,3 @@ module _ (Covered : ℕ → ℕ → Type 0) (s : Settings) (own : Own) (kind : K
   IsResolution Keep = IsOpen Covered s 0
   IsResolution (To value) = (IsOpen Covered s 0 → ⊥) × IsNearest value
   IsResolution Nothing = (IsOpen Covered s 0 → ⊥) × ((p : ℕ) (v : ℤ) → IsOpenOnSide p v → ⊥)
-
-  -- one answer is that of the side, and no other
-  pub record HasOneResolution : Type 0 where
-    pub answer : Resolution
-    pub is : IsResolution answer
-    pub only : (other : Resolution) → IsResolution other → other ≡ answer

@@ -8,13 +8,14 @@ ghost use Rattle.daa_state.specs.declared.word.Own.{Own};
 ghost use Rattle.daa_bands.specs.Board.{HasLevelOn, IsBoardOf};
 ghost use Rattle.daa_resolve.specs.declared.side.Side.{Side};
 ghost use Rattle.daa_resolve.specs.declared.side.Side.TheVariants.{Lower, Upper};
-ghost use Rattle.daa_resolve.specs.Resolution.{IsResolution, HasOneResolution};
+ghost use Rattle.daa_config.specs.One.{HasOne};
+ghost use Rattle.daa_resolve.specs.Resolution.{IsResolution};
 ghost use Rattle.daa_resolve.specs.Side.{distance_of, IsOnSide};
 
 /// Each side of each kind has exactly one answer: there is one, and no two candidates of a side are equally far.
 pub fn has_one_answer()
     ensures { (board : List ℕ) (s : Settings) (own : Own) (kind : Kind) (side : Side) → IsAccepted s
-        → HasOneResolution (HasLevelOn board) s own kind side }
+        → HasOne (IsResolution (HasLevelOn board) s own kind side) }
 {}
 
 /// Where a board stands for what is covered, the answers over the board are those over what is covered.

@@ -12,7 +12,7 @@ use Rattle.daa_taumod.specs.Volume.{IsVolumeInRange}
 use Rattle.daa_config.specs.declared.candidate.Candidate.{Candidate}
 use Rattle.daa_config.specs.declared.level.Level.{Level}
 use Rattle.daa_config.specs.Candidates.{candidates_of}
-use Rattle.daa_config.specs.Level.{IsMaskOf}
+use Rattle.daa_config.specs.Mask.{IsMaskOf}
 use Rattle.daa_config.specs.Settings.{Settings, IsAccepted, IsCandidateInRange, IsLevelAt, rates_of}
 use Rattle.daa_state.specs.declared.word.Own.{Own}
 use Rattle.daa_state.specs.declared.word.Traffic.{Traffic}

@@ -2,7 +2,7 @@
 
 ghost use Rattle.std.specs.Prelude.{◌≡◌, ◌<◌, ◌≤◌, ◌↔◌, ℕ, IsTrue, length, slice_get, slice_index, Some};
 ghost use Rattle.daa_config.specs.Candidates.{candidates_of};
-ghost use Rattle.daa_config.specs.Level.{IsMaskOf};
+ghost use Rattle.daa_config.specs.Mask.{IsMaskOf};
 ghost use Rattle.daa_config.specs.Settings.{IsAccepted};
 ghost use Rattle.daa_state.specs.InRange.{IsPictureInRange};
 ghost use Rattle.daa_state.specs.Picture.{aircraft_of};

@@ -2,7 +2,7 @@
 //! run, cut at the level's lookahead, is tested as one leg.
 
 ghost use Rattle.std.specs.Prelude.{◌≡◌, ◌<◌, ◌≤◌, ◌^◌, ◌↔◌, IsTrue, length, bit_or};
-ghost use Rattle.daa_config.specs.Level.{IsMaskOf};
+ghost use Rattle.daa_config.specs.Mask.{IsMaskOf};
 ghost use Rattle.daa_config.specs.Settings.{IsCandidateInRange, IsLevelInRange};
 ghost use Rattle.daa_state.specs.InRange.{IsOwnInRange, IsTrafficInRange};
 ghost use Rattle.daa_legs.specs.Meeting.{MeetsWithin, Meets};

@@ -12,6 +12,7 @@ use Rattle.clap.specs.Takes.{is_given}
 use Rattle.clap.specs.Values.{read_as}
 use Rattle.clap.specs.Walk.{Names, Row, Rule, Text, action_of, answers_to, default_rows, first_of, has_row, more_values, nothing_held, one_of, reading_by, row_text, rows_after, settled, stop_after, walk, walk_from, with_default}
 use Rattle.clap.specs.Kinds.{Kinds, check_kinds}
+use Rattle.std.proofs.lemmas.Bool.{or_parts}
 use Rattle.clap.specs.Faults.{defaults_fault, entered_fault, fault_of, level_fault, settle_fault, walk_fault}
 use Rattle.clap.specs.Simple.{App, Shape, argument_words, built, entered, label_of, names_of, rows_at, subcommand_of}
 use Rattle.clap.specs.declared.builder.action.ArgAction.TheVariants as action
@@ -21,10 +22,6 @@ use Rattle.daa_words.proofs.KeptByWalk.{walk_keeps}
 
 pub no_value_there : {X : Type 0} (x : X) → None ≡ Some x → ⊥
 no_value_there x e = true≢false (sym (ap is_some e))
-
-pub neither_true : (a b : Bool) → (a || b) ≡ false → (a ≡ false) × (b ≡ false)
-neither_true true b e = absurd (true≢false e)
-neither_true false b e = (refl, e)
 
 denied : (b : Bool) → not b ≡ false → b ≡ true
 denied true e = refl
@@ -180,7 +177,7 @@ wanted_given : (opt : Rule) (rows : List Row) (rules : List Rule) → list_any (
     → is_wanted opt rules ≡ true → is_given opt.id rows ≡ true
 wanted_given opt rows [] none wanted = absurd (true≢false (sym wanted))
 wanted_given opt rows (a ∷ rest) none wanted =
-    let parts = neither_true (a.required && not (is_given a.id rows)) _ none in
+    let parts = or_parts (a.required && not (is_given a.id rows)) _ none in
     go (a.required && bytes_eq a.id opt.id) refl wanted parts.0 (wanted_given opt rows rest parts.1)
   where
     go : (b : Bool) → (a.required && bytes_eq a.id opt.id) ≡ b → (b || is_wanted opt rest) ≡ true → (a.required && not (is_given a.id rows)) ≡ false

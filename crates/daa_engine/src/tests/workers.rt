@@ -1,8 +1,8 @@
 //! Several workers: what they find, and how often they pass the gate.
 
 use crate::Engine;
-use crate::tests::texts::{EXAMPLE, SMALL};
-use crate::tests::{NORTH, crew_of, engine_of, picture_in};
+use crate::tests::{NORTH, engine_of, engine_of_workers, picture_in};
+use daa_config::examples::{ONE_LEVEL, THREE_LEVELS};
 use daa_outside::{Gate, Open};
 use daa_state::Picture;
 use std::process::Abort;
@@ -70,7 +70,7 @@ fn the_gate_is_passed_once_for_each_unit_of_several_workers(rt: HostRuntime) -> 
     let none = picture_in(&NONE_IN_REACH).expect(&rt, "no aircraft in reach");
     for (workers, times) in [(1, 0), (2, 1), (4, 1), (16, 1)] {
         assert!(rt; 0 < workers && workers <= 16);
-        let mut engine = crew_of(&rt, SMALL, &[], workers)?;
+        let mut engine = engine_of_workers(&rt, ONE_LEVEL, &[], workers)?;
         let counter = Counter::new();
         engine.decide(&rt, rt.alloc(), &four, &counter);
         assert!(rt; counter.counts(times), "with {workers}");
@@ -85,7 +85,67 @@ fn the_gate_is_passed_once_for_each_unit_of_several_workers(rt: HostRuntime) -> 
     Ok(())
 }
 
-/// Three levels, 435 candidates, two aircraft in reach.
+/// How long a worker is held at most.
+const TURNS: u32 = 10_000_000;
+
+/// A gate that holds each of the first four workers at its first unit until three of them have come.
+#[derive(Drop)]
+struct Crowd {
+    units: [AtomicU64; 4],
+    workers: AtomicU64,
+}
+
+impl Crowd {
+    fn new() -> Crowd {
+        Crowd {
+            units: [
+                AtomicU64::new(0),
+                AtomicU64::new(0),
+                AtomicU64::new(0),
+                AtomicU64::new(0),
+            ],
+            workers: AtomicU64::new(0),
+        }
+    }
+
+    fn has_three(&self) -> bool {
+        self.workers.load(SeqCst) >= 3
+    }
+}
+
+impl Gate for Crowd {
+    fn pass(&self, worker: u32, _unit: u32) {
+        let is_first = self
+            .units
+            .get(worker as usize)
+            .is_some_and(|units| units.fetch_add(1, SeqCst) == 0);
+        if is_first {
+            self.workers.fetch_add(1, SeqCst);
+            for _ in 0..TURNS {
+                if self.has_three() {
+                    return;
+                }
+            }
+        }
+    }
+}
+
+/// As a worker may find nothing to steal by chance, the meeting is tried three times.
+#[test]
+fn three_of_four_workers_meet_at_the_gate(rt: HostRuntime) -> Result<(), Fail> {
+    let picture = picture_in(&EXAMPLE_MOMENT).expect(&rt, "the lines of a moment");
+    let mut met = false;
+    for _ in 0..3 {
+        let mut engine = engine_of_workers(&rt, THREE_LEVELS, &[], 4)?;
+        let crowd = Crowd::new();
+        engine.decide(&rt, rt.alloc(), &picture, &crowd);
+        met = met || crowd.has_three();
+    }
+    assert!(rt; met);
+    Ok(())
+}
+
+/// Three levels, 341 candidates, two aircraft in reach.
 static EXAMPLE_MOMENT: [&str; 4] = [
     "own 0 0 10000 30 2500 500",
     "traffic A 5200 8900 10900 -1000 -1700 -200 0",
@@ -96,11 +156,11 @@ static EXAMPLE_MOMENT: [&str; 4] = [
 #[test]
 fn any_number_of_workers_gives_one_board(rt: HostRuntime) -> Result<(), Fail> {
     let picture = picture_in(&EXAMPLE_MOMENT).expect(&rt, "the lines of a moment");
-    let mut one = engine_of(&rt, EXAMPLE, &[])?;
+    let mut one = engine_of(&rt, THREE_LEVELS, &[])?;
     one.decide(&rt, rt.alloc(), &picture, &Open);
     for workers in [2, 3, 16] {
         assert!(rt; 0 < workers && workers <= 16);
-        let mut engine = crew_of(&rt, EXAMPLE, &[], workers)?;
+        let mut engine = engine_of_workers(&rt, THREE_LEVELS, &[], workers)?;
         engine.decide(&rt, rt.alloc(), &picture, &Open);
         for index in 0..2048 {
             assert!(rt;

@@ -1,8 +1,9 @@
 //! Exercises: the summaries of seeds, which another program found from the definitions.
 
-use super::opening::{EXAMPLE, USAGE};
+use super::opening::USAGE;
 use super::{ONE_LEVEL, Outside, PLAIN, gives, replayed, shelf_with, strings};
 use crate::run;
+use daa_config::examples::THREE_LEVELS;
 use daa_outside::{MemSource, Open, Void};
 use std::process::Abort;
 use std::test::Fail;
@@ -97,7 +98,7 @@ fn expect_hundred<R: Abort + Threads + Sync + AllocGlobal>(
 ) -> Result<(), Fail> {
     let outside = Outside {
         words,
-        config: EXAMPLE,
+        config: THREE_LEVELS,
         ..PLAIN
     };
     gives(rt, b"", outside, 0, HUNDRED)
@@ -243,7 +244,7 @@ fn an_exercise_may_fail(rt: HostRuntime) -> Result<(), Fail> {
     };
     gives(&rt, b"", fails, 7, b"")?;
     let refused = Outside {
-        config: b"x = 1",
+        config: "x = 1",
         ..exercise
     };
     gives(&rt, b"", refused, 3, b"config 3\n")

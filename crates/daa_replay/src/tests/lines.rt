@@ -4,9 +4,18 @@ use super::{COVERED, ONE, ONE_TEXT, ONES, Outside, PLAIN, SEVENS, gives, whole};
 use std::alloc::AllocError;
 use std::test::Fail;
 
+/// The words that ask for one worker.
+static ALONE: [&str; 6] = ["daidalus", "replay", "--config", "c", "--workers", "1"];
+
 /// Inputs, their statuses and their texts.
-static MOMENTS: [(&str, u8, &str); 6] = [
+static MOMENTS: [(&str, u8, &str); 7] = [
     ("", 0, ""),
+    // no aircraft
+    (
+        "moment 0\nown 0 0 1000 0 3600 0\nend\n",
+        0,
+        "moment 0\nclear\ndone 0\n",
+    ),
     (
         "moment 0\nown 0 0 1000 0 3600 0\nown 0 0 1000 0 3600 0\ntraffic A 0 0 1000 0 3600 0\nend\n",
         1,
@@ -35,7 +44,10 @@ static MOMENTS: [(&str, u8, &str); 6] = [
 fn lines_give_their_refusals_and_moments(rt: HostRuntime) -> Result<(), Fail> {
     for (input, status, text) in &MOMENTS {
         let text = whole(&rt, text)?;
-        gives(&rt, input.as_bytes(), PLAIN, *status, text.as_bytes())?;
+        for words in [PLAIN.words, &ALONE] {
+            let outside = Outside { words, ..PLAIN };
+            gives(&rt, input.as_bytes(), outside, *status, text.as_bytes())?;
+        }
     }
     gives(&rt, ONE, PLAIN, 0, ONE_TEXT)
 }
@@ -139,13 +151,13 @@ fn a_moment_has_64_aircraft(rt: HostRuntime) -> Result<(), Fail> {
     let alloc = rt.alloc();
     let mut input = String::from_str(
         alloc,
-        "moment 0\nown 0 0 1000 0 3600 0\nown 100000 0 1000 0 3600 0\n",
+        "moment 0\nown 0 0 1000 0 3600 0\nown 100000 0 1000 0 3600 0\ntraffic A0 660 1000 1000 0 0 0\ntraffic A0 0 0 0 0 0 0\n",
     )?;
     let mut text = String::from_str(
         alloc,
-        "refused 3 10\nrefused 68 12\nrefused 69 11\nmoment 0\n",
+        "refused 3 10\nrefused 5 11\nrefused 69 12\nrefused 70 11\nmoment 0\nnow A0 1\nalert A0 1 0\n",
     )?;
-    for i in 0..65u32 {
+    for i in 1..65u32 {
         input.push_str(format!(in alloc; "traffic A{i} 660 1000 1000 0 0 0\n")?.as_str())?;
         if i < 64 {
             text.push_str(format!(in alloc; "now A{i} 1\nalert A{i} 1 0\n")?.as_str())?;

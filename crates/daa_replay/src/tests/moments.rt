@@ -1,6 +1,7 @@
 //! Moments and their reports.
 
-use super::{Outside, PLAIN, gives, replayed, whole};
+use super::{ONE_TEXT, Outside, PLAIN, gives, replayed, whole};
+use daa_config::examples::LARGEST_VALUES;
 use std::alloc::AllocError;
 use std::test::Fail;
 
@@ -27,14 +28,14 @@ fn config_of<R: AllocGlobal>(rt: &R, resolve: u32, levels: &str) -> Result<Strin
     Ok(config)
 }
 
-/// A moment with an ownship at 360 knots to the north and this vertical speed, and an aircraft with an age.
+/// A moment with an ownship at 360 knots to the north and this vertical speed, and an aircraft.
 fn moment_with<R: AllocGlobal>(
     rt: &R,
     vertical_speed: i32,
     traffic: &str,
 ) -> Result<String, AllocError> {
     format!(in rt.alloc();
-        "format 2\nmoment 0\nown 0 0 1000 0 3600 {vertical_speed}\ntraffic {traffic}\nend\n"
+        "moment 0\nown 0 0 1000 0 3600 {vertical_speed}\ntraffic {traffic}\nend\n"
     )
 }
 
@@ -52,12 +53,12 @@ done 0
 ";
 
 /// The levels, the ownship's vertical speed, an aircraft, the lines of the aircraft, and those after them.
-static UNDER_ONE_LEVEL: [(&str, i32, &str, &str, &str); 11] = [
+static UNDER_ONE_LEVEL: [(&str, i32, &str, &str, &str); 10] = [
     // at the same place with the same velocity
     (
         "660 450 35 0 10 10 0",
         0,
-        "A 0 0 1000 0 3600 0 0",
+        "A 0 0 1000 0 3600 0",
         "now A 1\nalert A 1 0\n",
         "covered\ndone 0\n",
     ),
@@ -65,7 +66,7 @@ static UNDER_ONE_LEVEL: [(&str, i32, &str, &str, &str); 11] = [
     (
         "660 1 35 0 10 10 0",
         3000,
-        "A 0 0 1025 0 3600 0 0",
+        "A 0 0 1025 0 3600 0",
         "now A 0\nalert A 1 0\n",
         "track 0 270 1\ngs 3600 3600 1\nvs 0 0 1\nalt 1000 1000 0\nresolve track left none right none\nresolve gs down none up none\nresolve vs down none up none\nresolve alt down 1000 up none\ndone 0\n",
     ),
@@ -73,21 +74,21 @@ static UNDER_ONE_LEVEL: [(&str, i32, &str, &str, &str); 11] = [
     (
         "660 450 0 0 10 10 0",
         0,
-        "A 660 1000 1000 0 0 0 0",
+        "A 660 1000 1000 0 0 0",
         "now A 0\nalert A 1 9\n",
         WEST_IS_CLEAR,
     ),
     (
         "660 450 0 0 10 9 0",
         0,
-        "A 660 1000 1000 0 0 0 0",
+        "A 660 1000 1000 0 0 0",
         "now A 0\nalert A 0 -\n",
         WEST_IS_CLEAR,
     ),
     (
         "659 450 0 0 10 10 0",
         0,
-        "A 660 1000 1000 0 0 0 0",
+        "A 660 1000 1000 0 0 0",
         "now A 0\nalert A 0 -\n",
         "track 0 0 0\ntrack 90 180 1\ntrack 270 270 0\ngs 3600 3600 0\nvs 0 0 0\nalt 1000 1000 0\nresolve track left keep right keep\nresolve gs down keep up keep\nresolve vs down keep up keep\nresolve alt down keep up keep\ndone 0\n",
     ),
@@ -95,7 +96,7 @@ static UNDER_ONE_LEVEL: [(&str, i32, &str, &str, &str); 11] = [
     (
         "660 450 0 0 11 11 0",
         0,
-        "A 660 1050 1000 0 0 0 0",
+        "A 660 1050 1000 0 0 0",
         "now A 0\nalert A 1 10\n",
         WEST_IS_CLEAR,
     ),
@@ -103,14 +104,14 @@ static UNDER_ONE_LEVEL: [(&str, i32, &str, &str, &str); 11] = [
     (
         "660 450 35 0 10 10 0",
         0,
-        "A 660 1000 1000 0 0 0 0",
+        "A 660 1000 1000 0 0 0",
         "now A 1\nalert A 1 0\n",
         "covered\ndone 0\n",
     ),
     (
         "660 450 35 0 10 10 1",
         0,
-        "A 660 1000 1000 0 0 0 0",
+        "A 660 1000 1000 0 0 0",
         "now A 1\nalert A 1 0\n",
         "covered\ndone 0\n",
     ),
@@ -118,7 +119,7 @@ static UNDER_ONE_LEVEL: [(&str, i32, &str, &str, &str); 11] = [
     (
         "660 100 0 0 15 15 0",
         3000,
-        "A 0 0 1440 0 0 0 0",
+        "A 0 0 1440 0 0 0",
         "now A 0\nalert A 0 -\n",
         "clear\ndone 0\n",
     ),
@@ -126,17 +127,9 @@ static UNDER_ONE_LEVEL: [(&str, i32, &str, &str, &str); 11] = [
     (
         "660 450 35 0 10 10 0",
         0,
-        "A 0 -661 1000 0 0 0 0",
+        "A 0 -661 1000 0 0 0",
         "now A 0\nalert A 0 -\n",
         "clear\ndone 0\n",
-    ),
-    // ten seconds ago it was where it would be here now
-    (
-        "660 450 35 0 10 10 0",
-        0,
-        "A 0 -1000 1000 0 3600 0 10",
-        "now A 1\nalert A 1 0\n",
-        "covered\ndone 0\n",
     ),
 ];
 
@@ -149,12 +142,20 @@ fn moments_give_their_lines(rt: HostRuntime) -> Result<(), Fail> {
         let rest = whole(&rt, rest)?;
         let text = format!(in alloc; "moment 0\n{aircraft}{rest}")?;
         let outside = Outside {
-            config: config.as_bytes(),
+            config: config.as_str(),
             ..PLAIN
         };
         gives(&rt, input.as_bytes(), outside, 0, text.as_bytes())?;
     }
     Ok(())
+}
+
+/// Ten seconds ago it was where it would be here now.
+#[test]
+fn an_aged_report_is_flown_on(rt: HostRuntime) -> Result<(), Fail> {
+    let input =
+        b"format 2\nmoment 0\nown 0 0 1000 0 3600 0\ntraffic A 0 -1000 1000 0 3600 0 10\nend\n";
+    gives(&rt, input, PLAIN, 0, ONE_TEXT)
 }
 
 /// Four levels, the first three touched before ten seconds.
@@ -174,9 +175,9 @@ static UNDER_FOUR_LEVELS: [(&str, &str); 2] = [
 fn the_greatest_of_four_levels_counts(rt: HostRuntime) -> Result<(), Fail> {
     for (levels, text) in &UNDER_FOUR_LEVELS {
         let config = config_of(&rt, 4, levels)?;
-        let input = moment_with(&rt, 0, "A 660 1000 1000 0 0 0 0")?;
+        let input = moment_with(&rt, 0, "A 660 1000 1000 0 0 0")?;
         let outside = Outside {
-            config: config.as_bytes(),
+            config: config.as_str(),
             ..PLAIN
         };
         gives(&rt, input.as_bytes(), outside, 0, text.as_bytes())?;
@@ -189,23 +190,23 @@ static BEGINNINGS: [(&str, &str, &str); 4] = [
     // by its closest approach in ten seconds only from the end of leg 1 on
     (
         "660 450 8 0 10 10 0",
-        "A 330 1000 1000 0 0 0 0",
+        "A 330 1000 1000 0 0 0",
         "moment 0\nnow A 1\nalert A 1 0\n",
     ),
     (
         "660 450 8 0 10 10 1",
-        "A 330 1000 1000 0 0 0 0",
+        "A 330 1000 1000 0 0 0",
         "moment 0\nnow A 0\nalert A 1 1\n",
     ),
     // levels need not nest
     (
         "100 450 0 0 10 10 0/660 450 0 0 10 10 0",
-        "A 660 1000 1000 0 0 0 0",
+        "A 660 1000 1000 0 0 0",
         "moment 0\nnow A 0\nalert A 2 9\n",
     ),
     (
         "660 450 0 0 10 10 0/100 450 0 0 10 10 0",
-        "A 660 1000 1000 0 0 0 0",
+        "A 660 1000 1000 0 0 0",
         "moment 0\nnow A 0\nalert A 1 9\n",
     ),
 ];
@@ -216,7 +217,7 @@ fn reports_begin_with_their_aircraft(rt: HostRuntime) -> Result<(), Fail> {
         let config = config_of(&rt, 1, levels)?;
         let input = moment_with(&rt, 0, traffic)?;
         let outside = Outside {
-            config: config.as_bytes(),
+            config: config.as_str(),
             ..PLAIN
         };
         let (status, text) = replayed(&rt, input.as_bytes(), outside)?;
@@ -228,17 +229,13 @@ fn reports_begin_with_their_aircraft(rt: HostRuntime) -> Result<(), Fail> {
 
 #[test]
 fn the_largest_values_are_decided(rt: HostRuntime) -> Result<(), Fail> {
-    let config = b"resolve = 1
-turn_rate = 30
-track_step = 1
-gs = { min = 0, max = 10000, step = 20, rate = 10000 }
-vs = { min = -10000, max = 10000, step = 40, rate = 10000 }
-alt = { min = -2000, max = 60000, step = 125, rate = 10000 }
-level = [ { dthr = 10000, zthr = 10000, tthr = 120, tcoa = 120, lookahead = 180, alert = 180 } ]
-";
     let input =
         b"moment 4294967295\nown -200000 -200000 -2000 45 10000 10000\ntraffic A 200000 200000 60000 -10000 -10000 -10000\nend\n";
-    let (status, text) = replayed(&rt, input, Outside { config, ..PLAIN })?;
+    let outside = Outside {
+        config: LARGEST_VALUES,
+        ..PLAIN
+    };
+    let (status, text) = replayed(&rt, input, outside)?;
     assert_eq!(rt; status, 0);
     assert!(rt; text.starts_with(b"moment 4294967295\nnow A 0\nalert A 0 -\ntrack 0 "));
     assert!(rt; text.ends_with(b"done 4294967295\n"));

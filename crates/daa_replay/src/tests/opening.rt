@@ -1,6 +1,7 @@
 //! Command words and configurations.
 
-use super::{ONE, ONE_LEVEL, ONE_TEXT, Outside, PLAIN, gives, replayed};
+use super::{ONE, ONE_TEXT, Outside, PLAIN, gives, replayed};
+use daa_config::examples::{ONE_LEVEL, THREE_LEVELS};
 use std::test::Fail;
 
 /// What is written where the words are not taken.
@@ -41,7 +42,7 @@ fn an_input_without_lines_gives_nothing(rt: HostRuntime) -> Result<(), Fail> {
         &rt,
         b"",
         Outside {
-            config: EXAMPLE,
+            config: THREE_LEVELS,
             ..PLAIN
         },
         0,
@@ -49,77 +50,74 @@ fn an_input_without_lines_gives_nothing(rt: HostRuntime) -> Result<(), Fail> {
     )
 }
 
-/// The three levels of the example.
-pub(super) const EXAMPLE: &[u8] = b"resolve = 2
-turn_rate = 3
-track_step = 5
-[gs]
-min = 500
-max = 7000
-step = 100
-rate = 20
-[vs]
-min = -5000
-max = 5000
-step = 100
-rate = 500
-[alt]
-min = 0
-max = 50000
-step = 500
-rate = 2000
-[[level]]
-dthr = 660
-zthr = 700
-tthr = 35
-tcoa = 0
-lookahead = 75
-alert = 55
-[[level]]
-dthr = 660
-zthr = 450
-tthr = 35
-tcoa = 0
-lookahead = 75
-alert = 55
-[[level]]
-dthr = 660
-zthr = 450
-tthr = 35
-tcoa = 0
-lookahead = 55
-alert = 25
-";
-
-/// A configuration with another line in the place of one of its lines.
+/// A configuration with other words in the place of some of its own.
 fn text_with<R: AllocGlobal>(
     rt: &R,
-    config: &[u8],
+    config: &str,
     line: &str,
     other: &str,
 ) -> Result<String, Fail> {
-    let text = str::from_utf8(config).map_err(|_| "the configuration is text")?;
-    let (before, after) = text.split_once(line).ok_or("a line of the configuration")?;
+    let (before, after) = config
+        .split_once(line)
+        .ok_or("a part of the configuration")?;
     Ok(format!(in rt.alloc(); "{before}{other}{after}")?)
 }
 
-/// A line of the example, another in its place, and what is then written.
-static OTHER_LINES: [(&str, &str, &[u8]); 7] = [
-    ("track_step = 5\n", "track_step = 7\n", b"config 6\n"),
-    ("track_step = 5\n", "track_step = 7\nx = 1\n", b"config 3\n"),
-    ("resolve = 2\n", "resolve = 4\n", b"config 7\n"),
-    ("resolve = 2\n", "resolve = 5\n", b"config 6\n"),
+/// A configuration, words of it, others in their place, and what is then written.
+static OTHER_WORDS: [(&str, &str, &str, &[u8]); 12] = [
     (
+        ONE_LEVEL,
+        "gs = { min = 3600, max = 3600, step = 1, rate = 10 }",
+        "gs = 5",
+        b"config 5\n",
+    ),
+    (
+        ONE_LEVEL,
+        "track_step = 90",
+        "track_step = 7",
+        b"config 6\n",
+    ),
+    (ONE_LEVEL, "resolve = 1", "resolve = 2", b"config 7\n"),
+    (ONE_LEVEL, "resolve = 1", "resolve = 4", b"config 7\n"),
+    (ONE_LEVEL, "resolve = 1", "resolve = 5", b"config 6\n"),
+    (
+        ONE_LEVEL,
+        "min = 1000, max = 1000",
+        "min = 0, max = 512",
+        b"config 8\n",
+    ),
+    (
+        ONE_LEVEL,
+        "alert = 10 }",
+        "alert = 10, tcpa = 2 }",
+        b"config 6\n",
+    ),
+    (
+        THREE_LEVELS,
+        "track_step = 5\n",
+        "track_step = 7\nx = 1\n",
+        b"config 3\n",
+    ),
+    (
+        THREE_LEVELS,
+        "resolve = 2\n",
+        "resolve = 4\n",
+        b"config 7\n",
+    ),
+    (
+        THREE_LEVELS,
         "lookahead = 55\nalert = 25\n",
         "lookahead = 55\n",
         b"config 4\n",
     ),
     (
+        THREE_LEVELS,
         "lookahead = 55\n",
         "lookahead = 55\ntcpa = 2\n",
         b"config 6\n",
     ),
     (
+        THREE_LEVELS,
         "min = 0\nmax = 50000\nstep = 500\n",
         "min = 0\nmax = 512\nstep = 1\n",
         b"config 8\n",
@@ -130,56 +128,45 @@ static OTHER_LINES: [(&str, &str, &[u8]); 7] = [
 fn a_refused_configuration_gives_its_code(rt: HostRuntime) -> Result<(), Fail> {
     let alloc = rt.alloc();
     for (config, text) in [
-        (b"a =".as_slice(), b"config 2\n".as_slice()),
-        (b"x = 1", b"config 3\n"),
-        (b"", b"config 4\n"),
+        ("a =", b"config 2\n".as_slice()),
+        ("x = 1", b"config 3\n"),
+        ("", b"config 4\n"),
     ] {
         gives(&rt, ONE, Outside { config, ..PLAIN }, 3, text)?;
     }
-    for (line, other, text) in &OTHER_LINES {
-        let config = text_with(&rt, EXAMPLE, line, other)?;
+    for (config, words, others, text) in &OTHER_WORDS {
+        let config = text_with(&rt, config, words, others)?;
         let outside = Outside {
-            config: config.as_bytes(),
+            config: config.as_str(),
             ..PLAIN
         };
         gives(&rt, ONE, outside, 3, text)?;
     }
     // a missing key counts before a number out of its range
-    let two_faults = text_with(&rt, EXAMPLE, "resolve = 2\n", "resolve = 9\n")?;
-    let two_faults = text_with(&rt, two_faults.as_bytes(), "alert = 25\n", "")?;
+    let two_faults = text_with(&rt, THREE_LEVELS, "resolve = 2\n", "resolve = 9\n")?;
+    let two_faults = text_with(&rt, two_faults.as_str(), "alert = 25\n", "")?;
     let outside = Outside {
-        config: two_faults.as_bytes(),
+        config: two_faults.as_str(),
         ..PLAIN
     };
     gives(&rt, ONE, outside, 3, b"config 4\n")?;
-    let no_table = text_with(
-        &rt,
-        ONE_LEVEL,
-        "gs = { min = 3600, max = 3600, step = 1, rate = 10 }",
-        "gs = 5",
-    )?;
-    let outside = Outside {
-        config: no_table.as_bytes(),
-        ..PLAIN
-    };
-    gives(&rt, ONE, outside, 3, b"config 5\n")?;
     // 512 values may be there, and one more not
     let many = text_with(
         &rt,
-        EXAMPLE,
-        "min = 0\nmax = 50000\nstep = 500\n",
-        "min = 0\nmax = 511\nstep = 1\n",
+        ONE_LEVEL,
+        "min = 1000, max = 1000",
+        "min = 0, max = 511",
     )?;
     let outside = Outside {
-        config: many.as_bytes(),
+        config: many.as_str(),
         ..PLAIN
     };
     gives(&rt, b"", outside, 0, b"")?;
     // 65536 bytes may be fetched, and one more not
     for (size, text) in [(65536, b"config 2\n".as_slice()), (65537, b"config 1\n")] {
-        let long = vec![in alloc; b'a'; size]?;
+        let long = "a".repeat(alloc, size)?;
         let outside = Outside {
-            config: long.as_slice(),
+            config: long.as_str(),
             ..PLAIN
         };
         gives(&rt, ONE, outside, 3, text)?;
@@ -224,7 +211,7 @@ fn a_line_before_the_report_may_fail_too(rt: HostRuntime) -> Result<(), Fail> {
         assert_eq!(rt; Some(taken.as_slice()), USAGE.get(..room));
     }
     let config = Outside {
-        config: b"",
+        config: "",
         room: 5,
         ..PLAIN
     };

@@ -1,7 +1,7 @@
 use Rattle.std.proofs.Common.{◌≡◌, ◌++◌, true, map, drop}
 use Rattle.std.specs.List.{list_all}
 use Rattle.daa_config.specs.Numbers.{level_fits}
-use Rattle.daa_config.specs.ConfigOf.{level_of}
+use Rattle.daa_config.specs.Level.{level_of}
 use Rattle.daa_config.proofs.level.all_in_units.Given as goal
 
 -- the levels so far, before those that are left, which pass

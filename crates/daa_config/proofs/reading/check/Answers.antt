@@ -1,6 +1,6 @@
 use Rattle.std.proofs.Common.{◌≡◌, List, map, true, false, sym, ap, subst, ◌∙◌, ◌&&◌}
 use Rattle.std.specs.List.{list_all}
-use Rattle.daa_config.specs.ConfigOf.{level_of}
+use Rattle.daa_config.specs.Level.{level_of}
 use Rattle.daa_config.specs.Numbers.{numbers_fit, level_fits, levels_are_wrong, has_too_many}
 use Rattle.daa_config.specs.declared.level.Level.{Level}
 use Rattle.daa_config.specs.declared.numbers.LevelNumbers.{LevelNumbers}

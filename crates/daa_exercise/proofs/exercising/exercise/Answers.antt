@@ -2,7 +2,7 @@ use Rattle.std.proofs.Common.{rules, ◌∙◌, ap, subst, sym, arith}
 use Rattle.daa_bands.specs.Board.{IsBoardOf}
 use Rattle.daa_config.specs.Settings.{Settings, IsAccepted}
 use Rattle.daa_engine.specs.Covered.{CoveredAt}
-use Rattle.daa_engine.specs.Machine.{Machine}
+use Rattle.daa_engine.specs.EngineState.{EngineState}
 use Rattle.daa_exercise.specs.Counting.{CountsPicture}
 use Rattle.daa_exercise.specs.Outputs.{generator_of, outputs_of}
 use Rattle.daa_exercise.proofs.CountLemmas.{all_next, roomy, said}
@@ -18,8 +18,8 @@ loop-time-init g c = record {
 
 pub add-requires : goal.add-requires
 add-requires g c =
-    let before = ap (λ (e : Machine). e.settings) c.loop-time.invariant.kept in
-    let same = ap (λ (e : Machine). e.settings) c.decide.ensures.kept in record {
+    let before = ap (λ (e : EngineState). e.settings) c.loop-time.invariant.kept in
+    let same = ap (λ (e : EngineState). e.settings) c.decide.ensures.kept in record {
       accepted = subst IsAccepted (sym (same ∙ before)) c.config.ensures.accepted;
       picture = c.next_moment-picture.ensures.in_range;
       board = subst (λ (s : Settings). IsBoardOf (CoveredAt s c.next_moment-picture.result) s c.decide.new.self.board) (sym same) c.decide.ensures.board;
@@ -29,8 +29,8 @@ add-requires g c =
 
 pub loop-time-preserved : goal.loop-time-preserved
 loop-time-preserved g c =
-    let before = ap (λ (e : Machine). e.settings) c.loop-time.invariant.kept in
-    let same = ap (λ (e : Machine). e.settings) c.decide.ensures.kept in
+    let before = ap (λ (e : EngineState). e.settings) c.loop-time.invariant.kept in
+    let same = ap (λ (e : EngineState). e.settings) c.decide.ensures.kept in
     let next = next_is (generator_of c.args.seed) c.loop-time.draws c.next_moment-picture.new.self c.loop-time.time c.next_moment-picture.result
     c.loop-time.invariant.drawn c.next_moment-picture.ensures.value c.next_moment-picture.ensures.rest in record {
       kept = search rules;

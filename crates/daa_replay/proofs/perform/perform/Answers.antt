@@ -1,5 +1,5 @@
 use Rattle.daa_words.specs.declared.order.Task.TheVariants.{Replay, Exercise}
-use Rattle.daa_replay.specs.Outside.{Shown, shown}
+use Rattle.daa_replay.specs.Outside.{StreamState, stream_state}
 use Rattle.daa_replay.specs.Status.{code_of}
 use Rattle.daa_replay.proofs.PerformLemmas.{by_task, exercised}
 use Rattle.daa_replay.proofs.perform.perform.Goals as goal
@@ -13,9 +13,9 @@ returns-in-Exercise g c =
     let settings = c.args.ready.now.engine.settings in
     let seed = c.in-Exercise.seed in
     let moments = c.in-Exercise.moments in
-    let source : Shown = shown (g.S.Source.left c.args.source.now) (g.S.Source.faults c.args.source.now) in
-    let old : Shown = shown (g.K.Sink.taken c.args.sink.now) (g.K.Sink.faults c.args.sink.now) in
-    let new : Shown = shown (g.K.Sink.taken c.exercise-said.new.sink) (g.K.Sink.faults c.exercise-said.new.sink) in
+    let source : StreamState = stream_state (g.S.Source.left c.args.source.now) (g.S.Source.faults c.args.source.now) in
+    let old : StreamState = stream_state (g.K.Sink.taken c.args.sink.now) (g.K.Sink.faults c.args.sink.now) in
+    let new : StreamState = stream_state (g.K.Sink.taken c.exercise-said.new.sink) (g.K.Sink.faults c.exercise-said.new.sink) in
     let says = c.exercise-said.ensures.says in
-    by_task c.args.most (code_of c.after.result) settings c.args.ready.now.task (Exercise seed moments) source source old new c.in-Exercise.is
-    (exercised settings seed moments source old new says.0 c.exercise-said.result c.after.result says.1 says.2 c.after.ensures.whole c.after.ensures.broken)
+    by_task c.args.most (code_of c.status_of.result) settings c.args.ready.now.task (Exercise seed moments) source source old new c.in-Exercise.is
+    (exercised settings seed moments source old new says.0 c.exercise-said.result c.status_of.result says.1 says.2 c.status_of.ensures.whole c.status_of.ensures.broken)

@@ -1,17 +1,17 @@
 use Rattle.std.proofs.Common.{map, string_bytes}
-use Rattle.daa_replay.specs.Outside.{Outside, outside, shelf_shown, shown}
+use Rattle.daa_replay.specs.Outside.{Outside, outside, shelf_state, stream_state}
 use Rattle.daa_replay.specs.Status.{code_of}
 use Rattle.daa_replay.proofs.PerformLemmas.{performs_runs}
 use Rattle.daa_replay.proofs.program.conduct.Goals as goal
 
 pub returns-in-Ok : goal.returns-in-Ok
 returns-in-Ok g c =
-    let old : Outside = outside (shelf_shown (g.F.Shelf.texts c.args.shelf.now) (g.F.Shelf.faults c.args.shelf.now))
-    (shown (g.S.Source.left c.args.source.now) (g.S.Source.faults c.args.source.now))
-    (shown (g.K.Sink.taken c.args.sink.now) (g.K.Sink.faults c.args.sink.now)) in
-    let new : Outside = outside (shelf_shown (g.F.Shelf.texts c.open.new.shelf) (g.F.Shelf.faults c.open.new.shelf))
-    (shown (g.S.Source.left c.perform.new.source) (g.S.Source.faults c.perform.new.source))
-    (shown (g.K.Sink.taken c.perform.new.sink) (g.K.Sink.faults c.perform.new.sink)) in
+    let old : Outside = outside (shelf_state (g.F.Shelf.texts c.args.shelf.now) (g.F.Shelf.faults c.args.shelf.now))
+    (stream_state (g.S.Source.left c.args.source.now) (g.S.Source.faults c.args.source.now))
+    (stream_state (g.K.Sink.taken c.args.sink.now) (g.K.Sink.faults c.args.sink.now)) in
+    let new : Outside = outside (shelf_state (g.F.Shelf.texts c.open.new.shelf) (g.F.Shelf.faults c.open.new.shelf))
+    (stream_state (g.S.Source.left c.perform.new.source) (g.S.Source.faults c.perform.new.source))
+    (stream_state (g.K.Sink.taken c.perform.new.sink) (g.K.Sink.faults c.perform.new.sink)) in
     let made = c.in-Ok.ensures in
     let ready = c.in-Ok.ready in
     performs_runs c.args.most (code_of c.perform.result) (map string_bytes c.args.words.now) old new ready.engine.settings

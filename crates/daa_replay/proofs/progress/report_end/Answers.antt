@@ -2,7 +2,9 @@ use Rattle.std.proofs.Common.{◌≡◌, ◌∙◌, subst, true}
 use Rattle.daa_config.specs.Settings.{Settings}
 use Rattle.daa_lines.specs.LinesOf.{Bytes}
 use Rattle.daa_replay.specs.Report.{IsEventText}
-use Rattle.daa_replay.specs.Reporting.{Told, Reports, Stops}
+use Rattle.daa_replay.specs.Outside.{ToldBytes}
+use Rattle.daa_replay.specs.Replaying.{TakesFront}
+use Rattle.daa_replay.specs.Reporting.{Reports}
 use Rattle.daa_replay.proofs.ReportLemmas.{reports-lines, whole-none, whole-event, stops-end, on_err}
 use Rattle.daa_replay.proofs.progress.report_end.Goals as goal
 
@@ -21,8 +23,8 @@ returns-in_ok-say_event-in-Some-clause-ok g c settings first bytes e r =
 pub returns-in_err-say_event-in-Some-clause-err : goal.returns-in_err-say_event-in-Some-clause-err
 returns-in_err-say_event-in-Some-clause-err g c =
     let said = c.in_err-say_event-in-Some.ensures.says in
-    let stops : (settings : Settings) (first : Told) (bytes : Bytes) → c.args.engine.now.settings ≡ settings → Reports settings first bytes c.args.progress.now (g.K.Sink.taken c.args.sink.now)
-    → Stops settings first bytes true (g.K.Sink.taken c.say_event.new.sink) =
+    let stops : (settings : Settings) (first : ToldBytes) (bytes : Bytes) → c.args.engine.now.settings ≡ settings → Reports settings first bytes c.args.progress.now (g.K.Sink.taken c.args.sink.now)
+    → TakesFront settings first (g.K.Sink.taken c.say_event.new.sink) bytes true =
     λ settings first bytes e r. stops-end first _ _ bytes c.report_line.new.progress c.in-Some.event said.0 c.in-Some.ensures.whole
     (subst (λ (s : Settings). IsEventText s c.in-Some.event said.0) (c.report_line.ensures.same ∙ e) said.1) said.2.front
     (c.in_ok-report_line.ensures.ok settings first bytes e (reports-lines first _ bytes c.args.progress.now c.end.new.self c.end.ensures.kept r)) in

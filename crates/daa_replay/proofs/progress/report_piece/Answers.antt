@@ -1,7 +1,9 @@
 use Rattle.std.proofs.Common.{◌≡◌, ◌∙◌, ◌≤◌, ◌+◌, ◌-◌, ◌++◌, false, arith, take, drop, length, length-drop, length-take}
 use Rattle.daa_config.specs.Settings.{Settings}
 use Rattle.daa_lines.specs.LinesOf.{Bytes}
-use Rattle.daa_replay.specs.Reporting.{Told, Reports, Stops}
+use Rattle.daa_replay.specs.Outside.{ToldBytes}
+use Rattle.daa_replay.specs.Replaying.{TakesFront}
+use Rattle.daa_replay.specs.Reporting.{Reports}
 use Rattle.daa_replay.proofs.ReportLemmas.{reports-part, stops-part, on_err}
 use Rattle.daa_replay.proofs.progress.report_piece.Goals as goal
 
@@ -30,8 +32,8 @@ returns-in_err-report_line-clause-err g c =
     let n = c.feed-done.result in
     let i = c.loop-done.invariant in
     let within : n ≤ length piece - done = omega (arith, c.feed-done.ensures.within, length-take (length piece - done) (drop done piece), length-drop done piece) in
-    let stops : (settings : Settings) (first : Told) (bytes : Bytes) → c.args.engine.now.settings ≡ settings → Reports settings first bytes c.args.progress.now (g.K.Sink.taken c.args.sink.now)
-    → Stops settings first (bytes ++ piece) false (g.K.Sink.taken c.report_line.new.sink) =
+    let stops : (settings : Settings) (first : ToldBytes) (bytes : Bytes) → c.args.engine.now.settings ≡ settings → Reports settings first bytes c.args.progress.now (g.K.Sink.taken c.args.sink.now)
+    → TakesFront settings first (g.K.Sink.taken c.report_line.new.sink) (bytes ++ piece) false =
     λ settings first bytes e r. stops-part first _ bytes piece c.feed-done.new.self.ended (done + n) c.feed-done.ensures.going
     (c.in_err-report_line.ensures.err settings first (bytes ++ take (done + n) piece) (i.same ∙ e)
     (reports-part first _ bytes piece c.loop-done.progress c.feed-done.new.self done n within c.feed-done.ensures.kept (i.kept settings first bytes e r))) in

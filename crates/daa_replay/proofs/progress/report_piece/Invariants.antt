@@ -2,7 +2,8 @@ use Rattle.std.proofs.Common.{◌≡◌, ◌≤◌, ◌+◌, ◌-◌, ◌++◌, 
 use Rattle.daa_config.specs.Settings.{Settings}
 use Rattle.daa_lines.specs.LinesOf.{Bytes}
 use Rattle.daa_lines.specs.Cutting.{is_standing}
-use Rattle.daa_replay.specs.Reporting.{Told, Reports}
+use Rattle.daa_replay.specs.Outside.{ToldBytes}
+use Rattle.daa_replay.specs.Reporting.{Reports}
 use Rattle.daa_replay.proofs.progress.report_piece.Given as goal
 
 abbrev pub invariant-loop-done : goal.invariant-loop-done
@@ -13,7 +14,7 @@ invariant-loop-done g l = record {
   fed : l.progress.lines.fed ≡ l.fn.progress.lines.fed + l.done;
   steady : g.K.Sink.faults l.sink ≡ g.K.Sink.faults l.fn.sink;
   same : l.engine.settings ≡ l.fn.engine.settings;
-  kept : (settings : Settings) (first : Told) (bytes : Bytes) → l.fn.engine.settings ≡ settings → Reports settings first bytes l.fn.progress (g.K.Sink.taken l.fn.sink)
+  kept : (settings : Settings) (first : ToldBytes) (bytes : Bytes) → l.fn.engine.settings ≡ settings → Reports settings first bytes l.fn.progress (g.K.Sink.taken l.fn.sink)
       → Reports settings first (bytes ++ take l.done l.piece) l.progress (g.K.Sink.taken l.sink);
 }
 

@@ -1,5 +1,5 @@
 use Rattle.std.proofs.Common.{ℕ, ◌+◌, sym, subst, ◌∙◌}
-use Rattle.daa_config.specs.Level.{IsMaskOf}
+use Rattle.daa_config.specs.Mask.{IsMaskOf}
 use Rattle.daa_legs.specs.Meeting.{Meets}
 use Rattle.daa_legs.proofs.AtLevel.{meets_at}
 use Rattle.daa_scan.proofs.Masks.{mask_start, mask_set, mask_keep}

@@ -1,4 +1,4 @@
-use Rattle.daa_config.specs.Level.{IsMaskOf}
+use Rattle.daa_config.specs.Mask.{IsMaskOf}
 use Rattle.daa_legs.specs.Meeting.{Meets}
 use Rattle.daa_scan.proofs.walk.levels_of.Given as goal
 

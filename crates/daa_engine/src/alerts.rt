@@ -2,7 +2,7 @@
 ghost use Rattle.std.specs.Prelude.{◌≡◌, length};
 ghost use Rattle.daa_state.specs.InRange.{IsOwnInRange, IsPictureInRange, IsTrafficInRange};
 ghost use Rattle.daa_state.specs.Picture.{aircraft_of};
-ghost use Rattle.daa_engine.specs.Findings.{IsWarning, AreWarnings};
+ghost use Rattle.daa_engine.specs.Findings.{IsAircraftAlert, AreAircraftAlerts};
 
 use arrayvec::ArrayVec;
 use daa_alert::{alert, now_level};
@@ -11,32 +11,32 @@ use daa_state::{Own, Picture, Traffic};
 
 /// The level of an aircraft now, its alert level, and the first leg that alerts.
 #[derive(Clone, Copy, Debug, Default)]
-pub(crate) struct Warning {
+pub(crate) struct AircraftAlert {
     pub(crate) level_now: u8,
     pub(crate) level: u8,
     pub(crate) first: Option<u32>,
 }
 
 /// What is found of each aircraft, in the order of the input.
-pub(crate) fn find_warnings(config: &Config, picture: &Picture) -> ArrayVec<Warning, 64>
+pub(crate) fn find_alerts(config: &Config, picture: &Picture) -> ArrayVec<AircraftAlert, 64>
     requires { IsPictureInRange picture.now }
-    ensures { AreWarnings config.now picture.now.own (aircraft_of picture.now) (length (aircraft_of picture.now)) result.items }
+    ensures { AreAircraftAlerts config.now picture.now.own (aircraft_of picture.now) (length (aircraft_of picture.now)) result.items }
 {
     let mut all = ArrayVec::new();
     for aircraft in picture.traffic.as_slice() {
-        all.push(warn(config, &picture.own, aircraft));
+        all.push(find_alert(config, &picture.own, aircraft));
     }
     all
 }
 
 /// What is found of an aircraft.
-fn warn(config: &Config, own: &Own, aircraft: &Traffic) -> Warning
+fn find_alert(config: &Config, own: &Own, aircraft: &Traffic) -> AircraftAlert
     requires own { IsOwnInRange own.now }
     requires aircraft { IsTrafficInRange aircraft.now }
-    ensures { IsWarning config.now own.now aircraft.now result }
+    ensures { IsAircraftAlert config.now own.now aircraft.now result }
 {
     let alert = alert(config, own, aircraft);
-    Warning {
+    AircraftAlert {
         level_now: now_level(config, own, aircraft),
         level: alert.level,
         first: alert.first,

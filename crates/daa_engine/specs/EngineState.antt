@@ -4,20 +4,20 @@ use Rattle.daa_config.specs.Settings.{Settings, IsAccepted}
 use Rattle.daa_scan.specs.Units.{most_units}
 
 -- its configuration, its number of workers, and the masks of levels of the latest moment's candidates
-pub record Machine : Type 0 where
+pub record EngineState : Type 0 where
   pub settings : Settings
   pub workers : ℕ
   pub board : List ℕ
 
 -- a number of workers is 1 to 16
-pub record IsCrew (workers : ℕ) : Type 0 where
+pub record IsWorkerCount (workers : ℕ) : Type 0 where
   pub some : 1 ≤ workers
   pub few : workers ≤ 16
 
 -- what holds of every engine
-pub record IsMachine (machine : Machine) : Type 0 where
-  pub accepted : IsAccepted machine.settings
-  pub crew : IsCrew machine.workers
+pub record IsEngine (engine : EngineState) : Type 0 where
+  pub accepted : IsAccepted engine.settings
+  pub workers : IsWorkerCount engine.workers
 
 -- it has a word for each unit of work of every moment
 abbrev pub HasRoom : List ℕ → Type 0

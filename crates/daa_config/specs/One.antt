@@ -1,0 +1,8 @@
+-- That there is exactly one.
+use Rattle.std.specs.Prelude.{◌≡◌}
+
+-- something is so, and nothing else is
+pub record HasOne {A : Type 0} (Is : A → Type 0) : Type 0 where
+  pub one : A
+  pub is : Is one
+  pub only : (other : A) → Is other → other ≡ one

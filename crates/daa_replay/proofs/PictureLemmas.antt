@@ -1,0 +1,44 @@
+-- What holds of the picture of every moment that lines end.
+use Rattle.std.proofs.Common.{ℕ, ◌+◌, Bool, true, false, List, [], ◌∷◌, Option, None, Some, Ok, Err, suc, arith}
+use Rattle.std.specs.Prelude.{All, IfOk, IfSome}
+use Rattle.std.proofs.lemmas.List.Elements.{All-nil, All-cons, All-append}
+use Rattle.daa_lines.specs.LinesOf.{Bytes}
+use Rattle.daa_state.specs.Fault.{Checked}
+use Rattle.daa_state.specs.MomentStep.{State, Stepped, finished}
+use Rattle.daa_state.specs.declared.word.Picture.{Picture}
+use Rattle.daa_replay.specs.declared.event.Event.TheVariants as event
+use Rattle.daa_replay.specs.Events.{line_step, next_state, picture_event, line_event, end_event, events_from, OfPicture}
+
+-- what a line leaves: a state that is so, and, where it ends a moment, a picture of which P holds
+pub record Leaves (IsSo : State → Type 0) (P : Picture → Type 0) (next : Stepped) : Type 0 where
+  pub state : IsSo next.state
+  pub picture : IfSome next.picture P
+
+-- where each line that is so, after a state that is so, leaves such a state and such a picture
+module _ (IsLine : Bytes → Type 0) (IsSo : State → Type 0) (P : Picture → Type 0)
+    (leaves : (state : State) (line : Bytes) → IsLine line → IsSo state → IfOk (line_step state line) (Leaves IsSo P)) where
+  next_so : (state : State) (next : Checked Stepped) → IsSo state → IfOk next (Leaves IsSo P) → IsSo (next_state state next)
+  next_so state (Ok next) h k = k.state
+  next_so state (Err fault) h k = h
+
+  of_picture : (picture : Option Picture) → IfSome picture P → All (OfPicture P) (picture_event picture)
+  of_picture None h = All-nil (OfPicture P)
+  of_picture (Some picture) h = All-cons (OfPicture P) (event.Ended picture) [] h (All-nil (OfPicture P))
+
+  of_line : (number : ℕ) (next : Checked Stepped) → IfOk next (Leaves IsSo P) → All (OfPicture P) (line_event number next)
+  of_line number (Ok next) h = of_picture next.picture h.picture
+  of_line number (Err fault) h = All-cons (OfPicture P) (event.Refused number fault) [] tt (All-nil (OfPicture P))
+
+  of_end : (number : ℕ) (over : Checked (Unit {0})) → All (OfPicture P) (end_event number over)
+  of_end number (Ok over) = All-nil (OfPicture P)
+  of_end number (Err fault) = All-cons (OfPicture P) (event.Refused number fault) [] tt (All-nil (OfPicture P))
+
+  pub each_picture : (state : State) (number : ℕ) (ended : Bool) (lines : List Bytes) → IsSo state → All IsLine lines
+      → All (OfPicture P) (events_from state number ended lines)
+  each_picture state number false [] h ls = All-nil (OfPicture P)
+  each_picture state number true [] h ls = of_end number (finished state)
+  each_picture state number ended (line ∷ lines) h ls =
+      let left = leaves state line (ls 0 line (omega arith)) h in
+      All-append (OfPicture P) (line_event number (line_step state line)) (events_from (next_state state (line_step state line)) (number + 1) ended lines)
+      (of_line number (line_step state line) left)
+      (each_picture (next_state state (line_step state line)) (number + 1) ended lines (next_so state (line_step state line) h left) (λ k d l. ls (suc k) d (omega arith)))

@@ -1,0 +1,20 @@
+use Rattle.std.proofs.Common.{sym, subst}
+use Rattle.daa_replay.specs.declared.opening.Unready.{Unready}
+use Rattle.daa_replay.specs.Outside.{StreamState, stream_state}
+use Rattle.daa_replay.specs.Telling.{Tells}
+use Rattle.daa_replay.proofs.OpeningLemmas.{writes}
+use Rattle.daa_replay.proofs.telling.tell.Goals as goal
+
+pub returns-in-NotTaken : goal.returns-in-NotTaken
+returns-in-NotTaken g c =
+    let old : StreamState = stream_state (g.K.Sink.taken c.args.sink.now) (g.K.Sink.faults c.args.sink.now) in
+    let new : StreamState = stream_state (g.K.Sink.taken c.put.new.sink) (g.K.Sink.faults c.put.new.sink) in
+    subst (λ (why : Unready). Tells why old new c.status_of.result) (sym c.in-NotTaken.is)
+    (writes old new _ c.put.result _ _ c.put.ensures c.status_of.ensures.whole c.status_of.ensures.broken)
+
+pub returns-in-Refused : goal.returns-in-Refused
+returns-in-Refused g c =
+    let old : StreamState = stream_state (g.K.Sink.taken c.args.sink.now) (g.K.Sink.faults c.args.sink.now) in
+    let new : StreamState = stream_state (g.K.Sink.taken c.config.new.sink) (g.K.Sink.faults c.config.new.sink) in
+    subst (λ (why : Unready). Tells why old new c.status_of-in-Refused.result) (sym c.in-Refused.is)
+    (writes old new _ c.config.result _ _ c.config.ensures c.status_of-in-Refused.ensures.whole c.status_of-in-Refused.ensures.broken)

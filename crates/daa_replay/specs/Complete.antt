@@ -1,0 +1,54 @@
+-- How a run ends where nothing fails, by its words, the shelf and the number of bytes.
+use Rattle.std.specs.Prelude.{ℕ, ◌≡◌, ◌≢◌, ◌<◌, ◌≤◌, ◌⊎◌, List, Option, Some, None, length}
+use Rattle.daa_outside.specs.Faults.{HasRisen}
+use Rattle.daa_outside.specs.Shelf.{Texts}
+use Rattle.daa_config.specs.Settings.{Settings}
+use Rattle.daa_lines.specs.LinesOf.{Bytes}
+use Rattle.daa_report.specs.Lines.{Text}
+use Rattle.daa_words.specs.Order.{order_of}
+use Rattle.daa_words.specs.declared.order.Task.{Task}
+use Rattle.daa_words.specs.declared.order.Task.TheVariants.{Replay, Exercise}
+use Rattle.daa_replay.specs.Outside.{Outside}
+use Rattle.daa_replay.specs.Opening.{Opens, IsRefused, HoldsNone}
+use Rattle.daa_replay.specs.Run.{Runs}
+
+-- no count of faults rose
+pub record IsQuiet (old new : Outside) : Type 0 where
+  pub shelf : ¬ HasRisen old.shelf.faults new.shelf.faults
+  pub source : ¬ HasRisen old.source.faults new.source.faults
+  pub sink : ¬ HasRisen old.sink.faults new.sink.faults
+
+-- the words are taken and ask for the task, and the shelf, which tells its texts, holds an accepted configuration under the name
+-- that they give
+pub record HoldsAccepted (words : List Text) (texts : Option Texts) (task : Task) : Type 0 where
+  pub held : Texts
+  pub told : texts ≡ Some held
+  pub settings : Settings
+  pub opens : Opens words texts task settings
+
+-- the same with a configuration that is refused
+pub record HoldsRefused (words : List Text) (texts : Option Texts) : Type 0 where
+  pub held : Texts
+  pub told : texts ≡ Some held
+  pub code : ℕ
+  pub refused : IsRefused words texts code
+
+-- how a run ends, as far as the words, the shelf and the number of bytes say it; want of memory is free
+pub record EndsAsGiven (most : ℕ) (words : List Text) (status : ℕ) (old new : Outside) : Type 0 where
+  -- a replay with an accepted configuration and a source that tells its bytes, where no count rose: by the number of bytes
+  pub short : (all : Bytes) → HoldsAccepted words old.shelf.texts Replay → old.source.bytes ≡ Some all → IsQuiet old new → length all ≤ most
+      → (status ≡ 0) ⊎ ((status ≡ 1) ⊎ (status ≡ 6))
+  pub long : (all : Bytes) → HoldsAccepted words old.shelf.texts Replay → old.source.bytes ≡ Some all → IsQuiet old new → most < length all
+      → (status ≡ 8) ⊎ (status ≡ 6)
+  -- an exercise with an accepted configuration, where no count rose
+  pub exercise : (seed moments : ℕ) → HoldsAccepted words old.shelf.texts (Exercise seed moments) → IsQuiet old new → (status ≡ 0) ⊎ (status ≡ 6)
+  pub not_taken : order_of words ≡ None → (status ≡ 2) ⊎ ((status ≡ 5) ⊎ (status ≡ 6))
+  pub rejected : HoldsRefused words old.shelf.texts → (status ≡ 3) ⊎ ((status ≡ 5) ⊎ ((status ≡ 6) ⊎ (status ≡ 7)))
+  pub missing : HoldsNone words old.shelf.texts → (status ≡ 6) ⊎ (status ≡ 7)
+  -- a status of a fault comes only where the object's count rose
+  pub no_read_fault : ¬ HasRisen old.source.faults new.source.faults → status ≢ 4
+  pub no_write_fault : ¬ HasRisen old.sink.faults new.sink.faults → status ≢ 5
+  pub no_fetch_fault : ¬ HasRisen old.shelf.faults new.shelf.faults → status ≢ 7
+
+abbrev pub RunsAreComplete : Type 0
+RunsAreComplete = (most status : ℕ) (words : List Text) (old new : Outside) → Runs most words status old new → EndsAsGiven most words status old new
