@@ -98,21 +98,21 @@ fn angles_from_45(rt: HostRuntime) -> Result<(), Fail> {
     Ok(())
 }
 
-/// Track 0, and Hold and track 0 are covered: 300 is nearest to the left, 60 to the right.
+/// Track 0, and Hold and track 0 alone are covered: 300 is nearest to the left, 60 to the right.
 #[test]
 fn nearest_tracks(rt: HostRuntime) -> Result<(), Fail> {
     let config = read(rt.alloc(), SIXTHS.as_bytes())?;
-    let board = board_with_open(&config, &[2, 3, 4, 5, 6]);
+    let board = board_with_open(&config, &[2, 3, 4, 5, 6, 7, 8, 9]);
     let wanted = (Resolution::To(300), Resolution::To(60));
     expect_answers(&rt, &board, &config, &own(0, 3600), Kind::Track, wanted);
     Ok(())
 }
 
-/// Ground speed 3600, and Hold and 3600 are covered: 3300 is nearest down, 3900 up.
+/// Ground speed 3600, and Hold and 3600 alone are covered: 3300 is nearest down, 3900 up.
 #[test]
 fn nearest_speeds(rt: HostRuntime) -> Result<(), Fail> {
     let config = read(rt.alloc(), QUARTERS.as_bytes())?;
-    let board = board_with_open(&config, &[5, 6, 8]);
+    let board = board_with_open(&config, &[1, 2, 3, 4, 5, 6, 8, 9, 10]);
     let wanted = (Resolution::To(3300), Resolution::To(3900));
     expect_answers(&rt, &board, &config, &own(0, 3600), Kind::Speed, wanted);
     let wanted = (Resolution::Nothing, Resolution::To(3000));
