@@ -21,6 +21,7 @@ use daa_bands::Board;
 use daa_config::Config;
 use daa_outside::{Gate, Sink};
 use daa_report::SinkFault;
+use daa_scan::Trunks;
 use daa_schedule::NoMemory;
 use daa_state::Picture;
 use std::alloc::Global;
@@ -38,6 +39,8 @@ pub struct Engine {
     board: Board,
     // what the workers answer
     words: Vec<u64>,
+    // the flights that lead on the sides of each kind, of the latest moment
+    trunks: Trunks,
 }
 
 impl Model for Engine {
@@ -66,6 +69,7 @@ impl Engine {
             workers,
             board: Board::new(),
             words,
+            trunks: Trunks::new(),
         })
     }
 
@@ -110,12 +114,14 @@ impl Engine {
         ensures kept { self.new ≡ record self.old { board = self.new.board } }
         ensures board { IsBoardOf (CoveredAt self.old.settings picture.now) self.old.settings self.new.board }
     {
+        self.trunks.fill(&picture.own, &self.config);
         if self.workers > 1 {
             let filled = fill_together(
                 rt,
                 alloc,
                 &mut self.board,
                 &mut self.words,
+                &self.trunks,
                 &self.config,
                 picture,
                 self.workers,
@@ -125,7 +131,7 @@ impl Engine {
                 return;
             }
         }
-        fill(&mut self.board, &self.config, picture);
+        fill(&mut self.board, &self.trunks, &self.config, picture);
     }
 
     /// Decides a moment and writes its lines to the sink: its first line, the lines of the aircraft, those of the bands of

@@ -4,20 +4,25 @@ ghost use Rattle.daa_bands.specs.Board.{IsBoardOf};
 ghost use Rattle.daa_config.specs.Candidates.{candidates_of};
 ghost use Rattle.daa_state.specs.InRange.{IsPictureInRange};
 ghost use Rattle.daa_state.specs.Picture.{aircraft_of};
+ghost use Rattle.daa_scan.specs.Trunks.{AreTrunksOf};
 ghost use Rattle.daa_engine.specs.Covered.{CoveredAt, scene_of};
 ghost use Rattle.daa_engine.specs.Filling.{AddsAircraft};
 
 use daa_bands::Board;
 use daa_config::Config;
-use daa_scan::Scene;
+use daa_scan::{Scene, Trunks};
 use daa_state::Picture;
 
+/// Room for a mask of each candidate; a configuration has at most 1897.
+const MASKS: usize = 2048;
+
 /// Marks the levels at which each candidate is covered, and no others.
-pub(crate) fn fill(board: &mut Board, config: &Config, picture: &Picture)
-    requires { IsPictureInRange picture.now }
+pub(crate) fn fill(board: &mut Board, trunks: &Trunks, config: &Config, picture: &Picture)
+    requires picture { IsPictureInRange picture.now }
+    requires trunks { AreTrunksOf config.now picture.now.own trunks.now }
     ensures { IsBoardOf (CoveredAt config.now picture.now) config.now board.new }
 {
-    let scene = Scene::of(config, picture);
+    let scene = Scene::of(config, picture, trunks);
     board.clear();
     for place in 0..picture.traffic.len() as u32 {
         mark_aircraft(board, &scene, config, place);
@@ -33,7 +38,9 @@ fn mark_aircraft(board: &mut Board, scene: &Scene, config: &Config, place: u32)
     if !scene.in_reach(place) {
         return;
     }
+    let mut masks = [0u8; MASKS];
+    scene.levels_from(0, place, &mut masks);
     for index in 0..config.total() {
-        board.mark(index, scene.levels(index, place));
+        board.mark(index, masks[index as usize]);
     }
 }

@@ -3,6 +3,7 @@ ghost use Rattle.std.specs.Prelude.{◌≡◌, ◌<◌, ◌≤◌, OnErr, OnOk, 
 ghost use Rattle.daa_bands.specs.Board.{IsBoardOf, board_size};
 ghost use Rattle.daa_scan.specs.Reach.{NoneIsMetOutOfReach};
 ghost use Rattle.daa_scan.specs.Units.{most_groups, most_units, AreWordsOf};
+ghost use Rattle.daa_scan.specs.Trunks.{AreTrunksOf};
 ghost use Rattle.daa_state.specs.InRange.{IsPictureInRange};
 ghost use Rattle.daa_engine.specs.Covered.{CoveredAt};
 ghost use Rattle.daa_engine.specs.EngineState.{IsWorkerCount, HasRoom};
@@ -12,7 +13,7 @@ use daa_bands::Board;
 use daa_config::Config;
 use daa_outside::Gate;
 use daa_pool::answer_all;
-use daa_scan::Scene;
+use daa_scan::{Scene, Trunks};
 use daa_schedule::{Answers, NoMemory};
 use daa_state::Picture;
 use std::alloc::Global;
@@ -26,19 +27,21 @@ pub(crate) fn fill_together<R: Threads + Sync, G: Gate>(
     alloc: Global,
     board: &mut Board,
     words: &mut Vec<u64>,
+    trunks: &Trunks,
     config: &Config,
     picture: &Picture,
     workers: u32,
     gate: &G,
 ) -> Result<(), NoMemory>
     requires picture { IsPictureInRange picture.now }
+    requires trunks { AreTrunksOf config.now picture.now.own trunks.now }
     requires room { HasRoom words.old.items }
     requires workers { IsWorkerCount workers }
     ensures room { HasRoom words.new.items }
     ensures board { OnOk result (IsBoardOf (CoveredAt config.now picture.now) config.now board.new) }
     ensures kept { OnErr result (board.new ≡ board.old) }
 {
-    let scene = Scene::of(config, picture);
+    let scene = Scene::of(config, picture, trunks);
     let units = scene.units() as usize;
     let words = &mut words.as_mut_slice()[..units];
     if units > 0 {

@@ -10,11 +10,11 @@ use Rattle.daa_legs.proofs.Steady.{rem_small}
 use Rattle.daa_legs.proofs.Turns.{turned_right, turned_left}
 
 -- one turn back, and one turn on
-rem_back : (z : ℤ) → IsFrom (negsuc 359) (negsuc 0) z → int_rem_euclid z (pos 360) ≡ z +ℤ pos 360
+pub rem_back : (z : ℤ) → IsFrom (negsuc 359) (negsuc 0) z → int_rem_euclid z (pos 360) ≡ z +ℤ pos 360
 rem_back (pos a) h = absurd (omega (arith, ints, h.most))
 rem_back (negsuc a) h = omega (arith, ints, h.least)
 
-rem_on : (z : ℤ) → IsFrom (pos 360) (pos 719) z → int_rem_euclid z (pos 360) ≡ z -ℤ pos 360
+pub rem_on : (z : ℤ) → IsFrom (pos 360) (pos 719) z → int_rem_euclid z (pos 360) ≡ z -ℤ pos 360
 rem_on (pos a) h = omega (arith, ints, h.least, h.most)
 rem_on (negsuc a) h = absurd (omega (arith, ints, h.least))
 

@@ -12,3 +12,8 @@ pub mod AtLevel
 pub mod Walks
 pub mod Arriving
 pub mod Fits
+pub mod Shares
+pub mod Leading
+pub mod Turning
+pub mod Branching
+pub mod Keeping

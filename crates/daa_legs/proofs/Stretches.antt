@@ -138,17 +138,17 @@ module _ (own : Own) (rates : Rates) (candidate : Candidate) (k : ℕ) (run : Ow
       step x v j = omega (arith, ints)
 
 module _ (settings : Settings) (own : Own) (candidate : Candidate) (aircraft : Traffic) (volume : Volume) (k : ℕ) (run : OwnRun) (r : IsRunOf own (rates_of settings) candidate k run) where
-  abbrev long : Leg
+  abbrev pub long : Leg
   long = relative_for run.secs (first_leg_of run) aircraft k
 
-  short_velocity : (j : ℕ) → j < run.secs → (relative_leg settings own candidate aircraft (k + j)).velocity ≡ long.velocity
+  pub short_velocity : (j : ℕ) → j < run.secs → (relative_leg settings own candidate aircraft (k + j)).velocity ≡ long.velocity
   unfolding relative_for
   short_velocity j h = ap (λ (v : Solid). record {
     flat = record { east = v.flat.east -ℤ aircraft.vx; north = v.flat.north -ℤ aircraft.vy };
     up = v.up -ℤ aircraft.vs;
   }) (r.same j h)
 
-  short_place : (j : ℕ) → j < run.secs → (n d : ℤ) → place_at (relative_leg settings own candidate aircraft (k + j)) n d ≡ place_at long (n +ℤ pos j *ℤ d) d
+  pub short_place : (j : ℕ) → j < run.secs → (n d : ℤ) → place_at (relative_leg settings own candidate aircraft (k + j)) n d ≡ place_at long (n +ℤ pos j *ℤ d) d
   unfolding relative_for
   short_place j h n d =
       let p : place_on own (rates_of settings) candidate (k + j) ≡ plus run.place (times (pos j) run.velocity) = place_within own (rates_of settings) candidate k run r j (omega (arith, h)) in
@@ -163,7 +163,7 @@ module _ (settings : Settings) (own : Own) (candidate : Candidate) (aircraft : T
         north = axis run.place.flat.north run.velocity.flat.north (pos 36 *ℤ aircraft.y) (pos (aircraft.age + k)) aircraft.vy (pos j) n d i;
       })
 
-  short_height : (j : ℕ) → j < run.secs → (n d : ℤ) → height_at (relative_leg settings own candidate aircraft (k + j)) n d ≡ height_at long (n +ℤ pos j *ℤ d) d
+  pub short_height : (j : ℕ) → j < run.secs → (n d : ℤ) → height_at (relative_leg settings own candidate aircraft (k + j)) n d ≡ height_at long (n +ℤ pos j *ℤ d) d
   unfolding relative_for
   short_height j h n d =
       let p : place_on own (rates_of settings) candidate (k + j) ≡ plus run.place (times (pos j) run.velocity) = place_within own (rates_of settings) candidate k run r j (omega (arith, h)) in

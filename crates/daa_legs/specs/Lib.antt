@@ -6,3 +6,6 @@ pub mod Relative
 pub mod Meeting
 pub mod Runs
 pub mod Alerts
+pub mod Shared
+pub mod Branch
+pub mod Kept

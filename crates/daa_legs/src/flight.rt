@@ -128,7 +128,7 @@ fn run_of(first: &OwnLeg, secs: u32) -> OwnRun
     }
 }
 
-fn sum(x: &Solid, y: &Solid) -> Solid
+pub(crate) fn sum(x: &Solid, y: &Solid) -> Solid
     requires x { IsSolidBelow 20000000 x.now }
     requires y { IsSolidBelow 20000 y.now }
     ensures { result ≡ plus x.now y.now }

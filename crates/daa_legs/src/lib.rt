@@ -2,20 +2,26 @@
 //! velocity, and how an aircraft sees them. A flight is flown in one-second legs, each straight at one velocity.
 #![tactic(auto)]
 
+mod branch;
 mod encounter;
 mod flight;
+mod joint;
 mod laws;
 mod motion;
 mod own_leg;
 #[cfg(test)]
 mod tests;
 mod traffic;
+mod trunk;
 mod turn;
 
+pub use branch::{Branch, branch_of};
 pub use encounter::{relative, relative_run};
 pub use flight::Flight;
+pub use joint::{leg_after, leg_at};
 pub use laws::{
     flights_begin_as_now, legs_join, legs_move_by_the_rates, new_reports_stand, turns_arrive,
     worked_examples,
 };
 pub use own_leg::{OwnLeg, OwnRun};
+pub use trunk::Trunk;

@@ -10,3 +10,9 @@ pub mod Numbers
 pub mod Packs
 pub mod Reaching
 pub mod Telling
+pub mod Nested
+pub mod Refusing
+pub mod Trails
+pub mod Marks
+pub mod Sides
+pub mod Shown

@@ -3,11 +3,17 @@
 #![tactic(auto)]
 
 mod laws;
+mod marking;
+mod nesting;
 mod reach;
+mod refusal;
 mod scene;
+mod sharing;
 #[cfg(test)]
 mod tests;
-mod walk;
+mod trail;
+mod trunks;
 
 pub use laws::worked_examples;
 pub use scene::Scene;
+pub use trunks::Trunks;

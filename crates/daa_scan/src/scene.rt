@@ -1,6 +1,6 @@
 //! A configuration with a moment: what the scan answers of it.
 
-ghost use Rattle.std.specs.Prelude.{◌≡◌, ◌<◌, ◌≤◌, ◌↔◌, ℕ, IsTrue, length, slice_get, slice_index, Some};
+ghost use Rattle.std.specs.Prelude.{◌≡◌, ◌<◌, ◌≤◌, ◌↔◌, ◌+◌, ◌^◌, ℕ, IsTrue, length, replicate, slice_get, slice_index, Some};
 ghost use Rattle.daa_config.specs.Candidates.{candidates_of};
 ghost use Rattle.daa_config.specs.Mask.{IsMaskOf};
 ghost use Rattle.daa_config.specs.Settings.{IsAccepted};
@@ -8,16 +8,21 @@ ghost use Rattle.daa_state.specs.InRange.{IsPictureInRange};
 ghost use Rattle.daa_state.specs.Picture.{aircraft_of};
 ghost use Rattle.daa_scan.specs.Reach.{IsInReachAt};
 ghost use Rattle.daa_scan.specs.Situation.{MeetsAt};
+ghost use Rattle.daa_scan.specs.Trunks.{AreTrunksOf};
 ghost use Rattle.daa_scan.specs.Units.{group_count, most_groups};
 ghost use Rattle.daa_scan.specs.Packed.{places_in_reach, packed_word, entry_at};
 
+use crate::marking::mark_levels;
 use crate::reach::is_in_reach;
-use crate::walk::levels_of;
+use crate::trunks::Trunks;
 use daa_config::packing::{GROUP, WIDTH};
 use daa_config::{Config, Kind};
 use daa_schedule::Answers;
 use daa_state::{Picture, Traffic};
 use std::marker::Model;
+
+/// How many candidates a word has.
+const PLACES: usize = 12;
 
 /// A configuration with a moment. Contracts see it as a `Situation`.
 #[derive(Drop)]
@@ -25,6 +30,7 @@ pub struct Scene<'a> {
     config: &'a Config,
     picture: &'a Picture,
     groups: u32,
+    trunks: &'a Trunks,
 }
 
 impl<'a> Model for Scene<'a> {
@@ -35,19 +41,21 @@ impl<'a> Model for Scene<'a> {
 
     ghost view = { λ s. record { settings = s.config.now; picture = s.picture.now } };
 
-    ghost invariant = { λ s. IsScene (record { settings = s.config.now; picture = s.picture.now }) s.groups };
+    ghost invariant = { λ s. IsScene (record { settings = s.config.now; picture = s.picture.now }) s.groups s.trunks.now };
 }
 
 impl<'a> Scene<'a> {
-    /// The scene of a configuration and an ended moment.
-    pub fn of(config: &'a Config, picture: &'a Picture) -> Scene<'a>
-        requires { IsPictureInRange picture.now }
+    /// The scene of a configuration and an ended moment, and the flights that lead on the sides of each kind.
+    pub fn of(config: &'a Config, picture: &'a Picture, trunks: &'a Trunks) -> Scene<'a>
+        requires picture { IsPictureInRange picture.now }
+        requires trunks { AreTrunksOf config.now picture.now.own trunks.now }
         ensures { result ≡ record { settings = config.now; picture = picture.now } }
     {
         Scene {
             config,
             picture,
             groups: groups_of(config),
+            trunks,
         }
     }
 
@@ -59,12 +67,31 @@ impl<'a> Scene<'a> {
         requires aircraft { aircraft < length (aircraft_of self.now.picture) }
         ensures { IsMaskOf (MeetsAt self.now index aircraft) (length self.now.settings.levels) result }
     {
-        levels_of(
+        // tells that the index is small
+        let _total = self.config.total();
+        let mut masks = [0u8; 1];
+        self.levels_from(index, aircraft, &mut masks);
+        masks[0]
+    }
+
+    /// The masks of the candidates from number `first` of the whole list on against an aircraft, each as `levels` gives it. The
+    /// masks are 0 before; places past the list stay so.
+    pub fn levels_from(&self, first: u32, aircraft: u32, masks: &mut [u8])
+        requires aircraft { aircraft < length (aircraft_of self.now.picture) }
+        requires short { first + length masks.old < 2 ^ 32 }
+        requires clear { masks.old ≡ replicate (length masks.old) 0 }
+        ensures masks { (j : ℕ) → j < length masks.new → first + j < length (candidates_of self.now.settings)
+            → IsMaskOf (MeetsAt self.now (first + j) aircraft) (length self.now.settings.levels) (slice_index masks.new j) }
+        ensures length { length masks.new ≡ length masks.old }
+    {
+        mark_levels(
             self.config,
             &self.picture.own,
-            self.config.candidate(index),
+            self.trunks,
             self.aircraft(aircraft),
-        )
+            first,
+            masks,
+        );
     }
 
     /// Whether the aircraft is near enough to be met: by its place now, the greatest speeds at which it and a candidate
@@ -125,24 +152,27 @@ impl<'a> Scene<'a> {
         requires group { group < most_groups }
         ensures { result ≡ packed_word self.now aircraft group }
     {
+        let mut masks = [0u8; PLACES];
+        self.levels_from(group * GROUP, aircraft, &mut masks);
         let mut word = 0;
         let mut j = GROUP;
         while j > 0 {
             j -= 1;
-            word = (word << WIDTH) + self.entry(aircraft, group * GROUP + j);
+            word = (word << WIDTH) + self.entry(aircraft, group * GROUP + j, masks[j as usize]);
         }
         word
     }
 
     /// What a word says of the candidate at an index: a bit that says that it is there, and above it the levels at which
-    /// it meets the aircraft; 0 where the index is past the list.
-    fn entry(&self, aircraft: u32, index: u32) -> u64
-        requires { aircraft < length (aircraft_of self.now.picture) }
+    /// it meets the aircraft, which are this mask; 0 where the index is past the list.
+    fn entry(&self, aircraft: u32, index: u32, mask: u8) -> u64
+        requires aircraft { aircraft < length (aircraft_of self.now.picture) }
+        requires mask { index < length (candidates_of self.now.settings) → IsMaskOf (MeetsAt self.now index aircraft) (length self.now.settings.levels) mask }
         ensures value { result ≡ entry_at self.now aircraft index }
         ensures small { result < 32 }
     {
         if index < self.config.total() {
-            1 + 2 * u64::from(self.levels(index, aircraft))
+            1 + 2 * u64::from(mask)
         } else {
             0
         }

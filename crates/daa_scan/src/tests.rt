@@ -2,6 +2,7 @@
 
 ghost use Rattle.std.specs.Prelude.{IfSome};
 ghost use Rattle.daa_state.specs.InRange.{IsPictureInRange};
+ghost use Rattle.daa_scan.specs.Trunks.{AreTrunksOf};
 
 mod by_seconds;
 mod reaching;
@@ -46,6 +47,16 @@ fn picture_in(lines: &[&str]) -> Option<Picture>
         }
     }
     None
+}
+
+/// The flights that lead on the sides of each kind.
+fn trunks_of(config: &Config, picture: &Picture) -> Trunks
+    requires { IsPictureInRange picture.now }
+    ensures { AreTrunksOf config.now picture.now.own result }
+{
+    let mut trunks = Trunks::new();
+    trunks.fill(&picture.own, config);
+    trunks
 }
 
 fn may_be_shared<T: Send + Sync>() {}

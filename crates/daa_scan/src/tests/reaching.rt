@@ -1,6 +1,6 @@
 //! Which aircraft are in reach: the last place that is, and the first that is not.
 
-use super::{Settings, config_of, picture_in};
+use super::{Settings, config_of, picture_in, trunks_of};
 use crate::Scene;
 use daa_config::examples::ONE_LEVEL;
 use std::test::Fail;
@@ -210,7 +210,8 @@ fn the_last_place_in_reach(rt: HostRuntime) -> Result<(), Fail> {
             "the lines of a moment",
         );
         assert!(rt; picture.traffic.len() == 1, "{}", row.shows);
-        let scene = Scene::of(&config, &picture);
+        let trunks = trunks_of(&config, &picture);
+        let scene = Scene::of(&config, &picture, &trunks);
         assert!(rt;
             scene.in_reach(0) == row.in_reach,
             "{}: {}",

@@ -3,7 +3,7 @@
 ghost use Rattle.daa_state.specs.InRange.{IsPictureInRange};
 
 use super::by_seconds::meets_by_seconds;
-use super::{Settings, config_of, picture_in};
+use super::{Settings, config_of, picture_in, trunks_of};
 use crate::Scene;
 use daa_config::Config;
 use daa_config::examples::{FOUR_LEVELS, ONE_LEVEL, THREE_LEVELS};
@@ -230,7 +230,8 @@ fn worked_rows(rt: HostRuntime) -> Result<(), Fail> {
             &rt,
             "the lines of a moment",
         );
-        let scene = Scene::of(&config, &picture);
+        let trunks = trunks_of(&config, &picture);
+        let scene = Scene::of(&config, &picture, &trunks);
         assert!(rt; config.total() == 8, "{}", row.shows);
         assert!(rt; picture.traffic.len() == 1, "{}", row.shows);
         for index in 0..config.total() {
@@ -249,7 +250,8 @@ fn worked_rows(rt: HostRuntime) -> Result<(), Fail> {
 fn expect_same_levels(rt: &impl Abort, config: &Config, picture: &Picture)
     requires { IsPictureInRange picture.now }
 {
-    let scene = Scene::of(config, picture);
+    let trunks = trunks_of(config, picture);
+    let scene = Scene::of(config, picture, &trunks);
     for place in 0..picture.traffic.len() {
         for index in 0..config.total() {
             let mask = scene.levels(index, place as u32);

@@ -3,7 +3,7 @@
 ghost use Rattle.std.specs.Prelude.{◌≡◌, ◌<◌, length};
 ghost use Rattle.daa_state.specs.Picture.{aircraft_of};
 
-use super::{Settings, config_of, picture_in};
+use super::{Settings, config_of, picture_in, trunks_of};
 use crate::Scene;
 use daa_config::Config;
 use daa_config::examples::ONE_LEVEL;
@@ -33,7 +33,8 @@ fn words_of_one_group(rt: HostRuntime) -> Result<(), Fail> {
         },
     )?;
     let picture = picture_in(&LINES).expect(&rt, "the lines of a moment");
-    let scene = Scene::of(&config, &picture);
+    let trunks = trunks_of(&config, &picture);
+    let scene = Scene::of(&config, &picture, &trunks);
     assert!(rt; scene.count_in_reach() == 2);
     assert!(rt; scene.units() == 2);
     assert!(rt; scene.word(0) == 0b00011_00011_00011_00001_00011_00011_00011_00011);
@@ -73,7 +74,8 @@ fn words_of_two_groups(rt: HostRuntime) -> Result<(), Fail> {
         },
     )?;
     let picture = picture_in(&LINES).expect(&rt, "the lines of a moment");
-    let scene = Scene::of(&config, &picture);
+    let trunks = trunks_of(&config, &picture);
+    let scene = Scene::of(&config, &picture, &trunks);
     assert!(rt; scene.units() == 4);
     assert!(rt;
         scene.word(2) == 0b00011_00011_00011_00011_00011_00011_00011_00011_00011_00011_00011_00011
@@ -103,7 +105,8 @@ fn no_units_where_none_is_in_reach(rt: HostRuntime) -> Result<(), Fail> {
     let none = ["moment 0", "own 0 0 1000 0 3600 0", "end"];
     for lines in [far.as_slice(), none.as_slice()] {
         let picture = picture_in(lines).expect(&rt, "the lines of a moment");
-        let scene = Scene::of(&config, &picture);
+        let trunks = trunks_of(&config, &picture);
+        let scene = Scene::of(&config, &picture, &trunks);
         assert!(rt; scene.units() == 0);
         assert!(rt; scene.count_in_reach() == 0);
     }

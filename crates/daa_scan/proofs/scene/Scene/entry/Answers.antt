@@ -12,16 +12,19 @@ abbrev shown : After-from → Situation
 shown c = record { settings = c.self.inside.config.now; picture = c.self.inside.picture.now }
 
 there : (c : After-from) → c.args.aircraft < length (aircraft_of (shown c).picture)
-there c = subst (λ (s : Situation). c.args.aircraft < length (aircraft_of s.picture)) (sym c.self.view_is) c.requires
+there c = subst (λ (s : Situation). c.args.aircraft < length (aircraft_of s.picture)) (sym c.self.view_is) c.requires.aircraft
 
-mask : (c : After-from) → IsMaskOf (MeetsAt (shown c) c.args.index c.args.aircraft) (length (shown c).settings.levels) c.levels.result
-mask c = subst (λ (s : Situation). IsMaskOf (MeetsAt s c.args.index c.args.aircraft) (length s.settings.levels) c.levels.result) (sym c.self.view_is) c.levels.ensures
+here : (c : After-from) → c.args.index < length (candidates_of c.args.self.now.settings)
+here c = subst (λ (s : Situation). c.args.index < length (candidates_of s.settings)) c.self.view_is (omega (arith, c.if-index-total.true, c.total.ensures.value))
+
+mask : (c : After-from) → IsMaskOf (MeetsAt (shown c) c.args.index c.args.aircraft) (length (shown c).settings.levels) c.args.mask
+mask c = subst (λ (s : Situation). IsMaskOf (MeetsAt s c.args.index c.args.aircraft) (length s.settings.levels) c.args.mask) (sym c.self.view_is) (c.requires.mask (here c))
 
 value : (c : After-from) → 1 + 2 * c.from.result ≡ entry_at (shown c) c.args.aircraft c.args.index
 value c =
-    let small : c.levels.result < 2 ^ 8 = omega (arith, c.levels.type_inv) in
+    let small : c.args.mask < 2 ^ 8 = omega (arith, c.ranges.mask.fits) in
     ap (λ (m : ℕ). 1 + 2 * m) c.from.ensures
-    ∙ entry_is (shown c) c.self.invariant.accepted c.self.invariant.picture c.args.aircraft c.args.index c.levels.result (omega (arith, c.if-index-total.true, c.total.ensures.value)) (there c) small (mask c)
+    ∙ entry_is (shown c) c.self.invariant.accepted c.self.invariant.picture c.args.aircraft c.args.index c.args.mask (omega (arith, c.if-index-total.true, c.total.ensures.value)) (there c) small (mask c)
 
 pub returns-then-index-total-clause-value : goal.returns-then-index-total-clause-value
 returns-then-index-total-clause-value c = subst (λ (s : Situation). 1 + 2 * c.from.result ≡ entry_at s c.args.aircraft c.args.index) c.self.view_is (value c)

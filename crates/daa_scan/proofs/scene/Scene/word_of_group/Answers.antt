@@ -7,6 +7,9 @@ use Rattle.daa_scan.proofs.scene.Scene.word_of_group.Goals as goal
 pub loop-j-init : goal.loop-j-init
 loop-j-init c = packed_start _
 
+pub entry-requires-clause-mask : goal.entry-requires-clause-mask
+entry-requires-clause-mask c h = c.levels_from.ensures.masks (c.loop-j.j - 1) (omega (arith, c.levels_from.ensures.length, c.loop-j.invariant.within, c.loop-j-test.true)) h
+
 pub loop-j-preserved : goal.loop-j-preserved
 loop-j-preserved c =
     let at : c.args.group * 12 + (c.loop-j.j - 1) ≡ index_in c.args.group (c.loop-j.j - 1) = omega arith in

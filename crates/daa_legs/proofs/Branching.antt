@@ -1,0 +1,77 @@
+-- Where a candidate meets an aircraft: on the legs that it flies as another does, on the leg after them, or on the straight rest.
+use Rattle.std.proofs.Common.{◌≡◌, ◌↔◌, ◌⊎◌, inl, inr, ⊎_elim, ℕ, zero, suc, ◌+◌, ◌-◌, ◌<◌, ◌≤◌, refl, ap, sym, subst, ◌∙◌, arith}
+use Rattle.std.proofs.lemmas.Bool.{cases_lt, cases_eq}
+use Rattle.daa_fixed.specs.declared.Solid.{Solid}
+use Rattle.daa_fixed.specs.declared.Leg.{Leg}
+use Rattle.daa_fixed.specs.Leg.{plus, sum_below}
+use Rattle.daa_fixed.specs.Time.{HoldsSometime}
+use Rattle.daa_taumod.specs.declared.Volume.{Volume}
+use Rattle.daa_taumod.specs.Volume.{Violates}
+use Rattle.daa_config.specs.declared.candidate.Candidate.{Candidate}
+use Rattle.daa_config.specs.declared.config.Rates.{Rates}
+use Rattle.daa_config.specs.Settings.{Settings, rates_of}
+use Rattle.daa_state.specs.declared.word.Own.{Own}
+use Rattle.daa_state.specs.declared.word.Traffic.{Traffic}
+use Rattle.daa_legs.specs.declared.own_leg.OwnLeg.{OwnLeg}
+use Rattle.daa_legs.specs.Motion.{velocity_on}
+use Rattle.daa_legs.specs.OwnLegs.{own_place, place_on, own_leg}
+use Rattle.daa_legs.specs.Relative.{relative_for}
+use Rattle.daa_legs.specs.Runs.{IsRunOf, MeetsBetween}
+use Rattle.daa_legs.specs.Meeting.{relative_leg, ViolatesOn, MeetsWithin}
+use Rattle.daa_legs.specs.Branch.{FliesAs, FliesOn}
+
+sums : (f g : ℕ → Solid) (k : ℕ) → ((j : ℕ) → j < k → f j ≡ g j) → sum_below f k ≡ sum_below g k
+sums f g zero h = refl
+sums f g (suc k) h = λ i. plus (sums f g k (λ j b. h j (omega (arith, b))) i) (h k (omega arith) i)
+
+module _ (own : Own) (rates : Rates) (candidate lead : Candidate) (n : ℕ) (alike : FliesAs own rates candidate lead n) where
+  -- it is where the other is, also when it leaves it
+  pub place_alike : (k : ℕ) → k ≤ n → place_on own rates candidate k ≡ place_on own rates lead k
+  unfolding place_on
+  place_alike k h = ap (λ (s : Solid). plus (own_place own) s) (sums (velocity_on own rates candidate) (velocity_on own rates lead) k (λ j b. alike.same j (omega (arith, b, h))))
+
+  pub leg_alike : (k : ℕ) → k < n → own_leg own rates candidate k ≡ own_leg own rates lead k
+  leg_alike k h = λ i. record { place = place_alike k (omega (arith, h)) i; velocity = alike.same k h i }
+
+-- the straight rest, from any leg that is not before
+pub straight_run : (own : Own) (rates : Rates) (candidate : Candidate) (n secs : ℕ) → FliesOn own rates candidate n
+    → IsRunOf own rates candidate n (record { place = place_on own rates candidate n; velocity = velocity_on own rates candidate n; secs = secs })
+straight_run own rates candidate n secs on = record { begins = refl; same = λ j h. on.same (n + j) (omega arith) }
+
+module _ (settings : Settings) (own : Own) (candidate lead : Candidate) (aircraft : Traffic) (volume : Volume) (n : ℕ) (alike : FliesAs own (rates_of settings) candidate lead n) where
+  pub violates_alike : (k : ℕ) → k < n → ViolatesOn settings own candidate aircraft volume k ↔ ViolatesOn settings own lead aircraft volume k
+  violates_alike k h =
+      let e : relative_leg settings own candidate aircraft k ≡ relative_leg settings own lead aircraft k = ap (λ (l : OwnLeg). relative_for 1 l aircraft k) (leg_alike own (rates_of settings) candidate lead n alike k h) in (
+        (λ v. subst (λ (l : Leg). HoldsSometime 1 (Violates l volume)) e v),
+        (λ v. subst (λ (l : Leg). HoldsSometime 1 (Violates l volume)) (sym e) v),
+      )
+
+  -- where it meets the aircraft within m seconds
+  pub record MeetsByBranch (m : ℕ) : Type 0 where
+    pub where_ : ((k : ℕ) × (k < n) × (k < m) × ViolatesOn settings own lead aircraft volume k) ⊎ (((n < m) × ViolatesOn settings own candidate aircraft volume n) ⊎ MeetsBetween settings own candidate aircraft volume (n + 1) m)
+
+  pub by_branch : (m : ℕ) → MeetsWithin settings own candidate aircraft volume m ↔ MeetsByBranch m
+  by_branch m = (there, back)
+    where
+      there : MeetsWithin settings own candidate aircraft volume m → MeetsByBranch m
+      there e = record {
+        where_ = ⊎_elim
+            (λ before. inl (e.leg, before, e.before, (violates_alike e.leg before).0 e.violates))
+            (λ late. inr (⊎_elim
+            (λ same. inl (subst (λ (k : ℕ). k < m) same e.before, subst (λ (k : ℕ). ViolatesOn settings own candidate aircraft volume k) same e.violates))
+            (λ other. inr (record { leg = e.leg; not_before = past e.leg late other; before = e.before; violates = e.violates }))
+            (cases_eq e.leg n)))
+            (cases_lt e.leg n);
+      }
+        where
+          past : (k : ℕ) → n ≤ k → (k ≡ n → ⊥) → n + 1 ≤ k
+          past k h o = ⊎_elim (λ l. absurd (o (omega (arith, h, l)))) (λ l. l) (cases_lt k (n + 1))
+
+      back : MeetsByBranch m → MeetsWithin settings own candidate aircraft volume m
+      back e = ⊎_elim
+          (λ (k, before, upto, v). record { leg = k; before = upto; violates = (violates_alike k before).1 v })
+          (λ o. ⊎_elim
+          (λ (upto, v). record { leg = n; before = upto; violates = v })
+          (λ r. record { leg = r.leg; before = r.before; violates = r.violates })
+          o)
+          e.where_

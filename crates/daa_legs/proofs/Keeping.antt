@@ -1,0 +1,29 @@
+-- A list of kept legs, one leg more.
+use Rattle.std.proofs.Common.{◌≡◌, ℕ, ◌+◌, ◌<◌, ◌≤◌, List, length, below_more, sym, ap, ◌∙◌, arith}
+use Rattle.std.specs.Prelude.{slice_index_or}
+use Rattle.std.proofs.lemmas.List.{get_or-set_same, get_or-set_other, length-set}
+use Rattle.std.proofs.Math.ListN.{set}
+use Rattle.daa_config.specs.declared.config.Rates.{Rates}
+use Rattle.daa_config.specs.declared.candidate.Candidate.{Candidate}
+use Rattle.daa_state.specs.declared.word.Own.{Own}
+use Rattle.daa_legs.specs.declared.own_leg.OwnLeg.{OwnLeg}
+use Rattle.daa_legs.specs.FlightProgress.{FlightProgress}
+use Rattle.daa_legs.specs.OwnLegs.{own_leg}
+use Rattle.daa_legs.specs.Kept.{AreLegsOf}
+
+module _ (own : Own) (rates : Rates) (candidate : Candidate) where
+  pub kept_none : (legs : List OwnLeg) → length legs ≡ 180 → AreLegsOf own rates candidate 0 legs
+  kept_none legs e = record { room = e; each = λ k d h. absurd (omega (arith, h)) }
+
+  pub kept_more : (k : ℕ) (legs : List OwnLeg) (leg : OwnLeg) → k < 180 → AreLegsOf own rates candidate k legs → leg ≡ own_leg own rates candidate k → AreLegsOf own rates candidate (k + 1) (set legs k leg)
+  kept_more k legs leg short h e = record {
+    room = length-set legs k leg ∙ h.room;
+    each = λ j d b. below_more (λ (i : ℕ). slice_index_or (set legs k leg) i d ≡ own_leg own rates candidate i) k
+        (λ i l. get_or-set_other legs k i leg d (omega (arith, l)) ∙ h.each i d l)
+        (get_or-set_same legs k leg d (omega (arith, short, h.room)) ∙ e)
+        j b;
+  }
+
+  -- the flight that has taken k legs
+  pub next_kept : (flight : FlightProgress) (k : ℕ) (leg : OwnLeg) → flight ≡ record { own = own; rates = rates; candidate = candidate; taken = k } → leg ≡ own_leg flight.own flight.rates flight.candidate flight.taken → leg ≡ own_leg own rates candidate k
+  next_kept flight k leg e l = l ∙ ap (λ (f : FlightProgress). own_leg f.own f.rates f.candidate f.taken) e

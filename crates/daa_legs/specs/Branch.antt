@@ -1,0 +1,31 @@
+-- How a candidate's flight leaves the one that leads on its side: before some leg both fly alike, and after that leg the candidate
+-- flies straight on.
+use Rattle.std.specs.Prelude.{◌≡◌, ℕ, ◌+◌, ◌<◌, ◌≤◌, ℤ, pos, negsuc, ◌+ℤ◌, ◌*ℤ◌, ◌≤ℤ◌, Bool, if◌then◌else◌}
+use Rattle.std.specs.Int.{int_rem_euclid}
+use Rattle.daa_config.specs.declared.config.Rates.{Rates}
+use Rattle.daa_config.specs.declared.candidate.Candidate.{Candidate}
+use Rattle.daa_config.specs.declared.candidate.Candidate.TheVariants.{Hold, Track, Speed, Climb, Height}
+use Rattle.daa_state.specs.declared.word.Own.{Own}
+use Rattle.daa_legs.specs.Motion.{velocity_on}
+
+-- the flight that leads on the candidate's side: half a turn, or to the greatest or the least value that may be asked for
+unfoldable pub lead_of : Own → Candidate → (upper : Bool) → Candidate
+lead_of own Hold upper = Hold
+lead_of own (Track c) upper = Track (int_rem_euclid (own.trk +ℤ (if upper then pos 180 else pos 181)) (pos 360))
+lead_of own (Speed g) upper = Speed (if upper then pos 10000 else pos 0)
+lead_of own (Climb w) upper = Climb (if upper then pos 10000 else negsuc 9999)
+lead_of own (Height a) upper = Height (if upper then pos 60000 else negsuc 1999)
+
+module _ (own : Own) (rates : Rates) where
+  -- before leg n the candidate flies as the other does
+  pub record FliesAs (candidate other : Candidate) (n : ℕ) : Type 0 where
+    pub same : (k : ℕ) → k < n → velocity_on own rates candidate k ≡ velocity_on own rates other k
+
+  -- from leg n on it keeps one velocity
+  pub record FliesOn (candidate : Candidate) (n : ℕ) : Type 0 where
+    pub same : (k : ℕ) → n ≤ k → velocity_on own rates candidate k ≡ velocity_on own rates candidate n
+
+-- so many whole seconds at the rate fit into the way
+pub record IsWholeLegs (way rate : ℤ) (n : ℕ) : Type 0 where
+  pub before : (k : ℕ) → k < n → (pos (k + 1) *ℤ rate) ≤ℤ way
+  pub after : (k : ℕ) → n < k → way ≤ℤ (pos k *ℤ rate)

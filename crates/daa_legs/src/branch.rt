@@ -1,0 +1,97 @@
+//! How a candidate's flight leaves the one that leads on its side.
+
+ghost use Rattle.std.specs.Prelude.{◌≡◌, ◌+◌, ◌≤ℤ◌, ◌-ℤ◌, pos, negsuc, true, false, IsTrue};
+ghost use Rattle.daa_fixed.specs.Size.{IsFrom, IsWithin};
+ghost use Rattle.daa_config.specs.Settings.{IsCandidateInRange, AreRatesInRange};
+ghost use Rattle.daa_state.specs.InRange.{IsOwnInRange};
+ghost use Rattle.daa_legs.specs.Branch.{lead_of, FliesAs, FliesOn, IsWholeLegs};
+ghost use Rattle.daa_legs.specs.Turn.{right_angle};
+
+use daa_config::{Candidate, Rates};
+use daa_fixed::feet;
+use daa_state::Own;
+
+/// A candidate flies before leg `leaves` as the flight does that leads on its side. Leg `leaves` is its own, and then it flies
+/// straight on.
+#[derive(Clone, Copy, Debug, PartialEq, Eq)]
+pub struct Branch {
+    /// To the right or up, else to the left or down.
+    pub upper: bool,
+    pub leaves: u32,
+}
+
+/// Where the candidate's flight leaves the leading one.
+pub fn branch_of(own: &Own, rates: &Rates, candidate: Candidate) -> Branch
+    requires own { IsOwnInRange own.now }
+    requires rates { AreRatesInRange rates.now }
+    requires candidate { IsCandidateInRange candidate }
+    ensures before { FliesAs own.now rates.now candidate (lead_of own.now candidate result.upper) result.leaves }
+    ensures after { FliesOn own.now rates.now candidate (result.leaves + 1) }
+{
+    match candidate {
+        Candidate::Hold => Branch {
+            upper: true,
+            leaves: 0,
+        },
+        Candidate::Track(c) => turn_away(own.trk, c, rates.turn),
+        Candidate::Speed(g) => way_to(i64::from(own.gs), i64::from(g), rates.gs),
+        Candidate::Climb(w) => way_to(i64::from(own.vs), i64::from(w), rates.vs),
+        Candidate::Height(a) => way_to(feet(own.alt), feet(a), rates.alt),
+    }
+}
+
+/// The turn from a track to another.
+fn turn_away(track: i32, c: i32, rate: i32) -> Branch
+    requires track { IsFrom (pos 0) (pos 359) track }
+    requires c { IsFrom (pos 0) (pos 359) c }
+    requires rate { IsFrom (pos 1) (pos 10000) rate }
+    ensures right { IsTrue result.upper → right_angle track c ≤ℤ pos 180 }
+    ensures left { result.upper ≡ false → pos 181 ≤ℤ right_angle track c }
+    ensures right_legs { IsTrue result.upper → IsWholeLegs (right_angle track c) rate result.leaves }
+    ensures left_legs { result.upper ≡ false → IsWholeLegs (pos 360 -ℤ right_angle track c) rate result.leaves }
+{
+    let right = (c - track).rem_euclid(360);
+    if right <= 180 {
+        Branch {
+            upper: true,
+            leaves: whole_legs(i64::from(right), rate),
+        }
+    } else {
+        Branch {
+            upper: false,
+            leaves: whole_legs(i64::from(360 - right), rate),
+        }
+    }
+}
+
+/// The way from a value to another.
+fn way_to(now: i64, target: i64, rate: i32) -> Branch
+    requires now { IsWithin 3600000 now }
+    requires target { IsWithin 3600000 target }
+    requires rate { IsFrom (pos 1) (pos 10000) rate }
+    ensures up { IsTrue result.upper → now ≤ℤ target }
+    ensures down { result.upper ≡ false → target ≤ℤ now }
+    ensures up_legs { IsTrue result.upper → IsWholeLegs (target -ℤ now) rate result.leaves }
+    ensures down_legs { result.upper ≡ false → IsWholeLegs (now -ℤ target) rate result.leaves }
+{
+    if now <= target {
+        Branch {
+            upper: true,
+            leaves: whole_legs(target - now, rate),
+        }
+    } else {
+        Branch {
+            upper: false,
+            leaves: whole_legs(now - target, rate),
+        }
+    }
+}
+
+/// How many whole seconds at a rate fit into a way.
+fn whole_legs(way: i64, rate: i32) -> u32
+    requires way { IsFrom (pos 0) (pos 7200000) way }
+    requires rate { IsFrom (pos 1) (pos 10000) rate }
+    ensures { IsWholeLegs way rate result }
+{
+    way as u32 / rate as u32
+}

@@ -1,0 +1,71 @@
+-- A test of a kept leg, and what a trail says.
+use Rattle.std.proofs.Common.{◌≡◌, ◌↔◌, ◌⊎◌, inl, inr, ⊎_elim, ℕ, ◌+◌, ◌<◌, ◌≤◌, Bool, List, ap, sym, subst, ◌∙◌, arith}
+use Rattle.std.proofs.lemmas.Bool.{cases_lt}
+use Rattle.std.specs.Prelude.{IsTrue, slice_index_or}
+use Rattle.daa_fixed.specs.declared.Leg.{Leg}
+use Rattle.daa_fixed.specs.Time.{HoldsSometime}
+use Rattle.daa_taumod.specs.declared.Volume.{Volume}
+use Rattle.daa_taumod.specs.Volume.{Violates}
+use Rattle.daa_config.specs.declared.candidate.Candidate.{Candidate}
+use Rattle.daa_config.specs.declared.config.Rates.{Rates}
+use Rattle.daa_config.specs.Settings.{Settings, AreRatesInRange, IsCandidateInRange, rates_of}
+use Rattle.daa_state.specs.declared.word.Own.{Own}
+use Rattle.daa_state.specs.declared.word.Traffic.{Traffic}
+use Rattle.daa_state.specs.InRange.{IsOwnInRange}
+use Rattle.daa_legs.specs.declared.own_leg.OwnLeg.{OwnLeg}
+use Rattle.daa_legs.specs.Branch.{FliesAs, FliesOn}
+use Rattle.daa_legs.specs.Kept.{AreLegsOf}
+use Rattle.daa_legs.specs.OwnLegs.{place_on, own_leg, IsOwnLegInRange}
+use Rattle.daa_legs.specs.Relative.{relative_for}
+use Rattle.daa_legs.specs.Runs.{IsRunOf, MeetsBetween}
+use Rattle.daa_legs.specs.Meeting.{ViolatesOn, MeetsWithin}
+use Rattle.daa_legs.proofs.Branching.{place_alike, straight_run, by_branch, MeetsByBranch}
+use Rattle.daa_legs.proofs.Places.{place_on-below, velocity_on-below}
+use Rattle.daa_scan.specs.declared.trail.Trail.{Trail}
+use Rattle.daa_scan.specs.Sharing.{IsTrailOf}
+
+pub kept_is : (own : Own) (rates : Rates) (candidate : Candidate) (n k : ℕ) (legs : List OwnLeg) (leg : OwnLeg) → AreLegsOf own rates candidate n legs → k < n → ((d : OwnLeg) → slice_index_or legs k d ≡ leg) → leg ≡ own_leg own rates candidate k
+kept_is own rates candidate n k legs leg h b e = sym (e leg) ∙ h.each k leg b
+
+pub own_leg-in_range : (own : Own) (rates : Rates) (candidate : Candidate) (k : ℕ) → IsOwnInRange own → AreRatesInRange rates → IsCandidateInRange candidate → k ≤ 180 → IsOwnLegInRange (own_leg own rates candidate k)
+own_leg-in_range own rates candidate k o r h b = record { place = place_on-below own rates candidate o r h k b; velocity = velocity_on-below own rates candidate o r h k }
+
+pub leg_tested : (settings : Settings) (own : Own) (candidate : Candidate) (aircraft : Traffic) (volume : Volume) (k : ℕ) (leg : OwnLeg) (rel : Leg) (hit : Bool)
+    → leg ≡ own_leg own (rates_of settings) candidate k → rel ≡ relative_for 1 leg aircraft k → IsTrue hit ↔ HoldsSometime rel.secs (Violates rel volume) → IsTrue hit ↔ ViolatesOn settings own candidate aircraft volume k
+unfolding relative_for
+leg_tested settings own candidate aircraft volume k leg rel hit e r h = subst (λ (l : Leg). IsTrue hit ↔ HoldsSometime l.secs (Violates l volume)) (r ∙ ap (λ (l : OwnLeg). relative_for 1 l aircraft k) e) h
+
+-- the candidate leaves the trunk where the trunk is
+pub leaves_there : (own : Own) (rates r : Rates) (candidate lead : Candidate) (n m : ℕ) (legs : List OwnLeg) (leg : OwnLeg) → r ≡ rates → FliesAs own rates candidate lead n → AreLegsOf own rates lead m legs → n < m
+    → ((d : OwnLeg) → slice_index_or legs n d ≡ leg) → leg.place ≡ place_on own r candidate n
+leaves_there own rates r candidate lead n m legs leg e alike h b k =
+    ap (λ (l : OwnLeg). l.place) (kept_is own rates lead m n legs leg h b k) ∙ sym (place_alike own rates candidate lead n alike n (omega arith)) ∙ ap (λ (x : Rates). place_on own x candidate n) (sym e)
+
+-- a test of the straight rest
+pub rest_tested : (settings : Settings) (own : Own) (candidate : Candidate) (aircraft : Traffic) (volume : Volume) (k secs m : ℕ) (rest : OwnLeg) (rel : Leg) (hit : Bool) → rest ≡ own_leg own (rates_of settings) candidate k
+    → FliesOn own (rates_of settings) candidate k → k + secs ≡ m
+    → (IsRunOf own (rates_of settings) candidate k (record { place = rest.place; velocity = rest.velocity; secs = secs }) → HoldsSometime rel.secs (Violates rel volume) ↔ MeetsBetween settings own candidate aircraft volume k (k + secs))
+    → IsTrue hit ↔ HoldsSometime rel.secs (Violates rel volume) → IsTrue hit ↔ MeetsBetween settings own candidate aircraft volume k m
+rest_tested settings own candidate aircraft volume k secs m rest rel hit e on s seconds tests =
+    let run = subst (λ (l : OwnLeg). IsRunOf own (rates_of settings) candidate k (record { place = l.place; velocity = l.velocity; secs = secs })) (sym e) (straight_run own (rates_of settings) candidate k secs on) in
+    let o = seconds run in
+    subst (λ (n : ℕ). IsTrue hit ↔ MeetsBetween settings own candidate aircraft volume k n) s ((λ t. o.0 (tests.0 t)), (λ v. tests.1 (o.1 v)))
+
+-- fewer legs
+pub fewer_legs : (own : Own) (rates : Rates) (candidate : Candidate) (n m : ℕ) (legs : List OwnLeg) → m ≤ n → AreLegsOf own rates candidate n legs → AreLegsOf own rates candidate m legs
+fewer_legs own rates candidate n m legs le h = record { room = h.room; each = λ k d b. h.each k d (omega (arith, b, le)) }
+
+module _ (settings : Settings) (own : Own) (candidate lead : Candidate) (aircraft : Traffic) (volume : Volume) (n m : ℕ) (alike : FliesAs own (rates_of settings) candidate lead n) (trail : Trail) (t : IsTrailOf settings own lead aircraft volume trail) where
+  pub hit_meets : IsTrue trail.hit → trail.walked < n → trail.walked < m → MeetsWithin settings own candidate aircraft volume m
+  hit_meets h a b = (by_branch settings own candidate lead aircraft volume n alike m).1 (record { where_ = inl (trail.walked, a, b, t.hit h) })
+
+  -- where the trail shows none, it is met on the leg on which it leaves the trunk, or later
+  pub later_meets : ((k : ℕ) → trail.walked ≤ k → k < n → k < m → ⊥) → MeetsWithin settings own candidate aircraft volume m
+      → ((n < m) × ViolatesOn settings own candidate aircraft volume n) ⊎ MeetsBetween settings own candidate aircraft volume (n + 1) m
+  later_meets never e = ⊎_elim
+      (λ (k, a, b, v). absurd (⊎_elim (λ l. t.none k l v) (λ g. never k g a b) (cases_lt k trail.walked)))
+      (λ o. o)
+      ((by_branch settings own candidate lead aircraft volume n alike m).0 e).where_
+
+  pub meets_later : ((n < m) × ViolatesOn settings own candidate aircraft volume n) ⊎ MeetsBetween settings own candidate aircraft volume (n + 1) m → MeetsWithin settings own candidate aircraft volume m
+  meets_later o = (by_branch settings own candidate lead aircraft volume n alike m).1 (record { where_ = inr o })

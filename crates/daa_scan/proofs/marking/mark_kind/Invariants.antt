@@ -1,0 +1,11 @@
+use Rattle.std.proofs.Common.{◌≡◌, ◌≤◌, ◌⊎◌, length}
+use Rattle.daa_scan.specs.Marking.{AreTrailsOf, AreMarked}
+use Rattle.daa_scan.proofs.marking.mark_kind.Given as goal
+
+-- the candidates so far have one level more, and the sides were walked so far
+abbrev pub invariant-loop-index : goal.invariant-loop-index
+invariant-loop-index l = record {
+  trails : AreTrailsOf l.config l.own l.aircraft l.level.volume l.fn.kind l.trails;
+  masks : AreMarked l.config l.own l.aircraft l.first l.index l.fn.l l.masks;
+  near : (l.index ≤ l.upto) ⊎ (l.index ≡ l.from);
+}

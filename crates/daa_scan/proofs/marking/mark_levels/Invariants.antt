@@ -1,0 +1,7 @@
+use Rattle.std.proofs.Common.{◌≡◌, length}
+use Rattle.daa_scan.specs.Marking.{AreMasks}
+use Rattle.daa_scan.proofs.marking.mark_levels.Given as goal
+
+-- the masks have the levels so far
+abbrev pub invariant-loop-l : goal.invariant-loop-l
+invariant-loop-l l = AreMasks l.config l.own l.aircraft l.first l.l l.masks

@@ -1,0 +1,33 @@
+-- The masks of a stretch of candidates against an aircraft, level by level.
+use Rattle.std.specs.Prelude.{◌≡◌, ℕ, ◌+◌, ◌<◌, ◌≤◌, ℤ, true, false, List, length, slice_get, slice_index, Some}
+use Rattle.daa_taumod.specs.declared.Volume.{Volume}
+use Rattle.daa_config.specs.declared.candidate.Candidate.{Candidate}
+use Rattle.daa_config.specs.declared.kind.Kind.{Kind}
+use Rattle.daa_config.specs.Candidates.{candidate_to, candidates_of}
+use Rattle.daa_config.specs.Mask.{IsMaskOf}
+use Rattle.daa_config.specs.Settings.{Settings}
+use Rattle.daa_state.specs.declared.word.Own.{Own}
+use Rattle.daa_state.specs.declared.word.Traffic.{Traffic}
+use Rattle.daa_legs.specs.Branch.{lead_of}
+use Rattle.daa_legs.specs.Meeting.{Meets}
+use Rattle.daa_scan.specs.Sharing.{IsTrailOf}
+use Rattle.daa_scan.specs.declared.marking.Trails.{Trails}
+
+module _ (settings : Settings) (own : Own) (aircraft : Traffic) where
+  -- both sides of a kind
+  pub record AreTrailsOf (volume : Volume) (kind : Kind) (trails : Trails) : Type 0 where
+    pub upper : (z : ℤ) → IsTrailOf settings own (lead_of own (candidate_to kind z) true) aircraft volume trails.upper
+    pub lower : (z : ℤ) → IsTrailOf settings own (lead_of own (candidate_to kind z) false) aircraft volume trails.lower
+
+  -- the masks are those of the candidates from number `first` on: those of the candidates before number `upto` have l + 1 levels,
+  -- the others l
+  pub record AreMarked (first upto l : ℕ) (masks : List ℕ) : Type 0 where
+    pub done : (j : ℕ) (candidate : Candidate) → j < length masks → first + j < upto → slice_get (candidates_of settings) (first + j) ≡ Some candidate
+        → IsMaskOf (Meets settings own candidate aircraft) (l + 1) (slice_index masks j)
+    pub left : (j : ℕ) (candidate : Candidate) → j < length masks → upto ≤ first + j → slice_get (candidates_of settings) (first + j) ≡ Some candidate
+        → IsMaskOf (Meets settings own candidate aircraft) l (slice_index masks j)
+
+  -- they have l levels
+  abbrev pub AreMasks : (first l : ℕ) (masks : List ℕ) → Type 0
+  AreMasks first l masks = (j : ℕ) (candidate : Candidate) → j < length masks → slice_get (candidates_of settings) (first + j) ≡ Some candidate
+      → IsMaskOf (Meets settings own candidate aircraft) l (slice_index masks j)

@@ -1,0 +1,355 @@
+//! The levels at which the candidates of a stretch of the whole list meet an aircraft. Level after level is gone through, and at
+//! each level the kinds: what the candidates of a side share of their flights is tested once.
+
+ghost use Rattle.std.specs.Prelude.{◌≡◌, ◌-◌, Bool, ◌<◌, ◌≤◌, ◌^◌, ◌↔◌, ◌+◌, ◌⊎◌, ℕ, ℤ, IsTrue, false, length, bit_or, slice_index, slice_get, Some, replicate};
+ghost use Rattle.std.specs.Int.{bit_at};
+ghost use Rattle.daa_taumod.specs.Volume.{IsVolumeInRange};
+ghost use Rattle.daa_config.specs.Candidates.{candidate_to, candidates_of, start_of, values_of};
+ghost use Rattle.daa_config.specs.Mask.{IsMaskOf};
+ghost use Rattle.daa_config.specs.Settings.{IsCandidateInRange, IsLevelAt, IsLevelInRange, IsInBounds, value_bounds, rates_of};
+ghost use Rattle.daa_config.specs.declared.candidate.Candidate.{Candidate};
+ghost use Rattle.daa_state.specs.declared.word.Own.{Own};
+ghost use Rattle.daa_state.specs.declared.word.Traffic.{Traffic};
+ghost use Rattle.daa_state.specs.InRange.{IsOwnInRange, IsTrafficInRange};
+ghost use Rattle.daa_legs.specs.Branch.{FliesAs, FliesOn, lead_of};
+ghost use Rattle.daa_legs.specs.Kept.{AreLegsOf};
+ghost use Rattle.daa_legs.specs.Meeting.{MeetsWithin, Meets};
+ghost use Rattle.daa_scan.specs.Sharing.{IsTrailOf};
+ghost use Rattle.daa_scan.specs.Trunks.{AreTrunksOf, trunk_in};
+ghost use Rattle.daa_scan.specs.Marking.{AreTrailsOf, AreMarked, AreMasks};
+
+use crate::nesting::lies_within;
+use crate::refusal::{kind_may_meet, present_leg};
+use crate::sharing::{meets_by_branch, walk_on};
+use crate::trail::Trail;
+use crate::trunks::{Trunks, lead_to};
+use daa_config::{Candidate, Config, Kind, Level};
+use daa_detect::is_hit;
+use daa_legs::{Branch, Trunk, branch_of};
+use daa_state::{Own, Traffic};
+
+/// How far the flights that lead on both sides of a kind were walked.
+#[derive(Clone, Copy, Debug)]
+pub(crate) struct Trails {
+    pub(crate) upper: Trail,
+    pub(crate) lower: Trail,
+}
+
+/// A trail before the first leg.
+const BEGUN: Trail = Trail {
+    walked: 0,
+    hit: false,
+};
+
+/// Sets the masks, which are 0, to those of the candidates from number `first` of the whole list on. Places past the list are as
+/// they were.
+pub(crate) fn mark_levels(
+    config: &Config,
+    own: &Own,
+    trunks: &Trunks,
+    aircraft: &Traffic,
+    first: u32,
+    masks: &mut [u8],
+)
+    requires own { IsOwnInRange own.now }
+    requires aircraft { IsTrafficInRange aircraft.now }
+    requires trunks { AreTrunksOf config.now own.now trunks.now }
+    requires short { first + length masks.old < 2 ^ 32 }
+    requires clear { masks.old ≡ replicate (length masks.old) 0 }
+    ensures masks { AreMasks config.now own.now aircraft.now first (length config.now.levels) masks.new }
+    ensures length { length masks.new ≡ length masks.old }
+{
+    for l in 0..config.levels() {
+        mark_level(config, own, trunks, aircraft, l, first, masks);
+    }
+}
+
+/// Goes on from `l` levels to the next.
+fn mark_level(
+    config: &Config,
+    own: &Own,
+    trunks: &Trunks,
+    aircraft: &Traffic,
+    l: u32,
+    first: u32,
+    masks: &mut [u8],
+)
+    requires own { IsOwnInRange own.now }
+    requires aircraft { IsTrafficInRange aircraft.now }
+    requires trunks { AreTrunksOf config.now own.now trunks.now }
+    requires l { l < length config.now.levels }
+    requires few { l < 8 }
+    requires short { first + length masks.old < 2 ^ 32 }
+    requires masks { AreMasks config.now own.now aircraft.now first l masks.old }
+    ensures masks { AreMasks config.now own.now aircraft.now first (l + 1) masks.new }
+    ensures length { length masks.new ≡ length masks.old }
+{
+    mark_present(config, own, aircraft, l, first, masks);
+    mark_kind(config, own, trunks, aircraft, l, Kind::Track, first, masks);
+    mark_kind(config, own, trunks, aircraft, l, Kind::Speed, first, masks);
+    mark_kind(config, own, trunks, aircraft, l, Kind::Climb, first, masks);
+    mark_kind(config, own, trunks, aircraft, l, Kind::Height, first, masks);
+}
+
+/// The same of the present flight alone, the first of the whole list.
+fn mark_present(
+    config: &Config,
+    own: &Own,
+    aircraft: &Traffic,
+    l: u32,
+    first: u32,
+    masks: &mut [u8],
+)
+    requires own { IsOwnInRange own.now }
+    requires aircraft { IsTrafficInRange aircraft.now }
+    requires l { l < length config.now.levels }
+    requires few { l < 8 }
+    requires masks { AreMasks config.now own.now aircraft.now first l masks.old }
+    ensures masks { AreMarked config.now own.now aircraft.now first 1 l masks.new }
+    ensures length { length masks.new ≡ length masks.old }
+{
+    if first == 0 && masks.len() > 0 {
+        masks[0] = present_mask(config, own, aircraft, l, masks[0]);
+    }
+}
+
+/// The mask of the present flight with one level more.
+fn present_mask(config: &Config, own: &Own, aircraft: &Traffic, l: u32, mask: u8) -> u8
+    requires own { IsOwnInRange own.now }
+    requires aircraft { IsTrafficInRange aircraft.now }
+    requires l { l < length config.now.levels }
+    requires few { l < 8 }
+    requires mask { IsMaskOf (Meets config.now own.now Candidate.Hold aircraft.now) l mask }
+    ensures { IsMaskOf (Meets config.now own.now Candidate.Hold aircraft.now) (l + 1) result }
+{
+    let level = config.level(l + 1);
+    let leg = present_leg(config, own, aircraft, level.lookahead);
+    let met = is_hit(&leg, &level.volume);
+    with_level(mask, l, met)
+}
+
+/// The same of the candidates of a kind, after those of the kinds before it.
+fn mark_kind(
+    config: &Config,
+    own: &Own,
+    trunks: &Trunks,
+    aircraft: &Traffic,
+    l: u32,
+    kind: Kind,
+    first: u32,
+    masks: &mut [u8],
+)
+    requires own { IsOwnInRange own.now }
+    requires aircraft { IsTrafficInRange aircraft.now }
+    requires trunks { AreTrunksOf config.now own.now trunks.now }
+    requires l { l < length config.now.levels }
+    requires few { l < 8 }
+    requires short { first + length masks.old < 2 ^ 32 }
+    requires masks { AreMarked config.now own.now aircraft.now first (start_of kind config.now) l masks.old }
+    ensures masks { AreMarked config.now own.now aircraft.now first (start_of kind config.now + length (values_of kind config.now)) l masks.new }
+    ensures length { length masks.new ≡ length masks.old }
+{
+    let level = config.level(l + 1);
+    if !kind_may_meet(config, own, kind, aircraft, level) {
+        return;
+    }
+    let nested = is_nested(config, l);
+    let mut trails = Trails {
+        upper: BEGUN,
+        lower: BEGUN,
+    };
+    let start = config.start(kind);
+    let end = start + config.count(kind);
+    let from = start.max(first);
+    let upto = end.min(first + masks.len() as u32);
+    for index in from..upto {
+        let j = (index - first) as usize;
+        masks[j] = next_mask(
+            config,
+            own,
+            trunks,
+            aircraft,
+            l,
+            level,
+            nested,
+            kind,
+            candidate_in(config, kind, index - start),
+            &mut trails,
+            masks[j],
+        );
+    }
+}
+
+/// Whether the level after level `l` lies within level `l`.
+fn is_nested(config: &Config, l: u32) -> bool
+    requires l { l < length config.now.levels }
+    requires few { l < 8 }
+    ensures some { IsTrue result → 1 ≤ l }
+    ensures nested { IsTrue result → (own : Own) (candidate : Candidate) (aircraft : Traffic) → Meets config.now own candidate aircraft (l + 1) → Meets config.now own candidate aircraft l }
+{
+    l > 0 && lies_within(config.level(l + 1), config.level(l))
+}
+
+/// The mask of a candidate with the level after level `l`.
+fn next_mask(
+    config: &Config,
+    own: &Own,
+    trunks: &Trunks,
+    aircraft: &Traffic,
+    l: u32,
+    level: &Level,
+    nested: bool,
+    kind: Kind,
+    candidate: Candidate,
+    trails: &mut Trails,
+    mask: u8,
+) -> u8
+    requires own { IsOwnInRange own.now }
+    requires aircraft { IsTrafficInRange aircraft.now }
+    requires few { l < 8 }
+    requires level { IsLevelInRange level.now }
+    requires at { IsLevelAt config.now (l + 1) level.now }
+    requires trunks { (upper : Bool) (z : ℤ) → AreLegsOf own.now (rates_of config.now) (lead_of own.now (candidate_to kind z) upper) level.now.lookahead (trunk_in trunks.now kind upper) }
+    requires some { IsTrue nested → 1 ≤ l }
+    requires nested { IsTrue nested → (candidate : Candidate) → Meets config.now own.now candidate aircraft.now (l + 1) → Meets config.now own.now candidate aircraft.now l }
+    requires candidate { IsCandidateInRange candidate }
+    requires of { (value : ℤ) × (candidate ≡ candidate_to kind value) }
+    requires trails { AreTrailsOf config.now own.now aircraft.now level.now.volume kind trails.old }
+    requires mask { IsMaskOf (Meets config.now own.now candidate aircraft.now) l mask }
+    ensures mask { IsMaskOf (Meets config.now own.now candidate aircraft.now) (l + 1) result }
+    ensures trails { AreTrailsOf config.now own.now aircraft.now level.now.volume kind trails.new }
+{
+    if nested && !has_level(mask, l) {
+        return mask;
+    }
+    let met = meets_shared(
+        config, own, trunks, aircraft, level, kind, candidate, trails,
+    );
+    with_level(mask, l, met)
+}
+
+/// Whether a mask has level `l`.
+fn has_level(mask: u8, l: u32) -> bool
+    requires some { 1 ≤ l }
+    requires few { l < 8 }
+    ensures { IsTrue result ↔ (bit_at mask (l - 1) ≡ 1) }
+{
+    mask >> (l - 1) & 1 == 1
+}
+
+/// The mask, with the level after level `l` where that one is met.
+fn with_level(mask: u8, l: u32, met: bool) -> u8
+    requires { l < 8 }
+    ensures met { IsTrue met → result ≡ bit_or mask (2 ^ l) }
+    ensures not_met { met ≡ false → result ≡ mask }
+{
+    if met { mask | 1 << l } else { mask }
+}
+
+/// Whether a candidate of a kind meets the aircraft within the level's lookahead.
+fn meets_shared(
+    config: &Config,
+    own: &Own,
+    trunks: &Trunks,
+    aircraft: &Traffic,
+    level: &Level,
+    kind: Kind,
+    candidate: Candidate,
+    trails: &mut Trails,
+) -> bool
+    requires own { IsOwnInRange own.now }
+    requires aircraft { IsTrafficInRange aircraft.now }
+    requires level { IsLevelInRange level.now }
+    requires trunks { (upper : Bool) (z : ℤ) → AreLegsOf own.now (rates_of config.now) (lead_of own.now (candidate_to kind z) upper) level.now.lookahead (trunk_in trunks.now kind upper) }
+    requires candidate { IsCandidateInRange candidate }
+    requires of { (value : ℤ) × (candidate ≡ candidate_to kind value) }
+    requires trails { AreTrailsOf config.now own.now aircraft.now level.now.volume kind trails.old }
+    ensures met { IsTrue result ↔ MeetsWithin config.now own.now candidate aircraft.now level.now.volume level.now.lookahead }
+    ensures trails { AreTrailsOf config.now own.now aircraft.now level.now.volume kind trails.new }
+{
+    let rates = config.rates();
+    let branch = branch_of(own, &rates, candidate);
+    let lead = lead_to(own, kind, branch.upper);
+    let trunk = trunks.trunk(kind, branch.upper);
+    if branch.upper {
+        meets_along(
+            config,
+            own,
+            candidate,
+            lead,
+            trunk,
+            &mut trails.upper,
+            &branch,
+            aircraft,
+            level,
+        )
+    } else {
+        meets_along(
+            config,
+            own,
+            candidate,
+            lead,
+            trunk,
+            &mut trails.lower,
+            &branch,
+            aircraft,
+            level,
+        )
+    }
+}
+
+/// The candidate at a place of a kind.
+fn candidate_in(config: &Config, kind: Kind, place: u32) -> Candidate
+    requires { place < length (values_of kind config.now) }
+    ensures value { slice_get (candidates_of config.now) (start_of kind config.now + place) ≡ Some result }
+    ensures in_range { IsCandidateInRange result }
+    ensures of { (value : ℤ) × (result ≡ candidate_to kind value) }
+{
+    let value = config.value(kind, place);
+    match kind {
+        Kind::Track => Candidate::Track(value),
+        Kind::Speed => Candidate::Speed(value),
+        Kind::Climb => Candidate::Climb(value),
+        Kind::Height => Candidate::Height(value),
+    }
+}
+
+/// Whether the candidate meets the aircraft within the level's lookahead. The trail is walked on as far as is needed.
+fn meets_along(
+    config: &Config,
+    own: &Own,
+    candidate: Candidate,
+    lead: Candidate,
+    trunk: &Trunk,
+    trail: &mut Trail,
+    branch: &Branch,
+    aircraft: &Traffic,
+    level: &Level,
+) -> bool
+    requires own { IsOwnInRange own.now }
+    requires candidate { IsCandidateInRange candidate }
+    requires lead { IsCandidateInRange lead }
+    requires aircraft { IsTrafficInRange aircraft.now }
+    requires level { IsLevelInRange level.now }
+    requires trunk { AreLegsOf own.now (rates_of config.now) lead level.now.lookahead trunk.now }
+    requires before { FliesAs own.now (rates_of config.now) candidate lead branch.now.leaves }
+    requires after { FliesOn own.now (rates_of config.now) candidate (branch.now.leaves + 1) }
+    requires trail { IsTrailOf config.now own.now lead aircraft.now level.now.volume trail.old }
+    ensures met { IsTrue result ↔ MeetsWithin config.now own.now candidate aircraft.now level.now.volume level.now.lookahead }
+    ensures trail { IsTrailOf config.now own.now lead aircraft.now level.now.volume trail.new }
+{
+    let upto = branch.leaves.min(level.lookahead);
+    *trail = walk_on(
+        trail,
+        config,
+        own,
+        lead,
+        trunk,
+        upto,
+        aircraft,
+        &level.volume,
+    );
+    meets_by_branch(
+        config, own, candidate, lead, trunk, trail, branch, aircraft, level,
+    )
+}

@@ -1,0 +1,148 @@
+//! What the candidates of one side share against an aircraft: the walk along the flight that leads on their side.
+
+ghost use Rattle.std.specs.Prelude.{◌≡◌, ◌≤◌, ◌<◌, ◌+◌, ◌↔◌, ◌⊎◌, IsTrue, false};
+ghost use Rattle.daa_taumod.specs.Volume.{IsVolumeInRange};
+ghost use Rattle.daa_config.specs.Settings.{IsCandidateInRange, IsLevelInRange, rates_of};
+ghost use Rattle.daa_state.specs.InRange.{IsOwnInRange, IsTrafficInRange};
+ghost use Rattle.daa_legs.specs.Branch.{FliesAs, FliesOn};
+ghost use Rattle.daa_legs.specs.Kept.{AreLegsOf};
+ghost use Rattle.daa_legs.specs.Meeting.{MeetsWithin, ViolatesOn};
+ghost use Rattle.daa_legs.specs.Runs.{MeetsBetween};
+ghost use Rattle.daa_scan.specs.Sharing.{IsTrailOf};
+
+use crate::trail::Trail;
+use daa_config::{Candidate, Config, Level};
+use daa_detect::is_hit;
+use daa_legs::{Branch, OwnRun, Trunk, leg_after, leg_at, relative, relative_run};
+use daa_state::{Own, Traffic};
+use daa_taumod::Volume;
+
+/// The trail walked on to leg `upto`, or to a hit.
+pub(crate) fn walk_on(
+    trail: &Trail,
+    config: &Config,
+    own: &Own,
+    lead: Candidate,
+    trunk: &Trunk,
+    upto: u32,
+    aircraft: &Traffic,
+    volume: &Volume,
+) -> Trail
+    requires own { IsOwnInRange own.now }
+    requires lead { IsCandidateInRange lead }
+    requires upto { upto ≤ 180 }
+    requires trunk { AreLegsOf own.now (rates_of config.now) lead upto trunk.now }
+    requires aircraft { IsTrafficInRange aircraft.now }
+    requires volume { IsVolumeInRange volume.now }
+    requires trail { IsTrailOf config.now own.now lead aircraft.now volume.now trail.now }
+    ensures trail { IsTrailOf config.now own.now lead aircraft.now volume.now result }
+    ensures done { result.hit ≡ false → upto ≤ result.walked }
+{
+    if trail.hit {
+        return *trail;
+    }
+    let mut walked = trail.walked;
+    while walked < upto {
+        if violates_on(config, own, lead, trunk, upto, walked, aircraft, volume) {
+            return Trail { walked, hit: true };
+        }
+        walked += 1;
+    }
+    Trail { walked, hit: false }
+}
+
+/// Whether a leg of the trunk violates the volume.
+fn violates_on(
+    config: &Config,
+    own: &Own,
+    lead: Candidate,
+    trunk: &Trunk,
+    upto: u32,
+    k: u32,
+    aircraft: &Traffic,
+    volume: &Volume,
+) -> bool
+    requires own { IsOwnInRange own.now }
+    requires lead { IsCandidateInRange lead }
+    requires upto { upto ≤ 180 }
+    requires k { k < upto }
+    requires trunk { AreLegsOf own.now (rates_of config.now) lead upto trunk.now }
+    requires aircraft { IsTrafficInRange aircraft.now }
+    requires volume { IsVolumeInRange volume.now }
+    ensures { IsTrue result ↔ ViolatesOn config.now own.now lead aircraft.now volume.now k }
+{
+    let _rates = config.rates();
+    is_hit(&relative(trunk.leg(k), aircraft, k), volume)
+}
+
+/// Whether the candidate meets the aircraft on the leg on which it leaves the trunk, or later.
+fn meets_after(
+    config: &Config,
+    own: &Own,
+    candidate: Candidate,
+    lead: Candidate,
+    trunk: &Trunk,
+    branch: &Branch,
+    aircraft: &Traffic,
+    level: &Level,
+) -> bool
+    requires own { IsOwnInRange own.now }
+    requires candidate { IsCandidateInRange candidate }
+    requires aircraft { IsTrafficInRange aircraft.now }
+    requires level { IsLevelInRange level.now }
+    requires leaves { branch.now.leaves < level.now.lookahead }
+    requires trunk { AreLegsOf own.now (rates_of config.now) lead level.now.lookahead trunk.now }
+    requires before { FliesAs own.now (rates_of config.now) candidate lead branch.now.leaves }
+    requires after { FliesOn own.now (rates_of config.now) candidate (branch.now.leaves + 1) }
+    ensures { IsTrue result ↔ (ViolatesOn config.now own.now candidate aircraft.now level.now.volume branch.now.leaves
+        ⊎ MeetsBetween config.now own.now candidate aircraft.now level.now.volume (branch.now.leaves + 1) level.now.lookahead) }
+{
+    let rates = config.rates();
+    let k = branch.leaves;
+    let first = leg_at(own, &rates, candidate, &trunk.leg(k).place, k);
+    if is_hit(&relative(&first, aircraft, k), &level.volume) {
+        return true;
+    }
+    if k + 1 >= level.lookahead {
+        return false;
+    }
+    let rest = leg_after(own, &rates, candidate, &first, k);
+    let run = OwnRun {
+        place: rest.place,
+        velocity: rest.velocity,
+        secs: level.lookahead - (k + 1),
+    };
+    is_hit(&relative_run(&run, aircraft, k + 1), &level.volume)
+}
+
+/// Whether the candidate meets the aircraft within the level's lookahead, where it leaves the trunk as the branch says.
+pub(crate) fn meets_by_branch(
+    config: &Config,
+    own: &Own,
+    candidate: Candidate,
+    lead: Candidate,
+    trunk: &Trunk,
+    trail: &Trail,
+    branch: &Branch,
+    aircraft: &Traffic,
+    level: &Level,
+) -> bool
+    requires own { IsOwnInRange own.now }
+    requires candidate { IsCandidateInRange candidate }
+    requires aircraft { IsTrafficInRange aircraft.now }
+    requires level { IsLevelInRange level.now }
+    requires trunk { AreLegsOf own.now (rates_of config.now) lead level.now.lookahead trunk.now }
+    requires before { FliesAs own.now (rates_of config.now) candidate lead branch.now.leaves }
+    requires after { FliesOn own.now (rates_of config.now) candidate (branch.now.leaves + 1) }
+    requires trail { IsTrailOf config.now own.now lead aircraft.now level.now.volume trail.now }
+    requires walked { trail.now.hit ≡ false → (branch.now.leaves ≤ trail.now.walked) ⊎ (level.now.lookahead ≤ trail.now.walked) }
+    ensures { IsTrue result ↔ MeetsWithin config.now own.now candidate aircraft.now level.now.volume level.now.lookahead }
+{
+    if trail.hit && trail.walked < branch.leaves && trail.walked < level.lookahead {
+        return true;
+    }
+    if branch.leaves >= level.lookahead {
+        return false;
+    }
+    meets_after(config, own, candidate, lead, trunk, branch, aircraft, level)
+}

@@ -1,0 +1,8 @@
+//! How far a leading flight was walked.
+
+/// The legs before `walked` violate nothing, and where there is a hit leg `walked` does.
+#[derive(Clone, Copy, Debug)]
+pub(crate) struct Trail {
+    pub(crate) walked: u32,
+    pub(crate) hit: bool,
+}
