@@ -1,5 +1,4 @@
-//! The levels at which a candidate meets an aircraft. Its flight is walked in runs of seconds with one velocity, and each
-//! run, cut at the level's lookahead, is tested as one leg.
+//! The levels at which a candidate meets an aircraft.
 
 ghost use Rattle.std.specs.Prelude.{◌≡◌, ◌<◌, ◌≤◌, ◌^◌, ◌↔◌, IsTrue, length, bit_or};
 ghost use Rattle.daa_config.specs.Mask.{IsMaskOf};
@@ -8,8 +7,7 @@ ghost use Rattle.daa_state.specs.InRange.{IsOwnInRange, IsTrafficInRange};
 ghost use Rattle.daa_legs.specs.Meeting.{MeetsWithin, Meets};
 
 use daa_config::{Candidate, Config, Level};
-use daa_detect::is_hit;
-use daa_legs::{Flight, relative_run};
+use daa_meet::meets_between;
 use daa_state::{Own, Traffic};
 
 /// The mask of the levels at which the candidate meets the aircraft; bit l - 1 stands for level l.
@@ -50,14 +48,13 @@ fn meets(
     requires level { IsLevelInRange level.now }
     ensures { IsTrue result ↔ MeetsWithin config.now own.now candidate aircraft.now level.now.volume level.now.lookahead }
 {
-    let mut flight = Flight::begin(own, config, candidate);
-    let mut k = 0;
-    while k < level.lookahead {
-        let run = flight.next_run(level.lookahead - k);
-        if is_hit(&relative_run(&run, aircraft, k), &level.volume) {
-            return true;
-        }
-        k += run.secs;
-    }
-    false
+    meets_between(
+        config,
+        own,
+        candidate,
+        aircraft,
+        &level.volume,
+        0,
+        level.lookahead,
+    )
 }
