@@ -1,5 +1,5 @@
 -- From the tests of a configuration's numbers to the ranges that they are in.
-use Rattle.std.proofs.Common.{◌≡◌, ◌≤◌, ◌%◌, ◌==◌, ℕ, zero, suc, true, false, ◌&&◌, List, [], ◌∷◌, length, map, Some, refl, arith, nat_lt, subst}
+use Rattle.std.proofs.Common.{◌≡◌, ◌≤◌, ◌%◌, ◌==◌, ℕ, zero, suc, true, false, ◌&&◌, List, [], ◌∷◌, length, map, Option, Some, None, option_map, refl, arith, nat_lt, subst}
 use Rattle.std.specs.Prelude.{ℤ, pos, negsuc, ◌≤ℤ◌, int_lt, int_le, nat_abs, slice_get, ◌-◌}
 use Rattle.std.specs.List.{list_all}
 use Rattle.std.proofs.lemmas.Int.{ints}
@@ -13,12 +13,15 @@ use Rattle.daa_config.specs.declared.limits.GridLimits.{GridLimits}
 use Rattle.daa_config.specs.declared.numbers.Grid.{Grid}
 use Rattle.daa_config.specs.declared.numbers.Numbers.{Numbers}
 use Rattle.daa_config.specs.declared.numbers.LevelNumbers.{LevelNumbers}
-use Rattle.daa_config.specs.Limits.{full_turn, resolve_bounds, turn_rate_bounds, track_step_bounds, gs_limits, vs_limits, alt_limits, level_limits, most_levels, most_values}
-use Rattle.daa_config.specs.Numbers.{is_in, grid_fits, track_step_fits, numbers_fit, level_fits, levels_are_wrong, count_of, has_too_many}
+use Rattle.daa_config.specs.declared.numbers.RecoveryNumbers.{RecoveryNumbers}
+use Rattle.daa_taumod.specs.declared.Volume.{Volume}
+use Rattle.daa_taumod.specs.Volume.{IsVolumeInRange}
+use Rattle.daa_config.specs.Limits.{full_turn, resolve_bounds, turn_rate_bounds, track_step_bounds, gs_limits, vs_limits, alt_limits, level_limits, recovery_limits, most_levels, most_values}
+use Rattle.daa_config.specs.Numbers.{is_in, grid_fits, track_step_fits, numbers_fit, recovery_fits, level_fits, levels_are_wrong, count_of, has_too_many}
 use Rattle.daa_config.specs.Stepped.{IsStepped}
 use Rattle.daa_config.specs.Settings.{IsInBounds, IsGridInRange, IsLevelInRange, IsAccepted}
 use Rattle.daa_config.specs.ConfigOf.{Written}
-use Rattle.daa_config.specs.Level.{level_of}
+use Rattle.daa_config.specs.Level.{level_of, cylinder_of}
 
 -- ---- tests
 
@@ -199,11 +202,42 @@ each_level (n ∷ ns) h (suc i) level e = each_level ns (and_parts (level_fits n
 
 -- ---- what is accepted
 
-pub accepted : (w : Written) → (numbers_fit w.numbers && list_all level_fits w.levels) ≡ true → levels_are_wrong w.numbers.resolve w.levels ≡ false
-    → has_too_many w.numbers ≡ false → IsAccepted (record { numbers = w.numbers; levels = map level_of w.levels })
+-- the numbers of a recovery that passes
+record RecoveryParts (n : RecoveryNumbers) : Type 0 where
+  hdist : IsInBounds recovery_limits.hdist n.hdist
+  vdist : IsInBounds recovery_limits.vdist n.vdist
+
+recovery_parts : (n : RecoveryNumbers) → recovery_fits (Some n) ≡ true → RecoveryParts n
+unfolding recovery_fits
+recovery_parts n h =
+    let a = and_parts (is_in recovery_limits.hdist n.hdist) _ h in
+    record { hdist = in_bounds _ _ a.0; vdist = in_bounds _ _ a.1 }
+
+-- neither is negative or large
+pub record IsRecoverySmall (n : RecoveryNumbers) : Type 0 where
+  pub hdist : IsFrom (pos 0) (pos 10000) n.hdist
+  pub vdist : IsFrom (pos 0) (pos 10000) n.vdist
+
+pub recovery_small : (n : RecoveryNumbers) → recovery_fits (Some n) ≡ true → IsRecoverySmall n
+recovery_small n h =
+    let p = recovery_parts n h in
+    record { hdist = widened 1 10000 n.hdist (omega arith) p.hdist; vdist = p.vdist }
+
+recovery_in_range : (r : Option RecoveryNumbers) → recovery_fits r ≡ true → (cylinder : Volume) → option_map cylinder_of r ≡ Some cylinder → IsVolumeInRange cylinder
+recovery_in_range None h cylinder e = absurd (cc e)
+recovery_in_range (Some n) h cylinder e =
+    let p = recovery_parts n h in
+    let hdist = sized 1 10000 n.hdist p.hdist in
+    let vdist = sized 0 10000 n.vdist p.vdist in
+    let same : cylinder_of n ≡ cylinder = cc in
+    subst IsVolumeInRange same (record { dthr = omega (arith, hdist); zthr = omega (arith, vdist); tthr = omega arith; tcoa = omega arith })
+
+pub accepted : (w : Written) → (numbers_fit w.numbers && (recovery_fits w.recovery && list_all level_fits w.levels)) ≡ true → levels_are_wrong w.numbers.resolve w.levels ≡ false
+    → has_too_many w.numbers ≡ false → IsAccepted (record { numbers = w.numbers; recovery = option_map cylinder_of w.recovery; levels = map level_of w.levels })
 unfolding levels_are_wrong has_too_many
 accepted w fit counted few =
     let b = and_parts (numbers_fit w.numbers) _ fit in
+    let v = and_parts (recovery_fits w.recovery) _ b.1 in
     let p = parts w.numbers b.0 in
     let l = or_parts (length w.levels == 0) _ counted in
     let m = or_parts (nat_lt most_levels (length w.levels)) _ l.1 in
@@ -221,7 +255,8 @@ accepted w fit counted few =
       alt = in_range _ _ p.alt y.1;
       some_level = omega arith;
       few_levels = omega arith;
-      level = λ l level at. each_level w.levels b.1 (l - 1) level at.there;
+      level = λ l level at. each_level w.levels v.1 (l - 1) level at.there;
+      recovery = recovery_in_range w.recovery v.0;
       resolve = record { least = p.resolve.least; most = rw same (not_below (pos (length w.levels)) w.numbers.resolve m.1) };
     }
 

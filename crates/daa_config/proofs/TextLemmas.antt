@@ -1,5 +1,5 @@
 -- What a document is, and that what is taken is in range.
-use Rattle.std.proofs.Common.{◌≡◌, ℕ, Bool, true, false, not, ◌&&◌, List, map, Some, None, Result, Ok, Err, cond, refl, subst}
+use Rattle.std.proofs.Common.{◌≡◌, ℕ, Bool, true, false, not, ◌&&◌, List, map, option_map, Some, None, Result, Ok, Err, cond, refl, subst}
 use Rattle.std.specs.List.{list_all}
 use Rattle.std.specs.Str.{IsUtf8, is_utf8}
 use Rattle.std.proofs.lemmas.Str.{IsUtf8-from_is_utf8, is_utf8-from_IsUtf8}
@@ -9,10 +9,10 @@ use Rattle.std.proofs.lemmas.Bool.{not-false}
 use Rattle.daa_config.specs.declared.fault.ConfigFault.{ConfigFault}
 use Rattle.daa_config.specs.Keys.{Text}
 use Rattle.daa_config.specs.Fault.{◌>>=◌}
-use Rattle.daa_config.specs.Numbers.{numbers_fit, level_fits, levels_are_wrong, has_too_many}
+use Rattle.daa_config.specs.Numbers.{numbers_fit, recovery_fits, level_fits, levels_are_wrong, has_too_many}
 use Rattle.daa_config.specs.Settings.{Settings, IsAccepted}
 use Rattle.daa_config.specs.ConfigOf.{document, document_of, written_of, settings_of, config_of, Written}
-use Rattle.daa_config.specs.Level.{level_of}
+use Rattle.daa_config.specs.Level.{level_of, cylinder_of}
 use Rattle.daa_config.proofs.RangeLemmas.{accepted}
 
 pub document_read : (t : List ℕ) (ms : Members) → IsUtf8 t → parse_document t ≡ Some ms → document t ≡ Some ms
@@ -40,8 +40,8 @@ past false e r y h = (refl, h)
 settled : (w : Written) (s : Settings) → settings_of w ≡ Ok s → IsAccepted s
 unfolding settings_of
 settled w s h =
-    let t : Settings = record { numbers = w.numbers; levels = map level_of w.levels } in
-    let ranges = past (not (numbers_fit w.numbers && list_all level_fits w.levels)) _ _ s h in
+    let t : Settings = record { numbers = w.numbers; recovery = option_map cylinder_of w.recovery; levels = map level_of w.levels } in
+    let ranges = past (not (numbers_fit w.numbers && (recovery_fits w.recovery && list_all level_fits w.levels))) _ _ s h in
     let levels = past (levels_are_wrong w.numbers.resolve w.levels) _ _ s ranges.1 in
     let many = past (has_too_many w.numbers) _ _ s levels.1 in
     let same : t ≡ s = cc (many.1) in

@@ -1,5 +1,5 @@
 -- The configuration that a text is, or the fault of least number that applies anywhere in it.
-use Rattle.std.specs.Prelude.{◌&&◌, not, List, length, map, nat_lt, Option, Some, None, Result, Ok, Err, if◌then◌else◌, option_and_then}
+use Rattle.std.specs.Prelude.{◌&&◌, not, List, length, map, nat_lt, Option, Some, None, Result, Ok, Err, if◌then◌else◌, option_and_then, option_map}
 use Rattle.std.specs.List.{list_all}
 use Rattle.std.specs.Option.{option_map_or}
 use Rattle.std.specs.Str.{is_utf8}
@@ -9,17 +9,19 @@ use Rattle.daa_config.specs.declared.fault.ConfigFault.{ConfigFault}
 use Rattle.daa_config.specs.declared.fault.ConfigFault.TheVariants.{TooLong, NotToml, UnknownKey, MissingKey, NotNumber, OutOfRange, Levels, TooMany}
 use Rattle.daa_config.specs.declared.numbers.Numbers.{Numbers}
 use Rattle.daa_config.specs.declared.numbers.LevelNumbers.{LevelNumbers}
-use Rattle.daa_config.specs.Document.{numbers_in, levels_in}
+use Rattle.daa_config.specs.declared.numbers.RecoveryNumbers.{RecoveryNumbers}
+use Rattle.daa_config.specs.Document.{numbers_in, recovery_in, levels_in}
 use Rattle.daa_config.specs.Fault.{◌>>=◌}
-use Rattle.daa_config.specs.Level.{level_of}
+use Rattle.daa_config.specs.Level.{level_of, cylinder_of}
 use Rattle.daa_config.specs.Keys.{Text, any_table, has_other_key, lacks_key}
 use Rattle.daa_config.specs.Limits.{longest_text}
-use Rattle.daa_config.specs.Numbers.{numbers_fit, level_fits, levels_are_wrong, has_too_many}
+use Rattle.daa_config.specs.Numbers.{numbers_fit, recovery_fits, level_fits, levels_are_wrong, has_too_many}
 use Rattle.daa_config.specs.Settings.{Settings}
 
 -- the numbers of a document, as they are written
 pub record Written : Type 0 where
   pub numbers : Numbers
+  pub recovery : Option RecoveryNumbers
   pub levels : List LevelNumbers
 
 -- ---- the faults, in the order of their numbers
@@ -36,7 +38,8 @@ document_of text =
 -- the numbers at their places, where each place holds a whole number
 unfoldable pub numbers_written : Members → Option Written
 numbers_written ms = option_and_then (λ numbers.
-    option_and_then (λ levels. Some (record { numbers = numbers; levels = levels })) (levels_in ms)) (numbers_in ms)
+    option_and_then (λ recovery.
+    option_and_then (λ levels. Some (record { numbers = numbers; recovery = recovery; levels = levels })) (levels_in ms)) (recovery_in ms)) (numbers_in ms)
 
 unfoldable pub written_of : Members → Result Written ConfigFault
 written_of ms =
@@ -46,10 +49,10 @@ written_of ms =
 
 unfoldable pub settings_of : Written → Result Settings ConfigFault
 settings_of w =
-    if not (numbers_fit w.numbers && list_all level_fits w.levels) then Err OutOfRange
+    if not (numbers_fit w.numbers && (recovery_fits w.recovery && list_all level_fits w.levels)) then Err OutOfRange
     else if levels_are_wrong w.numbers.resolve w.levels then Err Levels
     else if has_too_many w.numbers then Err TooMany
-    else Ok (record { numbers = w.numbers; levels = map level_of w.levels })
+    else Ok (record { numbers = w.numbers; recovery = option_map cylinder_of w.recovery; levels = map level_of w.levels })
 
 unfoldable pub config_of : Text → Result Settings ConfigFault
 config_of text = do

@@ -1,10 +1,11 @@
 -- The numbers that stand in a document.
-use Rattle.std.specs.Prelude.{ℤ, pos, List, [], ◌∷◌, Option, Some, option_and_then, codes}
+use Rattle.std.specs.Prelude.{ℤ, pos, List, [], ◌∷◌, Option, Some, None, option_and_then, codes}
 use Rattle.std.specs.Option.{option_map_or}
 use Rattle.toml.specs.Data.{Members, get_member, as_integer, as_table, Items, no_items, item}
 use Rattle.daa_config.specs.declared.numbers.Grid.{Grid}
 use Rattle.daa_config.specs.declared.numbers.Numbers.{Numbers}
 use Rattle.daa_config.specs.declared.numbers.LevelNumbers.{LevelNumbers}
+use Rattle.daa_config.specs.declared.numbers.RecoveryNumbers.{RecoveryNumbers}
 use Rattle.daa_config.specs.Keys.{Text, table_in, list_in}
 
 infixl 10 ◌>>=◌
@@ -31,6 +32,20 @@ grid_in ms = do
 -- the numbers of the kind whose table stands at a key
 unfoldable pub grid_at : Text → Members → Option Grid
 grid_at key ms = option_and_then grid_in (table_in key ms)
+
+-- the numbers of the recovery's table
+unfoldable pub cylinder_in : Members → Option RecoveryNumbers
+cylinder_in ms = do
+  hdist ← number_at (codes "hdist") ms
+  vdist ← number_at (codes "vdist") ms
+  Some (record { hdist = hdist; vdist = vdist })
+
+-- the same, where there is such a table; a document without one has none
+unfoldable pub recovery_in : Members → Option (Option RecoveryNumbers)
+recovery_in ms = option_map_or (λ found. do
+  table ← as_table found
+  cylinder ← cylinder_in table
+  Some (Some cylinder)) (get_member (codes "recovery") ms) (Some None)
 
 -- the numbers of a level's table
 unfoldable pub level_in : Members → Option LevelNumbers

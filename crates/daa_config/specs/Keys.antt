@@ -16,7 +16,7 @@ pub record TableKeys : Type 0 where
 abbrev pub document_keys : TableKeys
 document_keys = record {
   required = codes "resolve" ∷ codes "turn_rate" ∷ codes "track_step" ∷ codes "gs" ∷ codes "vs" ∷ codes "alt" ∷ codes "level" ∷ [];
-  optional = [];
+  optional = codes "recovery" ∷ [];
 }
 
 -- of ground speed, vertical speed and altitude
@@ -30,6 +30,13 @@ abbrev pub level_keys : TableKeys
 level_keys = record {
   required = codes "dthr" ∷ codes "zthr" ∷ codes "tthr" ∷ codes "tcoa" ∷ codes "lookahead" ∷ codes "alert" ∷ [];
   optional = codes "tcpa" ∷ [];
+}
+
+-- of the cylinder that a recovery stays out of
+abbrev pub recovery_keys : TableKeys
+recovery_keys = record {
+  required = codes "hdist" ∷ codes "vdist" ∷ [];
+  optional = [];
 }
 
 -- the name is among these
@@ -77,4 +84,5 @@ any_table differs ms =
     differs document_keys ms || (passes (differs grid_keys) (table_in (codes "gs") ms)
     || (passes (differs grid_keys) (table_in (codes "vs") ms)
     || (passes (differs grid_keys) (table_in (codes "alt") ms)
-    || any_level (differs level_keys) ms)))
+    || (passes (differs recovery_keys) (table_in (codes "recovery") ms)
+    || any_level (differs level_keys) ms))))

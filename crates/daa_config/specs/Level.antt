@@ -5,6 +5,7 @@ use Rattle.daa_taumod.specs.declared.Model.TheVariants.{Taumod, Tcpa}
 use Rattle.daa_taumod.specs.declared.Volume.{Volume}
 use Rattle.daa_config.specs.declared.level.Level.{Level}
 use Rattle.daa_config.specs.declared.numbers.LevelNumbers.{LevelNumbers}
+use Rattle.daa_config.specs.declared.numbers.RecoveryNumbers.{RecoveryNumbers}
 
 abbrev pub model_of : ℤ → Model
 model_of (pos zero) = Taumod
@@ -17,6 +18,16 @@ volume_of n = record {
   tthr = nat_abs n.tthr;
   tcoa = nat_abs n.tcoa;
   model = model_of n.tcpa;
+}
+
+-- the volume that a recovery stays out of: what is within these distances, however it moves
+abbrev pub cylinder_of : RecoveryNumbers → Volume
+cylinder_of n = record {
+  dthr = 36 * nat_abs n.hdist;
+  zthr = 60 * nat_abs n.vdist;
+  tthr = 0;
+  tcoa = 0;
+  model = Taumod;
 }
 
 abbrev pub level_of : LevelNumbers → Level

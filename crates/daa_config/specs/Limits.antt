@@ -3,6 +3,7 @@ use Rattle.std.specs.Prelude.{ℕ, ℤ, pos, neg_ℤ}
 use Rattle.daa_config.specs.declared.limits.Bounds.{Bounds}
 use Rattle.daa_config.specs.declared.limits.GridLimits.{GridLimits}
 use Rattle.daa_config.specs.declared.limits.LevelLimits.{LevelLimits}
+use Rattle.daa_config.specs.declared.limits.RecoveryLimits.{RecoveryLimits}
 
 abbrev pub from_to : ℤ → ℤ → Bounds
 from_to low high = record { 0 = low; 1 = high }
@@ -68,4 +69,11 @@ level_limits = record {
   lookahead = from_to (pos 1) (pos 180);
   alert = from_to (pos 1) (pos 180);
   tcpa = from_to (pos 0) (pos 1);
+}
+
+-- the cylinder that a recovery stays out of: 0.001 NM and ft
+abbrev pub recovery_limits : RecoveryLimits
+recovery_limits = record {
+  hdist = from_to (pos 1) (pos 10000);
+  vdist = from_to (pos 0) (pos 10000);
 }

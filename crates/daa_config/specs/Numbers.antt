@@ -1,11 +1,12 @@
 -- Which numbers a configuration may have: the tests of its ranges and counts.
-use Rattle.std.specs.Prelude.{ℕ, ℤ, pos, Bool, ◌&&◌, ◌||◌, ◌==◌, ◌+◌, ◌/◌, ◌%◌, nat_lt, int_lt, int_le, nat_abs, ◌-ℤ◌, List, length}
+use Rattle.std.specs.Prelude.{ℕ, ℤ, pos, Bool, ◌&&◌, ◌||◌, ◌==◌, ◌+◌, ◌/◌, ◌%◌, nat_lt, int_lt, int_le, nat_abs, ◌-ℤ◌, List, length, Option, Some, None, true}
 use Rattle.daa_config.specs.declared.limits.Bounds.{Bounds}
 use Rattle.daa_config.specs.declared.limits.GridLimits.{GridLimits}
 use Rattle.daa_config.specs.declared.numbers.Grid.{Grid}
 use Rattle.daa_config.specs.declared.numbers.Numbers.{Numbers}
 use Rattle.daa_config.specs.declared.numbers.LevelNumbers.{LevelNumbers}
-use Rattle.daa_config.specs.Limits.{full_turn, most_levels, most_values, resolve_bounds, turn_rate_bounds, track_step_bounds, gs_limits, vs_limits, alt_limits, level_limits}
+use Rattle.daa_config.specs.declared.numbers.RecoveryNumbers.{RecoveryNumbers}
+use Rattle.daa_config.specs.Limits.{full_turn, most_levels, most_values, resolve_bounds, turn_rate_bounds, track_step_bounds, gs_limits, vs_limits, alt_limits, level_limits, recovery_limits}
 
 -- the number is from low to high
 unfoldable pub is_in : Bounds → ℤ → Bool
@@ -33,6 +34,11 @@ level_fits l =
     is_in level_limits.dthr l.dthr && (is_in level_limits.zthr l.zthr && (is_in level_limits.tthr l.tthr
     && (is_in level_limits.tcoa l.tcoa && (is_in level_limits.lookahead l.lookahead
     && (is_in level_limits.alert l.alert && is_in level_limits.tcpa l.tcpa)))))
+
+-- the numbers of the recovery are in their ranges, where there are any
+unfoldable pub recovery_fits : Option RecoveryNumbers → Bool
+recovery_fits None = true
+recovery_fits (Some r) = is_in recovery_limits.hdist r.hdist && is_in recovery_limits.vdist r.vdist
 
 -- no level, more than may be, or resolve is above their number
 unfoldable pub levels_are_wrong : ℤ → List LevelNumbers → Bool

@@ -1,6 +1,7 @@
 -- A configuration as contracts see it, and what holds of every one that is accepted.
-use Rattle.std.specs.Prelude.{◌≡◌, ℕ, ℤ, pos, ◌-◌, ◌%◌, ◌≤◌, ◌≤ℤ◌, nat_abs, List, length, slice_get, Some}
+use Rattle.std.specs.Prelude.{◌≡◌, ℕ, ℤ, pos, ◌-◌, ◌%◌, ◌≤◌, ◌≤ℤ◌, nat_abs, List, length, slice_get, Option, Some}
 use Rattle.daa_fixed.specs.Size.{IsFrom}
+use Rattle.daa_taumod.specs.declared.Volume.{Volume}
 use Rattle.daa_taumod.specs.Volume.{IsVolumeInRange}
 use Rattle.daa_config.specs.declared.candidate.Candidate.{Candidate}
 use Rattle.daa_config.specs.declared.candidate.Candidate.TheVariants.{Hold, Track as ToTrack, Speed as ToSpeed, Climb as ToClimb, Height as ToHeight}
@@ -15,9 +16,11 @@ use Rattle.daa_config.specs.declared.numbers.Numbers.{Numbers}
 use Rattle.daa_config.specs.Limits.{from_to, full_turn, most_levels, most_values, turn_rate_bounds, track_step_bounds, gs_limits, vs_limits, alt_limits}
 use Rattle.daa_config.specs.Numbers.{count_of}
 
--- the numbers of a configuration, and its levels in units; the first of the list is level 1
+-- the numbers of a configuration, the cylinder that a recovery stays out of where one is asked for, and the levels in units; the first
+-- of the list is level 1
 pub record Settings : Type 0 where
   pub numbers : Numbers
+  pub recovery : Option Volume
   pub levels : List Level
 
 -- the level numbered l, from 1 on
@@ -87,4 +90,5 @@ pub record IsAccepted (s : Settings) : Type 0 where
   pub some_level : 1 ≤ length s.levels
   pub few_levels : length s.levels ≤ most_levels
   pub level : (l : ℕ) (level : Level) → IsLevelAt s l level → IsLevelInRange level
+  pub recovery : (cylinder : Volume) → s.recovery ≡ Some cylinder → IsVolumeInRange cylinder
   pub resolve : IsFrom (pos 1) (pos (length s.levels)) s.numbers.resolve

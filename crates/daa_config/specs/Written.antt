@@ -3,4 +3,4 @@ use Rattle.daa_config.specs.declared.reading.Found.{Found}
 use Rattle.daa_config.specs.ConfigOf.{Written}
 
 abbrev pub written_in : Found → Written
-written_in found = record { numbers = found.numbers; levels = found.levels.items }
+written_in found = record { numbers = found.numbers; recovery = found.recovery; levels = found.levels.items }

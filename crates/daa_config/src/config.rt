@@ -1,5 +1,5 @@
 //! A configuration that was accepted, and its readers.
-ghost use Rattle.std.specs.Prelude.{◌≡◌, ◌<◌, ◌+◌, ◌≤◌, length, slice_get, Some, pos, ℕ, ◌≤ℤ◌, ◌+ℤ◌, ◌*ℤ◌, All, Contains};
+ghost use Rattle.std.specs.Prelude.{◌≡◌, ◌<◌, ◌+◌, ◌≤◌, length, slice_get, option_map, Some, pos, ℕ, ◌≤ℤ◌, ◌+ℤ◌, ◌*ℤ◌, All, Contains};
 ghost use Rattle.daa_fixed.specs.Size.{IsFrom};
 ghost use Rattle.daa_config.specs.Stepped.{IsStepped};
 ghost use Rattle.daa_config.specs.Numbers.{count_of};
@@ -8,6 +8,7 @@ use crate::candidate::Candidate;
 use crate::kind::Kind;
 use crate::level::Level;
 use crate::numbers::{Grid, Numbers, count};
+use daa_taumod::Volume;
 use std::marker::Model;
 
 /// By how much a second may change the track (degrees), the ground speed (0.1 kt), the vertical speed
@@ -24,6 +25,7 @@ pub struct Rates {
 #[derive(Drop)]
 pub struct Config {
     numbers: Numbers,
+    recovery: Option<Volume>,
     levels: Vec<Level>,
 }
 
@@ -32,9 +34,9 @@ impl Model for Config {
 
     ghost Value = { Settings };
 
-    ghost view = { λ c. record { numbers = c.numbers; levels = c.levels.items } };
+    ghost view = { λ c. record { numbers = c.numbers; recovery = c.recovery; levels = c.levels.items } };
 
-    ghost invariant = { λ c. IsAccepted (record { numbers = c.numbers; levels = c.levels.items }) };
+    ghost invariant = { λ c. IsAccepted (record { numbers = c.numbers; recovery = c.recovery; levels = c.levels.items }) };
 }
 
 impl Config {
@@ -43,11 +45,24 @@ impl Config {
     ghost use Rattle.daa_config.specs.Candidates.{grid_of, values_of, least_of, greatest_of, candidates_of, start_of, IsCandidateOf};
 
     /// A configuration of these numbers.
-    pub(crate) fn new(numbers: Numbers, levels: Vec<Level>) -> Config
-        requires { IsAccepted (record { numbers = numbers; levels = levels.items }) }
-        ensures { result ≡ record { numbers = numbers; levels = levels.items } }
+    pub(crate) fn new(numbers: Numbers, recovery: Option<Volume>, levels: Vec<Level>) -> Config
+        requires { IsAccepted (record { numbers = numbers; recovery = recovery; levels = levels.items }) }
+        ensures { result ≡ record { numbers = numbers; recovery = recovery; levels = levels.items } }
     {
-        Config { numbers, levels }
+        Config {
+            numbers,
+            recovery,
+            levels,
+        }
+    }
+
+    /// The cylinder round each aircraft that a recovery stays out of, in units of 1/36000 NM and 1/60 ft: None exactly where
+    /// the configuration asks for no recovery.
+    pub fn recovery(&self) -> Option<&Volume>
+        ensures value { option_map (λ v. v.now) result ≡ self.now.recovery }
+        ensures accepted { IsAccepted self.now }
+    {
+        self.recovery.as_ref()
     }
 
     /// How many levels there are, 1 to 4.

@@ -3,9 +3,9 @@ ghost use Rattle.std.specs.Prelude.{◌≡◌, option_map, IfOk};
 ghost use Rattle.toml.specs.Data.{get_member};
 ghost use Rattle.toml.specs.View.{table_view, view, array_view, items_view};
 ghost use Rattle.daa_config.specs.Keys.{table_in, list_in};
-ghost use Rattle.daa_config.specs.Document.{number_at, number_or_zero, grid_in, grid_at, level_in, each_level, levels_in, numbers_in};
+ghost use Rattle.daa_config.specs.Document.{number_at, number_or_zero, grid_in, grid_at, cylinder_in, recovery_in, level_in, each_level, levels_in, numbers_in};
 
-use crate::numbers::{Grid, LevelNumbers, Numbers};
+use crate::numbers::{Grid, LevelNumbers, Numbers, RecoveryNumbers};
 use std::alloc::{AllocError, Global};
 use toml::value::Array;
 use toml::{Table, Value};
@@ -79,6 +79,28 @@ fn grid_found(table: &Table, key: &str) -> Option<Grid>
         Some(inner) => grid_of(inner),
         None => None,
     }
+}
+
+/// The numbers of the recovery's table, where each stands there as a whole number.
+#[tactic(auto, unfolding(crate::specs::Document::cylinder_in))]
+fn cylinder_of(table: &Table) -> Option<RecoveryNumbers>
+    ensures { result ≡ cylinder_in (table_view table.now) }
+{
+    Some(RecoveryNumbers {
+        hdist: whole_at(table, "hdist")?,
+        vdist: whole_at(table, "vdist")?,
+    })
+}
+
+/// The numbers of the recovery where the document has a table for it; a document without one asks for none.
+#[tactic(auto, unfolding(crate::specs::Document::recovery_in))]
+pub fn recovery_of(document: &Table) -> Option<Option<RecoveryNumbers>>
+    ensures { result ≡ recovery_in (table_view document.now) }
+{
+    let Some(found) = member_at(document, "recovery") else {
+        return Some(None);
+    };
+    Some(Some(cylinder_of(found.as_table()?)?))
 }
 
 /// The numbers of a level's table, where each stands there as a whole number.

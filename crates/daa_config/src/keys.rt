@@ -31,11 +31,16 @@ static DOCUMENT: Keys = Keys {
         "alt",
         "level",
     ],
-    optional: &[],
+    optional: &["recovery"],
 };
 
 static GRID: Keys = Keys {
     required: &["min", "max", "step", "rate"],
+    optional: &[],
+};
+
+static RECOVERY: Keys = Keys {
+    required: &["hdist", "vdist"],
     optional: &[],
 };
 
@@ -133,5 +138,6 @@ pub fn any_table_differs(difference: Difference, document: &Table) -> bool
         || (differs(difference, &GRID, table_at(document, "gs"))
             || (differs(difference, &GRID, table_at(document, "vs"))
                 || (differs(difference, &GRID, table_at(document, "alt"))
-                    || levels_differ(difference, document))))
+                    || (differs(difference, &RECOVERY, table_at(document, "recovery"))
+                        || levels_differ(difference, document)))))
 }

@@ -1,11 +1,11 @@
 //! Alert levels, in units.
-ghost use Rattle.std.specs.Prelude.{◌≡◌, ◌*◌, ℕ, pos, nat_abs, true, map, IfOk};
+ghost use Rattle.std.specs.Prelude.{◌≡◌, ◌*◌, ℕ, pos, nat_abs, true, map, option_map, IfOk};
 ghost use Rattle.std.specs.List.{list_all};
 ghost use Rattle.daa_fixed.specs.Size.{IsFrom};
-ghost use Rattle.daa_config.specs.Numbers.{level_fits};
-ghost use Rattle.daa_config.specs.Level.{level_of, model_of};
+ghost use Rattle.daa_config.specs.Numbers.{level_fits, recovery_fits};
+ghost use Rattle.daa_config.specs.Level.{level_of, cylinder_of, model_of};
 
-use crate::numbers::LevelNumbers;
+use crate::numbers::{LevelNumbers, RecoveryNumbers};
 use daa_fixed::{feet, mils};
 use daa_taumod::{Model, Volume};
 use std::alloc::{AllocError, Global};
@@ -70,6 +70,32 @@ fn in_units(numbers: &LevelNumbers) -> Level
         },
         lookahead: seconds(numbers.lookahead),
         alert: seconds(numbers.alert),
+    }
+}
+
+/// The cylinder of these numbers, which are in their ranges, where there are any.
+pub fn cylinder_in_units(recovery: &Option<RecoveryNumbers>) -> Option<Volume>
+    requires { recovery_fits recovery.now ≡ true }
+    ensures { result ≡ option_map cylinder_of recovery.now }
+{
+    match recovery {
+        None => None,
+        Some(numbers) => Some(in_cylinder(numbers)),
+    }
+}
+
+/// The cylinder of these numbers.
+fn in_cylinder(numbers: &RecoveryNumbers) -> Volume
+    requires hdist { IsFrom (pos 0) (pos 10000) numbers.now.hdist }
+    requires vdist { IsFrom (pos 0) (pos 10000) numbers.now.vdist }
+    ensures { result ≡ cylinder_of numbers.now }
+{
+    Volume {
+        dthr: horizontal(numbers.hdist),
+        zthr: vertical(numbers.vdist),
+        tthr: 0,
+        tcoa: 0,
+        model: Model::Taumod,
     }
 }
 

@@ -36,6 +36,13 @@ pub struct LevelLimits {
     pub tcpa: Bounds,
 }
 
+/// Where the numbers of a recovery may lie.
+#[derive(Clone, Copy, Debug)]
+pub struct RecoveryLimits {
+    pub hdist: Bounds,
+    pub vdist: Bounds,
+}
+
 /// The most bytes that a text may have.
 pub const LONGEST_TEXT: usize = 65536;
 
@@ -80,4 +87,9 @@ pub const LEVEL: LevelLimits = LevelLimits {
     lookahead: Bounds(1, 180),
     alert: Bounds(1, 180),
     tcpa: Bounds(0, 1),
+};
+
+pub const RECOVERY: RecoveryLimits = RecoveryLimits {
+    hdist: Bounds(1, 10000),
+    vdist: Bounds(0, 10000),
 };

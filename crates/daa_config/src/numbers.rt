@@ -2,10 +2,10 @@
 ghost use Rattle.std.specs.Prelude.{◌≡◌, true};
 ghost use Rattle.std.specs.List.{list_all};
 ghost use Rattle.daa_config.specs.Stepped.{IsStepped};
-ghost use Rattle.daa_config.specs.Numbers.{grid_fits, track_step_fits, numbers_fit, level_fits, levels_are_wrong, count_of, has_too_many};
+ghost use Rattle.daa_config.specs.Numbers.{grid_fits, track_step_fits, numbers_fit, recovery_fits, level_fits, levels_are_wrong, count_of, has_too_many};
 
 use crate::limits::{
-    ALT, FULL_TURN, GS, GridLimits, LEVEL, MOST_LEVELS, MOST_VALUES, RESOLVE, TRACK_STEP,
+    ALT, FULL_TURN, GS, GridLimits, LEVEL, MOST_LEVELS, MOST_VALUES, RECOVERY, RESOLVE, TRACK_STEP,
     TURN_RATE, VS,
 };
 
@@ -44,6 +44,13 @@ pub struct LevelNumbers {
     pub tcpa: i64,
 }
 
+/// The cylinder that a recovery stays out of, as the text has it: 0.001 NM and ft.
+#[derive(Clone, Copy, Debug)]
+pub struct RecoveryNumbers {
+    pub hdist: i64,
+    pub vdist: i64,
+}
+
 /// Whether the numbers of a kind are in their ranges, and its least value is not above its greatest.
 #[tactic(auto, unfolding(crate::specs::Numbers::grid_fits))]
 fn grid_is_in_range(limits: &GridLimits, grid: &Grid) -> bool
@@ -74,6 +81,19 @@ pub fn are_in_range(numbers: &Numbers) -> bool
                 && (grid_is_in_range(&GS, &numbers.gs)
                     && (grid_is_in_range(&VS, &numbers.vs)
                         && grid_is_in_range(&ALT, &numbers.alt)))))
+}
+
+/// Whether the numbers of the recovery are in their ranges, where there are any.
+#[tactic(auto, unfolding(crate::specs::Numbers::recovery_fits))]
+pub fn recovery_is_in_range(recovery: &Option<RecoveryNumbers>) -> bool
+    ensures { result ≡ recovery_fits recovery.now }
+{
+    match recovery {
+        None => true,
+        Some(numbers) => {
+            RECOVERY.hdist.contains(numbers.hdist) && RECOVERY.vdist.contains(numbers.vdist)
+        }
+    }
 }
 
 /// Whether the numbers of the level are in their ranges.

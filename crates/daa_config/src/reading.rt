@@ -4,18 +4,19 @@ ghost use Rattle.std.specs.List.{list_all};
 ghost use Rattle.toml.specs.View.{table_view};
 ghost use Rattle.daa_config.specs.declared.fault.ConfigFault.TheVariants.{NoMemory};
 ghost use Rattle.daa_config.specs.Fault.{Gives};
-ghost use Rattle.daa_config.specs.Numbers.{numbers_fit, level_fits};
+ghost use Rattle.daa_config.specs.Numbers.{numbers_fit, recovery_fits, level_fits};
 ghost use Rattle.daa_config.specs.Written.{written_in};
 ghost use Rattle.daa_config.specs.ConfigOf.{config_of, document_of, written_of, settings_of};
 
 use crate::config::Config;
-use crate::document::{levels_of, numbers_of};
+use crate::document::{levels_of, numbers_of, recovery_of};
 use crate::fault::ConfigFault;
 use crate::keys::{Difference, any_table_differs};
-use crate::level::all_in_units;
+use crate::level::{all_in_units, cylinder_in_units};
 use crate::limits::LONGEST_TEXT;
 use crate::numbers::{
-    LevelNumbers, Numbers, are_in_range, are_too_many, have_wrong_count, levels_are_in_range,
+    LevelNumbers, Numbers, RecoveryNumbers, are_in_range, are_too_many, have_wrong_count,
+    levels_are_in_range, recovery_is_in_range,
 };
 use std::alloc::Global;
 use toml::Table;
@@ -24,6 +25,7 @@ use toml::Table;
 #[derive(Debug, Drop)]
 struct Found {
     numbers: Numbers,
+    recovery: Option<RecoveryNumbers>,
     levels: Vec<LevelNumbers>,
 }
 
@@ -56,17 +58,25 @@ fn find(alloc: Global, document: &Table) -> Result<Found, ConfigFault>
     let Some(numbers) = numbers_of(document) else {
         return Err(ConfigFault::NotNumber);
     };
+    let Some(recovery) = recovery_of(document) else {
+        return Err(ConfigFault::NotNumber);
+    };
     match levels_of(alloc, document)? {
-        Some(levels) => Ok(Found { numbers, levels }),
+        Some(levels) => Ok(Found {
+            numbers,
+            recovery,
+            levels,
+        }),
         None => Err(ConfigFault::NotNumber),
     }
 }
 
 /// Whether every number is in its range.
 fn are_all_in_range(found: &Found) -> bool
-    ensures { result ≡ (numbers_fit found.now.numbers && list_all level_fits found.now.levels.items) }
+    ensures { result ≡ (numbers_fit found.now.numbers && (recovery_fits found.now.recovery && list_all level_fits found.now.levels.items)) }
 {
-    are_in_range(&found.numbers) && levels_are_in_range(found.levels.as_slice())
+    are_in_range(&found.numbers)
+        && (recovery_is_in_range(&found.recovery) && levels_are_in_range(found.levels.as_slice()))
 }
 
 /// The configuration of these numbers, where they may stand there.
@@ -84,7 +94,8 @@ fn check(alloc: Global, found: &Found) -> Result<Config, ConfigFault>
         return Err(ConfigFault::TooMany);
     }
     let levels = all_in_units(alloc, found.levels.as_slice())?;
-    Ok(Config::new(found.numbers, levels))
+    let recovery = cylinder_in_units(&found.recovery);
+    Ok(Config::new(found.numbers, recovery, levels))
 }
 
 /// The configuration that the text is, or the fault of least number that applies anywhere in it.

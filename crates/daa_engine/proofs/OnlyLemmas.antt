@@ -1,11 +1,14 @@
 -- A picture has no two texts, and no two boards.
-use Rattle.std.proofs.Common.{◌≡◌, ◌≤◌, ◌++◌, ◌∙◌, ℕ, List, [], ◌∷◌, length, sym, ap, ap₂, ⊎_elim}
+use Rattle.std.proofs.Common.{◌≡◌, ◌≤◌, ◌++◌, ◌∙◌, ℕ, List, [], ◌∷◌, length, refl, sym, ap, ap₂, subst, ⊎_elim, Bool, true, false, Option, option_map}
 use Rattle.std.specs.List.{flat_map}
 use Rattle.std.proofs.lemmas.Bool.{cases_lt}
 use Rattle.daa_config.specs.Candidates.{candidates_of}
 use Rattle.daa_config.specs.Settings.{Settings, IsAccepted}
 use Rattle.daa_config.specs.declared.kind.Kind.{Kind}
 use Rattle.daa_config.specs.declared.kind.Kind.TheVariants.{Track, Speed, Climb, Height}
+use Rattle.daa_config.specs.declared.candidate.Resolution.{Resolution}
+use Rattle.daa_recovery.specs.declared.recovery.Recovery.{Recovery}
+use Rattle.daa_recovery.proofs.Only.{recovery_only}
 use Rattle.daa_state.specs.Picture.{aircraft_of}
 use Rattle.daa_state.specs.declared.word.Picture.{Picture}
 use Rattle.daa_state.specs.declared.word.Traffic.{Traffic}
@@ -15,9 +18,9 @@ use Rattle.daa_bands.specs.Board.{HasLevelOn, IsBoardOf}
 use Rattle.daa_bands.proofs.KindLemmas.{kind_bands_only}
 use Rattle.daa_resolve.specs.declared.side.Side.TheVariants.{Lower, Upper}
 use Rattle.daa_resolve.proofs.OnlyLemmas.{one_answer}
-use Rattle.daa_report.specs.Lines.{Text, now_line, alert_line, resolve_line, moment_line, done_line}
+use Rattle.daa_report.specs.Lines.{Text, now_line, alert_line, resolve_line, recover_line, moment_line, done_line}
 use Rattle.daa_engine.specs.Covered.{CoveredAt}
-use Rattle.daa_engine.specs.MomentText.{AreAircraftLines, AreAlertLines, AreBandLines, IsAnswerLine, IsMomentText, line_of, of_each}
+use Rattle.daa_engine.specs.MomentText.{AreAircraftLines, AreAlertLines, AreBandLines, AreAnswers, IsRecoveryLine, IsRecoveryText, IsMomentText, line_of, of_each, wants_recovery, told_of}
 
 module _ (s : Settings) (p : Picture) where
   aircraft_only : (t : Traffic) (a b : Text) → AreAircraftLines s p t a → AreAircraftLines s p t b → a ≡ b
@@ -34,22 +37,49 @@ module _ (s : Settings) (p : Picture) where
   bands_only kind a b h k =
       h.2 ∙ ap (flat_map (line_of kind)) (kind_bands_only (CoveredAt s p) (length s.levels) s kind h.0 k.0 h.1 k.1) ∙ sym k.2
 
-  answer_only : IsAccepted s → (kind : Kind) (a b : Text) → IsAnswerLine s p kind a → IsAnswerLine s p kind b → a ≡ b
-  answer_only ok kind a b (lower, upper, is_lower, is_upper, e) (lower', upper', is_lower', is_upper', e') =
-      e ∙ ap₂ (resolve_line kind) (one_answer (CoveredAt s p) s p.own ok kind Lower lower lower' is_lower is_lower')
-      (one_answer (CoveredAt s p) s p.own ok kind Upper upper upper' is_upper is_upper') ∙ sym e'
+  lower_only : IsAccepted s → (kind : Kind) (lower upper lower' upper' : Resolution) → AreAnswers s p kind lower upper → AreAnswers s p kind lower' upper' → lower ≡ lower'
+  lower_only ok kind lower upper lower' upper' h k = one_answer (CoveredAt s p) s p.own ok kind Lower lower lower' h.lower_is k.lower_is
+
+  upper_only : IsAccepted s → (kind : Kind) (lower upper lower' upper' : Resolution) → AreAnswers s p kind lower upper → AreAnswers s p kind lower' upper' → upper ≡ upper'
+  upper_only ok kind lower upper lower' upper' h k = one_answer (CoveredAt s p) s p.own ok kind Upper upper upper' h.upper_is k.upper_is
+
+  recovery_line_only : (kind : Kind) (a b : Text) → IsRecoveryLine s p kind a → IsRecoveryLine s p kind b → a ≡ b
+  recovery_line_only kind a b (found, is, e) (found', is', e') =
+      e ∙ ap (λ (f : Option Recovery). recover_line kind (option_map told_of f)) (recovery_only s p kind found found' is is') ∙ sym e'
+
+  -- with the same answers a kind has one text of its recovery
+  recovery_text_only : (kind : Kind) (lower upper : Resolution) (a b : Text) → IsRecoveryText s p kind lower upper a → IsRecoveryText s p kind lower upper b → a ≡ b
+  recovery_text_only kind lower upper a b h k = by_wish (wants_recovery s lower upper) refl
+    where
+      by_wish : (w : Bool) → wants_recovery s lower upper ≡ w → a ≡ b
+      by_wish true e = recovery_line_only kind a b (h.line e) (k.line e)
+      by_wish false e = h.none e ∙ sym (k.none e)
+
+  recovery_only_of : (kind : Kind) (lower upper lower' upper' : Resolution) (a b : Text) → lower ≡ lower' → upper ≡ upper'
+      → IsRecoveryText s p kind lower upper a → IsRecoveryText s p kind lower' upper' b → a ≡ b
+  recovery_only_of kind lower upper lower' upper' a b e f h k =
+      recovery_text_only kind lower' upper' a b
+      (subst (λ (r : Resolution). IsRecoveryText s p kind lower' r a) f (subst (λ (r : Resolution). IsRecoveryText s p kind r upper a) e h)) k
 
   each_only : (f g : Kind → Text) → ((kind : Kind) → f kind ≡ g kind) → of_each f ≡ of_each g
   each_only f g e = let t = e Track in let s' = e Speed in let c = e Climb in let h = e Height in cc
 
   pub text_only : IsAccepted s → (a b : Text) → IsMomentText s p a → IsMomentText s p b → a ≡ b
-  text_only ok a b (alerts, bands, answers, are_alerts, are_bands, are_answers, e) (alerts', bands', answers', are_alerts', are_bands', are_answers', e') =
+  text_only ok a b (alerts, bands, lower, upper, recoveries, are_alerts, are_bands, are_answers, are_recoveries, e)
+      (alerts', bands', lower', upper', recoveries', are_alerts', are_bands', are_answers', are_recoveries', e') =
+      let answers : Kind → Text = λ kind. resolve_line kind (lower kind) (upper kind) in
+      let answers' : Kind → Text = λ kind. resolve_line kind (lower' kind) (upper' kind) in
+      let low = λ (kind : Kind). lower_only ok kind (lower kind) (upper kind) (lower' kind) (upper' kind) (are_answers kind) (are_answers' kind) in
+      let up = λ (kind : Kind). upper_only ok kind (lower kind) (upper kind) (lower' kind) (upper' kind) (are_answers kind) (are_answers' kind) in
       let x = alerts_only (aircraft_of p) alerts alerts' are_alerts are_alerts' in
       let y = each_only bands bands' (λ kind. bands_only kind (bands kind) (bands' kind) (are_bands kind) (are_bands' kind)) in
-      let z = each_only answers answers' (λ kind. answer_only ok kind (answers kind) (answers' kind) (are_answers kind) (are_answers' kind)) in
-      e ∙ ap (λ (t : Text). moment_line p.time ++ (t ++ (of_each bands ++ (of_each answers ++ done_line p.time)))) x
-      ∙ ap (λ (t : Text). moment_line p.time ++ (alerts' ++ (t ++ (of_each answers ++ done_line p.time)))) y
-      ∙ ap (λ (t : Text). moment_line p.time ++ (alerts' ++ (of_each bands' ++ (t ++ done_line p.time)))) z ∙ sym e'
+      let z = each_only answers answers' (λ kind. ap₂ (resolve_line kind) (low kind) (up kind)) in
+      let w = each_only recoveries recoveries' (λ kind. recovery_only_of kind (lower kind) (upper kind) (lower' kind) (upper' kind) (recoveries kind) (recoveries' kind)
+      (low kind) (up kind) (are_recoveries kind) (are_recoveries' kind)) in
+      e ∙ ap (λ (t : Text). moment_line p.time ++ (t ++ (of_each bands ++ (of_each answers ++ (of_each recoveries ++ done_line p.time))))) x
+      ∙ ap (λ (t : Text). moment_line p.time ++ (alerts' ++ (t ++ (of_each answers ++ (of_each recoveries ++ done_line p.time))))) y
+      ∙ ap (λ (t : Text). moment_line p.time ++ (alerts' ++ (of_each bands' ++ (t ++ (of_each recoveries ++ done_line p.time))))) z
+      ∙ ap (λ (t : Text). moment_line p.time ++ (alerts' ++ (of_each bands' ++ (of_each answers' ++ (t ++ done_line p.time))))) w ∙ sym e'
 
 -- ---- no two boards
 

@@ -1,5 +1,6 @@
 -- A picture in range has a text.
-use Rattle.std.proofs.Common.{◌≡◌, ◌++◌, ℕ, zero, suc, List, [], ◌∷◌, length, refl, subst, arith, inl, inr, ⊎_elim}
+use Rattle.std.specs.Prelude.{is_some}
+use Rattle.std.proofs.Common.{◌≡◌, ◌≢◌, ◌++◌, Bool, true, false, Option, Some, None, option_map, ℕ, zero, suc, List, [], ◌∷◌, length, refl, subst, arith, inl, inr, ⊎_elim}
 use Rattle.std.proofs.lemmas.Bool.{cases_lt}
 use Rattle.std.proofs.lemmas.Option.{slice_get_within}
 use Rattle.std.proofs.lemmas.List.Elements.{recursion_from_All}
@@ -21,10 +22,12 @@ use Rattle.daa_resolve.specs.Resolution.{IsResolution}
 use Rattle.daa_resolve.specs.declared.side.Side.{Side}
 use Rattle.daa_resolve.specs.declared.side.Side.TheVariants.{Lower, Upper}
 use Rattle.daa_resolve.proofs.SomeLemmas.{one_resolution}
-use Rattle.daa_report.specs.Lines.{Text, now_line, alert_line, resolve_line, moment_line, done_line}
+use Rattle.daa_config.specs.declared.candidate.Resolution.{Resolution}
+use Rattle.daa_recovery.proofs.Some.{one_recovery}
+use Rattle.daa_report.specs.Lines.{Text, now_line, alert_line, resolve_line, recover_line, moment_line, done_line}
 use Rattle.daa_engine.specs.Covered.{CoveredAt, scene_of}
 use Rattle.daa_engine.specs.Filling.{CoveredBelow}
-use Rattle.daa_engine.specs.MomentText.{AreAircraftLines, AreAlertLines, IsMomentText, line_of, of_each}
+use Rattle.daa_engine.specs.MomentText.{AreAircraftLines, AreAlertLines, IsRecoveryText, IsMomentText, line_of, of_each, are_nothing, wants_recovery, told_of}
 use Rattle.daa_engine.proofs.OnlyLemmas.{text_only}
 
 module _ (s : Settings) (p : Picture) (a : IsAccepted s) (r : IsPictureInRange p) where
@@ -73,19 +76,43 @@ module _ (s : Settings) (p : Picture) (a : IsAccepted s) (r : IsPictureInRange p
   answer : (kind : Kind) (side : Side) → HasOne (IsResolution (CoveredAt s p) s p.own kind side)
   answer kind side = one_resolution (CoveredAt s p) covered_told s p.own kind side a
 
+  recovery_texts : (kind : Kind) (lower upper : Resolution) → (text : Text) × IsRecoveryText s p kind lower upper text
+  recovery_texts kind lower upper = by_wish (is_some s.recovery) (are_nothing lower upper) refl refl
+    where
+      asked : {X : Type 0} (o : Option X) → is_some o ≡ true → o ≢ None
+      asked (Some v) e f = cc f
+      asked None e f = cc e
+
+      silent : wants_recovery s lower upper ≡ false → (text : Text) × IsRecoveryText s p kind lower upper text
+      silent e = ([], record { line = λ t. absurd (cc (t, e)); none = λ _. refl })
+
+      by_wish : (w n : Bool) → is_some s.recovery ≡ w → are_nothing lower upper ≡ n → (text : Text) × IsRecoveryText s p kind lower upper text
+      by_wish true true e f =
+          let f1 = one_recovery s a p kind r (asked s.recovery e) in
+          let t : wants_recovery s lower upper ≡ true = cc (e, f) in
+          (recover_line kind (option_map told_of f1.one), record { line = λ _. (f1.one, f1.is, refl); none = λ g. absurd (cc (t, g)) })
+      by_wish false n e f = silent (cc e)
+      by_wish true false e f = silent (cc (e, f))
+
   some_text : (text : Text) × IsMomentText s p text
   some_text =
       let alerts = alert_lines (aircraft_of p) (recursion_from_All IsTrafficInRange (aircraft_of p) r.traffic) in
       let band_text = λ (kind : Kind). flat_map (line_of kind) (bands kind).one in
-      let answer_text = λ (kind : Kind). resolve_line kind (answer kind Lower).one (answer kind Upper).one in (
-        moment_line p.time ++ (alerts.0 ++ (of_each band_text ++ (of_each answer_text ++ done_line p.time))),
+      let lower = λ (kind : Kind). (answer kind Lower).one in
+      let upper = λ (kind : Kind). (answer kind Upper).one in
+      let answer_text = λ (kind : Kind). resolve_line kind (lower kind) (upper kind) in
+      let recovery_text = λ (kind : Kind). (recovery_texts kind (lower kind) (upper kind)).0 in (
+        moment_line p.time ++ (alerts.0 ++ (of_each band_text ++ (of_each answer_text ++ (of_each recovery_text ++ done_line p.time)))),
         (
           alerts.0,
           band_text,
-          answer_text,
+          lower,
+          upper,
+          recovery_text,
           alerts.1,
           (λ kind. ((bands kind).one, (bands kind).is, refl)),
-          (λ kind. ((answer kind Lower).one, (answer kind Upper).one, (answer kind Lower).is, (answer kind Upper).is, refl)),
+          (λ kind. record { lower_is = (answer kind Lower).is; upper_is = (answer kind Upper).is }),
+          (λ kind. (recovery_texts kind (lower kind) (upper kind)).1),
           refl,
         ),
       )

@@ -1,5 +1,5 @@
 -- What is written of a moment is its text.
-use Rattle.std.proofs.Common.{◌≡◌, ◌<◌, ℕ, suc, List, [], ◌∷◌, length, refl, sym, subst, arith, slice_index_or}
+use Rattle.std.proofs.Common.{◌≡◌, ◌<◌, ℕ, suc, List, [], ◌∷◌, length, refl, sym, ap, subst, arith, slice_index_or}
 use Rattle.std.specs.Prelude.{Option, Result}
 use Rattle.std.specs.List.{flat_map, zip}
 use Rattle.daa_config.specs.Settings.{Settings, IsAccepted}
@@ -14,14 +14,18 @@ use Rattle.daa_bands.proofs.KindLemmas.{bands_covered}
 use Rattle.daa_bands.proofs.WalkLemmas.{all_bands}
 use Rattle.daa_resolve.specs.declared.side.Side.TheVariants.{Lower, Upper}
 use Rattle.daa_resolve.proofs.BoardLemmas.{resolved}
+use Rattle.daa_report.specs.Lines.{recover_line}
 use Rattle.daa_report.specs.Says.{Says, SaysSome}
 use Rattle.daa_engine.specs.Covered.{CoveredAt}
 use Rattle.daa_engine.specs.declared.alerts.AircraftAlert.{AircraftAlert}
 use Rattle.daa_engine.specs.declared.advice.Sides.{Sides}
 use Rattle.daa_engine.specs.declared.advice.Advice.{Advice}
-use Rattle.daa_engine.specs.Findings.{IsAircraftAlert, AreAircraftAlerts, AreSides, IsAdvice, alert_of}
-use Rattle.daa_engine.specs.MomentText.{AreAlertLines, AreBandLines, IsAnswerLine, IsMomentText}
-use Rattle.daa_engine.specs.Written.{aircraft_text, alerts_text, bands_text, bands_texts, sides_of, sides_text, advice_text, written}
+use Rattle.daa_engine.specs.declared.rescue.Rescue.{Rescue}
+use Rattle.daa_engine.specs.declared.rescue.Rescue.TheVariants.{Silent, Said}
+use Rattle.daa_engine.specs.declared.rescue.Rescues.{Rescues}
+use Rattle.daa_engine.specs.Findings.{IsAircraftAlert, AreAircraftAlerts, AreSides, IsAdvice, IsRescue, AreRescues, alert_of}
+use Rattle.daa_engine.specs.MomentText.{AreAlertLines, AreBandLines, AreAnswers, IsRecoveryText, IsMomentText}
+use Rattle.daa_engine.specs.Written.{aircraft_text, alerts_text, bands_text, bands_texts, sides_of, advice_text, rescue_text, rescue_of, rescues_text, written}
 
 -- ---- aircraft
 
@@ -40,6 +44,15 @@ alerts_are s p (t ∷ ts) (w ∷ ws) e h =
       refl,
     )
 
+-- ---- recoveries
+
+rescue_line : (s : Settings) (p : Picture) (kind : Kind) (sides : Sides) (rescue : Rescue) → IsRescue s p kind sides rescue → IsRecoveryText s p kind sides.lower sides.upper (rescue_text kind rescue)
+rescue_line s p kind sides Silent h = record { line = λ t. absurd (cc (t, h)); none = λ e. refl }
+rescue_line s p kind sides (Said found) h = record {
+  line = λ t. (h.1.0, h.1.1, ap (recover_line kind) h.1.2);
+  none = λ e. absurd (cc (h.0, e));
+}
+
 -- ---- the board stands for what is covered
 
 module _ (s : Settings) (p : Picture) (board : List ℕ) (is : IsBoardOf (CoveredAt s p) s board) (ok : IsAccepted s) where
@@ -47,45 +60,51 @@ module _ (s : Settings) (p : Picture) (board : List ℕ) (is : IsBoardOf (Covere
   unfolding bands_text
   band_lines kind = (bands_left board s kind 0, bands_covered (CoveredAt s p) s board ok is kind (bands_left board s kind 0) (all_bands board s kind), refl)
 
-  answer_line : (kind : Kind) (sides : Sides) → AreSides (HasLevelOn board) s p.own kind sides → IsAnswerLine s p kind (sides_text kind sides)
-  answer_line kind sides h = (
-    sides.lower,
-    sides.upper,
-    resolved (CoveredAt s p) s board ok is p.own kind Lower sides.lower h.lower,
-    resolved (CoveredAt s p) s board ok is p.own kind Upper sides.upper h.upper,
-    refl,
-  )
+  answers_are : (kind : Kind) (sides : Sides) → AreSides (HasLevelOn board) s p.own kind sides → AreAnswers s p kind sides.lower sides.upper
+  answers_are kind sides h = record {
+    lower_is = resolved (CoveredAt s p) s board ok is p.own kind Lower sides.lower h.lower;
+    upper_is = resolved (CoveredAt s p) s board ok is p.own kind Upper sides.upper h.upper;
+  }
 
-  pub moment_text : (alerts : List AircraftAlert) (advice : Advice) → AreAircraftAlerts s p.own (aircraft_of p) (length (aircraft_of p)) alerts
-      → IsAdvice (HasLevelOn board) s p.own advice → IsMomentText s p (written s p board alerts advice)
-  unfolding written alerts_text bands_texts advice_text
-  moment_text alerts advice w a = (
+  pub moment_text : (alerts : List AircraftAlert) (advice : Advice) (rescues : Rescues) → AreAircraftAlerts s p.own (aircraft_of p) (length (aircraft_of p)) alerts
+      → IsAdvice (HasLevelOn board) s p.own advice → AreRescues s p advice rescues → IsMomentText s p (written s p board alerts advice rescues)
+  unfolding written alerts_text bands_texts advice_text rescues_text
+  moment_text alerts advice rescues w a r = (
     flat_map aircraft_text (zip (aircraft_of p) alerts),
     bands_text s board,
-    (λ kind. sides_text kind (sides_of advice kind)),
+    (λ kind. (sides_of advice kind).lower),
+    (λ kind. (sides_of advice kind).upper),
+    (λ kind. rescue_text kind (rescue_of rescues kind)),
     alerts_are s p (aircraft_of p) alerts w.many w.each,
     band_lines,
-    lines,
+    answers,
+    recoveries,
     refl,
   )
     where
-      lines : (kind : Kind) → IsAnswerLine s p kind (sides_text kind (sides_of advice kind))
-      lines Track = answer_line Track advice.track a.track
-      lines Speed = answer_line Speed advice.speed a.speed
-      lines Climb = answer_line Climb advice.climb a.climb
-      lines Height = answer_line Height advice.height a.height
+      answers : (kind : Kind) → AreAnswers s p kind (sides_of advice kind).lower (sides_of advice kind).upper
+      answers Track = answers_are Track advice.track a.track
+      answers Speed = answers_are Speed advice.speed a.speed
+      answers Climb = answers_are Climb advice.climb a.climb
+      answers Height = answers_are Height advice.height a.height
+
+      recoveries : (kind : Kind) → IsRecoveryText s p kind (sides_of advice kind).lower (sides_of advice kind).upper (rescue_text kind (rescue_of rescues kind))
+      recoveries Track = rescue_line s p Track advice.track rescues.track r.track
+      recoveries Speed = rescue_line s p Speed advice.speed rescues.speed r.speed
+      recoveries Climb = rescue_line s p Climb advice.climb rescues.climb r.climb
+      recoveries Height = rescue_line s p Height advice.height rescues.height r.height
 
 -- ---- what was said is the moment's text, by whatever names it was found
 
-module _ {E : Type 0} (s : Settings) (p : Picture) (board : List ℕ) (alerts : List AircraftAlert) (advice : Advice) (a b : Option (List ℕ)) (x y : ℕ)
+module _ {E : Type 0} (s : Settings) (p : Picture) (board : List ℕ) (alerts : List AircraftAlert) (advice : Advice) (rescues : Rescues) (a b : Option (List ℕ)) (x y : ℕ)
     (r : Result (Unit {0}) E) (is : IsBoardOf (CoveredAt s p) s board) where
   abbrev Reported : Settings → List ℕ → List AircraftAlert → Type 0
   Reported s' board' slice =
-      IsAccepted s' → AreAircraftAlerts s' p.own (aircraft_of p) (length (aircraft_of p)) alerts → IsAdvice (HasLevelOn board') s' p.own advice
-      → Says {E = E} a b x y (written s' p board' slice advice) r → SaysSome {E = E} (IsMomentText s p) a b x y r
+      IsAccepted s' → AreAircraftAlerts s' p.own (aircraft_of p) (length (aircraft_of p)) alerts → IsAdvice (HasLevelOn board') s' p.own advice → AreRescues s' p advice rescues
+      → Says {E = E} a b x y (written s' p board' slice advice rescues) r → SaysSome {E = E} (IsMomentText s p) a b x y r
 
   known : Reported s board alerts
-  known ok w a said = (written s p board alerts advice, moment_text s p board is ok alerts advice w a, said)
+  known ok w a q said = (written s p board alerts advice rescues, moment_text s p board is ok alerts advice rescues w a q, said)
 
   pub reported : (s' : Settings) (board' : List ℕ) (slice : List AircraftAlert) → s' ≡ s → board' ≡ board → slice ≡ alerts → Reported s' board' slice
   reported s' board' slice e f h =

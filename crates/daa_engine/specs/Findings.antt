@@ -1,5 +1,5 @@
 -- What is found of a moment before it is written.
-use Rattle.std.specs.Prelude.{◌≡◌, ◌<◌, ℕ, List, length, slice_index_or}
+use Rattle.std.specs.Prelude.{◌≡◌, ◌<◌, ℕ, false, IsTrue, List, length, slice_index_or, Option, option_map}
 use Rattle.daa_config.specs.Settings.{Settings}
 use Rattle.daa_config.specs.declared.kind.Kind.{Kind}
 use Rattle.daa_config.specs.declared.kind.Kind.TheVariants.{Track, Speed, Climb, Height}
@@ -13,6 +13,13 @@ use Rattle.daa_resolve.specs.declared.side.Side.TheVariants.{Lower, Upper}
 use Rattle.daa_engine.specs.declared.alerts.AircraftAlert.{AircraftAlert}
 use Rattle.daa_engine.specs.declared.advice.Sides.{Sides}
 use Rattle.daa_engine.specs.declared.advice.Advice.{Advice}
+use Rattle.daa_recovery.specs.Recovery.{IsRecovery}
+use Rattle.daa_recovery.specs.declared.recovery.Recovery.{Recovery}
+use Rattle.daa_engine.specs.MomentText.{wants_recovery, told_of}
+use Rattle.daa_engine.specs.declared.rescue.Rescue.{Rescue}
+use Rattle.daa_engine.specs.declared.rescue.Rescue.TheVariants.{Silent, Said}
+use Rattle.daa_engine.specs.declared.rescue.Rescues.{Rescues}
+use Rattle.daa_state.specs.declared.word.Picture.{Picture}
 
 -- the alert by itself, without the level now
 abbrev pub alert_of : AircraftAlert → Alert
@@ -39,3 +46,17 @@ pub record IsAdvice (Covered : ℕ → ℕ → Type 0) (settings : Settings) (ow
   pub speed : AreSides Covered settings own Speed advice.speed
   pub climb : AreSides Covered settings own Climb advice.climb
   pub height : AreSides Covered settings own Height advice.height
+
+-- this is what the recovery line of a kind with these answers says
+abbrev pub IsRescue : Settings → Picture → Kind → Sides → Rescue → Type 0
+IsRescue settings picture kind sides Silent = wants_recovery settings sides.lower sides.upper ≡ false
+IsRescue settings picture kind sides (Said found) =
+    IsTrue (wants_recovery settings sides.lower sides.upper)
+    × ((r : Option Recovery) × IsRecovery settings picture kind r × (found ≡ option_map told_of r))
+
+-- and of all kinds
+pub record AreRescues (settings : Settings) (picture : Picture) (advice : Advice) (rescues : Rescues) : Type 0 where
+  pub track : IsRescue settings picture Track advice.track rescues.track
+  pub speed : IsRescue settings picture Speed advice.speed rescues.speed
+  pub climb : IsRescue settings picture Climb advice.climb rescues.climb
+  pub height : IsRescue settings picture Height advice.height rescues.height

@@ -1,8 +1,9 @@
 -- The text of a moment.
-use Rattle.std.specs.Prelude.{◌≡◌, ℕ, List, [], ◌∷◌, ◌++◌, length}
+use Rattle.std.specs.Prelude.{◌≡◌, ℕ, ℤ, Bool, true, false, ◌&&◌, IsTrue, List, [], ◌∷◌, ◌++◌, length, Option, option_map, is_some}
 use Rattle.std.specs.List.{flat_map}
 use Rattle.daa_config.specs.Settings.{Settings}
 use Rattle.daa_config.specs.declared.candidate.Resolution.{Resolution}
+use Rattle.daa_config.specs.declared.candidate.Resolution.TheVariants.{Nothing}
 use Rattle.daa_config.specs.declared.kind.Kind.{Kind}
 use Rattle.daa_config.specs.declared.kind.Kind.TheVariants.{Track, Speed, Climb, Height}
 use Rattle.daa_state.specs.Picture.{aircraft_of}
@@ -15,7 +16,9 @@ use Rattle.daa_bands.specs.KindBands.{AreKindBands}
 use Rattle.daa_bands.specs.declared.band.Band.{Band}
 use Rattle.daa_resolve.specs.Resolution.{IsResolution}
 use Rattle.daa_resolve.specs.declared.side.Side.TheVariants.{Lower, Upper}
-use Rattle.daa_report.specs.Lines.{Text, moment_line, now_line, alert_line, band_line, resolve_line, done_line}
+use Rattle.daa_recovery.specs.Recovery.{IsRecovery}
+use Rattle.daa_recovery.specs.declared.recovery.Recovery.{Recovery}
+use Rattle.daa_report.specs.Lines.{Text, moment_line, now_line, alert_line, band_line, resolve_line, recover_line, done_line}
 use Rattle.daa_engine.specs.Covered.{CoveredAt}
 
 -- a text for each kind, in the order of the report
@@ -25,6 +28,19 @@ of_each text = text Track ++ (text Speed ++ (text Climb ++ text Height))
 -- the line of a band of a kind
 abbrev pub line_of : Kind → Band → Text
 line_of kind band = band_line kind band.from band.upto band.level
+
+-- neither side of a kind has an answer
+abbrev pub are_nothing : Resolution → Resolution → Bool
+are_nothing Nothing Nothing = true
+are_nothing _ _ = false
+
+-- a kind has a line of its recovery: the configuration asks for it, and neither side has an answer
+abbrev pub wants_recovery : Settings → Resolution → Resolution → Bool
+wants_recovery settings lower upper = is_some settings.recovery && are_nothing lower upper
+
+-- what a line of a recovery tells: after how many seconds, and the value
+abbrev pub told_of : Recovery → ℕ × ℤ
+told_of r = (r.after, r.value)
 
 module _ (settings : Settings) (picture : Picture) where
   -- the two lines of an aircraft: its level now, and its alert with the first leg
@@ -45,18 +61,28 @@ module _ (settings : Settings) (picture : Picture) where
       (bands : List Band) × AreKindBands (CoveredAt settings picture) (length settings.levels) settings kind bands
       × (text ≡ flat_map (line_of kind) bands)
 
-  -- the line of what is answered on the two sides of a kind
-  abbrev pub IsAnswerLine : Kind → Text → Type 0
-  IsAnswerLine kind text =
-      (lower : Resolution) × (upper : Resolution)
-      × IsResolution (CoveredAt settings picture) settings picture.own kind Lower lower
-      × IsResolution (CoveredAt settings picture) settings picture.own kind Upper upper
-      × (text ≡ resolve_line kind lower upper)
+  -- what is answered on the two sides of a kind
+  pub record AreAnswers (kind : Kind) (lower upper : Resolution) : Type 0 where
+    pub lower_is : IsResolution (CoveredAt settings picture) settings picture.own kind Lower lower
+    pub upper_is : IsResolution (CoveredAt settings picture) settings picture.own kind Upper upper
+
+  -- the line of a kind's recovery
+  abbrev pub IsRecoveryLine : Kind → Text → Type 0
+  IsRecoveryLine kind text = (found : Option Recovery) × IsRecovery settings picture kind found × (text ≡ recover_line kind (option_map told_of found))
+
+  -- that line where the kind, with these answers, has one; else no text
+  pub record IsRecoveryText (kind : Kind) (lower upper : Resolution) (text : Text) : Type 0 where
+    pub line : IsTrue (wants_recovery settings lower upper) → IsRecoveryLine kind text
+    pub none : wants_recovery settings lower upper ≡ false → text ≡ []
 
   -- the text of the moment: its first line, those of the aircraft in the order of the input, the bands of each kind, the
-  -- answers of each kind, and its last line
+  -- answers of each kind, the recoveries of the kinds whose two answers are nothing, and its last line
   abbrev pub IsMomentText : Text → Type 0
   IsMomentText text =
-      (alerts : Text) × (bands : Kind → Text) × (answers : Kind → Text) × AreAlertLines (aircraft_of picture) alerts
-      × ((kind : Kind) → AreBandLines kind (bands kind)) × ((kind : Kind) → IsAnswerLine kind (answers kind))
-      × (text ≡ moment_line picture.time ++ (alerts ++ (of_each bands ++ (of_each answers ++ done_line picture.time))))
+      (alerts : Text) × (bands : Kind → Text) × (lower : Kind → Resolution) × (upper : Kind → Resolution) × (recoveries : Kind → Text)
+      × AreAlertLines (aircraft_of picture) alerts
+      × ((kind : Kind) → AreBandLines kind (bands kind))
+      × ((kind : Kind) → AreAnswers kind (lower kind) (upper kind))
+      × ((kind : Kind) → IsRecoveryText kind (lower kind) (upper kind) (recoveries kind))
+      × (text ≡ moment_line picture.time
+      ++ (alerts ++ (of_each bands ++ (of_each (λ kind. resolve_line kind (lower kind) (upper kind)) ++ (of_each recoveries ++ done_line picture.time)))))

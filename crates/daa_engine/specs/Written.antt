@@ -1,5 +1,5 @@
 -- The text of a moment as a function of what was found of it.
-use Rattle.std.specs.Prelude.{ℕ, List, ◌++◌}
+use Rattle.std.specs.Prelude.{ℕ, List, [], ◌++◌}
 use Rattle.std.specs.List.{flat_map, zip}
 use Rattle.daa_config.specs.Settings.{Settings}
 use Rattle.daa_config.specs.declared.kind.Kind.{Kind}
@@ -8,11 +8,14 @@ use Rattle.daa_state.specs.Picture.{aircraft_of}
 use Rattle.daa_state.specs.declared.word.Picture.{Picture}
 use Rattle.daa_state.specs.declared.word.Traffic.{Traffic}
 use Rattle.daa_bands.specs.Walk.{bands_left}
-use Rattle.daa_report.specs.Lines.{Text, moment_line, now_line, alert_line, resolve_line, done_line}
+use Rattle.daa_report.specs.Lines.{Text, moment_line, now_line, alert_line, resolve_line, recover_line, done_line}
 use Rattle.daa_engine.specs.MomentText.{of_each, line_of}
 use Rattle.daa_engine.specs.declared.alerts.AircraftAlert.{AircraftAlert}
 use Rattle.daa_engine.specs.declared.advice.Sides.{Sides}
 use Rattle.daa_engine.specs.declared.advice.Advice.{Advice}
+use Rattle.daa_engine.specs.declared.rescue.Rescue.{Rescue}
+use Rattle.daa_engine.specs.declared.rescue.Rescue.TheVariants.{Silent, Said}
+use Rattle.daa_engine.specs.declared.rescue.Rescues.{Rescues}
 
 -- the two lines of an aircraft
 unfoldable pub aircraft_text : Traffic × AircraftAlert → Text
@@ -40,7 +43,21 @@ sides_text kind sides = resolve_line kind sides.lower sides.upper
 unfoldable pub advice_text : Advice → Text
 advice_text advice = of_each (λ kind. sides_text kind (sides_of advice kind))
 
-unfoldable pub written : Settings → Picture → List ℕ → List AircraftAlert → Advice → Text
-written settings picture board alerts advice =
+-- the line of a kind's recovery, where it has one
+abbrev pub rescue_text : Kind → Rescue → Text
+rescue_text kind Silent = []
+rescue_text kind (Said found) = recover_line kind found
+
+abbrev pub rescue_of : Rescues → Kind → Rescue
+rescue_of rescues Track = rescues.track
+rescue_of rescues Speed = rescues.speed
+rescue_of rescues Climb = rescues.climb
+rescue_of rescues Height = rescues.height
+
+unfoldable pub rescues_text : Rescues → Text
+rescues_text rescues = of_each (λ kind. rescue_text kind (rescue_of rescues kind))
+
+unfoldable pub written : Settings → Picture → List ℕ → List AircraftAlert → Advice → Rescues → Text
+written settings picture board alerts advice rescues =
     moment_line picture.time
-    ++ (alerts_text (aircraft_of picture) alerts ++ (bands_texts settings board ++ (advice_text advice ++ done_line picture.time)))
+    ++ (alerts_text (aircraft_of picture) alerts ++ (bands_texts settings board ++ (advice_text advice ++ (rescues_text rescues ++ done_line picture.time))))

@@ -14,6 +14,7 @@ ghost use Rattle.daa_report.specs.Says.{SaysSome};
 use crate::advice::advise;
 use crate::alerts::find_alerts;
 use crate::filling::fill;
+use crate::rescue::find_rescues;
 use crate::say::say;
 use crate::together::fill_together;
 use daa_alert::{Alert, alert};
@@ -135,7 +136,7 @@ impl Engine {
     }
 
     /// Decides a moment and writes its lines to the sink: its first line, the lines of the aircraft, those of the bands of
-    /// each kind and of what is answered, and its last line. Everything is found before the first byte is written, and
+    /// each kind, of what is answered and of the recoveries, and its last line. Everything is found before the first byte is written, and
     /// nothing is held back when the call returns. `SinkFault` comes only where the sink failed; then a beginning of the
     /// lines is written.
     pub fn report<R: Threads + Sync, K: Sink, G: Gate>(
@@ -154,6 +155,15 @@ impl Engine {
         self.decide(rt, alloc, picture, gate);
         let alerts = find_alerts(&self.config, picture);
         let advice = advise(&self.board, &self.config, &picture.own);
-        say(sink, &self.config, picture, &self.board, &alerts, &advice)
+        let rescues = find_rescues(&self.config, picture, &advice);
+        say(
+            sink,
+            &self.config,
+            picture,
+            &self.board,
+            &alerts,
+            &advice,
+            &rescues,
+        )
     }
 }

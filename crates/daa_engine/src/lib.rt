@@ -7,6 +7,7 @@ mod alerts;
 mod engine;
 mod filling;
 mod laws;
+mod rescue;
 mod say;
 #[cfg(test)]
 mod tests;

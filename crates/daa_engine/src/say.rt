@@ -5,10 +5,11 @@ ghost use Rattle.daa_report.specs.Says.{Says};
 ghost use Rattle.daa_report.specs.PageSays.{PageSays};
 ghost use Rattle.daa_report.specs.Lines.{moment_line, now_line, alert_line, done_line};
 ghost use Rattle.daa_engine.specs.MomentText.{line_of};
-ghost use Rattle.daa_engine.specs.Written.{aircraft_text, alerts_text, bands_text, bands_texts, sides_text, advice_text, written};
+ghost use Rattle.daa_engine.specs.Written.{aircraft_text, alerts_text, bands_text, bands_texts, sides_text, advice_text, rescue_text, rescues_text, written};
 
 use crate::advice::{Advice, Sides};
 use crate::alerts::AircraftAlert;
+use crate::rescue::{Rescue, Rescues};
 use daa_bands::{Band, Board, runs};
 use daa_config::{Config, Kind};
 use daa_outside::Sink;
@@ -133,6 +134,31 @@ fn say_advice<K: Sink>(page: &mut Page, sink: &mut K, advice: &Advice) -> Result
     say_sides(page, sink, Kind::Height, &advice.height)
 }
 
+/// Says the line of the recovery of a kind, where it has one.
+fn say_rescue<K: Sink>(
+    page: &mut Page,
+    sink: &mut K,
+    kind: Kind,
+    rescue: &Rescue,
+) -> Result<(), SinkFault>
+    ensures { PageSays (K.taken sink.old) (K.taken sink.new) page.old page.new (K.faults sink.old) (K.faults sink.new) (rescue_text kind rescue.now) result }
+{
+    match *rescue {
+        Rescue::Silent => Ok(()),
+        Rescue::Said(found) => page.say(sink, &Line::recover(kind, found)),
+    }
+}
+
+/// Says the lines of the recoveries of all kinds that have one.
+fn say_rescues<K: Sink>(page: &mut Page, sink: &mut K, rescues: &Rescues) -> Result<(), SinkFault>
+    ensures { PageSays (K.taken sink.old) (K.taken sink.new) page.old page.new (K.faults sink.old) (K.faults sink.new) (rescues_text rescues.now) result }
+{
+    say_rescue(page, sink, Kind::Track, &rescues.track)?;
+    say_rescue(page, sink, Kind::Speed, &rescues.speed)?;
+    say_rescue(page, sink, Kind::Climb, &rescues.climb)?;
+    say_rescue(page, sink, Kind::Height, &rescues.height)
+}
+
 /// Says the line that begins a moment.
 fn say_head<K: Sink>(page: &mut Page, sink: &mut K, picture: &Picture) -> Result<(), SinkFault>
     ensures { PageSays (K.taken sink.old) (K.taken sink.new) page.old page.new (K.faults sink.old) (K.faults sink.new) (moment_line picture.now.time) result }
@@ -169,15 +195,17 @@ fn say_parts<K: Sink>(
     board: &Board,
     alerts: &[AircraftAlert],
     advice: &Advice,
+    rescues: &Rescues,
 ) -> Result<(), SinkFault>
     requires { length alerts.now ≡ length (aircraft_of picture.now) }
-    ensures { PageSays (K.taken sink.old) (K.taken sink.new) page.old page.new (K.faults sink.old) (K.faults sink.new) (written config.now picture.now board.now alerts.now advice.now) result }
+    ensures { PageSays (K.taken sink.old) (K.taken sink.new) page.old page.new (K.faults sink.old) (K.faults sink.new) (written config.now picture.now board.now alerts.now advice.now rescues.now) result }
 {
     say_head(page, sink, picture)?;
     say_traffic(page, sink, picture, alerts)?;
     page.flush(sink)?;
     say_all_bands(page, sink, board, config)?;
     say_advice(page, sink, advice)?;
+    say_rescues(page, sink, rescues)?;
     say_foot(page, sink, picture)
 }
 
@@ -189,11 +217,14 @@ pub(crate) fn say<K: Sink>(
     board: &Board,
     alerts: &[AircraftAlert],
     advice: &Advice,
+    rescues: &Rescues,
 ) -> Result<(), SinkFault>
     requires { length alerts.now ≡ length (aircraft_of picture.now) }
-    ensures { Says (K.taken sink.old) (K.taken sink.new) (K.faults sink.old) (K.faults sink.new) (written config.now picture.now board.now alerts.now advice.now) result }
+    ensures { Says (K.taken sink.old) (K.taken sink.new) (K.faults sink.old) (K.faults sink.new) (written config.now picture.now board.now alerts.now advice.now rescues.now) result }
 {
     let mut page = Page::new();
-    say_parts(&mut page, sink, config, picture, board, alerts, advice)?;
+    say_parts(
+        &mut page, sink, config, picture, board, alerts, advice, rescues,
+    )?;
     page.flush(sink)
 }

@@ -36,6 +36,9 @@ const CLIMBING: &str = "own 0 0 1000 0 3600 3000";
 /// 0.66 miles to the right, abeam in 10 seconds.
 const ABEAM: &str = "traffic A 660 1000 1000 0 0 0 0";
 
+/// Still, 0.4 miles to the right and 0.1 ahead.
+const BESIDE: &str = "traffic A 400 100 1000 0 0 0 0";
+
 /// No aircraft is met.
 const CLEAR: &str = "moment 0
 track 0 270 0
@@ -64,7 +67,7 @@ resolve alt down none up none
 done 0
 ";
 
-static ROWS: [Row; 18] = [
+static ROWS: [Row; 21] = [
     Row {
         shows: "no aircraft",
         text: ONE_LEVEL,
@@ -356,6 +359,74 @@ resolve vs down keep up keep
 resolve alt down keep up keep
 done 0
 ",
+    },
+    Row {
+        shows: "a recovery where neither side has an answer",
+        text: ONE_LEVEL,
+        edits: &[
+            ("tthr = 35", "tthr = 0"),
+            (
+                "turn_rate",
+                "recovery = { hdist = 300, vdist = 100 }\nturn_rate",
+            ),
+        ],
+        lines: &[NORTH, BESIDE],
+        report: "moment 0
+now A 1
+alert A 1 0
+track 0 270 1
+gs 3600 3600 1
+vs 0 0 1
+alt 1000 1000 1
+resolve track left none right none
+resolve gs down none up none
+resolve vs down none up none
+resolve alt down none up none
+recover track 6 270
+recover gs 7 3600
+recover vs 7 0
+recover alt 7 1000
+done 0
+",
+    },
+    Row {
+        shows: "no recovery where each candidate comes into the cylinder",
+        text: ONE_LEVEL,
+        edits: &[
+            ("tthr = 35", "tthr = 0"),
+            (
+                "turn_rate",
+                "recovery = { hdist = 410, vdist = 100 }\nturn_rate",
+            ),
+        ],
+        lines: &[NORTH, BESIDE],
+        report: "moment 0
+now A 1
+alert A 1 0
+track 0 270 1
+gs 3600 3600 1
+vs 0 0 1
+alt 1000 1000 1
+resolve track left none right none
+resolve gs down none up none
+resolve vs down none up none
+resolve alt down none up none
+recover track none
+recover gs none
+recover vs none
+recover alt none
+done 0
+",
+    },
+    Row {
+        shows: "no recovery is told where a side has an answer",
+        text: ONE_LEVEL,
+        edits: &[(
+            "turn_rate",
+            "recovery = { hdist = 300, vdist = 100 }\nturn_rate",
+        )],
+        lines: &[NORTH],
+        report: CLEAR,
     },
 ];
 

@@ -71,6 +71,15 @@ number_field number = codes " " ++ decimal number
 unfoldable pub numbers_line : Text → List ℕ → Text
 numbers_line word numbers = word ++ flat_map number_field numbers ++ codes "\n"
 
+-- after how many seconds a candidate is clear and the value that it goes to, or `none`
+abbrev pub found_text : Option (ℕ × ℤ) → Text
+found_text None = codes " " ++ codes "none"
+found_text (Some found) = number_field found.0 ++ (codes " " ++ signed_decimal found.1)
+
+-- the recovery of a kind
+unfoldable pub recover_line : Kind → Option (ℕ × ℤ) → Text
+recover_line kind found = codes "recover" ++ codes " " ++ kind_word kind ++ found_text found ++ codes "\n"
+
 unfoldable pub done_line : ℕ → Text
 done_line time = codes "done " ++ decimal time ++ codes "\n"
 

@@ -2,7 +2,7 @@
 ghost use Rattle.std.specs.Prelude.{◌≡◌, ◌≤◌, ◌+◌, ◌*◌, ◌++◌, length, codes, decimal};
 ghost use Rattle.std.specs.Fmt.{signed_decimal};
 ghost use Rattle.arrayvec.specs.ArrayVec.{array_vec_len};
-ghost use Rattle.daa_report.specs.Lines.{first_text, answer_text, number_field};
+ghost use Rattle.daa_report.specs.Lines.{first_text, answer_text, found_text, number_field};
 ghost use Rattle.std.specs.List.{flat_map};
 
 use arrayvec::ArrayVec;
@@ -121,5 +121,20 @@ pub fn add_number_fields(line: &mut ArrayVec<u8, 64>, numbers: &[u32])
 {
     for number in numbers {
         add_number_field(line, *number);
+    }
+}
+
+/// Adds a number of seconds and a value, or that there are none.
+pub fn add_found(line: &mut ArrayVec<u8, 64>, found: &Option<(u32, i32)>)
+    requires { array_vec_len line.old + 23 ≤ 64 }
+    ensures items { line.new.items ≡ line.old.items ++ found_text found.now }
+    ensures len { array_vec_len line.new ≤ array_vec_len line.old + 23 }
+{
+    match found {
+        Some((after, value)) => {
+            add_number_field(line, *after);
+            add_signed_field(line, value);
+        }
+        None => add_field(line, "none"),
     }
 }

@@ -1,10 +1,10 @@
 //! The lines of a report, as values.
 ghost use Rattle.std.specs.Prelude.{◌≡◌, ◌≤◌, ◌+◌, ◌*◌, length};
-ghost use Rattle.daa_report.specs.Lines.{alert_line, band_line, config_line, done_line, moment_line, now_line, numbers_line, refused_line, resolve_line};
+ghost use Rattle.daa_report.specs.Lines.{alert_line, band_line, config_line, done_line, moment_line, now_line, numbers_line, recover_line, refused_line, resolve_line};
 
 use crate::adding::{
-    add, add_answer_field, add_bytes, add_field, add_first, add_number, add_number_fields,
-    add_signed_field,
+    add, add_answer_field, add_bytes, add_field, add_first, add_found, add_number,
+    add_number_fields, add_signed_field,
 };
 use crate::kind_words::{kind_word, lower_word, upper_word};
 use arrayvec::ArrayVec;
@@ -132,6 +132,20 @@ impl Line {
         add_answer_field(&mut line, &lower);
         add_field(&mut line, upper_word(kind));
         add_answer_field(&mut line, &upper);
+        add(&mut line, "\n");
+        Line { bytes: line }
+    }
+
+    /// The line of the recovery of a kind: after how many seconds a candidate is clear, and the value that it goes to.
+    #[tactic(auto, unfolding(crate::specs::Lines::recover_line))]
+    pub fn recover(kind: Kind, found: Option<(u32, i32)>) -> Line
+        ensures text { result ≡ recover_line kind found }
+        ensures few { length result ≤ 64 }
+    {
+        let mut line = ArrayVec::<u8, 64>::new();
+        add(&mut line, "recover");
+        add_field(&mut line, kind_word(kind));
+        add_found(&mut line, &found);
         add(&mut line, "\n");
         Line { bytes: line }
     }

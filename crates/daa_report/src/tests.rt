@@ -64,13 +64,15 @@ fn each_band_and_answer_is_written(rt: HostRuntime) -> Result<(), Fail> {
             Resolution::To(0),
         ),
         resolve(&mut out, Kind::Height, none, Resolution::To(1500)),
+        recover(&mut out, Kind::Climb, Some((179, -10000))),
+        recover(&mut out, Kind::Speed, None),
     ];
     for one in said {
         assert_eq!(rt; one, Ok(()));
     }
     assert_eq!(rt;
         out.taken(),
-        b"track 0 270 0\ngs 3600 10000 1\nvs -5000 -100 2\nalt -2000 60000 4\nresolve track left 359 right none\nresolve gs down keep up keep\nresolve vs down -200 up 0\nresolve alt down none up 1500\n".as_slice()
+        b"track 0 270 0\ngs 3600 10000 1\nvs -5000 -100 2\nalt -2000 60000 4\nresolve track left 359 right none\nresolve gs down keep up keep\nresolve vs down -200 up 0\nresolve alt down none up 1500\nrecover vs 179 -10000\nrecover gs none\n".as_slice()
     );
     Ok(())
 }

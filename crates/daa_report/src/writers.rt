@@ -1,6 +1,6 @@
 //! Writes pieces and lines to a sink.
 ghost use Rattle.std.specs.Prelude.{◌≤◌, ◌≡◌, length, drop};
-ghost use Rattle.daa_report.specs.Lines.{refused_line, moment_line, now_line, alert_line, band_line, resolve_line, done_line, config_line};
+ghost use Rattle.daa_report.specs.Lines.{refused_line, moment_line, now_line, alert_line, band_line, resolve_line, recover_line, done_line, config_line};
 ghost use Rattle.daa_report.specs.Says.{Says};
 
 use crate::line::Line;
@@ -84,6 +84,18 @@ pub fn resolve<K: Sink>(
     ensures { Says (K.taken sink.old) (K.taken sink.new) (K.faults sink.old) (K.faults sink.new) (resolve_line kind lower upper) result }
 {
     put(sink, Line::resolve(kind, lower, upper).as_bytes())
+}
+
+/// Writes the recovery of a kind: after how many seconds a candidate is clear and the value that it goes to, in degrees, 0.1 kt, ft/min
+/// or ft; or that none is.
+pub fn recover<K: Sink>(
+    sink: &mut K,
+    kind: Kind,
+    found: Option<(u32, i32)>,
+) -> Result<(), SinkFault>
+    ensures { Says (K.taken sink.old) (K.taken sink.new) (K.faults sink.old) (K.faults sink.new) (recover_line kind found) result }
+{
+    put(sink, Line::recover(kind, found).as_bytes())
 }
 
 /// Writes that the moment of this time, in seconds, ends.

@@ -3,8 +3,6 @@ pub mod Speeds
 pub mod Nearing
 pub mod Leaving
 pub mod Listed
-pub mod Trying
-pub mod Deciding
 pub mod Masking
 pub mod Numbers
 pub mod Packs

@@ -24,10 +24,10 @@ use Rattle.daa_legs.specs.Meeting.{relative_leg, ViolatesOn, MeetsWithin, Meets}
 use Rattle.daa_legs.proofs.Places.{place_on-below, velocity_on-below}
 use Rattle.daa_legs.proofs.Relatives.{relative_for-in_range}
 use Rattle.daa_scan.specs.Situation.{Situation, MeetsAt}
-use Rattle.daa_scan.specs.Packed.{is_violated_sometime, is_met_within, mask_of, entry_for, entry_at}
+use Rattle.daa_scan.specs.Packed.{mask_of, entry_for, entry_at}
 use Rattle.daa_scan.proofs.Listed.{listed}
-use Rattle.daa_scan.proofs.Trying.{some_is}
-use Rattle.daa_scan.proofs.Deciding.{sometime_is}
+use Rattle.daa_meet.specs.Trying.{is_met_within}
+use Rattle.daa_meet.proofs.Meetings.{within_is}
 
 -- ---- bits
 pub same_bits : (n x y : ℕ) → x < 2 ^ n → y < 2 ^ n → ((i : ℕ) → bit_at x i ≡ bit_at y i) → x ≡ y
@@ -121,32 +121,15 @@ module _ (settings : Settings) (own : Own) (candidate : Candidate) (aircraft : T
       double false m n t h e = omega (arith, h, e)
 
   module _ (a : IsAccepted settings) (o : IsOwnInRange own) (h : IsCandidateInRange candidate) (t : IsTrafficInRange aircraft) where
-    pub leg-in_range : (k : ℕ) → k < 180 → IsLegInRange (relative_leg settings own candidate aircraft k)
-    leg-in_range k l = relative_for-in_range 1 (own_leg own (rates_of settings) candidate k) aircraft k
-        (record { place = place_on-below own (rates_of settings) candidate o a.rates h k (omega (arith, l)); velocity = velocity_on-below own (rates_of settings) candidate o a.rates h k })
-        t (omega (arith, l)) (omega arith) (omega arith)
-
-    pub on_is : (vol : Volume) → IsVolumeInRange vol → (k : ℕ) → k < 180 → IsTrue (is_violated_sometime (relative_leg settings own candidate aircraft k) vol) ↔ ViolatesOn settings own candidate aircraft vol k
-    unfolding relative_for
-    on_is vol v k l = sometime_is (relative_leg settings own candidate aircraft k) vol (leg-in_range k l) v
-
-    pub within_is : (vol : Volume) → IsVolumeInRange vol → (m : ℕ) → m ≤ 180 → IsTrue (is_met_within settings own candidate aircraft vol m) ↔ MeetsWithin settings own candidate aircraft vol m
-    unfolding is_met_within
-    within_is vol v m short =
-        let s = some_is (λ k. is_violated_sometime (relative_leg settings own candidate aircraft k) vol) m in (
-          (λ x. let b = s.0 x in record { leg = b.number; before = b.below; violates = (on_is vol v b.number (omega (arith, b.below, short))).0 b.holds }),
-          (λ x. s.1 (record { number = x.leg; below = x.before; holds = (on_is vol v x.leg (omega (arith, x.before, short))).1 x.violates })),
-        )
-
     pub mask_is : IsMaskOf (Meets settings own candidate aircraft) (length settings.levels) (mask_of settings own candidate aircraft settings.levels)
     mask_is = record {
       each = λ l one upto. let b = bits_of settings.levels (l - 1) in (
         (λ e. let m = b.0 e in
             let at : IsLevelAt settings l m.level = record { numbered = one; there = m.there } in
             let r = a.level l m.level at in
-            record { level = m.level; there = at; meets = (within_is m.level.volume r.volume m.level.lookahead r.lookahead_most).0 m.met }),
+            record { level = m.level; there = at; meets = (within_is settings own candidate aircraft a o h t m.level.volume r.volume m.level.lookahead r.lookahead_most).0 m.met }),
         (λ m. let r = a.level l m.level m.there in
-            b.1 (record { level = m.level; there = m.there.there; met = (within_is m.level.volume r.volume m.level.lookahead r.lookahead_most).1 m.meets })),
+            b.1 (record { level = m.level; there = m.there.there; met = (within_is settings own candidate aircraft a o h t m.level.volume r.volume m.level.lookahead r.lookahead_most).1 m.meets })),
       );
       none_above = λ l over e. let m = (bits_of settings.levels (l - 1)).0 e in
           let w = slice_get_within settings.levels (l - 1) m.level m.there in absurd (omega (arith, w, over));

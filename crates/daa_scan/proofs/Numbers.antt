@@ -14,7 +14,7 @@ use Rattle.daa_scan.specs.Reach.{place_now, horizontal_speed, vertical_speed, Ca
 use Rattle.daa_scan.specs.Situation.{Situation}
 use Rattle.daa_scan.specs.Units.{AreInReach}
 use Rattle.daa_scan.specs.Packed.{enters, is_reached, is_reached_at, numbers_below, places_in_reach}
-use Rattle.daa_scan.proofs.Trying.{le_is, both_is, either_is}
+use Rattle.daa_meet.proofs.Trying.{le_is, both_is, either_is}
 
 -- ---- one more number
 pub taken : (f : ℕ → Bool) (n : ℕ) → IsTrue (f n) → numbers_below f (suc n) ≡ numbers_below f n ++ (n ∷ [])

@@ -15,10 +15,11 @@ use Rattle.daa_legs.specs.Meeting.{relative_leg, ViolatesOn, Meets}
 use Rattle.daa_legs.specs.Alerts.{Alerts, ViolatesNow}
 use Rattle.daa_legs.proofs.AtLevel.{meets_at, alerts_at, violates_now_at}
 use Rattle.daa_scan.specs.Situation.{Situation, MeetsAt}
-use Rattle.daa_scan.specs.Packed.{is_violated, is_violated_sometime, is_met_within}
+use Rattle.daa_meet.specs.Trying.{is_violated, is_violated_sometime, is_met_within}
 use Rattle.daa_scan.proofs.Listed.{listed}
-use Rattle.daa_scan.proofs.Deciding.{violated_is}
-use Rattle.daa_scan.proofs.Masking.{on_is, within_is, at_place, met_at}
+use Rattle.daa_meet.proofs.Deciding.{violated_is}
+use Rattle.daa_meet.proofs.Meetings.{on_is, within_is}
+use Rattle.daa_scan.proofs.Masking.{at_place, met_at}
 
 -- what is there, or that there is none
 looked : {X : Type 0} (o : Option X) → ((x : X) × (o ≡ Some x)) ⊎ (o ≡ None)

@@ -1,15 +1,8 @@
 -- The words of the units in a form that can be computed. They are told in the field's terms by the units' numbering; here each
--- question is answered by trying: a leg violates a volume at some time exactly where it does so at a fraction whose denominator is at
--- most 2^33.
+-- question is answered by trying.
 use Rattle.std.specs.Prelude.{◌≢◌, ℕ, zero, suc, ◌+◌, ◌*◌, ◌/◌, ◌%◌, ◌^◌, ℤ, pos, ◌+ℤ◌, ◌*ℤ◌, neg_ℤ, unsigned_abs, Bool, false, ◌&&◌, ◌||◌, if◌then◌else◌, int_le, int_lt, List, [], ◌∷◌, ◌++◌, length, slice_get, slice_index, Option, Some, None}
 use Rattle.std.specs.List.{list_any}
 use Rattle.std.proofs.Common.{arith}
-use Rattle.daa_fixed.specs.declared.Leg.{Leg}
-use Rattle.daa_fixed.specs.Flat.{dot_of, cross_of, square_of}
-use Rattle.daa_taumod.specs.declared.Model.{Model}
-use Rattle.daa_taumod.specs.declared.Model.TheVariants.{Taumod, Tcpa}
-use Rattle.daa_taumod.specs.declared.Volume.{Volume}
-use Rattle.daa_taumod.specs.Volume.{place_at, height_at}
 use Rattle.daa_config.specs.declared.candidate.Candidate.{Candidate}
 use Rattle.daa_config.specs.declared.level.Level.{Level}
 use Rattle.daa_config.specs.Candidates.{candidates_of}
@@ -18,63 +11,19 @@ use Rattle.daa_config.specs.Settings.{Settings}
 use Rattle.daa_state.specs.declared.word.Own.{Own}
 use Rattle.daa_state.specs.declared.word.Traffic.{Traffic}
 use Rattle.daa_state.specs.Picture.{aircraft_of}
-use Rattle.daa_legs.specs.Meeting.{relative_leg}
+use Rattle.daa_meet.specs.Trying.{is_met_within}
 use Rattle.daa_scan.specs.Reach.{size_of, place_now, horizontal_speed, vertical_speed}
 use Rattle.daa_scan.specs.Situation.{Situation}
 use Rattle.daa_schedule.specs.Answers.{AreAnswers}
 use Rattle.daa_scan.specs.Units.{group_count, index_in}
 
--- ---- the volume at n/d
-
-abbrev pub is_soon : Model → Leg → Volume → ℤ → ℤ → Bool
-is_soon Taumod leg vol n d =
-    int_le (dot_of (place_at leg n d) (place_at leg n d) +ℤ pos vol.tthr *ℤ d *ℤ dot_of (place_at leg n d) leg.velocity.flat) (square_of (pos vol.dthr *ℤ d))
-is_soon Tcpa leg vol n d =
-    int_le (neg_ℤ (dot_of (place_at leg n d) leg.velocity.flat)) (pos vol.tthr *ℤ d *ℤ dot_of leg.velocity.flat leg.velocity.flat)
-
-abbrev pub is_near : Leg → Volume → ℤ → ℤ → Bool
-is_near leg vol n d = int_le (dot_of (place_at leg n d) (place_at leg n d)) (square_of (pos vol.dthr *ℤ d))
-
-abbrev pub passes_near : Leg → Volume → ℤ → ℤ → Bool
-passes_near leg vol n d = int_le (square_of (cross_of (place_at leg n d) leg.velocity.flat)) (square_of (pos vol.dthr *ℤ d) *ℤ dot_of leg.velocity.flat leg.velocity.flat)
-
-abbrev pub is_closing : Leg → Volume → ℤ → ℤ → Bool
-is_closing leg vol n d = int_lt (dot_of (place_at leg n d) leg.velocity.flat) (pos 0) && (is_soon vol.model leg vol n d && passes_near leg vol n d)
-
-abbrev pub is_near_in_height : Leg → Volume → ℤ → ℤ → Bool
-is_near_in_height leg vol n d = int_le (pos (unsigned_abs (height_at leg n d))) (pos vol.zthr *ℤ d)
-
-abbrev pub is_co_altitude_soon : Leg → Volume → ℤ → ℤ → Bool
-is_co_altitude_soon leg vol n d =
-    int_lt (height_at leg n d *ℤ leg.velocity.up) (pos 0) && int_le (pos (unsigned_abs (height_at leg n d))) (pos vol.tcoa *ℤ d *ℤ pos (unsigned_abs leg.velocity.up))
-
-unfoldable pub is_violated : Leg → Volume → ℤ → ℤ → Bool
-is_violated leg vol n d = (is_near leg vol n d || is_closing leg vol n d) && (is_near_in_height leg vol n d || is_co_altitude_soon leg vol n d)
-
--- ---- by trying
-
--- it is true at some number below n
-unfoldable pub some_below : (ℕ → Bool) → ℕ → Bool
-some_below f zero = false
-some_below f (suc n) = f n || some_below f n
-
--- at n / (d + 1), where that is a time of the leg
-abbrev pub is_violated_at : Leg → Volume → (d n : ℕ) → Bool
-is_violated_at leg vol d n = int_le (pos n) (pos leg.secs *ℤ pos (suc d)) && is_violated leg vol (pos n) (pos (suc d))
-
-unfoldable pub is_violated_sometime : Leg → Volume → Bool
-is_violated_sometime leg vol = some_below (λ d. some_below (is_violated_at leg vol d) (suc (2 ^ 41))) (2 ^ 33)
-
 -- ---- masks
 
 module _ (settings : Settings) (own : Own) where
-  unfoldable pub is_met_within : Candidate → Traffic → Volume → ℕ → Bool
-  is_met_within candidate aircraft vol m = some_below (λ k. is_violated_sometime (relative_leg settings own candidate aircraft k) vol) m
-
   -- the first level's bit is the lowest
   unfoldable pub mask_of : Candidate → Traffic → List Level → ℕ
   mask_of candidate aircraft [] = 0
-  mask_of candidate aircraft (level ∷ levels) = (if is_met_within candidate aircraft level.volume level.lookahead then 1 else 0) + 2 * mask_of candidate aircraft levels
+  mask_of candidate aircraft (level ∷ levels) = (if is_met_within settings own candidate aircraft level.volume level.lookahead then 1 else 0) + 2 * mask_of candidate aircraft levels
 
   -- ---- reach
 

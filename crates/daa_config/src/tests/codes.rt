@@ -183,7 +183,7 @@ static SHAPES: [(&str, &str, u8); 25] = [
     (LEVEL, "[[level]]\ndthr = 660", 4),
     (LEVEL, "[[level]]\ndthr = 660\nx = 1", 3),
     (LEVEL, "", 4),
-    (LEVEL, "recovery = { hdist = 1, vdist = 1 }", 3),
+    (LEVEL, "recovery = { hdist = 1, vdist = 1 }", 4),
 ];
 
 #[test]
@@ -411,4 +411,46 @@ fn codes_of_faults(rt: HostRuntime) {
     assert_eq!(rt; ConfigFault::TooLong.code(), Some(1));
     assert_eq!(rt; ConfigFault::TooMany.code(), Some(8));
     assert_eq!(rt; ConfigFault::NoMemory.code(), None);
+}
+
+/// What stands in place of the line of the turn rate.
+static RECOVERIES: [(&str, &str, u8); 22] = [
+    ("turn", "recovery = { hdist = 1, vdist = 0 }\nturn", 0),
+    (
+        "turn",
+        "recovery = { hdist = 10000, vdist = 10000 }\nturn",
+        0,
+    ),
+    ("turn", "recovery = { hdist = 0, vdist = 0 }\nturn", 6),
+    ("turn", "recovery = { hdist = 10001, vdist = 0 }\nturn", 6),
+    ("turn", "recovery = { hdist = 1, vdist = -1 }\nturn", 6),
+    ("turn", "recovery = { hdist = 1, vdist = 10001 }\nturn", 6),
+    ("turn", "recovery = { hdist = 1.0, vdist = 0 }\nturn", 5),
+    ("turn", "recovery = { hdist = 1, vdist = true }\nturn", 5),
+    ("turn", "recovery = { hdist = {}, vdist = 0 }\nturn", 5),
+    ("turn", "recovery = 1\nturn", 5),
+    ("turn", "recovery = []\nturn", 5),
+    ("turn", "recovery = [ { hdist = 1, vdist = 0 } ]\nturn", 5),
+    ("turn", "recovery = [ { x = 1 } ]\nturn", 5),
+    ("turn", "recovery = { hdist = 1 }\nturn", 4),
+    ("turn", "recovery = { vdist = 1 }\nturn", 4),
+    ("turn", "recovery = {}\nturn", 4),
+    ("turn", "recovery = { hdist = 0, tthr = 0 }\nturn", 3),
+    ("turn", "recovery = { x = 0 }\nturn", 3),
+    ("turn", "recovery.x = 0\nturn", 3),
+    ("turn", "recovery.hdist = 5\nrecovery.vdist = 5\nturn", 0),
+    ("turn", "recover = { hdist = 1, vdist = 0 }\nturn", 3),
+    (
+        "turn",
+        "recovery = { hdist = 1, hdist = 1, vdist = 0 }\nturn",
+        2,
+    ),
+];
+
+#[test]
+fn recoveries(rt: HostRuntime) -> Result<(), Fail> {
+    for edit in &RECOVERIES {
+        expect_edited(&rt, ONE_LEVEL, edit)?;
+    }
+    Ok(())
 }

@@ -160,3 +160,26 @@ fn laws() {
     accepted_is_in_range();
     values_are_all_steps();
 }
+
+/// The cylinder of a recovery, in units, and none where the text asks for none.
+#[test]
+fn the_cylinder(rt: HostRuntime) -> Result<(), Fail> {
+    let config = read(rt.alloc(), ONE_LEVEL.as_bytes())?;
+    assert!(rt; config.recovery().is_none());
+    let asking = ONE_LEVEL.replacen(
+        rt.alloc(),
+        "turn_rate",
+        "recovery = { hdist = 300, vdist = 100 }\nturn_rate",
+        1,
+    )?;
+    let config = read(rt.alloc(), asking.as_str().as_bytes())?;
+    let Some(cylinder) = config.recovery() else {
+        return Err("a cylinder".into());
+    };
+    assert_eq!(rt; cylinder.dthr, 10800);
+    assert_eq!(rt; cylinder.zthr, 6000);
+    assert_eq!(rt; cylinder.tthr, 0);
+    assert_eq!(rt; cylinder.tcoa, 0);
+    assert!(rt; cylinder.model == Model::Taumod);
+    Ok(())
+}

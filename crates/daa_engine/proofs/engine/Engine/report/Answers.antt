@@ -8,5 +8,5 @@ returns-clause-says g c =
     let v = c.self.view_is in
     let s = ap (λ (e : EngineState). e.settings) v ∙ ap (λ (e : EngineState). e.settings) c.decide.ensures.kept in
     let b = ap (λ (e : EngineState). e.board) v in
-    reported c.args.self.now.settings c.args.picture.now c.decide.new.self.board c.find_alerts-alerts.result.items c.advise-advice.result _ _ _ _ c.say.result
-    c.decide.ensures.board _ _ _ s b c.deref.ensures.0 c.self.invariant.0.accepted c.find_alerts-alerts.ensures c.advise-advice.ensures c.say.ensures
+    reported c.args.self.now.settings c.args.picture.now c.decide.new.self.board c.find_alerts-alerts.result.items c.advise-advice.result c.find_rescues-rescues.result _ _ _ _ c.say.result
+    c.decide.ensures.board _ _ _ s b c.deref.ensures.0 c.self.invariant.0.accepted c.find_alerts-alerts.ensures c.advise-advice.ensures c.find_rescues-rescues.ensures c.say.ensures

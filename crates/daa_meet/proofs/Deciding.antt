@@ -26,8 +26,8 @@ use Rattle.daa_vwindow.proofs.Heights.{retarget, rising, falling, standing}
 use Rattle.daa_detect.specs.Hit.{IsHit}
 use Rattle.daa_detect.proofs.Distance.{HasDistance, distance}
 use Rattle.daa_detect.proofs.Nearest.{time_between, vertex_small, none_elsewhere}
-use Rattle.daa_scan.specs.Packed.{is_soon, is_near, passes_near, is_closing, is_near_in_height, is_co_altitude_soon, is_violated, is_violated_at, is_violated_sometime}
-use Rattle.daa_scan.proofs.Trying.{le_is, lt_is, both_is, either_is, some_is}
+use Rattle.daa_meet.specs.Trying.{is_soon, is_near, passes_near, is_closing, is_near_in_height, is_co_altitude_soon, is_violated, is_violated_at, is_violated_sometime}
+use Rattle.daa_meet.proofs.Trying.{le_is, lt_is, both_is, either_is, some_is}
 
 -- ---- the volume at n/d
 soon_is : (m : Model) (leg : Leg) (vol : Volume) (n d : ℤ) → IsTrue (is_soon m leg vol n d) ↔ IsSoon m leg vol n d

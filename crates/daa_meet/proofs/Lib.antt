@@ -1,0 +1,4 @@
+pub mod Trying
+pub mod Deciding
+pub mod Meetings
+pub mod Walking

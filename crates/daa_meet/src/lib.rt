@@ -1,0 +1,7 @@
+//! Whether a candidate's flight violates a volume round an aircraft between two of its seconds, and what decides it. Nothing
+//! here takes memory.
+#![tactic(auto)]
+
+mod walk;
+
+pub use walk::meets_between;

@@ -1,0 +1,5 @@
+use Rattle.daa_recovery.proofs.Some.{one_recovery}
+use Rattle.daa_recovery.proofs.laws.has_one_recovery.Goals as goal
+
+pub returns : goal.returns
+returns c s p kind ok range asked = one_recovery s ok p kind range asked

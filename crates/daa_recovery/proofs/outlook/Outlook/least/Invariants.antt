@@ -1,0 +1,5 @@
+use Rattle.daa_recovery.specs.Search.{IsFoundBelow}
+use Rattle.daa_recovery.proofs.outlook.Outlook.least.Given as goal
+
+abbrev pub invariant-loop-place : goal.invariant-loop-place
+invariant-loop-place l = IsFoundBelow l.self l.fn.kind l.place l.found

@@ -1,0 +1,6 @@
+use Rattle.daa_recovery.proofs.Closing.{AreClearBelow}
+use Rattle.daa_recovery.proofs.outlook.Outlook.recovers.Given as goal
+
+-- the aircraft so far are kept clear of
+abbrev pub invariant-loop-place : goal.invariant-loop-place
+invariant-loop-place l = AreClearBelow l.self l.fn.candidate l.fn.m l.place

@@ -1,0 +1,68 @@
+-- When a candidate recovers, and the recovery of a kind.
+use Rattle.std.specs.Prelude.{ℕ, ℤ, ◌≡◌, ◌≤◌, ◌<◌, Option, Some, None, slice_get}
+use Rattle.daa_taumod.specs.declared.Volume.{Volume}
+use Rattle.daa_config.specs.declared.candidate.Candidate.{Candidate}
+use Rattle.daa_config.specs.declared.kind.Kind.{Kind}
+use Rattle.daa_config.specs.declared.level.Level.{Level}
+use Rattle.daa_config.specs.Candidates.{values_of, candidate_to}
+use Rattle.daa_config.specs.Settings.{Settings}
+use Rattle.daa_state.specs.declared.word.Picture.{Picture}
+use Rattle.daa_state.specs.declared.word.Traffic.{Traffic}
+use Rattle.daa_state.specs.Picture.{aircraft_of}
+use Rattle.daa_legs.specs.Meeting.{MeetsWithin}
+use Rattle.daa_legs.specs.Runs.{MeetsBetween}
+use Rattle.daa_recovery.specs.Prospect.{Closes, IsHorizon, Prospect}
+use Rattle.daa_recovery.specs.declared.recovery.Recovery.{Recovery}
+
+module _ (p : Prospect) (candidate : Candidate) where
+  -- the aircraft violates a level that closes at some time of a leg from m on, before the level's lookahead
+  pub record IsClosedFrom (m : ℕ) (aircraft : Traffic) : Type 0 where
+    pub number : ℕ
+    pub level : Level
+    pub closes : Closes p.settings number level
+    pub meets : MeetsBetween p.settings p.picture.own candidate aircraft level.volume m level.lookahead
+
+  -- the aircraft is in the cylinder at some time of a leg before the horizon
+  abbrev pub IsInCylinder : Traffic → Type 0
+  IsInCylinder aircraft = MeetsWithin p.settings p.picture.own candidate aircraft p.cylinder p.horizon
+
+  -- neither is so of the aircraft
+  pub record IsClear (m : ℕ) (aircraft : Traffic) : Type 0 where
+    pub open_levels : ¬ IsClosedFrom m aircraft
+    pub apart : ¬ IsInCylinder aircraft
+
+  -- the candidate recovers at m: it is clear of every aircraft from m on, and never in the cylinder round one
+  abbrev pub Recovers : ℕ → Type 0
+  Recovers m = (place : ℕ) (aircraft : Traffic) → slice_get (aircraft_of p.picture) place ≡ Some aircraft → IsClear m aircraft
+
+module _ (p : Prospect) (kind : Kind) where
+  -- the value at a place of the kind's rising list recovers at m
+  pub record RecoversAt (place m : ℕ) (value : ℤ) : Type 0 where
+    pub there : slice_get (values_of kind p.settings) place ≡ Some value
+    pub recovers : Recovers p (candidate_to kind value) m
+
+  -- no value of the kind recovers at m
+  abbrev pub NoneRecovers : ℕ → Type 0
+  NoneRecovers m = (place : ℕ) (value : ℤ) → ¬ RecoversAt place m value
+
+  -- the least time from 1 on, before the horizon, at which some value of the kind recovers, and the first value that does then
+  pub record IsLeast (r : Recovery) : Type 0 where
+    pub place : ℕ
+    pub some : 1 ≤ r.after
+    pub before : r.after < p.horizon
+    pub recovers : RecoversAt place r.after r.value
+    pub none_sooner : (m : ℕ) → 1 ≤ m → m < r.after → NoneRecovers m
+    pub none_earlier : (i : ℕ) (value : ℤ) → i < place → ¬ RecoversAt i r.after value
+
+  -- that, or that no value recovers at any time from 1 on before the horizon
+  abbrev pub IsFound : Option Recovery → Type 0
+  IsFound (Some r) = IsLeast r
+  IsFound None = (m : ℕ) → 1 ≤ m → m < p.horizon → NoneRecovers m
+
+-- the recovery of a kind in a moment, under a configuration that asks for it
+pub record IsRecovery (settings : Settings) (picture : Picture) (kind : Kind) (answer : Option Recovery) : Type 0 where
+  pub cylinder : Volume
+  pub horizon : ℕ
+  pub asked : settings.recovery ≡ Some cylinder
+  pub ahead : IsHorizon settings horizon
+  pub found : IsFound (record { settings = settings; picture = picture; cylinder = cylinder; horizon = horizon }) kind answer

@@ -1,0 +1,43 @@
+-- How far the search for a recovery has come: helpers of private functions.
+use Rattle.std.specs.Prelude.{ℕ, ℤ, ◌≡◌, ◌≤◌, ◌<◌, Option, Some, None}
+use Rattle.daa_config.specs.declared.candidate.Candidate.{Candidate}
+use Rattle.daa_config.specs.declared.kind.Kind.{Kind}
+use Rattle.daa_recovery.specs.Prospect.{Prospect}
+use Rattle.daa_recovery.specs.Recovery.{Recovers, RecoversAt}
+use Rattle.daa_recovery.specs.declared.recovery.Recovery.{Recovery}
+
+-- the time that the next candidate has to be below
+abbrev pub bound_of : Prospect → Option Recovery → ℕ
+bound_of p (Some r) = r.after
+bound_of p None = p.horizon
+
+module _ (p : Prospect) (kind : Kind) where
+  -- the value stands below count and recovers, and none before it does at that time
+  pub record IsFirst (count : ℕ) (r : Recovery) : Type 0 where
+    pub place : ℕ
+    pub below : place < count
+    pub some : 1 ≤ r.after
+    pub before : r.after < p.horizon
+    pub recovers : RecoversAt p kind place r.after r.value
+    pub none_earlier : (i : ℕ) (value : ℤ) → i < place → ¬ RecoversAt p kind i r.after value
+
+  abbrev pub IsFirstFound : (count : ℕ) → Option Recovery → Type 0
+  IsFirstFound count (Some r) = IsFirst count r
+  IsFirstFound count None = Unit {0}
+
+  -- of the first values none recovers sooner than what was found, or at all before the horizon
+  pub record IsFoundBelow (count : ℕ) (found : Option Recovery) : Type 0 where
+    pub first : IsFirstFound count found
+    pub none_sooner : (m : ℕ) → 1 ≤ m → m < bound_of p found → (i : ℕ) (value : ℤ) → i < count → ¬ RecoversAt p kind i m value
+
+-- the least time from 1 on below a bound at which the candidate recovers, or that there is none
+module _ (p : Prospect) (candidate : Candidate) (bound : ℕ) where
+  pub record IsLeastAt (after : ℕ) : Type 0 where
+    pub some : 1 ≤ after
+    pub below : after < bound
+    pub recovers : Recovers p candidate after
+    pub none_sooner : (m : ℕ) → 1 ≤ m → m < after → ¬ Recovers p candidate m
+
+  abbrev pub IsLeastTime : Option ℕ → Type 0
+  IsLeastTime (Some after) = IsLeastAt after
+  IsLeastTime None = (m : ℕ) → 1 ≤ m → m < bound → ¬ Recovers p candidate m

@@ -1,0 +1,11 @@
+//! Recovery: where every candidate of a kind loses well-clear, how soon one of them has it again. Nothing here takes memory.
+#![tactic(auto)]
+
+mod laws;
+mod outlook;
+mod recovery;
+#[cfg(test)]
+mod tests;
+
+pub use laws::{has_one_recovery, recovering_lasts, the_cylinder_is_what_is_near};
+pub use recovery::{Recovery, least};

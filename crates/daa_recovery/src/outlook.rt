@@ -1,0 +1,218 @@
+//! A configuration with a moment and the cylinder: which candidates recover, and when.
+
+ghost use Rattle.std.specs.Prelude.{◌≡◌, ◌↔◌, ◌<◌, ◌≤◌, ◌+◌, ℕ, IsTrue, Some, None, length, slice_get};
+ghost use Rattle.daa_config.specs.Candidates.{values_of, candidate_to as to_value};
+ghost use Rattle.daa_config.specs.Settings.{IsAccepted, IsCandidateInRange};
+ghost use Rattle.daa_state.specs.InRange.{IsPictureInRange, IsTrafficInRange};
+ghost use Rattle.daa_state.specs.Picture.{aircraft_of};
+ghost use Rattle.daa_recovery.specs.Prospect.{IsHorizon, IsProspect};
+ghost use Rattle.daa_recovery.specs.Recovery.{IsClosedFrom, IsInCylinder, IsClear, Recovers, IsFound};
+ghost use Rattle.daa_recovery.specs.Search.{IsFoundBelow, bound_of, IsLeastTime};
+
+use crate::recovery::Recovery;
+use daa_config::{Candidate, Config, Kind};
+use daa_meet::meets_between;
+use daa_state::{Picture, Traffic};
+use daa_taumod::Volume;
+use std::marker::Model;
+
+/// A configuration with a moment and the cylinder that a recovery stays out of, and how many seconds ahead it looks. Contracts see
+/// it as a `Prospect`.
+#[derive(Drop)]
+pub(crate) struct Outlook<'a> {
+    config: &'a Config,
+    picture: &'a Picture,
+    cylinder: &'a Volume,
+    horizon: u32,
+}
+
+impl<'a> Model for Outlook<'a> {
+    ghost use Rattle.daa_recovery.specs.Prospect.{Prospect, IsProspect};
+
+    ghost Value = { Prospect };
+
+    ghost view = { λ o. record { settings = o.config.now; picture = o.picture.now; cylinder = o.cylinder.now; horizon = o.horizon } };
+
+    ghost invariant = { λ o. IsProspect (record { settings = o.config.now; picture = o.picture.now; cylinder = o.cylinder.now; horizon = o.horizon }) };
+}
+
+impl<'a> Outlook<'a> {
+    /// The outlook of a configuration and an ended moment.
+    pub(crate) fn of(config: &'a Config, picture: &'a Picture, cylinder: &'a Volume) -> Outlook<'a>
+        requires picture { IsPictureInRange picture.now }
+        requires cylinder { config.now.recovery ≡ Some cylinder.now }
+        ensures parts { result ≡ record { settings = config.now; picture = picture.now; cylinder = cylinder.now; horizon = result.horizon } }
+        ensures horizon { IsHorizon config.now result.horizon }
+    {
+        let horizon = horizon_of(config);
+        Outlook {
+            config,
+            picture,
+            cylinder,
+            horizon,
+        }
+    }
+
+    /// The least time after which a candidate of the kind recovers, and the first candidate that does.
+    pub(crate) fn least(&self, kind: Kind) -> Option<Recovery>
+        ensures { IsFound self.now kind result }
+    {
+        let mut found = None;
+        for place in 0..self.config.count(kind) {
+            found = self.better(kind, place, found);
+        }
+        found
+    }
+
+    /// What is found of the candidates of a kind up to that at a place, where `found` is what was found of those before it.
+    fn better(&self, kind: Kind, place: u32, found: Option<Recovery>) -> Option<Recovery>
+        requires place { place < length (values_of kind self.now.settings) }
+        requires found { IsFoundBelow self.now kind place found }
+        ensures { IsFoundBelow self.now kind (place + 1) result }
+    {
+        let value = self.config.value(kind, place);
+        let candidate = going(kind, &value);
+        match self.sooner(candidate, self.bound(&found)) {
+            Some(after) => Some(Recovery { after, value }),
+            None => found,
+        }
+    }
+
+    /// The time that the next candidate has to be below.
+    fn bound(&self, found: &Option<Recovery>) -> u32
+        ensures { result ≡ bound_of self.now found.now }
+    {
+        match found {
+            Some(recovery) => recovery.after,
+            None => self.horizon,
+        }
+    }
+
+    /// The least time below a bound at which the candidate recovers, where there is one.
+    fn sooner(&self, candidate: Candidate, bound: u32) -> Option<u32>
+        requires { IsCandidateInRange candidate }
+        ensures { IsLeastTime self.now candidate bound result }
+    {
+        if bound < 2 || !self.recovers(candidate, bound - 1) {
+            return None;
+        }
+        Some(self.earliest(candidate, bound - 1))
+    }
+
+    /// The least time up to one at which the candidate recovers.
+    fn earliest(&self, candidate: Candidate, time: u32) -> u32
+        requires candidate { IsCandidateInRange candidate }
+        requires some { 1 ≤ time }
+        requires recovers { Recovers self.now candidate time }
+        ensures { IsLeastTime self.now candidate (time + 1) (Some result) }
+    {
+        let mut low = 0;
+        let mut high = time;
+        while high - low > 1 {
+            let middle = low + (high - low) / 2;
+            if self.recovers(candidate, middle) {
+                high = middle;
+            } else {
+                low = middle;
+            }
+        }
+        high
+    }
+
+    /// Whether the candidate recovers at second `m`: each aircraft is clear of it.
+    fn recovers(&self, candidate: Candidate, m: u32) -> bool
+        requires { IsCandidateInRange candidate }
+        ensures { IsTrue result ↔ Recovers self.now candidate m }
+    {
+        for place in 0..self.picture.traffic.len() as u32 {
+            if !self.is_clear(candidate, m, self.aircraft(place)) {
+                return false;
+            }
+        }
+        true
+    }
+
+    /// Whether the candidate keeps clear of an aircraft: it violates no level that closes from second `m` on within the level's
+    /// lookahead, and never comes into the cylinder.
+    fn is_clear(&self, candidate: Candidate, m: u32, aircraft: &Traffic) -> bool
+        requires candidate { IsCandidateInRange candidate }
+        requires aircraft { IsTrafficInRange aircraft.now }
+        ensures { IsTrue result ↔ IsClear self.now candidate m aircraft.now }
+    {
+        !self.is_in_cylinder(candidate, aircraft) && !self.is_closed_from(candidate, m, aircraft)
+    }
+
+    /// Whether the candidate comes into the cylinder round the aircraft before the horizon.
+    fn is_in_cylinder(&self, candidate: Candidate, aircraft: &Traffic) -> bool
+        requires candidate { IsCandidateInRange candidate }
+        requires aircraft { IsTrafficInRange aircraft.now }
+        ensures { IsTrue result ↔ IsInCylinder self.now candidate aircraft.now }
+    {
+        meets_between(
+            self.config,
+            &self.picture.own,
+            candidate,
+            aircraft,
+            self.cylinder,
+            0,
+            self.horizon,
+        )
+    }
+
+    /// Whether the candidate violates a level that closes, from second `m` on and within the level's lookahead.
+    fn is_closed_from(&self, candidate: Candidate, m: u32, aircraft: &Traffic) -> bool
+        requires candidate { IsCandidateInRange candidate }
+        requires aircraft { IsTrafficInRange aircraft.now }
+        ensures { IsTrue result ↔ IsClosedFrom self.now candidate m aircraft.now }
+    {
+        for l in self.config.resolve()..self.config.levels() + 1 {
+            let level = self.config.level(l);
+            if meets_between(
+                self.config,
+                &self.picture.own,
+                candidate,
+                aircraft,
+                &level.volume,
+                m,
+                level.lookahead,
+            ) {
+                return true;
+            }
+        }
+        false
+    }
+
+    /// The aircraft at a place of the moment's list.
+    fn aircraft(&self, place: u32) -> &Traffic
+        requires { place < length (aircraft_of self.now.picture) }
+        ensures listed { slice_get (aircraft_of self.now.picture) place ≡ Some result.now }
+        ensures in_range { IsTrafficInRange result.now }
+    {
+        &self.picture.traffic[place as usize]
+    }
+}
+
+/// The greatest lookahead of the levels from `resolve` up, 1 to 180 seconds.
+fn horizon_of(config: &Config) -> u32
+    ensures value { IsHorizon config.now result }
+    ensures accepted { IsAccepted config.now }
+{
+    let first = config.resolve();
+    let mut horizon = config.level(first).lookahead;
+    for l in first..config.levels() {
+        horizon = horizon.max(config.level(l + 1).lookahead);
+    }
+    horizon
+}
+
+/// The candidate of a kind that goes to a value.
+fn going(kind: Kind, value: &i32) -> Candidate
+    ensures { result ≡ to_value kind value.now }
+{
+    match kind {
+        Kind::Track => Candidate::Track(*value),
+        Kind::Speed => Candidate::Speed(*value),
+        Kind::Climb => Candidate::Climb(*value),
+        Kind::Height => Candidate::Height(*value),
+    }
+}
