@@ -10,7 +10,9 @@ mod writers;
 pub use kind_words::kind_word;
 pub use line::Line;
 pub use page::Page;
-pub use writers::{SinkFault, alert, band, config, done, moment, now, put, refused, resolve};
+pub use writers::{
+    SinkFault, alert, band, config, differs, done, moment, now, put, refused, resolve, same,
+};
 
 #[cfg(test)]
 mod tests;
