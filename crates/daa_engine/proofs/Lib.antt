@@ -6,3 +6,4 @@ pub mod OnlyLemmas
 pub mod SomeText
 pub mod LevelLemmas
 pub mod MergingLemmas
+pub mod LengthLemmas

@@ -1,5 +1,5 @@
 //! The engine: a configuration, a number of workers, and the board of the latest moment.
-ghost use Rattle.std.specs.Prelude.{◌≡◌, ◌<◌, IfOk, length, replicate, slice_index_or};
+ghost use Rattle.std.specs.Prelude.{◌≡◌, ◌<◌, ◌≤◌, ◌^◌, IfOk, length, replicate, slice_index_or};
 ghost use Rattle.daa_bands.specs.Board.{IsBoardOf, board_size};
 ghost use Rattle.daa_config.specs.Settings.{IsAccepted};
 ghost use Rattle.daa_state.specs.InRange.{IsPictureInRange};
@@ -8,7 +8,9 @@ ghost use Rattle.daa_state.specs.declared.word.Traffic.{Traffic};
 ghost use Rattle.daa_alert.specs.Alert.{IsAlertOf};
 ghost use Rattle.daa_engine.specs.Covered.{CoveredAt};
 ghost use Rattle.daa_engine.specs.EngineState.{IsWorkerCount};
+ghost use Rattle.daa_engine.specs.Longest.{longest_moment};
 ghost use Rattle.daa_engine.specs.MomentText.{IsMomentText};
+ghost use Rattle.daa_report.specs.Lines.{Text};
 ghost use Rattle.daa_report.specs.Says.{SaysSome};
 
 use crate::advice::advise;
@@ -53,6 +55,14 @@ impl Model for Engine {
     ghost view = { λ e. record { settings = e.config; workers = e.workers; board = e.board } };
 
     ghost invariant = { λ e. IsEngine (record { settings = e.config; workers = e.workers; board = e.board }) × HasRoom e.words.items };
+}
+
+/// The time of a picture, in seconds.
+fn time_of(picture: &Picture) -> u32
+    ensures value { result ≡ picture.now.time }
+    ensures fits { picture.now.time < 2 ^ 32 }
+{
+    picture.time
 }
 
 impl Engine {
@@ -138,7 +148,7 @@ impl Engine {
     /// Decides a moment and writes its lines to the sink: its first line, the lines of the aircraft, those of the bands of
     /// each kind, of what is answered and of the recoveries, and its last line. Everything is found before the first byte is written, and
     /// nothing is held back when the call returns. `SinkFault` comes only where the sink failed; then a beginning of the
-    /// lines is written.
+    /// lines is written. The lines have at most 130176 bytes together.
     pub fn report<R: Threads + Sync, K: Sink, G: Gate>(
         &mut self,
         rt: &R,
@@ -150,8 +160,11 @@ impl Engine {
         requires { IsPictureInRange picture.now }
         ensures kept { self.new ≡ record self.old { board = self.new.board } }
         ensures board { IsBoardOf (CoveredAt self.old.settings picture.now) self.old.settings self.new.board }
+        ensures short { (text : Text) → IsMomentText self.old.settings picture.now text → length text ≤ longest_moment }
         ensures says { SaysSome (IsMomentText self.old.settings picture.now) (K.taken sink.old) (K.taken sink.new) (K.faults sink.old) (K.faults sink.new) result }
     {
+        // tells that it is a `u32`
+        let _time = time_of(picture);
         self.decide(rt, alloc, picture, gate);
         let alerts = find_alerts(&self.config, picture);
         let advice = advise(&self.board, &self.config, &picture.own);

@@ -1,5 +1,5 @@
 //! Laws of the definitions, each the contract of a function that does nothing.
-ghost use Rattle.std.specs.Prelude.{◌≡◌, ◌≤◌, ℕ, List, length};
+ghost use Rattle.std.specs.Prelude.{◌≡◌, ◌<◌, ◌≤◌, ◌^◌, ℕ, List, length};
 ghost use Rattle.daa_bands.specs.Board.{HasLevelOn, IsBoardOf, mask_levels};
 ghost use Rattle.daa_bands.specs.KindBands.{AreKindBands};
 ghost use Rattle.daa_bands.specs.declared.band.Band.{Band};
@@ -13,6 +13,7 @@ ghost use Rattle.daa_report.specs.Lines.{Text};
 ghost use Rattle.daa_resolve.specs.Resolution.{IsResolution};
 ghost use Rattle.daa_resolve.specs.declared.side.Side.{Side};
 ghost use Rattle.daa_engine.specs.Covered.{CoveredAt};
+ghost use Rattle.daa_engine.specs.Longest.{longest_moment};
 ghost use Rattle.daa_engine.specs.MomentText.{IsMomentText};
 
 /// Under a configuration that is accepted exactly one text is that of a picture in range. This holds of the definitions
@@ -42,4 +43,11 @@ pub fn boards_tell_what_is_covered()
     ensures answers { (s : Settings) (p : Picture) (board : List ℕ) (kind : Kind) (side : Side) (answer : Resolution) → IsAccepted s
         → IsBoardOf (CoveredAt s p) s board → IsResolution (HasLevelOn board) s p.own kind side answer
         → IsResolution (CoveredAt s p) s p.own kind side answer }
+{}
+
+/// The text of a picture in range, whose time is a `u32`, has at most 130176 bytes: at most 64 for each of its lines, with room for
+/// four lines more. So a sheet of one byte more is never full.
+pub fn texts_are_short()
+    ensures { (s : Settings) (p : Picture) (text : Text) → IsAccepted s → IsPictureInRange p → p.time < 2 ^ 32 → IsMomentText s p text
+        → length text ≤ longest_moment }
 {}

@@ -2,6 +2,7 @@ pub mod EventLemmas
 pub mod FollowsLemmas
 pub mod TextLemmas
 pub mod ReportLemmas
+pub mod DeskLemmas
 pub mod RunLemmas
 pub mod FourWordLemmas
 pub mod OneText
@@ -11,3 +12,5 @@ pub mod PictureLemmas
 pub mod SomeReport
 pub mod AgeLemmas
 pub mod PerformLemmas
+pub mod JudgingLemmas
+pub mod ComparedLemmas

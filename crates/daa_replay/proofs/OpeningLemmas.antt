@@ -1,5 +1,5 @@
 -- A configuration that is too long, and what is left where a run without one says why.
-use Rattle.std.proofs.Common.{◌≡◌, ◌<◌, ℕ, length, replicate, Option, None, Some, Result, Ok, Err, refl, arith, inl, inr}
+use Rattle.std.proofs.Common.{◌≡◌, ◌<◌, ℕ, List, subst, length, replicate, Option, None, Some, Result, Ok, Err, refl, arith, inl, inr}
 use Rattle.std.specs.Prelude.{IfSome, IsSomeAnd, OnErr, OnOk}
 use Rattle.std.proofs.lemmas.Bool.{lt-ltb}
 use Rattle.std.proofs.lemmas.List.{length-replicate}
@@ -11,7 +11,16 @@ use Rattle.daa_report.specs.Says.{Says}
 use Rattle.daa_replay.specs.declared.status.Status.{Status}
 use Rattle.daa_replay.specs.declared.status.Status.TheVariants.{WriteFault}
 use Rattle.daa_replay.specs.Outside.{StreamState}
-use Rattle.daa_replay.specs.Ready.{FetchesAs, unready_of}
+use Rattle.daa_config.specs.Settings.{Settings}
+use Rattle.daa_engine.specs.EngineState.{EngineState}
+use Rattle.daa_words.specs.Order.{Asked, order_of}
+use Rattle.daa_words.specs.Task.{Task, Judge}
+use Rattle.daa_replay.specs.declared.opening.Ready.{Ready}
+use Rattle.daa_replay.specs.declared.opening.Unready.{Unready}
+use Rattle.daa_replay.specs.declared.opening.Unready.TheVariants as unready
+use Rattle.daa_replay.specs.declared.opening.Work.{Work}
+use Rattle.daa_replay.specs.Opening.{Opens}
+use Rattle.daa_replay.specs.Ready.{FetchesAs, MakesReady, OpensAs, PreparesAs, unready_of}
 use Rattle.daa_replay.specs.Telling.{Writes}
 
 too_long : (text : Text) → longest_text < length text → config_of text ≡ Err TooLong
@@ -29,6 +38,45 @@ refused_long (Some held) name h = go (held name) refl h
     go : (found : Option Text) → held name ≡ found → IsSomeAnd found (λ text. longest_text < length text) → FetchesAs (Some held) name (Err (unready_of TooLong))
     go None e k = absurd k
     go (Some text) e k = (text, e, (TooLong, too_long text k, refl))
+
+-- ---- what is made ready
+
+-- no engine was made
+pub no_engine : (texts : Option Texts) (asked : Asked) (why : Unready) → FetchesAs texts asked.config (Err why) → MakesReady texts asked (Err why)
+no_engine texts asked unready.NotTaken h = h
+no_engine texts asked (unready.Refused code) h = h
+no_engine texts asked unready.StatesLong h = absurd h
+no_engine texts asked unready.FetchFault h = tt
+no_engine texts asked unready.NoMemory h = tt
+
+-- an engine was made, and no work
+pub no_work : (texts now : Option Texts) (asked : Asked) (settings : Settings) (why : Unready) → now ≡ texts → FetchesAs texts asked.config (Ok settings)
+    → PreparesAs now asked.task (Err why) → MakesReady texts asked (Err why)
+no_work texts now asked settings unready.NotTaken e f h = h
+no_work texts now asked settings (unready.Refused code) e f h = absurd h
+no_work texts now asked settings unready.StatesLong e f h = (settings, f, subst (λ (x : Option Texts). PreparesAs x asked.task (Err unready.StatesLong)) e h)
+no_work texts now asked settings unready.FetchFault e f h = tt
+no_work texts now asked settings unready.NoMemory e f h = tt
+
+pub made : (texts now : Option Texts) (asked : Asked) (engine : EngineState) (w : Work) → now ≡ texts → FetchesAs texts asked.config (Ok engine.settings)
+    → PreparesAs now asked.task (Ok w) → MakesReady texts asked (Ok (record { engine = engine; work = w }))
+made texts now asked engine w e f h = (f, subst (λ (x : Option Texts). PreparesAs x asked.task (Ok w)) e h)
+
+-- what is asked is what the words ask for
+opens_here : (words : List Text) (texts : Option Texts) (asked : Asked) (task : Task) (settings : Settings) → order_of words ≡ Some asked → asked.task ≡ task
+    → FetchesAs texts asked.config (Ok settings) → Opens words texts task settings
+opens_here words texts asked task settings taken wanted (text, held, reads) =
+    record { asked = asked; taken = taken; wanted = wanted; text = text; held = held; accepted = reads }
+
+pub opened_by : (words : List Text) (texts : Option Texts) (asked : Asked) (r : Result Ready Unready) → order_of words ≡ Some asked → MakesReady texts asked r → OpensAs words texts r
+opened_by words texts asked (Ok ready) taken h = (asked.task, opens_here words texts asked asked.task ready.engine.settings taken refl h.0, h.1)
+opened_by words texts asked (Err unready.NotTaken) taken h = absurd h
+opened_by words texts asked (Err (unready.Refused code)) taken (text, held, reads) =
+    record { asked = asked; taken = taken; text = text; held = held; fault = reads.0; refused = reads.1; numbered = reads.2 }
+opened_by words texts asked (Err unready.StatesLong) taken (settings, fetched, (name, is, long)) =
+    record { name = name; settings = settings; opens = opens_here words texts asked (Judge name) settings taken is fetched; long = long }
+opened_by words texts asked (Err unready.FetchFault) taken h = (asked, taken)
+opened_by words texts asked (Err unready.NoMemory) taken h = tt
 
 -- a line was written, or the sink failed within it
 pub writes : {E : Type 0} (old new : StreamState) (text : Text) (r : Result (Unit {0}) E) (said result : Status)

@@ -1,27 +1,123 @@
 -- What a run leaves, by the task that it performs.
-use Rattle.std.proofs.Common.{◌≡◌, ◌≢◌, ◌≤◌, ◌⊎◌, ℕ, List, Result, Ok, Err, refl, sym, ap, subst, ◌∙◌, arith, inl, inr}
+use Rattle.std.proofs.Common.{◌≡◌, ◌≢◌, ◌≤◌, ◌⊎◌, ℕ, List, Result, Ok, Err, None, Some, refl, sym, ap, subst, ◌∙◌, arith, inl, inr}
 use Rattle.std.specs.Prelude.{OnErr, OnOk}
 use Rattle.daa_config.specs.Settings.{Settings}
-use Rattle.daa_report.specs.Lines.{Text}
+use Rattle.daa_outside.specs.Faults.{HasRisen}
+use Rattle.daa_report.specs.Lines.{Text, config_line}
 use Rattle.daa_report.specs.Says.{Says}
-use Rattle.daa_words.specs.declared.order.Task.{Task}
-use Rattle.daa_words.specs.declared.order.Task.TheVariants.{Replay, Exercise}
+use Rattle.daa_words.specs.Order.{Asked, order_of}
+use Rattle.daa_words.specs.Task.{Task, Replay, Exercise, Judge}
 use Rattle.daa_exercise.specs.Summary.{IsSummaryOf}
 use Rattle.daa_replay.specs.declared.status.Status.{Status}
+use Rattle.daa_judge.specs.declared.found.Found.{Found}
+use Rattle.daa_judge.specs.declared.found.Found.TheVariants as found
+use Rattle.daa_lines.specs.LinesOf.{Bytes}
+use Rattle.daa_report.specs.Lines.{same_line, differs_line}
+use Rattle.daa_replay.specs.declared.opening.Work.{Work}
+use Rattle.daa_replay.specs.declared.opening.Work.TheVariants as work
+use Rattle.daa_replay.specs.declared.opening.Unready.{Unready}
+use Rattle.daa_replay.specs.declared.opening.Unready.TheVariants as unready
 use Rattle.daa_replay.specs.declared.status.Status.TheVariants.{Accepted, WriteFault}
+use Rattle.daa_replay.specs.declared.status.Status.TheVariants as status
 use Rattle.daa_replay.specs.Exercising.{Exercises}
-use Rattle.daa_replay.specs.Opening.{Opens}
-use Rattle.daa_replay.specs.Outside.{Outside, StreamState}
+use Rattle.daa_replay.specs.Judging.{Judged, Judges}
+use Rattle.daa_replay.specs.Opening.{usage_line, long_line, Opens, OpensStates, OpensLong, IsRefused}
+use Rattle.daa_replay.specs.Outside.{Outside, StreamState, Takes}
 use Rattle.daa_replay.specs.Performing.{Performs}
 use Rattle.daa_replay.specs.Replaying.{Replays}
-use Rattle.daa_replay.specs.Run.{Runs}
+use Rattle.daa_replay.specs.Run.{Breaks, Runs}
+use Rattle.daa_replay.specs.Ready.{OpensAs, IsWork}
 use Rattle.daa_replay.specs.Status.{code_of}
+use Rattle.daa_replay.specs.Telling.{Tells, Writes}
 
 -- ---- the task
 
-pub by_task : (most status : ℕ) (settings : Settings) (task known : Task) (so sn ko kn : StreamState) → task ≡ known
-    → Performs most status settings known so sn ko kn → Performs most status settings task so sn ko kn
-by_task most status settings task known so sn ko kn e h = subst (λ (t : Task). Performs most status settings t so sn ko kn) (sym e) h
+pub by_work : (most status : ℕ) (settings : Settings) (work known : Work) (so sn ko kn : StreamState) → work ≡ known
+    → Performs most status settings known so sn ko kn → Performs most status settings work so sn ko kn
+by_work most status settings work known so sn ko kn e h = subst (λ (t : Work). Performs most status settings t so sn ko kn) (sym e) h
+
+-- `same` was written, or the sink failed within it
+pub same_told : {E : Type 0} (settings : Settings) (states : Bytes) (most : ℕ) (so sn ko kn : StreamState) (r : Result (Unit {0}) E) (result : Status)
+    → Judged settings states most found.Alike so sn → so.faults ≤ sn.faults → Says ko.bytes kn.bytes ko.faults kn.faults same_line r
+    → OnOk r (result ≡ Accepted) → OnErr r (result ≡ WriteFault) → Judges settings states most (code_of result) so sn ko kn
+same_told settings states most so sn ko kn (Ok x) result j f s whole broken =
+    let steady = s.cause.steady in
+    subst (λ (st : Status). Judges settings states most (code_of st) so sn ko kn) (sym whole) (record {
+      named = inl refl;
+      same = λ e. record { judged = j; written = record { taken = s.whole; calm = steady } };
+      differs = λ e. absurd (omega (arith, e));
+      read_fault = λ e. absurd (omega (arith, e));
+      write_fault = λ e. absurd (omega (arith, e));
+      limit = λ e. absurd (omega (arith, e));
+      reads = f;
+      writes = omega (arith, steady);
+    })
+same_told settings states most so sn ko kn (Err x) result j f s whole broken =
+    subst (λ (st : Status). Judges settings states most (code_of st) so sn ko kn) (sym broken) (record {
+      named = inr (inr (inr (inl refl)));
+      same = λ e. absurd (omega (arith, e));
+      differs = λ e. absurd (omega (arith, e));
+      read_fault = λ e. absurd (omega (arith, e));
+      write_fault = λ e. record { risen = s.cause.risen; so = inl (j, s.front) };
+      limit = λ e. absurd (omega (arith, e));
+      reads = f;
+      writes = s.cause.later;
+    })
+
+-- the number of the first line that differs was written, or the sink failed within it
+pub difference_told : {E : Type 0} (settings : Settings) (states : Bytes) (most number : ℕ) (so sn ko kn : StreamState) (r : Result (Unit {0}) E) (result : Status)
+    → Judged settings states most (found.Differs number) so sn → so.faults ≤ sn.faults → Says ko.bytes kn.bytes ko.faults kn.faults (differs_line number) r
+    → OnOk r (result ≡ status.Refused) → OnErr r (result ≡ WriteFault) → Judges settings states most (code_of result) so sn ko kn
+difference_told settings states most number so sn ko kn (Ok x) result j f s whole broken =
+    let steady = s.cause.steady in
+    subst (λ (st : Status). Judges settings states most (code_of st) so sn ko kn) (sym whole) (record {
+      named = inr (inl refl);
+      same = λ e. absurd (omega (arith, e));
+      differs = λ e. record { number = number; judged = j; written = record { taken = s.whole; calm = steady } };
+      read_fault = λ e. absurd (omega (arith, e));
+      write_fault = λ e. absurd (omega (arith, e));
+      limit = λ e. absurd (omega (arith, e));
+      reads = f;
+      writes = omega (arith, steady);
+    })
+difference_told settings states most number so sn ko kn (Err x) result j f s whole broken =
+    subst (λ (st : Status). Judges settings states most (code_of st) so sn ko kn) (sym broken) (record {
+      named = inr (inr (inr (inl refl)));
+      same = λ e. absurd (omega (arith, e));
+      differs = λ e. absurd (omega (arith, e));
+      read_fault = λ e. absurd (omega (arith, e));
+      write_fault = λ e. record { risen = s.cause.risen; so = inr (number, j, s.front) };
+      limit = λ e. absurd (omega (arith, e));
+      reads = f;
+      writes = s.cause.later;
+    })
+
+-- comparing ended before it could be told
+pub fault_told : (settings : Settings) (states : Bytes) (most : ℕ) (so sn k : StreamState) → Judged settings states most found.Fault so sn → so.faults ≤ sn.faults
+    → Judges settings states most 4 so sn k k
+fault_told settings states most so sn k j f = record {
+  named = inr (inr (inl refl));
+  same = λ e. absurd (omega (arith, e));
+  differs = λ e. absurd (omega (arith, e));
+  read_fault = λ e. record { judged = j; sink = refl };
+  write_fault = λ e. absurd (omega (arith, e));
+  limit = λ e. absurd (omega (arith, e));
+  reads = f;
+  writes = omega arith;
+}
+
+pub limit_told : (settings : Settings) (states : Bytes) (most : ℕ) (so sn k : StreamState) → Judged settings states most found.Limit so sn → so.faults ≤ sn.faults
+    → Judges settings states most 8 so sn k k
+limit_told settings states most so sn k j f = record {
+  named = inr (inr (inr (inr refl)));
+  same = λ e. absurd (omega (arith, e));
+  differs = λ e. absurd (omega (arith, e));
+  read_fault = λ e. absurd (omega (arith, e));
+  write_fault = λ e. absurd (omega (arith, e));
+  limit = λ e. record { judged = j; sink = refl };
+  reads = f;
+  writes = omega arith;
+}
 
 -- the summary was written, or the sink failed within it
 pub exercised : {E : Type 0} (settings : Settings) (seed moments : ℕ) (so ko kn : StreamState) (text : Text) (r : Result (Unit {0}) E) (result : Status)
@@ -68,19 +164,20 @@ none_of_two status n (inr k) e a b = b (sym e ∙ k)
 
 module _ (most status : ℕ) (words : List Text) (old new : Outside) (settings : Settings)
     (texts : new.shelf.texts ≡ old.shelf.texts) (fetches : new.shelf.faults ≡ old.shelf.faults) where
-  pub replay_runs : Opens words old.shelf.texts Replay settings → Replays settings most status old.source new.source old.sink new.sink
+  pub replay_runs : (ahead : ℕ) → Opens words old.shelf.texts (Replay ahead) settings → Replays settings most status old.source new.source old.sink new.sink
       → Runs most words status old new
-  replay_runs opens r = record {
-    named = five_are_few status r.named;
-    accepted = λ e. inl (record { settings = settings; opens = opens; so = r.accepted e });
-    refused = λ e. record { settings = settings; opens = opens; so = r.refused e };
+  replay_runs ahead opens r = record {
+    named = omega (arith, five_are_few status r.named);
+    accepted = λ e. inl (record { ahead = ahead; settings = settings; opens = opens; so = r.accepted e });
+    refused = λ e. inl (record { ahead = ahead; settings = settings; opens = opens; so = r.refused e });
     not_taken = λ e. absurd (never 2 e (λ k. omega (arith, k)) (λ k. omega (arith, k)) (λ k. omega (arith, k)) (λ k. omega (arith, k)) (λ k. omega (arith, k)));
     bad_configuration = λ e. absurd (never 3 e (λ k. omega (arith, k)) (λ k. omega (arith, k)) (λ k. omega (arith, k)) (λ k. omega (arith, k)) (λ k. omega (arith, k)));
-    read_fault = λ e. record { settings = settings; opens = opens; so = r.read_fault e };
-    write_fault = λ e. let w = r.write_fault e in record { risen = w.risen; so = inr (inr (inr (record { settings = settings; opens = opens; so = w }))) };
+    read_fault = λ e. inl (record { ahead = ahead; settings = settings; opens = opens; so = r.read_fault e });
+    write_fault = λ e. let w = r.write_fault e in record { risen = w.risen; so = inr (inr (inr (inl (record { ahead = ahead; settings = settings; opens = opens; so = w })))) };
     no_memory = λ e. absurd (never 6 e (λ k. omega (arith, k)) (λ k. omega (arith, k)) (λ k. omega (arith, k)) (λ k. omega (arith, k)) (λ k. omega (arith, k)));
     fetch_fault = λ e. absurd (never 7 e (λ k. omega (arith, k)) (λ k. omega (arith, k)) (λ k. omega (arith, k)) (λ k. omega (arith, k)) (λ k. omega (arith, k)));
-    limit = λ e. record { settings = settings; opens = opens; so = r.limit e };
+    limit = λ e. inl (record { ahead = ahead; settings = settings; opens = opens; so = r.limit e });
+    states_long = λ e. absurd (never 9 e (λ k. omega (arith, k)) (λ k. omega (arith, k)) (λ k. omega (arith, k)) (λ k. omega (arith, k)) (λ k. omega (arith, k)));
     texts = texts;
     shelf_calm = λ n. fetches;
     fetches = omega (arith, fetches);
@@ -97,7 +194,7 @@ module _ (most status : ℕ) (words : List Text) (old new : Outside) (settings :
       let source = r.source in
       record {
         named = few r.named;
-        accepted = λ e. inr (record { exercise = record { seed = seed; moments = moments; settings = settings; opens = opens; so = r.ended e }; source = source });
+        accepted = λ e. inr (inl (record { exercise = record { seed = seed; moments = moments; settings = settings; opens = opens; so = r.ended e }; source = source }));
         refused = λ e. absurd (never 1 e (λ k. omega (arith, k)) (λ k. omega (arith, k)));
         not_taken = λ e. absurd (never 2 e (λ k. omega (arith, k)) (λ k. omega (arith, k)));
         bad_configuration = λ e. absurd (never 3 e (λ k. omega (arith, k)) (λ k. omega (arith, k)));
@@ -112,6 +209,7 @@ module _ (most status : ℕ) (words : List Text) (old new : Outside) (settings :
         no_memory = λ e. absurd (never 6 e (λ k. omega (arith, k)) (λ k. omega (arith, k)));
         fetch_fault = λ e. absurd (never 7 e (λ k. omega (arith, k)) (λ k. omega (arith, k)));
         limit = λ e. absurd (never 8 e (λ k. omega (arith, k)) (λ k. omega (arith, k)));
+        states_long = λ e. absurd (never 9 e (λ k. omega (arith, k)) (λ k. omega (arith, k)));
         texts = texts;
         shelf_calm = λ n. fetches;
         fetches = omega (arith, fetches);
@@ -122,14 +220,202 @@ module _ (most status : ℕ) (words : List Text) (old new : Outside) (settings :
       never : (n : ℕ) → status ≡ n → n ≢ 0 → n ≢ 5 → ⊥
       never n e = none_of_two status n r.named e
 
-      few : (status ≡ 0) ⊎ (status ≡ 5) → status ≤ 8
+      few : (status ≡ 0) ⊎ (status ≡ 5) → status ≤ 9
       few (inl k) = omega (arith, k)
       few (inr k) = omega (arith, k)
 
       same : (a b : ℕ) → b ≡ a → a ≤ b
       same a b e = omega (arith, e)
 
-  pub performs_runs : (task : Task) → Opens words old.shelf.texts task settings
-      → Performs most status settings task old.source new.source old.sink new.sink → Runs most words status old new
-  performs_runs Replay opens r = replay_runs opens r
-  performs_runs (Exercise seed moments) opens r = exercise_runs seed moments opens r
+  pub judge_runs : (states : Bytes) → OpensStates words old.shelf.texts settings states → Judges settings states most status old.source new.source old.sink new.sink
+      → Runs most words status old new
+  judge_runs states opens r = record {
+    named = omega (arith, five_are_few status r.named);
+    accepted = λ e. inr (inr (record { settings = settings; states = states; opens = opens; so = r.same e }));
+    refused = λ e. inr (record { settings = settings; states = states; opens = opens; so = r.differs e });
+    not_taken = λ e. absurd (never 2 e (λ k. omega (arith, k)) (λ k. omega (arith, k)) (λ k. omega (arith, k)) (λ k. omega (arith, k)) (λ k. omega (arith, k)));
+    bad_configuration = λ e. absurd (never 3 e (λ k. omega (arith, k)) (λ k. omega (arith, k)) (λ k. omega (arith, k)) (λ k. omega (arith, k)) (λ k. omega (arith, k)));
+    read_fault = λ e. inr (record { settings = settings; states = states; opens = opens; so = r.read_fault e });
+    write_fault = λ e. let w = r.write_fault e in record { risen = w.risen; so = inr (inr (inr (inr (inr (record { settings = settings; states = states; opens = opens; so = w }))))) };
+    no_memory = λ e. absurd (never 6 e (λ k. omega (arith, k)) (λ k. omega (arith, k)) (λ k. omega (arith, k)) (λ k. omega (arith, k)) (λ k. omega (arith, k)));
+    fetch_fault = λ e. absurd (never 7 e (λ k. omega (arith, k)) (λ k. omega (arith, k)) (λ k. omega (arith, k)) (λ k. omega (arith, k)) (λ k. omega (arith, k)));
+    limit = λ e. inr (record { settings = settings; states = states; opens = opens; so = r.limit e });
+    states_long = λ e. absurd (never 9 e (λ k. omega (arith, k)) (λ k. omega (arith, k)) (λ k. omega (arith, k)) (λ k. omega (arith, k)) (λ k. omega (arith, k)));
+    texts = texts;
+    shelf_calm = λ n. fetches;
+    fetches = omega (arith, fetches);
+    reads = r.reads;
+    writes = r.writes;
+  }
+    where
+      never : (n : ℕ) → status ≡ n → n ≢ 0 → n ≢ 1 → n ≢ 4 → n ≢ 5 → n ≢ 8 → ⊥
+      never n e = none_of_five status n r.named e
+
+  asks : (task known : Task) → task ≡ known → Opens words old.shelf.texts task settings → Opens words old.shelf.texts known settings
+  asks task known e o = subst (λ (t : Task). Opens words old.shelf.texts t settings) e o
+
+  pub performs_runs : (task : Task) (w : Work) → Opens words old.shelf.texts task settings → IsWork old.shelf.texts task w
+      → Performs most status settings w old.source new.source old.sink new.sink → Runs most words status old new
+  performs_runs task (work.Replay ahead) opens is r = replay_runs ahead (asks task (Replay ahead) is opens) r
+  performs_runs task (work.Exercise seed moments) opens is r = exercise_runs seed moments (asks task (Exercise seed moments) is opens) r
+  performs_runs task (work.Judge states sheet) opens (name, is, held, short) r =
+      judge_runs states.items (record { name = name; opens = asks task (Judge name) is opens; held = held; short = short }) r
+
+-- ---- a run that could not be made ready
+
+module _ (most : ℕ) (words : List Text) (old new : Outside) (source : new.source ≡ old.source) (texts : new.shelf.texts ≡ old.shelf.texts)
+    (fetches : old.shelf.faults ≤ new.shelf.faults) where
+  stood : (a b : ℕ) → b ≡ a → a ≤ b
+  stood a b e = omega (arith, e)
+
+  same_shelf : new.shelf.faults ≡ old.shelf.faults → new.shelf ≡ old.shelf
+  same_shelf e i = record { texts = texts i; faults = e i }
+
+  usage_told : order_of words ≡ None → new.shelf.faults ≡ old.shelf.faults → Takes old.sink new.sink usage_line → Runs most words 2 old new
+  usage_told none calm taken = record {
+    named = omega arith;
+    accepted = λ e. absurd (omega (arith, e));
+    refused = λ e. absurd (omega (arith, e));
+    not_taken = λ e. record { not_taken = none; shelf = same_shelf calm; source = source; written = taken };
+    bad_configuration = λ e. absurd (omega (arith, e));
+    read_fault = λ e. absurd (omega (arith, e));
+    write_fault = λ e. absurd (omega (arith, e));
+    no_memory = λ e. absurd (omega (arith, e));
+    fetch_fault = λ e. absurd (omega (arith, e));
+    limit = λ e. absurd (omega (arith, e));
+    states_long = λ e. absurd (omega (arith, e));
+    texts = texts;
+    shelf_calm = λ n. calm;
+    fetches = fetches;
+    reads = stood _ _ (ap (λ (x : StreamState). x.faults) source);
+    writes = stood _ _ taken.calm;
+  }
+
+  code_told : (code : ℕ) → IsRefused words old.shelf.texts code → new.shelf.faults ≡ old.shelf.faults → Takes old.sink new.sink (config_line code) → Runs most words 3 old new
+  code_told code refused calm taken = record {
+    named = omega arith;
+    accepted = λ e. absurd (omega (arith, e));
+    refused = λ e. absurd (omega (arith, e));
+    not_taken = λ e. absurd (omega (arith, e));
+    bad_configuration = λ e. record { code = code; refused = refused; shelf = same_shelf calm; source = source; written = taken };
+    read_fault = λ e. absurd (omega (arith, e));
+    write_fault = λ e. absurd (omega (arith, e));
+    no_memory = λ e. absurd (omega (arith, e));
+    fetch_fault = λ e. absurd (omega (arith, e));
+    limit = λ e. absurd (omega (arith, e));
+    states_long = λ e. absurd (omega (arith, e));
+    texts = texts;
+    shelf_calm = λ n. calm;
+    fetches = fetches;
+    reads = stood _ _ (ap (λ (x : StreamState). x.faults) source);
+    writes = stood _ _ taken.calm;
+  }
+
+  long_told : OpensLong words old.shelf.texts → new.shelf.faults ≡ old.shelf.faults → Takes old.sink new.sink long_line → Runs most words 9 old new
+  long_told opens calm taken = record {
+    named = omega arith;
+    accepted = λ e. absurd (omega (arith, e));
+    refused = λ e. absurd (omega (arith, e));
+    not_taken = λ e. absurd (omega (arith, e));
+    bad_configuration = λ e. absurd (omega (arith, e));
+    read_fault = λ e. absurd (omega (arith, e));
+    write_fault = λ e. absurd (omega (arith, e));
+    no_memory = λ e. absurd (omega (arith, e));
+    fetch_fault = λ e. absurd (omega (arith, e));
+    limit = λ e. absurd (omega (arith, e));
+    states_long = λ e. record { opens = opens; shelf = same_shelf calm; source = source; written = taken };
+    texts = texts;
+    shelf_calm = λ n. calm;
+    fetches = fetches;
+    reads = stood _ _ (ap (λ (x : StreamState). x.faults) source);
+    writes = stood _ _ taken.calm;
+  }
+
+  not_told : Breaks most words old new → new.shelf.faults ≡ old.shelf.faults → old.sink.faults ≤ new.sink.faults → Runs most words 5 old new
+  not_told breaks calm later = record {
+    named = omega arith;
+    accepted = λ e. absurd (omega (arith, e));
+    refused = λ e. absurd (omega (arith, e));
+    not_taken = λ e. absurd (omega (arith, e));
+    bad_configuration = λ e. absurd (omega (arith, e));
+    read_fault = λ e. absurd (omega (arith, e));
+    write_fault = λ e. breaks;
+    no_memory = λ e. absurd (omega (arith, e));
+    fetch_fault = λ e. absurd (omega (arith, e));
+    limit = λ e. absurd (omega (arith, e));
+    states_long = λ e. absurd (omega (arith, e));
+    texts = texts;
+    shelf_calm = λ n. calm;
+    fetches = fetches;
+    reads = stood _ _ (ap (λ (x : StreamState). x.faults) source);
+    writes = later;
+  }
+
+  no_memory_told : new.shelf.faults ≡ old.shelf.faults → new.sink ≡ old.sink → Runs most words 6 old new
+  no_memory_told calm sink = record {
+    named = omega arith;
+    accepted = λ e. absurd (omega (arith, e));
+    refused = λ e. absurd (omega (arith, e));
+    not_taken = λ e. absurd (omega (arith, e));
+    bad_configuration = λ e. absurd (omega (arith, e));
+    read_fault = λ e. absurd (omega (arith, e));
+    write_fault = λ e. absurd (omega (arith, e));
+    no_memory = λ e. record { source = source; sink = sink };
+    fetch_fault = λ e. absurd (omega (arith, e));
+    limit = λ e. absurd (omega (arith, e));
+    states_long = λ e. absurd (omega (arith, e));
+    texts = texts;
+    shelf_calm = λ n. calm;
+    fetches = fetches;
+    reads = stood _ _ (ap (λ (x : StreamState). x.faults) source);
+    writes = stood _ _ (ap (λ (x : StreamState). x.faults) sink);
+  }
+
+  fetch_told : (asked : Asked) → order_of words ≡ Some asked → HasRisen old.shelf.faults new.shelf.faults → new.sink ≡ old.sink → Runs most words 7 old new
+  fetch_told asked taken risen sink = record {
+    named = omega arith;
+    accepted = λ e. absurd (omega (arith, e));
+    refused = λ e. absurd (omega (arith, e));
+    not_taken = λ e. absurd (omega (arith, e));
+    bad_configuration = λ e. absurd (omega (arith, e));
+    read_fault = λ e. absurd (omega (arith, e));
+    write_fault = λ e. absurd (omega (arith, e));
+    no_memory = λ e. absurd (omega (arith, e));
+    fetch_fault = λ e. record { asked = asked; taken = taken; risen = risen; untouched = record { source = source; sink = sink } };
+    limit = λ e. absurd (omega (arith, e));
+    states_long = λ e. absurd (omega (arith, e));
+    texts = texts;
+    shelf_calm = λ n. absurd (n refl);
+    fetches = fetches;
+    reads = stood _ _ (ap (λ (x : StreamState). x.faults) source);
+    writes = stood _ _ (ap (λ (x : StreamState). x.faults) sink);
+  }
+
+  by_code : (result known : Status) → result ≡ known → Runs most words (code_of known) old new → Runs most words (code_of result) old new
+  by_code result known e r = subst (λ (s : Status). Runs most words (code_of s) old new) (sym e) r
+
+  usage_runs : (result : Status) → order_of words ≡ None → new.shelf.faults ≡ old.shelf.faults → Writes status.NotTaken old.sink new.sink usage_line result → Runs most words (code_of result) old new
+  usage_runs result none calm (inl w) = by_code result status.NotTaken w.0 (usage_told none calm w.1)
+  usage_runs result none calm (inr w) = by_code result WriteFault w.0 (not_told
+      (record { risen = w.1.risen; so = inl (record { not_taken = none; shelf = same_shelf calm; source = source; written = w.1.front }) }) calm w.1.later)
+
+  code_runs : (result : Status) (code : ℕ) → IsRefused words old.shelf.texts code → new.shelf.faults ≡ old.shelf.faults → Writes status.BadConfiguration old.sink new.sink (config_line code) result
+      → Runs most words (code_of result) old new
+  code_runs result code refused calm (inl w) = by_code result status.BadConfiguration w.0 (code_told code refused calm w.1)
+  code_runs result code refused calm (inr w) = by_code result WriteFault w.0 (not_told
+      (record { risen = w.1.risen; so = inr (inl (record { code = code; refused = refused; shelf = same_shelf calm; source = source; written = w.1.front })) }) calm w.1.later)
+
+  long_runs : (result : Status) → OpensLong words old.shelf.texts → new.shelf.faults ≡ old.shelf.faults → Writes status.StatesLong old.sink new.sink long_line result
+      → Runs most words (code_of result) old new
+  long_runs result opens calm (inl w) = by_code result status.StatesLong w.0 (long_told opens calm w.1)
+  long_runs result opens calm (inr w) = by_code result WriteFault w.0 (not_told
+      (record { risen = w.1.risen; so = inr (inr (inr (inr (inl (record { opens = opens; shelf = same_shelf calm; source = source; written = w.1.front }))))) }) calm w.1.later)
+
+  pub tells_runs : (why : Unready) (result : Status) → OpensAs words old.shelf.texts (Err why) → Tells why old.sink new.sink result
+      → (why ≡ unready.FetchFault → HasRisen old.shelf.faults new.shelf.faults) → (why ≢ unready.FetchFault → new.shelf.faults ≡ old.shelf.faults)
+      → Runs most words (code_of result) old new
+  tells_runs unready.NotTaken result opens tells risen calm = usage_runs result opens (calm (λ e. cc)) tells
+  tells_runs (unready.Refused code) result opens tells risen calm = code_runs result code opens (calm (λ e. cc)) tells
+  tells_runs unready.StatesLong result opens tells risen calm = long_runs result opens (calm (λ e. cc)) tells
+  tells_runs unready.FetchFault result opens tells risen calm = by_code result status.FetchFault tells.0 (fetch_told opens.0 opens.1 (risen refl) tells.1)
+  tells_runs unready.NoMemory result opens tells risen calm = by_code result status.NoMemory tells.0 (no_memory_told (calm (λ e. cc)) tells.1)

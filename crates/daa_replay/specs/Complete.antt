@@ -1,15 +1,15 @@
 -- How a run ends where nothing fails, by its words, the shelf and the number of bytes.
-use Rattle.std.specs.Prelude.{ℕ, ◌≡◌, ◌≢◌, ◌<◌, ◌≤◌, ◌⊎◌, List, Option, Some, None, length}
+use Rattle.std.specs.Prelude.{ℕ, ◌≡◌, ◌≢◌, ◌<◌, ◌≤◌, ◌⊎◌, ◌++◌, true, List, Option, Some, None, length, take}
 use Rattle.daa_outside.specs.Faults.{HasRisen}
 use Rattle.daa_outside.specs.Shelf.{Texts}
 use Rattle.daa_config.specs.Settings.{Settings}
 use Rattle.daa_lines.specs.LinesOf.{Bytes}
 use Rattle.daa_report.specs.Lines.{Text}
 use Rattle.daa_words.specs.Order.{order_of}
-use Rattle.daa_words.specs.declared.order.Task.{Task}
-use Rattle.daa_words.specs.declared.order.Task.TheVariants.{Replay, Exercise}
+use Rattle.daa_words.specs.Task.{Task, Replay, Exercise}
 use Rattle.daa_replay.specs.Outside.{Outside}
-use Rattle.daa_replay.specs.Opening.{Opens, IsRefused, HoldsNone}
+use Rattle.daa_replay.specs.Opening.{Opens, OpensStates, OpensLong, IsRefused, HoldsNone, HoldsNoStates}
+use Rattle.daa_replay.specs.Report.{IsReportOf}
 use Rattle.daa_replay.specs.Run.{Runs}
 
 -- no count of faults rose
@@ -33,15 +33,47 @@ pub record HoldsRefused (words : List Text) (texts : Option Texts) : Type 0 wher
   pub code : ℕ
   pub refused : IsRefused words texts code
 
+-- the words are taken and ask for a comparison, and the shelf, which tells its texts, holds an accepted configuration and these states
+pub record HoldsStates (words : List Text) (texts : Option Texts) (settings : Settings) (states : Text) : Type 0 where
+  pub held : Texts
+  pub told : texts ≡ Some held
+  pub opens : OpensStates words texts settings states
+
+-- the same with states that are too long
+pub record HoldsLong (words : List Text) (texts : Option Texts) : Type 0 where
+  pub held : Texts
+  pub told : texts ≡ Some held
+  pub opens : OpensLong words texts
+
+-- the report of the states begins with these bytes
+abbrev pub BeginsReport : Settings → Text → Bytes → Type 0
+BeginsReport settings states bytes = (rest : Text) × IsReportOf settings states true (bytes ++ rest)
+
 -- how a run ends, as far as the words, the shelf and the number of bytes say it; want of memory is free
 pub record EndsAsGiven (most : ℕ) (words : List Text) (status : ℕ) (old new : Outside) : Type 0 where
   -- a replay with an accepted configuration and a source that tells its bytes, where no count rose: by the number of bytes
-  pub short : (all : Bytes) → HoldsAccepted words old.shelf.texts Replay → old.source.bytes ≡ Some all → IsQuiet old new → length all ≤ most
+  pub short : (all : Bytes) (ahead : ℕ) → HoldsAccepted words old.shelf.texts (Replay ahead) → old.source.bytes ≡ Some all → IsQuiet old new → length all ≤ most
       → (status ≡ 0) ⊎ ((status ≡ 1) ⊎ (status ≡ 6))
-  pub long : (all : Bytes) → HoldsAccepted words old.shelf.texts Replay → old.source.bytes ≡ Some all → IsQuiet old new → most < length all
+  pub long : (all : Bytes) (ahead : ℕ) → HoldsAccepted words old.shelf.texts (Replay ahead) → old.source.bytes ≡ Some all → IsQuiet old new → most < length all
       → (status ≡ 8) ⊎ (status ≡ 6)
   -- an exercise with an accepted configuration, where no count rose
   pub exercise : (seed moments : ℕ) → HoldsAccepted words old.shelf.texts (Exercise seed moments) → IsQuiet old new → (status ≡ 0) ⊎ (status ≡ 6)
+  -- a comparison with the report of states that the shelf holds, and a source that tells its bytes, where no count rose: 0 exactly where
+  -- they are the report, and 1 where they are not
+  pub compared : (all : Bytes) (settings : Settings) (states : Text) → HoldsStates words old.shelf.texts settings states → old.source.bytes ≡ Some all → IsQuiet old new
+      → length all ≤ most
+      → ((status ≡ 0) × IsReportOf settings states true all) ⊎ (((status ≡ 1) × (IsReportOf settings states true all → ⊥)) ⊎ (status ≡ 6))
+  -- whatever failed: 0 says that they are the report, and 1 that they are not
+  pub said_same : (all : Bytes) (settings : Settings) (states : Text) → HoldsStates words old.shelf.texts settings states → old.source.bytes ≡ Some all
+      → status ≡ 0 → IsReportOf settings states true all
+  pub said_other : (all : Bytes) (settings : Settings) (states : Text) → HoldsStates words old.shelf.texts settings states → old.source.bytes ≡ Some all
+      → status ≡ 1 → IsReportOf settings states true all → ⊥
+  -- where there are more bytes than may be read: 8 exactly where the report begins with those that may be
+  pub compared_long : (all : Bytes) (settings : Settings) (states : Text) → HoldsStates words old.shelf.texts settings states → old.source.bytes ≡ Some all → IsQuiet old new
+      → most < length all
+      → ((status ≡ 8) × BeginsReport settings states (take most all)) ⊎ (((status ≡ 1) × (BeginsReport settings states (take most all) → ⊥)) ⊎ (status ≡ 6))
+  pub states_long : HoldsLong words old.shelf.texts → (status ≡ 5) ⊎ ((status ≡ 6) ⊎ ((status ≡ 7) ⊎ (status ≡ 9)))
+  pub no_states : HoldsNoStates words old.shelf.texts → (status ≡ 6) ⊎ (status ≡ 7)
   pub not_taken : order_of words ≡ None → (status ≡ 2) ⊎ ((status ≡ 5) ⊎ (status ≡ 6))
   pub rejected : HoldsRefused words old.shelf.texts → (status ≡ 3) ⊎ ((status ≡ 5) ⊎ ((status ≡ 6) ⊎ (status ≡ 7)))
   pub missing : HoldsNone words old.shelf.texts → (status ≡ 6) ⊎ (status ≡ 7)

@@ -6,6 +6,8 @@ pub mod Opening
 pub mod Ready
 pub mod Telling
 pub mod Replaying
+pub mod Judging
+pub mod Comparing
 pub mod Exercising
 pub mod Performing
 pub mod Run
@@ -13,3 +15,4 @@ pub mod Complete
 pub mod Status
 pub mod Follows
 pub mod Reporting
+pub mod Desk

@@ -1,17 +1,21 @@
 -- What the command words and the shelf give a run before it reads.
-use Rattle.std.specs.Prelude.{ℕ, ◌≡◌, List, Option, Some, None, Ok, Err, IfSome, codes}
-use Rattle.daa_outside.specs.Shelf.{Texts}
+use Rattle.std.specs.Prelude.{ℕ, ◌≡◌, ◌<◌, ◌≤◌, List, Option, Some, None, Ok, Err, IfSome, IsSomeAnd, codes, length}
+use Rattle.daa_outside.specs.Shelf.{Texts, longest_text}
 use Rattle.daa_config.specs.declared.fault.ConfigFault.{ConfigFault}
 use Rattle.daa_config.specs.ConfigOf.{config_of}
 use Rattle.daa_config.specs.Fault.{code_of}
 use Rattle.daa_config.specs.Settings.{Settings}
 use Rattle.daa_report.specs.Lines.{Text}
 use Rattle.daa_words.specs.Order.{Asked, order_of}
-use Rattle.daa_words.specs.declared.order.Task.{Task}
+use Rattle.daa_words.specs.Task.{Task, Judge}
 
 -- the line that is written where the command words are not taken
 abbrev pub usage_line : Text
-usage_line = codes "usage: daidalus replay --config FILE [--workers N] | exercise --config FILE --seed N --moments M [--workers N]\n"
+usage_line = codes "usage: daidalus replay --config FILE [--workers N] [--ahead N] | exercise --config FILE --seed N --moments M [--workers N] | judge --config FILE --states FILE [--workers N]\n"
+
+-- the line that is written where the states are too long
+abbrev pub long_line : Text
+long_line = codes "states long\n"
 
 -- the shelf holds this text under the name, where it tells its texts
 abbrev pub IsHeld : Option Texts → Text → Text → Type 0
@@ -25,6 +29,24 @@ pub record Opens (words : List Text) (texts : Option Texts) (task : Task) (setti
   pub text : Text
   pub held : IsHeld texts asked.config text
   pub accepted : config_of text ≡ Ok settings
+
+-- the shelf holds a text under the name that is too long to be fetched, where it tells its texts
+abbrev pub IsHeldLong : Option Texts → Text → Type 0
+IsHeldLong texts name = IfSome texts (λ held. IsSomeAnd (held name) (λ text. longest_text < length text))
+
+-- the words ask for a comparison with the report of the states under a name, which the shelf holds there
+pub record OpensStates (words : List Text) (texts : Option Texts) (settings : Settings) (states : Text) : Type 0 where
+  pub name : Text
+  pub opens : Opens words texts (Judge name) settings
+  pub held : IsHeld texts name states
+  pub short : length states ≤ longest_text
+
+-- the same where the states are too long
+pub record OpensLong (words : List Text) (texts : Option Texts) : Type 0 where
+  pub name : Text
+  pub settings : Settings
+  pub opens : Opens words texts (Judge name) settings
+  pub long : IsHeldLong texts name
 
 -- the words are taken, and the text that the shelf holds under the name that they give is refused with this code
 pub record IsRefused (words : List Text) (texts : Option Texts) (code : ℕ) : Type 0 where
@@ -43,6 +65,16 @@ pub record HoldsNone (words : List Text) (texts : Option Texts) : Type 0 where
   pub held : Texts
   pub told : texts ≡ Some held
   pub missing : held asked.config ≡ None
+
+-- the words ask for a comparison with the report of states, the configuration is accepted, and the shelf, which tells its texts, holds
+-- no states under the name that they give
+pub record HoldsNoStates (words : List Text) (texts : Option Texts) : Type 0 where
+  pub name : Text
+  pub settings : Settings
+  pub opens : Opens words texts (Judge name) settings
+  pub held : Texts
+  pub told : texts ≡ Some held
+  pub missing : held name ≡ None
 
 -- a shelf that tells its texts gives words one task and one configuration at most
 abbrev pub ConfigurationsAreUnique : Type 0

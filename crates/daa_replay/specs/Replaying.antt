@@ -1,5 +1,5 @@
 -- What a replay under a configuration leaves at its source and its sink, by the status that it answers.
-use Rattle.std.specs.Prelude.{ℕ, ◌≡◌, ◌≤◌, ◌++◌, ◌⊎◌, Bool, true, false, List, [], ◌∷◌, Option, Some, IfSome, length}
+use Rattle.std.specs.Prelude.{ℕ, ◌≡◌, ◌≤◌, ◌+◌, ◌++◌, ◌⊎◌, Bool, true, false, List, [], ◌∷◌, Option, Some, IfSome, length}
 use Rattle.std.specs.List.{list_any}
 use Rattle.std.specs.Io.KnownBytes.{Consumes, Appends}
 use Rattle.daa_config.specs.Settings.{Settings}
@@ -50,15 +50,15 @@ module _ (settings : Settings) where
     pub written : TakesReport sink_old.bytes sink_new.bytes bytes false
     pub write_calm : IsCalm sink_old sink_new
 
-  -- the sink failed, and a beginning of the report was written; with its end only where nothing is left
+  -- the sink failed, and a beginning of the report was written; with its end only where nothing is left. A source that is read ahead
+  -- may have handed out one byte past the limit by then, and may have failed
   pub record WriteFails (most : ℕ) (source_old source_new sink_old sink_new : StreamState) : Type 0 where
     pub risen : HasRisen sink_old.faults sink_new.faults
     pub bytes : Bytes
-    pub handed : HandsOut most source_old source_new bytes
+    pub handed : HandsOut (most + 1) source_old source_new bytes
     pub ended : Bool
     pub over : ended ≡ true → IsSpent source_old.bytes source_new.bytes
     pub written : TakesFront sink_old.bytes sink_new.bytes bytes ended
-    pub read_calm : IsCalm source_old source_new
 
   -- as many bytes as may be read were read, and then one more; the report of those before it was written
   pub record PassesLimit (most : ℕ) (source_old source_new sink_old sink_new : StreamState) : Type 0 where

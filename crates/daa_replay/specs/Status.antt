@@ -1,7 +1,7 @@
 -- The status of a run.
 use Rattle.std.specs.Prelude.{ℕ}
 use Rattle.daa_replay.specs.declared.status.Status.{Status}
-use Rattle.daa_replay.specs.declared.status.Status.TheVariants.{Accepted, Refused, NotTaken, BadConfiguration, ReadFault, WriteFault, NoMemory, FetchFault, Limit}
+use Rattle.daa_replay.specs.declared.status.Status.TheVariants.{Accepted, Refused, NotTaken, BadConfiguration, ReadFault, WriteFault, NoMemory, FetchFault, Limit, StatesLong}
 
 -- the number that the process ends with
 abbrev pub code_of : Status → ℕ
@@ -14,6 +14,7 @@ code_of WriteFault = 5
 code_of NoMemory = 6
 code_of FetchFault = 7
 code_of Limit = 8
+code_of StatesLong = 9
 
 -- the statuses that the end of the input can give
 abbrev pub Ends : Status → Type 0
@@ -26,3 +27,4 @@ Ends WriteFault = Unit {0}
 Ends NoMemory = ⊥
 Ends FetchFault = ⊥
 Ends Limit = ⊥
+Ends StatesLong = ⊥

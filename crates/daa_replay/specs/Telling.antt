@@ -7,7 +7,7 @@ use Rattle.daa_replay.specs.declared.opening.Unready.{Unready}
 use Rattle.daa_replay.specs.declared.opening.Unready.TheVariants as unready
 use Rattle.daa_replay.specs.declared.status.Status.{Status}
 use Rattle.daa_replay.specs.declared.status.Status.TheVariants as status
-use Rattle.daa_replay.specs.Opening.{usage_line}
+use Rattle.daa_replay.specs.Opening.{usage_line, long_line}
 use Rattle.daa_replay.specs.Outside.{StreamState, Takes}
 
 -- the line was not written whole, since the sink failed
@@ -23,5 +23,6 @@ Writes said old new text result = ((result ≡ said) × Takes old new text) ⊎ 
 abbrev pub Tells : Unready → StreamState → StreamState → Status → Type 0
 Tells unready.NotTaken old new result = Writes status.NotTaken old new usage_line result
 Tells (unready.Refused code) old new result = Writes status.BadConfiguration old new (config_line code) result
+Tells unready.StatesLong old new result = Writes status.StatesLong old new long_line result
 Tells unready.FetchFault old new result = (result ≡ status.FetchFault) × (new ≡ old)
 Tells unready.NoMemory old new result = (result ≡ status.NoMemory) × (new ≡ old)

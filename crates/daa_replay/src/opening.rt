@@ -2,20 +2,34 @@
 
 ghost use Rattle.std.specs.Prelude.{◌≡◌, ◌≢◌, ◌≤◌, map, string_bytes, Err, IfOk};
 ghost use Rattle.daa_outside.specs.Faults.{HasRisen};
-ghost use Rattle.daa_words.specs.Order.{IsInRange, TaskIsInRange, meaning};
-ghost use Rattle.daa_replay.specs.Ready.{FetchesAs, OpensAs, ReadsAs, opened_in, settings_in, unready_of};
+ghost use Rattle.daa_words.specs.Order.{IsInRange, TaskIsInRange, meaning, task_of};
+ghost use Rattle.daa_words.specs.Task.{Judge};
+ghost use Rattle.daa_engine.specs.EngineState.{IsWorkerCount};
+ghost use Rattle.daa_replay.specs.Ready.{FetchesAs, MakesReady, OpensAs, PreparesAs, ReadsAs, WorkIsInRange, settings_in, unready_of};
 
 use daa_config::{Config, ConfigFault, read};
 use daa_engine::{Engine, NoMemory};
+use daa_judge::Sheet;
 use daa_outside::{FetchFault, Shelf};
 use daa_words::{Order, Task, WordsFault, read_words};
 use std::alloc::Global;
+
+/// What a run is to do.
+#[derive(Drop)]
+pub(crate) enum Work {
+    /// Moments are read, by up to so many pieces ahead, and each is decided.
+    Replay { ahead: u32 },
+    /// So many moments are drawn, and each is decided.
+    Exercise { seed: u32, moments: u32 },
+    /// A report is compared with that of these states, each text of which is written on the sheet first.
+    Judge { states: Vec<u8>, sheet: Sheet },
+}
 
 /// What a run is to do, and the engine that does it.
 #[derive(Drop)]
 pub(crate) struct Ready {
     pub(crate) engine: Engine,
-    pub(crate) task: Task,
+    pub(crate) work: Work,
 }
 
 /// Why a run has no configuration.
@@ -25,7 +39,9 @@ pub(crate) enum Unready {
     NotTaken,
     /// The configuration is refused with this code.
     Refused(u8),
-    /// The shelf failed, or holds nothing under the name.
+    /// The states are too long.
+    StatesLong,
+    /// The shelf failed, or holds nothing under a name.
     FetchFault,
     /// There was no memory.
     NoMemory,
@@ -67,37 +83,95 @@ fn fetch<F: Shelf>(alloc: Global, shelf: &mut F, name: &str) -> Result<Config, U
     }
 }
 
-/// The engine of the configuration that the shelf holds under the order's name, with the order's workers and its task.
-fn make_ready<F: Shelf>(alloc: Global, order: &Order<'_>, shelf: &mut F) -> Result<Ready, Unready>
-    requires { IsInRange (meaning order.now) }
-    ensures fetched { FetchesAs (F.texts shelf.old) order.now.config.now (settings_in result) }
-    ensures task { IfOk result (λ ready. ready.task ≡ order.now.task) }
-    ensures workers { IfOk result (λ ready. ready.engine.workers ≡ order.now.workers) }
+/// The engine of the configuration that the shelf holds under the name, with so many workers.
+fn fetch_engine<F: Shelf>(
+    alloc: Global,
+    shelf: &mut F,
+    name: &str,
+    workers: u32,
+) -> Result<Engine, Unready>
+    requires { IsWorkerCount workers }
+    ensures fetched { FetchesAs (F.texts shelf.old) name.now (settings_in result) }
+    ensures workers { IfOk result (λ engine. engine.workers ≡ workers) }
     ensures risen { result ≡ Err Unready.FetchFault → HasRisen (F.faults shelf.old) (F.faults shelf.new) }
     ensures never_falls { F.faults shelf.old ≤ F.faults shelf.new }
     ensures no_fault { result ≢ Err Unready.FetchFault → F.faults shelf.new ≡ F.faults shelf.old }
     ensures kept { F.texts shelf.new ≡ F.texts shelf.old }
 {
-    match fetch(alloc, shelf, order.config) {
-        Ok(config) => match Engine::new(alloc, config, order.workers) {
-            Ok(engine) => Ok(Ready {
-                engine,
-                task: order.task,
-            }),
+    match fetch(alloc, shelf, name) {
+        Ok(config) => match Engine::new(alloc, config, workers) {
+            Ok(engine) => Ok(engine),
             Err(NoMemory) => Err(Unready::NoMemory),
         },
         Err(why) => Err(why),
     }
 }
 
-/// The task that the words ask for, and the engine of the configuration that they and the shelf give.
+/// A comparison with the report of the states that the shelf holds under the name.
+fn fetch_states<F: Shelf>(alloc: Global, shelf: &mut F, name: &str) -> Result<Work, Unready>
+    ensures prepared { PreparesAs (F.texts shelf.old) (Judge name.now) result }
+    ensures risen { result ≡ Err Unready.FetchFault → HasRisen (F.faults shelf.old) (F.faults shelf.new) }
+    ensures never_falls { F.faults shelf.old ≤ F.faults shelf.new }
+    ensures no_fault { result ≢ Err Unready.FetchFault → F.faults shelf.new ≡ F.faults shelf.old }
+    ensures kept { F.texts shelf.new ≡ F.texts shelf.old }
+{
+    match shelf.fetch(alloc, name) {
+        Ok(states) => match Sheet::new(alloc) {
+            Ok(sheet) => Ok(Work::Judge { states, sheet }),
+            Err(_) => Err(Unready::NoMemory),
+        },
+        Err(FetchFault::TooLong) => Err(Unready::StatesLong),
+        Err(FetchFault::Failed) => Err(Unready::FetchFault),
+        Err(FetchFault::NoMemory) => Err(Unready::NoMemory),
+    }
+}
+
+/// Makes the work of a task ready.
+fn prepare<F: Shelf>(alloc: Global, shelf: &mut F, task: &Task<'_>) -> Result<Work, Unready>
+    requires { TaskIsInRange (task_of task.now) }
+    ensures prepared { PreparesAs (F.texts shelf.old) (task_of task.now) result }
+    ensures in_range { IfOk result WorkIsInRange }
+    ensures risen { result ≡ Err Unready.FetchFault → HasRisen (F.faults shelf.old) (F.faults shelf.new) }
+    ensures never_falls { F.faults shelf.old ≤ F.faults shelf.new }
+    ensures no_fault { result ≢ Err Unready.FetchFault → F.faults shelf.new ≡ F.faults shelf.old }
+    ensures kept { F.texts shelf.new ≡ F.texts shelf.old }
+{
+    match task {
+        Task::Replay { ahead } => Ok(Work::Replay { ahead: *ahead }),
+        Task::Exercise { seed, moments } => Ok(Work::Exercise {
+            seed: *seed,
+            moments: *moments,
+        }),
+        Task::Judge { states } => fetch_states(alloc, shelf, states),
+    }
+}
+
+/// The engine of the configuration that the shelf holds under the order's name, with the order's workers, and the work of its task.
+fn make_ready<F: Shelf>(alloc: Global, order: &Order<'_>, shelf: &mut F) -> Result<Ready, Unready>
+    requires { IsInRange (meaning order.now) }
+    ensures made { MakesReady (F.texts shelf.old) (meaning order.now) result }
+    ensures in_range { IfOk result (λ ready. WorkIsInRange ready.work) }
+    ensures workers { IfOk result (λ ready. ready.engine.workers ≡ order.now.workers) }
+    ensures risen { result ≡ Err Unready.FetchFault → HasRisen (F.faults shelf.old) (F.faults shelf.new) }
+    ensures never_falls { F.faults shelf.old ≤ F.faults shelf.new }
+    ensures no_fault { result ≢ Err Unready.FetchFault → F.faults shelf.new ≡ F.faults shelf.old }
+    ensures kept { F.texts shelf.new ≡ F.texts shelf.old }
+{
+    let engine = fetch_engine(alloc, shelf, order.config, order.workers)?;
+    match prepare(alloc, shelf, &order.task) {
+        Ok(work) => Ok(Ready { engine, work }),
+        Err(why) => Err(why),
+    }
+}
+
+/// The work that the words ask for, and the engine of the configuration that they and the shelf give.
 pub(crate) fn open<F: Shelf>(
     alloc: Global,
     words: &[String],
     shelf: &mut F,
 ) -> Result<Ready, Unready>
-    ensures opened { OpensAs (map string_bytes words.now) (F.texts shelf.old) (opened_in result) }
-    ensures in_range { IfOk result (λ ready. TaskIsInRange ready.task) }
+    ensures opened { OpensAs (map string_bytes words.now) (F.texts shelf.old) result }
+    ensures in_range { IfOk result (λ ready. WorkIsInRange ready.work) }
     ensures risen { result ≡ Err Unready.FetchFault → HasRisen (F.faults shelf.old) (F.faults shelf.new) }
     ensures never_falls { F.faults shelf.old ≤ F.faults shelf.new }
     ensures no_fault { result ≢ Err Unready.FetchFault → F.faults shelf.new ≡ F.faults shelf.old }

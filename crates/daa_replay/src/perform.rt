@@ -1,39 +1,41 @@
-//! What a run does once it is ready: a replay or an exercise.
+//! What a run does once it is ready: a replay, an exercise or a comparison.
 
 ghost use Rattle.std.specs.Prelude.{◌≡◌, ◌≤◌, ◌^◌};
-ghost use Rattle.daa_words.specs.Order.{TaskIsInRange};
 ghost use Rattle.daa_replay.specs.Outside.{stream_state};
 ghost use Rattle.daa_replay.specs.Performing.{Performs};
+ghost use Rattle.daa_replay.specs.Ready.{WorkIsInRange};
 ghost use Rattle.daa_replay.specs.Status.{code_of};
 
-use crate::opening::Ready;
+use crate::judge::judge_within;
+use crate::opening::{Ready, Work};
 use crate::replay::replay_within;
 use crate::status::{Status, status_of};
 use crate::tools::Tools;
 use daa_exercise::exercise;
 use daa_outside::{Gate, Sink, Source};
-use daa_words::Task;
 use std::thread::Threads;
 
-/// Replays, reading at most `most` bytes, or exercises.
-pub(crate) fn perform<R: Threads + Sync, S: Source, K: Sink, G: Gate>(
+/// Replays or compares, reading at most `most` bytes, or exercises.
+pub(crate) fn perform<R: Threads + Sync, S: Source + Send, K: Sink + Send, G: Gate>(
     tools: &Tools<'_, R, G>,
-    ready: &mut Ready,
+    ready: Ready,
     source: &mut S,
     sink: &mut K,
     most: u64,
 ) -> Status
+    requires some { 1 ≤ most }
     requires most { most ≤ 2 ^ 40 }
-    requires task { TaskIsInRange ready.old.task }
-    ensures { Performs most (code_of result) ready.old.engine.settings ready.old.task
+    requires work { WorkIsInRange ready.work }
+    ensures { Performs most (code_of result) ready.engine.settings ready.work
         (stream_state (S.left source.old) (S.faults source.old)) (stream_state (S.left source.new) (S.faults source.new))
         (stream_state (K.taken sink.old) (K.faults sink.old)) (stream_state (K.taken sink.new) (K.faults sink.new)) }
 {
-    match ready.task {
-        Task::Replay => replay_within(tools, &mut ready.engine, source, sink, most),
-        Task::Exercise { seed, moments } => {
+    let Ready { mut engine, work } = ready;
+    match work {
+        Work::Replay { ahead } => replay_within(tools, &mut engine, source, sink, ahead, most),
+        Work::Exercise { seed, moments } => {
             let said = exercise(
-                &mut ready.engine,
+                &mut engine,
                 tools.rt,
                 tools.alloc,
                 seed,
@@ -43,5 +45,14 @@ pub(crate) fn perform<R: Threads + Sync, S: Source, K: Sink, G: Gate>(
             );
             status_of(said, Status::Accepted)
         }
+        Work::Judge { states, mut sheet } => judge_within(
+            tools,
+            &mut engine,
+            &mut sheet,
+            source,
+            sink,
+            states.as_slice(),
+            most,
+        ),
     }
 }

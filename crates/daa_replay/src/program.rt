@@ -18,7 +18,7 @@ use std::thread::Threads;
 const MOST_BYTES: u64 = 1 << 40;
 
 /// Makes ready, and performs what the words ask for.
-fn conduct<R: Threads + Sync, F: Shelf, S: Source, K: Sink, G: Gate>(
+fn conduct<R: Threads + Sync, F: Shelf, S: Source + Send, K: Sink + Send, G: Gate>(
     tools: &Tools<'_, R, G>,
     words: &[String],
     shelf: &mut F,
@@ -26,31 +26,35 @@ fn conduct<R: Threads + Sync, F: Shelf, S: Source, K: Sink, G: Gate>(
     sink: &mut K,
     most: u64,
 ) -> Status
-    requires { most ≤ 2 ^ 40 }
+    requires some { 1 ≤ most }
+    requires bound { most ≤ 2 ^ 40 }
     ensures { Runs most (map string_bytes words.now) (code_of result)
         (outside (shelf_state (F.texts shelf.old) (F.faults shelf.old)) (stream_state (S.left source.old) (S.faults source.old)) (stream_state (K.taken sink.old) (K.faults sink.old)))
         (outside (shelf_state (F.texts shelf.new) (F.faults shelf.new)) (stream_state (S.left source.new) (S.faults source.new)) (stream_state (K.taken sink.new) (K.faults sink.new))) }
 {
     match open(tools.alloc, words, shelf) {
-        Ok(mut ready) => perform(tools, &mut ready, source, sink, most),
+        Ok(ready) => perform(tools, ready, source, sink, most),
         Err(why) => tell(why, sink),
     }
 }
 
 /// Reads the command words and fetches the configuration that they name from the shelf. A replay reads state lines from the
 /// source, at most `most` bytes of them, and writes their report to the sink; an exercise reads nothing and writes the summary
-/// of the moments that its seed draws. `words[0]` is the program's name. The bytes are the same for every number of workers.
+/// of the moments that its seed draws; a comparison fetches states too, reads at most `most` bytes, and writes whether they are the
+/// report of the states, or in which line they first differ. `words[0]` is the program's name. The bytes are the same for every number of workers.
 ///
 /// Answers the status of the process:
-/// - 0 where the input was read to its end and no line was refused, or the exercise ended; 1 where some line was refused;
+/// - 0 where the input was read to its end and no line was refused, or the exercise ended, or a report is that of the states; 1 where
+///   some line was refused, or a report is another one;
 /// - 2 where the words are not taken; the usage line is written;
 /// - 3 where the configuration is refused; `config` and its code are written;
-/// - 4 where the source failed, 5 where the sink did, 7 where the shelf did or holds nothing under the name;
-/// - 6 where there was no memory for words, text, configuration or engine; nothing is read or written;
-/// - 8 exactly where `most` bytes were read and there was one more.
+/// - 4 where the source failed, 5 where the sink did, 7 where the shelf did or holds nothing under a name;
+/// - 6 where there was no memory for words, texts, configuration, engine or sheet; nothing is read or written;
+/// - 8 exactly where `most` bytes were read and there was one more; of a comparison only where the report begins with them;
+/// - 9 where the states have more than 65536 bytes; `states long` is written.
 ///
 /// Once the source is read, want of memory is answered no more.
-pub fn run_within<R: Threads + Sync, F: Shelf, S: Source, K: Sink, G: Gate>(
+pub fn run_within<R: Threads + Sync, F: Shelf, S: Source + Send, K: Sink + Send, G: Gate>(
     rt: &R,
     alloc: Global,
     words: &[String],
@@ -71,7 +75,7 @@ pub fn run_within<R: Threads + Sync, F: Shelf, S: Source, K: Sink, G: Gate>(
 }
 
 /// As [`run_within`] with 2^40 bytes.
-pub fn run<R: Threads + Sync, F: Shelf, S: Source, K: Sink, G: Gate>(
+pub fn run<R: Threads + Sync, F: Shelf, S: Source + Send, K: Sink + Send, G: Gate>(
     rt: &R,
     alloc: Global,
     words: &[String],

@@ -44,7 +44,7 @@ pub(crate) fn begin() -> Progress
 }
 
 /// Whether some event was a refusal, with this one more.
-fn any_refusal(before: bool, event: &Event) -> bool
+pub(crate) fn any_refusal(before: bool, event: &Event) -> bool
     ensures { result ≡ (before || is_refusal event.now) }
 {
     before || matches!(event, Event::Refused(_, _))

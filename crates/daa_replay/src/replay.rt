@@ -11,15 +11,13 @@ ghost use Rattle.daa_replay.specs.Reporting.{Reports, ReportsAll};
 ghost use Rattle.daa_replay.specs.Status.{Ends, code_of};
 
 use crate::progress::{Progress, begin, report_end};
+use crate::reporting::report_all;
 use crate::status::Status;
 use crate::tools::Tools;
-use crate::turn::{Turn, take_turn};
+use daa_ahead::Ended;
 use daa_engine::Engine;
-use daa_outside::{Failed, Gate, Sink, Source};
+use daa_outside::{Gate, Sink, Source};
 use std::thread::Threads;
-
-/// How many bytes are read at once.
-const PIECE: usize = 4096;
 
 /// The input is over: writes the rest of the report.
 fn over<R: Threads + Sync, K: Sink, G: Gate>(
@@ -49,33 +47,27 @@ fn over<R: Threads + Sync, K: Sink, G: Gate>(
     }
 }
 
-/// Writes the report of what the source gives, of at most `most` bytes, under this configuration.
-pub(crate) fn replay_within<R: Threads + Sync, S: Source, K: Sink, G: Gate>(
+/// Writes the report of what the source gives, of at most `most` bytes, under this configuration; read by turns where `places` is
+/// 0, and else ahead by up to so many pieces.
+pub(crate) fn replay_within<R: Threads + Sync, S: Source + Send, K: Sink + Send, G: Gate>(
     tools: &Tools<'_, R, G>,
     engine: &mut Engine,
     source: &mut S,
     sink: &mut K,
+    places: u32,
     most: u64,
 ) -> Status
-    requires { most ≤ 2 ^ 40 }
+    requires places { places ≤ 1024 }
+    requires some { 1 ≤ most }
+    requires bound { most ≤ 2 ^ 40 }
     ensures { Replays engine.old.settings most (code_of result) (stream_state (S.left source.old) (S.faults source.old)) (stream_state (S.left source.new) (S.faults source.new))
         (stream_state (K.taken sink.old) (K.faults sink.old)) (stream_state (K.taken sink.new) (K.faults sink.new)) }
 {
     let mut progress = begin();
-    let mut buf = [0u8; PIECE];
-    let mut taken: u64 = 0;
-    while taken < most {
-        let want = (most - taken).min(4096) as usize;
-        match take_turn(tools, engine, source, sink, &mut progress, &mut buf[..want]) {
-            Turn::More(count) => taken += count as u64,
-            Turn::Over => return over(tools, engine, &mut progress, sink),
-            Turn::ReadFault => return Status::ReadFault,
-            Turn::WriteFault => return Status::WriteFault,
-        }
-    }
-    match source.read(&mut buf[..1]) {
-        Ok(0) => over(tools, engine, &mut progress, sink),
-        Ok(_) => Status::Limit,
-        Err(Failed) => Status::ReadFault,
+    match report_all(tools, engine, source, sink, &mut progress, places, most) {
+        Ended::End => over(tools, engine, &mut progress, sink),
+        Ended::Fault => Status::ReadFault,
+        Ended::Limit => Status::Limit,
+        Ended::Stopped => Status::WriteFault,
     }
 }

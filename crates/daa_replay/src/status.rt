@@ -8,9 +8,9 @@ use daa_report::SinkFault;
 /// How a run ended.
 #[derive(Clone, Copy, Debug, PartialEq, Eq)]
 pub(crate) enum Status {
-    /// The input was read to its end, and no line was refused.
+    /// The input was read to its end, and no line was refused; or a report is the right one.
     Accepted,
-    /// The input was read to its end, and some line was refused.
+    /// The input was read to its end, and some line was refused; or a report differs from the right one.
     Refused,
     /// The command words are not taken.
     NotTaken,
@@ -22,10 +22,12 @@ pub(crate) enum Status {
     WriteFault,
     /// There was no memory to make ready.
     NoMemory,
-    /// The shelf failed, or holds no configuration under the name.
+    /// The shelf failed, or holds nothing under a name.
     FetchFault,
     /// As many bytes as may be read were read, and there was one more.
     Limit,
+    /// The states are too long.
+    StatesLong,
 }
 
 impl Status {
@@ -43,6 +45,7 @@ impl Status {
             Status::NoMemory => 6,
             Status::FetchFault => 7,
             Status::Limit => 8,
+            Status::StatesLong => 9,
         }
     }
 }

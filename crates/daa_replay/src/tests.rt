@@ -1,7 +1,9 @@
 //! Inputs with the text and the status that they give.
 
+mod ahead;
 mod exercise;
 mod faults;
+mod judge;
 mod lines;
 mod moments;
 mod opening;

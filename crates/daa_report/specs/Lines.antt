@@ -85,3 +85,10 @@ done_line time = codes "done " ++ decimal time ++ codes "\n"
 
 unfoldable pub config_line : ℕ → Text
 config_line code = codes "config " ++ decimal code ++ codes "\n"
+
+-- of a report that was compared: it is the right one, or the first line of it that is not is the one of this number
+unfoldable pub same_line : Text
+same_line = codes "same\n"
+
+unfoldable pub differs_line : ℕ → Text
+differs_line number = codes "differs " ++ decimal number ++ codes "\n"

@@ -1,6 +1,6 @@
 //! The lines of a report, as values.
 ghost use Rattle.std.specs.Prelude.{◌≡◌, ◌≤◌, ◌+◌, ◌*◌, length};
-ghost use Rattle.daa_report.specs.Lines.{alert_line, band_line, config_line, done_line, moment_line, now_line, numbers_line, recover_line, refused_line, resolve_line};
+ghost use Rattle.daa_report.specs.Lines.{alert_line, band_line, config_line, differs_line, done_line, moment_line, now_line, numbers_line, recover_line, refused_line, resolve_line, same_line};
 
 use crate::adding::{
     add, add_answer_field, add_bytes, add_field, add_first, add_found, add_number,
@@ -186,6 +186,30 @@ impl Line {
         let mut line = ArrayVec::<u8, 64>::new();
         add(&mut line, "config ");
         add_number(&mut line, u64::from(code));
+        add(&mut line, "\n");
+        Line { bytes: line }
+    }
+
+    /// The line that says that a report is the right one.
+    #[tactic(auto, unfolding(crate::specs::Lines::same_line))]
+    pub fn same() -> Line
+        ensures text { result ≡ same_line }
+        ensures few { length result ≤ 64 }
+    {
+        let mut line = ArrayVec::<u8, 64>::new();
+        add(&mut line, "same\n");
+        Line { bytes: line }
+    }
+
+    /// The line that says that a report differs from the right one, and in which line first.
+    #[tactic(auto, unfolding(crate::specs::Lines::differs_line))]
+    pub fn differs(number: u64) -> Line
+        ensures text { result ≡ differs_line number }
+        ensures few { length result ≤ 64 }
+    {
+        let mut line = ArrayVec::<u8, 64>::new();
+        add(&mut line, "differs ");
+        add_number(&mut line, number);
         add(&mut line, "\n");
         Line { bytes: line }
     }

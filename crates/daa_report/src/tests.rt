@@ -9,7 +9,7 @@ use std::test::Fail;
 
 fn sink(alloc: Global, fails: &[u64]) -> Result<MemSink, AllocError> {
     Ok(MemSink::over(
-        vec![in alloc; 0; 200]?,
+        vec![in alloc; 0; 300]?,
         Vec::new(alloc),
         fails.to_vec(alloc)?,
     ))
@@ -27,6 +27,8 @@ fn each_line_is_written(rt: HostRuntime) -> Result<(), Fail> {
         alert(&mut out, &id, 3, Some(179)),
         done(&mut out, 0),
         config(&mut out, 8),
+        same(&mut out),
+        differs(&mut out, 18446744073709551615),
         put(
             &mut out,
             Line::numbers("count", &[0, 4294967295]).as_bytes(),
@@ -40,7 +42,7 @@ fn each_line_is_written(rt: HostRuntime) -> Result<(), Fail> {
     }
     assert_eq!(rt;
         out.taken(),
-        b"refused 18446744073709551615 14\nmoment 4294967295\nnow A_b-1 4\nalert A_b-1 0 -\nalert A_b-1 3 179\ndone 0\nconfig 8\ncount 0 4294967295\ndone\nany bytes".as_slice()
+        b"refused 18446744073709551615 14\nmoment 4294967295\nnow A_b-1 4\nalert A_b-1 0 -\nalert A_b-1 3 179\ndone 0\nconfig 8\nsame\ndiffers 18446744073709551615\ncount 0 4294967295\ndone\nany bytes".as_slice()
     );
     Ok(())
 }

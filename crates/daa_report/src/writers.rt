@@ -1,6 +1,6 @@
 //! Writes pieces and lines to a sink.
 ghost use Rattle.std.specs.Prelude.{◌≤◌, ◌≡◌, length, drop};
-ghost use Rattle.daa_report.specs.Lines.{refused_line, moment_line, now_line, alert_line, band_line, resolve_line, recover_line, done_line, config_line};
+ghost use Rattle.daa_report.specs.Lines.{alert_line, band_line, config_line, differs_line, done_line, moment_line, now_line, recover_line, refused_line, resolve_line, same_line};
 ghost use Rattle.daa_report.specs.Says.{Says};
 
 use crate::line::Line;
@@ -110,4 +110,18 @@ pub fn config<K: Sink>(sink: &mut K, code: u8) -> Result<(), SinkFault>
     ensures { Says (K.taken sink.old) (K.taken sink.new) (K.faults sink.old) (K.faults sink.new) (config_line code) result }
 {
     put(sink, Line::config(code).as_bytes())
+}
+
+/// Writes that a report is the right one.
+pub fn same<K: Sink>(sink: &mut K) -> Result<(), SinkFault>
+    ensures { Says (K.taken sink.old) (K.taken sink.new) (K.faults sink.old) (K.faults sink.new) same_line result }
+{
+    put(sink, Line::same().as_bytes())
+}
+
+/// Writes that a report differs from the right one, and that the line of this number, from 1 on, is the first that does.
+pub fn differs<K: Sink>(sink: &mut K, line: u64) -> Result<(), SinkFault>
+    ensures { Says (K.taken sink.old) (K.taken sink.new) (K.faults sink.old) (K.faults sink.new) (differs_line line) result }
+{
+    put(sink, Line::differs(line).as_bytes())
 }

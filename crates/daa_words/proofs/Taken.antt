@@ -10,9 +10,8 @@ use Rattle.clap.specs.Lexer.{without_minus}
 use Rattle.clap.specs.Simple.{built, filled, subcommand_of, with_index}
 use Rattle.clap.specs.Takes.{is_given}
 use Rattle.clap.specs.Walk.{Row, Rule, Text, first_of}
-use Rattle.daa_words.specs.declared.order.Task.{Task}
-use Rattle.daa_words.specs.declared.order.Task.TheVariants.{Replay, Exercise}
-use Rattle.daa_words.specs.Command.{config, daidalus, moments, seed, workers}
+use Rattle.daa_words.specs.Task.{Task, Replay, Exercise, Judge}
+use Rattle.daa_words.specs.Command.{ahead, config, daidalus, moments, seed, states, workers}
 use Rattle.daa_words.specs.Order.{Asked, IsInRange, TaskIsInRange, asked_by, number_at, number_of, order_of, task_by}
 use Rattle.daa_words.specs.Laws.{AsksFor, AsksForTask}
 use Rattle.daa_words.proofs.Levels.{Each, HasIfNamed, HasText, enters, subcommand_text}
@@ -28,12 +27,18 @@ filled_in a = with_index 1 (filled a)
 abbrev is_exercise : Text → Bool
 is_exercise name = bytes_eq name (codes "exercise")
 
+abbrev is_replay : Text → Bool
+is_replay name = bytes_eq name (codes "replay")
+
+abbrev is_judge : Text → Bool
+is_judge name = bytes_eq name (codes "judge")
+
 abbrev is_task : Text → Bool
-is_task name = bytes_eq name (codes "replay") || is_exercise name
+is_task name = is_replay name || (is_exercise name || is_judge name)
 
 tasks_or_help : Each (IsKnownOrHelp is_task) (built daidalus).subs
 unfolding daidalus clap_on_literals
-tasks_or_help = (inl refl, (inl refl, (inr (refl, refl), tt)))
+tasks_or_help = (inl refl, (inl refl, (inl refl, (inr (refl, refl), tt))))
 
 help_is_enabled : (built daidalus).top.disable_help_subcommand ≡ false
 unfolding daidalus clap_on_literals
@@ -46,29 +51,49 @@ subcommand_is_required = refl
 tasks_want_config : Each (HasIfNamed is_task (filled_in config)) (built daidalus).subs
 unfolding daidalus clap_on_literals
 tasks_want_config = (
-  inr ((inr refl, (inl refl, (inl refl, tt))), inl refl),
-  (inr ((inr refl, (inl refl, (inl refl, (inl refl, (inl refl, tt))))), inl refl), (inl refl, tt)),
+  inr ((inr refl, (inl refl, (inl refl, (inl refl, tt)))), inl refl),
+  (
+    inr ((inr refl, (inl refl, (inl refl, (inl refl, (inl refl, tt))))), inl refl),
+    (inr ((inr refl, (inl refl, (inl refl, (inl refl, tt)))), inl refl), (inl refl, tt)),
+  ),
 )
 
 tasks_have_workers : Each (HasIfNamed is_task (filled_in workers)) (built daidalus).subs
 unfolding daidalus clap_on_literals
 tasks_have_workers = (
-  inr ((inl refl, (inr refl, (inl refl, tt))), inr refl),
-  (inr ((inl refl, (inl refl, (inl refl, (inr refl, (inl refl, tt))))), inr refl), (inl refl, tt)),
+  inr ((inl refl, (inr refl, (inl refl, (inl refl, tt)))), inr refl),
+  (
+    inr ((inl refl, (inl refl, (inl refl, (inr refl, (inl refl, tt))))), inr refl),
+    (inr ((inl refl, (inl refl, (inr refl, (inl refl, tt)))), inr refl), (inl refl, tt)),
+  ),
+)
+
+replay_has_ahead : Each (HasIfNamed is_replay (filled_in ahead)) (built daidalus).subs
+unfolding daidalus clap_on_literals
+replay_has_ahead = (
+  inr ((inl refl, (inl refl, (inr refl, (inl refl, tt)))), inr refl),
+  (inl refl, (inl refl, (inl refl, tt))),
 )
 
 exercise_wants_seed : Each (HasIfNamed is_exercise (filled_in seed)) (built daidalus).subs
 unfolding daidalus clap_on_literals
 exercise_wants_seed = (
   inl refl,
-  (inr ((inl refl, (inr refl, (inl refl, (inl refl, (inl refl, tt))))), inl refl), (inl refl, tt)),
+  (inr ((inl refl, (inr refl, (inl refl, (inl refl, (inl refl, tt))))), inl refl), (inl refl, (inl refl, tt))),
 )
 
 exercise_wants_moments : Each (HasIfNamed is_exercise (filled_in moments)) (built daidalus).subs
 unfolding daidalus clap_on_literals
 exercise_wants_moments = (
   inl refl,
-  (inr ((inl refl, (inl refl, (inr refl, (inl refl, (inl refl, tt))))), inl refl), (inl refl, tt)),
+  (inr ((inl refl, (inl refl, (inr refl, (inl refl, (inl refl, tt))))), inl refl), (inl refl, (inl refl, tt))),
+)
+
+judge_wants_states : Each (HasIfNamed is_judge (filled_in states)) (built daidalus).subs
+unfolding daidalus clap_on_literals
+judge_wants_states = (
+  inl refl,
+  (inl refl, (inr ((inl refl, (inr refl, (inl refl, (inl refl, tt)))), inl refl), (inl refl, tt))),
 )
 
 -- ---- a subcommand's order
@@ -93,8 +118,31 @@ number_met : (words : List Text) (p : Text × List Row) (id : Text) (n : ℕ) �
     → option_and_then (λ (q : Text × List Row). number_at id q.1) (subcommand_of daidalus words) ≡ Some n
 number_met words p id n is met = ap (option_and_then (λ (q : Text × List Row). number_at id q.1)) met ∙ is
 
-replay_is : (p : Text × List Row) → p.0 ≡ codes "replay" → HasTask p
-replay_is p name = record { task = Replay; is = rw name refl; asked = λ words met. name_met words p (codes "replay") name met; in_range = tt }
+given_met : (words : List Text) (p : Text × List Row) (id : Text) → subcommand_of daidalus words ≡ Some p
+    → option_map_or (λ (q : Text × List Row). is_given id q.1) (subcommand_of daidalus words) false ≡ false → is_given id p.1 ≡ false
+given_met words p id met e = ap (λ o. option_map_or (λ (q : Text × List Row). is_given id q.1) o false) (sym met) ∙ e
+
+-- where the words give no number there is the default
+zero_by_default : (p : Text × List Row) (h : HasText (filled_in ahead) p.1) (number : ℕ) → number_at (codes "ahead") p.1 ≡ Some number
+    → is_given (codes "ahead") p.1 ≡ false → number ≡ 0
+zero_by_default p h number at not_given =
+    let text : Some (codes "0") ≡ Some h.text = h.default not_given in
+    let same : codes "0" ≡ h.text = ap (λ o. unwrap_or o (codes "0")) text in
+    let zero : Some number ≡ number_of (without_minus (codes "0")) =
+    sym at ∙ number_at_text (filled_in ahead) 0 1024 p.1 refl h ∙ ap (λ t. number_of (without_minus t)) (sym same) in
+    ap (λ o. unwrap_or o 0) zero
+
+replay_is : (p : Text × List Row) → p.0 ≡ codes "replay" → HasText (filled_in ahead) p.1 → HasNumber (codes "ahead") 0 1024 p.1 → HasTask p
+replay_is p name text a = record {
+  task = Replay a.number;
+  is = rw (name, a.is) refl;
+  asked = λ words met. (
+    name_met words p (codes "replay") name met,
+    number_met words p (codes "ahead") a.number a.is met,
+    λ e. zero_by_default p text a.number a.is (given_met words p (codes "ahead") met e),
+  );
+  in_range = a.at_most;
+}
 
 exercise_is : (p : Text × List Row) → p.0 ≡ codes "exercise" → HasNumber (codes "seed") 0 4294967295 p.1 → HasNumber (codes "moments") 1 10000 p.1
     → HasTask p
@@ -107,6 +155,17 @@ exercise_is p name s m = record {
     number_met words p (codes "moments") m.number m.is met,
   );
   in_range = (omega (arith, s.at_most), m.at_least, m.at_most);
+}
+
+judge_is : (p : Text × List Row) → p.0 ≡ codes "judge" → HasText (filled_in states) p.1 → HasTask p
+judge_is p name t = record {
+  task = Judge t.text;
+  is = rw (name, t.first) refl;
+  asked = λ words met. (
+    name_met words p (codes "judge") name met,
+    ap (option_and_then (λ (q : Text × List Row). first_of (codes "states") q.1)) met ∙ t.first,
+  );
+  in_range = tt;
 }
 
 -- the order of a subcommand with a task, a text at `--config` and a number at `--workers`
@@ -159,13 +218,21 @@ module _ (words : List Text) (none : fault_of daidalus words ≡ []) where
       crew : HasText (filled_in workers) p.1
       crew = subcommand_text daidalus words is_task (filled_in workers) refl refl tasks_have_workers none p met named
 
-      task_of : (bytes_eq p.0 (codes "replay") ≡ true) ⊎ (is_exercise p.0 ≡ true) → HasTask p
-      task_of (inl replay) = replay_is p ((bytes_eq-Decides p.0 (codes "replay")).0 replay)
-      task_of (inr exercise) = exercise_is p ((bytes_eq-Decides p.0 (codes "exercise")).0 exercise)
+      other_of : (is_exercise p.0 ≡ true) ⊎ (is_judge p.0 ≡ true) → HasTask p
+      other_of (inl exercise) = exercise_is p ((bytes_eq-Decides p.0 (codes "exercise")).0 exercise)
           (number_there (filled_in seed) 0 4294967295 p.1 refl (omega arith)
           (subcommand_text daidalus words is_exercise (filled_in seed) refl refl exercise_wants_seed none p met exercise))
           (number_there (filled_in moments) 1 10000 p.1 refl (omega arith)
           (subcommand_text daidalus words is_exercise (filled_in moments) refl refl exercise_wants_moments none p met exercise))
+      other_of (inr judge) = judge_is p ((bytes_eq-Decides p.0 (codes "judge")).0 judge)
+          (subcommand_text daidalus words is_judge (filled_in states) refl refl judge_wants_states none p met judge)
+
+      task_of : (is_replay p.0 ≡ true) ⊎ ((is_exercise p.0 || is_judge p.0) ≡ true) → HasTask p
+      task_of (inl replay) = replay_is p ((bytes_eq-Decides p.0 (codes "replay")).0 replay) places (number_there (filled_in ahead) 0 1024 p.1 refl (omega arith) places)
+        where
+          places : HasText (filled_in ahead) p.1
+          places = subcommand_text daidalus words is_replay (filled_in ahead) refl refl replay_has_ahead none p met replay
+      task_of (inr other) = other_of (one_of_both (is_exercise p.0) _ other)
 
   pub taken_words_ask : (asked : Asked) × AsksFor words asked
   taken_words_ask = go (subcommand_of daidalus words) refl (enters daidalus words subcommand_is_required none)

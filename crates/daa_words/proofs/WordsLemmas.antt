@@ -14,8 +14,8 @@ use Rattle.clap.specs.declared.parser.matches.Found.{Found}
 use Rattle.clap.proofs.WalkLemmas.{first_value-rows}
 use Rattle.clap.proofs.OnLiterals.{clap_on_literals}
 use Rattle.daa_words.specs.Command.{daidalus}
-use Rattle.daa_words.specs.Order.{Asked, asked_by, number_at, order_of, task_by}
-use Rattle.daa_words.specs.declared.order.Task.{Task}
+use Rattle.daa_words.specs.Order.{Asked, asked_by, judge_by, number_at, order_of, task_by}
+use Rattle.daa_words.specs.Task.{Task, Judge}
 
 -- the command line is one of those whose faults clap states
 pub daidalus_is_stated : is_simple_and_free daidalus ≡ true
@@ -54,6 +54,9 @@ asked_read name f task config workers named text number =
     ap (λ t. asked_with t config workers) named
     ∙ ap (λ c. asked_with (task_by name (rows_of f)) c workers) (text ∙ first_value-rows f (codes "config"))
     ∙ ap (asked_with (task_by name (rows_of f)) (first_of (codes "config") (rows_of f))) number
+
+pub states_read : (f : Found) (states : Option Text) → states ≡ first_value f (codes "states") → option_map Judge states ≡ judge_by (rows_of f)
+states_read f states text = ap (option_map Judge) (text ∙ first_value-rows f (codes "states"))
 
 -- where there is an order there is no fault
 pub taken_by_order : (words : List Text) (asked : Asked) → order_of words ≡ Some asked → fault_of daidalus words ≡ []

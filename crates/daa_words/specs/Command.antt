@@ -25,6 +25,10 @@ config = wanted (option (codes "config"))
 abbrev pub workers : Rule
 workers = record (number_option (codes "workers") 1 16) { defaults = codes "4" ∷ [] }
 
+-- `--ahead N`, by how many pieces reading may be ahead: 0 where it is not given
+abbrev pub ahead : Rule
+ahead = record (number_option (codes "ahead") 0 1024) { defaults = codes "0" ∷ [] }
+
 -- `--seed N`, from which the moments of an exercise are made
 abbrev pub seed : Rule
 seed = wanted (number_option (codes "seed") 0 4294967295)
@@ -33,18 +37,26 @@ seed = wanted (number_option (codes "seed") 0 4294967295)
 abbrev pub moments : Rule
 moments = wanted (number_option (codes "moments") 1 10000)
 
--- `replay --config FILE [--workers N]`
+-- `--states FILE`, the name under which the states lie whose report is compared
+abbrev pub states : Rule
+states = wanted (option (codes "states"))
+
+-- `replay --config FILE [--workers N] [--ahead N]`
 abbrev pub replay : App
-replay = with_rule (with_rule (new_app (codes "replay")) config) workers
+replay = with_rule (with_rule (with_rule (new_app (codes "replay")) config) workers) ahead
 
 -- `exercise --config FILE --seed N --moments M [--workers N]`
 abbrev pub exercise : App
 exercise = with_rule (with_rule (with_rule (with_rule (new_app (codes "exercise")) config) seed) moments) workers
 
+-- `judge --config FILE --states FILE [--workers N]`
+abbrev pub judge : App
+judge = with_rule (with_rule (with_rule (new_app (codes "judge")) config) states) workers
+
 -- the program's name, after which a subcommand must stand
 abbrev pub base : App
 base = on_top (λ s. record s { subcommand_required = true }) (new_app (codes "daidalus"))
 
--- the command line: `daidalus` and one of the two subcommands, and nothing else but clap's own help
+-- the command line: `daidalus` and one of the three subcommands, and nothing else but clap's own help
 unfoldable pub daidalus : App
-daidalus = with_subcommand (with_subcommand base replay.top) exercise.top
+daidalus = with_subcommand (with_subcommand (with_subcommand base replay.top) exercise.top) judge.top

@@ -7,8 +7,7 @@ use Rattle.clap.specs.Walk.{Text, first_of}
 use Rattle.clap.specs.Faults.{fault_of}
 use Rattle.daa_words.specs.Command.{daidalus}
 use Rattle.daa_words.specs.Order.{Asked, IsInRange, number_at, order_of}
-use Rattle.daa_words.specs.declared.order.Task.{Task}
-use Rattle.daa_words.specs.declared.order.Task.TheVariants.{Replay, Exercise}
+use Rattle.daa_words.specs.Task.{Task, Replay, Exercise, Judge}
 
 -- the name of the subcommand that clap reads in the words
 abbrev pub subcommand_in : List Text → Option Text
@@ -28,9 +27,11 @@ is_given_in id words = option_map_or (λ p. is_given id p.1) (subcommand_of daid
 
 -- the words ask for this task
 abbrev pub AsksForTask : List Text → Task → Type 0
-AsksForTask words Replay = subcommand_in words ≡ Some (codes "replay")
+AsksForTask words (Replay ahead) = (subcommand_in words ≡ Some (codes "replay"))
+    × (number_in (codes "ahead") words ≡ Some ahead) × (is_given_in (codes "ahead") words ≡ false → ahead ≡ 0)
 AsksForTask words (Exercise seed moments) = (subcommand_in words ≡ Some (codes "exercise"))
     × (number_in (codes "seed") words ≡ Some seed) × (number_in (codes "moments") words ≡ Some moments)
+AsksForTask words (Judge states) = (subcommand_in words ≡ Some (codes "judge")) × (text_in (codes "states") words ≡ Some states)
 
 -- the words ask for this: for the task, with the configuration that stands at `--config`, and with as many workers as
 -- stand at `--workers`, which are 4 where that is not given

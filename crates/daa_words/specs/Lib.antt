@@ -1,3 +1,4 @@
 pub mod Command
+pub mod Task
 pub mod Order
 pub mod Laws

@@ -1,5 +1,5 @@
 -- What the words of a command line ask for.
-use Rattle.std.specs.Prelude.{ℕ, ◌≤◌, ◌<◌, ◌^◌, ⊤, List, Option, Some, None, codes, if◌then◌else◌, option_and_then, option_map}
+use Rattle.std.specs.Prelude.{ℕ, ◌≤◌, ◌<◌, ◌^◌, List, Option, Some, None, codes, if◌then◌else◌, option_and_then, option_map}
 use Rattle.std.specs.Str.{bytes_eq}
 use Rattle.std.specs.Str.Parse.{digits_value, without_leading_plus}
 use Rattle.clap.specs.Simple.{subcommand_of}
@@ -8,8 +8,9 @@ use Rattle.clap.specs.Walk.{Row, Text, first_of, is_empty, one_of}
 use Rattle.clap.specs.Faults.{fault_of}
 use Rattle.daa_words.specs.Command.{daidalus}
 use Rattle.daa_words.specs.declared.order.Order.{Order}
-use Rattle.daa_words.specs.declared.order.Task.{Task}
-use Rattle.daa_words.specs.declared.order.Task.TheVariants.{Replay, Exercise}
+use Rattle.daa_words.specs.declared.order.Task.{Task as Coded}
+use Rattle.daa_words.specs.declared.order.Task.TheVariants as coded
+use Rattle.daa_words.specs.Task.{Task, Replay, Exercise, Judge}
 
 -- what is asked for: the task, the name under which the configuration lies, in bytes, and how many workers there are
 pub record Asked : Type 0 where
@@ -17,14 +18,21 @@ pub record Asked : Type 0 where
   pub config : Text
   pub workers : ℕ
 
+-- a task of the program's own as what it asks for
+abbrev pub task_of : Coded → Task
+task_of (coded.Replay ahead) = Replay ahead
+task_of (coded.Exercise seed moments) = Exercise seed moments
+task_of (coded.Judge states) = Judge states.now
+
 -- an order as what it asks for
 abbrev pub meaning : Order → Asked
-meaning o = record { task = o.task; config = o.config.now; workers = o.workers }
+meaning o = record { task = task_of o.task; config = o.config.now; workers = o.workers }
 
--- the seed and the number of moments are in their ranges
+-- the numbers of a task are in their ranges
 abbrev pub TaskIsInRange : Task → Type 0
-TaskIsInRange Replay = ⊤
+TaskIsInRange (Replay ahead) = ahead ≤ 1024
 TaskIsInRange (Exercise seed moments) = (seed < 2 ^ 32) × (1 ≤ moments) × (moments ≤ 10000)
+TaskIsInRange (Judge states) = Unit {0}
 
 -- so are all numbers of what is asked for
 pub record IsInRange (asked : Asked) : Type 0 where
@@ -40,15 +48,24 @@ number_of text = if is_unsigned_in 0 4294967295 text then Some (digits_value 10 
 abbrev pub number_at : Text → List Row → Option ℕ
 number_at id rows = option_and_then number_of (one_of id rows)
 
+-- a replay, by the number at its option
+abbrev pub replay_by : List Row → Option Task
+replay_by rows = option_map Replay (number_at (codes "ahead") rows)
+
 -- an exercise, by the numbers at its options
 abbrev pub exercise_by : List Row → Option Task
 exercise_by rows = option_and_then (λ seed. option_map (Exercise seed) (number_at (codes "moments") rows)) (number_at (codes "seed") rows)
 
+-- a comparison, by the text at its option
+abbrev pub judge_by : List Row → Option Task
+judge_by rows = option_map Judge (first_of (codes "states") rows)
+
 -- the task of a subcommand, by its name and the rows of its options; none where no task has the name
 abbrev pub task_by : Text → List Row → Option Task
 task_by name rows =
-    if bytes_eq name (codes "replay") then Some Replay
-    else if bytes_eq name (codes "exercise") then exercise_by rows else None
+    if bytes_eq name (codes "replay") then replay_by rows
+    else if bytes_eq name (codes "exercise") then exercise_by rows
+    else if bytes_eq name (codes "judge") then judge_by rows else None
 
 -- what a subcommand asks for, by its name and the rows of its options: its task, the first text at `--config`, and the
 -- number at `--workers`; none where one of them is not there

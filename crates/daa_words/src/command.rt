@@ -33,6 +33,24 @@ fn workers<'a>(alloc: Global) -> Arg<'a>
         .default_value("4")
 }
 
+/// `--ahead N`.
+fn ahead<'a>(alloc: Global) -> Arg<'a>
+    ensures rule { rule_of result ≡ spec.ahead }
+    ensures local { result.global ≡ false }
+{
+    option(alloc, "ahead")
+        .value_parser(value_parser!(u32).range(0..=1024))
+        .default_value("0")
+}
+
+/// `--states FILE`.
+fn states<'a>(alloc: Global) -> Arg<'a>
+    ensures rule { rule_of result ≡ spec.states }
+    ensures local { result.global ≡ false }
+{
+    option(alloc, "states").required(true)
+}
+
 /// `--seed N`.
 fn seed<'a>(alloc: Global) -> Arg<'a>
     ensures rule { rule_of result ≡ spec.seed }
@@ -53,13 +71,14 @@ fn moments<'a>(alloc: Global) -> Arg<'a>
         .required(true)
 }
 
-/// `replay --config FILE [--workers N]`.
+/// `replay --config FILE [--workers N] [--ahead N]`.
 fn replay<'a>(alloc: Global) -> Result<Command<'a>, AllocError>
     ensures { IfOk result (λ c. (app_of c ≡ spec.replay) × ((fields_of c).has_globals ≡ false)) }
 {
     Command::new(alloc, "replay")
         .arg(config(alloc))?
-        .arg(workers(alloc))
+        .arg(workers(alloc))?
+        .arg(ahead(alloc))
 }
 
 /// `exercise --config FILE --seed N --moments M [--workers N]`.
@@ -73,6 +92,16 @@ fn exercise<'a>(alloc: Global) -> Result<Command<'a>, AllocError>
         .arg(workers(alloc))
 }
 
+/// `judge --config FILE --states FILE [--workers N]`.
+fn judge<'a>(alloc: Global) -> Result<Command<'a>, AllocError>
+    ensures { IfOk result (λ c. (app_of c ≡ spec.judge) × ((fields_of c).has_globals ≡ false)) }
+{
+    Command::new(alloc, "judge")
+        .arg(config(alloc))?
+        .arg(states(alloc))?
+        .arg(workers(alloc))
+}
+
 /// The program's name, after which a subcommand must stand.
 fn base<'a>(alloc: Global) -> Command<'a>
     ensures app { app_of result ≡ spec.base }
@@ -81,10 +110,12 @@ fn base<'a>(alloc: Global) -> Command<'a>
     Command::new(alloc, "daidalus").subcommand_required(true)
 }
 
-/// The command line that is taken: `daidalus replay --config FILE [--workers N]` or
-/// `daidalus exercise --config FILE --seed N --moments M [--workers N]`, and nothing else but clap's own help.
+/// The command line that is taken: `daidalus replay --config FILE [--workers N] [--ahead N]`,
+/// `daidalus exercise --config FILE --seed N --moments M [--workers N]` or
+/// `daidalus judge --config FILE --states FILE [--workers N]`, and nothing else but clap's own help.
 ///
-/// A subcommand is required, and so is each option but `--workers`. Each option has one value: any text at `--config`,
+/// A subcommand is required, and so is each option but `--workers` and `--ahead`. Each option has one value: any text at `--config`
+/// and `--states`,
 /// a whole number from 1 to 16 at `--workers` (4 where it is not given), from 0 to 2^32 - 1 at `--seed` and from 1 to
 /// 10000 at `--moments`. The error says that memory ran out.
 #[tactic(auto, unfolding(crate::specs::Command::daidalus))]
@@ -93,5 +124,6 @@ pub fn daidalus<'a>(alloc: Global) -> Result<Command<'a>, AllocError>
 {
     base(alloc)
         .subcommand(replay(alloc)?)?
-        .subcommand(exercise(alloc)?)
+        .subcommand(exercise(alloc)?)?
+        .subcommand(judge(alloc)?)
 }

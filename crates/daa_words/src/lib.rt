@@ -1,8 +1,9 @@
 //! The command words of the program:
 //!
 //! ```text
-//! daidalus replay --config FILE [--workers N]
+//! daidalus replay --config FILE [--workers N] [--ahead N]
 //! daidalus exercise --config FILE --seed N --moments M [--workers N]
+//! daidalus judge --config FILE --states FILE [--workers N]
 //! ```
 //!
 //! Which words are taken is clap's to decide, by a definition that is written in clap's own words; what is taken is read
@@ -17,7 +18,7 @@ mod reading;
 
 pub use command::daidalus;
 pub use fault::WordsFault;
-pub use laws::{taken_words_give_an_order, worked_examples, worked_exercises};
+pub use laws::{taken_words_give_an_order, worked_examples, worked_exercises, worked_judgements};
 pub use order::{Order, Task};
 pub use reading::read_words;
 

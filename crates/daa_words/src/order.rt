@@ -7,9 +7,12 @@ use clap::ArgMatches;
 
 /// What is to be done with a configuration.
 #[derive(Clone, Copy, Debug, PartialEq, Eq)]
-pub enum Task {
+pub enum Task<'a> {
     /// Moments are read, and each is decided.
-    Replay,
+    Replay {
+        /// By how many pieces reading may be ahead, 0 to 1024.
+        ahead: u32,
+    },
     /// Moments are made, and each is decided.
     Exercise {
         /// What the moments are made from. Any `u32` is one.
@@ -17,13 +20,18 @@ pub enum Task {
         /// How many moments there are, 1 to 10000.
         moments: u32,
     },
+    /// A report is compared with that of given states.
+    Judge {
+        /// The name under which the states lie. Any text is one, also the empty text.
+        states: &'a str,
+    },
 }
 
 /// What the words ask for.
 #[derive(Clone, Copy, Debug)]
 pub struct Order<'a> {
     /// What is to be done.
-    pub task: Task,
+    pub task: Task<'a>,
     /// The name under which the configuration lies. Any text is one, also the empty text.
     pub config: &'a str,
     /// How many workers decide a moment, 1 to 16.
@@ -38,22 +46,40 @@ fn number_at(name: &str, matches: &ArgMatches) -> Option<u32>
 }
 
 /// An exercise, by the numbers at its options.
-fn exercise_by(matches: &ArgMatches) -> Option<Task>
-    ensures { result ≡ spec.exercise_by (rows_of (found_of matches.now)) }
+fn exercise_by<'a>(matches: &ArgMatches<'a>) -> Option<Task<'a>>
+    ensures { option_map spec.task_of result ≡ spec.exercise_by (rows_of (found_of matches.now)) }
 {
     let seed = number_at("seed", matches)?;
     let moments = number_at("moments", matches)?;
     Some(Task::Exercise { seed, moments })
 }
 
+/// A replay, by the number at its option.
+fn replay_by<'a>(matches: &ArgMatches<'a>) -> Option<Task<'a>>
+    ensures { option_map spec.task_of result ≡ spec.replay_by (rows_of (found_of matches.now)) }
+{
+    let ahead = number_at("ahead", matches)?;
+    Some(Task::Replay { ahead })
+}
+
+/// A comparison, by the text at its option.
+fn judge_by<'a>(matches: &ArgMatches<'a>) -> Option<Task<'a>>
+    ensures { option_map spec.task_of result ≡ spec.judge_by (rows_of (found_of matches.now)) }
+{
+    let states = matches.get_str("states")?;
+    Some(Task::Judge { states })
+}
+
 /// The task of a subcommand, by its name and by the matches of its options.
-fn task_by(name: &str, matches: &ArgMatches) -> Option<Task>
-    ensures { result ≡ spec.task_by name.now (rows_of (found_of matches.now)) }
+fn task_by<'a>(name: &str, matches: &ArgMatches<'a>) -> Option<Task<'a>>
+    ensures { option_map spec.task_of result ≡ spec.task_by name.now (rows_of (found_of matches.now)) }
 {
     if name == "replay" {
-        Some(Task::Replay)
+        replay_by(matches)
     } else if name == "exercise" {
         exercise_by(matches)
+    } else if name == "judge" {
+        judge_by(matches)
     } else {
         None
     }

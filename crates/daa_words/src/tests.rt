@@ -55,7 +55,7 @@ fn words_that_ask_for_a_replay(rt: HostRuntime) -> Result<(), Fail> {
         let words = words_of(rt.alloc(), words)?;
         let order = read_words(rt.alloc(), words.as_slice()).map_err(|_| "not taken")?;
         assert!(rt; order.config == *config, "{config}");
-        assert_eq!(rt; order.task, Task::Replay);
+        assert_eq!(rt; order.task, Task::Replay { ahead: 0 });
         assert_eq!(rt; order.workers, *workers);
     }
     Ok(())
@@ -95,6 +95,19 @@ fn words_that_ask_for_an_exercise(rt: HostRuntime) -> Result<(), Fail> {
         assert_eq!(rt; order.task, task);
         assert_eq!(rt; order.workers, *workers);
     }
+    Ok(())
+}
+
+#[test]
+fn words_that_ask_for_a_comparison(rt: HostRuntime) -> Result<(), Fail> {
+    let words = words_of(
+        rt.alloc(),
+        &["daidalus", "judge", "--states", "s", "--config=f"],
+    )?;
+    let order = read_words(rt.alloc(), words.as_slice()).map_err(|_| "not taken")?;
+    assert_eq!(rt; order.task, Task::Judge { states: "s" });
+    assert!(rt; order.config == "f");
+    assert_eq!(rt; order.workers, 4);
     Ok(())
 }
 
@@ -215,7 +228,7 @@ fn may_be_sent<T: Send>() {}
 // The check refuses a type that may not be sent between threads.
 #[test]
 fn values_may_be_sent() {
-    may_be_sent::<Task>();
+    may_be_sent::<Task<'static>>();
     may_be_sent::<Order<'static>>();
     may_be_sent::<WordsFault>();
 }

@@ -6,7 +6,7 @@ use std::test::Fail;
 
 /// What is written where the words are not taken.
 pub(super) const USAGE: &[u8] =
-    b"usage: daidalus replay --config FILE [--workers N] | exercise --config FILE --seed N --moments M [--workers N]\n";
+    b"usage: daidalus replay --config FILE [--workers N] [--ahead N] | exercise --config FILE --seed N --moments M [--workers N] | judge --config FILE --states FILE [--workers N]\n";
 
 /// Lists of words that are not taken.
 static NOT_TAKEN: [&[&str]; 6] = [

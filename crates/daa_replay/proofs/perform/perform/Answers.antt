@@ -1,21 +1,34 @@
-use Rattle.daa_words.specs.declared.order.Task.TheVariants.{Replay, Exercise}
+use Rattle.std.proofs.Common.{subst}
+use Rattle.daa_lines.specs.LinesOf.{Bytes}
+use Rattle.daa_replay.specs.Judging.{Judges}
+use Rattle.daa_replay.specs.declared.opening.Work.TheVariants as work
 use Rattle.daa_replay.specs.Outside.{StreamState, stream_state}
 use Rattle.daa_replay.specs.Status.{code_of}
-use Rattle.daa_replay.proofs.PerformLemmas.{by_task, exercised}
+use Rattle.daa_replay.proofs.PerformLemmas.{by_work, exercised}
 use Rattle.daa_replay.proofs.perform.perform.Goals as goal
 
 pub returns-in-Replay : goal.returns-in-Replay
 returns-in-Replay g c =
-    by_task c.args.most (code_of c.replay_within.result) c.args.ready.now.engine.settings c.args.ready.now.task Replay _ _ _ _ c.in-Replay.is c.replay_within.ensures
+    by_work c.args.most (code_of c.replay_within.result) c.args.ready.engine.settings c.args.ready.work (work.Replay c.in-Replay.ahead) _ _ _ _ c.in-Replay.is c.replay_within.ensures
 
 pub returns-in-Exercise : goal.returns-in-Exercise
 returns-in-Exercise g c =
-    let settings = c.args.ready.now.engine.settings in
+    let settings = c.args.ready.engine.settings in
     let seed = c.in-Exercise.seed in
     let moments = c.in-Exercise.moments in
     let source : StreamState = stream_state (g.S.Source.left c.args.source.now) (g.S.Source.faults c.args.source.now) in
     let old : StreamState = stream_state (g.K.Sink.taken c.args.sink.now) (g.K.Sink.faults c.args.sink.now) in
     let new : StreamState = stream_state (g.K.Sink.taken c.exercise-said.new.sink) (g.K.Sink.faults c.exercise-said.new.sink) in
     let says = c.exercise-said.ensures.says in
-    by_task c.args.most (code_of c.status_of.result) settings c.args.ready.now.task (Exercise seed moments) source source old new c.in-Exercise.is
+    by_work c.args.most (code_of c.status_of.result) settings c.args.ready.work (work.Exercise seed moments) source source old new c.in-Exercise.is
     (exercised settings seed moments source old new says.0 c.exercise-said.result c.status_of.result says.1 says.2 c.status_of.ensures.whole c.status_of.ensures.broken)
+
+pub returns : goal.returns
+returns g c =
+    let settings = c.args.ready.engine.settings in
+    let so : StreamState = stream_state (g.S.Source.left c.args.source.now) (g.S.Source.faults c.args.source.now) in
+    let sn : StreamState = stream_state (g.S.Source.left c.judge_within.new.source) (g.S.Source.faults c.judge_within.new.source) in
+    let ko : StreamState = stream_state (g.K.Sink.taken c.args.sink.now) (g.K.Sink.faults c.args.sink.now) in
+    let kn : StreamState = stream_state (g.K.Sink.taken c.judge_within.new.sink) (g.K.Sink.faults c.judge_within.new.sink) in
+    by_work c.args.most (code_of c.judge_within.result) settings c.args.ready.work (work.Judge c.in-Judge.states c.in-Judge.sheet) so sn ko kn c.in-Judge.is
+    (subst (λ (states : Bytes). Judges settings states c.args.most (code_of c.judge_within.result) so sn ko kn) c.as_slice.ensures.value c.judge_within.ensures)

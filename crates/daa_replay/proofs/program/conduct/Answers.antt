@@ -1,7 +1,9 @@
-use Rattle.std.proofs.Common.{map, string_bytes}
+use Rattle.std.proofs.Common.{◌≡◌, Err, Result, ap, map, refl, string_bytes}
+use Rattle.daa_replay.specs.declared.opening.Ready.{Ready}
+use Rattle.daa_replay.specs.declared.opening.Unready.{Unready}
 use Rattle.daa_replay.specs.Outside.{Outside, outside, shelf_state, stream_state}
 use Rattle.daa_replay.specs.Status.{code_of}
-use Rattle.daa_replay.proofs.PerformLemmas.{performs_runs}
+use Rattle.daa_replay.proofs.PerformLemmas.{performs_runs, tells_runs}
 use Rattle.daa_replay.proofs.program.conduct.Goals as goal
 
 pub returns-in-Ok : goal.returns-in-Ok
@@ -15,4 +17,13 @@ returns-in-Ok g c =
     let made = c.in-Ok.ensures in
     let ready = c.in-Ok.ready in
     performs_runs c.args.most (code_of c.perform.result) (map string_bytes c.args.words.now) old new ready.engine.settings
-    made.kept (made.no_fault (λ e. cc e)) ready.task made.opened c.perform.ensures
+    made.kept (made.no_fault (λ e. cc e)) made.opened.0 ready.work made.opened.1 made.opened.2 c.perform.ensures
+
+pub returns-in-Err : goal.returns-in-Err
+returns-in-Err g c =
+    let made = c.in-Err.ensures in
+    tells_runs c.args.most _ _ _ refl made.kept made.never_falls c.in-Err.why c.tell.result made.opened c.tell.ensures
+    (λ e. made.risen (ap Err e)) (λ n. made.no_fault (λ e. n (err_is _ _ e)))
+  where
+    err_is : (a b : Unready) → ◌≡◌ {A = Result Ready Unready} (Err a) (Err b) → a ≡ b
+    err_is a b e = cc

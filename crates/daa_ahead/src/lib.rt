@@ -1,0 +1,22 @@
+//! Reading in pieces for someone who takes them: by turns with the taking, or ahead of it on a thread of its own.
+#![tactic(auto)]
+
+mod ended;
+mod next;
+mod piece;
+mod reader;
+mod reading;
+mod ring;
+mod rounds;
+mod taker;
+mod taking;
+#[cfg(test)]
+mod tests;
+mod threads;
+mod turns;
+
+pub use ended::Ended;
+pub use next::{Next, read_next};
+pub use taker::{Calls, Taker};
+pub use threads::ahead;
+pub use turns::in_turn;

@@ -1,0 +1,348 @@
+-- How long the text of a moment can be.
+use Rattle.std.proofs.Common.{◌≡◌, ◌<◌, ◌≤◌, ◌+◌, ◌*◌, ◌^◌, ◌++◌, ◌∙◌, ◌&&◌, ◌⊎◌, ℕ, zero, suc, ℤ, pos, negsuc, ◌≤ℤ◌, Bool, true, List, [], ◌∷◌, length, Option, Some, None, refl, sym, ap, subst, arith, length-append, slice_get}
+use Rattle.std.specs.Prelude.{codes, decimal, slice_index, MatchOption}
+use Rattle.std.specs.Option.{unwrap_or}
+use Rattle.daa_legs.specs.Alerts.{IsFirstLeg}
+use Rattle.std.specs.Fmt.{signed_decimal}
+use Rattle.std.specs.List.{flat_map, zip, AllByRecursion}
+use Rattle.std.proofs.lemmas.Int.{ints}
+use Rattle.std.proofs.lemmas.Fmt.{length-decimal-le}
+use Rattle.std.proofs.lemmas.Option.{slice_get_within}
+use Rattle.std.proofs.lemmas.Bool.Decides.{nat_tests}
+use Rattle.std.proofs.lemmas.List.Elements.{recursion_from_All}
+use Rattle.daa_config.specs.Candidates.{values_of}
+use Rattle.daa_config.specs.Settings.{Settings, IsAccepted, IsInBounds, value_bounds}
+use Rattle.daa_config.specs.declared.candidate.Resolution.{Resolution}
+use Rattle.daa_config.specs.declared.candidate.Resolution.TheVariants.{Keep, To, Nothing}
+use Rattle.daa_config.specs.declared.kind.Kind.{Kind}
+use Rattle.daa_config.specs.declared.kind.Kind.TheVariants.{Track, Speed, Climb, Height}
+use Rattle.daa_config.proofs.GridLemmas.{length-values, few_tracks, few_of_kind, value_there}
+use Rattle.daa_state.specs.Id.{is_id, is_id_byte}
+use Rattle.daa_state.specs.InRange.{IsTrafficInRange, IsPictureInRange}
+use Rattle.daa_state.specs.Picture.{aircraft_of}
+use Rattle.daa_state.specs.declared.word.Picture.{Picture}
+use Rattle.daa_state.specs.declared.word.Traffic.{Traffic}
+use Rattle.daa_alert.specs.declared.aircraft_alert.Alert.{Alert}
+use Rattle.daa_alert.specs.Alert.{IsAlertOf}
+use Rattle.daa_bands.specs.Band.{Mark, IsStretch, AreBands}
+use Rattle.daa_bands.specs.KindBands.{AreKindBands}
+use Rattle.daa_bands.specs.declared.band.Band.{Band}
+use Rattle.daa_resolve.specs.Resolution.{IsResolution}
+use Rattle.daa_resolve.specs.declared.side.Side.{Side}
+use Rattle.daa_resolve.specs.declared.side.Side.TheVariants.{Lower, Upper}
+use Rattle.daa_report.specs.Lines.{Text, kind_word, lower_word, upper_word, first_text, answer_text, moment_line, now_line, alert_line, band_line, resolve_line, done_line}
+use Rattle.daa_engine.specs.Covered.{CoveredAt}
+use Rattle.daa_engine.specs.Longest.{longest_moment}
+use Rattle.daa_engine.specs.MomentText.{AreAircraftLines, AreAlertLines, AreBandLines, IsAnswerLine, IsMomentText, line_of, of_each}
+
+-- ---- numbers
+
+few_digits : (n : ℕ) → n < 2 ^ 32 → length (decimal n) ≤ 20
+few_digits n h = length-decimal-le 20 n (omega arith) (omega arith) (omega arith)
+
+-- what a value of any kind is from and up to
+record IsValue (z : ℤ) : Type 0 where
+  least : negsuc 99999 ≤ℤ z
+  most : z ≤ℤ pos 99999
+
+few_signed : (z : ℤ) → IsValue z → length (signed_decimal z) ≤ 12
+few_signed (pos n) h = let m = h.most in length-decimal-le 12 n (omega arith) (omega (arith, ints)) (omega (arith, ints))
+few_signed (negsuc n) h = let l = h.least in omega (arith, length-decimal-le 11 (suc n) (omega arith) (omega (arith, ints)) (omega (arith, ints)))
+
+value_of_kind : (kind : Kind) (z : ℤ) → IsInBounds (value_bounds kind) z → IsValue z
+value_of_kind Track z h = let l = h.least in let m = h.most in record { least = omega (arith, ints); most = omega (arith, ints) }
+value_of_kind Speed z h = let l = h.least in let m = h.most in record { least = omega (arith, ints); most = omega (arith, ints) }
+value_of_kind Climb z h = let l = h.least in let m = h.most in record { least = omega (arith, ints); most = omega (arith, ints) }
+value_of_kind Height z h = let l = h.least in let m = h.most in record { least = omega (arith, ints); most = omega (arith, ints) }
+
+-- ---- lines
+
+-- each text of these and a last one, put together from the left
+joined : (a b : Text) (m n : ℕ) → length a ≤ m → length b ≤ n → length (a ++ b) ≤ m + n
+joined a b m n h k = omega (arith, length-append a b)
+
+few_of_id : (id : Text) → is_id id ≡ true → length id ≤ 8
+few_of_id id h = grind (arith, nat_tests)
+
+word_of_kind : (kind : Kind) → length (kind_word kind) ≤ 5
+word_of_kind Track = omega arith
+word_of_kind Speed = omega arith
+word_of_kind Climb = omega arith
+word_of_kind Height = omega arith
+
+lower_of_kind : (kind : Kind) → length (lower_word kind) ≤ 5
+lower_of_kind Track = omega arith
+lower_of_kind Speed = omega arith
+lower_of_kind Climb = omega arith
+lower_of_kind Height = omega arith
+
+upper_of_kind : (kind : Kind) → length (upper_word kind) ≤ 5
+upper_of_kind Track = omega arith
+upper_of_kind Speed = omega arith
+upper_of_kind Climb = omega arith
+upper_of_kind Height = omega arith
+
+first_short : (first : Option ℕ) → ((leg : ℕ) → first ≡ Some leg → leg < 2 ^ 32) → length (first_text first) ≤ 20
+first_short None h = omega arith
+first_short (Some leg) h = few_digits leg (h leg refl)
+
+answer_short : (answer : Resolution) → ((z : ℤ) → answer ≡ To z → IsValue z) → length (answer_text answer) ≤ 12
+answer_short Keep h = omega arith
+answer_short (To z) h = few_signed z (h z refl)
+answer_short Nothing h = omega arith
+
+pub moment_short : (time : ℕ) → time < 2 ^ 32 → length (moment_line time) ≤ 64
+unfolding moment_line
+moment_short time h = omega (arith, joined (codes "moment " ++ decimal time) (codes "\n") 27 1 (joined (codes "moment ") (decimal time) 7 20 (omega arith) (few_digits time h)) (omega arith))
+
+done_short : (time : ℕ) → time < 2 ^ 32 → length (done_line time) ≤ 64
+unfolding done_line
+done_short time h = omega (arith, joined (codes "done " ++ decimal time) (codes "\n") 25 1 (joined (codes "done ") (decimal time) 5 20 (omega arith) (few_digits time h)) (omega arith))
+
+now_short : (id : Text) (level : ℕ) → length id ≤ 8 → level < 2 ^ 32 → length (now_line id level) ≤ 64
+unfolding now_line
+now_short id level i l =
+    let blank : length (codes " ") ≤ 1 = omega arith in
+    omega (
+      arith,
+      few_digits level l,
+      length-append (codes "now ") id,
+      length-append (codes "now " ++ id) (codes " "),
+      length-append (codes "now " ++ id ++ codes " ") (decimal level),
+      length-append (codes "now " ++ id ++ codes " " ++ decimal level) (codes "\n"),
+    )
+
+alert_short : (id : Text) (level : ℕ) (first : Option ℕ) → length id ≤ 8 → level < 2 ^ 32 → ((leg : ℕ) → first ≡ Some leg → leg < 2 ^ 32) → length (alert_line id level first) ≤ 64
+unfolding alert_line
+alert_short id level first i l f =
+    omega (
+      arith,
+      few_digits level l,
+      first_short first f,
+      length-append (codes "alert ") id,
+      length-append (codes "alert " ++ id) (codes " "),
+      length-append (codes "alert " ++ id ++ codes " ") (decimal level),
+      length-append (codes "alert " ++ id ++ codes " " ++ decimal level) (codes " "),
+      length-append (codes "alert " ++ id ++ codes " " ++ decimal level ++ codes " ") (first_text first),
+      length-append (codes "alert " ++ id ++ codes " " ++ decimal level ++ codes " " ++ first_text first) (codes "\n"),
+    )
+
+band_short : (kind : Kind) (from upto : ℤ) (level : ℕ) → IsValue from → IsValue upto → level < 2 ^ 32 → length (band_line kind from upto level) ≤ 64
+unfolding band_line
+band_short kind from upto level f u l =
+    let w = kind_word kind in let a = signed_decimal from in let b = signed_decimal upto in
+    omega (
+      arith,
+      word_of_kind kind,
+      few_signed from f,
+      few_signed upto u,
+      few_digits level l,
+      length-append w (codes " "),
+      length-append (w ++ codes " ") a,
+      length-append (w ++ codes " " ++ a) (codes " "),
+      length-append (w ++ codes " " ++ a ++ codes " ") b,
+      length-append (w ++ codes " " ++ a ++ codes " " ++ b) (codes " "),
+      length-append (w ++ codes " " ++ a ++ codes " " ++ b ++ codes " ") (decimal level),
+      length-append (w ++ codes " " ++ a ++ codes " " ++ b ++ codes " " ++ decimal level) (codes "\n"),
+    )
+
+resolve_short : (kind : Kind) (lower upper : Resolution) → ((z : ℤ) → lower ≡ To z → IsValue z) → ((z : ℤ) → upper ≡ To z → IsValue z)
+    → length (resolve_line kind lower upper) ≤ 64
+unfolding resolve_line
+resolve_short kind lower upper l u =
+    let k = kind_word kind in let w = lower_word kind in let a = answer_text lower in let v = upper_word kind in let b = answer_text upper in
+    let r = codes "resolve" in let s = codes " " in
+    omega (
+      arith,
+      word_of_kind kind,
+      lower_of_kind kind,
+      upper_of_kind kind,
+      answer_short lower l,
+      answer_short upper u,
+      length-append r s,
+      length-append (r ++ s) k,
+      length-append (r ++ s ++ k) s,
+      length-append (r ++ s ++ k ++ s) w,
+      length-append (r ++ s ++ k ++ s ++ w) s,
+      length-append (r ++ s ++ k ++ s ++ w ++ s) a,
+      length-append (r ++ s ++ k ++ s ++ w ++ s ++ a) s,
+      length-append (r ++ s ++ k ++ s ++ w ++ s ++ a ++ s) v,
+      length-append (r ++ s ++ k ++ s ++ w ++ s ++ a ++ s ++ v) s,
+      length-append (r ++ s ++ k ++ s ++ w ++ s ++ a ++ s ++ v ++ s) b,
+      length-append (r ++ s ++ k ++ s ++ w ++ s ++ a ++ s ++ v ++ s ++ b) (codes "\n"),
+    )
+
+-- ---- bands
+
+-- a value with its level
+abbrev IsMark : Mark → Type 0
+IsMark mark = IsValue mark.0 × (mark.1 ≤ 4)
+
+record IsBand (band : Band) : Type 0 where
+  from : IsValue band.from
+  upto : IsValue band.upto
+  level : band.level ≤ 4
+
+left_all : {X : Type 0} (P : X → Type 0) (xs ys : List X) → AllByRecursion P (xs ++ ys) → AllByRecursion P xs
+left_all P [] ys h = tt
+left_all P (x ∷ xs) ys h = (h.0, left_all P xs ys h.1)
+
+right_all : {X : Type 0} (P : X → Type 0) (xs ys : List X) → AllByRecursion P (xs ++ ys) → AllByRecursion P ys
+right_all P [] ys h = h
+right_all P (x ∷ xs) ys h = right_all P xs ys h.1
+
+of_stretch : (band : Band) (stretch : List Mark) → IsStretch band stretch → AllByRecursion IsMark stretch → IsBand band
+of_stretch band stretch s h =
+    let first = subst (AllByRecursion IsMark) s.first.1 h in
+    let last = right_all IsMark s.last.0 _ (subst (AllByRecursion IsMark) s.last.1 h) in
+    record { from = first.0.0; upto = last.0.0; level = first.0.1 }
+
+not_empty : (band : Band) (stretch : List Mark) → IsStretch band stretch → 1 ≤ length stretch
+not_empty band stretch s = let e = ap length s.first.1 in omega arith
+
+bands_in : (marks : List Mark) (bands : List Band) → AreBands marks bands → AllByRecursion IsMark marks → AllByRecursion IsBand bands
+bands_in marks [] are h = tt
+bands_in marks (band ∷ bands) (stretch, rest, e, s, d, are) h =
+    let k = subst (AllByRecursion IsMark) e h in
+    (of_stretch band stretch s (left_all IsMark stretch rest k), bands_in rest bands are (right_all IsMark stretch rest k))
+
+bands_few : (marks : List Mark) (bands : List Band) → AreBands marks bands → length bands ≤ length marks
+bands_few marks [] are = omega arith
+bands_few marks (band ∷ bands) (stretch, rest, e, s, d, are) =
+    omega (arith, ap length e, length-append stretch rest, not_empty band stretch s, bands_few rest bands are)
+
+marks_in : (values : List ℤ) (levels : List ℕ) → AllByRecursion IsValue values → AllByRecursion (λ l. l ≤ 4) levels → AllByRecursion IsMark (zip values levels)
+marks_in [] levels v l = tt
+marks_in (z ∷ values) [] v l = tt
+marks_in (z ∷ values) (n ∷ levels) v l = ((v.0, l.0), marks_in values levels v.1 l.1)
+
+marks_few : (values : List ℤ) (levels : List ℕ) → length (zip values levels) ≤ length values
+marks_few [] levels = omega arith
+marks_few (z ∷ values) [] = omega arith
+marks_few (z ∷ values) (n ∷ levels) = omega (arith, marks_few values levels)
+
+values_in : (values : List ℤ) → ((i : ℕ) (z : ℤ) → slice_get values i ≡ Some z → IsValue z) → AllByRecursion IsValue values
+values_in [] h = tt
+values_in (z ∷ values) h = (h 0 z refl, values_in values (λ i y e. h (suc i) y e))
+
+levels_in : (levels : List ℕ) → ((i : ℕ) → i < length levels → slice_index levels i ≤ 4) → AllByRecursion (λ l. l ≤ 4) levels
+levels_in [] h = tt
+levels_in (l ∷ levels) h = (h 0 (omega arith), levels_in levels (λ i lt. h (suc i) (omega arith)))
+
+-- so many lines of at most 64 bytes
+lines_few : {X : Type 0} (f : X → Text) (P : X → Type 0) → ((x : X) → P x → length (f x) ≤ 64) → (xs : List X) → AllByRecursion P xs → length (flat_map f xs) ≤ 64 * length xs
+lines_few f P h [] all = omega arith
+lines_few f P h (x ∷ xs) all = omega (arith, length-append (f x) (flat_map f xs), h x all.0, lines_few f P h xs all.1)
+
+band_is_short : (kind : Kind) (band : Band) → IsBand band → length (line_of kind band) ≤ 64
+band_is_short kind band h = band_short kind band.from band.upto band.level h.from h.upto (let l = h.level in omega arith)
+
+-- an answer that gives no value
+abbrev IsNotTo : Resolution → Type 0
+IsNotTo Keep = Unit {0}
+IsNotTo (To z) = ⊥
+IsNotTo Nothing = Unit {0}
+
+-- the value of an answer
+abbrev value_or : Resolution → ℤ → ℤ
+value_or Keep other = other
+value_or (To z) other = z
+value_or Nothing other = other
+
+module _ (s : Settings) (p : Picture) (ok : IsAccepted s) where
+  value_in : (kind : Kind) (i : ℕ) (z : ℤ) → slice_get (values_of kind s) i ≡ Some z → IsValue z
+  value_in kind i z e =
+      let there = value_there kind s i ok (slice_get_within (values_of kind s) i z e) in
+      let w = value_of_kind kind _ there.in_range in
+      let same : Some _ ≡ Some z = sym there.there ∙ e in
+      subst IsValue (ap (λ (o : Option ℤ). unwrap_or o z) same) w
+
+  kind_short : (kind : Kind) (text : Text) → AreBandLines s p kind text → length text ≤ 64 * length (values_of kind s)
+  kind_short kind text (bands, are, e) =
+      let values = values_of kind s in
+      let few = ok.few_levels in
+      let levels = levels_in are.levels (λ i lt. let w = (are.shown.greatest i lt).within in omega arith) in
+      let marks = marks_in values are.levels (values_in values (value_in kind)) levels in
+      let in' = bands_in (zip values are.levels) bands are.are marks in
+      omega (
+        arith,
+        ap length e,
+        lines_few (line_of kind) IsBand (band_is_short kind) bands in',
+        bands_few (zip values are.levels) bands are.are,
+        marks_few values are.levels,
+      )
+
+  answer_in : (kind : Kind) (side : Side) (answer : Resolution) → IsResolution (CoveredAt s p) s p.own kind side answer → (z : ℤ) → answer ≡ To z → IsValue z
+  answer_in kind side Keep h z e = absurd (subst IsNotTo e tt)
+  answer_in kind side (To y) h z e = value_in kind h.1.0 z (h.1.1.value_is ∙ ap (λ (r : Resolution). Some (value_or r y)) e)
+  answer_in kind side Nothing h z e = absurd (subst IsNotTo e tt)
+
+  answers_short : (kind : Kind) (text : Text) → IsAnswerLine s p kind text → length text ≤ 64
+  answers_short kind text (lower, upper, l, u, e) =
+      omega (arith, ap length e, resolve_short kind lower upper (answer_in kind Lower lower l) (answer_in kind Upper upper u))
+
+  leg_in : (t : Traffic) (alert : Alert) → IsAlertOf s p.own t alert → (leg : ℕ) → alert.first ≡ Some leg → leg < 2 ^ 32
+  leg_in t alert a leg e =
+      let f : MatchOption (Some leg) (alert.level ≡ 0) (IsFirstLeg s p.own t alert.level) = subst (λ (o : Option ℕ). MatchOption o (alert.level ≡ 0) (IsFirstLeg s p.own t alert.level)) e a.first in
+      let b = (ok.level alert.level f.level f.there).alert_most in
+      let i = f.in_time in
+      omega arith
+
+  aircraft_short : (t : Traffic) → IsTrafficInRange t → (text : Text) → AreAircraftLines s p t text → length text ≤ 128
+  aircraft_short t r text (now, alert, n, a, e) =
+      let few = ok.few_levels in
+      let w = n.within in
+      let v = a.greatest.within in
+      let i = few_of_id t.id r.id in
+      omega (
+        arith,
+        ap length e,
+        length-append (now_line t.id now) (alert_line t.id alert.level alert.first),
+        now_short t.id now i (omega arith),
+        alert_short t.id alert.level alert.first i (omega arith) (leg_in t alert a),
+      )
+
+  alerts_short : (ts : List Traffic) → AllByRecursion IsTrafficInRange ts → (text : Text) → AreAlertLines s p ts text → length text ≤ 128 * length ts
+  alerts_short [] r text e = omega (arith, ap length e)
+  alerts_short (t ∷ ts) r text (first, rest, is, others, e) =
+      omega (arith, ap length e, length-append first rest, aircraft_short t r.0 first is, alerts_short ts r.1 rest others)
+
+  pub text_short : IsPictureInRange p → p.time < 2 ^ 32 → (text : Text) → IsMomentText s p text → length text ≤ longest_moment
+  text_short r t text (alerts, bands, answers, are_alerts, are_bands, are_answers, e) =
+      let bt = bands Track in let bs = bands Speed in let bc = bands Climb in let bh = bands Height in
+      let at = answers Track in let as' = answers Speed in let ac = answers Climb in let ah = answers Height in
+      let m = moment_line p.time in let d = done_line p.time in
+      omega (
+        arith,
+        ap length e,
+        r.count,
+        moment_short p.time t,
+        done_short p.time t,
+        alerts_short (aircraft_of p) (recursion_from_All IsTrafficInRange (aircraft_of p) r.traffic) alerts are_alerts,
+        kind_short Track bt (are_bands Track),
+        kind_short Speed bs (are_bands Speed),
+        kind_short Climb bc (are_bands Climb),
+        kind_short Height bh (are_bands Height),
+        answers_short Track at (are_answers Track),
+        answers_short Speed as' (are_answers Speed),
+        answers_short Climb ac (are_answers Climb),
+        answers_short Height ah (are_answers Height),
+        length-values Track s,
+        length-values Speed s,
+        length-values Climb s,
+        length-values Height s,
+        few_tracks s,
+        few_of_kind s Speed ok,
+        few_of_kind s Climb ok,
+        few_of_kind s Height ok,
+        length-append m (alerts ++ (of_each bands ++ (of_each answers ++ d))),
+        length-append alerts (of_each bands ++ (of_each answers ++ d)),
+        length-append (of_each bands) (of_each answers ++ d),
+        length-append (of_each answers) d,
+        length-append bt (bs ++ (bc ++ bh)),
+        length-append bs (bc ++ bh),
+        length-append bc bh,
+        length-append at (as' ++ (ac ++ ah)),
+        length-append as' (ac ++ ah),
+        length-append ac ah,
+      )

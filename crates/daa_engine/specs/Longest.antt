@@ -1,0 +1,15 @@
+-- How long the text of a moment can be.
+use Rattle.std.specs.Prelude.{ℕ, ◌+◌, ◌*◌}
+
+-- no line of a report has more bytes
+abbrev pub longest_line : ℕ
+longest_line = 64
+
+-- the first line, two of each of 64 aircraft, one of each of 1896 values, since a kind has no more bands than values, two of each of
+-- four kinds, of which one is not written yet, and the last line
+abbrev pub most_lines : ℕ
+most_lines = 1 + 2 * 64 + 1896 + 2 * 4 + 1
+
+-- no text of a moment has more bytes
+abbrev pub longest_moment : ℕ
+longest_moment = longest_line * most_lines

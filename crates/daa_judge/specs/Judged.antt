@@ -1,0 +1,27 @@
+-- Whether bytes are a report, and where they differ from it.
+use Rattle.std.specs.Prelude.{ℕ, ◌≡◌, ◌≢◌, ◌+◌, ◌++◌, ◌==◌, List, [], ◌∷◌, if◌then◌else◌}
+use Rattle.daa_ahead.specs.Bytes.{Bytes}
+
+-- the longest front that two runs of bytes have in common
+abbrev pub common_front : Bytes → Bytes → Bytes
+common_front [] other = []
+common_front (x ∷ xs) [] = []
+common_front (x ∷ xs) (y ∷ ys) = if x == y then x ∷ common_front xs ys else []
+
+-- how many lines end in these bytes
+abbrev pub line_feeds : Bytes → ℕ
+line_feeds [] = 0
+line_feeds (x ∷ xs) = if x == 10 then 1 + line_feeds xs else line_feeds xs
+
+-- the bytes are the report
+abbrev pub Same : (report bytes : Bytes) → Type 0
+Same report bytes = bytes ≡ report
+
+-- they are not, and the line of this number, from 1 on, is the first that is not the report's
+pub record Differs (report : Bytes) (number : ℕ) (bytes : Bytes) : Type 0 where
+  pub other : bytes ≢ report
+  pub number_is : number ≡ 1 + line_feeds (common_front bytes report)
+
+-- the report begins with these bytes
+abbrev pub Begins : (bytes report : Bytes) → Type 0
+Begins bytes report = (rest : Bytes) × (report ≡ bytes ++ rest)

@@ -1,0 +1,16 @@
+-- What contracts see of a sheet.
+use Rattle.std.specs.Prelude.{ℕ, ◌≡◌, ◌<◌, ◌≤◌, List, length}
+
+-- what stands on it, and how many writes to it failed
+pub record SheetState : Type 0 where
+  pub text : List ℕ
+  pub faults : ℕ
+
+-- so many bytes have room on every sheet
+abbrev pub sheet_room : ℕ
+sheet_room = 130177
+
+-- a write fails only where the sheet is full
+pub record IsSheet (sheet : SheetState) : Type 0 where
+  pub within : length sheet.text ≤ sheet_room
+  pub full : 0 < sheet.faults → length sheet.text ≡ sheet_room

@@ -1,0 +1,14 @@
+//! What comparing finds.
+
+/// What is found of the bytes that a source hands out, compared with a report.
+#[derive(Clone, Copy, Debug, PartialEq, Eq)]
+pub enum Found {
+    /// They are the report, as far as it was compared.
+    Alike,
+    /// They are not the report, and the line of this number, from 1 on, is the first that differs.
+    Differs(u64),
+    /// The source failed.
+    Fault,
+    /// As many bytes as may be read are the beginning of the report, and there is one more.
+    Limit,
+}

@@ -1,0 +1,98 @@
+//! A sink of fixed room, which fails only where it is full.
+
+ghost use Rattle.std.specs.Prelude.{◌≡◌, ◌≤◌, ◌<◌, ◌+◌, ◌++◌, [], IfOk, length, take};
+ghost use Rattle.daa_judge.specs.Sheets.{IsSheet};
+
+use daa_outside::{Failed, Sink};
+use std::alloc::Global;
+use std::marker::Model;
+
+/// How many bytes a sheet has room for.
+const ROOM: usize = 130177;
+
+/// There was no memory for a sheet.
+#[derive(Clone, Copy, Debug, PartialEq, Eq)]
+pub struct NoMemory;
+
+/// A sheet with room for 130177 bytes.
+#[derive(Drop)]
+pub struct Sheet {
+    space: Vec<u8>,
+    used: usize,
+    faults: u64,
+}
+
+impl Model for Sheet {
+    ghost use Rattle.std.specs.Prelude.{◌≡◌, ◌≤◌, ◌<◌, take, vec_len};
+    ghost use Rattle.daa_judge.specs.Sheets.{IsSheet, SheetState, sheet_room};
+
+    ghost Value = { SheetState };
+
+    ghost view = { λ s. record { text = take s.used s.space.items; faults = s.faults } };
+
+    ghost invariant = { λ s. (vec_len s.space ≡ sheet_room) × (s.used ≤ sheet_room) × (0 < s.faults → s.used ≡ sheet_room) };
+}
+
+impl Sheet {
+    /// A sheet with nothing on it.
+    pub fn new(alloc: Global) -> Result<Sheet, NoMemory>
+        ensures { IfOk result (λ sheet. sheet ≡ record { text = []; faults = 0 }) }
+    {
+        match vec![in alloc; 0u8; ROOM] {
+            Ok(space) => Ok(Sheet {
+                space,
+                used: 0,
+                faults: 0,
+            }),
+            Err(_) => Err(NoMemory),
+        }
+    }
+
+    /// What stands on it. A write to it has failed only where it is full.
+    pub fn text(&self) -> &[u8]
+        ensures value { result.now ≡ self.now.text }
+        ensures sheet { IsSheet self.now }
+    {
+        &self.space[..self.used]
+    }
+
+    /// Takes off what stands on it.
+    pub fn clear(&mut self)
+        ensures { self.new ≡ record { text = []; faults = 0 } }
+    {
+        self.used = 0;
+        self.faults = 0;
+    }
+}
+
+impl Sink for Sheet {
+    ghost use Rattle.std.specs.Prelude.{◌≡◌, ◌≤◌, ◌<◌, Some, length, take, IfOk, OnOk, OnErr};
+    ghost use Rattle.std.specs.Io.KnownBytes.{Appends, Keeps};
+    ghost use Rattle.daa_outside.specs.Faults.{HasRisen};
+
+    ghost taken = { λ s. Some s.text };
+
+    ghost faults = { λ s. s.faults };
+
+    fn write(&mut self, piece: &[u8]) -> Result<usize, Failed> {
+        let room = self.space.len() - self.used;
+        if room == 0 {
+            self.faults = self.faults.saturating_add(1);
+            return Err(Failed);
+        }
+        let count = piece.len().min(room);
+        write_at(&mut self.space, self.used, &piece[..count]);
+        self.used += count;
+        Ok(count)
+    }
+}
+
+/// Writes the piece over what stands at an index.
+fn write_at(space: &mut [u8], at: usize, piece: &[u8])
+    requires { at + length piece.now ≤ length space.old }
+    ensures written { take (at + length piece.now) space.new ≡ take at space.old ++ piece.now }
+    ensures same_size { length space.new ≡ length space.old }
+{
+    let end = at + piece.len();
+    space[at..end].copy_from_slice(piece);
+}

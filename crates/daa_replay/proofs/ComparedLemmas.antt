@@ -1,0 +1,81 @@
+-- What a comparison tells of all bytes of a source.
+use Rattle.std.proofs.Common.{◌≡◌, ◌≢◌, ◌∙◌, ◌<◌, ◌≤◌, ◌+◌, ◌-◌, ℕ, zero, suc, Bool, true, false, List, [], ◌∷◌, ◌++◌, Option, None, Some, refl, sym, ap, subst, arith, append_assoc, append-nil, length, length-append, take}
+use Rattle.std.specs.Io.KnownBytes.{Consumes}
+use Rattle.daa_ahead.specs.Bytes.{SourceState, IsSpent}
+use Rattle.daa_judge.specs.Finding.{IsSame, ShowsDifference, PassesWithin}
+use Rattle.daa_judge.specs.Judged.{Begins}
+use Rattle.daa_lines.specs.LinesOf.{Bytes}
+
+false_not_true : false ≡ true → ⊥
+false_not_true k = cc
+
+-- a source that tells its bytes handed out these and had others left, none where it is spent
+record HasLeft (a b : Option (List ℕ)) (all bytes : Bytes) : Type 0 where
+  more : Bytes
+  all_are : all ≡ bytes ++ more
+  none : IsSpent a b → more ≡ []
+
+handed_all : (a b : Option (List ℕ)) (all bytes : Bytes) → a ≡ Some all → Consumes a b bytes → HasLeft a b all bytes
+handed_all None b all bytes e h = cc
+handed_all (Some xs) None all bytes e h = absurd h
+handed_all (Some xs) (Some ys) all bytes e h =
+    let same : xs ≡ all = cc in
+    record { more = ys; all_are = sym same ∙ h; none = λ s. (let n : Some ys ≡ Some [] = s in cc) }
+
+take_over : (xs ys : Bytes) (n : ℕ) → length xs ≤ n → (tail : Bytes) × (take n (xs ++ ys) ≡ xs ++ tail)
+take_over [] ys n h = (take n ys, refl)
+take_over (x ∷ xs) ys zero h = absurd (omega arith)
+take_over (x ∷ xs) ys (suc n) h = let t = take_over xs ys n (omega arith) in (t.0, ap (λ (l : Bytes). x ∷ l) t.1)
+
+take_front : (xs ys : Bytes) (n : ℕ) → length xs ≡ n → take n (xs ++ ys) ≡ xs
+take_front [] ys zero e = take_none ys
+  where
+    take_none : (zs : Bytes) → take 0 zs ≡ []
+    take_none [] = refl
+    take_none (z ∷ zs) = refl
+take_front [] ys (suc n) e = absurd (omega (arith, e))
+take_front (x ∷ xs) ys zero e = absurd (omega (arith, e))
+take_front (x ∷ xs) ys (suc n) e = ap (λ (l : Bytes). x ∷ l) (take_front xs ys n (omega (arith, e)))
+
+module _ (report : Bytes) (most : ℕ) (old new : SourceState) (all : Bytes) (told : old.left ≡ Some all) where
+  pub same_all : IsSame report most old new → all ≡ report
+  same_all s =
+      let h = handed_all old.left new.left all s.bytes told s.handed in
+      h.all_are ∙ ap (λ (l : Bytes). s.bytes ++ l) (h.none s.over) ∙ append-nil s.bytes ∙ s.same
+
+  pub same_short : IsSame report most old new → length all ≤ most
+  same_short s = let e = same_all s in let b = s.bound in omega (arith, ap length e, ap length s.same)
+
+  pub other_all : (number : ℕ) → ShowsDifference report most number old new → all ≢ report
+  other_all number d e =
+      let h = handed_all old.left new.left all d.bytes told d.handed in
+      (d.differs h.more (λ t. h.none (d.over t))).other (sym h.all_are ∙ e)
+
+  pub other_long : (number : ℕ) → ShowsDifference report most number old new → most < length all → Begins (take most all) report → ⊥
+  other_long number d long (rest, begins) = go d.ended refl
+    where
+      h : HasLeft old.left new.left all d.bytes
+      h = handed_all old.left new.left all d.bytes told d.handed
+
+      go : (b : Bool) → d.ended ≡ b → ⊥
+      go true e =
+          let n = ap length (h.none (d.over e)) in
+          let b = d.bound in
+          absurd (omega (arith, ap length h.all_are, length-append d.bytes h.more))
+      go false e =
+          let t = take_over d.bytes h.more most d.bound in
+          let r : d.bytes ++ (t.0 ++ rest) ≡ report =
+          sym (append_assoc d.bytes t.0 rest) ∙ ap (λ (l : Bytes). l ++ rest) (sym t.1 ∙ ap (take most) (sym h.all_are)) ∙ sym begins in
+          (d.differs (t.0 ++ rest) (λ k. absurd (false_not_true (sym e ∙ k)))).other r
+
+  pub passes_long : PassesWithin report most old new → most < length all
+  passes_long p =
+      let h = handed_all old.left new.left all (p.bytes ++ p.next ∷ []) told p.handed in
+      omega (arith, p.size, ap length h.all_are, length-append (p.bytes ++ p.next ∷ []) h.more, length-append p.bytes (p.next ∷ []))
+
+  pub passes_begins : PassesWithin report most old new → Begins (take most all) report
+  passes_begins p =
+      let h = handed_all old.left new.left all (p.bytes ++ p.next ∷ []) told p.handed in
+      let e : take most all ≡ p.bytes =
+      ap (take most) (h.all_are ∙ append_assoc p.bytes (p.next ∷ []) h.more) ∙ take_front p.bytes ((p.next ∷ []) ++ h.more) most p.size in
+      (p.begins.0, p.begins.1 ∙ ap (λ (l : Bytes). l ++ p.begins.0) (sym e))

@@ -1,0 +1,101 @@
+-- Pieces that are reported, one after the other.
+use Rattle.std.proofs.Common.{◌≡◌, ◌≤◌, ◌<◌, ◌+◌, ◌^◌, ◌∙◌, ℕ, Bool, true, false, List, [], ◌∷◌, ◌++◌, length, refl, sym, ap, subst, arith, length-append, append-nil, append_assoc}
+use Rattle.std.specs.List.{concat}
+use Rattle.std.specs.Borrow.{Bor, MutBor}
+use Rattle.std.proofs.lemmas.List.Folds.{concat-append}
+use Rattle.daa_ahead.specs.Bytes.{SourceState}
+use Rattle.daa_ahead.specs.Moves.{Moves, wants_more}
+use Rattle.daa_ahead.specs.Takes.{CanTake, StopsAfter, Takes, TakesAll, TakesBytes}
+use Rattle.daa_ahead.specs.declared.taker.Calls.{Calls}
+use Rattle.daa_ahead.specs.declared.ended.Ended.{Ended}
+use Rattle.daa_config.specs.Settings.{Settings}
+use Rattle.daa_engine.specs.declared.engine.Engine.{Engine}
+use Rattle.daa_lines.specs.LinesOf.{Bytes}
+use Rattle.daa_outside.specs.Faults.{HasRisen}
+use Rattle.daa_replay.specs.declared.progress.Progress.{Progress}
+use Rattle.daa_replay.specs.declared.tools.Tools.{Tools}
+use Rattle.daa_replay.specs.Desk.{Desk, desk, IsBetween, CanReport, Writes, Breaks, Steps}
+use Rattle.daa_replay.specs.Outside.{ToldBytes}
+use Rattle.daa_replay.specs.Replaying.{TakesFront}
+use Rattle.daa_replay.specs.Reporting.{Reports}
+
+-- ---- pieces put together
+
+writes_nothing : (d e : Desk) → e ≡ d → IsBetween d → Writes d [] e
+writes_nothing d e same between = subst (λ (x : Desk). Writes d [] x) (sym same) (record {
+  same = refl;
+  between = between;
+  fed = omega arith;
+  calm = refl;
+  reports = λ settings first bytes is r. subst (λ (b : Bytes). Reports settings first b d.progress d.taken) (sym (append-nil bytes)) r;
+})
+
+writes_join : (d e f : Desk) (piece later : Bytes) → Writes d piece e → Writes e later f → Writes d (piece ++ later) f
+writes_join d e f piece later w v = record {
+  same = v.same ∙ w.same;
+  between = v.between;
+  fed = omega (arith, v.fed, w.fed, length-append piece later);
+  calm = v.calm ∙ w.calm;
+  reports = λ settings first bytes is r. subst (λ (b : Bytes). Reports settings first b f.progress f.taken) (append_assoc bytes piece later)
+      (v.reports settings first (bytes ++ piece) (w.same ∙ is) (w.reports settings first bytes is r));
+}
+
+breaks_join : (d e f : Desk) (piece later : Bytes) → Writes d piece e → Breaks e later f → Breaks d (piece ++ later) f
+breaks_join d e f piece later w v = record {
+  same = v.same ∙ w.same;
+  risen = subst (λ (n : ℕ). HasRisen n f.faults) w.calm v.risen;
+  later = omega (arith, w.calm, v.later);
+  front = λ settings first bytes is r. subst (λ (b : Bytes). TakesFront settings first f.taken b false) (append_assoc bytes piece later)
+      (v.front settings first (bytes ++ piece) (w.same ∙ is) (w.reports settings first bytes is r));
+}
+
+concat_last : (front : List Bytes) (last : Bytes) → concat (front ++ last ∷ []) ≡ concat front ++ last
+concat_last front last = concat-append front (last ∷ []) ∙ ap (λ (b : Bytes). concat front ++ b) (append-nil last)
+
+-- ---- a taker whose pieces are steps of a desk
+
+module _ {T : Type 0} (takes : T → Bytes → Bool → T → Type 0) (desk_of : T → Desk) (steps : (t : T) (piece : Bytes) (answer : Bool) (u : T) → takes t piece answer u → Steps (desk_of t) piece answer (desk_of u)) where
+  pub writes_all : (a : T) (pieces : List Bytes) (b : T) → IsBetween (desk_of a) → TakesAll takes a pieces b → Writes (desk_of a) (concat pieces) (desk_of b)
+  unfolding TakesAll
+  writes_all a [] b between t = writes_nothing (desk_of a) (desk_of b) (ap desk_of t) between
+  writes_all a (piece ∷ pieces) b between t =
+      let w = steps a piece true t.0 t.1 in
+      writes_join (desk_of a) (desk_of t.0) (desk_of b) piece (concat pieces) w (writes_all t.0 pieces b w.between t.2)
+
+  pub steps_bytes : (more : Bool) (a b : T) (bytes : Bytes) → IsBetween (desk_of a) → TakesBytes takes more a b bytes → Steps (desk_of a) bytes more (desk_of b)
+  steps_bytes true a b bytes between t = subst (λ (x : Bytes). Writes (desk_of a) x (desk_of b)) t.bytes_are (writes_all a t.pieces b between t.taken)
+  steps_bytes false a b bytes between t =
+      let s = t.taken in
+      subst (λ (x : Bytes). Breaks (desk_of a) x (desk_of b)) (sym (concat_last s.front s.last) ∙ ap concat (sym s.pieces_are) ∙ t.bytes_are)
+      (breaks_join (desk_of a) (desk_of s.mid) (desk_of b) (concat s.front) s.last (writes_all a s.front s.mid between s.wanted) (steps s.mid s.last false b s.refused))
+
+  -- it may be given a piece after others
+  pub can_report : (most : ℕ) (a : T) (pieces : List Bytes) (later : T) (piece : Bytes) → IsBetween (desk_of a) → (desk_of a).progress.lines.fed + most < 2 ^ 63
+      → TakesAll takes a pieces later → length (concat (pieces ++ piece ∷ [])) ≤ most → CanReport (desk_of later) (length piece)
+  can_report most a pieces later piece between room t fits =
+      let w = writes_all a pieces later between t in
+      record { between = w.between; room = omega (arith, w.fed, ap length (concat_last pieces piece), length-append (concat pieces) piece) }
+
+-- what stays over a piece stays over all
+module _ {T X : Type 0} (takes : T → Bytes → Bool → T → Type 0) (name : T → X) (stays : (t : T) (piece : Bytes) (answer : Bool) (u : T) → takes t piece answer u → name u ≡ name t) where
+  stays_all : (a : T) (pieces : List Bytes) (b : T) → TakesAll takes a pieces b → name b ≡ name a
+  unfolding TakesAll
+  stays_all a [] b t = ap name t
+  stays_all a (piece ∷ pieces) b t = stays_all t.0 pieces b t.2 ∙ stays a piece true t.0 t.1
+
+  pub stays_bytes : (more : Bool) (a b : T) (bytes : Bytes) → TakesBytes takes more a b bytes → name b ≡ name a
+  stays_bytes true a b bytes t = stays_all a t.pieces b t.taken
+  stays_bytes false a b bytes t = let s = t.taken in stays s.mid s.last false b s.refused ∙ stays_all a s.front s.mid s.wanted
+
+-- ---- the closure that reports
+
+-- what it holds: the tools, the engine, the sink, and how far the report has come
+abbrev pub Held : Type 0 → Type 0 → Type 0 → Type 0
+Held R K G = Calls (Bor (Tools R G) × MutBor Engine × MutBor K × MutBor Progress)
+
+abbrev pub held_desk : {R K G : Type 0} → (K → ToldBytes) → (K → ℕ) → Held R K G → Desk
+held_desk taken faults t = desk t.call.1.now.settings t.call.3.now (taken t.call.2.now) (faults t.call.2.now)
+
+-- the same of a part of what moved
+pub moves_of : (ended : Ended) (most : ℕ) (old new : SourceState) (P Q : Bytes → Type 0) → ((bytes : Bytes) → P bytes → Q bytes) → Moves ended most old new P → Moves ended most old new Q
+moves_of ended most old new P Q f m = record { taken = m.taken; bound = m.bound; read = m.read; given = f m.taken m.given; never_falls = m.never_falls }
