@@ -1,5 +1,5 @@
 -- How long the text of a moment can be.
-use Rattle.std.proofs.Common.{◌≡◌, ◌<◌, ◌≤◌, ◌+◌, ◌*◌, ◌^◌, ◌++◌, ◌∙◌, ◌&&◌, ◌⊎◌, ℕ, zero, suc, ℤ, pos, negsuc, ◌≤ℤ◌, Bool, true, List, [], ◌∷◌, length, Option, Some, None, refl, sym, ap, subst, arith, length-append, slice_get}
+use Rattle.std.proofs.Common.{◌≡◌, ◌<◌, ◌≤◌, ◌+◌, ◌*◌, ◌^◌, ◌++◌, ◌∙◌, ◌&&◌, ◌⊎◌, ℕ, zero, suc, ℤ, pos, negsuc, ◌≤ℤ◌, Bool, true, List, [], ◌∷◌, length, Option, Some, None, option_map, refl, sym, ap, subst, arith, length-append, slice_get}
 use Rattle.std.specs.Prelude.{codes, decimal, slice_index, MatchOption}
 use Rattle.std.specs.Option.{unwrap_or}
 use Rattle.daa_legs.specs.Alerts.{IsFirstLeg}
@@ -30,10 +30,12 @@ use Rattle.daa_bands.specs.declared.band.Band.{Band}
 use Rattle.daa_resolve.specs.Resolution.{IsResolution}
 use Rattle.daa_resolve.specs.declared.side.Side.{Side}
 use Rattle.daa_resolve.specs.declared.side.Side.TheVariants.{Lower, Upper}
-use Rattle.daa_report.specs.Lines.{Text, kind_word, lower_word, upper_word, first_text, answer_text, moment_line, now_line, alert_line, band_line, resolve_line, done_line}
+use Rattle.daa_recovery.specs.Recovery.{IsRecovery}
+use Rattle.daa_recovery.specs.declared.recovery.Recovery.{Recovery}
+use Rattle.daa_report.specs.Lines.{Text, kind_word, lower_word, upper_word, first_text, answer_text, moment_line, now_line, alert_line, band_line, resolve_line, recover_line, found_text, number_field, done_line}
 use Rattle.daa_engine.specs.Covered.{CoveredAt}
 use Rattle.daa_engine.specs.Longest.{longest_moment}
-use Rattle.daa_engine.specs.MomentText.{AreAircraftLines, AreAlertLines, AreBandLines, IsAnswerLine, IsMomentText, line_of, of_each}
+use Rattle.daa_engine.specs.MomentText.{AreAircraftLines, AreAlertLines, AreBandLines, AreAnswers, IsRecoveryLine, IsRecoveryText, IsMomentText, line_of, of_each, told_of, wants_recovery}
 
 -- ---- numbers
 
@@ -172,6 +174,34 @@ resolve_short kind lower upper l u =
       length-append (r ++ s ++ k ++ s ++ w ++ s ++ a ++ s ++ v ++ s ++ b) (codes "\n"),
     )
 
+-- after how many seconds, and a value
+record IsFoundShort (after : ℕ) (value : ℤ) : Type 0 where
+  soon : after < 2 ^ 32
+  value : IsValue value
+
+found_short : (found : Option (ℕ × ℤ)) → ((after : ℕ) (value : ℤ) → found ≡ Some (after, value) → IsFoundShort after value) → length (found_text found) ≤ 40
+found_short None h = omega arith
+found_short (Some (after, value)) h =
+    let f = h after value refl in
+    let n : length (number_field after) ≤ 21 = joined (codes " ") (decimal after) 1 20 (omega arith) (few_digits after f.soon) in
+    let v : length (codes " " ++ signed_decimal value) ≤ 13 = joined (codes " ") (signed_decimal value) 1 12 (omega arith) (few_signed value f.value) in
+    omega (arith, joined (number_field after) (codes " " ++ signed_decimal value) 21 13 n v)
+
+recover_short : (kind : Kind) (found : Option (ℕ × ℤ)) → ((after : ℕ) (value : ℤ) → found ≡ Some (after, value) → IsFoundShort after value)
+    → length (recover_line kind found) ≤ 64
+unfolding recover_line
+recover_short kind found h =
+    let k = kind_word kind in let r = codes "recover" in let s = codes " " in let f = found_text found in
+    omega (
+      arith,
+      word_of_kind kind,
+      found_short found h,
+      length-append r s,
+      length-append (r ++ s) k,
+      length-append (r ++ s ++ k) f,
+      length-append (r ++ s ++ k ++ f) (codes "\n"),
+    )
+
 -- ---- bands
 
 -- a value with its level
@@ -277,9 +307,30 @@ module _ (s : Settings) (p : Picture) (ok : IsAccepted s) where
   answer_in kind side (To y) h z e = value_in kind h.1.0 z (h.1.1.value_is ∙ ap (λ (r : Resolution). Some (value_or r y)) e)
   answer_in kind side Nothing h z e = absurd (subst IsNotTo e tt)
 
-  answers_short : (kind : Kind) (text : Text) → IsAnswerLine s p kind text → length text ≤ 64
-  answers_short kind text (lower, upper, l, u, e) =
-      omega (arith, ap length e, resolve_short kind lower upper (answer_in kind Lower lower l) (answer_in kind Upper upper u))
+  answers_short : (kind : Kind) (lower upper : Resolution) → AreAnswers s p kind lower upper → length (resolve_line kind lower upper) ≤ 64
+  answers_short kind lower upper h = resolve_short kind lower upper (answer_in kind Lower lower h.lower_is) (answer_in kind Upper upper h.upper_is)
+
+  recovery_in : (kind : Kind) (found : Option Recovery) → IsRecovery s p kind found → (after : ℕ) (value : ℤ) → option_map told_of found ≡ Some (after, value) → IsFoundShort after value
+  recovery_in kind None is after value e = absurd (cc e)
+  recovery_in kind (Some r) is after value e =
+      let least = is.found in
+      let a = is.ahead in
+      let few = (ok.level a.number a.level a.closes.there).lookahead_most in
+      let soon : r.after < 2 ^ 32 = let b = least.before in let e' = a.reached in omega arith in
+      record {
+        soon = subst (λ (n : ℕ). n < 2 ^ 32) (cc e) soon;
+        value = subst IsValue (cc e) (value_in kind least.place r.value least.recovers.there);
+      }
+
+  recovery_line_short : (kind : Kind) (text : Text) → IsRecoveryLine s p kind text → length text ≤ 64
+  recovery_line_short kind text (found, is, e) = omega (arith, ap length e, recover_short kind (option_map told_of found) (recovery_in kind found is))
+
+  recovery_short : (kind : Kind) (lower upper : Resolution) (text : Text) → IsRecoveryText s p kind lower upper text → length text ≤ 64
+  recovery_short kind lower upper text is = by_wish (wants_recovery s lower upper) refl
+    where
+      by_wish : (w : Bool) → wants_recovery s lower upper ≡ w → length text ≤ 64
+      by_wish true e = recovery_line_short kind text (is.line e)
+      by_wish false e = omega (arith, ap length (is.none e))
 
   leg_in : (t : Traffic) (alert : Alert) → IsAlertOf s p.own t alert → (leg : ℕ) → alert.first ≡ Some leg → leg < 2 ^ 32
   leg_in t alert a leg e =
@@ -308,25 +359,32 @@ module _ (s : Settings) (p : Picture) (ok : IsAccepted s) where
       omega (arith, ap length e, length-append first rest, aircraft_short t r.0 first is, alerts_short ts r.1 rest others)
 
   pub text_short : IsPictureInRange p → p.time < 2 ^ 32 → (text : Text) → IsMomentText s p text → length text ≤ longest_moment
-  text_short r t text (alerts, bands, answers, are_alerts, are_bands, are_answers, e) =
+  text_short r t text is =
+      let alerts = is.alerts in let bands = is.bands in let lower = is.lower in let upper = is.upper in let recoveries = is.recoveries in
+      let answers : Kind → Text = λ kind. resolve_line kind (lower kind) (upper kind) in
       let bt = bands Track in let bs = bands Speed in let bc = bands Climb in let bh = bands Height in
       let at = answers Track in let as' = answers Speed in let ac = answers Climb in let ah = answers Height in
+      let rt = recoveries Track in let rs = recoveries Speed in let rc = recoveries Climb in let rh = recoveries Height in
       let m = moment_line p.time in let d = done_line p.time in
       omega (
         arith,
-        ap length e,
+        ap length is.text_is,
         r.count,
         moment_short p.time t,
         done_short p.time t,
-        alerts_short (aircraft_of p) (recursion_from_All IsTrafficInRange (aircraft_of p) r.traffic) alerts are_alerts,
-        kind_short Track bt (are_bands Track),
-        kind_short Speed bs (are_bands Speed),
-        kind_short Climb bc (are_bands Climb),
-        kind_short Height bh (are_bands Height),
-        answers_short Track at (are_answers Track),
-        answers_short Speed as' (are_answers Speed),
-        answers_short Climb ac (are_answers Climb),
-        answers_short Height ah (are_answers Height),
+        alerts_short (aircraft_of p) (recursion_from_All IsTrafficInRange (aircraft_of p) r.traffic) alerts is.alerts_are,
+        kind_short Track bt (is.bands_are Track),
+        kind_short Speed bs (is.bands_are Speed),
+        kind_short Climb bc (is.bands_are Climb),
+        kind_short Height bh (is.bands_are Height),
+        answers_short Track (lower Track) (upper Track) (is.answers_are Track),
+        answers_short Speed (lower Speed) (upper Speed) (is.answers_are Speed),
+        answers_short Climb (lower Climb) (upper Climb) (is.answers_are Climb),
+        answers_short Height (lower Height) (upper Height) (is.answers_are Height),
+        recovery_short Track (lower Track) (upper Track) rt (is.recoveries_are Track),
+        recovery_short Speed (lower Speed) (upper Speed) rs (is.recoveries_are Speed),
+        recovery_short Climb (lower Climb) (upper Climb) rc (is.recoveries_are Climb),
+        recovery_short Height (lower Height) (upper Height) rh (is.recoveries_are Height),
         length-values Track s,
         length-values Speed s,
         length-values Climb s,
@@ -335,14 +393,18 @@ module _ (s : Settings) (p : Picture) (ok : IsAccepted s) where
         few_of_kind s Speed ok,
         few_of_kind s Climb ok,
         few_of_kind s Height ok,
-        length-append m (alerts ++ (of_each bands ++ (of_each answers ++ d))),
-        length-append alerts (of_each bands ++ (of_each answers ++ d)),
-        length-append (of_each bands) (of_each answers ++ d),
-        length-append (of_each answers) d,
+        length-append m (alerts ++ (of_each bands ++ (of_each answers ++ (of_each recoveries ++ d)))),
+        length-append alerts (of_each bands ++ (of_each answers ++ (of_each recoveries ++ d))),
+        length-append (of_each bands) (of_each answers ++ (of_each recoveries ++ d)),
+        length-append (of_each answers) (of_each recoveries ++ d),
+        length-append (of_each recoveries) d,
         length-append bt (bs ++ (bc ++ bh)),
         length-append bs (bc ++ bh),
         length-append bc bh,
         length-append at (as' ++ (ac ++ ah)),
         length-append as' (ac ++ ah),
         length-append ac ah,
+        length-append rt (rs ++ (rc ++ rh)),
+        length-append rs (rc ++ rh),
+        length-append rc rh,
       )

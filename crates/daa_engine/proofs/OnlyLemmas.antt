@@ -65,21 +65,20 @@ module _ (s : Settings) (p : Picture) where
   each_only f g e = let t = e Track in let s' = e Speed in let c = e Climb in let h = e Height in cc
 
   pub text_only : IsAccepted s → (a b : Text) → IsMomentText s p a → IsMomentText s p b → a ≡ b
-  text_only ok a b (alerts, bands, lower, upper, recoveries, are_alerts, are_bands, are_answers, are_recoveries, e)
-      (alerts', bands', lower', upper', recoveries', are_alerts', are_bands', are_answers', are_recoveries', e') =
-      let answers : Kind → Text = λ kind. resolve_line kind (lower kind) (upper kind) in
-      let answers' : Kind → Text = λ kind. resolve_line kind (lower' kind) (upper' kind) in
-      let low = λ (kind : Kind). lower_only ok kind (lower kind) (upper kind) (lower' kind) (upper' kind) (are_answers kind) (are_answers' kind) in
-      let up = λ (kind : Kind). upper_only ok kind (lower kind) (upper kind) (lower' kind) (upper' kind) (are_answers kind) (are_answers' kind) in
-      let x = alerts_only (aircraft_of p) alerts alerts' are_alerts are_alerts' in
-      let y = each_only bands bands' (λ kind. bands_only kind (bands kind) (bands' kind) (are_bands kind) (are_bands' kind)) in
+  text_only ok a b h k =
+      let answers : Kind → Text = λ kind. resolve_line kind (h.lower kind) (h.upper kind) in
+      let answers' : Kind → Text = λ kind. resolve_line kind (k.lower kind) (k.upper kind) in
+      let low = λ (kind : Kind). lower_only ok kind (h.lower kind) (h.upper kind) (k.lower kind) (k.upper kind) (h.answers_are kind) (k.answers_are kind) in
+      let up = λ (kind : Kind). upper_only ok kind (h.lower kind) (h.upper kind) (k.lower kind) (k.upper kind) (h.answers_are kind) (k.answers_are kind) in
+      let x = alerts_only (aircraft_of p) h.alerts k.alerts h.alerts_are k.alerts_are in
+      let y = each_only h.bands k.bands (λ kind. bands_only kind (h.bands kind) (k.bands kind) (h.bands_are kind) (k.bands_are kind)) in
       let z = each_only answers answers' (λ kind. ap₂ (resolve_line kind) (low kind) (up kind)) in
-      let w = each_only recoveries recoveries' (λ kind. recovery_only_of kind (lower kind) (upper kind) (lower' kind) (upper' kind) (recoveries kind) (recoveries' kind)
-      (low kind) (up kind) (are_recoveries kind) (are_recoveries' kind)) in
-      e ∙ ap (λ (t : Text). moment_line p.time ++ (t ++ (of_each bands ++ (of_each answers ++ (of_each recoveries ++ done_line p.time))))) x
-      ∙ ap (λ (t : Text). moment_line p.time ++ (alerts' ++ (t ++ (of_each answers ++ (of_each recoveries ++ done_line p.time))))) y
-      ∙ ap (λ (t : Text). moment_line p.time ++ (alerts' ++ (of_each bands' ++ (t ++ (of_each recoveries ++ done_line p.time))))) z
-      ∙ ap (λ (t : Text). moment_line p.time ++ (alerts' ++ (of_each bands' ++ (of_each answers' ++ (t ++ done_line p.time))))) w ∙ sym e'
+      let w = each_only h.recoveries k.recoveries (λ kind. recovery_only_of kind (h.lower kind) (h.upper kind) (k.lower kind) (k.upper kind) (h.recoveries kind) (k.recoveries kind)
+      (low kind) (up kind) (h.recoveries_are kind) (k.recoveries_are kind)) in
+      h.text_is ∙ ap (λ (t : Text). moment_line p.time ++ (t ++ (of_each h.bands ++ (of_each answers ++ (of_each h.recoveries ++ done_line p.time))))) x
+      ∙ ap (λ (t : Text). moment_line p.time ++ (k.alerts ++ (t ++ (of_each answers ++ (of_each h.recoveries ++ done_line p.time))))) y
+      ∙ ap (λ (t : Text). moment_line p.time ++ (k.alerts ++ (of_each k.bands ++ (t ++ (of_each h.recoveries ++ done_line p.time))))) z
+      ∙ ap (λ (t : Text). moment_line p.time ++ (k.alerts ++ (of_each k.bands ++ (of_each answers' ++ (t ++ done_line p.time))))) w ∙ sym k.text_is
 
 -- ---- no two boards
 

@@ -103,18 +103,18 @@ module _ (s : Settings) (p : Picture) (a : IsAccepted s) (r : IsPictureInRange p
       let answer_text = λ (kind : Kind). resolve_line kind (lower kind) (upper kind) in
       let recovery_text = λ (kind : Kind). (recovery_texts kind (lower kind) (upper kind)).0 in (
         moment_line p.time ++ (alerts.0 ++ (of_each band_text ++ (of_each answer_text ++ (of_each recovery_text ++ done_line p.time)))),
-        (
-          alerts.0,
-          band_text,
-          lower,
-          upper,
-          recovery_text,
-          alerts.1,
-          (λ kind. ((bands kind).one, (bands kind).is, refl)),
-          (λ kind. record { lower_is = (answer kind Lower).is; upper_is = (answer kind Upper).is }),
-          (λ kind. (recovery_texts kind (lower kind) (upper kind)).1),
-          refl,
-        ),
+        record {
+          alerts = alerts.0;
+          bands = band_text;
+          lower = lower;
+          upper = upper;
+          recoveries = recovery_text;
+          alerts_are = alerts.1;
+          bands_are = λ kind. ((bands kind).one, (bands kind).is, refl);
+          answers_are = λ kind. record { lower_is = (answer kind Lower).is; upper_is = (answer kind Upper).is };
+          recoveries_are = λ kind. (recovery_texts kind (lower kind) (upper kind)).1;
+          text_is = refl;
+        },
       )
 
   pub one_text : HasOne (IsMomentText s p)

@@ -29,18 +29,18 @@ use Rattle.daa_engine.specs.Written.{aircraft_text, alerts_text, bands_text, ban
 
 -- ---- aircraft
 
-alerts_are : (s : Settings) (p : Picture) (ts : List Traffic) (ws : List AircraftAlert) → length ws ≡ length ts
+alert_lines_are : (s : Settings) (p : Picture) (ts : List Traffic) (ws : List AircraftAlert) → length ws ≡ length ts
     → ((i : ℕ) (t : Traffic) (w : AircraftAlert) → i < length ts → IsAircraftAlert s p.own (slice_index_or ts i t) (slice_index_or ws i w))
     → AreAlertLines s p ts (flat_map aircraft_text (zip ts ws))
 unfolding aircraft_text
-alerts_are s p [] ws e h = refl
-alerts_are s p (t ∷ ts) [] e h = absurd (omega arith)
-alerts_are s p (t ∷ ts) (w ∷ ws) e h =
+alert_lines_are s p [] ws e h = refl
+alert_lines_are s p (t ∷ ts) [] e h = absurd (omega arith)
+alert_lines_are s p (t ∷ ts) (w ∷ ws) e h =
     let first = h 0 t w (omega arith) in (
       aircraft_text (t, w),
       flat_map aircraft_text (zip ts ws),
       (w.level_now, alert_of w, first.level_now, first.alert, refl),
-      alerts_are s p ts ws (omega arith) (λ i a b lt. h (suc i) a b (omega arith)),
+      alert_lines_are s p ts ws (omega arith) (λ i a b lt. h (suc i) a b (omega arith)),
       refl,
     )
 
@@ -69,18 +69,18 @@ module _ (s : Settings) (p : Picture) (board : List ℕ) (is : IsBoardOf (Covere
   pub moment_text : (alerts : List AircraftAlert) (advice : Advice) (rescues : Rescues) → AreAircraftAlerts s p.own (aircraft_of p) (length (aircraft_of p)) alerts
       → IsAdvice (HasLevelOn board) s p.own advice → AreRescues s p advice rescues → IsMomentText s p (written s p board alerts advice rescues)
   unfolding written alerts_text bands_texts advice_text rescues_text
-  moment_text alerts advice rescues w a r = (
-    flat_map aircraft_text (zip (aircraft_of p) alerts),
-    bands_text s board,
-    (λ kind. (sides_of advice kind).lower),
-    (λ kind. (sides_of advice kind).upper),
-    (λ kind. rescue_text kind (rescue_of rescues kind)),
-    alerts_are s p (aircraft_of p) alerts w.many w.each,
-    band_lines,
-    answers,
-    recoveries,
-    refl,
-  )
+  moment_text alerts advice rescues w a r = record {
+    alerts = flat_map aircraft_text (zip (aircraft_of p) alerts);
+    bands = bands_text s board;
+    lower = λ kind. (sides_of advice kind).lower;
+    upper = λ kind. (sides_of advice kind).upper;
+    recoveries = λ kind. rescue_text kind (rescue_of rescues kind);
+    alerts_are = alert_lines_are s p (aircraft_of p) alerts w.many w.each;
+    bands_are = band_lines;
+    answers_are = answers;
+    recoveries_are = recoveries;
+    text_is = refl;
+  }
     where
       answers : (kind : Kind) → AreAnswers s p kind (sides_of advice kind).lower (sides_of advice kind).upper
       answers Track = answers_are Track advice.track a.track

@@ -6,7 +6,7 @@ abbrev pub longest_line : ℕ
 longest_line = 64
 
 -- the first line, two of each of 64 aircraft, one of each of 1896 values, since a kind has no more bands than values, two of each of
--- four kinds, of which one is not written yet, and the last line
+-- four kinds, its answers and its recovery, and the last line
 abbrev pub most_lines : ℕ
 most_lines = 1 + 2 * 64 + 1896 + 2 * 4 + 1
 

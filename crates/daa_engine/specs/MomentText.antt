@@ -77,12 +77,15 @@ module _ (settings : Settings) (picture : Picture) where
 
   -- the text of the moment: its first line, those of the aircraft in the order of the input, the bands of each kind, the
   -- answers of each kind, the recoveries of the kinds whose two answers are nothing, and its last line
-  abbrev pub IsMomentText : Text → Type 0
-  IsMomentText text =
-      (alerts : Text) × (bands : Kind → Text) × (lower : Kind → Resolution) × (upper : Kind → Resolution) × (recoveries : Kind → Text)
-      × AreAlertLines (aircraft_of picture) alerts
-      × ((kind : Kind) → AreBandLines kind (bands kind))
-      × ((kind : Kind) → AreAnswers kind (lower kind) (upper kind))
-      × ((kind : Kind) → IsRecoveryText kind (lower kind) (upper kind) (recoveries kind))
-      × (text ≡ moment_line picture.time
-      ++ (alerts ++ (of_each bands ++ (of_each (λ kind. resolve_line kind (lower kind) (upper kind)) ++ (of_each recoveries ++ done_line picture.time)))))
+  pub record IsMomentText (text : Text) : Type 0 where
+    pub alerts : Text
+    pub bands : Kind → Text
+    pub lower : Kind → Resolution
+    pub upper : Kind → Resolution
+    pub recoveries : Kind → Text
+    pub alerts_are : AreAlertLines (aircraft_of picture) alerts
+    pub bands_are : (kind : Kind) → AreBandLines kind (bands kind)
+    pub answers_are : (kind : Kind) → AreAnswers kind (lower kind) (upper kind)
+    pub recoveries_are : (kind : Kind) → IsRecoveryText kind (lower kind) (upper kind) (recoveries kind)
+    pub text_is : text ≡ moment_line picture.time
+        ++ (alerts ++ (of_each bands ++ (of_each (λ kind. resolve_line kind (lower kind) (upper kind)) ++ (of_each recoveries ++ done_line picture.time))))

@@ -33,10 +33,10 @@ module _ (s : Settings) (p : Picture) where
       let more = told ts rest others in (alert.level ∷ more.0, (is_alert.greatest, more.1))
 
   some_alerts : IsAccepted s → IsPictureInRange p → (levels : List ℕ) × HasAlerts s p levels
-  some_alerts ok in' = let one = one_text s p ok in' in told (aircraft_of p) one.is.0 one.is.5
+  some_alerts ok in' = let one = one_text s p ok in' in told (aircraft_of p) one.is.alerts one.is.alerts_are
 
   some_shown : IsAccepted s → IsPictureInRange p → (kind : Kind) → (levels : List ℕ) × HasShown s p kind levels
-  some_shown ok in' kind = let bands = ((one_text s p ok in').is.6 kind).1 in (bands.levels, bands.shown)
+  some_shown ok in' kind = let bands = ((one_text s p ok in').is.bands_are kind).1 in (bands.levels, bands.shown)
 
   zip_once : (ts : List Traffic) (a b : List ℕ) → AllZip (IsAlertLevel s p.own) ts a → AllZip (IsAlertLevel s p.own) ts b → a ≡ b
   zip_once [] [] [] h k = refl
