@@ -1,5 +1,5 @@
 -- How long the text of a moment can be.
-use Rattle.std.proofs.Common.{◌≡◌, ◌<◌, ◌≤◌, ◌+◌, ◌*◌, ◌^◌, ◌++◌, ◌∙◌, ◌&&◌, ◌⊎◌, ℕ, zero, suc, ℤ, pos, negsuc, ◌≤ℤ◌, Bool, true, List, [], ◌∷◌, length, Option, Some, None, option_map, refl, sym, ap, subst, arith, length-append, slice_get}
+use Rattle.std.proofs.Common.{◌≡◌, ◌<◌, ◌≤◌, ◌+◌, ◌*◌, ◌^◌, ◌++◌, ◌∙◌, ◌&&◌, ◌⊎◌, ℕ, zero, suc, ℤ, pos, negsuc, ◌≤ℤ◌, Bool, true, false, List, [], ◌∷◌, length, Option, Some, None, option_map, refl, sym, ap, subst, arith, length-append, slice_get}
 use Rattle.std.specs.Prelude.{codes, decimal, slice_index, MatchOption}
 use Rattle.std.specs.Option.{unwrap_or}
 use Rattle.daa_legs.specs.Alerts.{IsFirstLeg}
@@ -175,19 +175,19 @@ resolve_short kind lower upper l u =
     )
 
 -- after how many seconds, and a value
-record IsFoundShort (after : ℕ) (value : ℤ) : Type 0 where
-  soon : after < 2 ^ 32
-  value : IsValue value
+record IsFoundShort (found : ℕ × ℤ) : Type 0 where
+  soon : found.0 < 2 ^ 32
+  fits : IsValue found.1
 
-found_short : (found : Option (ℕ × ℤ)) → ((after : ℕ) (value : ℤ) → found ≡ Some (after, value) → IsFoundShort after value) → length (found_text found) ≤ 40
+found_short : (found : Option (ℕ × ℤ)) → ((pair : ℕ × ℤ) → found ≡ Some pair → IsFoundShort pair) → length (found_text found) ≤ 40
 found_short None h = omega arith
-found_short (Some (after, value)) h =
-    let f = h after value refl in
-    let n : length (number_field after) ≤ 21 = joined (codes " ") (decimal after) 1 20 (omega arith) (few_digits after f.soon) in
-    let v : length (codes " " ++ signed_decimal value) ≤ 13 = joined (codes " ") (signed_decimal value) 1 12 (omega arith) (few_signed value f.value) in
-    omega (arith, joined (number_field after) (codes " " ++ signed_decimal value) 21 13 n v)
+found_short (Some pair) h =
+    let f = h pair refl in
+    let n : length (number_field pair.0) ≤ 21 = joined (codes " ") (decimal pair.0) 1 20 (omega arith) (few_digits pair.0 f.soon) in
+    let v : length (codes " " ++ signed_decimal pair.1) ≤ 13 = joined (codes " ") (signed_decimal pair.1) 1 12 (omega arith) (few_signed pair.1 f.fits) in
+    omega (arith, joined (number_field pair.0) (codes " " ++ signed_decimal pair.1) 21 13 n v)
 
-recover_short : (kind : Kind) (found : Option (ℕ × ℤ)) → ((after : ℕ) (value : ℤ) → found ≡ Some (after, value) → IsFoundShort after value)
+recover_short : (kind : Kind) (found : Option (ℕ × ℤ)) → ((pair : ℕ × ℤ) → found ≡ Some pair → IsFoundShort pair)
     → length (recover_line kind found) ≤ 64
 unfolding recover_line
 recover_short kind found h =
@@ -310,17 +310,15 @@ module _ (s : Settings) (p : Picture) (ok : IsAccepted s) where
   answers_short : (kind : Kind) (lower upper : Resolution) → AreAnswers s p kind lower upper → length (resolve_line kind lower upper) ≤ 64
   answers_short kind lower upper h = resolve_short kind lower upper (answer_in kind Lower lower h.lower_is) (answer_in kind Upper upper h.upper_is)
 
-  recovery_in : (kind : Kind) (found : Option Recovery) → IsRecovery s p kind found → (after : ℕ) (value : ℤ) → option_map told_of found ≡ Some (after, value) → IsFoundShort after value
-  recovery_in kind None is after value e = absurd (cc e)
-  recovery_in kind (Some r) is after value e =
+  recovery_in : (kind : Kind) (found : Option Recovery) → IsRecovery s p kind found → (pair : ℕ × ℤ) → option_map told_of found ≡ Some pair → IsFoundShort pair
+  recovery_in kind None is pair e = absurd (cc e)
+  recovery_in kind (Some r) is pair e =
       let least = is.found in
       let a = is.ahead in
       let few = (ok.level a.number a.level a.closes.there).lookahead_most in
       let soon : r.after < 2 ^ 32 = let b = least.before in let e' = a.reached in omega arith in
-      record {
-        soon = subst (λ (n : ℕ). n < 2 ^ 32) (cc e) soon;
-        value = subst IsValue (cc e) (value_in kind least.place r.value least.recovers.there);
-      }
+      let short : IsFoundShort (told_of r) = record { soon = soon; fits = value_in kind least.place r.value least.recovers.there } in
+      subst IsFoundShort (ap (λ (o : Option (ℕ × ℤ)). unwrap_or o pair) e) short
 
   recovery_line_short : (kind : Kind) (text : Text) → IsRecoveryLine s p kind text → length text ≤ 64
   recovery_line_short kind text (found, is, e) = omega (arith, ap length e, recover_short kind (option_map told_of found) (recovery_in kind found is))
