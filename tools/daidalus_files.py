@@ -445,11 +445,12 @@ def read_report(path):
     if not text.strip():
         raise Problem(f"{name}: no report: it is empty", 4)
     report, at = Report(), None
-    for number, line in enumerate(text.decode("latin-1").split("\n"), 1):
-        if line == "" and number > text.count(b"\n"):
-            break
+    *lines, rest = text.decode("latin-1").split("\n")
+    for number, line in enumerate(lines, 1):
         at = take_report_line(report, at, line, f"{name}: line {number}")
-    report.whole = at is None
+    if not lines:
+        raise Problem(f"{name}: no report: it has no whole line", 4)
+    report.whole = at is None and not rest
     return report
 
 
@@ -487,7 +488,10 @@ def fill(at, word, values, where):
         first = None if values[2] == "-" else int(values[2])
         at.alerts[values[0]] = at.alerts[values[0]]._replace(level=int(values[1]), first=first)
     elif word == "band":
-        at.bands[values[0]].append(Band(*map(int, values[1:])))
+        band, before = Band(*map(int, values[1:])), at.bands[values[0]]
+        if band.first > band.last or before and band.first <= before[-1].last:
+            raise Problem(f"{where} does not rise: {' '.join(map(str, band[:2]))}", 4)
+        before.append(band)
     elif word == "resolve":
         at.answers[values[0]] = answer_of(values[1]), answer_of(values[2])
     else:
