@@ -1,0 +1,145 @@
+"""tools/check: its words on worked inputs, and its codes against the program's on random and hostile ones."""
+import unittest
+
+from common import CONFIG, TOP, ToolTest, module, replayed
+from daidalus_files import Moment, Reader, examine_config
+from test_toml import ONLY_1_1, mutated
+
+PLAIN = """resolve = 1
+turn_rate = 3
+track_step = 90
+gs = { min = 3600, max = 3600, step = 1, rate = 10 }
+vs = { min = 0, max = 0, step = 1, rate = 100 }
+alt = { min = 1000, max = 1000, step = 1, rate = 1000 }
+level = [ { dthr = 660, zthr = 450, tthr = 35, tcoa = 0, lookahead = 10, alert = 10 } ]
+"""
+# An edit of that text, and the faults that it has.
+EDITS = (
+    (("dthr = 660", "dthr = 0.66"), [(5, "level 1, dthr = 0.66 is no whole number (0.001 NM)")]),
+    (("dthr = 660", "dthr = 0"), [(6, "level 1, dthr = 0 is outside 1 to 10000 (0.001 NM)")]),
+    (("turn_rate", "turnrate"), [(3, "turnrate is no key; known are resolve, turn_rate, track_step, gs, vs, alt, level, recovery"),
+                                 (4, "turn_rate is missing")]),
+    (("rate = 10 }", "rate = true }"), [(5, "gs.rate = true is no whole number (0.1 kt per second)")]),
+    (("track_step = 90", "track_step = 7"), [(6, "track_step = 7 does not divide 360")]),
+    (("track_step = 90", "track_step = 120"), [(6, "track_step = 120 is outside 1 to 90 (degree, a divisor of 360)")]),
+    (("resolve = 1", "resolve = 2"), [(7, "resolve = 2 is above the number of levels, 1")]),
+    (("resolve = 1", "resolve = 5"), [(6, "resolve = 5 is outside 1 to 4 (a level)"), (7, "resolve = 5 is above the number of levels, 1")]),
+    (("alt = { min = 1000, max = 1000", "alt = { min = 0, max = 512"), [(8, "alt has 513 candidates, and 512 are the most")]),
+    (("alt = { min = 1000, max = 1000", "alt = { min = 0, max = 511"), []),
+    (("gs = { min = 3600", "gs = { min = 3601"), [(6, "gs.min = 3601 is above gs.max = 3600")]),
+    (("vs = { min = 0, max = 0, step = 1, rate = 100 }", "vs = 5"), [(5, "vs is 5 and no table")]),
+    (("level = [", "level = [ 1,"), [(5, "level 1 is 1 and no table")]),
+    (("level = [", "level = [] #"), [(7, "there are 0 levels, and 1 to 4 may be")]),
+    (("level = [", "level = 3 #"), [(5, "level is 3 and no list of tables")]),
+    (("resolve = 1", "resolve = 1\nrecovery = { hdist = 0 }"), [(4, "recovery.vdist is missing"),
+                                                             (6, "recovery.hdist = 0 is outside 1 to 10000 (0.001 NM)")]),
+    (("resolve = 1", "resolve ="), [(2, "line 1: no value where one is wanted")]),
+)
+# Lines that are refused, with their codes (the format's own list), in a moment that is open or not.
+LINES_ALONE = {b"#" + b"c" * 255: 1, b"Own": 2, b"own 1 2": 3, b"own 0 0 1000 360 x 0": 6, b"own 0 0 1000 x 360 0": 4,
+               b"traffic A_B-12345 0 0 0 0 0 0": 5, b"own +5 -0 0000001000 0 3600 0": 7, b"own 0 0 00000001000 0 3600 0": 4, b"end": 7,
+               b"format 3": 6, b"format": 3, b"format x": 4, b"traffic A 0 0 0 0 0 0 0": 3, b"#" + b"c" * 254: 0, b" \t": 0, b"": 0}
+
+
+class Configurations(ToolTest):
+    def test_tells_each_fault_by_its_key(self):
+        for (old, new), wanted in EDITS:
+            self.assertIn(old, PLAIN)
+            found = examine_config(PLAIN.replace(old, new).encode())[1]
+            self.assertEqual([(fault.code, fault.why) for fault in found], wanted)
+        self.assertEqual([fault.code for fault in examine_config(b"#" * 65537)[1]], [1])
+
+    def test_has_the_programs_code_on_these(self):
+        for (old, new), wanted in EDITS:
+            status, written = replayed(self.write("c.toml", PLAIN.replace(old, new)), b"")
+            code = f"config {wanted[0][0]}\n".encode() if wanted else b""
+            self.assertEqual((status, written), (3 if wanted else 0, code), new)
+
+    def test_takes_what_only_toml_1_1_takes(self):
+        """A table over several lines with a comma at its end is taken by the program and by check."""
+        text = PLAIN.replace("rate = 10 }", "rate = 10, # and no more\n }")
+        self.assertEqual(self.tool("check", self.write("c.toml", text)), (0, "", ""))
+        self.assertEqual(replayed(self.write("c.toml", text), b"")[0], 0)
+        for more in ONLY_1_1:
+            text = more if more.startswith("\ufeff") else PLAIN.replace("gs =", "_ =", 1) + "\n" + more
+            status, written = replayed(self.write("c.toml", text), b"")
+            self.assertEqual(written, f"config {examine_config(text.encode())[1][0].code}\n".encode(), text)
+            self.assertEqual(status, 3)
+
+    def test_has_the_programs_code_on_hostile_texts(self):
+        draw, codes = module("bench/soak").Draw(22), {}
+        for turn in range(1500):
+            text = draw.configuration(draw.settings())
+            text = draw.broken(text) if turn % 2 else mutated(draw, text).encode()
+            faults = examine_config(text)[1]
+            status, written = replayed(self.write("c.toml", text), b"")
+            wanted = f"config {faults[0].code}\n".encode() if faults else b""
+            self.assertEqual((status, written), (3 if faults else 0, wanted), (text, faults[:1]))
+            codes[written] = codes.get(written, 0) + 1
+        self.assertGreaterEqual(len(codes), 7, "some codes never came")
+
+
+class States(ToolTest):
+    def test_has_the_codes_of_the_format(self):
+        for line, code in LINES_ALONE.items():
+            self.assertEqual([event.code for event in Reader().read(line + b"\n")], [code] if code else [], line)
+
+    def test_tells_what_refused_lines_mean(self):
+        states = self.write("in.states", "moment 0\nown 0 0 10000 0 3600 0\ntraffic Intruder1 0 8000 10000 0 0 0\nend\n"
+                                         "moment 10\nown 0 1000 10000 360 3600 0\ntraffic AMBER 0 8000 10000 0 0 0\nend\n"
+                                         "moment 20\nown 0 2000 10000 0 3600 0\ntraffic AMBER 0 8000 10000 0 0 0\nend\n"
+                                         "moment 20\nend\nmoment 9\nown 0 0 0 0 0 0\nmoment 30\n")
+        status, out, said = self.tool("check", CONFIG, states)
+        self.assertEqual((status, said), (1, ""))
+        self.assertEqual(out.replace(states, "in.states").splitlines(), [
+            "in.states:3: refused 5: traffic, 'Intruder1' is no identifier (1 to 8 letters, digits, _ and -)",
+            "in.states:6: refused 6: own, TRK 360 is outside 0 to 359 (degree)",
+            "in.states:8: refused 13: moment 10 has no ownship",
+            "in.states:9: refused 8: moment 20 while moment 10 is open",
+            "in.states:11: refused 11: moment 10 has an aircraft AMBER already",
+            "in.states:14: refused 13: moment 20 has no ownship",
+            "in.states:15: refused 8: moment 9 while moment 20 is open",
+            "in.states:17: refused 8: moment 30 while moment 20 is open",
+            "in.states:18: refused 14: the input ends while moment 20 is open",
+            "in.states: moment 0 is reported without Intruder1",
+            "in.states: moment 10 mixes lines 5 to 12; moment 20 is not reported by itself",
+            "in.states: moment 10 keeps the first line of each aircraft that stands in it twice",
+            "in.states: moment 20 is not reported: no line `end` of it is taken"])
+
+    def test_tells_of_lines_outside_moments(self):
+        states = self.write("in.states", "moment 5\nown 0 0 0 0 0 0\nend\nmoment 5\nown 0 0 0 0 0 0\nend\n")
+        status, out, _ = self.tool("check", CONFIG, states)
+        self.assertEqual(status, 1)
+        self.assertEqual(out.replace(states, "in").splitlines(), [
+            "in:4: refused 9: moment 5 is not later than moment 5", "in:5: refused 7: own while no moment is open",
+            "in:6: refused 7: end while no moment is open", "in: lines 5 to 6 belong to no moment"])
+
+    def test_statuses_and_errors(self):
+        self.assertEqual(self.tool("check", CONFIG, f"{TOP}/examples/encounter.states"), (0, "", ""))
+        status, out, said = self.tool("check", f"{self.folder}/nothing")
+        self.assertEqual((status, out), (7, ""))
+        self.assert_one_line(said, "nothing: No such file")
+        self.assertEqual(self.tool("check", self.write("c.toml", ""))[0], 3)
+        self.assertEqual(self.tool("check")[0], 2)
+
+    def test_has_the_programs_codes_on_hostile_lines(self):
+        draw, codes = module("bench/soak").Draw(33), set()
+        config = self.write("c.toml", PLAIN)
+        for size in [3, 40, 200] * 60:
+            given = draw.stream(size)
+            events = Reader().read(given)
+            status, written = replayed(config, given)
+            refused = [f"refused {event.line} {event.code}" for event in events if not isinstance(event, Moment)]
+            said = written.decode().splitlines()
+            self.assertEqual([line for line in said if line.startswith("refused")], refused)
+            self.assertEqual([line for line in said if line.startswith("moment")],
+                             [f"moment {event.time}" for event in events if isinstance(event, Moment)])
+            self.assertEqual([line.split()[1] for line in said if line.startswith("now")],
+                             [aircraft.id for event in events if isinstance(event, Moment) for aircraft in event.traffic])
+            self.assertEqual(status, int(bool(refused)))
+            codes.update(line.split()[2] for line in refused)
+        self.assertEqual(codes, {str(code) for code in range(1, 15)})
+
+
+if __name__ == "__main__":
+    unittest.main()

@@ -1,0 +1,118 @@
+"""tools/from_daa: both forms of position and speed, units, names, late reports, what is left out, what rounding costs."""
+import math
+import os
+import re
+import unittest
+
+from common import CONFIG, TOP, ToolTest
+from daidalus_files import Moment, Own, Reader, Traffic
+
+HEAD = "NAME lat lon alt trk gs vs time\n[none] [deg] [deg] [ft] [deg] [knot] [fpm] [s]\n"
+PLANE = "NAME sx sy sz vx vy vz time\n[none] [nmi] [nmi] [ft] [knot] [knot] [fpm] [s]\n"
+
+
+class FromDaa(ToolTest):
+    def made(self, recording, *words):
+        """The moments of a recording, and what is said."""
+        status, out, said = self.tool("from_daa", self.write("in.daa", recording), *words)
+        self.assertEqual(status, 0, said)
+        events = Reader().read(out.encode())
+        self.assertTrue(all(isinstance(event, Moment) for event in events), out)
+        return events, said
+
+    def test_latitudes_and_longitudes(self):
+        """A minute of latitude is a mile, at 60 degrees north a minute of longitude half a one."""
+        moments, _ = self.made(HEAD + "own 60 10 5000 90 150 -100 3\nA 60.1 10 5200 180 140 0 3\nB 60 10.1 5000 270 100 20 3\n")
+        self.assertEqual([(moment.time, moment.own) for moment in moments], [(3, Own(0, 0, 5000, 90, 1500, -100))])
+        self.assertEqual(moments[0].traffic, [Traffic("A", 0, 6000, 5200, 0, -1400, 0), Traffic("B", 3000, 0, 5000, -1000, 0, 20)])
+
+    def test_longitudes_over_the_date_line(self):
+        moments, _ = self.made(HEAD + "own 0 179.99 0 0 100 0 0\nA 0 -179.99 0 0 100 0 0\n")
+        self.assertEqual(moments[0].traffic[0][1:3], (1200, 0))
+
+    def test_places_and_speeds_in_the_plane(self):
+        moments, _ = self.made(PLANE + "own 1 2 5000 0 150 0 0\nA 3 1.5 4000 -30.04 40 -500 0\n")
+        self.assertEqual(moments[0].own, Own(0, 0, 5000, 0, 1500, 0))
+        self.assertEqual(moments[0].traffic, [Traffic("A", 2000, -500, 4000, -300, 400, -500)])
+
+    def test_units_from_the_header_of_a_csv(self):
+        """1852 m are a mile, 100 m/s 194.38 knots, 304.8 m 1000 ft, 1 m/s 196.85 ft/min; the columns in another order."""
+        text = 'time [s],aircraft,sx [m],sy [m],sz [m],vx [m/s],vy [m/s],vz [m/s]\n0,"own",0,0,304.8,0,100,0\n0,A,1852,3704,609.6,0,-50,1\n'
+        moments, said = self.made(text)
+        self.assertEqual(moments[0].own, Own(0, 0, 1000, 0, 1944, 0))
+        self.assertEqual(moments[0].traffic, [Traffic("A", 1000, 2000, 2000, 0, -972, 197)])
+        self.assertEqual(self.made(text.replace(" [m/s]", "(m/s)"))[0][0].traffic, moments[0].traffic)
+
+    def test_units_in_a_line_of_their_own(self):
+        text = "id,x,y,z,vx,vy,vz,time\n,km,km,ft,kt,kt,fpm,min\nown,0,0,0,0,60,0,0\nA,1.852,0,0,0,0,0,0\nown,0,0,0,0,60,0,1\nA,0,0,0,0,0,0,1\n"
+        moments, _ = self.made(text)
+        self.assertEqual([moment.time for moment in moments], [0, 60])
+        self.assertEqual(moments[0].traffic[0].x, 1000)
+
+    def test_turns_the_plane_by_the_fraction_of_the_track(self):
+        """At 359.6 degrees the track becomes 0, and what was straight ahead stays straight ahead."""
+        angle = math.radians(359.6)
+        moments, said = self.made(PLANE + f"own 0 0 0 {150 * math.sin(angle)} {150 * math.cos(angle)} 0 0\n"
+                                          f"A {5 * math.sin(angle)} {5 * math.cos(angle)} 0 {-90 * math.sin(angle)} {-90 * math.cos(angle)} 0 0\n")
+        self.assertEqual(moments[0].own, Own(0, 0, 0, 0, 1500, 0))
+        self.assertEqual(moments[0].traffic, [Traffic("A", 0, 5000, 0, 0, -900, 0)])
+        self.assertIn("at most: place 0.0000 NM", said)
+
+    def test_late_reports_have_an_age(self):
+        """A report 2.5 s old flies half a second on, and is then 2 s old: 360 knots are 0.1 NM a second."""
+        moments, _ = self.made(PLANE + "own 0 0 0 0 100 0 0\nA 1 0 1000 0 360 -600 7.5\nown 0 0 0 0 100 0 10\n")
+        self.assertEqual([moment.traffic for moment in moments], [[], [Traffic("A", 1000, 50, 995, 0, 3600, -600, 2)]])
+
+    def test_an_old_report_is_left_out(self):
+        recording = PLANE + "own 0 0 0 0 100 0 0\nA 1 0 0 0 0 0 0\nown 0 0 0 0 100 0 30\n"
+        moments, said = self.made(recording)
+        self.assertEqual([len(moment.traffic) for moment in moments], [1, 0])
+        self.assertIn("left out: 1 aircraft whose report is older than 10 s", said)
+        moments, _ = self.made(recording, "--oldest", "60")
+        self.assertEqual(moments[1].traffic[0].age, 30)
+
+    def test_one_moment_a_second(self):
+        moments, said = self.made(PLANE + "".join(f"own 0 0 0 0 100 0 {tenth / 10}\n" for tenth in range(25)))
+        self.assertEqual([moment.time for moment in moments], [0, 1, 2])
+        self.assertIn("left out: 22 moments in a second that has one already", said)
+
+    def test_names(self):
+        moments, said = self.made(PLANE + "own 0 0 0 0 100 0 0\nIntruder1 1 0 0 0 0 0 0\nIntruder2 2 0 0 0 0 0 0\nüü 3 0 0 0 0 0 0\n")
+        self.assertEqual([aircraft.id for aircraft in moments[0].traffic], ["Intrude1", "Intrude2", "A0"])
+        self.assertIn("Intruder1 is written Intrude1", said)
+
+    def test_the_ownship_that_is_named(self):
+        recording = PLANE + "A 1 0 0 0 50 0 0\nown 0 0 0 0 100 0 0\n"
+        self.assertEqual(self.made(recording)[0][0].traffic[0].id, "own")
+        moments, _ = self.made(recording, "--own", "own")
+        self.assertEqual((moments[0].own.gs, moments[0].traffic[0].id), (1000, "A"))
+
+    def test_what_is_out_of_range_is_left_out(self):
+        moments, said = self.made(PLANE + "own 0 0 0 0 100 0 0\nA 201 0 0 0 0 0 0\nB 1 0 61000 0 0 0 0\nC 199 0 0 0 0 0 0\n")
+        self.assertEqual([aircraft.id for aircraft in moments[0].traffic], ["C"])
+        self.assertIn("left out: 2 aircraft out of range", said)
+
+    def test_the_example(self):
+        status, out, said = self.tool("from_daa", os.path.join(TOP, "examples", "recording.daa"))
+        self.assertEqual(status, 0)
+        self.assertEqual(self.tool("check", CONFIG, self.write("in.states", out))[0], 0)
+        self.assertEqual(out.count("moment"), 13)
+        lost = dict(zip(("place", "height", "speed", "climb", "closest"), map(float, re.findall(r" ([0-9.]+) (?:NM|ft|knots|ft/min)\b", said))))
+        self.assertTrue(0 < lost["place"] <= 0.0015 and 0 < lost["height"] <= 1 and 0 < lost["speed"] <= 0.3, said)
+        self.assertLess(lost["closest"], 0.01)
+
+    def test_says_what_is_no_recording(self):
+        for text, part in (("", "no header line"), ("NAME time\n", "the header has no column for alt, vs, a place"),
+                           (HEAD, "no report of an aircraft"), (HEAD + "own 60 10 x 90 150 0 3\n", "line 3: no number for alt"),
+                           (HEAD.replace("[ft]", "[furlong]") + "own 60 10 1 90 150 0 3\n", "furlong is no unit of alt"),
+                           (HEAD + "own 60 10\n", "line 3: no number for trk"), (HEAD + "own 60 10 1 90 nan 0 3\n", "line 3: no number for gs"),
+                           (HEAD.replace("NAME lat", "NAME lat lat"), "the header names lat twice")):
+            status, out, said = self.tool("from_daa", self.write("in.daa", text))
+            self.assertEqual((status, out), (3, ""), text)
+            self.assert_one_line(said, part)
+        self.assertEqual(self.tool("from_daa", "nothing")[0], 7)
+        self.assertEqual(self.tool("from_daa", self.write("in.daa", HEAD + "own 60 10 1 90 150 0 3\n"), "--own", "B")[0], 3)
+
+
+if __name__ == "__main__":
+    unittest.main()

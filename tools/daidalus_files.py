@@ -1,0 +1,504 @@
+"""What the tools share: a configuration, state lines and a report, each read once, as docs/FORMATS.md tells them."""
+import os
+import re
+import sys
+from typing import NamedTuple
+
+from toml_1_1 import Scalar, TomlFault, read_toml
+
+KINDS = ("track", "gs", "vs", "alt")
+SIDES = {"track": ("left", "right"), "gs": ("down", "up"), "vs": ("down", "up"), "alt": ("down", "up")}
+UNITS = {"track": "degree", "gs": "0.1 kt", "vs": "ft/min", "alt": "ft"}
+FULL_TURN = 360
+
+
+class Problem(Exception):
+    """What a tool can't do, in one line, and the status it ends with."""
+
+    def __init__(self, message, status):
+        super().__init__(message)
+        self.status = status
+
+
+def run_tool(name, main):
+    """Runs a tool's main and ends the process; a problem is told in one line on standard error."""
+    try:
+        status = main()
+        sys.stdout.flush()
+    except Problem as problem:
+        print(f"{name}: {problem}", file=sys.stderr)
+        status = problem.status
+    except BrokenPipeError:  # whoever read the output has gone
+        os.dup2(os.open(os.devnull, os.O_WRONLY), sys.stdout.fileno())
+        status = 5
+    sys.exit(status)
+
+
+def read_bytes(path):
+    """The bytes of a file, or of standard input where the name is `-`."""
+    try:
+        if path == "-":
+            return sys.stdin.buffer.read()
+        with open(path, "rb") as file:
+            return file.read()
+    except OSError as fault:
+        raise Problem(f"{path}: {fault.strerror}", 7) from None
+
+
+# The configuration.
+
+LONGEST_TEXT, MOST_LEVELS, MOST_VALUES = 65536, 4, 512
+
+
+class Place(NamedTuple):
+    """A number's place: the least and the greatest that it may be, and its unit."""
+
+    low: int
+    high: int
+    unit: str
+
+
+TOP = {"resolve": Place(1, 4, "a level"), "turn_rate": Place(1, 30, "degree per second"),
+       "track_step": Place(1, 90, "degree, a divisor of 360")}
+GRIDS = {
+    "gs": {"min": Place(0, 10000, "0.1 kt"), "max": Place(0, 10000, "0.1 kt"),
+           "step": Place(1, 10000, "0.1 kt"), "rate": Place(1, 10000, "0.1 kt per second")},
+    "vs": {"min": Place(-10000, 10000, "ft/min"), "max": Place(-10000, 10000, "ft/min"),
+           "step": Place(1, 20000, "ft/min"), "rate": Place(1, 10000, "ft/min per second")},
+    "alt": {"min": Place(-2000, 60000, "ft"), "max": Place(-2000, 60000, "ft"),
+            "step": Place(1, 62000, "ft"), "rate": Place(1, 10000, "ft/min")}}
+LEVEL = {"dthr": Place(1, 10000, "0.001 NM"), "zthr": Place(0, 10000, "ft"), "tthr": Place(0, 120, "s"),
+         "tcoa": Place(0, 120, "s"), "lookahead": Place(1, 180, "s"), "alert": Place(1, 180, "s"),
+         "tcpa": Place(0, 1, "0 or 1")}
+RECOVERY = {"hdist": Place(1, 10000, "0.001 NM"), "vdist": Place(0, 10000, "ft")}
+
+
+class Fault(NamedTuple):
+    """Why a configuration is refused: the code that the program would give if no lower one applied, and the cause."""
+
+    code: int
+    why: str
+
+
+class Level(NamedTuple):
+    dthr: int
+    zthr: int
+    tthr: int
+    tcoa: int
+    lookahead: int
+    alert: int
+    tcpa: int
+
+
+class Config(NamedTuple):
+    """An accepted configuration, in the numbers of its text; `values` has each kind's rising list of candidates."""
+
+    resolve: int
+    turn_rate: int
+    rates: dict
+    values: dict
+    levels: list
+    recovery: tuple | None
+
+
+def shown(value):
+    """A value of a document, for a message."""
+    if isinstance(value, dict):
+        return "a table"
+    if isinstance(value, list):
+        return "a list"
+    if isinstance(value, str):
+        return repr(value if len(value) <= 40 else value[:40] + "..")
+    return value.text if isinstance(value, Scalar) else str(value)
+
+
+def examine_config(text):
+    """The document of a text, or None where there is none, and all its faults; the program answers the least code."""
+    if len(text) > LONGEST_TEXT:
+        return None, [Fault(1, f"{len(text)} bytes are more than {LONGEST_TEXT}")]
+    try:
+        document = read_toml(text)
+    except TomlFault as fault:
+        return None, [Fault(2, str(fault))]
+    return document, sorted(faults_of_document(document), key=lambda fault: fault.code)
+
+
+def faults_of_document(document):
+    tops = {**TOP, **dict.fromkeys((*GRIDS, "level", "recovery"))}
+    yield from faults_of_keys("", document, tops, ("recovery",))
+    yield from faults_of_numbers("", document, TOP)
+    for name, places in (*GRIDS.items(), ("recovery", RECOVERY)):
+        if name not in document:
+            continue
+        table = document[name]
+        if not isinstance(table, dict):
+            yield Fault(5, f"{name} is {shown(table)} and no table")
+            continue
+        yield from faults_of_keys(f"{name}.", table, places)
+        yield from faults_of_numbers(f"{name}.", table, places)
+    yield from faults_of_steps(document)
+    yield from faults_of_levels(document)
+
+
+def faults_of_keys(where, table, places, optional=()):
+    for key in table:
+        if key not in places:
+            yield Fault(3, f"{where}{shown_key(key)} is no key; known are {', '.join(places)}")
+    for key in places:
+        if key not in table and key not in optional:
+            yield Fault(4, f"{where}{key} is missing")
+
+
+def shown_key(key):
+    key = key if len(key) <= 40 else key[:40] + ".."
+    return key if re.fullmatch(r"[A-Za-z0-9_-]+(\.\.)?", key) else repr(key)
+
+
+def faults_of_numbers(where, table, places):
+    for key, place in places.items():
+        if key not in table:
+            continue
+        value = table[key]
+        if type(value) is not int:
+            yield Fault(5, f"{where}{key} = {shown(value)} is no whole number ({place.unit})")
+        elif not place.low <= value <= place.high:
+            yield Fault(6, f"{where}{key} = {value} is outside {place.low} to {place.high} ({place.unit})")
+
+
+def faults_of_steps(document):
+    """What is wrong with the lists of candidates, where each number is in its range."""
+    step = document.get("track_step")
+    if type(step) is int and 1 <= step <= TOP["track_step"].high and FULL_TURN % step:
+        yield Fault(6, f"track_step = {step} does not divide 360")
+    for name in GRIDS:
+        table = document.get(name)
+        numbers = [table.get(key) for key in ("min", "max", "step")] if isinstance(table, dict) else [None]
+        if any(type(number) is not int for number in numbers) or numbers[2] < 1:
+            continue
+        low, high, step = numbers
+        if low > high:
+            yield Fault(6, f"{name}.min = {low} is above {name}.max = {high}")
+        elif (high - low) // step + 1 > MOST_VALUES:
+            yield Fault(8, f"{name} has {(high - low) // step + 1} candidates, and {MOST_VALUES} are the most")
+
+
+def faults_of_levels(document):
+    levels, resolve = document.get("level", ()), document.get("resolve")
+    if isinstance(levels, tuple):
+        return
+    if not isinstance(levels, list):
+        yield Fault(5, f"level is {shown(levels)} and no list of tables")
+        return
+    for number, level in enumerate(levels, 1):
+        if not isinstance(level, dict):
+            yield Fault(5, f"level {number} is {shown(level)} and no table")
+            continue
+        yield from faults_of_keys(f"level {number}, ", level, LEVEL, ("tcpa",))
+        yield from faults_of_numbers(f"level {number}, ", level, LEVEL)
+    if not 1 <= len(levels) <= MOST_LEVELS:
+        yield Fault(7, f"there are {len(levels)} levels, and 1 to {MOST_LEVELS} may be")
+    elif type(resolve) is int and resolve > len(levels):
+        yield Fault(7, f"resolve = {resolve} is above the number of levels, {len(levels)}")
+
+
+def config_of(document):
+    """The configuration of a document that has no fault."""
+    values = {"track": list(range(0, FULL_TURN, document["track_step"]))}
+    for name in GRIDS:
+        values[name] = list(range(document[name]["min"], document[name]["max"] + 1, document[name]["step"]))
+    recovery = document.get("recovery")
+    return Config(document["resolve"], document["turn_rate"], {name: document[name]["rate"] for name in GRIDS}, values,
+                  [Level(**{"tcpa": 0, **level}) for level in document["level"]],
+                  (recovery["hdist"], recovery["vdist"]) if recovery is not None else None)
+
+
+def read_config(path):
+    """The configuration in a file; one that is refused is a problem."""
+    document, faults = examine_config(read_bytes(path))
+    if faults:
+        raise Problem(f"{path}: config {faults[0].code}: {faults[0].why}", 3)
+    return config_of(document)
+
+
+# State lines.
+
+class Field(NamedTuple):
+    """A field of a state line: its name, the least and the greatest number, its unit."""
+
+    name: str
+    low: int
+    high: int
+    unit: str
+
+
+X, Y = Field("X", -200000, 200000, "0.001 NM"), Field("Y", -200000, 200000, "0.001 NM")
+ALT, TRK = Field("ALT", -2000, 60000, "ft"), Field("TRK", 0, 359, "degree")
+GS, VS = Field("GS", 0, 10000, "0.1 kt"), Field("VS", -10000, 10000, "ft/min")
+VX, VY = Field("VX", -10000, 10000, "0.1 kt"), Field("VY", -10000, 10000, "0.1 kt")
+ID, AGE = Field("ID", 0, 0, ""), Field("AGE", 0, 60, "s")
+FIELDS = {"moment": [Field("T", 0, 2**32 - 1, "s")], "own": [X, Y, ALT, TRK, GS, VS],
+          "traffic": [ID, X, Y, ALT, VX, VY, VS], "end": [], "format": [Field("N", 1, 2, "")]}
+MOST_BYTES, MOST_AIRCRAFT = 255, 64
+
+
+class Own(NamedTuple):
+    x: int
+    y: int
+    alt: int
+    trk: int
+    gs: int
+    vs: int
+
+
+class Traffic(NamedTuple):
+    id: str
+    x: int
+    y: int
+    alt: int
+    vx: int
+    vy: int
+    vs: int
+    age: int = 0
+
+
+class Refusal(NamedTuple):
+    """A refused line: its number, the code, the cause, and what it names (the word; the aircraft; the time)."""
+
+    line: int
+    code: int
+    why: str
+    word: str = ""
+    named: str = ""
+
+
+class Moment:
+    """A moment of the input: its ownship, its aircraft, the lines it stands on and those that were refused in it."""
+
+    def __init__(self, time, line):
+        self.time, self.first_line, self.last_line = time, line, line
+        self.own, self.traffic, self.refused = None, [], []
+
+
+class Reader:
+    """Takes state lines; `events` are the refusals and the ended moments, in their order."""
+
+    def __init__(self):
+        self.events, self.lines, self.form = [], 0, 1
+        self.open, self.last = None, None
+
+    def read(self, text):
+        """All lines of a text of bytes, and its end."""
+        lines = text.split(b"\n")
+        for line in lines[:-1] + ([lines[-1]] if lines[-1] else []):
+            self.lines += 1
+            self.take(line)
+        if self.open:
+            self.refuse(14, f"the input ends while moment {self.open.time} is open", line=self.lines + 1)
+        return self.events
+
+    def refuse(self, code, why, word="", named="", line=None):
+        refusal = Refusal(line or self.lines, code, why, word, named)
+        self.events.append(refusal)
+        if self.open:
+            self.open.refused.append(refusal)
+
+    def take(self, line):
+        if len(line) > MOST_BYTES:
+            self.refuse(1, f"more than {MOST_BYTES} bytes")
+            return
+        fields = [field for field in re.split(rb"[ \t]+", line.removesuffix(b"\r")) if field]
+        if not fields or fields[0].startswith(b"#"):
+            return
+        word, *values = (field.decode("latin-1") for field in fields)
+        named = values[0] if values and word in ("traffic", "moment") else ""
+        fault = self.fault_of_form(word, values) or self.step(word, values)
+        if fault:
+            self.refuse(*fault, word, named)
+
+    def fault_of_form(self, word, values):
+        """The code and the cause, where the line is wrong by itself."""
+        if word not in FIELDS:
+            return 2, f"{word!r} is none of the words {', '.join(FIELDS)}"
+        fields = FIELDS[word] + ([AGE] if word == "traffic" and self.form == 2 else [])
+        if len(values) != len(fields):
+            names = " ".join(field.name for field in fields)
+            return 3, f"{word} has {len(values)} fields after it and not {len(fields)}" + f" ({names})" * bool(names)
+        faults = (fault_of_field(word, field, value) for field, value in zip(fields, values))
+        return next((fault for fault in faults if fault), None)
+
+    def step(self, word, values):
+        """Takes a line that is right by itself; the code and the cause, where it is refused in its place."""
+        if word in ("moment", "format"):
+            return self.begin(word, int(values[0]))
+        if self.open is None:
+            return 7, f"{word} while no moment is open"
+        if word == "own":
+            if self.open.own:
+                return 10, f"moment {self.open.time} has an ownship already"
+            self.open.own = Own(*map(int, values))
+        elif word == "traffic":
+            return self.add(values)
+        else:
+            return self.end()
+        return None
+
+    def begin(self, word, number):
+        if self.open:
+            return 8, f"{word} {number} while moment {self.open.time} is open"
+        if word == "format":
+            self.form = number
+        elif self.last is not None and number <= self.last:
+            return 9, f"moment {number} is not later than moment {self.last}"
+        else:
+            self.open = Moment(number, self.lines)
+        return None
+
+    def add(self, values):
+        traffic = Traffic(values[0], *map(int, values[1:]))
+        if any(other.id == traffic.id for other in self.open.traffic):
+            return 11, f"moment {self.open.time} has an aircraft {traffic.id} already"
+        if len(self.open.traffic) == MOST_AIRCRAFT:
+            return 12, f"moment {self.open.time} has {MOST_AIRCRAFT} aircraft already"
+        self.open.traffic.append(traffic)
+        return None
+
+    def end(self):
+        if not self.open.own:
+            return 13, f"moment {self.open.time} has no ownship"
+        self.open.last_line = self.lines
+        self.events.append(self.open)
+        self.last, self.open = self.open.time, None
+        return None
+
+
+def fault_of_field(word, field, value):
+    if field is ID:
+        right = re.fullmatch(r"[A-Za-z0-9_-]{1,8}", value)
+        return None if right else (5, f"{word}, {value!r} is no identifier (1 to 8 letters, digits, _ and -)")
+    if not re.fullmatch(r"[+-]?[0-9]{1,10}", value):
+        return 4, f"{word}, {field.name} {value!r} is no whole number of 1 to 10 digits"
+    if not field.low <= int(value) <= field.high:
+        return 6, f"{word}, {field.name} {int(value)} is outside {field.low} to {field.high}" + f" ({field.unit})" * bool(field.unit)
+    return None
+
+
+def read_moments(path):
+    """The ended moments of a file of state lines."""
+    return [event for event in Reader().read(read_bytes(path)) if isinstance(event, Moment)]
+
+
+def own_line(own):
+    return "own {} {} {} {} {} {}".format(*own)
+
+
+def traffic_line(traffic, form):
+    return ("traffic {} {} {} {} {} {} {}" + " {}" * (form == 2)).format(*traffic)
+
+
+# A report.
+
+class Alert(NamedTuple):
+    """What is said of an aircraft: its level now, its alert level and the first second of it, or None."""
+
+    now: int
+    level: int
+    first: int | None
+
+
+class Band(NamedTuple):
+    first: int
+    last: int
+    level: int
+
+
+class MomentReport:
+    """The report of a moment; `recover` has (seconds, value) or None by kind, where there is such a line."""
+
+    def __init__(self, time):
+        self.time, self.alerts, self.recover = time, {}, {}
+        self.bands, self.answers = {kind: [] for kind in KINDS}, {}
+
+    def level_at(self, kind, value):
+        return next((band.level for band in self.bands[kind] if band.first <= value <= band.last), None)
+
+
+class Report:
+    """A report: its moments, its refused lines, each with the number of moments before it, and whether it is whole."""
+
+    def __init__(self):
+        self.moments, self.refused, self.whole = [], [], True
+
+
+NUMBER = r"(-?[0-9]+)"
+ANSWER = r"(keep|none|-?[0-9]+)"
+REPORT_LINES = {name: re.compile(form) for name, form in {
+    "refused": r"refused ([0-9]+) ([0-9]+)", "moment": r"moment ([0-9]+)", "now": r"now (\S+) ([0-4])",
+    "alert": r"alert (\S+) ([0-4]) (-|[0-9]+)", "band": rf"(track|gs|vs|alt) {NUMBER} {NUMBER} ([0-4])",
+    "resolve": rf"resolve (track|gs|vs|alt) (?:left|down) {ANSWER} (?:right|up) {ANSWER}",
+    "recover": rf"recover (track|gs|vs|alt) (?:(none)|([0-9]+) {NUMBER})", "done": r"done ([0-9]+)"}.items()}
+
+
+def read_report(path):
+    """The report in a file, or on standard input where the name is `-`."""
+    name = "standard input" if path == "-" else path
+    text = read_bytes(path)
+    if not text.strip():
+        raise Problem(f"{name}: no report: it is empty", 4)
+    report, at = Report(), None
+    *lines, rest = text.decode("latin-1").split("\n")
+    for number, line in enumerate(lines, 1):
+        at = take_report_line(report, at, line, f"{name}: line {number}")
+    if not lines:
+        raise Problem(f"{name}: no report: it has no whole line", 4)
+    report.whole = at is None and not rest
+    return report
+
+
+def take_report_line(report, at, line, where):
+    """Takes a line of a report; gives the moment that is then open, or None."""
+    word, found = next(((word, form.fullmatch(line)) for word, form in REPORT_LINES.items() if form.fullmatch(line)), ("", None))
+    if not found or (at is None) != (word in ("refused", "moment")):
+        raise Problem(f"{where} is no line of a report there: {line[:60]!r}", 4)
+    values = found.groups()
+    if word == "refused":
+        report.refused.append((int(values[0]), int(values[1]), len(report.moments)))
+    elif word == "moment":
+        return MomentReport(int(values[0]))
+    elif word == "done":
+        if int(values[0]) != at.time or set(at.answers) != set(KINDS):
+            raise Problem(f"{where} ends a moment that is not whole: {line!r}", 4)
+        report.moments.append(at)
+        return None
+    else:
+        fill(at, word, values, where)
+    return at
+
+
+def answer_of(word):
+    return word if word in ("keep", "none") else int(word)
+
+
+def fill(at, word, values, where):
+    """Puts what a line says into the report of its moment."""
+    if word == "now":
+        at.alerts[values[0]] = Alert(int(values[1]), 0, None)
+    elif word == "alert":
+        if values[0] not in at.alerts:
+            raise Problem(f"{where} is an alert of {values[0]}, of which no line `now` stands before it", 4)
+        first = None if values[2] == "-" else int(values[2])
+        at.alerts[values[0]] = at.alerts[values[0]]._replace(level=int(values[1]), first=first)
+    elif word == "band":
+        band, before = Band(*map(int, values[1:])), at.bands[values[0]]
+        if band.first > band.last or before and band.first <= before[-1].last:
+            raise Problem(f"{where} does not rise: {' '.join(map(str, band[:2]))}", 4)
+        before.append(band)
+    elif word == "resolve":
+        at.answers[values[0]] = answer_of(values[1]), answer_of(values[2])
+    else:
+        at.recover[values[0]] = None if values[1] else (int(values[2]), int(values[3]))
+
+
+def tell_if_cut(name, report):
+    """Says on standard error that a report ends too early, as one does whose run was ended by a fault."""
+    if not report.whole:
+        print(f"{name}: the report ends within a moment, which is left out", file=sys.stderr)
