@@ -3,6 +3,7 @@
 //! nothing. Nothing here takes memory.
 #![tactic(auto)]
 
+mod copy;
 mod fault;
 mod fields;
 mod id;

@@ -294,6 +294,30 @@ fn sixty_four_aircraft(rt: HostRuntime) -> Result<(), Fail> {
     Ok(())
 }
 
+#[test]
+fn a_copy_has_the_same_aircraft(rt: HostRuntime) -> Result<(), Fail> {
+    let mut moments = Moments::new();
+    for line in [
+        b"moment 7".as_slice(),
+        b"own 5 0 1000 0 3600 0".as_slice(),
+        b"traffic A 0 0 0 0 0 0".as_slice(),
+        b"traffic B 0 -7 1000 0 3600 -1".as_slice(),
+    ] {
+        assert_eq!(rt; code(&mut moments, line), 0, "at {line:?}");
+    }
+    let picture = take(&mut moments, b"end")
+        .ok()
+        .flatten()
+        .ok_or("no picture")?;
+    let copy = picture.copied();
+    assert_eq!(rt; copy.time, 7);
+    assert_eq!(rt; copy.own, OWN);
+    assert_eq!(rt; copy.traffic.len(), 2);
+    assert_eq!(rt; copy.traffic.as_slice()[0].id.bytes(), b"A".as_slice());
+    assert_eq!(rt; copy.traffic.as_slice()[1].vy, 3600);
+    Ok(())
+}
+
 fn may_be_sent<T: Send>(_value: &T) -> bool {
     true
 }
