@@ -1,5 +1,5 @@
 -- Where a candidate meets an aircraft: on the legs that it flies as another does, on the leg after them, or on the straight rest.
-use Rattle.std.proofs.Common.{◌≡◌, ◌↔◌, ◌⊎◌, inl, inr, ⊎_elim, ℕ, zero, suc, ◌+◌, ◌-◌, ◌<◌, ◌≤◌, refl, ap, sym, subst, ◌∙◌, arith}
+use Rattle.std.proofs.Common.{◌≡◌, ◌↔◌, ◌⊎◌, inl, inr, ⊎_elim, ℕ, zero, suc, ◌+◌, ◌<◌, ◌≤◌, refl, ap, sym, subst, arith}
 use Rattle.std.proofs.lemmas.Bool.{cases_lt, cases_eq}
 use Rattle.daa_fixed.specs.declared.Solid.{Solid}
 use Rattle.daa_fixed.specs.declared.Leg.{Leg}
@@ -18,7 +18,8 @@ use Rattle.daa_legs.specs.OwnLegs.{own_place, place_on, own_leg}
 use Rattle.daa_legs.specs.Relative.{relative_for}
 use Rattle.daa_legs.specs.Runs.{IsRunOf, MeetsBetween}
 use Rattle.daa_legs.specs.Meeting.{relative_leg, ViolatesOn, MeetsWithin}
-use Rattle.daa_legs.specs.Branch.{FliesAs, FliesOn}
+use Rattle.daa_legs.specs.declared.branch.Branch.{Branch}
+use Rattle.daa_legs.specs.Branch.{lead_of, velocity_there, FliesAs, FliesOn}
 
 sums : (f g : ℕ → Solid) (k : ℕ) → ((j : ℕ) → j < k → f j ≡ g j) → sum_below f k ≡ sum_below g k
 sums f g zero h = refl
@@ -33,10 +34,38 @@ module _ (own : Own) (rates : Rates) (candidate lead : Candidate) (n : ℕ) (ali
   pub leg_alike : (k : ℕ) → k < n → own_leg own rates candidate k ≡ own_leg own rates lead k
   leg_alike k h = λ i. record { place = place_alike k (omega (arith, h)) i; velocity = alike.same k h i }
 
+-- the parts of a branch that is known
+module _ (own : Own) (rates : Rates) (candidate known : Candidate) (b c : Branch) (e : candidate ≡ known) (is : b ≡ c) where
+  pub before_is : FliesAs own rates known (lead_of own known c.upper) c.leaves → FliesAs own rates candidate (lead_of own candidate b.upper) b.leaves
+  before_is h = subst (λ (x : Candidate). FliesAs own rates x (lead_of own x b.upper) b.leaves) (sym e) (subst (λ (y : Branch). FliesAs own rates known (lead_of own known y.upper) y.leaves) (sym is) h)
+
+  pub after_is : FliesOn own rates known c.settles → FliesOn own rates candidate b.settles
+  after_is h = subst (λ (x : Candidate). FliesOn own rates x b.settles) (sym e) (subst (λ (y : Branch). FliesOn own rates known y.settles) (sym is) h)
+
+pub near_is : (b c : Branch) → b ≡ c → c.leaves ≤ c.settles → c.settles ≤ c.leaves + 1 → (b.leaves ≤ b.settles) × (b.settles ≤ b.leaves + 1)
+near_is b c is h k = (subst (λ (y : Branch). y.leaves ≤ y.settles) (sym is) h, subst (λ (y : Branch). y.settles ≤ y.leaves + 1) (sym is) k)
+
 -- the straight rest, from any leg that is not before
 pub straight_run : (own : Own) (rates : Rates) (candidate : Candidate) (n secs : ℕ) → FliesOn own rates candidate n
-    → IsRunOf own rates candidate n (record { place = place_on own rates candidate n; velocity = velocity_on own rates candidate n; secs = secs })
-straight_run own rates candidate n secs on = record { begins = refl; same = λ j h. on.same (n + j) (omega arith) }
+    → IsRunOf own rates candidate n (record { place = place_on own rates candidate n; velocity = velocity_there own candidate; secs = secs })
+straight_run own rates candidate n secs on = record { begins = refl; same = λ j h. on.there (n + j) (omega arith) }
+
+-- leg n, or a later one
+pub from_next : (settings : Settings) (own : Own) (candidate : Candidate) (aircraft : Traffic) (volume : Volume) (n m : ℕ) → n < m
+    → MeetsBetween settings own candidate aircraft volume n m ↔ (ViolatesOn settings own candidate aircraft volume n ⊎ MeetsBetween settings own candidate aircraft volume (n + 1) m)
+from_next settings own candidate aircraft volume n m h = (
+  (λ e. ⊎_elim
+      (λ same. inl (subst (λ (k : ℕ). ViolatesOn settings own candidate aircraft volume k) same e.violates))
+      (λ other. inr (record { leg = e.leg; not_before = past e.leg e.not_before other; before = e.before; violates = e.violates }))
+      (cases_eq e.leg n)),
+  (λ o. ⊎_elim
+      (λ v. record { leg = n; not_before = omega arith; before = h; violates = v })
+      (λ r. record { leg = r.leg; not_before = omega (arith, r.not_before); before = r.before; violates = r.violates })
+      o),
+)
+  where
+    past : (k : ℕ) → n ≤ k → (k ≡ n → ⊥) → n + 1 ≤ k
+    past k h o = ⊎_elim (λ l. absurd (o (omega (arith, h, l)))) (λ l. l) (cases_lt k (n + 1))
 
 module _ (settings : Settings) (own : Own) (candidate lead : Candidate) (aircraft : Traffic) (volume : Volume) (n : ℕ) (alike : FliesAs own (rates_of settings) candidate lead n) where
   pub violates_alike : (k : ℕ) → k < n → ViolatesOn settings own candidate aircraft volume k ↔ ViolatesOn settings own lead aircraft volume k
@@ -48,30 +77,18 @@ module _ (settings : Settings) (own : Own) (candidate lead : Candidate) (aircraf
 
   -- where it meets the aircraft within m seconds
   pub record MeetsByBranch (m : ℕ) : Type 0 where
-    pub where_ : ((k : ℕ) × (k < n) × (k < m) × ViolatesOn settings own lead aircraft volume k) ⊎ (((n < m) × ViolatesOn settings own candidate aircraft volume n) ⊎ MeetsBetween settings own candidate aircraft volume (n + 1) m)
+    pub where_ : ((k : ℕ) × (k < n) × (k < m) × ViolatesOn settings own lead aircraft volume k) ⊎ MeetsBetween settings own candidate aircraft volume n m
 
   pub by_branch : (m : ℕ) → MeetsWithin settings own candidate aircraft volume m ↔ MeetsByBranch m
-  by_branch m = (there, back)
-    where
-      there : MeetsWithin settings own candidate aircraft volume m → MeetsByBranch m
-      there e = record {
-        where_ = ⊎_elim
-            (λ before. inl (e.leg, before, e.before, (violates_alike e.leg before).0 e.violates))
-            (λ late. inr (⊎_elim
-            (λ same. inl (subst (λ (k : ℕ). k < m) same e.before, subst (λ (k : ℕ). ViolatesOn settings own candidate aircraft volume k) same e.violates))
-            (λ other. inr (record { leg = e.leg; not_before = past e.leg late other; before = e.before; violates = e.violates }))
-            (cases_eq e.leg n)))
-            (cases_lt e.leg n);
-      }
-        where
-          past : (k : ℕ) → n ≤ k → (k ≡ n → ⊥) → n + 1 ≤ k
-          past k h o = ⊎_elim (λ l. absurd (o (omega (arith, h, l)))) (λ l. l) (cases_lt k (n + 1))
-
-      back : MeetsByBranch m → MeetsWithin settings own candidate aircraft volume m
-      back e = ⊎_elim
-          (λ (k, before, upto, v). record { leg = k; before = upto; violates = (violates_alike k before).1 v })
-          (λ o. ⊎_elim
-          (λ (upto, v). record { leg = n; before = upto; violates = v })
-          (λ r. record { leg = r.leg; before = r.before; violates = r.violates })
-          o)
-          e.where_
+  by_branch m = (
+    (λ e. record {
+      where_ = ⊎_elim
+          (λ before. inl (e.leg, before, e.before, (violates_alike e.leg before).0 e.violates))
+          (λ late. inr (record { leg = e.leg; not_before = late; before = e.before; violates = e.violates }))
+          (cases_lt e.leg n);
+    }),
+    (λ e. ⊎_elim
+        (λ (k, before, upto, v). record { leg = k; before = upto; violates = (violates_alike k before).1 v })
+        (λ r. record { leg = r.leg; before = r.before; violates = r.violates })
+        e.where_),
+  )

@@ -1,5 +1,5 @@
 -- A turn and the half turn that leads on its side.
-use Rattle.std.proofs.Common.{◌≡◌, ℕ, ◌+◌, ◌<◌, ◌≤◌, refl, ap, sym, subst, ◌∙◌, arith, Bool, true, false, ℤ, pos, negsuc, ◌+ℤ◌, ◌-ℤ◌, ◌*ℤ◌, ◌≤ℤ◌, ◌<ℤ◌}
+use Rattle.std.proofs.Common.{◌≡◌, ℕ, ◌+◌, refl, ap, sym, ◌∙◌, arith, Bool, true, false, ℤ, pos, ◌+ℤ◌, ◌-ℤ◌, ◌*ℤ◌, ◌≤ℤ◌, ◌<ℤ◌}
 use Rattle.std.proofs.lemmas.Int.{ints, int_min_is, by_lt_z}
 use Rattle.std.specs.Prelude.{IsTrue, int_le}
 use Rattle.std.specs.Int.{int_min, int_rem_euclid}
@@ -10,10 +10,9 @@ use Rattle.daa_config.specs.declared.candidate.Candidate.TheVariants.{Track}
 use Rattle.daa_state.specs.declared.word.Own.{Own}
 use Rattle.daa_legs.specs.Turn.{right_angle, turned}
 use Rattle.daa_legs.specs.Branch.{lead_of, FliesAs, FliesOn, IsWholeLegs}
-use Rattle.daa_legs.proofs.Arriving.{rem_back, rem_on}
-use Rattle.daa_legs.proofs.Cases.{product_nonneg}
-use Rattle.daa_legs.proofs.Leading.{within, track_same}
-use Rattle.daa_legs.proofs.Steady.{rem_small}
+use Rattle.daa_legs.proofs.Arriving.{rem_back, rem_on, turned-arrives}
+use Rattle.daa_legs.proofs.Leading.{within, track_same, track_settled}
+use Rattle.daa_legs.proofs.Steady.{rem_range, rem_small}
 use Rattle.daa_legs.proofs.Turns.{turned_right, turned_left}
 
 le_true : (x y : ℤ) → x ≤ℤ y → int_le x y ≡ true
@@ -78,37 +77,50 @@ left_over track c x y h l m =
     least : (a : ℤ) → a ≤ℤ x → a ≤ℤ y → int_min x a ≡ int_min y a
     least a p q = let u = int_min_is x a in let v = int_min_is y a in omega (arith, ints)
 
+-- an angle is from 0 to 359
+angle_least : (track c : ℤ) → pos 0 ≤ℤ right_angle track c
+angle_least track c = let b = rem_range (c -ℤ track) in omega (arith, ints, b.least)
+
+angle_most : (track c : ℤ) → pos 0 ≤ℤ (pos 360 -ℤ right_angle track c)
+angle_most track c = let b = rem_range (c -ℤ track) in omega (arith, ints, b.most)
+
 module _ (own : Own) (rates : Rates) (r0 : pos 0 ≤ℤ rates.turn) (t : IsFrom (pos 0) (pos 359) own.trk) (c : ℤ) (n : ℕ) where
-  pub turn_right : right_angle own.trk c ≤ℤ pos 180 → IsWholeLegs (right_angle own.trk c) rates.turn n → FliesAs own rates (Track c) (Track (int_rem_euclid (own.trk +ℤ pos 180) (pos 360))) n
+  pub turn_right : right_angle own.trk c ≤ℤ pos 180 → IsWholeLegs (right_angle own.trk c) rates.turn n → FliesAs own rates (Track c) (Track (int_rem_euclid (own.trk +ℤ pos 180) (pos 360))) (n + 1)
   turn_right h legs = record {
     same = λ k b.
         let x : ℤ = pos k *ℤ rates.turn in
-        let l = within own rates rates.turn r0 (right_angle own.trk c) n legs k b in
+        let l = within own rates rates.turn r0 (right_angle own.trk c) n legs (angle_least own.trk c) k (omega (arith, b)) in
         let half = angle_to own.trk (pos 180) t (record { least = omega (arith, ints); most = omega (arith, ints) }) in
         track_same own rates c _ k k (right_alike own.trk c _ x h (omega (arith, ints, half)) l (omega (arith, ints, half, h, l)));
   }
 
-  pub turn_left : pos 181 ≤ℤ right_angle own.trk c → IsWholeLegs (pos 360 -ℤ right_angle own.trk c) rates.turn n → FliesAs own rates (Track c) (Track (int_rem_euclid (own.trk +ℤ pos 181) (pos 360))) n
+  pub turn_left : pos 181 ≤ℤ right_angle own.trk c → IsWholeLegs (pos 360 -ℤ right_angle own.trk c) rates.turn n → FliesAs own rates (Track c) (Track (int_rem_euclid (own.trk +ℤ pos 181) (pos 360))) (n + 1)
   turn_left h legs = record {
     same = λ k b.
         let x : ℤ = pos k *ℤ rates.turn in
-        let l = within own rates rates.turn r0 (pos 360 -ℤ right_angle own.trk c) n legs k b in
+        let l = within own rates rates.turn r0 (pos 360 -ℤ right_angle own.trk c) n legs (angle_most own.trk c) k (omega (arith, b)) in
         let half = angle_to own.trk (pos 181) t (record { least = omega (arith, ints); most = omega (arith, ints) }) in
         track_same own rates c _ k k (left_alike own.trk c _ x (omega (arith, ints, h)) (omega (arith, ints, half)) l (omega (arith, ints, half, h, l)));
   }
 
-  pub right_arrives : right_angle own.trk c ≤ℤ pos 180 → IsWholeLegs (right_angle own.trk c) rates.turn n → FliesOn own rates (Track c) (n + 1)
-  right_arrives h legs = record { same = λ k b. track_same own rates c c k (n + 1) (right_over own.trk c _ _ h (legs.after k (omega (arith, b))) (legs.after (n + 1) (omega arith))) }
+  pub right_arrives : IsFrom (pos 0) (pos 359) c → right_angle own.trk c ≤ℤ pos 180 → IsWholeLegs (right_angle own.trk c) rates.turn n → FliesOn own rates (Track c) (n + 1)
+  right_arrives d h legs = record {
+    there = λ k b. track_settled own rates c k
+        (right_over own.trk c _ (pos 360) h (legs.after k (omega (arith, b))) (omega (arith, ints, h)) ∙ turned-arrives own.trk c (pos 360) t d (omega (arith, ints)));
+  }
 
-  pub left_arrives : pos 181 ≤ℤ right_angle own.trk c → IsWholeLegs (pos 360 -ℤ right_angle own.trk c) rates.turn n → FliesOn own rates (Track c) (n + 1)
-  left_arrives h legs = record { same = λ k b. track_same own rates c c k (n + 1) (left_over own.trk c _ _ (omega (arith, ints, h)) (legs.after k (omega (arith, b))) (legs.after (n + 1) (omega arith))) }
+  pub left_arrives : IsFrom (pos 0) (pos 359) c → pos 181 ≤ℤ right_angle own.trk c → IsWholeLegs (pos 360 -ℤ right_angle own.trk c) rates.turn n → FliesOn own rates (Track c) (n + 1)
+  left_arrives d h legs = record {
+    there = λ k b. track_settled own rates c k
+        (left_over own.trk c _ (pos 360) (omega (arith, ints, h)) (legs.after k (omega (arith, b))) (omega (arith, ints, h)) ∙ turned-arrives own.trk c (pos 360) t d (omega (arith, ints)));
+  }
 
-pub track_branch : (own : Own) (rates : Rates) (c : ℤ) (upper : Bool) (n : ℕ) → pos 0 ≤ℤ rates.turn → IsFrom (pos 0) (pos 359) own.trk
+pub track_branch : (own : Own) (rates : Rates) (c : ℤ) (upper : Bool) (n : ℕ) → pos 0 ≤ℤ rates.turn → IsFrom (pos 0) (pos 359) own.trk → IsFrom (pos 0) (pos 359) c
     → (IsTrue upper → right_angle own.trk c ≤ℤ pos 180) → (upper ≡ false → pos 181 ≤ℤ right_angle own.trk c) → (IsTrue upper → IsWholeLegs (right_angle own.trk c) rates.turn n) → (upper ≡ false → IsWholeLegs (pos 360 -ℤ right_angle own.trk c) rates.turn n)
-    → FliesAs own rates (Track c) (lead_of own (Track c) upper) n × FliesOn own rates (Track c) (n + 1)
+    → FliesAs own rates (Track c) (lead_of own (Track c) upper) (n + 1) × FliesOn own rates (Track c) (n + 1)
 unfolding lead_of
-track_branch own rates c true n r0 t right left rl ll = (turn_right own rates r0 t c n (right refl) (rl refl), right_arrives own rates r0 t c n (right refl) (rl refl))
-track_branch own rates c false n r0 t right left rl ll = (turn_left own rates r0 t c n (left refl) (ll refl), left_arrives own rates r0 t c n (left refl) (ll refl))
+track_branch own rates c true n r0 t d right left rl ll = (turn_right own rates r0 t c n (right refl) (rl refl), right_arrives own rates r0 t c n d (right refl) (rl refl))
+track_branch own rates c false n r0 t d right left rl ll = (turn_left own rates r0 t c n (left refl) (ll refl), left_arrives own rates r0 t c n d (left refl) (ll refl))
 
 pub not_le : (z : ℤ) → int_le z (pos 180) ≡ false → pos 181 ≤ℤ z
 not_le z e = by_lt_z (pos 180) z (λ l. omega (arith, ints, l)) (λ g. absurd (let t = le_true z (pos 180) g in cc (t, e)))

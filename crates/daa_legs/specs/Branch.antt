@@ -1,7 +1,9 @@
--- How a candidate's flight leaves the one that leads on its side: before some leg both fly alike, and after that leg the candidate
--- flies straight on.
+-- How a candidate's flight leaves the one that leads on its side: before some leg both fly alike, and from that leg or the next on
+-- the candidate flies straight on.
 use Rattle.std.specs.Prelude.{◌≡◌, ℕ, ◌+◌, ◌<◌, ◌≤◌, ℤ, pos, negsuc, ◌+ℤ◌, ◌*ℤ◌, ◌≤ℤ◌, Bool, if◌then◌else◌}
 use Rattle.std.specs.Int.{int_rem_euclid}
+use Rattle.daa_fixed.specs.declared.Solid.{Solid}
+use Rattle.daa_heading.specs.Heading.{velocity_of}
 use Rattle.daa_config.specs.declared.config.Rates.{Rates}
 use Rattle.daa_config.specs.declared.candidate.Candidate.{Candidate}
 use Rattle.daa_config.specs.declared.candidate.Candidate.TheVariants.{Hold, Track, Speed, Climb, Height}
@@ -16,14 +18,22 @@ lead_of own (Speed g) upper = Speed (if upper then pos 10000 else pos 0)
 lead_of own (Climb w) upper = Climb (if upper then pos 10000 else negsuc 9999)
 lead_of own (Height a) upper = Height (if upper then pos 60000 else negsuc 1999)
 
+-- the velocity at which a candidate flies on once its value is reached
+unfoldable pub velocity_there : Own → Candidate → Solid
+velocity_there own Hold = record { flat = velocity_of own.gs own.trk; up = own.vs }
+velocity_there own (Track c) = record { flat = velocity_of own.gs c; up = own.vs }
+velocity_there own (Speed g) = record { flat = velocity_of g own.trk; up = own.vs }
+velocity_there own (Climb w) = record { flat = velocity_of own.gs own.trk; up = w }
+velocity_there own (Height a) = record { flat = velocity_of own.gs own.trk; up = pos 0 }
+
 module _ (own : Own) (rates : Rates) where
   -- before leg n the candidate flies as the other does
   pub record FliesAs (candidate other : Candidate) (n : ℕ) : Type 0 where
     pub same : (k : ℕ) → k < n → velocity_on own rates candidate k ≡ velocity_on own rates other k
 
-  -- from leg n on it keeps one velocity
+  -- from leg n on its value is reached
   pub record FliesOn (candidate : Candidate) (n : ℕ) : Type 0 where
-    pub same : (k : ℕ) → n ≤ k → velocity_on own rates candidate k ≡ velocity_on own rates candidate n
+    pub there : (k : ℕ) → n ≤ k → velocity_on own rates candidate k ≡ velocity_there own candidate
 
 -- so many whole seconds at the rate fit into the way
 pub record IsWholeLegs (way rate : ℤ) (n : ℕ) : Type 0 where

@@ -1,6 +1,8 @@
 -- A flight as contracts see it: whose it is, and how many legs were taken.
 use Rattle.std.specs.Prelude.{ℕ, ◌≡◌, ◌≤◌}
+use Rattle.daa_fixed.specs.declared.Flat.{Flat}
 use Rattle.daa_fixed.specs.declared.Solid.{Solid}
+use Rattle.daa_heading.specs.Heading.{velocity_of}
 use Rattle.daa_config.specs.declared.config.Rates.{Rates}
 use Rattle.daa_config.specs.declared.candidate.Candidate.{Candidate}
 use Rattle.daa_config.specs.Settings.{AreRatesInRange, IsCandidateInRange}
@@ -21,7 +23,8 @@ pub record IsFlightInRange (flight : FlightProgress) : Type 0 where
   pub candidate : IsCandidateInRange flight.candidate
   pub taken : flight.taken ≤ 180
 
--- what a running flight keeps: its place is that of the next leg
-pub record IsFlown (flight : FlightProgress) (place : Solid) : Type 0 where
+-- what a running flight keeps: its place is that of the next leg, and the present way over ground
+pub record IsFlown (flight : FlightProgress) (place : Solid) (present : Flat) : Type 0 where
   pub in_range : IsFlightInRange flight
   pub at : place ≡ place_on flight.own flight.rates flight.candidate flight.taken
+  pub keeps : present ≡ velocity_of flight.own.gs flight.own.trk

@@ -1,6 +1,6 @@
 //! How a candidate's flight leaves the one that leads on its side.
 
-ghost use Rattle.std.specs.Prelude.{◌≡◌, ◌+◌, ◌≤ℤ◌, ◌-ℤ◌, pos, negsuc, true, false, IsTrue};
+ghost use Rattle.std.specs.Prelude.{◌≡◌, ◌≤◌, ◌+◌, ◌≤ℤ◌, ◌-ℤ◌, pos, negsuc, true, false, IsTrue};
 ghost use Rattle.daa_fixed.specs.Size.{IsFrom, IsWithin};
 ghost use Rattle.daa_config.specs.Settings.{IsCandidateInRange, AreRatesInRange};
 ghost use Rattle.daa_state.specs.InRange.{IsOwnInRange};
@@ -11,13 +11,21 @@ use daa_config::{Candidate, Rates};
 use daa_fixed::feet;
 use daa_state::Own;
 
-/// A candidate flies before leg `leaves` as the flight does that leads on its side. Leg `leaves` is its own, and then it flies
-/// straight on.
+/// A candidate flies before leg `leaves` as the flight does that leads on its side. From leg `settles` on, which is leg `leaves` or
+/// the one after it, it flies straight on; leg `leaves` is its own where it is the one after.
 #[derive(Clone, Copy, Debug, PartialEq, Eq)]
 pub struct Branch {
     /// To the right or up, else to the left or down.
     pub upper: bool,
     pub leaves: u32,
+    pub settles: u32,
+}
+
+/// A way to a value: to the right or up or the other way, and how many whole seconds at the rate fit into it.
+#[derive(Clone, Copy)]
+pub(crate) struct Way {
+    pub(crate) upper: bool,
+    pub(crate) legs: u32,
 }
 
 /// Where the candidate's flight leaves the leading one.
@@ -26,63 +34,91 @@ pub fn branch_of(own: &Own, rates: &Rates, candidate: Candidate) -> Branch
     requires rates { AreRatesInRange rates.now }
     requires candidate { IsCandidateInRange candidate }
     ensures before { FliesAs own.now rates.now candidate (lead_of own.now candidate result.upper) result.leaves }
-    ensures after { FliesOn own.now rates.now candidate (result.leaves + 1) }
+    ensures after { FliesOn own.now rates.now candidate result.settles }
+    ensures near { (result.leaves ≤ result.settles) × (result.settles ≤ result.leaves + 1) }
 {
     match candidate {
         Candidate::Hold => Branch {
             upper: true,
             leaves: 0,
+            settles: 0,
         },
-        Candidate::Track(c) => turn_away(own.trk, c, rates.turn),
-        Candidate::Speed(g) => way_to(i64::from(own.gs), i64::from(g), rates.gs),
-        Candidate::Climb(w) => way_to(i64::from(own.vs), i64::from(w), rates.vs),
-        Candidate::Height(a) => way_to(feet(own.alt), feet(a), rates.alt),
+        Candidate::Track(c) => beside(turn_away(own.trk, c, rates.turn)),
+        Candidate::Speed(g) => beside(way_to(i64::from(own.gs), i64::from(g), rates.gs)),
+        Candidate::Climb(w) => beside(way_to(i64::from(own.vs), i64::from(w), rates.vs)),
+        Candidate::Height(a) => short_of(way_to(feet(own.alt), feet(a), rates.alt)),
+    }
+}
+
+/// A track or a speed is that of the leading flight also on the leg after the whole seconds, and then the candidate's.
+fn beside(way: Way) -> Branch
+    requires { way.legs ≤ 7200000 }
+    ensures { result ≡ record { upper = way.upper; leaves = way.legs + 1; settles = way.legs + 1 } }
+{
+    Branch {
+        upper: way.upper,
+        leaves: way.legs + 1,
+        settles: way.legs + 1,
+    }
+}
+
+/// On the leg after the whole seconds an altitude is reached, by a rise of its own.
+fn short_of(way: Way) -> Branch
+    requires { way.legs ≤ 7200000 }
+    ensures { result ≡ record { upper = way.upper; leaves = way.legs; settles = way.legs + 1 } }
+{
+    Branch {
+        upper: way.upper,
+        leaves: way.legs,
+        settles: way.legs + 1,
     }
 }
 
 /// The turn from a track to another.
-fn turn_away(track: i32, c: i32, rate: i32) -> Branch
+fn turn_away(track: i32, c: i32, rate: i32) -> Way
     requires track { IsFrom (pos 0) (pos 359) track }
     requires c { IsFrom (pos 0) (pos 359) c }
     requires rate { IsFrom (pos 1) (pos 10000) rate }
     ensures right { IsTrue result.upper → right_angle track c ≤ℤ pos 180 }
     ensures left { result.upper ≡ false → pos 181 ≤ℤ right_angle track c }
-    ensures right_legs { IsTrue result.upper → IsWholeLegs (right_angle track c) rate result.leaves }
-    ensures left_legs { result.upper ≡ false → IsWholeLegs (pos 360 -ℤ right_angle track c) rate result.leaves }
+    ensures right_legs { IsTrue result.upper → IsWholeLegs (right_angle track c) rate result.legs }
+    ensures few { result.legs ≤ 7200000 }
+    ensures left_legs { result.upper ≡ false → IsWholeLegs (pos 360 -ℤ right_angle track c) rate result.legs }
 {
     let right = (c - track).rem_euclid(360);
     if right <= 180 {
-        Branch {
+        Way {
             upper: true,
-            leaves: whole_legs(i64::from(right), rate),
+            legs: whole_legs(i64::from(right), rate),
         }
     } else {
-        Branch {
+        Way {
             upper: false,
-            leaves: whole_legs(i64::from(360 - right), rate),
+            legs: whole_legs(i64::from(360 - right), rate),
         }
     }
 }
 
 /// The way from a value to another.
-fn way_to(now: i64, target: i64, rate: i32) -> Branch
+fn way_to(now: i64, target: i64, rate: i32) -> Way
     requires now { IsWithin 3600000 now }
     requires target { IsWithin 3600000 target }
     requires rate { IsFrom (pos 1) (pos 10000) rate }
     ensures up { IsTrue result.upper → now ≤ℤ target }
     ensures down { result.upper ≡ false → target ≤ℤ now }
-    ensures up_legs { IsTrue result.upper → IsWholeLegs (target -ℤ now) rate result.leaves }
-    ensures down_legs { result.upper ≡ false → IsWholeLegs (now -ℤ target) rate result.leaves }
+    ensures up_legs { IsTrue result.upper → IsWholeLegs (target -ℤ now) rate result.legs }
+    ensures few { result.legs ≤ 7200000 }
+    ensures down_legs { result.upper ≡ false → IsWholeLegs (now -ℤ target) rate result.legs }
 {
     if now <= target {
-        Branch {
+        Way {
             upper: true,
-            leaves: whole_legs(target - now, rate),
+            legs: whole_legs(target - now, rate),
         }
     } else {
-        Branch {
+        Way {
             upper: false,
-            leaves: whole_legs(now - target, rate),
+            legs: whole_legs(now - target, rate),
         }
     }
 }
@@ -91,7 +127,8 @@ fn way_to(now: i64, target: i64, rate: i32) -> Branch
 fn whole_legs(way: i64, rate: i32) -> u32
     requires way { IsFrom (pos 0) (pos 7200000) way }
     requires rate { IsFrom (pos 1) (pos 10000) rate }
-    ensures { IsWholeLegs way rate result }
+    ensures legs { IsWholeLegs way rate result }
+    ensures few { result ≤ 7200000 }
 {
     way as u32 / rate as u32
 }

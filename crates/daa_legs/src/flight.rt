@@ -8,10 +8,11 @@ ghost use Rattle.daa_legs.specs.Motion.{velocity_on};
 ghost use Rattle.daa_legs.specs.OwnLegs.{own_leg, IsOwnLegInRange};
 ghost use Rattle.daa_legs.specs.Runs.{IsRunOf, IsLongest, IsOwnRunInRange};
 
-use crate::motion::velocity_at;
+use crate::motion::velocity_from;
 use crate::own_leg::{OwnLeg, OwnRun};
 use daa_config::{Candidate, Config, Rates};
 use daa_fixed::{Flat, Solid, feet, mils};
+use daa_heading::velocity;
 use daa_state::Own;
 use std::marker::Model;
 
@@ -23,6 +24,8 @@ pub struct Flight {
     candidate: Candidate,
     taken: u32,
     place: Solid,
+    // the present way over ground of a second
+    present: Flat,
 }
 
 impl Model for Flight {
@@ -32,7 +35,7 @@ impl Model for Flight {
 
     ghost view = { λ f. record { own = f.own; rates = f.rates; candidate = f.candidate; taken = f.taken } };
 
-    ghost invariant = { λ f. IsFlown (record { own = f.own; rates = f.rates; candidate = f.candidate; taken = f.taken }) f.place };
+    ghost invariant = { λ f. IsFlown (record { own = f.own; rates = f.rates; candidate = f.candidate; taken = f.taken }) f.place f.present };
 }
 
 impl Flight {
@@ -54,6 +57,7 @@ impl Flight {
                 },
                 up: feet(own.alt),
             },
+            present: velocity(own.gs, own.trk),
         }
     }
 
@@ -97,7 +101,13 @@ impl Flight {
         ensures value { result ≡ velocity_on self.now.own self.now.rates self.now.candidate self.now.taken }
         ensures size { IsSolidBelow 20000 result }
     {
-        velocity_at(&self.own, &self.rates, self.candidate, self.taken)
+        velocity_from(
+            &self.own,
+            &self.rates,
+            self.candidate,
+            self.taken,
+            &self.present,
+        )
     }
 
     /// Takes the next second, which has this velocity.

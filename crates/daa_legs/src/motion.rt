@@ -2,14 +2,17 @@
 
 ghost use Rattle.std.specs.Prelude.{◌≡◌, ◌<◌, ◌≤◌, ◌+◌, pos, ◌*ℤ◌, ◌-ℤ◌, negsuc};
 ghost use Rattle.daa_fixed.specs.Toward.{toward_of};
+ghost use Rattle.daa_fixed.specs.Leg.{IsSolidBelow};
 ghost use Rattle.daa_fixed.specs.Size.{IsFrom, IsWithin};
 ghost use Rattle.daa_config.specs.Settings.{IsCandidateInRange, AreRatesInRange};
 ghost use Rattle.daa_state.specs.InRange.{IsOwnInRange};
+ghost use Rattle.daa_heading.specs.Heading.{velocity_of};
+ghost use Rattle.daa_legs.specs.Branch.{velocity_there};
 ghost use Rattle.daa_legs.specs.Motion.{track_on, ground_speed_on, vertical_speed_on, velocity_on};
 
 use crate::turn::turn;
 use daa_config::{Candidate, Rates};
-use daa_fixed::{Solid, feet, toward};
+use daa_fixed::{Flat, Solid, feet, toward};
 use daa_heading::velocity;
 use daa_state::Own;
 
@@ -27,6 +30,61 @@ pub(crate) fn velocity_at(own: &Own, rates: &Rates, candidate: Candidate, k: u32
             track_at(own, rates, candidate, k),
         ),
         up: vertical_speed_at(own, rates, candidate, k),
+    }
+}
+
+/// The same, where the present way over ground of a second is known.
+pub(crate) fn velocity_from(
+    own: &Own,
+    rates: &Rates,
+    candidate: Candidate,
+    k: u32,
+    present: &Flat,
+) -> Solid
+    requires own { IsOwnInRange own.now }
+    requires rates { AreRatesInRange rates.now }
+    requires candidate { IsCandidateInRange candidate }
+    requires k { k < 180 }
+    requires present { present.now ≡ velocity_of own.now.gs own.now.trk }
+    ensures { result ≡ velocity_on own.now rates.now candidate k }
+{
+    match candidate {
+        Candidate::Track(_) => velocity_at(own, rates, candidate, k),
+        Candidate::Speed(_) => velocity_at(own, rates, candidate, k),
+        _ => Solid {
+            flat: *present,
+            up: vertical_speed_at(own, rates, candidate, k),
+        },
+    }
+}
+
+/// The velocity once the candidate's value is reached.
+pub(crate) fn velocity_at_end(own: &Own, candidate: Candidate) -> Solid
+    requires own { IsOwnInRange own.now }
+    requires candidate { IsCandidateInRange candidate }
+    ensures value { result ≡ velocity_there own.now candidate }
+    ensures size { IsSolidBelow 20000 result }
+{
+    match candidate {
+        Candidate::Hold => flown(own.gs, own.trk, own.vs),
+        Candidate::Track(c) => flown(own.gs, c, own.vs),
+        Candidate::Speed(g) => flown(g, own.trk, own.vs),
+        Candidate::Climb(w) => flown(own.gs, own.trk, w),
+        Candidate::Height(_) => flown(own.gs, own.trk, 0),
+    }
+}
+
+/// The velocity of a ground speed, a track and a vertical speed.
+fn flown(gs: i32, track: i32, up: i32) -> Solid
+    requires gs { IsFrom (pos 0) (pos 10000) gs }
+    requires track { IsFrom (pos 0) (pos 359) track }
+    requires up { IsFrom (negsuc 9999) (pos 10000) up }
+    ensures value { result ≡ record { flat = velocity_of gs track; up = up } }
+    ensures size { IsSolidBelow 20000 result }
+{
+    Solid {
+        flat: velocity(gs, track),
+        up: i64::from(up),
     }
 }
 

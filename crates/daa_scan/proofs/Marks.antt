@@ -1,21 +1,17 @@
 -- Masks with one level more: of one candidate, and of a stretch of them.
-use Rattle.std.proofs.Common.{◌≡◌, ◌↔◌, ℕ, ℤ, pos, ◌+◌, ◌-◌, ◌<◌, ◌≤◌, ◌^◌, Bool, true, false, List, length, replicate, sym, subst, ap, ◌∙◌, arith, refl, inl, inr, ◌⊎◌, ⊎_elim}
+use Rattle.std.proofs.Common.{◌≡◌, ◌↔◌, ℕ, ℤ, ◌+◌, ◌-◌, ◌<◌, ◌≤◌, ◌^◌, Bool, true, false, List, length, replicate, sym, subst, ap, ◌∙◌, arith, refl, ⊎_elim}
 use Rattle.std.specs.Prelude.{IsTrue, bit_or, slice_get, slice_index, Some}
 use Rattle.std.specs.Int.{bit_at}
 use Rattle.std.proofs.Math.ListN.{set}
 use Rattle.std.proofs.lemmas.Bool.{cases_eq, cases_lt}
 use Rattle.std.proofs.lemmas.List.{get_or-replicate, get_or-set_same, get_or-set_other, length-set}
 use Rattle.std.proofs.lemmas.Option.{same_Some, slice_get_within}
-use Rattle.daa_fixed.specs.declared.Leg.{Leg}
-use Rattle.daa_fixed.specs.Time.{HoldsSometime}
-use Rattle.daa_taumod.specs.declared.Volume.{Volume}
-use Rattle.daa_taumod.specs.Volume.{Violates}
 use Rattle.daa_config.specs.declared.candidate.Candidate.{Candidate}
 use Rattle.daa_config.specs.declared.candidate.Candidate.TheVariants.{Hold}
 use Rattle.daa_config.specs.declared.kind.Kind.{Kind}
 use Rattle.daa_config.specs.declared.kind.Kind.TheVariants.{Track}
 use Rattle.daa_config.specs.declared.level.Level.{Level}
-use Rattle.daa_config.specs.Candidates.{grid_of, values_of, candidates_of, candidate_to, start_of}
+use Rattle.daa_config.specs.Candidates.{values_of, candidates_of, candidate_to, start_of}
 use Rattle.daa_config.specs.Mask.{IsMaskOf}
 use Rattle.daa_config.specs.Settings.{Settings, IsAccepted, IsLevelAt}
 use Rattle.daa_config.proofs.GridLemmas.{value_there}

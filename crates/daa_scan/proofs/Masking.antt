@@ -6,23 +6,16 @@ use Rattle.std.proofs.lemmas.Bool.{cases_lt}
 use Rattle.std.proofs.lemmas.Nat.Bits.{bit_at-zero, bit_at-suc, bit_at_lowest, bit_at-lt}
 use Rattle.std.proofs.lemmas.Option.{same_Some, slice_get_within, slice_get_past, get_or_from_slice_get}
 use Rattle.std.specs.List.{All}
-use Rattle.daa_fixed.specs.Leg.{IsLegInRange}
-use Rattle.daa_taumod.specs.declared.Volume.{Volume}
-use Rattle.daa_taumod.specs.Volume.{IsVolumeInRange}
 use Rattle.daa_config.specs.declared.candidate.Candidate.{Candidate}
 use Rattle.daa_config.specs.declared.level.Level.{Level}
 use Rattle.daa_config.specs.Candidates.{candidates_of}
 use Rattle.daa_config.specs.Mask.{IsMaskOf}
-use Rattle.daa_config.specs.Settings.{Settings, IsAccepted, IsCandidateInRange, IsLevelAt, rates_of}
+use Rattle.daa_config.specs.Settings.{Settings, IsAccepted, IsCandidateInRange, IsLevelAt}
 use Rattle.daa_state.specs.declared.word.Own.{Own}
 use Rattle.daa_state.specs.declared.word.Traffic.{Traffic}
 use Rattle.daa_state.specs.InRange.{IsOwnInRange, IsTrafficInRange, IsPictureInRange}
 use Rattle.daa_state.specs.Picture.{aircraft_of}
-use Rattle.daa_legs.specs.OwnLegs.{own_leg}
-use Rattle.daa_legs.specs.Relative.{relative_for}
-use Rattle.daa_legs.specs.Meeting.{relative_leg, ViolatesOn, MeetsWithin, Meets}
-use Rattle.daa_legs.proofs.Places.{place_on-below, velocity_on-below}
-use Rattle.daa_legs.proofs.Relatives.{relative_for-in_range}
+use Rattle.daa_legs.specs.Meeting.{Meets}
 use Rattle.daa_scan.specs.Situation.{Situation, MeetsAt}
 use Rattle.daa_scan.specs.Packed.{mask_of, entry_for, entry_at}
 use Rattle.daa_scan.proofs.Listed.{listed}

@@ -1,5 +1,5 @@
 -- What meets an inner level meets the outer one.
-use Rattle.std.proofs.Common.{[], ◌∷◌, ◌≡◌, ℕ, ◌+◌, ◌-◌, ◌<◌, ◌≤◌, inl, inr, refl, sym, subst, ◌∙◌, arith, ℤ, pos, ◌+ℤ◌, ◌-ℤ◌, ◌*ℤ◌, ◌≤ℤ◌, ◌<ℤ◌, neg_ℤ, unsigned_abs}
+use Rattle.std.proofs.Common.{[], ◌∷◌, ◌≡◌, ℕ, ◌≤◌, inl, inr, refl, arith, ℤ, pos, ◌+ℤ◌, ◌*ℤ◌, ◌≤ℤ◌, ◌<ℤ◌, neg_ℤ}
 use Rattle.std.proofs.lemmas.Int.{ints}
 use Rattle.daa_fixed.proofs.Ring.{mul_nonneg, ring, #, ⊝, ◌⊕◌, ◌⊖◌, ◌⊗◌}
 use Rattle.daa_fixed.proofs.Integers.{mul_le, mul_le_mul, by_rest, rest, le_trans_ℤ}
@@ -9,7 +9,7 @@ use Rattle.daa_fixed.specs.Flat.{dot_of, square_of}
 use Rattle.daa_taumod.specs.declared.Model.{Model}
 use Rattle.daa_taumod.specs.declared.Model.TheVariants.{Taumod, Tcpa}
 use Rattle.daa_taumod.specs.declared.Volume.{Volume}
-use Rattle.daa_taumod.specs.Volume.{place_at, height_at, with_model, IsSoon, ViolatesHorizontally, ViolatesVertically, Violates}
+use Rattle.daa_taumod.specs.Volume.{place_at, with_model, IsSoon, ViolatesHorizontally, ViolatesVertically, Violates}
 use Rattle.daa_taumod.proofs.ClosestApproach.{violates_by_tau}
 use Rattle.daa_config.specs.declared.candidate.Candidate.{Candidate}
 use Rattle.daa_config.specs.declared.level.Level.{Level}

@@ -192,19 +192,16 @@ module _ (s : Situation) (n : ℕ) (b : Bool) (is : IsTrue b ↔ IsInReachAt s n
   not_reached_here : b ≡ false → is_reached_at s n ≡ false
   not_reached_here t = false_from_ne_true (is_reached_at s n) (λ r. let x = is.1 ((reached_is s n).0 r) in cc (x, t))
 
-  pub counted_here : b ≡ true → length (numbers_below (is_reached_at s) n) + 1 ≡ length (numbers_below (is_reached_at s) (n + 1))
-  counted_here t = let e : suc n ≡ n + 1 = omega arith in sym (taken_count (is_reached_at s) n (reached_here t)) ∙ ap (λ (m : ℕ). length (numbers_below (is_reached_at s) m)) e
+  pub listed_here : b ≡ true → numbers_below (is_reached_at s) n ++ (n ∷ []) ≡ numbers_below (is_reached_at s) (n + 1)
+  listed_here t = let e : suc n ≡ n + 1 = omega arith in sym (taken (is_reached_at s) n (reached_here t)) ∙ ap (numbers_below (is_reached_at s)) e
 
-  pub passed_here : b ≡ false → length (numbers_below (is_reached_at s) n) ≡ length (numbers_below (is_reached_at s) (n + 1))
-  passed_here t = let e : suc n ≡ n + 1 = omega arith in sym (ap length (passed (is_reached_at s) n (not_reached_here t))) ∙ ap (λ (m : ℕ). length (numbers_below (is_reached_at s) m)) e
+  pub passed_here : b ≡ false → numbers_below (is_reached_at s) n ≡ numbers_below (is_reached_at s) (n + 1)
+  passed_here t = let e : suc n ≡ n + 1 = omega arith in sym (passed (is_reached_at s) n (not_reached_here t)) ∙ ap (numbers_below (is_reached_at s)) e
 
-  -- it stands at the place of so many before it
-  pub found_here : b ≡ true → n < length (aircraft_of s.picture) → n ≡ slice_index (places_in_reach s) (length (numbers_below (is_reached_at s) n))
-  found_here t h =
-      let r = reached_here t in
-      let c = taken_count (is_reached_at s) n r in
-      let e : suc n + (length (aircraft_of s.picture) - suc n) ≡ length (aircraft_of s.picture) = omega (arith, h) in
-      let k = still (is_reached_at s) (suc n) (length (aircraft_of s.picture) - suc n) (length (numbers_below (is_reached_at s) n)) (omega (arith, c)) in
-      let l : slice_index (places_in_reach s) (length (numbers_below (is_reached_at s) n)) ≡ slice_index (numbers_below (is_reached_at s) (suc n)) (length (numbers_below (is_reached_at s) n)) =
-      subst (λ (m : ℕ). slice_index (numbers_below (is_reached_at s) m) (length (numbers_below (is_reached_at s) n)) ≡ slice_index (numbers_below (is_reached_at s) (suc n)) (length (numbers_below (is_reached_at s) n))) e k.1 in
-      sym (l ∙ taken_last (is_reached_at s) n r)
+-- the test of the aircraft that stands there
+module _ (s : Situation) (n : ℕ) (aircraft : Traffic) (there : slice_get (aircraft_of s.picture) n ≡ Some aircraft) (b : Bool) (is : IsTrue b ↔ IsInReach s.settings s.picture.own aircraft) where
+  pub tested_here : IsTrue b ↔ IsInReachAt s n
+  tested_here = (
+    (λ t. record { aircraft = aircraft; there = there; reached = is.0 t }),
+    (λ r. is.1 (subst (λ (t : Traffic). IsInReach s.settings s.picture.own t) (same_Some r.aircraft aircraft (sym r.there ∙ there)) r.reached)),
+  )

@@ -1,5 +1,5 @@
 -- A test of a kept leg, and what a trail says.
-use Rattle.std.proofs.Common.{◌≡◌, ◌↔◌, ◌⊎◌, inl, inr, ⊎_elim, ℕ, ◌+◌, ◌<◌, ◌≤◌, Bool, List, ap, sym, subst, ◌∙◌, arith}
+use Rattle.std.proofs.Common.{◌≡◌, ◌↔◌, inl, inr, ⊎_elim, ℕ, ◌+◌, ◌<◌, ◌≤◌, Bool, List, ap, sym, subst, ◌∙◌, arith}
 use Rattle.std.proofs.lemmas.Bool.{cases_lt}
 use Rattle.std.specs.Prelude.{IsTrue, slice_index_or}
 use Rattle.daa_fixed.specs.declared.Leg.{Leg}
@@ -13,13 +13,15 @@ use Rattle.daa_state.specs.declared.word.Own.{Own}
 use Rattle.daa_state.specs.declared.word.Traffic.{Traffic}
 use Rattle.daa_state.specs.InRange.{IsOwnInRange}
 use Rattle.daa_legs.specs.declared.own_leg.OwnLeg.{OwnLeg}
-use Rattle.daa_legs.specs.Branch.{FliesAs, FliesOn}
+use Rattle.daa_fixed.specs.declared.Solid.{Solid}
+use Rattle.daa_fixed.specs.Leg.{IsSolidBelow}
+use Rattle.daa_legs.specs.Branch.{velocity_there, FliesAs, FliesOn}
 use Rattle.daa_legs.specs.Kept.{AreLegsOf}
 use Rattle.daa_legs.specs.OwnLegs.{place_on, own_leg, IsOwnLegInRange}
 use Rattle.daa_legs.specs.Relative.{relative_for}
-use Rattle.daa_legs.specs.Runs.{IsRunOf, MeetsBetween}
+use Rattle.daa_legs.specs.Runs.{IsRunOf, IsOwnRunInRange, MeetsBetween}
 use Rattle.daa_legs.specs.Meeting.{ViolatesOn, MeetsWithin}
-use Rattle.daa_legs.proofs.Branching.{place_alike, straight_run, by_branch, MeetsByBranch}
+use Rattle.daa_legs.proofs.Branching.{place_alike, straight_run, by_branch}
 use Rattle.daa_legs.proofs.Places.{place_on-below, velocity_on-below}
 use Rattle.daa_scan.specs.declared.trail.Trail.{Trail}
 use Rattle.daa_scan.specs.Sharing.{IsTrailOf}
@@ -36,20 +38,30 @@ unfolding relative_for
 leg_tested settings own candidate aircraft volume k leg rel hit e r h = subst (λ (l : Leg). IsTrue hit ↔ HoldsSometime l.secs (Violates l volume)) (r ∙ ap (λ (l : OwnLeg). relative_for 1 l aircraft k) e) h
 
 -- the candidate leaves the trunk where the trunk is
-pub leaves_there : (own : Own) (rates r : Rates) (candidate lead : Candidate) (n m : ℕ) (legs : List OwnLeg) (leg : OwnLeg) → r ≡ rates → FliesAs own rates candidate lead n → AreLegsOf own rates lead m legs → n < m
-    → ((d : OwnLeg) → slice_index_or legs n d ≡ leg) → leg.place ≡ place_on own r candidate n
-leaves_there own rates r candidate lead n m legs leg e alike h b k =
-    ap (λ (l : OwnLeg). l.place) (kept_is own rates lead m n legs leg h b k) ∙ sym (place_alike own rates candidate lead n alike n (omega arith)) ∙ ap (λ (x : Rates). place_on own x candidate n) (sym e)
+pub leaves_there : (own : Own) (rates : Rates) (candidate lead : Candidate) (n m : ℕ) (legs : List OwnLeg) (leg : OwnLeg) → FliesAs own rates candidate lead n → AreLegsOf own rates lead m legs → n < m
+    → ((d : OwnLeg) → slice_index_or legs n d ≡ leg) → leg.place ≡ place_on own rates candidate n
+leaves_there own rates candidate lead n m legs leg alike h b k =
+    ap (λ (l : OwnLeg). l.place) (kept_is own rates lead m n legs leg h b k) ∙ sym (place_alike own rates candidate lead n alike n (omega arith))
 
 -- a test of the straight rest
-pub rest_tested : (settings : Settings) (own : Own) (candidate : Candidate) (aircraft : Traffic) (volume : Volume) (k secs m : ℕ) (rest : OwnLeg) (rel : Leg) (hit : Bool) → rest ≡ own_leg own (rates_of settings) candidate k
-    → FliesOn own (rates_of settings) candidate k → k + secs ≡ m
+pub rest_tested : (settings : Settings) (own : Own) (candidate : Candidate) (aircraft : Traffic) (volume : Volume) (k secs m : ℕ) (rest : OwnLeg) (rel : Leg) (hit : Bool)
+    → rest.place ≡ place_on own (rates_of settings) candidate k → rest.velocity ≡ velocity_there own candidate → FliesOn own (rates_of settings) candidate k → k + secs ≡ m
     → (IsRunOf own (rates_of settings) candidate k (record { place = rest.place; velocity = rest.velocity; secs = secs }) → HoldsSometime rel.secs (Violates rel volume) ↔ MeetsBetween settings own candidate aircraft volume k (k + secs))
     → IsTrue hit ↔ HoldsSometime rel.secs (Violates rel volume) → IsTrue hit ↔ MeetsBetween settings own candidate aircraft volume k m
-rest_tested settings own candidate aircraft volume k secs m rest rel hit e on s seconds tests =
+rest_tested settings own candidate aircraft volume k secs m rest rel hit p v on s seconds tests =
+    let there : OwnLeg = record { place = place_on own (rates_of settings) candidate k; velocity = velocity_there own candidate } in
+    let e : rest ≡ there = λ i. record { place = p i; velocity = v i } in
     let run = subst (λ (l : OwnLeg). IsRunOf own (rates_of settings) candidate k (record { place = l.place; velocity = l.velocity; secs = secs })) (sym e) (straight_run own (rates_of settings) candidate k secs on) in
     let o = seconds run in
     subst (λ (n : ℕ). IsTrue hit ↔ MeetsBetween settings own candidate aircraft volume k n) s ((λ t. o.0 (tests.0 t)), (λ v. tests.1 (o.1 v)))
+
+-- where the straight rest begins is in range
+pub rest_in_range : (own : Own) (rates : Rates) (candidate : Candidate) (k secs : ℕ) (rest : OwnLeg) → IsOwnInRange own → AreRatesInRange rates → IsCandidateInRange candidate → k ≤ 180
+    → rest.place ≡ place_on own rates candidate k → IsSolidBelow 20000 rest.velocity → 1 ≤ secs → IsOwnRunInRange (record { place = rest.place; velocity = rest.velocity; secs = secs })
+rest_in_range own rates candidate k secs rest o r h b p v some = record {
+  leg = record { place = subst (λ (x : Solid). IsSolidBelow 20000000 x) (sym p) (place_on-below own rates candidate o r h k b); velocity = v };
+  some = some;
+}
 
 -- fewer legs
 pub fewer_legs : (own : Own) (rates : Rates) (candidate : Candidate) (n m : ℕ) (legs : List OwnLeg) → m ≤ n → AreLegsOf own rates candidate n legs → AreLegsOf own rates candidate m legs
@@ -60,12 +72,11 @@ module _ (settings : Settings) (own : Own) (candidate lead : Candidate) (aircraf
   hit_meets h a b = (by_branch settings own candidate lead aircraft volume n alike m).1 (record { where_ = inl (trail.walked, a, b, t.hit h) })
 
   -- where the trail shows none, it is met on the leg on which it leaves the trunk, or later
-  pub later_meets : ((k : ℕ) → trail.walked ≤ k → k < n → k < m → ⊥) → MeetsWithin settings own candidate aircraft volume m
-      → ((n < m) × ViolatesOn settings own candidate aircraft volume n) ⊎ MeetsBetween settings own candidate aircraft volume (n + 1) m
+  pub later_meets : ((k : ℕ) → trail.walked ≤ k → k < n → k < m → ⊥) → MeetsWithin settings own candidate aircraft volume m → MeetsBetween settings own candidate aircraft volume n m
   later_meets never e = ⊎_elim
       (λ (k, a, b, v). absurd (⊎_elim (λ l. t.none k l v) (λ g. never k g a b) (cases_lt k trail.walked)))
       (λ o. o)
       ((by_branch settings own candidate lead aircraft volume n alike m).0 e).where_
 
-  pub meets_later : ((n < m) × ViolatesOn settings own candidate aircraft volume n) ⊎ MeetsBetween settings own candidate aircraft volume (n + 1) m → MeetsWithin settings own candidate aircraft volume m
+  pub meets_later : MeetsBetween settings own candidate aircraft volume n m → MeetsWithin settings own candidate aircraft volume m
   meets_later o = (by_branch settings own candidate lead aircraft volume n alike m).1 (record { where_ = inr o })

@@ -3,12 +3,9 @@ use Rattle.std.specs.Prelude.{◌≡◌, ℕ, ◌+◌, ◌-◌, ◌*◌, ◌/◌
 use Rattle.daa_config.specs.Candidates.{candidates_of}
 use Rattle.daa_config.specs.Mask.{IsMaskOf}
 use Rattle.daa_config.specs.Packing.{group_size, place_width, presence_in, mask_in}
-use Rattle.daa_config.specs.Settings.{Settings, IsAccepted}
-use Rattle.daa_state.specs.InRange.{IsPictureInRange}
+use Rattle.daa_config.specs.Settings.{Settings}
 use Rattle.daa_scan.specs.Reach.{IsInReachAt}
 use Rattle.daa_scan.specs.Situation.{Situation, MeetsAt}
-use Rattle.daa_scan.specs.Trunks.{AreTrunksOf}
-use Rattle.daa_scan.specs.declared.trunks.Trunks.{Trunks}
 
 -- how many groups the whole list of candidates has: its number over the group's size, rounded up
 abbrev pub group_count : Settings → ℕ
@@ -21,14 +18,6 @@ most_groups = 159
 -- a moment has at most so many units: one for each of 64 aircraft and each group
 abbrev pub most_units : ℕ
 most_units = 64 * most_groups
-
--- what a scene keeps: its configuration was accepted, its moment is in range, its groups are counted, and the flights that lead on
--- the sides of each kind are kept
-pub record IsScene (s : Situation) (groups : ℕ) (trunks : Trunks) : Type 0 where
-  pub accepted : IsAccepted s.settings
-  pub picture : IsPictureInRange s.picture
-  pub counted : groups ≡ group_count s.settings
-  pub kept : AreTrunksOf s.settings s.picture.own trunks
 
 -- the place in the whole list of candidate j of a group
 abbrev pub index_in : (group j : ℕ) → ℕ

@@ -333,7 +333,8 @@ fn meets_along(
     requires level { IsLevelInRange level.now }
     requires trunk { AreLegsOf own.now (rates_of config.now) lead level.now.lookahead trunk.now }
     requires before { FliesAs own.now (rates_of config.now) candidate lead branch.now.leaves }
-    requires after { FliesOn own.now (rates_of config.now) candidate (branch.now.leaves + 1) }
+    requires after { FliesOn own.now (rates_of config.now) candidate branch.now.settles }
+    requires near { (branch.now.leaves ≤ branch.now.settles) × (branch.now.settles ≤ branch.now.leaves + 1) }
     requires trail { IsTrailOf config.now own.now lead aircraft.now level.now.volume trail.old }
     ensures met { IsTrue result ↔ MeetsWithin config.now own.now candidate aircraft.now level.now.volume level.now.lookahead }
     ensures trail { IsTrailOf config.now own.now lead aircraft.now level.now.volume trail.new }

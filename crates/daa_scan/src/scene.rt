@@ -15,6 +15,7 @@ ghost use Rattle.daa_scan.specs.Packed.{places_in_reach, packed_word, entry_at};
 use crate::marking::mark_levels;
 use crate::reach::is_in_reach;
 use crate::trunks::Trunks;
+use arrayvec::ArrayVec;
 use daa_config::packing::{GROUP, WIDTH};
 use daa_config::{Config, Kind};
 use daa_schedule::Answers;
@@ -30,18 +31,20 @@ pub struct Scene<'a> {
     config: &'a Config,
     picture: &'a Picture,
     groups: u32,
+    // the places of the aircraft in reach, in the moment's order
+    places: ArrayVec<u32, 64>,
     trunks: &'a Trunks,
 }
 
 impl<'a> Model for Scene<'a> {
     ghost use Rattle.daa_scan.specs.Situation.{Situation};
-    ghost use Rattle.daa_scan.specs.Units.{IsScene};
+    ghost use Rattle.daa_scan.specs.Scene.{IsScene};
 
     ghost Value = { Situation };
 
     ghost view = { λ s. record { settings = s.config.now; picture = s.picture.now } };
 
-    ghost invariant = { λ s. IsScene (record { settings = s.config.now; picture = s.picture.now }) s.groups s.trunks.now };
+    ghost invariant = { λ s. IsScene (record { settings = s.config.now; picture = s.picture.now }) s.groups s.places.items s.trunks.now };
 }
 
 impl<'a> Scene<'a> {
@@ -55,6 +58,7 @@ impl<'a> Scene<'a> {
             config,
             picture,
             groups: groups_of(config),
+            places: places_near(config, picture),
             trunks,
         }
     }
@@ -119,13 +123,7 @@ impl<'a> Scene<'a> {
         ensures listed { result ≡ length (places_in_reach self.now) }
         ensures few { result ≤ 64 }
     {
-        let mut count = 0;
-        for aircraft in 0..self.picture.traffic.len() as u32 {
-            if self.in_reach(aircraft) {
-                count += 1;
-            }
-        }
-        count
+        self.places.len() as u32
     }
 
     /// Where the aircraft that stands at a place among those in reach has its place in the moment's list.
@@ -134,16 +132,7 @@ impl<'a> Scene<'a> {
         ensures value { result ≡ slice_index (places_in_reach self.now) place }
         ensures there { result < length (aircraft_of self.now.picture) }
     {
-        let mut before = 0;
-        for aircraft in 0..self.picture.traffic.len() as u32 {
-            if self.in_reach(aircraft) {
-                if before == place {
-                    return aircraft;
-                }
-                before += 1;
-            }
-        }
-        unreachable!()
+        self.places.as_slice()[place as usize]
     }
 
     /// The word of a group of candidates and an aircraft.
@@ -214,6 +203,20 @@ impl<'a> Answers for Scene<'a> {
     }
 
     ghost real = { words_real };
+}
+
+/// The places of the aircraft that are near enough to be met at all, in the moment's order.
+fn places_near(config: &Config, picture: &Picture) -> ArrayVec<u32, 64>
+    requires { IsPictureInRange picture.now }
+    ensures { result.items ≡ places_in_reach (record { settings = config.now; picture = picture.now }) }
+{
+    let mut places = ArrayVec::new();
+    for place in 0..picture.traffic.len() as u32 {
+        if is_in_reach(config, &picture.own, &picture.traffic[place as usize]) {
+            places.push(place);
+        }
+    }
+    places
 }
 
 /// How many groups of twelve the candidates have; those that go to an altitude are the last of the whole list.

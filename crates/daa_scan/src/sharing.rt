@@ -7,13 +7,15 @@ ghost use Rattle.daa_state.specs.InRange.{IsOwnInRange, IsTrafficInRange};
 ghost use Rattle.daa_legs.specs.Branch.{FliesAs, FliesOn};
 ghost use Rattle.daa_legs.specs.Kept.{AreLegsOf};
 ghost use Rattle.daa_legs.specs.Meeting.{MeetsWithin, ViolatesOn};
+ghost use Rattle.daa_legs.specs.OwnLegs.{place_on};
 ghost use Rattle.daa_legs.specs.Runs.{MeetsBetween};
 ghost use Rattle.daa_scan.specs.Sharing.{IsTrailOf};
 
 use crate::trail::Trail;
 use daa_config::{Candidate, Config, Level};
 use daa_detect::is_hit;
-use daa_legs::{Branch, OwnRun, Trunk, leg_after, leg_at, relative, relative_run};
+use daa_fixed::Solid;
+use daa_legs::{Branch, OwnRun, Trunk, end_of, leg_at, relative, relative_run, rest_from};
 use daa_state::{Own, Traffic};
 use daa_taumod::Volume;
 
@@ -93,26 +95,84 @@ fn meets_after(
     requires leaves { branch.now.leaves < level.now.lookahead }
     requires trunk { AreLegsOf own.now (rates_of config.now) lead level.now.lookahead trunk.now }
     requires before { FliesAs own.now (rates_of config.now) candidate lead branch.now.leaves }
-    requires after { FliesOn own.now (rates_of config.now) candidate (branch.now.leaves + 1) }
-    ensures { IsTrue result ↔ (ViolatesOn config.now own.now candidate aircraft.now level.now.volume branch.now.leaves
-        ⊎ MeetsBetween config.now own.now candidate aircraft.now level.now.volume (branch.now.leaves + 1) level.now.lookahead) }
+    requires after { FliesOn own.now (rates_of config.now) candidate branch.now.settles }
+    requires near { (branch.now.leaves ≤ branch.now.settles) × (branch.now.settles ≤ branch.now.leaves + 1) }
+    ensures { IsTrue result ↔ MeetsBetween config.now own.now candidate aircraft.now level.now.volume branch.now.leaves level.now.lookahead }
+{
+    let k = branch.leaves;
+    let place = &trunk.leg(k).place;
+    if branch.settles > k {
+        meets_from_own_leg(config, own, candidate, place, k, aircraft, level)
+    } else {
+        meets_on_rest(config, own, candidate, place, k, aircraft, level)
+    }
+}
+
+/// Whether the candidate, which is at this place, meets the aircraft on leg `k` or later. After leg `k` it flies straight on.
+fn meets_from_own_leg(
+    config: &Config,
+    own: &Own,
+    candidate: Candidate,
+    place: &Solid,
+    k: u32,
+    aircraft: &Traffic,
+    level: &Level,
+) -> bool
+    requires own { IsOwnInRange own.now }
+    requires candidate { IsCandidateInRange candidate }
+    requires aircraft { IsTrafficInRange aircraft.now }
+    requires level { IsLevelInRange level.now }
+    requires k { k < level.now.lookahead }
+    requires place { place.now ≡ place_on own.now (rates_of config.now) candidate k }
+    requires after { FliesOn own.now (rates_of config.now) candidate (k + 1) }
+    ensures { IsTrue result ↔ MeetsBetween config.now own.now candidate aircraft.now level.now.volume k level.now.lookahead }
 {
     let rates = config.rates();
-    let k = branch.leaves;
-    let first = leg_at(own, &rates, candidate, &trunk.leg(k).place, k);
+    let first = leg_at(own, &rates, candidate, place, k);
     if is_hit(&relative(&first, aircraft, k), &level.volume) {
         return true;
     }
-    if k + 1 >= level.lookahead {
+    meets_on_rest(
+        config,
+        own,
+        candidate,
+        &end_of(&first),
+        k + 1,
+        aircraft,
+        level,
+    )
+}
+
+/// Whether the candidate, which flies straight on from this place, meets the aircraft on leg `k` or later.
+fn meets_on_rest(
+    config: &Config,
+    own: &Own,
+    candidate: Candidate,
+    place: &Solid,
+    k: u32,
+    aircraft: &Traffic,
+    level: &Level,
+) -> bool
+    requires own { IsOwnInRange own.now }
+    requires candidate { IsCandidateInRange candidate }
+    requires aircraft { IsTrafficInRange aircraft.now }
+    requires level { IsLevelInRange level.now }
+    requires place { place.now ≡ place_on own.now (rates_of config.now) candidate k }
+    requires on { FliesOn own.now (rates_of config.now) candidate k }
+    ensures { IsTrue result ↔ MeetsBetween config.now own.now candidate aircraft.now level.now.volume k level.now.lookahead }
+{
+    if k >= level.lookahead {
         return false;
     }
-    let rest = leg_after(own, &rates, candidate, &first, k);
+    // tells that they are in range
+    let _rates = config.rates();
+    let rest = rest_from(own, candidate, place);
     let run = OwnRun {
         place: rest.place,
         velocity: rest.velocity,
-        secs: level.lookahead - (k + 1),
+        secs: level.lookahead - k,
     };
-    is_hit(&relative_run(&run, aircraft, k + 1), &level.volume)
+    is_hit(&relative_run(&run, aircraft, k), &level.volume)
 }
 
 /// Whether the candidate meets the aircraft within the level's lookahead, where it leaves the trunk as the branch says.
@@ -133,7 +193,8 @@ pub(crate) fn meets_by_branch(
     requires level { IsLevelInRange level.now }
     requires trunk { AreLegsOf own.now (rates_of config.now) lead level.now.lookahead trunk.now }
     requires before { FliesAs own.now (rates_of config.now) candidate lead branch.now.leaves }
-    requires after { FliesOn own.now (rates_of config.now) candidate (branch.now.leaves + 1) }
+    requires after { FliesOn own.now (rates_of config.now) candidate branch.now.settles }
+    requires near { (branch.now.leaves ≤ branch.now.settles) × (branch.now.settles ≤ branch.now.leaves + 1) }
     requires trail { IsTrailOf config.now own.now lead aircraft.now level.now.volume trail.now }
     requires walked { trail.now.hit ≡ false → (branch.now.leaves ≤ trail.now.walked) ⊎ (level.now.lookahead ≤ trail.now.walked) }
     ensures { IsTrue result ↔ MeetsWithin config.now own.now candidate aircraft.now level.now.volume level.now.lookahead }

@@ -1,7 +1,6 @@
-use Rattle.std.proofs.Common.{rules, ◌≡◌, FitsSigned, w32, w64, to_z-of_z, arith, subst, ap, ◌∙◌, false, pos, ℤ, ◌-ℤ◌, ◌≤ℤ◌, ◌<ℤ◌}
-use Rattle.std.proofs.lemmas.Int.{ints, by_lt_z}
+use Rattle.std.proofs.Common.{rules, ◌≡◌, FitsSigned, w32, w64, to_z-of_z, arith, subst, ap, ◌∙◌, false, pos, ℤ, ◌-ℤ◌, ◌≤ℤ◌}
+use Rattle.std.proofs.lemmas.Int.{ints}
 use Rattle.std.specs.Prelude.{int_le}
-use Rattle.daa_fixed.proofs.Bounds.{le_test}
 use Rattle.daa_legs.specs.Branch.{IsWholeLegs}
 use Rattle.daa_legs.specs.Turn.{right_angle}
 use Rattle.daa_legs.proofs.Turning.{not_le}
@@ -17,7 +16,7 @@ returns-then-right-le180-clause-right_legs c =
     let e : FitsSigned w32 c.args.rate = search rules in
     let right : c.rem_euclid-right.result ≡ right_angle c.args.track c.args.c = simp to_z-of_z at c.rem_euclid-right.ensures.value in
     let from : c.from.result ≡ c.rem_euclid-right.result = simp to_z-of_z at c.from.ensures in
-    let legs : IsWholeLegs c.from.result c.args.rate c.whole_legs.result = simp to_z-of_z at c.whole_legs.ensures in
+    let legs : IsWholeLegs c.from.result c.args.rate c.whole_legs.result = simp to_z-of_z at c.whole_legs.ensures.legs in
     λ _. subst (λ (z : ℤ). IsWholeLegs z c.args.rate c.whole_legs.result) (from ∙ right) legs
 
 pub returns-else-right-le180-clause-left : goal.returns-else-right-le180-clause-left
@@ -41,5 +40,5 @@ returns-else-right-le180-clause-left_legs c =
     let e : FitsSigned w32 c.args.rate = search rules in
     let right : c.rem_euclid-right.result ≡ right_angle c.args.track c.args.c = simp to_z-of_z at c.rem_euclid-right.ensures.value in
     let from : c.from-else-right-le180.result ≡ pos 360 -ℤ c.rem_euclid-right.result = simp to_z-of_z at c.from-else-right-le180.ensures in
-    let legs : IsWholeLegs c.from-else-right-le180.result c.args.rate c.whole_legs-else-right-le180.result = simp to_z-of_z at c.whole_legs-else-right-le180.ensures in
+    let legs : IsWholeLegs c.from-else-right-le180.result c.args.rate c.whole_legs-else-right-le180.result = simp to_z-of_z at c.whole_legs-else-right-le180.ensures.legs in
     λ _. subst (λ (z : ℤ). IsWholeLegs z c.args.rate c.whole_legs-else-right-le180.result) (from ∙ ap (λ (z : ℤ). pos 360 -ℤ z) right) legs

@@ -1,4 +1,4 @@
-use Rattle.std.proofs.Common.{◌↔◌, sym, subst, arith, ℤ, pos, ◌≤ℤ◌}
+use Rattle.std.proofs.Common.{◌↔◌, sym, subst, arith, pos, ◌≤ℤ◌}
 use Rattle.std.proofs.lemmas.Int.{ints}
 use Rattle.daa_config.specs.declared.level.Level.{Level}
 use Rattle.daa_scan.specs.Reach.{size_of, CanEnter}

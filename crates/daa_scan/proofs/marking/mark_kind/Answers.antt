@@ -1,5 +1,5 @@
-use Rattle.std.proofs.Common.{◌≡◌, ◌≤◌, ◌<◌, ◌+◌, ◌-◌, ℕ, ◌⊎◌, inl, inr, ⊎_elim, refl, sym, ap, subst, ◌∙◌, arith, length, slice_set, Some}
-use Rattle.std.specs.Prelude.{IsTrue, slice_get}
+use Rattle.std.proofs.Common.{◌≡◌, ◌<◌, ◌+◌, ◌-◌, ℕ, inl, inr, ⊎_elim, refl, sym, ap, subst, ◌∙◌, arith, length, slice_set, Some}
+use Rattle.std.specs.Prelude.{slice_get}
 use Rattle.daa_config.specs.Candidates.{candidates_of, start_of, values_of}
 use Rattle.daa_scan.specs.Marking.{AreMarked}
 use Rattle.daa_scan.proofs.Marks.{marked_past, marked_on, marked_next}

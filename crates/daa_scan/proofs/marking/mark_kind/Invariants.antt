@@ -1,4 +1,4 @@
-use Rattle.std.proofs.Common.{◌≡◌, ◌≤◌, ◌⊎◌, length}
+use Rattle.std.proofs.Common.{◌≡◌, ◌≤◌, ◌⊎◌}
 use Rattle.daa_scan.specs.Marking.{AreTrailsOf, AreMarked}
 use Rattle.daa_scan.proofs.marking.mark_kind.Given as goal
 

@@ -1,5 +1,5 @@
-use Rattle.std.proofs.Common.{ℕ, ◌+◌, ◌≡◌, sym, subst, arith, length}
-use Rattle.daa_config.specs.declared.kind.Kind.TheVariants.{Track, Speed, Climb, Height}
+use Rattle.std.proofs.Common.{ℕ, ◌+◌, sym, subst, arith, length}
+use Rattle.daa_config.specs.declared.kind.Kind.TheVariants.{Height}
 use Rattle.daa_config.specs.Candidates.{start_of, values_of}
 use Rattle.daa_config.proofs.CandidateLemmas.{begins, whole_ends}
 use Rattle.daa_scan.specs.Marking.{AreMarked}

@@ -1,4 +1,3 @@
-use Rattle.std.proofs.Common.{◌≡◌, length}
 use Rattle.daa_scan.specs.Marking.{AreMasks}
 use Rattle.daa_scan.proofs.marking.mark_levels.Given as goal
 

@@ -1,5 +1,4 @@
-use Rattle.std.proofs.Common.{ℤ, sym, subst}
-use Rattle.daa_config.specs.declared.candidate.Candidate.{Candidate}
+use Rattle.std.proofs.Common.{subst}
 use Rattle.daa_config.specs.declared.candidate.Candidate.TheVariants.{Track as ToTrack, Speed as ToSpeed, Climb as ToClimb, Height as ToHeight}
 use Rattle.daa_config.specs.declared.kind.Kind.{Kind}
 use Rattle.daa_config.specs.Candidates.{candidate_to}

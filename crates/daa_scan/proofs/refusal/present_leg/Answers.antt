@@ -1,4 +1,4 @@
-use Rattle.std.proofs.Common.{◌↔◌, ◌∙◌, ap}
+use Rattle.std.proofs.Common.{◌∙◌, ap}
 use Rattle.daa_config.specs.declared.candidate.Candidate.TheVariants.{Hold}
 use Rattle.daa_config.specs.Settings.{rates_of}
 use Rattle.daa_legs.specs.FlightProgress.{FlightProgress}

@@ -1,48 +1,25 @@
-use Rattle.std.proofs.Common.{◌≡◌, ◌+◌, ◌-◌, ◌↔◌, ◌∙◌, inl, inr, ⊎_elim, ap, sym, refl, arith}
-use Rattle.std.specs.Prelude.{IsTrue}
-use Rattle.daa_config.specs.declared.config.Rates.{Rates}
+use Rattle.std.proofs.Common.{◌≡◌, ◌+◌, ◌<◌, ◌≤◌, ℕ, subst, arith}
 use Rattle.daa_config.specs.Settings.{rates_of}
-use Rattle.daa_legs.specs.Meeting.{ViolatesOn}
-use Rattle.daa_legs.specs.OwnLegs.{own_leg}
-use Rattle.daa_legs.specs.Runs.{MeetsBetween}
-use Rattle.daa_scan.proofs.Trails.{leaves_there, leg_tested, rest_tested}
+use Rattle.daa_legs.specs.Branch.{FliesOn}
+use Rattle.daa_scan.proofs.Trails.{leaves_there}
 use Rattle.daa_scan.proofs.sharing.meets_after.Goals as goal
-use Rattle.daa_scan.proofs.sharing.meets_after.Goals.{After-is_hit, After-is_hit-2}
 
-pub leg_at-first-requires-clause-place : goal.leg_at-first-requires-clause-place
-leg_at-first-requires-clause-place c = leaves_there c.args.own.now (rates_of c.args.config.now) c.rates-rates.result c.args.candidate c.args.lead c.args.branch.now.leaves c.args.level.now.lookahead c.args.trunk.now c.leg.result.now
-    c.rates-rates.ensures.value c.requires.before c.requires.trunk c.requires.leaves c.leg.ensures
+pub meets_from_own_leg-requires-clause-place : goal.meets_from_own_leg-requires-clause-place
+meets_from_own_leg-requires-clause-place c = leaves_there c.args.own.now (rates_of c.args.config.now) c.args.candidate c.args.lead c.args.branch.now.leaves c.args.level.now.lookahead c.args.trunk.now c.leg.result.now
+    c.requires.before c.requires.trunk c.requires.leaves c.leg.ensures
 
-first : (c : After-is_hit) → IsTrue c.is_hit.result ↔ ViolatesOn c.args.config.now c.args.own.now c.args.candidate c.args.aircraft.now c.args.level.now.volume c.args.branch.now.leaves
-first c = leg_tested c.args.config.now c.args.own.now c.args.candidate c.args.aircraft.now c.args.level.now.volume c.args.branch.now.leaves c.leg_at-first.result c.relative.result c.is_hit.result
-    (c.leg_at-first.ensures.value ∙ ap (λ (r : Rates). own_leg c.args.own.now r c.args.candidate c.args.branch.now.leaves) c.rates-rates.ensures.value) c.relative.ensures.value c.is_hit.ensures
+pub meets_on_rest-requires-clause-place : goal.meets_on_rest-requires-clause-place
+meets_on_rest-requires-clause-place c = leaves_there c.args.own.now (rates_of c.args.config.now) c.args.candidate c.args.lead c.args.branch.now.leaves c.args.level.now.lookahead c.args.trunk.now c.leg.result.now
+    c.requires.before c.requires.trunk c.requires.leaves c.leg.ensures
 
-pub returns-then-is_hit : goal.returns-then-is_hit
-returns-then-is_hit c = ((λ _. inl ((first c.before).0 c.if-is_hit.true)), (λ _. refl))
+next : (n s : ℕ) → n < s → s ≤ n + 1 → s ≡ n + 1
+next n s a b = omega (arith, a, b)
 
-pub returns-then-k-level : goal.returns-then-k-level
-returns-then-k-level c = (
-  (λ t. absurd (cc t)),
-  (λ o. ⊎_elim
-      (λ v. let t = (first c.before.before).1 v in absurd (cc (t, c.if-is_hit.false)))
-      (λ b. absurd (omega (arith, b.not_before, b.before, c.if-k-level.true)))
-      o),
-)
+same : (n s : ℕ) → s ≤ n → n ≤ s → s ≡ n
+same n s a b = omega (arith, a, b)
 
-first_later : (c : After-is_hit-2) → IsTrue c.is_hit.result ↔ ViolatesOn c.args.config.now c.args.own.now c.args.candidate c.args.aircraft.now c.args.level.now.volume c.args.branch.now.leaves
-first_later c = leg_tested c.args.config.now c.args.own.now c.args.candidate c.args.aircraft.now c.args.level.now.volume c.args.branch.now.leaves c.leg_at-first.result c.relative.result c.is_hit.result
-    (c.leg_at-first.ensures.value ∙ ap (λ (r : Rates). own_leg c.args.own.now r c.args.candidate c.args.branch.now.leaves) c.rates-rates.ensures.value) c.relative.ensures.value c.is_hit.ensures
+pub meets_from_own_leg-requires-clause-after : goal.meets_from_own_leg-requires-clause-after
+meets_from_own_leg-requires-clause-after c = subst (λ (n : ℕ). FliesOn c.args.own.now (rates_of c.args.config.now) c.args.candidate n) (next c.args.branch.now.leaves c.args.branch.now.settles c.if-branch-k.true c.requires.near.1) c.requires.after
 
-rest : (c : After-is_hit-2) → IsTrue c.is_hit-2.result ↔ MeetsBetween c.args.config.now c.args.own.now c.args.candidate c.args.aircraft.now c.args.level.now.volume (c.args.branch.now.leaves + 1) c.args.level.now.lookahead
-rest c = rest_tested c.args.config.now c.args.own.now c.args.candidate c.args.aircraft.now c.args.level.now.volume (c.args.branch.now.leaves + 1) (c.args.level.now.lookahead - (c.args.branch.now.leaves + 1)) c.args.level.now.lookahead c.leg_after-rest.result c.relative_run.result c.is_hit-2.result
-    (c.leg_after-rest.ensures.value ∙ ap (λ (r : Rates). own_leg c.args.own.now r c.args.candidate (c.args.branch.now.leaves + 1)) c.rates-rates.ensures.value)
-    c.requires.after (omega (arith, c.if-k-level.false)) (c.relative_run.ensures.seconds c.args.config.now c.args.own.now c.args.candidate c.args.level.now.volume) c.is_hit-2.ensures
-
-pub returns : goal.returns
-returns c = (
-  (λ t. inr ((rest c).0 t)),
-  (λ o. ⊎_elim
-      (λ v. let t = (first_later c).1 v in absurd (cc (t, c.if-is_hit.false)))
-      (λ b. (rest c).1 b)
-      o),
-)
+pub meets_on_rest-requires-clause-on : goal.meets_on_rest-requires-clause-on
+meets_on_rest-requires-clause-on c = subst (λ (n : ℕ). FliesOn c.args.own.now (rates_of c.args.config.now) c.args.candidate n) (same c.args.branch.now.leaves c.args.branch.now.settles (omega (arith, c.if-branch-k.false)) c.requires.near.0) c.requires.after

@@ -1,7 +1,4 @@
-use Rattle.std.proofs.Common.{◌≡◌, ◌<◌, ◌≤◌, ◌+◌, ◌⊎◌, ℕ, true, false, inl, inr, ⊎_elim, refl, arith}
-use Rattle.std.specs.Prelude.{IsTrue}
-use Rattle.daa_legs.specs.Meeting.{MeetsWithin, ViolatesOn}
-use Rattle.daa_legs.specs.Runs.{MeetsBetween}
+use Rattle.std.proofs.Common.{◌<◌, ◌≤◌, ℕ, ⊎_elim, refl, arith}
 use Rattle.daa_scan.proofs.Trails.{hit_meets, later_meets, meets_later}
 use Rattle.daa_scan.proofs.sharing.meets_by_branch.Goals as goal
 use Rattle.daa_scan.proofs.sharing.meets_by_branch.Goals.{Then-branch-level, After-meets_after, else-trail-via-then-trail+then-trail-branch+else-trail-level, else-trail-via-then-trail+else-trail-branch, else-trail-via-else-trail}
@@ -23,10 +20,8 @@ never c k g a b = elim c.else-trail.branch [
 pub returns-then-branch-level : goal.returns-then-branch-level
 returns-then-branch-level c = (
   (λ t. absurd (cc t)),
-  (λ m. absurd (⊎_elim
-      (λ (b, v). omega (arith, b, c.if-branch-level.true))
-      (λ r. omega (arith, r.not_before, r.before, c.if-branch-level.true))
-      (later_meets c.args.config.now c.args.own.now c.args.candidate c.args.lead c.args.aircraft.now c.args.level.now.volume c.args.branch.now.leaves c.args.level.now.lookahead c.requires.before c.args.trail.now c.requires.trail (never c) m))),
+  (λ m. let r = later_meets c.args.config.now c.args.own.now c.args.candidate c.args.lead c.args.aircraft.now c.args.level.now.volume c.args.branch.now.leaves c.args.level.now.lookahead c.requires.before c.args.trail.now c.requires.trail (never c) m in
+      absurd (omega (arith, r.not_before, r.before, c.if-branch-level.true))),
 )
 
 never_later : (c : After-meets_after) (k : ℕ) → c.args.trail.now.walked ≤ k → k < c.args.branch.now.leaves → k < c.args.level.now.lookahead → ⊥
@@ -39,7 +34,7 @@ never_later c k g a b = elim c.else-trail.branch [
 pub returns : goal.returns
 returns c = (
   (λ t. meets_later c.args.config.now c.args.own.now c.args.candidate c.args.lead c.args.aircraft.now c.args.level.now.volume c.args.branch.now.leaves c.args.level.now.lookahead c.requires.before c.args.trail.now c.requires.trail
-      (⊎_elim (λ v. inl (c.if-branch-level.false, v)) (λ r. inr r) (c.meets_after.ensures.0 t))),
-  (λ m. c.meets_after.ensures.1 (⊎_elim (λ (b, v). inl v) (λ r. inr r)
-      (later_meets c.args.config.now c.args.own.now c.args.candidate c.args.lead c.args.aircraft.now c.args.level.now.volume c.args.branch.now.leaves c.args.level.now.lookahead c.requires.before c.args.trail.now c.requires.trail (never_later c) m))),
+      (c.meets_after.ensures.0 t)),
+  (λ m. c.meets_after.ensures.1
+      (later_meets c.args.config.now c.args.own.now c.args.candidate c.args.lead c.args.aircraft.now c.args.level.now.volume c.args.branch.now.leaves c.args.level.now.lookahead c.requires.before c.args.trail.now c.requires.trail (never_later c) m)),
 )

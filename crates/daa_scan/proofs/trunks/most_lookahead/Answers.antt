@@ -1,4 +1,4 @@
-use Rattle.std.proofs.Common.{◌≤◌, arith}
+use Rattle.std.proofs.Common.{arith}
 use Rattle.daa_scan.proofs.Sides.{ahead_more}
 use Rattle.daa_scan.proofs.trunks.most_lookahead.Goals as goal
 

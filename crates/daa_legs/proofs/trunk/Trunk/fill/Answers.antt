@@ -1,4 +1,4 @@
-use Rattle.std.proofs.Common.{◌≡◌, ◌<◌, ◌≤◌, ◌+◌, ◌∙◌, ℕ, ap, subst, refl, arith}
+use Rattle.std.proofs.Common.{◌≡◌, ◌≤◌, ◌+◌, ◌∙◌, ℕ, ap, subst, arith}
 use Rattle.daa_config.specs.Settings.{rates_of}
 use Rattle.daa_legs.specs.FlightProgress.{FlightProgress}
 use Rattle.daa_legs.specs.Kept.{AreLegsOf}
