@@ -3,7 +3,7 @@ import unittest
 
 from common import CONFIG, TOP, ToolTest, module, replayed
 from daidalus_files import Moment, Reader, examine_config
-from test_toml import ONLY_1_1, mutated
+from test_toml import ONLY_1_1
 
 PLAIN = """resolve = 1
 turn_rate = 3
@@ -70,7 +70,7 @@ class Configurations(ToolTest):
         draw, codes = module("bench/soak").Draw(22), {}
         for turn in range(1500):
             text = draw.configuration(draw.settings())
-            text = draw.broken(text) if turn % 2 else mutated(draw, text).encode()
+            text = draw.broken(text) if turn % 2 else draw.mutated(text).encode()
             faults = examine_config(text)[1]
             status, written = replayed(self.write("c.toml", text), b"")
             wanted = f"config {faults[0].code}\n".encode() if faults else b""
