@@ -102,6 +102,14 @@ class Worked(unittest.TestCase):
         found = report(small([level], recovery=(410, 100)), OWN, aircraft)
         self.assertEqual(found[-5:-1], [f"recover {kind} none" for kind in ("track", "gs", "vs", "alt")])
 
+    def test_recovery_and_a_cylinder_at_the_last_instant(self):
+        """A is 0.2 miles behind after 2 s, and 300 ft above; B is 0.7 miles ahead after exactly 10 s, or a mil more."""
+        level = LEVEL._replace(dthr=200, tthr=0)
+        for north, line in ((1700, "recover gs none"), (1701, "recover gs 3 3600")):
+            others = Traffic("A", 0, 0, 1300, 0, 0, 0), Traffic("B", 0, north, 1000, 0, 0, 0)
+            found = report(small([level], recovery=(700, 100)), OWN, *others)
+            self.assertIn(line, found)
+
     def test_nearest_on_each_side(self):
         covered = {0: {1}, 60: set(), 120: set(), 180: set(), 240: set(), 300: set()}
         at = reference.Situation(small([LEVEL]), _picture(OWN, Traffic("A", 0, 0, 1000, 0, 3600, 0)))
