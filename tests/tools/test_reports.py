@@ -70,7 +70,8 @@ class Reports(ToolTest):
             "line 9 refused: 6 and 4",
             "moment: 0 of 2 differ", "aircraft: 0 of 2 differ", "now: 1 of 2 differ (1 by 1)", "alert: 1 of 2 differ (1 by 1)",
             "first second: 1 of 2 differ (1 by 3)", "track: 2 of 144 differ (2 by 3)", "gs: 0 of 2 differ", "vs: 0 of 2 differ",
-            "alt: 0 of 202 differ", "resolve: 1 of 16 differ (1 by 5)", "recover: 1 of 1 differ (1 by a value/none)",
+            "alt: 0 of 202 differ", "resolve track: 1 of 4 differ (1 by 5)", "resolve gs: 0 of 4 differ", "resolve vs: 0 of 4 differ",
+            "resolve alt: 0 of 4 differ", "recover track: 1 of 1 differ (1 by a value/none)",
             "refused: 1 of 1 differ (1 by 2)"])
 
     def test_compare_tells_what_one_lacks(self):
