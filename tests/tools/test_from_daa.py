@@ -77,6 +77,13 @@ class FromDaa(ToolTest):
         self.assertEqual([moment.time for moment in moments], [0, 1, 2])
         self.assertIn("left out: 22 moments in a second that has one already", said)
 
+    def test_times_in_other_units(self):
+        """1.13 hours are 4068 s, though in floating point 1.13 * 3600 is a little less."""
+        recording = PLANE.replace("[s]", "[h]") + "own 0 0 0 0 100 0 1.13\nown 0 0 0 0 100 0 2e6\n"
+        moments, said = self.made(recording)
+        self.assertEqual([moment.time for moment in moments], [4068])
+        self.assertIn("left out: 1 moments in a second that has one already, or out of range", said)
+
     def test_names(self):
         moments, said = self.made(PLANE + "own 0 0 0 0 100 0 0\nIntruder1 1 0 0 0 0 0 0\nIntruder2 2 0 0 0 0 0 0\nüü 3 0 0 0 0 0 0\n")
         self.assertEqual([aircraft.id for aircraft in moments[0].traffic], ["Intrude1", "Intrude2", "A0"])
