@@ -108,7 +108,7 @@ def shown(value):
     if isinstance(value, list):
         return "a list"
     if isinstance(value, str):
-        return repr(value if len(value) <= 40 else value[:40] + "..")
+        return ascii(value if len(value) <= 40 else value[:40] + "..")
     return value.text if isinstance(value, Scalar) else str(value)
 
 
@@ -151,7 +151,7 @@ def faults_of_keys(where, table, places, optional=()):
 
 def shown_key(key):
     key = key if len(key) <= 40 else key[:40] + ".."
-    return key if re.fullmatch(r"[A-Za-z0-9_-]+(\.\.)?", key) else repr(key)
+    return key if re.fullmatch(r"[A-Za-z0-9_-]+(\.\.)?", key) else ascii(key)
 
 
 def faults_of_numbers(where, table, places):
@@ -318,7 +318,7 @@ class Reader:
     def fault_of_form(self, word, values):
         """The code and the cause, where the line is wrong by itself."""
         if word not in FIELDS:
-            return 2, f"{word!r} is none of the words {', '.join(FIELDS)}"
+            return 2, f"{word!a} is none of the words {', '.join(FIELDS)}"
         fields = FIELDS[word] + ([AGE] if word == "traffic" and self.form == 2 else [])
         if len(values) != len(fields):
             names = " ".join(field.name for field in fields)
@@ -374,9 +374,9 @@ class Reader:
 def fault_of_field(word, field, value):
     if field is ID:
         right = re.fullmatch(r"[A-Za-z0-9_-]{1,8}", value)
-        return None if right else (5, f"{word}, {value!r} is no identifier (1 to 8 letters, digits, _ and -)")
+        return None if right else (5, f"{word}, {value!a} is no identifier (1 to 8 letters, digits, _ and -)")
     if not re.fullmatch(r"[+-]?[0-9]{1,10}", value):
-        return 4, f"{word}, {field.name} {value!r} is no whole number of 1 to 10 digits"
+        return 4, f"{word}, {field.name} {value!a} is no whole number of 1 to 10 digits"
     if not field.low <= int(value) <= field.high:
         return 6, f"{word}, {field.name} {int(value)} is outside {field.low} to {field.high}" + f" ({field.unit})" * bool(field.unit)
     return None
@@ -458,7 +458,7 @@ def take_report_line(report, at, line, where):
     """Takes a line of a report; gives the moment that is then open, or None."""
     word, found = next(((word, form.fullmatch(line)) for word, form in REPORT_LINES.items() if form.fullmatch(line)), ("", None))
     if not found or (at is None) != (word in ("refused", "moment")):
-        raise Problem(f"{where} is no line of a report there: {line[:60]!r}", 4)
+        raise Problem(f"{where} is no line of a report there: {line[:60]!a}", 4)
     values = found.groups()
     if word == "refused":
         report.refused.append((int(values[0]), int(values[1]), len(report.moments)))
@@ -466,7 +466,7 @@ def take_report_line(report, at, line, where):
         return MomentReport(int(values[0]))
     elif word == "done":
         if int(values[0]) != at.time or set(at.answers) != set(KINDS):
-            raise Problem(f"{where} ends a moment that is not whole: {line!r}", 4)
+            raise Problem(f"{where} ends a moment that is not whole: {line!a}", 4)
         report.moments.append(at)
         return None
     else:

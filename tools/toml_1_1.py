@@ -86,7 +86,7 @@ class _Reader:
 
     def need(self, front):
         if not self.take(front):
-            found = "the end of the text" if self.at == len(self.text) else repr(self.text[self.at])
+            found = "the end of the text" if self.at == len(self.text) else ascii(self.text[self.at])
             self.fail(f"{front} is wanted, and {found} found")
 
     # The document and its keys.
@@ -104,7 +104,7 @@ class _Reader:
                 self.pair(current)
             self.skip(SPACE)
             if not (self.at == len(self.text) or self.next_is("#") or LINE_END.match(self.text, self.at)):
-                self.fail(f"{self.text[self.at]!r} after the end of what the line says")
+                self.fail(f"{self.text[self.at]!a} after the end of what the line says")
             self.skip(BLANK)
         return root
 
@@ -117,20 +117,20 @@ class _Reader:
             table = table.setdefault(part, Table("implicit"))
             table = table[-1] if isinstance(table, TableList) else table
             if not isinstance(table, Table) or table.origin == "value":
-                self.fail(f"{part} is no table that may be added to")
+                self.fail(f"{part!a} is no table that may be added to")
         return self.listed(table, last) if closing == "]]" else self.headed(table, last)
 
     def headed(self, table, name):
         made = table.setdefault(name, Table("implicit"))
         if not isinstance(made, Table) or made.origin != "implicit":
-            self.fail(f"{name} is there already")
+            self.fail(f"{name!a} is there already")
         made.origin = "header"
         return made
 
     def listed(self, table, name):
         made = table.setdefault(name, TableList())
         if not isinstance(made, TableList):
-            self.fail(f"{name} is there already")
+            self.fail(f"{name!a} is there already")
         made.append(Table("header"))
         return made[-1]
 
@@ -143,10 +143,10 @@ class _Reader:
         for part in path:
             table = table.setdefault(part, Table("dotted"))
             if not isinstance(table, Table) or table.origin not in ("dotted", "implicit"):
-                self.fail(f"{part} is no table that may be added to")
+                self.fail(f"{part!a} is no table that may be added to")
             table.origin = "dotted"
         if last in table:
-            self.fail(f"{last} is there already")
+            self.fail(f"{last!a} is there already")
         table[last] = value
 
     def key(self):
@@ -234,7 +234,7 @@ class _Reader:
         self.at += 1
         if letter in ESCAPES:
             return ESCAPES[letter]
-        size = HEX_DIGITS.get(letter) or self.fail(f"\\{letter} stands for no character")
+        size = HEX_DIGITS.get(letter) or self.fail(f"\\{ascii(letter)[1:-1]} stands for no character")
         digits = self.skip(re.compile("[0-9A-Fa-f]{%d}" % size)) or self.fail(f"\\{letter} needs {size} hexadecimal digits")
         code = int(digits, 16)
         if 0xD800 <= code < 0xE000 or code > 0x10FFFF:

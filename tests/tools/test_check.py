@@ -1,9 +1,10 @@
 """tools/check: its words on worked inputs, and its codes against the program's on random and hostile ones."""
+import re
 import unittest
 
 from common import CONFIG, TOP, ToolTest, module, replayed
 from daidalus_files import Moment, Reader, examine_config
-from test_toml import ONLY_1_1, mutated
+from test_toml import ONLY_1_1
 
 PLAIN = """resolve = 1
 turn_rate = 3
@@ -70,7 +71,7 @@ class Configurations(ToolTest):
         draw, codes = module("bench/soak").Draw(22), {}
         for turn in range(1500):
             text = draw.configuration(draw.settings())
-            text = draw.broken(text) if turn % 2 else mutated(draw, text).encode()
+            text = draw.broken(text) if turn % 2 else draw.mutated(text).encode()
             faults = examine_config(text)[1]
             status, written = replayed(self.write("c.toml", text), b"")
             wanted = f"config {faults[0].code}\n".encode() if faults else b""
@@ -121,6 +122,17 @@ class States(ToolTest):
         self.assert_one_line(said, "nothing: No such file")
         self.assertEqual(self.tool("check", self.write("c.toml", ""))[0], 3)
         self.assertEqual(self.tool("check")[0], 2)
+
+    def test_each_fault_is_one_plain_line(self):
+        """Whatever stands in a key, a value or a field, what is said of it is one line of ASCII."""
+        for text in ('"\\n\u00e9" = 1', 'resolve = "\\n\u00e9"', '"\\n" = 1\n"\\n" = 1', "resolve = \u00e9", 'a = "\\\u00e9"', "[\u00e9]", '"\\n" = 1\n["\\n".b]'):
+            out = self.tool("check", self.write("c.toml", text))[1]
+            self.assertTrue(out.isascii(), text)
+            self.assertTrue(all(": config " in line for line in out.splitlines()), text)
+        for line in (b"\xff\x0b\xc3\xa9", b"moment \xff", b"moment 0\nown \x85 2 3 4 5 6\ntraffic \xff\x0c 1 2 3 4 5 6\nown 1 2 3 4 5 6\nend"):
+            out = self.tool("check", CONFIG, self.write("in.states", line))[1]
+            self.assertTrue(out.isascii(), line)
+            self.assertTrue(all(re.search(r":\d+: refused|: moment 0 is reported", line) for line in out.splitlines()), out)
 
     def test_has_the_programs_codes_on_hostile_lines(self):
         draw, codes = module("bench/soak").Draw(33), set()

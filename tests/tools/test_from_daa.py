@@ -44,16 +44,17 @@ class FromDaa(ToolTest):
         self.assertEqual(self.made(text.replace(" [m/s]", "(m/s)"))[0][0].traffic, moments[0].traffic)
 
     def test_units_in_a_line_of_their_own(self):
-        text = "id,x,y,z,vx,vy,vz,time\n,km,km,ft,kt,kt,fpm,min\nown,0,0,0,0,60,0,0\nA,1.852,0,0,0,0,0,0\nown,0,0,0,0,60,0,1\nA,0,0,0,0,0,0,1\n"
+        text = ("id,x,y,z,vx,vy,vz,time\n,km,km,ft,kt,kt,fpm,min\nown,0,0,0,0,60,0,0\nA,1.852,0,0,0,0,0,0\n"
+                "own,0,0,0,0,60,0,1\nA,0,0,0,0,0,0,1\n")
         moments, _ = self.made(text)
         self.assertEqual([moment.time for moment in moments], [0, 60])
         self.assertEqual(moments[0].traffic[0].x, 1000)
 
     def test_turns_the_plane_by_the_fraction_of_the_track(self):
         """At 359.6 degrees the track becomes 0, and what was straight ahead stays straight ahead."""
-        angle = math.radians(359.6)
-        moments, said = self.made(PLANE + f"own 0 0 0 {150 * math.sin(angle)} {150 * math.cos(angle)} 0 0\n"
-                                          f"A {5 * math.sin(angle)} {5 * math.cos(angle)} 0 {-90 * math.sin(angle)} {-90 * math.cos(angle)} 0 0\n")
+        east, north = math.sin(math.radians(359.6)), math.cos(math.radians(359.6))
+        moments, said = self.made(PLANE + f"own 0 0 0 {150 * east} {150 * north} 0 0\n"
+                                          f"A {5 * east} {5 * north} 0 {-90 * east} {-90 * north} 0 0\n")
         self.assertEqual(moments[0].own, Own(0, 0, 0, 0, 1500, 0))
         self.assertEqual(moments[0].traffic, [Traffic("A", 0, 5000, 0, 0, -900, 0)])
         self.assertIn("at most: place 0.0000 NM", said)
@@ -76,6 +77,13 @@ class FromDaa(ToolTest):
         self.assertEqual([moment.time for moment in moments], [0, 1, 2])
         self.assertIn("left out: 22 moments in a second that has one already", said)
 
+    def test_times_in_other_units(self):
+        """1.13 hours are 4068 s, though in floating point 1.13 * 3600 is a little less."""
+        recording = PLANE.replace("[s]", "[h]") + "own 0 0 0 0 100 0 1.13\nown 0 0 0 0 100 0 2e6\n"
+        moments, said = self.made(recording)
+        self.assertEqual([moment.time for moment in moments], [4068])
+        self.assertIn("left out: 1 moments in a second that has one already, or out of range", said)
+
     def test_names(self):
         moments, said = self.made(PLANE + "own 0 0 0 0 100 0 0\nIntruder1 1 0 0 0 0 0 0\nIntruder2 2 0 0 0 0 0 0\nüü 3 0 0 0 0 0 0\n")
         self.assertEqual([aircraft.id for aircraft in moments[0].traffic], ["Intrude1", "Intrude2", "A0"])
@@ -97,7 +105,8 @@ class FromDaa(ToolTest):
         self.assertEqual(status, 0)
         self.assertEqual(self.tool("check", CONFIG, self.write("in.states", out))[0], 0)
         self.assertEqual(out.count("moment"), 13)
-        lost = dict(zip(("place", "height", "speed", "climb", "closest"), map(float, re.findall(r" ([0-9.]+) (?:NM|ft|knots|ft/min)\b", said))))
+        numbers = re.findall(r" ([0-9.]+) (?:NM|ft|knots|ft/min)\b", said)
+        lost = dict(zip(("place", "height", "speed", "climb", "closest"), map(float, numbers)))
         self.assertTrue(0 < lost["place"] <= 0.0015 and 0 < lost["height"] <= 1 and 0 < lost["speed"] <= 0.3, said)
         self.assertLess(lost["closest"], 0.01)
 

@@ -71,6 +71,21 @@ class Worked(unittest.TestCase):
         self.assertEqual(report(small([level]), OWN, aircraft)[1:3], ["now A 1", "alert A 1 0"])
         self.assertEqual(report(small([level._replace(tcpa=1)]), OWN, aircraft)[1:3], ["now A 0", "alert A 1 1"])
 
+    def test_times_exactly_at_their_threshold(self):
+        """At 400 mils and 360 knots, modified tau to 200 mils is 3 s: 14400 (14400 - 3 * 3600) is 7200 squared."""
+        level = LEVEL._replace(dthr=200, tthr=3)
+        for model, mils in ((level, 400), (level._replace(tcpa=1), 300)):
+            for further, now in ((0, 1), (1, 0)):
+                found = report(small([model]), OWN, Traffic("A", 0, mils + further, 1000, 0, 0, 0))
+                self.assertEqual(found[1], f"now A {now}")
+
+    def test_heights_exactly_at_their_threshold(self):
+        """450 ft above; or 600 ft above, where 3000 ft/min take 12 s."""
+        for level, own, alt in ((LEVEL, OWN, 1450), (LEVEL._replace(tcoa=12), OWN._replace(vs=3000), 1600)):
+            for further, now in ((0, 1), (1, 0)):
+                found = report(small([level]), own, Traffic("A", 0, 0, alt + further, 0, 3600, 0))
+                self.assertEqual(found[1], f"now A {now}")
+
     def test_four_levels(self):
         levels = [LEVEL._replace(tthr=0, dthr=dthr) for dthr in (700, 690, 680, 660)]
         found = report(small(levels, resolve=4), OWN, Traffic("A", 660, 1000, 1000, 0, 0, 0))
@@ -86,6 +101,14 @@ class Worked(unittest.TestCase):
         self.assertEqual(found[-5:], ["recover track 6 270", "recover gs 7 3600", "recover vs 7 0", "recover alt 7 1000", "done 0"])
         found = report(small([level], recovery=(410, 100)), OWN, aircraft)
         self.assertEqual(found[-5:-1], [f"recover {kind} none" for kind in ("track", "gs", "vs", "alt")])
+
+    def test_recovery_and_a_cylinder_at_the_last_instant(self):
+        """A is 0.2 miles behind after 2 s, and 300 ft above; B is 0.7 miles ahead after exactly 10 s, or a mil more."""
+        level = LEVEL._replace(dthr=200, tthr=0)
+        for north, line in ((1700, "recover gs none"), (1701, "recover gs 3 3600")):
+            others = Traffic("A", 0, 0, 1300, 0, 0, 0), Traffic("B", 0, north, 1000, 0, 0, 0)
+            found = report(small([level], recovery=(700, 100)), OWN, *others)
+            self.assertIn(line, found)
 
     def test_nearest_on_each_side(self):
         covered = {0: {1}, 60: set(), 120: set(), 180: set(), 240: set(), 300: set()}

@@ -15,7 +15,8 @@ REPORT = ("moment 0\nnow A 0\nalert A 2 43\ntrack 0 5 3\ntrack 10 180 0\ntrack 1
           "alt 9500 10500 1\nalt 11000 50000 0\nresolve track left none right 10\n" + KEEP + "done 0\nrefused 9 6\n"
           "moment 10\nnow A 1\nalert A 2 0\ntrack 0 355 3\ngs 500 7000 0\nvs 0 0 0\nalt 0 50000 0\nresolve track left none right none\n"
           + KEEP + "recover track 12 40\ndone 10\n")
-NO_REPORTS = (("", "it is empty"), ("hello\n", "line 1 is no line of a report there: 'hello'"), ("done 0\n", "line 1"), ("moment 0\nmoment 1\n", "line 2"),
+NO_REPORTS = (("", "it is empty"), ("hello\n", "line 1 is no line of a report there: 'hello'"), ("done 0\n", "line 1"),
+              ("moment 0\nmoment 1\n", "line 2"),
               ("moment 0\ndone 0\n", "line 2 ends a moment that is not whole"), ("moment 0\nalert A 0 -\n", "line 2 is an alert of A"),
               ("moment 0\ntrack 5 0 1\n", "line 2 does not rise"), ("config 3\n", "line 1"), ("moment", "no whole line"))
 
@@ -53,7 +54,8 @@ class Reports(ToolTest):
     def test_summary_as_a_table(self):
         status, out, _ = self.tool("summary", "--csv", self.report)
         self.assertEqual(status, 0)
-        self.assertEqual(out.splitlines()[:4], ["of,what,value,moments,first,last", "A,alert,2,2,0,10", "A,now,1,1,10,10", "track,answer,none,1,10,10"])
+        self.assertEqual(out.splitlines()[:4], ["of,what,value,moments,first,last", "A,alert,2,2,0,10", "A,now,1,1,10,10",
+                                                "track,answer,none,1,10,10"])
         self.assertEqual(out.splitlines()[-1], "input,refused,6,1,9,9")
 
     def test_compare_tells_each_difference(self):
@@ -68,11 +70,13 @@ class Reports(ToolTest):
             "line 9 refused: 6 and 4",
             "moment: 0 of 2 differ", "aircraft: 0 of 2 differ", "now: 1 of 2 differ (1 by 1)", "alert: 1 of 2 differ (1 by 1)",
             "first second: 1 of 2 differ (1 by 3)", "track: 2 of 144 differ (2 by 3)", "gs: 0 of 2 differ", "vs: 0 of 2 differ",
-            "alt: 0 of 202 differ", "resolve: 1 of 16 differ (1 by 5)", "recover: 1 of 1 differ (1 by a value/none)",
+            "alt: 0 of 202 differ", "resolve track: 1 of 4 differ (1 by 5)", "resolve gs: 0 of 4 differ", "resolve vs: 0 of 4 differ",
+            "resolve alt: 0 of 4 differ", "recover track: 1 of 1 differ (1 by a value/none)",
             "refused: 1 of 1 differ (1 by 2)"])
 
     def test_compare_tells_what_one_lacks(self):
-        other = REPORT.replace("now A", "now B").replace("alert A", "alert B").replace("moment 10\n", "moment 11\n").replace("done 10", "done 11")
+        other = REPORT.replace("now A", "now B").replace("alert A", "alert B")
+        other = other.replace("moment 10\n", "moment 11\n").replace("done 10", "done 11")
         status, out, _ = self.tool("compare", self.report, self.write("b.report", other))
         self.assertEqual(status, 1)
         self.assertEqual(out.splitlines()[:4], ["moment 0 A: only in the first", "moment 0 B: only in the second",
@@ -106,7 +110,8 @@ class Pictures(ToolTest):
         self.assertEqual(self.drawn(root, "l4 5l-4 5"), 1 + 1)
         self.assertEqual((self.drawn(root, "h8l-4 -5z"), self.drawn(root, "h8l-4 5z")), (1 + 1, 1 + 0))
         self.assertEqual(self.words(root).count("!"), 2)
-        self.assertLessEqual({"clear", "level 1", "level 2", "level 3", "A: alert, now", "12", "270", "recovery, after s", "lines refused"}, set(self.words(root)))
+        wanted = {"clear", "level 1", "level 2", "level 3", "A: alert, now", "12", "270", "recovery, after s", "lines refused"}
+        self.assertLessEqual(wanted, set(self.words(root)))
         self.assertFalse({"present value", "plan view", "level 4"} & set(self.words(root)))
         plain, _ = self.picture(REPORT.replace("recover track 12 40\n", "").replace("refused 9 6\n", ""))
         self.assertFalse({"recovery, after s", "lines refused", "!"} & set(self.words(plain)))

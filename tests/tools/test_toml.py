@@ -62,16 +62,6 @@ def is_toml(read, text):
         return None
 
 
-def mutated(draw, text):
-    """A text with a few pieces of TOML put in, taken out or doubled."""
-    pieces = ("[", "]", "{", "}", "=", ",", ".", "'", '"', '"""', "'''", "#", "\n", "\r\n", "\\", "\\e", "\\x41", "_", "-", "+", "0", "7", "e", ":",
-              " ", "\t", "07:32", "1979-05-27", "[[", "]]", "a", "gs", "level", "true", "inf", "0x", "\x00", "é")
-    for _ in range(draw.randint(1, 4)):
-        at, upto = draw.randrange(len(text) + 1), draw.choice((0, 0, 1, 2, 8))
-        text = text[:at] + draw.choice(pieces) * draw.choice((0, 1, 1, 1, 2)) + text[at + upto:]
-    return text
-
-
 class Toml(unittest.TestCase):
     def test_takes_what_only_1_1_takes(self):
         for text, wanted in ONLY_1_1.items():
@@ -104,7 +94,7 @@ class Toml(unittest.TestCase):
         taken = refused = 0
         only_1_1 = r'\e', r'\x', "{", ":", "\ufeff"
         for _ in range(4000):
-            text = mutated(draw, draw.configuration(draw.settings()))
+            text = draw.mutated(draw.configuration(draw.settings()))
             ours, theirs = is_toml(lambda text: read_toml(text.encode()), text), is_toml(tomllib.loads, text)
             if theirs is not None and ours is not None:
                 self.assertEqual(without_scalars(ours), plain(theirs), text)

@@ -1,0 +1,95 @@
+"""docs/FORMULAS.md, docs/FROM_DAIDALUS.md and the READMEs' words on the tools, held against the code that they tell of."""
+import glob
+import os
+import re
+import unittest
+
+from common import TOP, module
+from daidalus_files import GRIDS, LEVEL, RECOVERY, TOP as TOP_KEYS
+from headings import SINES
+
+moments = module("tools/moments")
+KEYS = {*GRIDS, *LEVEL, *RECOVERY, *TOP_KEYS, "rate", "min", "max", "step", "keep", "now", "resolve", "recover"}
+# Words of other libraries and of the tools that stand in FORMULAS.md.
+OTHERS = {"rand_pcg", "rand_core", "seed_from_u64", "pick", "meets", "tools/reference", "Hold", "nearing", *KEYS}
+
+
+def read(name):
+    with open(os.path.join(TOP, name), encoding="utf-8") as file:
+        return file.read()
+
+
+def defined():
+    """All names that the definitions of our crates define."""
+    names = set()
+    for path in glob.glob(os.path.join(TOP, "crates", "*", "specs", "*.antt")):
+        with open(path, encoding="utf-8") as file:
+            names.update(re.findall(r"\bpub (?:record )?([A-Za-z_][A-Za-z_0-9]*)", file.read()))
+    return names
+
+
+class Formulas(unittest.TestCase):
+    def setUp(self):
+        self.text = read("docs/FORMULAS.md")
+
+    def test_names_definitions_that_are_there(self):
+        names, found = defined(), 0
+        for words in re.findall(r"`([A-Za-z_]+)(?: Taumod| Tcpa)?`", self.text):
+            if words not in OTHERS:
+                self.assertIn(words, names)
+                found += 1
+        self.assertGreater(found, 40)
+
+    def test_names_files_that_are_there(self):
+        paths = re.findall(r"(daa_\w+/specs/\w+\.antt)", self.text)
+        self.assertGreater(len(paths), 20)
+        for path in paths:
+            self.assertTrue(os.path.exists(os.path.join(TOP, "crates", path)), path)
+
+    def test_each_named_definition_stands_in_its_file(self):
+        """Those that are told as `name`, file."""
+        for name, path in re.findall(r"`([A-Za-z_]+)`, (daa_\w+/specs/\w+\.antt)", self.text):
+            self.assertRegex(read(f"crates/{path}"), rf"\bpub (?:record )?{name}\b", path)
+
+    def test_the_table_of_sines(self):
+        rows = re.findall(r"^\| \d+ \| ([0-9 ]+) \|$", self.text, re.M)
+        self.assertEqual([int(sine) for row in rows for sine in row.split()], SINES)
+        stated = read("crates/daa_heading/specs/Heading.antt").split("\nsines =")[1].split("[])")[0]
+        self.assertEqual([int(sine) for sine in re.findall(r"\d+", stated)], SINES)
+
+    def test_the_generators_first_outputs(self):
+        rows = re.findall(r"^\| (\d+) \| ([0-9a-f, ]+) \| (\d+) \| (\d+) \| ([0-9 ]+) \|$", self.text, re.M)
+        self.assertEqual(len(rows), 3)
+        for seed, words, state, increment, outputs in rows:
+            self.assertEqual([f"{word:08x}" for word in moments.words_of_seed(int(seed))], words.split(", "))
+            draw = moments.Generator.of_seed(int(seed))
+            self.assertEqual((draw.state, draw.increment), (int(state), int(increment)))
+            self.assertEqual([draw.next() for _ in outputs.split()], [int(output) for output in outputs.split()])
+
+    def test_the_constants(self):
+        for constant in (moments.MULTIPLIER, moments.SEED_INCREMENT):
+            self.assertIn(str(constant), self.text)
+
+
+class Words(unittest.TestCase):
+    def test_each_key_has_its_parameter(self):
+        text = read("docs/FROM_DAIDALUS.md")
+        for key in {*LEVEL, *RECOVERY, *TOP_KEYS, *GRIDS}:
+            self.assertRegex(text, rf"`[^`]*\b{key}\b[^`]*`", key)
+
+    def test_the_reference_is_short(self):
+        self.assertLessEqual(read("tools/reference").count("\n") + read("tools/headings.py").count("\n"), 310)
+        self.assertLessEqual(read("tools/reference").count("\n"), 300)
+
+    def test_no_document_names_what_is_gone(self):
+        for name in ["README.md", *glob.glob("docs/*.md", root_dir=TOP)]:
+            self.assertNotIn("draw_bands", read(name), name)
+
+    def test_tools_that_documents_name_are_there(self):
+        for name in ["README.md", *glob.glob("docs/*.md", root_dir=TOP)]:
+            for path in re.findall(r"\b((?:tools|bench|examples)/[A-Za-z_.0-9]+)\b", read(name)):
+                self.assertTrue(os.path.exists(os.path.join(TOP, path.rstrip("."))), f"{path} in {name}")
+
+
+if __name__ == "__main__":
+    unittest.main()
