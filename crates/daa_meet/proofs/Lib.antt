@@ -2,3 +2,4 @@ pub mod Trying
 pub mod Deciding
 pub mod Meetings
 pub mod Walking
+pub mod Keeping

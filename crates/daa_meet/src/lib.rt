@@ -2,6 +2,8 @@
 //! here takes memory.
 #![tactic(auto)]
 
+mod kept;
 mod walk;
 
+pub use kept::meets_along;
 pub use walk::meets_between;

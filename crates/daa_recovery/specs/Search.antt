@@ -1,10 +1,20 @@
--- How far the search for a recovery has come: helpers of private functions.
-use Rattle.std.specs.Prelude.{ℕ, ℤ, ◌≡◌, ◌≤◌, ◌<◌, Option, Some, None}
+-- What the search for a recovery keeps, and how far it has come: helpers of private functions.
+use Rattle.std.specs.Prelude.{ℕ, ℤ, ◌≡◌, ◌≤◌, ◌<◌, ◌+◌, Option, Some, None}
 use Rattle.daa_config.specs.declared.candidate.Candidate.{Candidate}
 use Rattle.daa_config.specs.declared.kind.Kind.{Kind}
+use Rattle.daa_config.specs.Settings.{IsCandidateInRange, rates_of}
+use Rattle.daa_legs.specs.Branch.{FliesOn}
+use Rattle.daa_legs.specs.Kept.{AreLegsOf}
 use Rattle.daa_recovery.specs.Prospect.{Prospect}
 use Rattle.daa_recovery.specs.Recovery.{Recovers, RecoversAt}
 use Rattle.daa_recovery.specs.declared.recovery.Recovery.{Recovery}
+use Rattle.daa_recovery.specs.declared.course.Course.{Course}
+
+-- its legs up to the horizon are kept, and after leg `leaves` it keeps one velocity
+pub record IsCourse (p : Prospect) (course : Course) : Type 0 where
+  pub in_range : IsCandidateInRange course.candidate
+  pub legs : AreLegsOf p.picture.own (rates_of p.settings) course.candidate p.horizon course.legs
+  pub straight : FliesOn p.picture.own (rates_of p.settings) course.candidate (course.leaves + 1)
 
 -- the time that the next candidate has to be below
 abbrev pub bound_of : Prospect → Option Recovery → ℕ

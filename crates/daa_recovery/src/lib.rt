@@ -1,6 +1,7 @@
 //! Recovery: where every candidate of a kind loses well-clear, how soon one of them has it again. Nothing here takes memory.
 #![tactic(auto)]
 
+mod course;
 mod laws;
 mod outlook;
 mod recovery;

@@ -3,15 +3,19 @@
 ghost use Rattle.std.specs.Prelude.{◌≡◌, ◌↔◌, ◌<◌, ◌≤◌, ◌+◌, ℕ, IsTrue, Some, None, length, slice_get};
 ghost use Rattle.daa_config.specs.Candidates.{values_of, candidate_to as to_value};
 ghost use Rattle.daa_config.specs.Settings.{IsAccepted, IsCandidateInRange};
+ghost use Rattle.daa_taumod.specs.Volume.{IsVolumeInRange};
+ghost use Rattle.daa_legs.specs.Runs.{MeetsBetween};
 ghost use Rattle.daa_state.specs.InRange.{IsPictureInRange, IsTrafficInRange};
 ghost use Rattle.daa_state.specs.Picture.{aircraft_of};
 ghost use Rattle.daa_recovery.specs.Prospect.{IsHorizon, IsProspect};
 ghost use Rattle.daa_recovery.specs.Recovery.{IsClosedFrom, IsInCylinder, IsClear, Recovers, IsFound};
-ghost use Rattle.daa_recovery.specs.Search.{IsFoundBelow, bound_of, IsLeastTime};
+ghost use Rattle.daa_recovery.specs.Search.{IsCourse, IsFoundBelow, bound_of, IsLeastTime};
 
+use crate::course::Course;
 use crate::recovery::Recovery;
 use daa_config::{Candidate, Config, Kind};
-use daa_meet::meets_between;
+use daa_legs::{Trunk, branch_of};
+use daa_meet::meets_along;
 use daa_state::{Picture, Traffic};
 use daa_taumod::Volume;
 use std::marker::Model;
@@ -93,24 +97,45 @@ impl<'a> Outlook<'a> {
         requires { IsCandidateInRange candidate }
         ensures { IsLeastTime self.now candidate bound result }
     {
-        if bound < 2 || !self.recovers(candidate, bound - 1) {
+        if bound < 2 {
             return None;
         }
-        Some(self.earliest(candidate, bound - 1))
+        let course = self.course_of(candidate);
+        if !self.recovers(&course, bound - 1) {
+            return None;
+        }
+        Some(self.earliest(&course, bound - 1))
+    }
+
+    /// The candidate's flight as far as the horizon.
+    fn course_of(&self, candidate: Candidate) -> Course
+        requires { IsCandidateInRange candidate }
+        ensures course { IsCourse self.now result }
+        ensures candidate { result.candidate ≡ candidate }
+    {
+        let own = &self.picture.own;
+        let mut legs = Trunk::new();
+        legs.fill(own, self.config, candidate, self.horizon);
+        let branch = branch_of(own, &self.config.rates(), candidate);
+        Course {
+            candidate,
+            legs,
+            leaves: branch.leaves,
+        }
     }
 
     /// The least time up to one at which the candidate recovers.
-    fn earliest(&self, candidate: Candidate, time: u32) -> u32
-        requires candidate { IsCandidateInRange candidate }
+    fn earliest(&self, course: &Course, time: u32) -> u32
+        requires course { IsCourse self.now course.now }
         requires some { 1 ≤ time }
-        requires recovers { Recovers self.now candidate time }
-        ensures { IsLeastTime self.now candidate (time + 1) (Some result) }
+        requires recovers { Recovers self.now course.now.candidate time }
+        ensures { IsLeastTime self.now course.now.candidate (time + 1) (Some result) }
     {
         let mut low = 0;
         let mut high = time;
         while high - low > 1 {
             let middle = low + (high - low) / 2;
-            if self.recovers(candidate, middle) {
+            if self.recovers(course, middle) {
                 high = middle;
             } else {
                 low = middle;
@@ -120,12 +145,12 @@ impl<'a> Outlook<'a> {
     }
 
     /// Whether the candidate recovers at second `m`: each aircraft is clear of it.
-    fn recovers(&self, candidate: Candidate, m: u32) -> bool
-        requires { IsCandidateInRange candidate }
-        ensures { IsTrue result ↔ Recovers self.now candidate m }
+    fn recovers(&self, course: &Course, m: u32) -> bool
+        requires { IsCourse self.now course.now }
+        ensures { IsTrue result ↔ Recovers self.now course.now.candidate m }
     {
         for place in 0..self.picture.traffic.len() as u32 {
-            if !self.is_clear(candidate, m, self.aircraft(place)) {
+            if !self.is_clear(course, m, self.aircraft(place)) {
                 return false;
             }
         }
@@ -134,52 +159,64 @@ impl<'a> Outlook<'a> {
 
     /// Whether the candidate keeps clear of an aircraft: it violates no level that closes from second `m` on within the level's
     /// lookahead, and never comes into the cylinder.
-    fn is_clear(&self, candidate: Candidate, m: u32, aircraft: &Traffic) -> bool
-        requires candidate { IsCandidateInRange candidate }
+    fn is_clear(&self, course: &Course, m: u32, aircraft: &Traffic) -> bool
+        requires course { IsCourse self.now course.now }
         requires aircraft { IsTrafficInRange aircraft.now }
-        ensures { IsTrue result ↔ IsClear self.now candidate m aircraft.now }
+        ensures { IsTrue result ↔ IsClear self.now course.now.candidate m aircraft.now }
     {
-        !self.is_in_cylinder(candidate, aircraft) && !self.is_closed_from(candidate, m, aircraft)
+        !self.is_closed_from(course, m, aircraft) && !self.is_in_cylinder(course, aircraft)
     }
 
     /// Whether the candidate comes into the cylinder round the aircraft before the horizon.
-    fn is_in_cylinder(&self, candidate: Candidate, aircraft: &Traffic) -> bool
-        requires candidate { IsCandidateInRange candidate }
+    fn is_in_cylinder(&self, course: &Course, aircraft: &Traffic) -> bool
+        requires course { IsCourse self.now course.now }
         requires aircraft { IsTrafficInRange aircraft.now }
-        ensures { IsTrue result ↔ IsInCylinder self.now candidate aircraft.now }
+        ensures { IsTrue result ↔ IsInCylinder self.now course.now.candidate aircraft.now }
     {
-        meets_between(
-            self.config,
-            &self.picture.own,
-            candidate,
-            aircraft,
-            self.cylinder,
-            0,
-            self.horizon,
-        )
+        self.meets(course, aircraft, self.cylinder, 0, self.horizon)
     }
 
     /// Whether the candidate violates a level that closes, from second `m` on and within the level's lookahead.
-    fn is_closed_from(&self, candidate: Candidate, m: u32, aircraft: &Traffic) -> bool
-        requires candidate { IsCandidateInRange candidate }
+    fn is_closed_from(&self, course: &Course, m: u32, aircraft: &Traffic) -> bool
+        requires course { IsCourse self.now course.now }
         requires aircraft { IsTrafficInRange aircraft.now }
-        ensures { IsTrue result ↔ IsClosedFrom self.now candidate m aircraft.now }
+        ensures { IsTrue result ↔ IsClosedFrom self.now course.now.candidate m aircraft.now }
     {
         for l in self.config.resolve()..self.config.levels() + 1 {
             let level = self.config.level(l);
-            if meets_between(
-                self.config,
-                &self.picture.own,
-                candidate,
-                aircraft,
-                &level.volume,
-                m,
-                level.lookahead,
-            ) {
+            if self.meets(course, aircraft, &level.volume, m, level.lookahead) {
                 return true;
             }
         }
         false
+    }
+
+    /// Whether the candidate violates a volume round the aircraft on one of the legs from `first` on, before `upto`.
+    fn meets(
+        &self,
+        course: &Course,
+        aircraft: &Traffic,
+        volume: &Volume,
+        first: u32,
+        upto: u32,
+    ) -> bool
+        requires course { IsCourse self.now course.now }
+        requires aircraft { IsTrafficInRange aircraft.now }
+        requires volume { IsVolumeInRange volume.now }
+        requires ahead { upto ≤ self.now.horizon }
+        ensures { IsTrue result ↔ MeetsBetween self.now.settings self.now.picture.own course.now.candidate aircraft.now volume.now first upto }
+    {
+        meets_along(
+            self.config,
+            &self.picture.own,
+            course.candidate,
+            &course.legs,
+            course.leaves,
+            aircraft,
+            volume,
+            first,
+            upto,
+        )
     }
 
     /// The aircraft at a place of the moment's list.

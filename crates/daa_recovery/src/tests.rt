@@ -44,34 +44,128 @@ fn picture_in(lines: &[&str]) -> Option<Picture>
     None
 }
 
-const BESIDE: [&str; 4] = [
-    "moment 0",
-    "own 0 0 1000 0 3600 0",
-    "traffic A 400 100 1000 0 0 0 0",
-    "end",
+const NORTH: &str = "own 0 0 1000 0 3600 0";
+
+const BESIDE: [&str; 4] = ["moment 0", NORTH, "traffic A 400 100 1000 0 0 0 0", "end"];
+
+/// A recovery of each kind, worked out apart from the program: the table and the ground speeds of the configuration, the
+/// moment, and for track, ground speed, vertical speed and altitude the second and the value; second 0 stands for none. The
+/// ownship flies north at 0.1 nautical mile a second, so that a value that keeps its way leaves the volume, 0.66 nautical
+/// miles round an aircraft 0.4 to the right, 0.525 past it.
+struct Known {
+    shows: &'static str,
+    recovery: &'static str,
+    speeds: &'static str,
+    lines: &'static [&'static str],
+    answers: [(u32, i32); 4],
+}
+
+static KNOWN: [Known; 8] = [
+    Known {
+        shows: "the first second after the last that violates",
+        recovery: "{ hdist = 300, vdist = 100 }",
+        speeds: "min = 3600, max = 3600, step = 1",
+        lines: &["moment 0", NORTH, "traffic A 400 100 1000 0 0 0 0", "end"],
+        answers: [(6, 270), (7, 3600), (7, 0), (7, 1000)],
+    },
+    Known {
+        shows: "none where each comes into the cylinder",
+        recovery: "{ hdist = 410, vdist = 100 }",
+        speeds: "min = 3600, max = 3600, step = 1",
+        lines: &["moment 0", NORTH, "traffic A 400 100 1000 0 0 0 0", "end"],
+        answers: [(0, 0), (0, 0), (0, 0), (0, 0)],
+    },
+    Known {
+        shows: "a cylinder that is touched at a second and a half alone",
+        recovery: "{ hdist = 400, vdist = 100 }",
+        speeds: "min = 3600, max = 3600, step = 1",
+        lines: &["moment 0", NORTH, "traffic A 400 150 1000 0 0 0 0", "end"],
+        answers: [(7, 270), (0, 0), (0, 0), (0, 0)],
+    },
+    Known {
+        shows: "a cylinder that is just missed",
+        recovery: "{ hdist = 399, vdist = 100 }",
+        speeds: "min = 3600, max = 3600, step = 1",
+        lines: &["moment 0", NORTH, "traffic A 400 150 1000 0 0 0 0", "end"],
+        answers: [(7, 0), (7, 3600), (7, 0), (7, 1000)],
+    },
+    Known {
+        shows: "the last second but one of the lookahead",
+        recovery: "{ hdist = 300, vdist = 100 }",
+        speeds: "min = 3600, max = 3600, step = 1",
+        lines: &["moment 0", NORTH, "traffic A 400 325 1000 0 0 0 0", "end"],
+        answers: [(8, 270), (9, 3600), (9, 0), (9, 1000)],
+    },
+    Known {
+        shows: "none where only the last second is clear",
+        recovery: "{ hdist = 300, vdist = 100 }",
+        speeds: "min = 3600, max = 3600, step = 1",
+        lines: &["moment 0", NORTH, "traffic A 400 425 1000 0 0 0 0", "end"],
+        answers: [(9, 270), (0, 0), (0, 0), (0, 0)],
+    },
+    Known {
+        shows: "the least of three values that recover at one second",
+        recovery: "{ hdist = 300, vdist = 100 }",
+        speeds: "min = 3590, max = 3610, step = 10",
+        lines: &["moment 0", NORTH, "traffic A 400 100 1000 0 0 0 0", "end"],
+        answers: [(6, 270), (7, 3590), (7, 0), (7, 1000)],
+    },
+    Known {
+        shows: "a cylinder round an aircraft that no level reaches",
+        recovery: "{ hdist = 1000, vdist = 100 }",
+        speeds: "min = 3600, max = 3600, step = 1",
+        lines: &[
+            "moment 0",
+            NORTH,
+            "traffic A 400 100 1400 0 0 0 0",
+            "traffic B 0 1990 1000 0 0 0 0",
+            "end",
+        ],
+        answers: [(6, 270), (0, 0), (0, 0), (0, 0)],
+    },
 ];
+
+const KINDS: [Kind; 4] = [Kind::Track, Kind::Speed, Kind::Climb, Kind::Height];
+
+/// The configuration of one level without time thresholds, with this recovery and these ground speeds.
+fn config_with(
+    rt: &(impl AllocGlobal + Abort),
+    recovery: &str,
+    speeds: &str,
+) -> Result<Config, Fail> {
+    let alloc = rt.alloc();
+    let asked = format!(in alloc; "recovery = {recovery}\nturn_rate")?;
+    let text = ONE_LEVEL.replacen(alloc, "turn_rate", asked.as_str(), 1)?;
+    let text = text.replacen(alloc, "tthr = 35", "tthr = 0", 1)?;
+    config_of(
+        rt,
+        text.as_str(),
+        "min = 3600, max = 3600, step = 1",
+        speeds,
+    )
+}
 
 #[test]
 fn known_recoveries(rt: HostRuntime) -> Result<(), Fail> {
-    let picture = picture_in(&BESIDE).ok_or("a picture")?;
-    let near =
-        "recovery = { hdist = 300, vdist = 100 }\nlevel = [ { dthr = 660, zthr = 450, tthr = 0";
-    let config = config_of(
-        &rt,
-        ONE_LEVEL,
-        "level = [ { dthr = 660, zthr = 450, tthr = 35",
-        near,
-    )?;
-    if config.recovery().is_none() {
-        return Err("a recovery".into());
-    }
-    for (kind, after, value) in [
-        (Kind::Track, 6, 270),
-        (Kind::Speed, 7, 3600),
-        (Kind::Climb, 7, 0),
-        (Kind::Height, 7, 1000),
-    ] {
-        assert!(rt; least(&config, &picture, kind) == Some(Recovery { after, value }));
+    for known in &KNOWN {
+        let config = config_with(&rt, known.recovery, known.speeds)?;
+        let picture = picture_in(known.lines).ok_or("a picture")?;
+        if config.recovery().is_none() {
+            return Err("a recovery".into());
+        }
+        for i in 0..4 {
+            let (after, value) = known.answers[i];
+            let wanted = if after == 0 {
+                None
+            } else {
+                Some(Recovery { after, value })
+            };
+            assert!(rt;
+                least(&config, &picture, KINDS[i]) == wanted,
+                "{}, {i}",
+                known.shows
+            );
+        }
     }
     Ok(())
 }
@@ -182,12 +276,20 @@ fn recoveries_are_those_of_a_plain_search(rt: HostRuntime) -> Result<(), Fail> {
     };
     for lines in &MOMENTS {
         let picture = picture_in(lines).ok_or("a picture")?;
-        for kind in [Kind::Track, Kind::Speed, Kind::Climb, Kind::Height] {
+        for kind in KINDS {
             let found = least(&config, &picture, kind);
             assert!(rt; found == least_plainly(&config, &picture, cylinder, kind));
         }
     }
     Ok(())
+}
+
+fn may_be_sent<T: Send>() {}
+
+// The check refuses a type that may not be sent between threads.
+#[test]
+fn values_may_be_sent() {
+    may_be_sent::<Recovery>();
 }
 
 #[test]

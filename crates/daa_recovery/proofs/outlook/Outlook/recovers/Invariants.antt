@@ -3,4 +3,4 @@ use Rattle.daa_recovery.proofs.outlook.Outlook.recovers.Given as goal
 
 -- the aircraft so far are kept clear of
 abbrev pub invariant-loop-place : goal.invariant-loop-place
-invariant-loop-place l = AreClearBelow l.self l.fn.candidate l.fn.m l.place
+invariant-loop-place l = AreClearBelow l.self l.course.candidate l.fn.m l.place
