@@ -11,7 +11,7 @@ use Rattle.daa_ahead.proofs.Handing.{last_after}
 use Rattle.std.proofs.lemmas.Bool.{false≢true}
 use Rattle.std.proofs.Math.Seq.{take-add}
 use Rattle.daa_judge.specs.declared.found.Found.TheVariants as found
-use Rattle.daa_judge.specs.Judged.{line_feeds, Differs}
+use Rattle.daa_judge.specs.Judged.{line_feeds, longest_read, Differs}
 use Rattle.daa_judge.specs.Finding.{Finds, ShowsDifference}
 use Rattle.daa_judge.specs.Matched.{IsMatched, Compares}
 use Rattle.daa_judge.specs.Stepping.{found_at, Took}
@@ -45,10 +45,10 @@ module _ (most : ℕ) (first m now : SourceState) (before : Bytes) (old : Matchi
   }
 
   -- more bytes were read, and after some front of them they part from the text
-  pub parted : (piece text rest : Bytes) (n : ℕ) → ReadsMore (length piece) old.left piece m now → take (length piece) piece ≡ piece → n < length piece → n < length text
+  pub parted : (piece text rest : Bytes) (n : ℕ) → length piece ≤ longest_read → ReadsMore (length piece) old.left piece m now → take (length piece) piece ≡ piece → n < length piece → n < length text
       → take n piece ≡ take n text → slice_index piece n ≢ slice_index text n
       → ShowsDifference (before ++ (text ++ rest)) most (old.line + line_feeds (take n piece)) first now
-  parted piece text rest n r all lt other same apart =
+  parted piece text rest n few r all lt other same apart =
       let front = before ++ take n piece in
       record {
         bytes = before ++ piece;
@@ -62,6 +62,7 @@ module _ (most : ℕ) (first m now : SourceState) (before : Bytes) (old : Matchi
             (by_front before piece further n)
             (sym (append_assoc before text rest) ∙ by_front before text rest n ∙ ap (λ (l : Bytes). (before ++ l) ++ (drop n text ++ rest)) (sym same))
             (apart_there further));
+        stops = record { front = before; last = piece; bytes_are = refl; begins = (text ++ rest, refl); one_read = few };
         calm = r.calm ∙ h.calm;
       }
     where
@@ -89,6 +90,7 @@ module _ (most : ℕ) (first m now : SourceState) (before : Bytes) (old : Matchi
         differs = λ further e. subst (λ (k : ℕ). Differs (before ++ ((y ∷ text) ++ rest)) k (before ++ further)) (sym h.line)
             (parts before further ((y ∷ text) ++ rest) (before ++ ((y ∷ text) ++ rest)) (before ++ further) refl refl
             (subst (λ (l : Bytes). Parted l ((y ∷ text) ++ rest)) (sym (e refl)) tt));
+        stops = record { front = before; last = []; bytes_are = sym (append-nil before); begins = ((y ∷ text) ++ rest, refl); one_read = omega arith };
         calm = last.calm;
       }
   over Fault text rest some r =
@@ -100,8 +102,8 @@ module _ (most : ℕ) (first m now : SourceState) (before : Bytes) (old : Matchi
   over Stopped text rest some r = absurd r
 
   -- the report is over, and a byte more was read
-  pub beyond : (count : ℕ) (buf : Bytes) → count ≤ length buf → ReadsMore count old.left buf m now → ShowsDifference before most old.line first now
-  beyond count buf in' r = record {
+  pub beyond : (count : ℕ) (buf : Bytes) → count ≤ length buf → length buf ≤ longest_read → ReadsMore count old.left buf m now → ShowsDifference before most old.line first now
+  beyond count buf in' few r = record {
     bytes = before ++ take count buf;
     handed = Consumes-trans first.left m.left now.left before (take count buf) h.handed r.handed;
     bound = omega (arith, h.size, r.bound, length-append before (take count buf), length-take count buf);
@@ -110,6 +112,13 @@ module _ (most : ℕ) (first m now : SourceState) (before : Bytes) (old : Matchi
     differs = λ further e. subst (λ (k : ℕ). Differs before k ((before ++ take count buf) ++ further)) (sym h.line)
         (parts before (take count buf ++ further) [] before ((before ++ take count buf) ++ further) (append_assoc before (take count buf) further) (sym (append-nil before))
         (some_more (take count buf) further (omega (arith, r.some, length-take count buf))));
+    stops = record {
+      front = before;
+      last = take count buf;
+      bytes_are = refl;
+      begins = ([], sym (append-nil before));
+      one_read = omega (arith, length-take count buf, in', few);
+    };
     calm = r.calm ∙ h.calm;
   }
     where
@@ -185,12 +194,12 @@ all_matched piece text n feeds old s t in' other not some same counted r =
     }
 
 pub parted_there : (most : ℕ) (first m now : SourceState) (before : Bytes) (old : Matching) (h : IsMatched most first before old m) (piece text rest : Bytes) (n feeds : ℕ)
-    → ReadsMore (length piece) old.left piece m now → n < length piece → length piece ≤ length text → take n piece ≡ take n text
+    → length piece ≤ longest_read → ReadsMore (length piece) old.left piece m now → n < length piece → length piece ≤ length text → take n piece ≡ take n text
     → (n < length piece → n < length text → slice_index piece n ≢ slice_index text n) → feeds ≡ line_feeds (take n piece)
     → ShowsDifference (before ++ (text ++ rest)) most (old.line + feeds) first now
-parted_there most first m now before old h piece text rest n feeds r lt in' same apart counted =
+parted_there most first m now before old h piece text rest n feeds few r lt in' same apart counted =
     subst (λ (k : ℕ). ShowsDifference (before ++ (text ++ rest)) most (old.line + k) first now) (sym counted)
-    (parted most first m now before old h piece text rest n r (take_all piece) lt (omega arith) same (apart lt (omega arith)))
+    (parted most first m now before old h piece text rest n few r (take_all piece) lt (omega arith) same (apart lt (omega arith)))
 
 pub over_there : (most : ℕ) (first m now : SourceState) (before : Bytes) (old : Matching) (h : IsMatched most first before old m) (ended : Ended) (text rest : Bytes) (f : Found)
     → f ≡ found_at ended old.line → 0 < length text → ReadsLast ended old.left m now [] → Finds (before ++ (text ++ rest)) most f first now

@@ -3,7 +3,7 @@ use Rattle.std.specs.Prelude.{ℕ, ◌≡◌, ◌≤◌, ◌++◌, Bool, true, [
 use Rattle.std.specs.Io.KnownBytes.{Consumes}
 use Rattle.daa_outside.specs.Faults.{HasRisen}
 use Rattle.daa_ahead.specs.Bytes.{Bytes, SourceState, IsSpent}
-use Rattle.daa_judge.specs.Judged.{Same, Differs, Begins}
+use Rattle.daa_judge.specs.Judged.{Same, Differs, Begins, BeginsButLast}
 use Rattle.daa_judge.specs.declared.found.Found.{Found}
 use Rattle.daa_judge.specs.declared.found.Found.TheVariants as found
 
@@ -21,7 +21,8 @@ module _ (report : Bytes) (most : ℕ) where
     pub same : Same report bytes
     pub calm : new.faults ≡ old.faults
 
-  -- what was read, and whether it was all, shows that it differs from the report, and in which line first
+  -- what was read, and whether it was all, shows that it differs from the report, and in which line first; nothing was read after the
+  -- read that showed it
   pub record ShowsDifference (number : ℕ) (old new : SourceState) : Type 0 where
     pub bytes : Bytes
     pub handed : Consumes old.left new.left bytes
@@ -29,6 +30,7 @@ module _ (report : Bytes) (most : ℕ) where
     pub ended : Bool
     pub over : ended ≡ true → IsSpent old.left new.left
     pub differs : Shows (Differs report number) ended bytes
+    pub stops : BeginsButLast bytes report
     pub calm : new.faults ≡ old.faults
 
   -- a read failed, and the report begins with what was read by then

@@ -1,5 +1,5 @@
 -- Whether bytes are a report, and where they differ from it.
-use Rattle.std.specs.Prelude.{ℕ, ◌≡◌, ◌≢◌, ◌+◌, ◌++◌, ◌==◌, List, [], ◌∷◌, if◌then◌else◌}
+use Rattle.std.specs.Prelude.{ℕ, ◌≡◌, ◌≢◌, ◌≤◌, ◌+◌, ◌++◌, ◌==◌, List, [], ◌∷◌, if◌then◌else◌, length}
 use Rattle.daa_ahead.specs.Bytes.{Bytes}
 
 -- the longest front that two runs of bytes have in common
@@ -25,3 +25,15 @@ pub record Differs (report : Bytes) (number : ℕ) (bytes : Bytes) : Type 0 wher
 -- the report begins with these bytes
 abbrev pub Begins : (bytes report : Bytes) → Type 0
 Begins bytes report = (rest : Bytes) × (report ≡ bytes ++ rest)
+
+-- how many bytes one read gives at most
+abbrev pub longest_read : ℕ
+longest_read = 4096
+
+-- the report begins with these bytes, but for those of the last read
+pub record BeginsButLast (bytes report : Bytes) : Type 0 where
+  pub front : Bytes
+  pub last : Bytes
+  pub bytes_are : bytes ≡ front ++ last
+  pub begins : Begins front report
+  pub one_read : length last ≤ longest_read

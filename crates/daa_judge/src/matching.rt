@@ -4,6 +4,7 @@ ghost use Rattle.std.specs.Prelude.{◌≡◌, ◌≤◌, ◌<◌, ◌^◌, [], 
 ghost use Rattle.daa_ahead.specs.Bytes.{Bytes, SourceState, source_state};
 ghost use Rattle.daa_ahead.specs.Next.{ReadsMore};
 ghost use Rattle.daa_judge.specs.Finding.{Finds};
+ghost use Rattle.daa_judge.specs.Judged.{longest_read};
 ghost use Rattle.daa_judge.specs.Matched.{Compares, HasRoom, IsMatched};
 ghost use Rattle.daa_judge.specs.Stepping.{Steps, found_at};
 
@@ -65,6 +66,7 @@ impl Matching {
     fn match_piece(&mut self, piece: &[u8], text: &[u8]) -> Step
         requires some { 0 < length piece.now }
         requires within { length piece.now ≤ length text.now }
+        requires one_read { length piece.now ≤ longest_read }
         requires bound { length piece.now ≤ self.old.left }
         requires room { HasRoom self.old }
         ensures steps { (source_old source_new : SourceState) (buf : Bytes) → ReadsMore (length piece.now) self.old.left piece.now source_old source_new
@@ -84,7 +86,7 @@ impl Matching {
     /// Reads once, and compares what is read with the front of a text.
     fn step<S: Source>(&mut self, source: &mut S, buf: &mut [u8], text: &[u8]) -> Step
         requires some { 0 < length text.now }
-        requires buffer { 0 < length buf.old }
+        requires buffer { (0 < length buf.old) × (length buf.old ≤ longest_read) }
         requires room { HasRoom self.old }
         ensures steps { Steps result text.now self.old self.new (source_state (S.left source.old) (S.faults source.old)) (source_state (S.left source.new) (S.faults source.new)) }
         ensures room { HasRoom self.new }

@@ -10,7 +10,7 @@ overflow_add-line c =
 pub returns-then-same-piece-clause-steps : goal.returns-then-same-piece-clause-steps
 returns-then-same-piece-clause-steps c s t buf r = (
   no_match _ tt,
-  λ most first before rest h. parted_there most first s t before c.args.self.now h c.args.piece.now c.args.text.now rest c.common-same.result c.line_feeds.result r
+  λ most first before rest h. parted_there most first s t before c.args.self.now h c.args.piece.now c.args.text.now rest c.common-same.result c.line_feeds.result c.requires.one_read r
       c.if-same-piece.true c.requires.within c.common-same.ensures.same c.common-same.ensures.apart c.line_feeds.ensures,
 )
 
