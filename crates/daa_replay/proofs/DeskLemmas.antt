@@ -97,5 +97,5 @@ abbrev pub held_desk : {R K G : Type 0} → (K → ToldBytes) → (K → ℕ) �
 held_desk taken faults t = desk t.call.1.now.settings t.call.3.now (taken t.call.2.now) (faults t.call.2.now)
 
 -- the same of a part of what moved
-pub moves_of : (ended : Ended) (most : ℕ) (old new : SourceState) (P Q : Bytes → Type 0) → ((bytes : Bytes) → P bytes → Q bytes) → Moves ended most old new P → Moves ended most old new Q
-moves_of ended most old new P Q f m = record { taken = m.taken; bound = m.bound; read = m.read; given = f m.taken m.given; never_falls = m.never_falls }
+pub moves_of : (places : ℕ) (ended : Ended) (most : ℕ) (old new : SourceState) (P Q : Bytes → Type 0) → ((bytes : Bytes) → P bytes → Q bytes) → Moves places ended most old new P → Moves places ended most old new Q
+moves_of places ended most old new P Q f m = record { taken = m.taken; bound = m.bound; read = m.read; given = f m.taken m.given; never_falls = m.never_falls }

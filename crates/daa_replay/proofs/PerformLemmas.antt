@@ -1,6 +1,7 @@
 -- What a run leaves, by the task that it performs.
 use Rattle.std.proofs.Common.{◌≡◌, ◌≢◌, ◌≤◌, ◌⊎◌, ℕ, List, Result, Ok, Err, None, Some, refl, sym, ap, subst, ◌∙◌, arith, inl, inr}
-use Rattle.std.specs.Prelude.{OnErr, OnOk}
+use Rattle.std.specs.Prelude.{OnErr, OnOk, length}
+use Rattle.daa_outside.specs.Shelf.{longest_text}
 use Rattle.daa_config.specs.Settings.{Settings}
 use Rattle.daa_outside.specs.Faults.{HasRisen}
 use Rattle.daa_report.specs.Lines.{Text, config_line}
@@ -21,7 +22,7 @@ use Rattle.daa_replay.specs.declared.status.Status.TheVariants.{Accepted, WriteF
 use Rattle.daa_replay.specs.declared.status.Status.TheVariants as status
 use Rattle.daa_replay.specs.Exercising.{Exercises}
 use Rattle.daa_replay.specs.Judging.{Judged, Judges}
-use Rattle.daa_replay.specs.Opening.{usage_line, long_line, Opens, OpensStates, OpensLong, IsRefused}
+use Rattle.daa_replay.specs.Opening.{usage_line, long_line, Opens, OpensLong, IsRefused, IsHeld}
 use Rattle.daa_replay.specs.Outside.{Outside, StreamState, Takes}
 use Rattle.daa_replay.specs.Performing.{Performs}
 use Rattle.daa_replay.specs.Replaying.{Replays}
@@ -164,19 +165,19 @@ none_of_two status n (inr k) e a b = b (sym e ∙ k)
 
 module _ (most status : ℕ) (words : List Text) (old new : Outside) (settings : Settings)
     (texts : new.shelf.texts ≡ old.shelf.texts) (fetches : new.shelf.faults ≡ old.shelf.faults) where
-  pub replay_runs : (ahead : ℕ) → Opens words old.shelf.texts (Replay ahead) settings → Replays settings most status old.source new.source old.sink new.sink
+  pub replay_runs : (ahead : ℕ) → Opens words old.shelf.texts (Replay ahead) settings → Replays settings ahead most status old.source new.source old.sink new.sink
       → Runs most words status old new
   replay_runs ahead opens r = record {
     named = omega (arith, five_are_few status r.named);
-    accepted = λ e. inl (record { ahead = ahead; settings = settings; opens = opens; so = r.accepted e });
-    refused = λ e. inl (record { ahead = ahead; settings = settings; opens = opens; so = r.refused e });
+    accepted = λ e. record { task = Replay ahead; settings = settings; opens = opens; so = r.accepted e };
+    refused = λ e. record { task = Replay ahead; settings = settings; opens = opens; so = r.refused e };
     not_taken = λ e. absurd (never 2 e (λ k. omega (arith, k)) (λ k. omega (arith, k)) (λ k. omega (arith, k)) (λ k. omega (arith, k)) (λ k. omega (arith, k)));
     bad_configuration = λ e. absurd (never 3 e (λ k. omega (arith, k)) (λ k. omega (arith, k)) (λ k. omega (arith, k)) (λ k. omega (arith, k)) (λ k. omega (arith, k)));
-    read_fault = λ e. inl (record { ahead = ahead; settings = settings; opens = opens; so = r.read_fault e });
-    write_fault = λ e. let w = r.write_fault e in record { risen = w.risen; so = inr (inr (inr (inl (record { ahead = ahead; settings = settings; opens = opens; so = w })))) };
+    read_fault = λ e. record { task = Replay ahead; settings = settings; opens = opens; so = r.read_fault e };
+    write_fault = λ e. let w = r.write_fault e in record { risen = w.risen; so = inr (inr (inr (record { task = Replay ahead; settings = settings; opens = opens; so = w }))) };
     no_memory = λ e. absurd (never 6 e (λ k. omega (arith, k)) (λ k. omega (arith, k)) (λ k. omega (arith, k)) (λ k. omega (arith, k)) (λ k. omega (arith, k)));
     fetch_fault = λ e. absurd (never 7 e (λ k. omega (arith, k)) (λ k. omega (arith, k)) (λ k. omega (arith, k)) (λ k. omega (arith, k)) (λ k. omega (arith, k)));
-    limit = λ e. inl (record { ahead = ahead; settings = settings; opens = opens; so = r.limit e });
+    limit = λ e. record { task = Replay ahead; settings = settings; opens = opens; so = r.limit e };
     states_long = λ e. absurd (never 9 e (λ k. omega (arith, k)) (λ k. omega (arith, k)) (λ k. omega (arith, k)) (λ k. omega (arith, k)) (λ k. omega (arith, k)));
     texts = texts;
     shelf_calm = λ n. fetches;
@@ -194,17 +195,14 @@ module _ (most status : ℕ) (words : List Text) (old new : Outside) (settings :
       let source = r.source in
       record {
         named = few r.named;
-        accepted = λ e. inr (inl (record { exercise = record { seed = seed; moments = moments; settings = settings; opens = opens; so = r.ended e }; source = source }));
+        accepted = λ e. record { task = Exercise seed moments; settings = settings; opens = opens; so = record { so = r.ended e; source = source } };
         refused = λ e. absurd (never 1 e (λ k. omega (arith, k)) (λ k. omega (arith, k)));
         not_taken = λ e. absurd (never 2 e (λ k. omega (arith, k)) (λ k. omega (arith, k)));
         bad_configuration = λ e. absurd (never 3 e (λ k. omega (arith, k)) (λ k. omega (arith, k)));
         read_fault = λ e. absurd (never 4 e (λ k. omega (arith, k)) (λ k. omega (arith, k)));
         write_fault = λ e. let w = r.write_fault e in record {
           risen = w.risen;
-          so = inr (inr (inl (record {
-            exercise = record { seed = seed; moments = moments; settings = settings; opens = opens; so = w };
-            source = source;
-          })));
+          so = inr (inr (inr (record { task = Exercise seed moments; settings = settings; opens = opens; so = record { so = w; source = source } })));
         };
         no_memory = λ e. absurd (never 6 e (λ k. omega (arith, k)) (λ k. omega (arith, k)));
         fetch_fault = λ e. absurd (never 7 e (λ k. omega (arith, k)) (λ k. omega (arith, k)));
@@ -227,19 +225,20 @@ module _ (most status : ℕ) (words : List Text) (old new : Outside) (settings :
       same : (a b : ℕ) → b ≡ a → a ≤ b
       same a b e = omega (arith, e)
 
-  pub judge_runs : (states : Bytes) → OpensStates words old.shelf.texts settings states → Judges settings states most status old.source new.source old.sink new.sink
+  pub judge_runs : (name : Text) (states : Bytes) → Opens words old.shelf.texts (Judge name) settings → IsHeld old.shelf.texts name states → length states ≤ longest_text
+      → Judges settings states most status old.source new.source old.sink new.sink
       → Runs most words status old new
-  judge_runs states opens r = record {
+  judge_runs name states opens held short r = record {
     named = omega (arith, five_are_few status r.named);
-    accepted = λ e. inr (inr (record { settings = settings; states = states; opens = opens; so = r.same e }));
-    refused = λ e. inr (record { settings = settings; states = states; opens = opens; so = r.differs e });
+    accepted = λ e. record { task = Judge name; settings = settings; opens = opens; so = record { states = states; held = held; short = short; so = r.same e } };
+    refused = λ e. record { task = Judge name; settings = settings; opens = opens; so = record { states = states; held = held; short = short; so = r.differs e } };
     not_taken = λ e. absurd (never 2 e (λ k. omega (arith, k)) (λ k. omega (arith, k)) (λ k. omega (arith, k)) (λ k. omega (arith, k)) (λ k. omega (arith, k)));
     bad_configuration = λ e. absurd (never 3 e (λ k. omega (arith, k)) (λ k. omega (arith, k)) (λ k. omega (arith, k)) (λ k. omega (arith, k)) (λ k. omega (arith, k)));
-    read_fault = λ e. inr (record { settings = settings; states = states; opens = opens; so = r.read_fault e });
-    write_fault = λ e. let w = r.write_fault e in record { risen = w.risen; so = inr (inr (inr (inr (inr (record { settings = settings; states = states; opens = opens; so = w }))))) };
+    read_fault = λ e. record { task = Judge name; settings = settings; opens = opens; so = record { states = states; held = held; short = short; so = r.read_fault e } };
+    write_fault = λ e. let w = r.write_fault e in record { risen = w.risen; so = inr (inr (inr (record { task = Judge name; settings = settings; opens = opens; so = record { states = states; held = held; short = short; so = w } }))) };
     no_memory = λ e. absurd (never 6 e (λ k. omega (arith, k)) (λ k. omega (arith, k)) (λ k. omega (arith, k)) (λ k. omega (arith, k)) (λ k. omega (arith, k)));
     fetch_fault = λ e. absurd (never 7 e (λ k. omega (arith, k)) (λ k. omega (arith, k)) (λ k. omega (arith, k)) (λ k. omega (arith, k)) (λ k. omega (arith, k)));
-    limit = λ e. inr (record { settings = settings; states = states; opens = opens; so = r.limit e });
+    limit = λ e. record { task = Judge name; settings = settings; opens = opens; so = record { states = states; held = held; short = short; so = r.limit e } };
     states_long = λ e. absurd (never 9 e (λ k. omega (arith, k)) (λ k. omega (arith, k)) (λ k. omega (arith, k)) (λ k. omega (arith, k)) (λ k. omega (arith, k)));
     texts = texts;
     shelf_calm = λ n. fetches;
@@ -259,7 +258,7 @@ module _ (most status : ℕ) (words : List Text) (old new : Outside) (settings :
   performs_runs task (work.Replay ahead) opens is r = replay_runs ahead (asks task (Replay ahead) is opens) r
   performs_runs task (work.Exercise seed moments) opens is r = exercise_runs seed moments (asks task (Exercise seed moments) is opens) r
   performs_runs task (work.Judge states sheet) opens (name, is, held, short) r =
-      judge_runs states.items (record { name = name; opens = asks task (Judge name) is opens; held = held; short = short }) r
+      judge_runs name states.items (asks task (Judge name) is opens) held short r
 
 -- ---- a run that could not be made ready
 
@@ -409,7 +408,7 @@ module _ (most : ℕ) (words : List Text) (old new : Outside) (source : new.sour
       → Runs most words (code_of result) old new
   long_runs result opens calm (inl w) = by_code result status.StatesLong w.0 (long_told opens calm w.1)
   long_runs result opens calm (inr w) = by_code result WriteFault w.0 (not_told
-      (record { risen = w.1.risen; so = inr (inr (inr (inr (inl (record { opens = opens; shelf = same_shelf calm; source = source; written = w.1.front }))))) }) calm w.1.later)
+      (record { risen = w.1.risen; so = inr (inr (inl (record { opens = opens; shelf = same_shelf calm; source = source; written = w.1.front }))) }) calm w.1.later)
 
   pub tells_runs : (why : Unready) (result : Status) → OpensAs words old.shelf.texts (Err why) → Tells why old.sink new.sink result
       → (why ≡ unready.FetchFault → HasRisen old.shelf.faults new.shelf.faults) → (why ≢ unready.FetchFault → new.shelf.faults ≡ old.shelf.faults)

@@ -49,33 +49,48 @@ pub record HoldsLong (words : List Text) (texts : Option Texts) : Type 0 where
 abbrev pub BeginsReport : Settings → Text → Bytes → Type 0
 BeginsReport settings states bytes = (rest : Text) × IsReportOf settings states true (bytes ++ rest)
 
+-- a replay of these bytes with an accepted configuration, where no count rose
+pub record IsQuietReplay (words : List Text) (old new : Outside) (all : Bytes) : Type 0 where
+  pub ahead : ℕ
+  pub accepted : HoldsAccepted words old.shelf.texts (Replay ahead)
+  pub told : old.source.bytes ≡ Some all
+  pub quiet : IsQuiet old new
+
+-- a comparison of these bytes with the report of states that the shelf holds
+pub record IsComparison (words : List Text) (old : Outside) (settings : Settings) (states all : Bytes) : Type 0 where
+  pub held : HoldsStates words old.shelf.texts settings states
+  pub told : old.source.bytes ≡ Some all
+
+-- what the status of a comparison of these bytes says, of which at most so many are read
+pub record Decides (most status : ℕ) (old new : Outside) (settings : Settings) (states all : Bytes) : Type 0 where
+  -- whatever failed: at 0 they are the report of the states, and at 1 they are not
+  pub same : status ≡ 0 → IsReportOf settings states true all
+  pub other : status ≡ 1 → IsReportOf settings states true all → ⊥
+  -- where no count rose, it says so, or
+  pub short : IsQuiet old new → length all ≤ most → (status ≡ 0) ⊎ ((status ≡ 1) ⊎ (status ≡ 6))
+  -- of more bytes than may be read whether the report begins with those that may be: it does at 8, and does not at 1
+  pub long : IsQuiet old new → most < length all → (status ≡ 8) ⊎ ((status ≡ 1) ⊎ (status ≡ 6))
+  pub begins : status ≡ 8 → BeginsReport settings states (take most all)
+  pub parts : status ≡ 1 → most < length all → BeginsReport settings states (take most all) → ⊥
+
 -- how a run ends, as far as the words, the shelf and the number of bytes say it; want of memory is free
 pub record EndsAsGiven (most : ℕ) (words : List Text) (status : ℕ) (old new : Outside) : Type 0 where
-  -- a replay with an accepted configuration and a source that tells its bytes, where no count rose: by the number of bytes
-  pub short : (all : Bytes) (ahead : ℕ) → HoldsAccepted words old.shelf.texts (Replay ahead) → old.source.bytes ≡ Some all → IsQuiet old new → length all ≤ most
+  -- a replay with an accepted configuration, where no count rose: by the number of bytes
+  pub short : (all : Bytes) → IsQuietReplay words old new all → length all ≤ most
       → (status ≡ 0) ⊎ ((status ≡ 1) ⊎ (status ≡ 6))
-  pub long : (all : Bytes) (ahead : ℕ) → HoldsAccepted words old.shelf.texts (Replay ahead) → old.source.bytes ≡ Some all → IsQuiet old new → most < length all
-      → (status ≡ 8) ⊎ (status ≡ 6)
+  pub long : (all : Bytes) → IsQuietReplay words old new all → most < length all → (status ≡ 8) ⊎ (status ≡ 6)
   -- an exercise with an accepted configuration, where no count rose
-  pub exercise : (seed moments : ℕ) → HoldsAccepted words old.shelf.texts (Exercise seed moments) → IsQuiet old new → (status ≡ 0) ⊎ (status ≡ 6)
-  -- a comparison with the report of states that the shelf holds, and a source that tells its bytes, where no count rose: 0 exactly where
-  -- they are the report, and 1 where they are not
-  pub compared : (all : Bytes) (settings : Settings) (states : Text) → HoldsStates words old.shelf.texts settings states → old.source.bytes ≡ Some all → IsQuiet old new
-      → length all ≤ most
-      → ((status ≡ 0) × IsReportOf settings states true all) ⊎ (((status ≡ 1) × (IsReportOf settings states true all → ⊥)) ⊎ (status ≡ 6))
-  -- whatever failed: 0 says that they are the report, and 1 that they are not
-  pub said_same : (all : Bytes) (settings : Settings) (states : Text) → HoldsStates words old.shelf.texts settings states → old.source.bytes ≡ Some all
-      → status ≡ 0 → IsReportOf settings states true all
-  pub said_other : (all : Bytes) (settings : Settings) (states : Text) → HoldsStates words old.shelf.texts settings states → old.source.bytes ≡ Some all
-      → status ≡ 1 → IsReportOf settings states true all → ⊥
-  -- where there are more bytes than may be read: 8 exactly where the report begins with those that may be
-  pub compared_long : (all : Bytes) (settings : Settings) (states : Text) → HoldsStates words old.shelf.texts settings states → old.source.bytes ≡ Some all → IsQuiet old new
-      → most < length all
-      → ((status ≡ 8) × BeginsReport settings states (take most all)) ⊎ (((status ≡ 1) × (BeginsReport settings states (take most all) → ⊥)) ⊎ (status ≡ 6))
-  pub states_long : HoldsLong words old.shelf.texts → (status ≡ 5) ⊎ ((status ≡ 6) ⊎ ((status ≡ 7) ⊎ (status ≡ 9)))
+  pub exercise : (seed moments : ℕ) → HoldsAccepted words old.shelf.texts (Exercise seed moments)
+      → IsQuiet old new → (status ≡ 0) ⊎ (status ≡ 6)
+  -- a comparison with the report of states that the shelf holds, or that are too long or not there
+  pub compared : (settings : Settings) (states all : Bytes) → IsComparison words old settings states all
+      → Decides most status old new settings states all
+  pub states_long : HoldsLong words old.shelf.texts
+      → (status ≡ 5) ⊎ ((status ≡ 6) ⊎ ((status ≡ 7) ⊎ (status ≡ 9)))
   pub no_states : HoldsNoStates words old.shelf.texts → (status ≡ 6) ⊎ (status ≡ 7)
   pub not_taken : order_of words ≡ None → (status ≡ 2) ⊎ ((status ≡ 5) ⊎ (status ≡ 6))
-  pub rejected : HoldsRefused words old.shelf.texts → (status ≡ 3) ⊎ ((status ≡ 5) ⊎ ((status ≡ 6) ⊎ (status ≡ 7)))
+  pub rejected : HoldsRefused words old.shelf.texts
+      → (status ≡ 3) ⊎ ((status ≡ 5) ⊎ ((status ≡ 6) ⊎ (status ≡ 7)))
   pub missing : HoldsNone words old.shelf.texts → (status ≡ 6) ⊎ (status ≡ 7)
   -- a status of a fault comes only where the object's count rose
   pub no_read_fault : ¬ HasRisen old.source.faults new.source.faults → status ≢ 4
@@ -83,4 +98,5 @@ pub record EndsAsGiven (most : ℕ) (words : List Text) (status : ℕ) (old new 
   pub no_fetch_fault : ¬ HasRisen old.shelf.faults new.shelf.faults → status ≢ 7
 
 abbrev pub RunsAreComplete : Type 0
-RunsAreComplete = (most status : ℕ) (words : List Text) (old new : Outside) → Runs most words status old new → EndsAsGiven most words status old new
+RunsAreComplete = (most status : ℕ) (words : List Text) (old new : Outside)
+    → Runs most words status old new → EndsAsGiven most words status old new

@@ -10,6 +10,7 @@ pub mod Judging
 pub mod Comparing
 pub mod Exercising
 pub mod Performing
+pub mod Tasks
 pub mod Run
 pub mod Complete
 pub mod Status

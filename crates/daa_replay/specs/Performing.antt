@@ -10,6 +10,6 @@ use Rattle.daa_replay.specs.Replaying.{Replays}
 
 -- what the work leaves
 abbrev pub Performs : (most status : ℕ) → Settings → Work → (source_old source_new sink_old sink_new : StreamState) → Type 0
-Performs most status settings (work.Replay ahead) = Replays settings most status
+Performs most status settings (work.Replay ahead) = Replays settings ahead most status
 Performs most status settings (work.Exercise seed moments) = Exercises settings seed moments status
 Performs most status settings (work.Judge states sheet) = Judges settings states.items most status

@@ -51,11 +51,13 @@ module _ (settings : Settings) where
     pub write_calm : IsCalm sink_old sink_new
 
   -- the sink failed, and a beginning of the report was written; with its end only where nothing is left. A source that is read ahead
-  -- may have handed out one byte past the limit by then, and may have failed
-  pub record WriteFails (most : ℕ) (source_old source_new sink_old sink_new : StreamState) : Type 0 where
+  -- may have handed out one byte past the limit by then, and may have failed; one that is read by turns has done neither
+  pub record WriteFails (ahead most : ℕ) (source_old source_new sink_old sink_new : StreamState) : Type 0 where
     pub risen : HasRisen sink_old.faults sink_new.faults
     pub bytes : Bytes
     pub handed : HandsOut (most + 1) source_old source_new bytes
+    pub in_turn : ahead ≡ 0 → HandsOut most source_old source_new bytes
+    pub read_calm : ahead ≡ 0 → IsCalm source_old source_new
     pub ended : Bool
     pub over : ended ≡ true → IsSpent source_old.bytes source_new.bytes
     pub written : TakesFront sink_old.bytes sink_new.bytes bytes ended
@@ -71,12 +73,12 @@ module _ (settings : Settings) where
     pub write_calm : IsCalm sink_old sink_new
 
   -- what a run that reads at most so many bytes leaves, by its status
-  pub record Replays (most status : ℕ) (source_old source_new sink_old sink_new : StreamState) : Type 0 where
+  pub record Replays (ahead most status : ℕ) (source_old source_new sink_old sink_new : StreamState) : Type 0 where
     pub named : (status ≡ 0) ⊎ ((status ≡ 1) ⊎ ((status ≡ 4) ⊎ ((status ≡ 5) ⊎ (status ≡ 8))))
     pub accepted : status ≡ 0 → ReadsAll most false source_old source_new sink_old sink_new
     pub refused : status ≡ 1 → ReadsAll most true source_old source_new sink_old sink_new
     pub read_fault : status ≡ 4 → ReadFails most source_old source_new sink_old sink_new
-    pub write_fault : status ≡ 5 → WriteFails most source_old source_new sink_old sink_new
+    pub write_fault : status ≡ 5 → WriteFails ahead most source_old source_new sink_old sink_new
     pub limit : status ≡ 8 → PassesLimit most source_old source_new sink_old sink_new
     -- no count of faults falls
     pub reads : source_old.faults ≤ source_new.faults

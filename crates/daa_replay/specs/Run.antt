@@ -1,41 +1,22 @@
 -- What a run of the program leaves at its shelf, its source and its sink, by the status that it answers.
-use Rattle.std.specs.Prelude.{ℕ, ◌≡◌, ◌≢◌, ◌≤◌, ◌⊎◌, true, false, List, Option, Some, None}
+use Rattle.std.specs.Prelude.{ℕ, ◌≡◌, ◌≢◌, ◌≤◌, ◌⊎◌, List, Option, Some, None}
 use Rattle.daa_outside.specs.Faults.{HasRisen}
 use Rattle.daa_outside.specs.Shelf.{Texts}
 use Rattle.daa_config.specs.Settings.{Settings}
 use Rattle.daa_report.specs.Lines.{Text, config_line}
 use Rattle.daa_report.specs.Says.{AppendsFront}
 use Rattle.daa_words.specs.Order.{Asked, order_of}
-use Rattle.daa_words.specs.Task.{Replay, Exercise}
-use Rattle.daa_replay.specs.Outside.{Outside, StreamState, Takes}
-use Rattle.daa_judge.specs.declared.found.Found.TheVariants.{Fault, Limit}
-use Rattle.daa_lines.specs.LinesOf.{Bytes}
-use Rattle.daa_replay.specs.Judging.{TellsSame, TellsDifference, TellsNothing, BreaksJudgement}
-use Rattle.daa_replay.specs.Opening.{usage_line, long_line, Opens, OpensStates, OpensLong, IsRefused}
-use Rattle.daa_replay.specs.Exercising.{TakesSummary, BreaksSummary}
-use Rattle.daa_replay.specs.Replaying.{ReadsAll, ReadFails, WriteFails, PassesLimit}
+use Rattle.daa_words.specs.Task.{Task}
+use Rattle.daa_replay.specs.Outside.{Outside, Takes}
+use Rattle.daa_replay.specs.Opening.{usage_line, long_line, Opens, OpensLong, IsRefused}
+use Rattle.daa_replay.specs.Tasks.{Accepts, Refuses, FailsToRead, FailsToWrite, Exceeds}
 
--- the words ask for a replay, and P holds under the configuration that they and the shelf give
-pub record Under (words : List Text) (texts : Option Texts) (P : Settings → Type 0) : Type 0 where
-  pub ahead : ℕ
+-- the words are taken, and P holds of their task under the configuration that they and the shelf give
+pub record Under (words : List Text) (texts : Option Texts) (P : Task → Settings → Type 0) : Type 0 where
+  pub task : Task
   pub settings : Settings
-  pub opens : Opens words texts (Replay ahead) settings
-  pub so : P settings
-
--- the words ask for an exercise, and P holds of its seed and its number of moments under that configuration
-pub record UnderExercise (words : List Text) (texts : Option Texts) (P : Settings → (seed moments : ℕ) → Type 0) : Type 0 where
-  pub seed : ℕ
-  pub moments : ℕ
-  pub settings : Settings
-  pub opens : Opens words texts (Exercise seed moments) settings
-  pub so : P settings seed moments
-
--- the words ask for a comparison, and P holds under that configuration of the states that the shelf holds
-pub record UnderJudge (words : List Text) (texts : Option Texts) (P : Settings → Bytes → Type 0) : Type 0 where
-  pub settings : Settings
-  pub states : Bytes
-  pub opens : OpensStates words texts settings states
-  pub so : P settings states
+  pub opens : Opens words texts task settings
+  pub so : P task settings
 
 -- the words are not taken, and the usage line was written
 pub record TellsUsage (words : List Text) (old new : Outside) : Type 0 where
@@ -81,23 +62,11 @@ pub record BreaksCode (words : List Text) (old new : Outside) : Type 0 where
   pub source : new.source ≡ old.source
   pub written : AppendsFront old.sink.bytes new.sink.bytes (config_line code)
 
--- the exercise was decided and its summary was written; nothing was read
-pub record EndsExercise (words : List Text) (old new : Outside) : Type 0 where
-  pub exercise : UnderExercise words old.shelf.texts (λ settings seed moments. TakesSummary settings seed moments old.sink new.sink)
-  pub source : new.source ≡ old.source
-
--- the sink failed, and a beginning of the summary was written; nothing was read
-pub record BreaksExercise (words : List Text) (old new : Outside) : Type 0 where
-  pub exercise : UnderExercise words old.shelf.texts (λ settings seed moments. BreaksSummary settings seed moments old.sink new.sink)
-  pub source : new.source ≡ old.source
-
--- the sink failed, while such a line, the report, the summary or what a comparison found was written
+-- the sink failed, while such a line, or what the task gives, was written
 pub record Breaks (most : ℕ) (words : List Text) (old new : Outside) : Type 0 where
   pub risen : HasRisen old.sink.faults new.sink.faults
-  pub so : BreaksUsage words old new ⊎ (BreaksCode words old new ⊎ (BreaksExercise words old new
-      ⊎ (Under words old.shelf.texts (λ settings. WriteFails settings most old.source new.source old.sink new.sink)
-      ⊎ (BreaksLong words old new
-      ⊎ UnderJudge words old.shelf.texts (λ settings states. BreaksJudgement settings states most old.source new.source old.sink new.sink)))))
+  pub so : BreaksUsage words old new ⊎ (BreaksCode words old new
+      ⊎ (BreaksLong words old new ⊎ Under words old.shelf.texts (FailsToWrite most old new)))
 
 -- nothing was read and nothing was written
 pub record IsUntouched (old new : Outside) : Type 0 where
@@ -114,23 +83,18 @@ pub record FetchFails (words : List Text) (old new : Outside) : Type 0 where
 -- what a run that reads at most so many bytes leaves, by its status
 pub record Runs (most : ℕ) (words : List Text) (status : ℕ) (old new : Outside) : Type 0 where
   pub named : status ≤ 9
-  -- the input was read to its end, and no line of it was refused; or an exercise ended; or a report is that of the states
-  pub accepted : status ≡ 0 → Under words old.shelf.texts (λ settings. ReadsAll settings most false old.source new.source old.sink new.sink)
-      ⊎ (EndsExercise words old new
-      ⊎ UnderJudge words old.shelf.texts (λ settings states. TellsSame settings states most old.source new.source old.sink new.sink))
-  -- the input was read to its end, and some line of it was refused; or a report is not that of the states
-  pub refused : status ≡ 1 → Under words old.shelf.texts (λ settings. ReadsAll settings most true old.source new.source old.sink new.sink)
-      ⊎ UnderJudge words old.shelf.texts (λ settings states. TellsDifference settings states most old.source new.source old.sink new.sink)
+  -- 0 and 1: the input was read to its end, and no line of it was refused, or some; an exercise ended, at 0; or a report is that of
+  -- the states, or is not
+  pub accepted : status ≡ 0 → Under words old.shelf.texts (Accepts most old new)
+  pub refused : status ≡ 1 → Under words old.shelf.texts (Refuses most old new)
   pub not_taken : status ≡ 2 → TellsUsage words old new
   pub bad_configuration : status ≡ 3 → TellsCode words old new
-  pub read_fault : status ≡ 4 → Under words old.shelf.texts (λ settings. ReadFails settings most old.source new.source old.sink new.sink)
-      ⊎ UnderJudge words old.shelf.texts (λ settings states. TellsNothing settings states most Fault old.source new.source old.sink new.sink)
+  pub read_fault : status ≡ 4 → Under words old.shelf.texts (FailsToRead most old new)
   pub write_fault : status ≡ 5 → Breaks most words old new
   -- there was no memory for the words, the shelf's texts, the configuration, the engine or the sheet
   pub no_memory : status ≡ 6 → IsUntouched old new
   pub fetch_fault : status ≡ 7 → FetchFails words old new
-  pub limit : status ≡ 8 → Under words old.shelf.texts (λ settings. PassesLimit settings most old.source new.source old.sink new.sink)
-      ⊎ UnderJudge words old.shelf.texts (λ settings states. TellsNothing settings states most Limit old.source new.source old.sink new.sink)
+  pub limit : status ≡ 8 → Under words old.shelf.texts (Exceeds most old new)
   pub states_long : status ≡ 9 → TellsLong words old new
   -- the shelf keeps its texts, and fails at status 7 alone
   pub texts : new.shelf.texts ≡ old.shelf.texts

@@ -60,7 +60,8 @@ pub(crate) fn replay_within<R: Threads + Sync, S: Source + Send, K: Sink + Send,
     requires places { places ≤ 1024 }
     requires some { 1 ≤ most }
     requires bound { most ≤ 2 ^ 40 }
-    ensures { Replays engine.old.settings most (code_of result) (stream_state (S.left source.old) (S.faults source.old)) (stream_state (S.left source.new) (S.faults source.new))
+    ensures { Replays engine.old.settings places most (code_of result)
+        (stream_state (S.left source.old) (S.faults source.old)) (stream_state (S.left source.new) (S.faults source.new))
         (stream_state (K.taken sink.old) (K.faults sink.old)) (stream_state (K.taken sink.new) (K.faults sink.new)) }
 {
     let mut progress = begin();

@@ -41,7 +41,7 @@ fn read_for<R: Threads + Sync, S: Source + Send, T: Taker + Send, G>(
     requires places { places ≤ 1024 }
     requires some { 1 ≤ most }
     requires can { CanTake T.takes T.ready most taker.old }
-    ensures { Moves result most (source_state (S.left source.old) (S.faults source.old)) (source_state (S.left source.new) (S.faults source.new))
+    ensures { Moves places result most (source_state (S.left source.old) (S.faults source.old)) (source_state (S.left source.new) (S.faults source.new))
         (TakesBytes T.takes (wants_more result) taker.old taker.new) }
 {
     if places == 0 {
@@ -65,7 +65,7 @@ pub(crate) fn report_all<R: Threads + Sync, S: Source + Send, K: Sink + Send, G:
     requires bound { most ≤ 2 ^ 40 }
     requires between { IsBetween (desk engine.old.settings progress.old (K.taken sink.old) (K.faults sink.old)) }
     requires begun { progress.old.lines.fed ≡ 0 }
-    ensures moves { Moves result most (source_state (S.left source.old) (S.faults source.old)) (source_state (S.left source.new) (S.faults source.new))
+    ensures moves { Moves places result most (source_state (S.left source.old) (S.faults source.old)) (source_state (S.left source.new) (S.faults source.new))
         (λ bytes. Steps (desk engine.old.settings progress.old (K.taken sink.old) (K.faults sink.old)) bytes (wants_more result) (desk engine.new.settings progress.new (K.taken sink.new) (K.faults sink.new))) }
 {
     let mut taker = Calls {

@@ -3,13 +3,17 @@
 use super::{ONE, ONE_TEXT, ONES, Outside, PLAIN, SEVENS, gives};
 use std::test::Fail;
 
-static NEAR: &[&str] = &["daidalus", "replay", "--config", "c", "--ahead", "1"];
+/// The words that ask for reading ahead, by one piece and by four.
+pub(super) static NEAR: &[&str] = &["daidalus", "replay", "--config", "c", "--ahead", "1"];
 
-static FAR: &[&str] = &["daidalus", "replay", "--config", "c", "--ahead", "4"];
+pub(super) static FAR: &[&str] = &["daidalus", "replay", "--config", "c", "--ahead", "4"];
+
+/// As far as may be asked for.
+static FARTHEST: &[&str] = &["daidalus", "replay", "--config", "c", "--ahead", "1024"];
 
 #[test]
 fn reading_ahead_changes_nothing(rt: HostRuntime) -> Result<(), Fail> {
-    for words in [NEAR, FAR] {
+    for words in [NEAR, FAR, FARTHEST] {
         let plain = Outside { words, ..PLAIN };
         gives(&rt, ONE, plain, 0, ONE_TEXT)?;
         for read_pieces in [ONES.as_slice(), SEVENS.as_slice()] {
@@ -17,7 +21,6 @@ fn reading_ahead_changes_nothing(rt: HostRuntime) -> Result<(), Fail> {
                 read_pieces,
                 ..plain
             };
-            gives(&rt, ONE, cut, 0, ONE_TEXT)?;
             gives(&rt, ONE, Outside { most: 62, ..cut }, 8, b"")?;
             gives(&rt, ONE, Outside { most: 63, ..cut }, 0, ONE_TEXT)?;
         }
@@ -26,25 +29,30 @@ fn reading_ahead_changes_nothing(rt: HostRuntime) -> Result<(), Fail> {
     Ok(())
 }
 
+/// With pieces of nine bytes: a read and a write that fail, the most bytes that are read, the status, and what the sink took.
+static FAULTS: [(u64, u64, u64, u8, &[u8]); 6] = [
+    (7, 0, 63, 5, b""),
+    (99, 0, 63, 5, b""),
+    (6, 0, 63, 4, b""),
+    (1, 99, 63, 4, b""),
+    (99, 1, 63, 5, b"moment 0\nnow A 1\nalert A 1 0\n"),
+    (7, 99, 63, 4, ONE_TEXT),
+];
+
 #[test]
 fn a_fault_is_met_in_its_place(rt: HostRuntime) -> Result<(), Fail> {
     let nines = [9; 8];
-    for words in [NEAR, FAR] {
-        for (read_fails, write_fails, most, status) in [
-            ([7u64], [0u64], 63, 5u8),
-            ([99], [0], 63, 5),
-            ([6], [0], 63, 4),
-            ([1], [99], 63, 4),
-        ] {
+    for words in [PLAIN.words, NEAR, FAR] {
+        for (read_fails, write_fails, most, status, text) in FAULTS {
             let outside = Outside {
                 words,
                 read_pieces: &nines,
-                read_fails: &read_fails,
-                write_fails: &write_fails,
+                read_fails: &[read_fails],
+                write_fails: &[write_fails],
                 most,
                 ..PLAIN
             };
-            gives(&rt, ONE, outside, status, b"")?;
+            gives(&rt, ONE, outside, status, text)?;
         }
         // the sink fails before as many bytes as may be read are taken, though they are read ahead
         let limited = Outside {
@@ -54,13 +62,8 @@ fn a_fault_is_met_in_its_place(rt: HostRuntime) -> Result<(), Fail> {
             most: 64,
             ..PLAIN
         };
-        gives(
-            &rt,
-            b"moment 0\nown 0 0 1000 0 3600 0\ntraffic A 0 0 1000 0 3600 0\nend\n\n\n\n",
-            limited,
-            5,
-            b"",
-        )?;
+        let longer = b"moment 0\nown 0 0 1000 0 3600 0\ntraffic A 0 0 1000 0 3600 0\nend\n\n\n\n";
+        gives(&rt, longer, limited, 5, b"")?;
     }
     Ok(())
 }

@@ -1,6 +1,6 @@
 //! Reports that are compared with that of states on the shelf.
 
-use super::{ONE, ONE_TEXT, ONES, Outside, PLAIN, strings};
+use super::{ONE, ONE_TEXT, ONES, Outside, PLAIN, SEVENS, strings, whole};
 use crate::run_within;
 use daa_outside::{MemShelf, MemSink, MemSource, Open};
 use std::process::Abort;
@@ -82,6 +82,44 @@ fn the_report_of_the_states_is_the_same(rt: HostRuntime) -> Result<(), Fail> {
     judges(&rt, b"x\n", b"refused 1 2\n", JUDGE, 0, b"same\n")
 }
 
+/// States and their reports under one level: with carriage returns, without a last line end, of format 2 with an age, refused lines
+/// before, within and after a moment, and a moment that does not end.
+static REPORTS: [(&[u8], &str); 6] = [
+    (b"moment 0\r\nown 0 0 1000 0 3600 0\r\nend\r\n", "moment 0\nclear\ndone 0\n"),
+    (b"moment 0\nown 0 0 1000 0 3600 0\nend", "moment 0\nclear\ndone 0\n"),
+    (
+        b"format 2\nmoment 0\nown 0 0 1000 0 3600 0\ntraffic A 0 -1000 1000 0 3600 0 10\nend\n",
+        "moment 0\nnow A 1\nalert A 1 0\ncovered\ndone 0\n",
+    ),
+    (
+        b"moment 0\nend\nown 0 0 1000 0 3600 0\nend\nx\n",
+        "refused 2 13\nmoment 0\nclear\ndone 0\nrefused 5 2\n",
+    ),
+    (b"moment 5\nown 0 0 1000 0 3600 0\n", "refused 3 14\n"),
+    // the last line's end is no line
+    (b"x\ny", "refused 1 2\nrefused 2 2\n"),
+];
+
+#[test]
+fn reports_of_all_kinds_of_states_are_the_same(rt: HostRuntime) -> Result<(), Fail> {
+    for (states, text) in &REPORTS {
+        let text = whole(&rt, text)?;
+        for read_pieces in [&[], ONES.as_slice(), SEVENS.as_slice()] {
+            let outside = Outside {
+                read_pieces,
+                ..JUDGE
+            };
+            judges(&rt, states, text.as_bytes(), outside, 0, b"same\n")?;
+        }
+        // it goes on past the end of the states
+        let longer = format!(in rt.alloc(); "{text}moment 9\n")?;
+        let line = text.lines().count() + 1;
+        let told = format!(in rt.alloc(); "differs {line}\n")?;
+        judges(&rt, states, longer.as_bytes(), JUDGE, 1, told.as_bytes())?;
+    }
+    Ok(())
+}
+
 #[test]
 fn another_report_differs(rt: HostRuntime) -> Result<(), Fail> {
     let size = ONE_TEXT.len();
@@ -126,8 +164,11 @@ fn reading_stops_at_a_difference_and_at_the_limit(rt: HostRuntime) -> Result<(),
 fn the_configuration_comes_first_and_then_the_states(rt: HostRuntime) -> Result<(), Fail> {
     let alloc = rt.alloc();
     let mut long = Vec::new(alloc);
-    long.resize(65537, 120u8)?;
-    judges(&rt, long.as_slice(), b"", JUDGE, 9, b"states long\n")?;
+    long.resize(65536, 120u8)?;
+    // the first line has 256 bytes by then
+    judges(&rt, long.as_slice(), b"refused 1 1\n", JUDGE, 0, b"same\n")?;
+    long.push(120)?;
+    judges(&rt, long.as_slice(), b"refused 1 1\n", JUDGE, 9, b"states long\n")?;
     let refused = Outside {
         config: "x",
         ..JUDGE
@@ -138,15 +179,57 @@ fn the_configuration_comes_first_and_then_the_states(rt: HostRuntime) -> Result<
         ..JUDGE
     };
     judges(&rt, ONE, ONE_TEXT, missing, 7, b"")?;
-    let fails = Outside {
-        fetch_fails: &[1],
+    Ok(())
+}
+
+#[test]
+fn each_fault_has_its_status(rt: HostRuntime) -> Result<(), Fail> {
+    for (fails, status, text) in [
+        (0u64, 7, b"".as_slice()),
+        (1, 7, b""),
+        (2, 0, b"same\n"),
+    ] {
+        let fetch_fails = [fails];
+        let outside = Outside {
+            fetch_fails: &fetch_fails,
+            ..JUDGE
+        };
+        judges(&rt, ONE, ONE_TEXT, outside, status, text)?;
+    }
+    // one read for each byte of the report, and one that meets its end
+    let ones = [1; 213];
+    for fails in 0..214 {
+        let outside = Outside {
+            read_pieces: &ones,
+            read_fails: &[fails],
+            ..JUDGE
+        };
+        judges(&rt, ONE, ONE_TEXT, outside, 4, b"")?;
+    }
+    let after = Outside {
+        read_pieces: &ones,
+        read_fails: &[214],
         ..JUDGE
     };
-    judges(&rt, ONE, ONE_TEXT, fails, 7, b"")?;
-    let broken = Outside {
-        write_fails: &[1],
-        write_pieces: &ONES,
-        ..JUDGE
-    };
-    judges(&rt, ONE, ONE_TEXT, broken, 5, b"s")
+    judges(&rt, ONE, ONE_TEXT, after, 0, b"same\n")
+}
+
+#[test]
+fn a_line_that_is_not_written_is_a_write_fault(rt: HostRuntime) -> Result<(), Fail> {
+    for (report, line) in [
+        (ONE_TEXT, b"same\n".as_slice()),
+        (OTHER, b"differs 3\n".as_slice()),
+    ] {
+        for (fails, taken) in (0..line.len() as u64).zip(0..line.len()) {
+            let outside = Outside {
+                write_pieces: &ONES,
+                write_fails: &[fails],
+                ..JUDGE
+            };
+            judges(&rt, ONE, report, outside, 5, &line[..taken])?;
+        }
+    }
+    let mut long = Vec::new(rt.alloc());
+    long.resize(65537, 120u8)?;
+    judges(&rt, long.as_slice(), b"", Outside { room: 8, ..JUDGE }, 5, b"states l")
 }

@@ -9,12 +9,13 @@ pub(super) const USAGE: &[u8] =
     b"usage: daidalus replay --config FILE [--workers N] [--ahead N] | exercise --config FILE --seed N --moments M [--workers N] | judge --config FILE --states FILE [--workers N]\n";
 
 /// Lists of words that are not taken.
-static NOT_TAKEN: [&[&str]; 6] = [
+static NOT_TAKEN: [&[&str]; 7] = [
     &[],
     &["daidalus"],
     &["daidalus", "replay"],
     &["daidalus", "replay", "--config", "c", "--workers", "0"],
     &["daidalus", "replay", "--config", "c", "--workers", "17"],
+    &["daidalus", "replay", "--config", "c", "--ahead", "1025"],
     &["daidalus", "--help"],
 ];
 

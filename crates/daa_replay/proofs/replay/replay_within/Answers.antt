@@ -9,7 +9,7 @@ returns-in-End g c =
     let w = m.given in
     let r = m.read in
     let o = c.over.ensures in
-    replays_over c.args.most (length m.taken) m.bound _ _ _ _ c.over.result c.report_all.new.progress _ o.ended
+    replays_over c.args.places c.args.most (length m.taken) m.bound _ _ _ _ c.over.result c.report_all.new.progress _ o.ended
     (record { bytes = m.taken; handed = r.handed; size = refl; left = r.over; reports = w.reports _ _ _ refl (c.begin-progress.ensures.reports _ _) })
     (λ s first bytes r. o.accepted s _ first bytes w.same r)
     (λ s first bytes r. o.refused s _ first bytes w.same r)
@@ -21,14 +21,14 @@ pub returns-in-Fault : goal.returns-in-Fault
 returns-in-Fault g c =
     let m = c.in-Fault.ensures.moves in
     let w = m.given in
-    read_fails c.args.most (length m.taken) m.bound _ _ _ _ m.read.risen m.never_falls w.calm m.taken refl m.read.handed
+    read_fails c.args.places c.args.most (length m.taken) m.bound _ _ _ _ m.read.risen m.never_falls w.calm m.taken refl m.read.handed
     (written_now _ _ m.taken c.report_all.new.progress w.between.going w.between.free (w.reports _ _ _ refl (c.begin-progress.ensures.reports _ _)))
 
 pub returns-in-Limit : goal.returns-in-Limit
 returns-in-Limit g c =
     let m = c.in-Limit.ensures.moves in
     let w = m.given in
-    passes_limit c.args.most _ _ _ _ m.taken m.read.next m.read.full m.read.handed
+    passes_limit c.args.places c.args.most _ _ _ _ m.taken m.read.next m.read.full m.read.handed
     (written_now _ _ m.taken c.report_all.new.progress w.between.going w.between.free (w.reports _ _ _ refl (c.begin-progress.ensures.reports _ _)))
     m.read.calm w.calm
 
@@ -36,5 +36,5 @@ pub returns-in-Stopped : goal.returns-in-Stopped
 returns-in-Stopped g c =
     let m = c.in-Stopped.ensures.moves in
     let w = m.given in
-    write_fails c.args.most _ _ _ _ m.taken m.read.untaken m.read.handed m.read.bound
+    write_fails c.args.places c.args.most _ _ _ _ m.taken m.bound m.read
     (w.front _ _ _ refl (c.begin-progress.ensures.reports _ _)) w.risen m.never_falls w.later
