@@ -4,6 +4,8 @@ use Rattle.std.specs.Prelude.{IfSome, IsSomeAnd, OnErr, OnOk}
 use Rattle.std.proofs.lemmas.Bool.{lt-ltb}
 use Rattle.std.proofs.lemmas.List.{length-replicate}
 use Rattle.daa_outside.specs.Shelf.{Texts, longest_text}
+use Rattle.daa_outside.specs.declared.shelf.FetchFault.{FetchFault}
+use Rattle.daa_outside.specs.declared.shelf.FetchFault.TheVariants as fetch
 use Rattle.daa_config.specs.declared.fault.ConfigFault.TheVariants.{TooLong}
 use Rattle.daa_config.specs.ConfigOf.{config_of, document_of}
 use Rattle.daa_report.specs.Lines.{Text}
@@ -20,7 +22,7 @@ use Rattle.daa_replay.specs.declared.opening.Unready.{Unready}
 use Rattle.daa_replay.specs.declared.opening.Unready.TheVariants as unready
 use Rattle.daa_replay.specs.declared.opening.Work.{Work}
 use Rattle.daa_replay.specs.Opening.{Opens}
-use Rattle.daa_replay.specs.Ready.{FetchesAs, MakesReady, OpensAs, PreparesAs, unready_of}
+use Rattle.daa_replay.specs.Ready.{FetchesAs, MakesReady, OpensAs, PreparesAs, unfetched, unready_of}
 use Rattle.daa_replay.specs.Telling.{Writes}
 
 too_long : (text : Text) → longest_text < length text → config_of text ≡ Err TooLong
@@ -38,6 +40,15 @@ refused_long (Some held) name h = go (held name) refl h
     go : (found : Option Text) → held name ≡ found → IsSomeAnd found (λ text. longest_text < length text) → FetchesAs (Some held) name (Err (unready_of TooLong))
     go None e k = absurd k
     go (Some text) e k = (text, e, (TooLong, too_long text k, refl))
+
+-- ---- why there is no text
+
+-- no configuration
+pub no_text : (texts : Option Texts) (name : Text) (why : FetchFault) → (why ≡ fetch.TooLong → IfSome texts (λ held. IsSomeAnd (held name) (λ text. longest_text < length text)))
+    → FetchesAs texts name (Err (unfetched (unready_of TooLong) why))
+no_text texts name fetch.TooLong h = refused_long texts name (h refl)
+no_text texts name fetch.Failed h = tt
+no_text texts name fetch.NoMemory h = tt
 
 -- ---- what is made ready
 

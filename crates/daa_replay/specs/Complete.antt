@@ -78,12 +78,14 @@ pub record EndsAsGiven (most : ℕ) (words : List Text) (status : ℕ) (old new 
   -- a replay with an accepted configuration, where no count rose: by the number of bytes
   pub short : (all : Bytes) → IsQuietReplay words old new all → length all ≤ most
       → (status ≡ 0) ⊎ ((status ≡ 1) ⊎ (status ≡ 6))
-  pub long : (all : Bytes) → IsQuietReplay words old new all → most < length all → (status ≡ 8) ⊎ (status ≡ 6)
+  pub long : (all : Bytes) → IsQuietReplay words old new all → most < length all
+      → (status ≡ 8) ⊎ (status ≡ 6)
   -- an exercise with an accepted configuration, where no count rose
   pub exercise : (seed moments : ℕ) → HoldsAccepted words old.shelf.texts (Exercise seed moments)
       → IsQuiet old new → (status ≡ 0) ⊎ (status ≡ 6)
   -- a comparison with the report of states that the shelf holds, or that are too long or not there
-  pub compared : (settings : Settings) (states all : Bytes) → IsComparison words old settings states all
+  pub compared : (settings : Settings) (states all : Bytes)
+      → IsComparison words old settings states all
       → Decides most status old new settings states all
   pub states_long : HoldsLong words old.shelf.texts
       → (status ≡ 5) ⊎ ((status ≡ 6) ⊎ ((status ≡ 7) ⊎ (status ≡ 9)))

@@ -3,6 +3,8 @@ use Rattle.std.specs.Prelude.{◌≡◌, ◌≤◌, length, List, Option, None, 
 use Rattle.std.specs.Option.{option_map_or}
 use Rattle.daa_engine.specs.EngineState.{EngineState}
 use Rattle.daa_outside.specs.Shelf.{Texts, longest_text}
+use Rattle.daa_outside.specs.declared.shelf.FetchFault as fault
+use Rattle.daa_outside.specs.declared.shelf.FetchFault.TheVariants as fetch
 use Rattle.daa_config.specs.declared.fault.ConfigFault.{ConfigFault}
 use Rattle.daa_config.specs.ConfigOf.{config_of}
 use Rattle.daa_config.specs.Fault.{code_of}
@@ -20,6 +22,12 @@ use Rattle.daa_replay.specs.Opening.{IsHeld, IsHeldLong, Opens, OpensLong, IsRef
 -- a fault has a code, but for want of memory
 abbrev pub unready_of : ConfigFault → Unready
 unready_of fault = option_map_or (λ code. Refused code) (code_of fault) NoMemory
+
+-- why there is no text: the shelf failed, or there was no memory; one that is too long makes the run `long`
+abbrev pub unfetched : Unready → fault.FetchFault → Unready
+unfetched long fetch.TooLong = long
+unfetched long fetch.Failed = FetchFault
+unfetched long fetch.NoMemory = NoMemory
 
 -- the text is the configuration, or is refused with the code
 abbrev pub ReadsAs : Text → Result Settings Unready → Type 0

@@ -27,7 +27,8 @@ pub record ReadsNothing (P : Type 0) (old new : Outside) : Type 0 where
 module _ (most : ℕ) (old new : Outside) where
   -- the input was read to its end, and no line of it was refused; the exercise ended; the report is that of the states
   abbrev pub Accepts : Task → Settings → Type 0
-  Accepts (Replay ahead) settings = ReadsAll settings most false old.source new.source old.sink new.sink
+  Accepts (Replay ahead) settings =
+      ReadsAll settings most false old.source new.source old.sink new.sink
   Accepts (Exercise seed moments) settings =
       ReadsNothing (TakesSummary settings seed moments old.sink new.sink) old new
   Accepts (Judge name) settings = OfStates old.shelf.texts name (λ states.
@@ -35,14 +36,16 @@ module _ (most : ℕ) (old new : Outside) where
 
   -- the input was read to its end, and some line of it was refused; the report is not that of the states
   abbrev pub Refuses : Task → Settings → Type 0
-  Refuses (Replay ahead) settings = ReadsAll settings most true old.source new.source old.sink new.sink
+  Refuses (Replay ahead) settings =
+      ReadsAll settings most true old.source new.source old.sink new.sink
   Refuses (Exercise seed moments) settings = ⊥
   Refuses (Judge name) settings = OfStates old.shelf.texts name (λ states.
       TellsDifference settings states most old.source new.source old.sink new.sink)
 
   -- the source failed
   abbrev pub FailsToRead : Task → Settings → Type 0
-  FailsToRead (Replay ahead) settings = ReadFails settings most old.source new.source old.sink new.sink
+  FailsToRead (Replay ahead) settings =
+      ReadFails settings most old.source new.source old.sink new.sink
   FailsToRead (Exercise seed moments) settings = ⊥
   FailsToRead (Judge name) settings = OfStates old.shelf.texts name (λ states.
       TellsNothing settings states most Fault old.source new.source old.sink new.sink)
@@ -58,7 +61,8 @@ module _ (most : ℕ) (old new : Outside) where
 
   -- there were more bytes than may be read
   abbrev pub Exceeds : Task → Settings → Type 0
-  Exceeds (Replay ahead) settings = PassesLimit settings most old.source new.source old.sink new.sink
+  Exceeds (Replay ahead) settings =
+      PassesLimit settings most old.source new.source old.sink new.sink
   Exceeds (Exercise seed moments) settings = ⊥
   Exceeds (Judge name) settings = OfStates old.shelf.texts name (λ states.
       TellsNothing settings states most Limit old.source new.source old.sink new.sink)

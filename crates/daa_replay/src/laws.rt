@@ -45,12 +45,15 @@ pub fn format_lines_alone_matter()
     ensures ages { HasNoAges }
 {}
 
-/// How a run ends where the words, the shelf and the number of bytes say it: a replay with an accepted configuration and no
-/// fault with 0 or 1, or with 8 where there are more bytes than may be read; such an exercise with 0; with words that are
-/// not taken with 2 or 5; with a refused configuration with 3, 5 or 7; with none under the name with 7; a comparison with states of at
-/// most 65536 bytes and no fault with 0 exactly where the bytes are their report and else with 1, or with 8 where there are more bytes
-/// than may be read and the report begins with those; with longer states with 5, 7 or 9; with no states under the name with 7. Want of
-/// memory, 6, may come in each. What 0 and 1 say of a comparison's bytes is so whatever failed. Where the count of faults of the source, the sink or the shelf did not rise, 4, 5 or 7 does not come.
+/// How a run ends where the words, the shelf and the number of bytes say it. With an accepted
+/// configuration and no fault a replay ends with 0 or 1, or with 8 where there are more bytes than
+/// may be read, and an exercise with 0. A comparison with states of at most 65536 bytes and no fault
+/// ends with 0 or 1, or with 8 where there are more bytes than may be read and the report begins with
+/// those that may be; whatever failed, at 0 the bytes are the report and at 1 they are not. With
+/// longer states it ends with 5, 7 or 9, with none under the name with 7. With words that are not
+/// taken a run ends with 2 or 5, with a refused configuration with 3, 5 or 7, with none under the
+/// name with 7. Want of memory, 6, may come in each. Where the count of faults of the source, the
+/// sink or the shelf did not rise, 4, 5 or 7 does not come.
 pub fn runs_are_complete()
     ensures { RunsAreComplete }
 {}

@@ -6,6 +6,7 @@ ghost use Rattle.daa_words.specs.Order.{IsInRange, TaskIsInRange, meaning, task_
 ghost use Rattle.daa_words.specs.Task.{Judge};
 ghost use Rattle.daa_engine.specs.EngineState.{IsWorkerCount};
 ghost use Rattle.daa_replay.specs.Ready.{FetchesAs, MakesReady, OpensAs, PreparesAs, ReadsAs, WorkIsInRange, settings_in, unready_of};
+ghost use Rattle.daa_replay.specs.Ready as spec;
 
 use daa_config::{Config, ConfigFault, read};
 use daa_engine::{Engine, NoMemory};
@@ -67,6 +68,17 @@ fn read_text(alloc: Global, text: &[u8]) -> Result<Config, Unready>
     }
 }
 
+/// Why there is no text, where one that is too long makes the run `long`.
+fn unfetched(fault: FetchFault, long: Unready) -> Unready
+    ensures { result ≡ spec.unfetched long fault }
+{
+    match fault {
+        FetchFault::TooLong => long,
+        FetchFault::Failed => Unready::FetchFault,
+        FetchFault::NoMemory => Unready::NoMemory,
+    }
+}
+
 /// The configuration that the shelf holds under the name.
 fn fetch<F: Shelf>(alloc: Global, shelf: &mut F, name: &str) -> Result<Config, Unready>
     ensures fetched { FetchesAs (F.texts shelf.old) name.now result }
@@ -77,9 +89,7 @@ fn fetch<F: Shelf>(alloc: Global, shelf: &mut F, name: &str) -> Result<Config, U
 {
     match shelf.fetch(alloc, name) {
         Ok(text) => read_text(alloc, text.as_slice()),
-        Err(FetchFault::TooLong) => Err(cause_of(ConfigFault::TooLong)),
-        Err(FetchFault::Failed) => Err(Unready::FetchFault),
-        Err(FetchFault::NoMemory) => Err(Unready::NoMemory),
+        Err(fault) => Err(unfetched(fault, cause_of(ConfigFault::TooLong))),
     }
 }
 
@@ -120,9 +130,7 @@ fn fetch_states<F: Shelf>(alloc: Global, shelf: &mut F, name: &str) -> Result<Wo
             Ok(sheet) => Ok(Work::Judge { states, sheet }),
             Err(_) => Err(Unready::NoMemory),
         },
-        Err(FetchFault::TooLong) => Err(Unready::StatesLong),
-        Err(FetchFault::Failed) => Err(Unready::FetchFault),
-        Err(FetchFault::NoMemory) => Err(Unready::NoMemory),
+        Err(fault) => Err(unfetched(fault, Unready::StatesLong)),
     }
 }
 

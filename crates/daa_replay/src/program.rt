@@ -29,8 +29,12 @@ fn conduct<R: Threads + Sync, F: Shelf, S: Source + Send, K: Sink + Send, G: Gat
     requires some { 1 ≤ most }
     requires bound { most ≤ 2 ^ 40 }
     ensures { Runs most (map string_bytes words.now) (code_of result)
-        (outside (shelf_state (F.texts shelf.old) (F.faults shelf.old)) (stream_state (S.left source.old) (S.faults source.old)) (stream_state (K.taken sink.old) (K.faults sink.old)))
-        (outside (shelf_state (F.texts shelf.new) (F.faults shelf.new)) (stream_state (S.left source.new) (S.faults source.new)) (stream_state (K.taken sink.new) (K.faults sink.new))) }
+        (outside (shelf_state (F.texts shelf.old) (F.faults shelf.old))
+        (stream_state (S.left source.old) (S.faults source.old))
+        (stream_state (K.taken sink.old) (K.faults sink.old)))
+        (outside (shelf_state (F.texts shelf.new) (F.faults shelf.new))
+        (stream_state (S.left source.new) (S.faults source.new))
+        (stream_state (K.taken sink.new) (K.faults sink.new))) }
 {
     match open(tools.alloc, words, shelf) {
         Ok(ready) => perform(tools, ready, source, sink, most),
@@ -38,19 +42,24 @@ fn conduct<R: Threads + Sync, F: Shelf, S: Source + Send, K: Sink + Send, G: Gat
     }
 }
 
-/// Reads the command words and fetches the configuration that they name from the shelf. A replay reads state lines from the
-/// source, at most `most` bytes of them, and writes their report to the sink; an exercise reads nothing and writes the summary
-/// of the moments that its seed draws; a comparison fetches states too, reads at most `most` bytes, and writes whether they are the
-/// report of the states, or in which line they first differ. `words[0]` is the program's name. The bytes are the same for every number of workers.
+/// Reads the command words and fetches the configuration that they name from the shelf. A replay
+/// reads state lines from the source, at most `most` bytes of them, and writes their report to the
+/// sink; an exercise reads nothing and writes the summary of the moments that its seed draws; a
+/// comparison fetches states too, reads at most `most` bytes, and writes whether they are the
+/// report of the states, or in which line they first differ. `words[0]` is the program's name. The
+/// bytes are the same for every number of workers and of pieces that are read ahead.
 ///
 /// Answers the status of the process:
-/// - 0 where the input was read to its end and no line was refused, or the exercise ended, or a report is that of the states; 1 where
-///   some line was refused, or a report is another one;
+/// - 0 where the input was read to its end and no line was refused, or the exercise ended, or a
+///   report is that of the states; 1 where some line was refused, or a report is another one;
 /// - 2 where the words are not taken; the usage line is written;
 /// - 3 where the configuration is refused; `config` and its code are written;
-/// - 4 where the source failed, 5 where the sink did, 7 where the shelf did or holds nothing under a name;
-/// - 6 where there was no memory for words, texts, configuration, engine or sheet; nothing is read or written;
-/// - 8 exactly where `most` bytes were read and there was one more; of a comparison only where the report begins with them;
+/// - 4 where the source failed, 5 where the sink did, 7 where the shelf did or holds nothing under
+///   a name;
+/// - 6 where there was no memory for words, texts, configuration, engine or sheet; nothing is read
+///   or written;
+/// - 8 exactly where `most` bytes were read and there was one more, and the sink did not fail before
+///   they were reported; of a comparison only where the report begins with those bytes;
 /// - 9 where the states have more than 65536 bytes; `states long` is written.
 ///
 /// Once the source is read, want of memory is answered no more.
@@ -67,8 +76,12 @@ pub fn run_within<R: Threads + Sync, F: Shelf, S: Source + Send, K: Sink + Send,
     requires some { 1 ≤ most }
     requires bound { most ≤ 2 ^ 40 }
     ensures runs { Runs most (map string_bytes words.now) result
-        (outside (shelf_state (F.texts shelf.old) (F.faults shelf.old)) (stream_state (S.left source.old) (S.faults source.old)) (stream_state (K.taken sink.old) (K.faults sink.old)))
-        (outside (shelf_state (F.texts shelf.new) (F.faults shelf.new)) (stream_state (S.left source.new) (S.faults source.new)) (stream_state (K.taken sink.new) (K.faults sink.new))) }
+        (outside (shelf_state (F.texts shelf.old) (F.faults shelf.old))
+        (stream_state (S.left source.old) (S.faults source.old))
+        (stream_state (K.taken sink.old) (K.faults sink.old)))
+        (outside (shelf_state (F.texts shelf.new) (F.faults shelf.new))
+        (stream_state (S.left source.new) (S.faults source.new))
+        (stream_state (K.taken sink.new) (K.faults sink.new))) }
 {
     let tools = Tools { rt, alloc, gate };
     conduct(&tools, words, shelf, source, sink, most).code()
@@ -85,8 +98,12 @@ pub fn run<R: Threads + Sync, F: Shelf, S: Source + Send, K: Sink + Send, G: Gat
     gate: &G,
 ) -> u8
     ensures runs { Runs (2 ^ 40) (map string_bytes words.now) result
-        (outside (shelf_state (F.texts shelf.old) (F.faults shelf.old)) (stream_state (S.left source.old) (S.faults source.old)) (stream_state (K.taken sink.old) (K.faults sink.old)))
-        (outside (shelf_state (F.texts shelf.new) (F.faults shelf.new)) (stream_state (S.left source.new) (S.faults source.new)) (stream_state (K.taken sink.new) (K.faults sink.new))) }
+        (outside (shelf_state (F.texts shelf.old) (F.faults shelf.old))
+        (stream_state (S.left source.old) (S.faults source.old))
+        (stream_state (K.taken sink.old) (K.faults sink.old)))
+        (outside (shelf_state (F.texts shelf.new) (F.faults shelf.new))
+        (stream_state (S.left source.new) (S.faults source.new))
+        (stream_state (K.taken sink.new) (K.faults sink.new))) }
 {
     run_within(rt, alloc, words, shelf, source, sink, gate, MOST_BYTES)
 }

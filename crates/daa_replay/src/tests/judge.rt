@@ -85,8 +85,14 @@ fn the_report_of_the_states_is_the_same(rt: HostRuntime) -> Result<(), Fail> {
 /// States and their reports under one level: with carriage returns, without a last line end, of format 2 with an age, refused lines
 /// before, within and after a moment, and a moment that does not end.
 static REPORTS: [(&[u8], &str); 6] = [
-    (b"moment 0\r\nown 0 0 1000 0 3600 0\r\nend\r\n", "moment 0\nclear\ndone 0\n"),
-    (b"moment 0\nown 0 0 1000 0 3600 0\nend", "moment 0\nclear\ndone 0\n"),
+    (
+        b"moment 0\r\nown 0 0 1000 0 3600 0\r\nend\r\n",
+        "moment 0\nclear\ndone 0\n",
+    ),
+    (
+        b"moment 0\nown 0 0 1000 0 3600 0\nend",
+        "moment 0\nclear\ndone 0\n",
+    ),
     (
         b"format 2\nmoment 0\nown 0 0 1000 0 3600 0\ntraffic A 0 -1000 1000 0 3600 0 10\nend\n",
         "moment 0\nnow A 1\nalert A 1 0\ncovered\ndone 0\n",
@@ -168,7 +174,14 @@ fn the_configuration_comes_first_and_then_the_states(rt: HostRuntime) -> Result<
     // the first line has 256 bytes by then
     judges(&rt, long.as_slice(), b"refused 1 1\n", JUDGE, 0, b"same\n")?;
     long.push(120)?;
-    judges(&rt, long.as_slice(), b"refused 1 1\n", JUDGE, 9, b"states long\n")?;
+    judges(
+        &rt,
+        long.as_slice(),
+        b"refused 1 1\n",
+        JUDGE,
+        9,
+        b"states long\n",
+    )?;
     let refused = Outside {
         config: "x",
         ..JUDGE
@@ -184,11 +197,7 @@ fn the_configuration_comes_first_and_then_the_states(rt: HostRuntime) -> Result<
 
 #[test]
 fn each_fault_has_its_status(rt: HostRuntime) -> Result<(), Fail> {
-    for (fails, status, text) in [
-        (0u64, 7, b"".as_slice()),
-        (1, 7, b""),
-        (2, 0, b"same\n"),
-    ] {
+    for (fails, status, text) in [(0u64, 7, b"".as_slice()), (1, 7, b""), (2, 0, b"same\n")] {
         let fetch_fails = [fails];
         let outside = Outside {
             fetch_fails: &fetch_fails,
@@ -231,5 +240,12 @@ fn a_line_that_is_not_written_is_a_write_fault(rt: HostRuntime) -> Result<(), Fa
     }
     let mut long = Vec::new(rt.alloc());
     long.resize(65537, 120u8)?;
-    judges(&rt, long.as_slice(), b"", Outside { room: 8, ..JUDGE }, 5, b"states l")
+    judges(
+        &rt,
+        long.as_slice(),
+        b"",
+        Outside { room: 8, ..JUDGE },
+        5,
+        b"states l",
+    )
 }

@@ -1,11 +1,12 @@
-use Rattle.std.proofs.Common.{Err, ap, sym, subst}
+use Rattle.std.proofs.Common.{Err, ap, sym, subst, ◌∙◌}
 use Rattle.daa_outside.specs.declared.shelf.FetchFault.{FetchFault}
 use Rattle.daa_replay.specs.declared.opening.Unready.{Unready}
-use Rattle.daa_replay.specs.Ready.{FetchesAs}
-use Rattle.daa_replay.proofs.OpeningLemmas.{refused_long}
+use Rattle.daa_replay.specs.Ready.{FetchesAs, unfetched}
+use Rattle.daa_replay.proofs.OpeningLemmas.{no_text}
 use Rattle.daa_replay.proofs.opening.fetch.Goals as goal
 
-pub returns-in-Err-TooLong-clause-fetched : goal.returns-in-Err-TooLong-clause-fetched
-returns-in-Err-TooLong-clause-fetched g c =
-    subst (λ (u : Unready). FetchesAs (g.F.Shelf.texts c.args.shelf.now) c.args.name.now (Err u)) (sym c.cause_of.ensures)
-    (refused_long _ _ (c.in-Err-TooLong.ensures.too_long (ap (λ (f : FetchFault). Err f) c.in-Err-TooLong.field-0-is)))
+pub returns-in-Err-clause-fetched : goal.returns-in-Err-clause-fetched
+returns-in-Err-clause-fetched g c =
+    subst (λ (u : Unready). FetchesAs (g.F.Shelf.texts c.args.shelf.now) c.args.name.now (Err u))
+    (sym (c.unfetched.ensures ∙ ap (λ (long : Unready). unfetched long c.in-Err.fault) c.cause_of.ensures))
+    (no_text _ _ c.in-Err.fault (λ e. c.in-Err.ensures.too_long (ap (λ (f : FetchFault). Err f) e)))
