@@ -3,6 +3,7 @@
 //! nothing. Nothing here takes memory.
 #![tactic(auto)]
 
+mod checked;
 mod fault;
 mod fields;
 mod id;
@@ -12,6 +13,7 @@ mod number;
 mod word;
 mod word_of;
 
+pub use checked::{Field, OutOfRange, PictureFault};
 pub use fault::LineFault;
 pub use id::Id;
 pub use laws::{
