@@ -277,7 +277,13 @@ impl Picture {
 
 impl fmt::Display for OutOfRange {
     fn fmt<W: fmt::Write>(&self, f: &mut fmt::Formatter<W>) -> fmt::Result {
-        write!(f, "{} is not {} to {}", self.field.name(), self.least, self.greatest)
+        write!(
+            f,
+            "{} is not {} to {}",
+            self.field.name(),
+            self.least,
+            self.greatest
+        )
     }
 }
 
@@ -289,7 +295,11 @@ impl fmt::Display for PictureFault {
             PictureFault::TooMany => f.write_str("there are more than 64 aircraft"),
             PictureFault::Own(fault) => write!(f, "of the ownship, {}", fault),
             PictureFault::Traffic(place, fault) => write!(f, "of aircraft {}, {}", place, fault),
-            PictureFault::SameId(place) => write!(f, "aircraft {} has an earlier one's identifier", place),
+            PictureFault::SameId(place) => write!(
+                f,
+                "aircraft {} has an earlier one's identifier",
+                place
+            ),
         }
     }
 }

@@ -7,10 +7,11 @@ use Rattle.daa_state.proofs.word.Picture.checked.Goals as goal
 
 pub loop-place-preserved : goal.loop-place-preserved
 loop-place-preserved c =
-    let traffic : List Traffic = c.args.traffic.now in
-    (next_aircraft traffic c.loop-place.all.items c.push.new.self.items c.loop-place.place c.index-traffic-place.result c.loop-place-test.true c.loop-place.invariant.0
-         c.index-traffic-place.is c.push.ensures.items,
-     below-more traffic c.loop-place.place c.loop-place.invariant.1 c.in_ok-test_aircraft.ensures.taken)
+    let traffic : List Traffic = c.args.traffic.now in (
+      next_aircraft traffic c.loop-place.all.items c.push.new.self.items c.loop-place.place c.index-traffic-place.result c.loop-place-test.true c.loop-place.invariant.0
+          c.index-traffic-place.is c.push.ensures.items,
+      below-more traffic c.loop-place.place c.loop-place.invariant.1 c.in_ok-test_aircraft.ensures.taken,
+    )
 
 pub returns-clause-range : goal.returns-clause-range
 returns-clause-range c =
@@ -27,4 +28,4 @@ returns-clause-range c =
 pub returns-clause-different : goal.returns-clause-different
 returns-clause-different c =
     taken_whole c.args.traffic.now c.loop-place.all.items c.loop-place.place c.loop-place-test.false c.loop-place.auto.place-end c.loop-place.invariant.0
-        c.loop-place.invariant.1
+    c.loop-place.invariant.1
