@@ -9,3 +9,4 @@ pub mod AgeLaws
 pub mod RangeLemmas
 pub mod WordRanges
 pub mod StepRanges
+pub mod TakenLemmas

@@ -12,3 +12,4 @@ pub mod InRange
 pub mod FourWords
 pub mod Current
 pub mod Laws
+pub mod Checked

@@ -3,6 +3,7 @@
 //! nothing. Nothing here takes memory.
 #![tactic(auto)]
 
+mod checked;
 mod copy;
 mod fault;
 mod fields;
@@ -13,6 +14,7 @@ mod number;
 mod word;
 mod word_of;
 
+pub use checked::{Field, OutOfRange, PictureFault};
 pub use fault::LineFault;
 pub use id::Id;
 pub use laws::{

@@ -1,0 +1,67 @@
+-- Which number of a state is out of its range, and which aircraft make no picture.
+use Rattle.std.specs.Prelude.{◌≡◌, ◌<◌, ℕ, ℤ, pos, true, false, Bool, ◌&&◌, int_le, List, [], ◌∷◌, length, take, slice_get, Option, Some, None, if◌then◌else◌}
+use Rattle.daa_state.specs.InRange.{IsOwnInRange, IsTrafficInRange}
+use Rattle.daa_state.specs.MomentStep.{has_id}
+use Rattle.daa_state.specs.Ranges.{Range, positions, altitudes, tracks, ground_speeds, speeds, vertical_speeds, ages}
+use Rattle.daa_state.specs.declared.checked.Field.{Field}
+use Rattle.daa_state.specs.declared.checked.Field.TheVariants.{East, North, Altitude, Track, GroundSpeed, VerticalSpeed, SpeedEast, SpeedNorth, Age}
+use Rattle.daa_state.specs.declared.checked.Number.{Number}
+use Rattle.daa_state.specs.declared.checked.OutOfRange.{OutOfRange}
+use Rattle.daa_state.specs.declared.checked.PictureFault.{PictureFault}
+use Rattle.daa_state.specs.declared.checked.PictureFault.TheVariants as says
+use Rattle.daa_state.specs.declared.word.Own.{Own}
+use Rattle.daa_state.specs.declared.word.Traffic.{Traffic}
+
+-- the range of the numbers that a field names
+abbrev pub range_of : Field → Range
+range_of East = positions
+range_of North = positions
+range_of Altitude = altitudes
+range_of Track = tracks
+range_of GroundSpeed = ground_speeds
+range_of VerticalSpeed = vertical_speeds
+range_of SpeedEast = speeds
+range_of SpeedNorth = speeds
+range_of Age = ages
+
+abbrev pub is_within : Range → ℤ → Bool
+is_within range n = int_le range.low n && int_le n range.high
+
+-- what is told of a number that is out of range
+abbrev pub outside : Field → OutOfRange
+outside field = record { field = field; least = (range_of field).low; greatest = (range_of field).high }
+
+-- a number, and what it is
+abbrev pub number_of : Field → ℤ → Number
+number_of field number = record { field = field; number = number }
+
+-- what is told of the first of them that is out of its range
+unfoldable pub first_outside : List Number → Option OutOfRange
+first_outside [] = None
+first_outside (n ∷ others) = if is_within (range_of n.field) n.number then first_outside others else Some (outside n.field)
+
+abbrev pub own_numbers : Own → List Number
+own_numbers own = number_of East own.x ∷ number_of North own.y ∷ number_of Altitude own.alt ∷ number_of Track own.trk
+    ∷ number_of GroundSpeed own.gs ∷ number_of VerticalSpeed own.vs ∷ []
+
+abbrev pub traffic_numbers : Traffic → List Number
+traffic_numbers t = number_of East t.x ∷ number_of North t.y ∷ number_of Altitude t.alt ∷ number_of SpeedEast t.vx
+    ∷ number_of SpeedNorth t.vy ∷ number_of VerticalSpeed t.vs ∷ number_of Age (pos t.age) ∷ []
+
+-- the aircraft at a place of a list is in range, and none before it has its identifier
+pub record IsTakenAt (traffic : List Traffic) (place : ℕ) (aircraft : Traffic) : Type 0 where
+  pub range : IsTrafficInRange aircraft
+  pub new : has_id aircraft.id (take place traffic) ≡ false
+
+-- the aircraft of a list are in range, and no two have one identifier
+abbrev pub AreTaken : List Traffic → Type 0
+AreTaken traffic = (place : ℕ) (aircraft : Traffic) → slice_get traffic place ≡ Some aircraft → IsTakenAt traffic place aircraft
+
+-- why an ownship and a list of aircraft are no picture
+abbrev pub IsPictureFault : Own → List Traffic → PictureFault → Type 0
+IsPictureFault own traffic says.TooMany = 64 < length traffic
+IsPictureFault own traffic (says.Own fault) = first_outside (own_numbers own) ≡ Some fault
+IsPictureFault own traffic (says.Traffic place fault) =
+    (aircraft : Traffic) × (slice_get traffic place ≡ Some aircraft) × (first_outside (traffic_numbers aircraft) ≡ Some fault)
+IsPictureFault own traffic (says.SameId place) =
+    (aircraft : Traffic) × (slice_get traffic place ≡ Some aircraft) × (has_id aircraft.id (take place traffic) ≡ true)

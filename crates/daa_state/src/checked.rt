@@ -1,0 +1,307 @@
+//! States from numbers: which of a caller's numbers is out of its range, or the value, of which contracts then know every
+//! range.
+
+ghost use Rattle.std.specs.Prelude.{◌≡◌, ◌<◌, length, true, false, slice_get, Some, None, IfOk, IfErr, OnOk, pos};
+ghost use Rattle.daa_state.specs.Checked.{range_of, is_within, outside, first_outside, number_of, own_numbers, traffic_numbers, IsTakenAt, AreTaken, IsPictureFault};
+ghost use Rattle.daa_state.specs.InRange.{IsOwnInRange, IsTrafficInRange, IsPictureInRange};
+ghost use Rattle.daa_state.specs.MomentStep.{has_id};
+ghost use Rattle.daa_state.specs.Picture.{aircraft_of};
+ghost use Rattle.daa_state.specs.declared.word.Traffic.{Traffic};
+
+use crate::id::Id;
+use crate::word::{Own, Picture, Traffic};
+use arrayvec::ArrayVec;
+use std::error::Error;
+use std::fmt;
+
+/// The most aircraft of a picture.
+const MOST_AIRCRAFT: usize = 64;
+
+/// What a number of a state is.
+#[derive(Clone, Copy, Debug, PartialEq, Eq)]
+pub enum Field {
+    /// The place east, `x`, in thousandths of a nautical mile.
+    East,
+    /// The place north, `y`, in thousandths of a nautical mile.
+    North,
+    /// `alt`, in feet.
+    Altitude,
+    /// `trk`, in degrees clockwise from north.
+    Track,
+    /// `gs`, in tenths of a knot.
+    GroundSpeed,
+    /// `vs`, in feet per minute.
+    VerticalSpeed,
+    /// An aircraft's speed east, `vx`, in tenths of a knot.
+    SpeedEast,
+    /// An aircraft's speed north, `vy`, in tenths of a knot.
+    SpeedNorth,
+    /// How many seconds old an aircraft's report is, `age`.
+    Age,
+}
+
+/// A number of a state is out of its range: what it is, and the least and the greatest that it may be.
+#[derive(Clone, Copy, Debug, PartialEq, Eq)]
+pub struct OutOfRange {
+    pub field: Field,
+    pub least: i32,
+    pub greatest: i32,
+}
+
+/// Why an ownship and aircraft are no picture. Places are counted from 0.
+#[derive(Clone, Copy, Debug, PartialEq, Eq)]
+pub enum PictureFault {
+    /// There are more than 64 aircraft.
+    TooMany,
+    /// A number of the ownship is out of its range.
+    Own(OutOfRange),
+    /// A number of the aircraft at this place is out of its range.
+    Traffic(usize, OutOfRange),
+    /// The aircraft at this place has the identifier of an earlier one.
+    SameId(usize),
+}
+
+impl Field {
+    /// The least number that it may be.
+    fn least(self) -> i32
+        ensures { result ≡ (range_of self).low }
+    {
+        match self {
+            Field::East | Field::North => -200_000,
+            Field::Altitude => -2_000,
+            Field::Track | Field::GroundSpeed | Field::Age => 0,
+            Field::VerticalSpeed | Field::SpeedEast | Field::SpeedNorth => -10_000,
+        }
+    }
+
+    /// The greatest number that it may be.
+    fn greatest(self) -> i32
+        ensures { result ≡ (range_of self).high }
+    {
+        match self {
+            Field::East | Field::North => 200_000,
+            Field::Altitude => 60_000,
+            Field::Track => 359,
+            Field::GroundSpeed | Field::VerticalSpeed | Field::SpeedEast | Field::SpeedNorth =>
+                10_000,
+            Field::Age => 60,
+        }
+    }
+
+    /// Its name, and its unit in brackets.
+    fn name(self) -> &'static str {
+        match self {
+            Field::East => "x (0.001 NM)",
+            Field::North => "y (0.001 NM)",
+            Field::Altitude => "alt (ft)",
+            Field::Track => "trk (degrees)",
+            Field::GroundSpeed => "gs (0.1 kt)",
+            Field::VerticalSpeed => "vs (ft/min)",
+            Field::SpeedEast => "vx (0.1 kt)",
+            Field::SpeedNorth => "vy (0.1 kt)",
+            Field::Age => "age (s)",
+        }
+    }
+}
+
+/// A number, and what it is.
+#[derive(Clone, Copy)]
+struct Number {
+    field: Field,
+    number: i64,
+}
+
+/// Whether a number is in the range of its field.
+fn test(number: &Number) -> Result<(), OutOfRange>
+    ensures within { OnOk result (is_within (range_of number.now.field) number.now.number ≡ true) }
+    ensures beyond { IfErr result (λ fault. (is_within (range_of number.now.field) number.now.number ≡ false) × (fault ≡ outside number.now.field)) }
+{
+    let least = number.field.least();
+    let greatest = number.field.greatest();
+    if i64::from(least) <= number.number && number.number <= i64::from(greatest) {
+        Ok(())
+    } else {
+        Err(OutOfRange {
+            field: number.field,
+            least,
+            greatest,
+        })
+    }
+}
+
+/// Whether each number is in the range of its field.
+#[tactic(auto, unfolding(crate::specs::Checked::first_outside))]
+fn test_all(numbers: &[Number]) -> Result<(), OutOfRange>
+    ensures within { OnOk result (first_outside numbers.now ≡ None) }
+    ensures refused { IfErr result (λ fault. first_outside numbers.now ≡ Some fault) }
+{
+    for number in numbers {
+        test(number)?;
+    }
+    Ok(())
+}
+
+/// A number, and what it is.
+fn number_of(field: Field, number: i32) -> Number
+    ensures { result ≡ number_of field number }
+{
+    Number {
+        field,
+        number: i64::from(number),
+    }
+}
+
+/// The numbers of an ownship.
+fn own_numbers(own: &Own) -> [Number; 6]
+    ensures { result ≡ own_numbers own.now }
+{
+    [
+        number_of(Field::East, own.x),
+        number_of(Field::North, own.y),
+        number_of(Field::Altitude, own.alt),
+        number_of(Field::Track, own.trk),
+        number_of(Field::GroundSpeed, own.gs),
+        number_of(Field::VerticalSpeed, own.vs),
+    ]
+}
+
+/// The age of an aircraft's report.
+fn age_of(aircraft: &Traffic) -> Number
+    ensures { result ≡ number_of Field.Age (pos aircraft.now.age) }
+{
+    Number {
+        field: Field::Age,
+        number: i64::from(aircraft.age),
+    }
+}
+
+/// The numbers of an aircraft.
+fn traffic_numbers(aircraft: &Traffic) -> [Number; 7]
+    ensures { result ≡ traffic_numbers aircraft.now }
+{
+    [
+        number_of(Field::East, aircraft.x),
+        number_of(Field::North, aircraft.y),
+        number_of(Field::Altitude, aircraft.alt),
+        number_of(Field::SpeedEast, aircraft.vx),
+        number_of(Field::SpeedNorth, aircraft.vy),
+        number_of(Field::VerticalSpeed, aircraft.vs),
+        age_of(aircraft),
+    ]
+}
+
+impl Own {
+    /// The same ownship, where each of its numbers is in its range; else the first that is not, in the order of the fields.
+    #[tactic(auto, using(crate::proofs::TakenLemmas::own_range))]
+    pub fn checked(self) -> Result<Own, OutOfRange>
+        ensures value { IfOk result (λ own. own ≡ self) }
+        ensures range { IfOk result IsOwnInRange }
+        ensures refused { IfErr result (λ fault. first_outside (own_numbers self) ≡ Some fault) }
+    {
+        test_all(&own_numbers(&self))?;
+        Ok(self)
+    }
+}
+
+impl Traffic {
+    /// The same aircraft, where each of its numbers is in its range; else the first that is not, in the order of the fields.
+    #[tactic(auto, using(crate::proofs::TakenLemmas::traffic_range))]
+    pub fn checked(self) -> Result<Traffic, OutOfRange>
+        ensures value { IfOk result (λ aircraft. aircraft ≡ self) }
+        ensures range { IfOk result IsTrafficInRange }
+        ensures refused { IfErr result (λ fault. first_outside (traffic_numbers self) ≡ Some fault) }
+    {
+        // tells that they are an identifier's
+        let _bytes = self.id.bytes();
+        test_all(&traffic_numbers(&self))?;
+        Ok(self)
+    }
+}
+
+/// Whether an aircraft has this identifier.
+fn is_among(traffic: &[Traffic], id: &Id) -> bool
+    ensures { result ≡ has_id id.now traffic.now }
+{
+    traffic.iter().any(|aircraft| aircraft.id == *id)
+}
+
+/// Whether the aircraft at a place is in range, and none before it has its identifier.
+fn test_aircraft(traffic: &[Traffic], own: &Own, place: usize) -> Result<(), PictureFault>
+    requires { place < length traffic.now }
+    ensures taken { OnOk result ((t : Traffic) → slice_get traffic.now place ≡ Some t → IsTakenAt traffic.now place t) }
+    ensures refused { IfErr result (IsPictureFault own.now traffic.now) }
+{
+    let aircraft = traffic[place];
+    match aircraft.checked() {
+        Err(fault) => Err(PictureFault::Traffic(place, fault)),
+        Ok(aircraft) => {
+            if is_among(&traffic[..place], &aircraft.id) {
+                Err(PictureFault::SameId(place))
+            } else {
+                Ok(())
+            }
+        }
+    }
+}
+
+impl Picture {
+    /// The picture of this time in seconds, this ownship and these aircraft, where each of their numbers is in its range and
+    /// there are at most 64 aircraft of different identifiers; else why it is none. The answer depends on them alone.
+    pub fn checked(time: u32, own: Own, traffic: &[Traffic]) -> Result<Picture, PictureFault>
+        ensures time { IfOk result (λ picture. picture.time ≡ time) }
+        ensures own { IfOk result (λ picture. picture.own ≡ own) }
+        ensures traffic { IfOk result (λ picture. aircraft_of picture ≡ traffic.now) }
+        ensures range { IfOk result IsPictureInRange }
+        ensures different { IfOk result (λ picture. AreTaken (aircraft_of picture)) }
+        ensures refused { IfErr result (IsPictureFault own traffic.now) }
+    {
+        if traffic.len() > MOST_AIRCRAFT {
+            return Err(PictureFault::TooMany);
+        }
+        let own = match own.checked() {
+            Ok(own) => own,
+            Err(fault) => return Err(PictureFault::Own(fault)),
+        };
+        let mut all = ArrayVec::new();
+        for place in 0..traffic.len() {
+            test_aircraft(traffic, &own, place)?;
+            all.push(traffic[place]);
+        }
+        Ok(Picture {
+            time,
+            own,
+            traffic: all,
+        })
+    }
+}
+
+impl fmt::Display for OutOfRange {
+    fn fmt<W: fmt::Write>(&self, f: &mut fmt::Formatter<W>) -> fmt::Result {
+        write!(
+            f,
+            "{} is not {} to {}",
+            self.field.name(),
+            self.least,
+            self.greatest
+        )
+    }
+}
+
+impl Error for OutOfRange {}
+
+impl fmt::Display for PictureFault {
+    fn fmt<W: fmt::Write>(&self, f: &mut fmt::Formatter<W>) -> fmt::Result {
+        match self {
+            PictureFault::TooMany => f.write_str("there are more than 64 aircraft"),
+            PictureFault::Own(fault) => write!(f, "of the ownship, {}", fault),
+            PictureFault::Traffic(place, fault) => write!(f, "of aircraft {}, {}", place, fault),
+            PictureFault::SameId(place) => write!(
+                f,
+                "aircraft {} has an earlier one's identifier",
+                place
+            ),
+        }
+    }
+}
+
+impl Error for PictureFault {}
