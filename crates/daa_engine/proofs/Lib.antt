@@ -7,3 +7,4 @@ pub mod SomeText
 pub mod LevelLemmas
 pub mod MergingLemmas
 pub mod LengthLemmas
+pub mod PlainLemmas

@@ -1,6 +1,7 @@
 pub mod Covered
 pub mod EngineState
 pub mod MomentText
+pub mod PlainText
 pub mod Longest
 pub mod Filling
 pub mod Merging

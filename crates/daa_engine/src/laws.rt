@@ -1,5 +1,5 @@
 //! Laws of the definitions, each the contract of a function that does nothing.
-ghost use Rattle.std.specs.Prelude.{◌≡◌, ◌<◌, ◌≤◌, ◌^◌, ℕ, List, length};
+ghost use Rattle.std.specs.Prelude.{◌≡◌, ◌<◌, ◌≤◌, ◌^◌, ◌↔◌, ℕ, List, length, None};
 ghost use Rattle.daa_bands.specs.Board.{HasLevelOn, IsBoardOf, mask_levels};
 ghost use Rattle.daa_bands.specs.KindBands.{AreKindBands};
 ghost use Rattle.daa_bands.specs.declared.band.Band.{Band};
@@ -15,6 +15,7 @@ ghost use Rattle.daa_resolve.specs.declared.side.Side.{Side};
 ghost use Rattle.daa_engine.specs.Covered.{CoveredAt};
 ghost use Rattle.daa_engine.specs.Longest.{longest_moment};
 ghost use Rattle.daa_engine.specs.MomentText.{IsMomentText};
+ghost use Rattle.daa_engine.specs.PlainText.{IsPlainText};
 
 /// Under a configuration that is accepted exactly one text is that of a picture in range. This holds of the definitions
 /// alone, whatever a program does: no memory or sink is in it.
@@ -45,8 +46,13 @@ pub fn boards_tell_what_is_covered()
         → IsResolution (CoveredAt s p) s p.own kind side answer }
 {}
 
-/// The text of a picture in range, whose time is a `u32`, has at most 130176 bytes: at most 64 for each of its lines, with room for
-/// four lines more. So a sheet of one byte more is never full.
+/// Under a configuration without a table of recovery the text is that of the lines that there are without recoveries.
+pub fn texts_without_a_recovery_are_as_before()
+    ensures { (s : Settings) (p : Picture) (text : Text) → s.recovery ≡ None → IsMomentText s p text ↔ IsPlainText s p text }
+{}
+
+/// The text of a picture in range, whose time is a `u32`, has at most 130176 bytes: at most 64 for each of its lines. So a sheet of
+/// one byte more is never full.
 pub fn texts_are_short()
     ensures { (s : Settings) (p : Picture) (text : Text) → IsAccepted s → IsPictureInRange p → p.time < 2 ^ 32 → IsMomentText s p text
         → length text ≤ longest_moment }

@@ -673,7 +673,13 @@ fn may_be_sent<T: Send>() {}
 #[test]
 fn values_may_be_sent() {
     may_be_sent::<Engine>();
+}
+
+#[test]
+fn laws() {
     has_one_text();
     has_one_board();
     every_picture_has_one_text();
+    texts_are_short();
+    texts_without_a_recovery_are_as_before();
 }
