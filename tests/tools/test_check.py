@@ -107,6 +107,11 @@ class States(ToolTest):
             "in.states: moment 10 keeps the first line of each aircraft that stands in it twice",
             "in.states: moment 20 is not reported: no line `end` of it is taken"])
 
+    def test_a_refused_end_alone_means_nothing_more(self):
+        status, out, _ = self.tool("check", CONFIG, f"{TOP}/examples/lines.states")
+        self.assertEqual((status, out.count("\n")), (1, 1))
+        self.assertIn("lines.states:18: refused 13: moment 50 has no ownship", out)
+
     def test_tells_of_lines_outside_moments(self):
         states = self.write("in.states", "moment 5\nown 0 0 0 0 0 0\nend\nmoment 5\nown 0 0 0 0 0 0\nend\n")
         status, out, _ = self.tool("check", CONFIG, states)

@@ -18,7 +18,8 @@ REPORT = ("moment 0\nnow A 0\nalert A 2 43\ntrack 0 5 3\ntrack 10 180 0\ntrack 1
 NO_REPORTS = (("", "it is empty"), ("hello\n", "line 1 is no line of a report there: 'hello'"), ("done 0\n", "line 1"),
               ("moment 0\nmoment 1\n", "line 2"),
               ("moment 0\ndone 0\n", "line 2 ends a moment that is not whole"), ("moment 0\nalert A 0 -\n", "line 2 is an alert of A"),
-              ("moment 0\ntrack 5 0 1\n", "line 2 does not rise"), ("config 3\n", "line 1"), ("moment", "no whole line"))
+              ("moment 0\ntrack 5 0 1\n", "line 2 does not rise"), ("moment 0\ntrack 0 5 1\ntrack 5 9 0\n", "line 3 does not rise"),
+              ("config 3\n", "line 1"), ("moment", "no whole line"))
 
 
 class Reports(ToolTest):
@@ -81,6 +82,13 @@ class Reports(ToolTest):
         self.assertEqual(status, 1)
         self.assertEqual(out.splitlines()[:4], ["moment 0 A: only in the first", "moment 0 B: only in the second",
                                                 "moment 10: only in the first", "moment 11: only in the second"])
+
+    def test_compare_takes_the_finer_steps(self):
+        """Of steps of 5 and of 10 degrees the candidates are those of 5; the second report tells nothing of the first gap."""
+        other = REPORT.replace("track 0 5 3\ntrack 10 180 0\ntrack 185 355 3", "track 0 0 3\ntrack 10 180 0\ntrack 190 350 3")
+        status, out, _ = self.tool("compare", self.report, self.write("b.report", other))
+        self.assertEqual(status, 1)
+        self.assertEqual(out.splitlines()[:3], ["moment 0 track 5: 3 and -", "moment 0 track 185: 3 and -", "moment 0 track 355: 3 and -"])
 
     def test_compare_finds_no_difference_in_one_report(self):
         status, out, _ = self.tool("compare", self.report, self.report)
