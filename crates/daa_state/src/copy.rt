@@ -5,7 +5,8 @@ use crate::word::Picture;
 use arrayvec::ArrayVec;
 
 impl Picture {
-    /// An exact copy: the same time, ownship and aircraft, in the same order. It takes no memory, so it can't fail.
+    /// An exact copy: the same time, ownship and aircraft, in the same order. It takes no memory,
+    /// so it can't fail.
     pub fn copied(&self) -> Picture
         ensures { result ≡ self.now }
     {
