@@ -87,7 +87,7 @@ class Words(unittest.TestCase):
 
     def test_tools_that_documents_name_are_there(self):
         for name in ["README.md", *glob.glob("docs/*.md", root_dir=TOP)]:
-            for path in re.findall(r"\b((?:tools|bench|examples)/[A-Za-z_.0-9]+)\b", read(name)):
+            for path in re.findall(r"(?<![\w/])((?:tools|bench|examples|tests/tools)/[A-Za-z_.0-9]+)\b", read(name)):
                 self.assertTrue(os.path.exists(os.path.join(TOP, path.rstrip("."))), f"{path} in {name}")
 
 
