@@ -413,8 +413,11 @@ fn codes_of_faults(rt: HostRuntime) {
     assert_eq!(rt; ConfigFault::NoMemory.code(), None);
 }
 
-/// What stands in place of the line of the turn rate.
-static RECOVERIES: [(&str, &str, u8); 22] = [
+/// The end of the text.
+const LAST: &str = "alert = 10 } ]";
+
+/// A part of the text, what stands in its place, and the code.
+static RECOVERIES: [(&str, &str, u8); 29] = [
     ("turn", "recovery = { hdist = 1, vdist = 0 }\nturn", 0),
     (
         "turn",
@@ -444,6 +447,27 @@ static RECOVERIES: [(&str, &str, u8); 22] = [
         "turn",
         "recovery = { hdist = 1, hdist = 1, vdist = 0 }\nturn",
         2,
+    ),
+    // under a heading of its own, at the end
+    (LAST, "alert = 10 } ]\n[recovery]\nhdist = 5\nvdist = 5", 0),
+    (LAST, "alert = 10 } ]\n[recovery]\nhdist = 5", 4),
+    (
+        LAST,
+        "alert = 10 } ]\n[[recovery]]\nhdist = 5\nvdist = 5",
+        5,
+    ),
+    // beside another fault the one of least number
+    ("turn", "recovery = 1\nx = 1\nturn", 3),
+    ("turn_rate = 3", "recovery = 1", 4),
+    (
+        "turn_rate = 3",
+        "recovery = { hdist = 0, vdist = 0 }\nturn_rate = 3.0",
+        5,
+    ),
+    (
+        "resolve = 1",
+        "recovery = { hdist = 0, vdist = 0 }\nresolve = 3",
+        6,
     ),
 ];
 
