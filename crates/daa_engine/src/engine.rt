@@ -37,13 +37,13 @@ const MOST_UNITS: usize = 10176;
 /// A configuration, 1 to 16 workers, and the board of the latest moment.
 #[derive(Drop)]
 pub struct Engine {
-    config: Config,
+    pub(crate) config: Config,
     workers: u32,
-    board: Board,
+    pub(crate) board: Board,
     // what the workers answer
     words: Vec<u64>,
     // the flights that lead on the sides of each kind, of the latest moment
-    trunks: Trunks,
+    pub(crate) trunks: Trunks,
 }
 
 impl Model for Engine {
@@ -58,7 +58,7 @@ impl Model for Engine {
 }
 
 /// The time of a picture, in seconds.
-fn time_of(picture: &Picture) -> u32
+pub(crate) fn time_of(picture: &Picture) -> u32
     ensures value { result ≡ picture.now.time }
     ensures fits { picture.now.time < 2 ^ 32 }
 {

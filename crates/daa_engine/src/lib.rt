@@ -4,6 +4,7 @@
 
 mod advice;
 mod alerts;
+mod alone;
 mod engine;
 mod filling;
 mod laws;

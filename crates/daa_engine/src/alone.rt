@@ -1,0 +1,119 @@
+//! A moment decided in the caller's own thread, and what is asked after it. Nothing here starts a thread or takes memory.
+ghost use Rattle.std.specs.Prelude.{◌≡◌, ◌≢◌, ◌<◌, ◌≤◌, None, length, slice_index_or};
+ghost use Rattle.daa_bands.specs.Board.{HasLevelOn, IsBoardOf, mask_levels};
+ghost use Rattle.daa_bands.specs.KindBands.{AreKindBands};
+ghost use Rattle.daa_config.specs.Candidates.{candidates_of};
+ghost use Rattle.daa_config.specs.Mask.{IsGreatestLevel};
+ghost use Rattle.daa_legs.specs.Alerts.{IsNowLevel};
+ghost use Rattle.daa_recovery.specs.Recovery.{IsRecovery};
+ghost use Rattle.daa_report.specs.Lines.{Text};
+ghost use Rattle.daa_report.specs.Says.{SaysSome};
+ghost use Rattle.daa_resolve.specs.Resolution.{IsResolution};
+ghost use Rattle.daa_state.specs.InRange.{IsPictureInRange};
+ghost use Rattle.daa_state.specs.Picture.{aircraft_of};
+ghost use Rattle.daa_state.specs.declared.word.Traffic.{Traffic};
+ghost use Rattle.daa_engine.specs.Covered.{CoveredAt};
+ghost use Rattle.daa_engine.specs.Longest.{longest_moment};
+ghost use Rattle.daa_engine.specs.MomentText.{IsMomentText};
+
+use crate::advice::advise;
+use crate::alerts::find_alerts;
+use crate::engine::{Engine, time_of};
+use crate::filling::fill;
+use crate::rescue::find_rescues;
+use crate::say::say;
+use daa_alert::now_level;
+use daa_bands::{Runs, runs};
+use daa_config::{Kind, Resolution};
+use daa_outside::Sink;
+use daa_recovery::{Recovery, least};
+use daa_report::SinkFault;
+use daa_resolve::{Side, nearest};
+use daa_state::{Own, Picture};
+
+impl Engine {
+    /// Decides a moment as `decide` does, in the caller's thread alone and without memory, whatever the number of workers.
+    pub fn decide_alone(&mut self, picture: &Picture)
+        requires { IsPictureInRange picture.now }
+        ensures kept { self.new ≡ record self.old { board = self.new.board } }
+        ensures board { IsBoardOf (CoveredAt self.old.settings picture.now) self.old.settings self.new.board }
+    {
+        self.trunks.fill(&picture.own, &self.config);
+        fill(&mut self.board, &self.trunks, &self.config, picture);
+    }
+
+    /// Decides a moment and writes its lines as `report` does, in the caller's thread alone and without memory.
+    pub fn report_alone<K: Sink>(
+        &mut self,
+        picture: &Picture,
+        sink: &mut K,
+    ) -> Result<(), SinkFault>
+        requires { IsPictureInRange picture.now }
+        ensures kept { self.new ≡ record self.old { board = self.new.board } }
+        ensures board { IsBoardOf (CoveredAt self.old.settings picture.now) self.old.settings self.new.board }
+        ensures short { (text : Text) → IsMomentText self.old.settings picture.now text → length text ≤ longest_moment }
+        ensures says { SaysSome (IsMomentText self.old.settings picture.now) (K.taken sink.old) (K.taken sink.new) (K.faults sink.old) (K.faults sink.new) result }
+    {
+        // tells that it is a `u32`
+        let _time = time_of(picture);
+        self.decide_alone(picture);
+        let alerts = find_alerts(&self.config, picture);
+        let advice = advise(&self.board, &self.config, &picture.own);
+        let rescues = find_rescues(&self.config, picture, &advice);
+        say(
+            sink,
+            &self.config,
+            picture,
+            &self.board,
+            &alerts,
+            &advice,
+            &rescues,
+        )
+    }
+
+    /// The level of an aircraft of a picture now, by its place in the picture's list: the greatest level whose volume is
+    /// violated at the beginning of the present flight, or 0.
+    pub fn now_of(&self, picture: &Picture, aircraft: usize) -> u8
+        requires picture { IsPictureInRange picture.now }
+        requires aircraft { aircraft < length (aircraft_of picture.now) }
+        ensures { (t : Traffic) → IsNowLevel self.now.settings picture.now.own (slice_index_or (aircraft_of picture.now) aircraft t) result }
+    {
+        now_level(&self.config, &picture.own, &picture.traffic[aircraft])
+    }
+
+    /// The level of the candidate at an index of the configuration's whole list: the greatest that the board of the latest
+    /// moment has for it, or 0.
+    pub fn level_of(&self, index: u32) -> u8
+        requires { index < length (candidates_of self.now.settings) }
+        ensures { IsGreatestLevel (HasLevelOn self.now.board index) mask_levels result }
+    {
+        // tells that it is one of the board
+        let _total = self.config.total();
+        self.board.shown(index)
+    }
+
+    /// The bands of a kind in the latest moment, in the rising order of the values, those of level 0 too.
+    pub fn bands(&self, kind: Kind) -> Runs<'_>
+        ensures { AreKindBands (HasLevelOn self.now.board) mask_levels self.now.settings kind result }
+    {
+        runs(&self.board, &self.config, kind)
+    }
+
+    /// What is answered in the latest moment on a side of a kind: the nearest open candidate, that there is none, or that
+    /// the present flight may be kept. The ownship is that moment's.
+    pub fn resolution(&self, own: &Own, kind: Kind, side: Side) -> Resolution
+        ensures { IsResolution (HasLevelOn self.now.board) self.now.settings own.now kind side result }
+    {
+        nearest(&self.board, &self.config, own, kind, side)
+    }
+
+    /// The recovery of a kind in a moment: after how many seconds the first candidate is clear, and its value. The
+    /// configuration asks for recoveries.
+    pub fn recovery(&self, picture: &Picture, kind: Kind) -> Option<Recovery>
+        requires asked { self.now.settings.recovery ≢ None }
+        requires picture { IsPictureInRange picture.now }
+        ensures { IsRecovery self.now.settings picture.now kind result }
+    {
+        least(&self.config, picture, kind)
+    }
+}
