@@ -3,8 +3,11 @@
 ghost use Rattle.std.specs.Prelude.{◌≡◌};
 ghost use Rattle.daa_outside.specs.Faults.{one_more};
 
+use thiserror::Error;
+
 /// A call to the outside did not succeed. It comes only where that object's count of faults rose.
-#[derive(Clone, Copy, Debug, PartialEq, Eq)]
+#[derive(Clone, Copy, Debug, PartialEq, Eq, Error)]
+#[error("a call to the outside failed")]
 pub struct Failed;
 
 /// The counter after one more, which stops at the greatest number.

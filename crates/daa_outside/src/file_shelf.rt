@@ -1,6 +1,7 @@
 //! A shelf over files.
 
-ghost use Rattle.std.specs.Prelude.{◌≡◌, ◌≢◌, ◌≤◌, ◌<◌, length, IfOk, IfSome};
+ghost use Rattle.std.specs.Prelude.{◌≡◌, ◌≢◌, ◌≤◌, ◌<◌, ◌↔◌, length, IfOk, IfSome};
+ghost use Rattle.std.specs.IoError.{error_kind};
 ghost use Rattle.daa_outside.specs.Shelf.{longest_text};
 
 use crate::faults::counted;
@@ -61,7 +62,7 @@ impl<R: Files> Shelf for FileShelf<R> {
 }
 
 /// All that the reader gives, where that is no longer than a text may be.
-fn text_of<R: Read + Drop>(alloc: Global, reader: R) -> Result<Vec<u8>, FetchFault>
+pub(crate) fn text_of<R: Read + Drop>(alloc: Global, reader: R) -> Result<Vec<u8>, FetchFault>
     ensures held { IfSome (R.remaining reader) (λ bytes. IfOk result (λ text. text.items ≡ bytes)) }
     ensures short { IfOk result (λ text. length text.items ≤ longest_text) }
     ensures too_long { IfSome (R.remaining reader) (λ bytes.
@@ -78,8 +79,10 @@ fn text_of<R: Read + Drop>(alloc: Global, reader: R) -> Result<Vec<u8>, FetchFau
     Ok(text)
 }
 
+/// Want of memory, as the system tells it, is no fault of the shelf.
 fn fault_of(error: &io::Error) -> FetchFault
-    ensures { result ≢ FetchFault.TooLong }
+    ensures memory { (result ≡ FetchFault.NoMemory) ↔ (error_kind error.now ≡ ErrorKind.OutOfMemory) }
+    ensures short { result ≢ FetchFault.TooLong }
 {
     match error.kind() {
         ErrorKind::OutOfMemory => FetchFault::NoMemory,

@@ -5,18 +5,22 @@ ghost use Rattle.daa_outside.specs.Faults.{HasRisen};
 ghost use Rattle.daa_outside.specs.Shelf.{Texts, longest_text};
 
 use std::alloc::Global;
+use thiserror::Error;
 
 /// The most bytes that a fetched text has.
 pub(crate) const LONGEST_TEXT: usize = 65536;
 
 /// Why a text was not fetched.
-#[derive(Clone, Copy, Debug, PartialEq, Eq)]
+#[derive(Clone, Copy, Debug, PartialEq, Eq, Error)]
 pub enum FetchFault {
     /// The shelf failed, or holds nothing under the name: its count of faults rose.
+    #[error("the shelf failed, or holds no text under the name")]
     Failed,
     /// The text under the name has more than 65536 bytes.
+    #[error("the text under the name has more than 65536 bytes")]
     TooLong,
     /// There was no memory for the text.
+    #[error("there was no memory for the text")]
     NoMemory,
 }
 

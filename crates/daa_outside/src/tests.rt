@@ -1,6 +1,11 @@
 use super::*;
-use std::alloc::AllocError;
+use crate::file_shelf::text_of;
+use std::alloc::{AllocError, Global};
+use std::error::Error;
+use std::io::ErrorKind;
 use std::test::Fail;
+use std::thread::{Threads, join};
+use std::time::{Clock, Duration};
 use std::{fs, io};
 
 // Each call goes through its trait.
@@ -155,6 +160,87 @@ fn errors_of_the_system_are_faults(rt: HostRuntime) -> Result<(), Fail> {
     Ok(())
 }
 
+/// A reader and a writer whose call of this number fails, from 0, once. Every other call moves one byte.
+#[derive(Drop)]
+struct FailsOnce {
+    at: u32,
+    calls: u32,
+    kind: ErrorKind,
+}
+
+impl FailsOnce {
+    fn at(at: u32, kind: ErrorKind) -> FailsOnce {
+        FailsOnce { at, calls: 0, kind }
+    }
+
+    /// Counts a call.
+    fn call(&mut self) -> io::Result<()> {
+        let call = self.calls;
+        self.calls = call.saturating_add(1);
+        if call == self.at {
+            return Err(io::Error::from(self.kind));
+        }
+        Ok(())
+    }
+}
+
+impl io::Read for FailsOnce {
+    fn read(&mut self, buf: &mut [u8]) -> io::Result<usize> {
+        self.call()?;
+        match buf.first_mut() {
+            Some(byte) => {
+                *byte = b'x';
+                Ok(1)
+            }
+            None => Ok(0),
+        }
+    }
+}
+
+/// Its writes and its flushes are calls.
+impl io::Write for FailsOnce {
+    fn write(&mut self, buf: &[u8]) -> io::Result<usize> {
+        self.call()?;
+        Ok(buf.len().min(1))
+    }
+
+    fn flush(&mut self) -> io::Result<()> {
+        self.call()
+    }
+}
+
+/// One that another try might pass, and one that it might not.
+static KINDS: [ErrorKind; 2] = [ErrorKind::Interrupted, ErrorKind::BrokenPipe];
+
+/// The call that fails is answered, and the next one is made when the caller asks for it.
+#[test]
+fn a_read_that_fails_is_not_tried_again(rt: HostRuntime) {
+    for kind in KINDS {
+        let mut reader = FailsOnce::at(1, kind);
+        let mut source = StdSource::new(&mut reader);
+        let mut buf = [b'-'; 2];
+        for answer in [Ok(1), Err(Failed), Ok(1)] {
+            assert_eq!(rt; read(&mut source, &mut buf), answer, "at {kind:?}");
+        }
+        assert_eq!(rt; reader.calls, 3, "at {kind:?}");
+    }
+}
+
+/// A write that is taken is two calls of the writer, the write and the flush.
+#[test]
+fn a_write_that_fails_is_not_tried_again(rt: HostRuntime) {
+    for kind in KINDS {
+        for (at, calls) in [(2, 5), (3, 6)] {
+            let mut writer = FailsOnce::at(at, kind);
+            let mut sink = StdSink::new(&mut writer);
+            for answer in [Ok(1), Err(Failed), Ok(1)] {
+                assert_eq!(rt; write(&mut sink, b"ab"), answer, "at {at}, {kind:?}");
+            }
+            assert_eq!(rt; writer.calls, calls, "at {at}, {kind:?}");
+        }
+    }
+}
+
 #[test]
 fn a_write_of_no_bytes_is_a_fault(rt: HostRuntime) {
     let mut room = [0; 1];
@@ -208,6 +294,121 @@ fn a_shelf_of_files_gives_a_files_bytes(rt: HostRuntime) -> Result<(), Fail> {
     fs::remove_file(&rt, PATH)?;
     assert_eq!(rt; fetch(&rt, &mut shelf, PATH), Err(FetchFault::Failed));
     assert_eq!(rt; fetch(&rt, &mut shelf, "."), Err(FetchFault::Failed));
+    Ok(())
+}
+
+/// Blanks belong to the name: the file with them is another one than the file without.
+#[test]
+fn a_name_with_blanks_is_the_name_of_a_file(rt: HostRuntime) -> Result<(), Fail> {
+    const BLANKS: &str = " daa outside blanks ";
+    const TRIMMED: &str = "daa outside blanks";
+    let mut shelf = FileShelf::new(&rt);
+    fs::write(&rt, BLANKS, b"xy")?;
+    assert_eq!(rt; fetch(&rt, &mut shelf, BLANKS), Ok((2, Some(b'x'))));
+    assert_eq!(rt; fetch(&rt, &mut shelf, TRIMMED), Err(FetchFault::Failed));
+    fs::write(&rt, TRIMMED, b"z")?;
+    assert_eq!(rt; fetch(&rt, &mut shelf, BLANKS), Ok((2, Some(b'x'))));
+    assert_eq!(rt; fetch(&rt, &mut shelf, TRIMMED), Ok((1, Some(b'z'))));
+    fs::remove_file(&rt, BLANKS)?;
+    fs::remove_file(&rt, TRIMMED)?;
+    Ok(())
+}
+
+/// The answer for a file whose third read fails so.
+fn fault_at(alloc: Global, kind: ErrorKind) -> Option<FetchFault> {
+    text_of(alloc, FailsOnce::at(2, kind)).err()
+}
+
+#[test]
+fn want_of_memory_while_a_file_is_read_is_told(rt: HostRuntime) {
+    assert_eq!(rt;
+        fault_at(rt.alloc(), ErrorKind::OutOfMemory),
+        Some(FetchFault::NoMemory)
+    );
+    assert_eq!(rt;
+        fault_at(rt.alloc(), ErrorKind::BrokenPipe),
+        Some(FetchFault::Failed)
+    );
+}
+
+/// A clock by which nobody sleeps.
+#[derive(Drop)]
+struct Sleepless;
+
+impl Clock for Sleepless {
+    fn monotonic(&self) -> io::Result<Duration> {
+        Ok(Duration::ZERO)
+    }
+
+    fn since_1970(&self) -> io::Result<Duration> {
+        Ok(Duration::ZERO)
+    }
+}
+
+#[test]
+fn one_thread_meets_nobody(rt: HostRuntime) {
+    let meeting = Meeting::of(Sleepless, 2);
+    for (worker, unit) in [(0, 0), (0, 1), (1, 2), (2, 3), (16, 4)] {
+        assert!(rt; !meeting.has_met());
+        meeting.pass(worker, unit);
+    }
+    assert!(rt; !meeting.has_met());
+}
+
+#[test]
+fn one_worker_alone_meets_itself(rt: HostRuntime) {
+    let meeting = Meeting::of(Sleepless, 1);
+    meeting.pass(16, 0);
+    assert!(rt; !meeting.has_met());
+    meeting.pass(15, 1);
+    assert!(rt; meeting.has_met());
+}
+
+/// Two threads pass as these workers, and have met.
+fn meets_as<R: Threads + Sync, C: Clock + Sync + Drop>(
+    rt: &R,
+    clock: C,
+    one: u32,
+    other: u32,
+) -> bool {
+    let meeting = Meeting::of(clock, 2);
+    join(rt, || meeting.pass(one, 0), || meeting.pass(other, 1));
+    meeting.has_met()
+}
+
+/// As a thread may start late, or not at all, the meeting is tried five times.
+#[test]
+fn two_threads_meet(rt: HostRuntime) {
+    let mut met = false;
+    for _ in 0..5 {
+        met = met || meets_as(&rt, &rt, 0, 15);
+    }
+    assert!(rt; met);
+    assert!(rt; !meets_as(&rt, Sleepless, 3, 3));
+}
+
+fn text_of_fault<E: Error>(alloc: Global, fault: E) -> Result<String, AllocError> {
+    format!(in alloc; "{fault}")
+}
+
+#[test]
+fn each_fault_has_a_sentence(rt: HostRuntime) -> Result<(), Fail> {
+    let text = text_of_fault(rt.alloc(), Failed)?;
+    assert_eq!(rt; text.as_str(), "a call to the outside failed");
+    for (fault, sentence) in [
+        (
+            FetchFault::Failed,
+            "the shelf failed, or holds no text under the name",
+        ),
+        (
+            FetchFault::TooLong,
+            "the text under the name has more than 65536 bytes",
+        ),
+        (FetchFault::NoMemory, "there was no memory for the text"),
+    ] {
+        let text = text_of_fault(rt.alloc(), fault)?;
+        assert_eq!(rt; text.as_str(), sentence);
+    }
     Ok(())
 }
 
