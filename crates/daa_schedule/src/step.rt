@@ -1,6 +1,8 @@
 //! The steps of the schedule, and what may refuse one.
 ghost use Rattle.std.specs.Prelude.{◌≡◌};
 
+use thiserror::Error;
+
 /// One step by one worker; `by` and `from` are numbers of workers.
 #[derive(Clone, Copy, PartialEq, Eq, Debug)]
 pub enum Step {
@@ -17,27 +19,37 @@ pub enum Step {
 }
 
 /// Why a step is refused.
-#[derive(Clone, Copy, PartialEq, Eq, Debug)]
+#[derive(Clone, Copy, PartialEq, Eq, Debug, Error)]
 pub enum StepFault {
     /// The worker's number is not below the number of workers.
+    #[error("fault 1: the number is not below the number of workers")]
     NoSuchWorker,
     /// The hand is not empty.
+    #[error("fault 2: the hand is not empty")]
     HandFull,
     /// The hand is empty.
+    #[error("fault 3: the hand is empty")]
     HandEmpty,
     /// The own range is empty.
+    #[error("fault 4: the own range is empty")]
     RangeEmpty,
     /// The range that is stolen from, or the hand that is kept from, has fewer than two units.
+    #[error("fault 5: the range or the hand has fewer than two units")]
     TooShort,
     /// A worker steals from itself.
+    #[error("fault 6: a worker does not steal from itself")]
     Own,
     /// The word is not the unit's answer.
+    #[error("fault 7: the word {word} is not the unit's answer {answer}")]
     NotAnswer { word: u64, answer: u64 },
     /// The worker has ended.
+    #[error("fault 8: the worker has ended")]
     Ended,
     /// The hand has more than one unit.
+    #[error("fault 9: the hand has more than one unit")]
     Stolen,
     /// The own range is not empty.
+    #[error("fault 10: the own range is not empty")]
     RangeLeft,
 }
 

@@ -3,7 +3,8 @@ ghost use Rattle.daa_schedule.specs.CoreState.{worker_count, unit_count};
 
 use crate::{Core, NoMemory, Step, StepFault};
 use daa_range::Range;
-use std::alloc::Global;
+use std::alloc::{AllocError, Global};
+use std::error::Error;
 use std::process::Abort;
 use std::test::Fail;
 
@@ -166,6 +167,53 @@ fn the_faults_are_numbered_from_1(rt: HostRuntime) {
     ] {
         assert!(rt; fault.code() == code, "of {fault:?}");
     }
+}
+
+/// The sentence of an error, as a caller prints it.
+fn sentence_of<E: Error>(alloc: Global, error: E) -> Result<String, AllocError> {
+    format!(in alloc; "{error}")
+}
+
+static SENTENCES: [(StepFault, &str); 10] = [
+    (
+        StepFault::NoSuchWorker,
+        "fault 1: the number is not below the number of workers",
+    ),
+    (StepFault::HandFull, "fault 2: the hand is not empty"),
+    (StepFault::HandEmpty, "fault 3: the hand is empty"),
+    (StepFault::RangeEmpty, "fault 4: the own range is empty"),
+    (
+        StepFault::TooShort,
+        "fault 5: the range or the hand has fewer than two units",
+    ),
+    (
+        StepFault::Own,
+        "fault 6: a worker does not steal from itself",
+    ),
+    (
+        StepFault::NotAnswer {
+            word: 0,
+            answer: u64::MAX,
+        },
+        "fault 7: the word 0 is not the unit's answer 18446744073709551615",
+    ),
+    (StepFault::Ended, "fault 8: the worker has ended"),
+    (
+        StepFault::Stolen,
+        "fault 9: the hand has more than one unit",
+    ),
+    (StepFault::RangeLeft, "fault 10: the own range is not empty"),
+];
+
+#[test]
+fn each_fault_has_a_sentence(rt: HostRuntime) -> Result<(), Fail> {
+    for (fault, wanted) in SENTENCES {
+        let sentence = sentence_of(rt.alloc(), fault)?;
+        assert_eq!(rt; sentence.as_str(), wanted);
+    }
+    let sentence = sentence_of(rt.alloc(), NoMemory)?;
+    assert_eq!(rt; sentence.as_str(), "there was no memory");
+    Ok(())
 }
 
 fn may_be_sent<T: Send>() {}
