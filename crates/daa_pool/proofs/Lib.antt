@@ -7,6 +7,7 @@ pub mod Few
 pub mod Home
 pub mod Away
 pub mod Rounds
+pub mod Shorter
 pub mod Looks
 pub mod Seats
 pub mod Opening

@@ -15,9 +15,10 @@ use Rattle.daa_pool.specs.declared.view.View.{View}
 use Rattle.daa_pool.specs.declared.view.Look.{Look}
 use Rattle.daa_pool.specs.View.{look, looked, looked_home, claimed, ended}
 use Rattle.daa_pool.specs.Seat.{IsFree, HasPiece}
-use Rattle.daa_pool.specs.Claim.{IsLater, AreFresh, SawEmpty, IsBare, looks_at, IsBrief, GoesRound, IsTaking, Claims, FindsNothing}
-use Rattle.daa_pool.specs.Tour.{IsSeeking, TakesFrom, Toured}
+use Rattle.daa_pool.specs.Claim.{IsLater, AreFresh, SawEmpty, IsBare, looks_at, IsBrief, GoesRound, IsTaking, EndsShort, GetsShorter, Claims, FindsNothing}
+use Rattle.daa_pool.specs.Tour.{IsSeeking, TakesFrom, Toured, AreElsewhere, SeeksWell, SeeksInVain}
 use Rattle.daa_pool.proofs.Lists.{Contains-nil}
+use Rattle.daa_pool.proofs.Shorter.{IsAtMost, at_most_one, at_most_more, shorter_one, shorter_more, shorter_after, shorter_away, both_away}
 use Rattle.daa_pool.proofs.Rounds.{AtHome, turn_none, turn_one, turn_again, turn_more, home_one, home_more, round_up, round_both, round_home, round_after, round_before}
 
 pub later_same : (v : View) → IsLater v v [] []
@@ -173,17 +174,21 @@ pub record LooksHome (before after : View) : Type 0 where
   pub fresh : AreFresh before seen
   pub home : (other : ℕ) → other ≢ before.number → looks_at other seen ≡ 0
   pub own : AtHome before.number seen
+  pub least : IsAtMost (span_len after.bound) seen
+  pub shorter : GetsShorter before.number seen
 
 pub looks_home_first : (v : View) (word : ℕ) → LooksHome v (looked_home v word)
-looks_home_first v word = record { seen = look v v.number word ∷ []; later = looked_home_later v word; fresh = fresh_one v v.number word; home = λ o n. looks_at-not v o v.number word n; own = home_one v word }
+looks_home_first v word = record { seen = look v v.number word ∷ []; later = looked_home_later v word; fresh = fresh_one v v.number word; home = λ o n. looks_at-not v o v.number word n; own = home_one v word; least = at_most_one v word; shorter = shorter_one v.number (look v v.number word) }
 
-pub looks_home_more : (u v : View) (word : ℕ) → LooksHome u v → LooksHome u (looked_home v word)
-looks_home_more u v word a = let l = a.later in let p = l.place in record {
+pub looks_home_more : (u v : View) (word : ℕ) → LooksHome u v → span_len (unpacked word) < span_len v.bound → LooksHome u (looked_home v word)
+looks_home_more u v word a fewer = let l = a.later in let p = l.place in record {
   seen = a.seen ++ look v v.number word ∷ [];
   later = later_trans u v (looked_home v word) a.seen (look v v.number word ∷ []) [] [] a.later (looked_home_later v word);
   fresh = fresh_more u v a.seen (look v v.number word ∷ []) a.later a.fresh (fresh_one v v.number word);
   home = λ o n. let x = a.home o n in let y = looks_at-not v o v.number word (λ e. n (e ∙ p.number)) in let z = looks_at-append o a.seen (look v v.number word ∷ []) in omega arith;
   own = home_more u.number a.seen (look v v.number word ∷ []) a.own (subst (λ (n : ℕ). AtHome n (look v v.number word ∷ [])) p.number (home_one v word));
+  least = at_most_more v word a.seen a.least fewer;
+  shorter = shorter_more u.number v word a.seen a.shorter a.least fewer;
 }
 
 -- the own range's first unit is claimed
@@ -195,6 +200,7 @@ claims_home u v w unit steps a later taking piece = let l = a.later in let p = l
   taking = subst (λ (n : ℕ). IsTaking n steps) p.number taking;
   piece = piece;
   brief = λ o n. let x = a.home o n in let z = looks_at-append o a.seen [] in omega arith;
+  shorter = shorter_after u.number a.seen [] a.shorter (λ l h. absurd (Contains-nil l h));
   round = round_home u.number u.workers (a.seen ++ []) (home_more u.number a.seen [] a.own (λ l h. absurd (Contains-nil l h)));
 }
 
@@ -213,35 +219,43 @@ after_home : (u v : View) → LooksHome u v → (ys : List Look) → IsBrief v.n
 after_home u v a ys brief xs home same = λ o n. let x = home o n in let y = brief o (λ e. n (e ∙ same)) in let z = looks_at-append o xs ys in omega arith
 
 -- what a call does after looks at the own range
-pub claims_after : (u v w : View) (unit : ℕ) → LooksHome u v → Claims v w unit → Claims u w unit
-claims_after u v w unit a b = let l = a.later in let p = l.place in record {
+pub claims_after : (u v w : View) (unit : ℕ) → LooksHome u v → SeeksWell v w unit → Claims u w unit
+claims_after u v w unit a well = let b : Claims v w unit = well.claim in let l = a.later in let p = l.place in record {
   seen = a.seen ++ b.seen;
   steps = b.steps;
   later = later_trans u v w a.seen b.seen [] b.steps a.later b.later;
   taking = subst (λ (n : ℕ). IsTaking n b.steps) p.number b.taking;
   piece = b.piece;
+  shorter = shorter_after u.number a.seen b.seen a.shorter (λ l h e. well.away l h (e ∙ sym p.number));
   brief = after_home u v a b.seen b.brief a.seen a.home p.number;
   round = round_after u.number u.workers a.seen b.seen a.own (subst (λ (t : ℕ × ℕ). GoesRound t.0 t.1 b.seen) (λ i. (p.number i, p.workers i)) b.round);
 }
 
-pub nothing_after : (u v w : View) → LooksHome u v → FindsNothing v w → FindsNothing u w
-nothing_after u v w a b = let l = a.later in let p = l.place in record {
+pub nothing_after : (u v w : View) → LooksHome u v → SeeksInVain v w → FindsNothing u w
+nothing_after u v w a vain = let b : FindsNothing v w = vain.claim in let s : EndsShort v.number b.seen = b.shorter in let l = a.later in let p = l.place in record {
   seen = a.seen ++ b.seen;
   later = subst (λ (n : ℕ). IsLater u w (a.seen ++ b.seen) (by.End n ∷ [])) p.number (later_trans u v w a.seen b.seen [] (by.End v.number ∷ []) a.later b.later);
   fresh = fresh_more u v a.seen b.seen a.later a.fresh b.fresh;
   over = b.over;
   empty = subst (λ (n : ℕ). SawEmpty (a.seen ++ b.seen) n) p.number (empty_right a.seen b.seen v.number b.empty);
   others = λ o lo ne. bare_right a.seen b.seen o (b.others o (subst (λ (n : ℕ). o < n) (sym p.workers) lo) (λ e. ne (e ∙ p.number)));
+  shorter = record {
+    early = a.seen ++ s.early;
+    last = s.last;
+    all = ap (λ (ls : List Look). a.seen ++ ls) s.all ∙ sym (append_assoc a.seen s.early (s.last ∷ []));
+    own = s.own ∙ p.number;
+    shorter = shorter_after u.number a.seen s.early a.shorter (λ l h e. vain.away l h (e ∙ sym p.number));
+  };
   brief = after_home u v a b.seen b.brief a.seen a.home p.number;
   round = round_after u.number u.workers a.seen b.seen a.own (subst (λ (t : ℕ × ℕ). GoesRound t.0 t.1 b.seen) (λ i. (p.number i, p.workers i)) b.round);
   few = b.few;
 }
 
-pub some_after : (r : Option ℕ) (u v w : View) → LooksHome u v → MatchOption r (FindsNothing v w) (λ unit. Claims v w unit) → IfSome r (λ unit. Claims u w unit)
+pub some_after : (r : Option ℕ) (u v w : View) → LooksHome u v → MatchOption r (SeeksInVain v w) (λ unit. SeeksWell v w unit) → IfSome r (λ unit. Claims u w unit)
 some_after None u v w a h = tt
 some_after (Some unit) u v w a h = claims_after u v w unit a h
 
-pub none_after : (r : Option ℕ) (u v w : View) → LooksHome u v → MatchOption r (FindsNothing v w) (λ unit. Claims v w unit) → IfNone r (FindsNothing u w)
+pub none_after : (r : Option ℕ) (u v w : View) → LooksHome u v → MatchOption r (SeeksInVain v w) (λ unit. SeeksWell v w unit) → IfNone r (FindsNothing u w)
 none_after None u v w a h = nothing_after u v w a h
 none_after (Some unit) u v w a h = tt
 
@@ -250,31 +264,39 @@ apart : (o number workers : ℕ) → o ≢ number → times_in o (span (number +
 apart o number workers n = grind (arith, nat_tests)
 
 -- what the first round takes
-pub seeks_first : (v w : View) (number workers unit : ℕ) → v.number ≡ number → v.workers ≡ workers → TakesFrom v w (number + 1) workers unit → Claims v w unit
-seeks_first v w number workers unit en ew a = record {
-  seen = a.seen;
-  steps = a.steps;
-  later = a.later;
-  taking = a.taking;
-  piece = a.piece;
-  brief = λ o n. let x = a.brief o in let y = apart o number workers (λ e. n (e ∙ sym en)) in omega arith;
-  round = subst (λ (t : ℕ × ℕ). GoesRound t.0 t.1 a.seen) (λ i. (sym en i, sym ew i)) (round_up number workers a.seen a.turn);
+pub seeks_first : (v w : View) (number workers unit : ℕ) → v.number ≡ number → v.workers ≡ workers → TakesFrom v w (number + 1) workers unit → SeeksWell v w unit
+seeks_first v w number workers unit en ew a = let turn = a.turn in let away : AreElsewhere v.number a.seen = (λ l h e. let p = turn.inside l h in let lo = p.0 in absurd (omega arith)) in record {
+  claim = record {
+    seen = a.seen;
+    steps = a.steps;
+    later = a.later;
+    taking = a.taking;
+    piece = a.piece;
+    shorter = shorter_away v.number a.seen away;
+    brief = λ o n. let x = a.brief o in let y = apart o number workers (λ e. n (e ∙ sym en)) in omega arith;
+    round = subst (λ (t : ℕ × ℕ). GoesRound t.0 t.1 a.seen) (λ i. (sym en i, sym ew i)) (round_up number workers a.seen a.turn);
+  };
+  away = away;
 }
 
 -- what the second round takes
-pub seeks_second : (v w x : View) (number workers unit : ℕ) → v.number ≡ number → v.workers ≡ workers → Toured v w (number + 1) workers → TakesFrom w x 0 number unit → Claims v x unit
-seeks_second v w x number workers unit en ew a b = let l = a.later in let p = l.place in record {
-  seen = a.seen ++ b.seen;
-  steps = b.steps;
-  later = later_trans v w x a.seen b.seen [] b.steps a.later b.later;
-  taking = subst (λ (n : ℕ). IsTaking n b.steps) p.number b.taking;
-  piece = b.piece;
-  brief = λ o n. let s = a.brief o in let t = b.brief o in let y = apart o number workers (λ e. n (e ∙ sym en)) in let z = looks_at-append o a.seen b.seen in omega arith;
-  round = subst (λ (t : ℕ × ℕ). GoesRound t.0 t.1 (a.seen ++ b.seen)) (λ i. (sym en i, sym ew i)) (round_both number workers a.seen b.seen a.turn b.turn);
+pub seeks_second : (v w x : View) (number workers unit : ℕ) → v.number ≡ number → v.workers ≡ workers → Toured v w (number + 1) workers → TakesFrom w x 0 number unit → SeeksWell v x unit
+seeks_second v w x number workers unit en ew a b = let l = a.later in let p = l.place in let away : AreElsewhere v.number (a.seen ++ b.seen) = both_away v.number number workers a.seen b.seen en a.turn b.turn in record {
+  claim = record {
+    seen = a.seen ++ b.seen;
+    steps = b.steps;
+    later = later_trans v w x a.seen b.seen [] b.steps a.later b.later;
+    taking = subst (λ (n : ℕ). IsTaking n b.steps) p.number b.taking;
+    piece = b.piece;
+    shorter = shorter_away v.number (a.seen ++ b.seen) away;
+    brief = λ o n. let s = a.brief o in let t = b.brief o in let y = apart o number workers (λ e. n (e ∙ sym en)) in let z = looks_at-append o a.seen b.seen in omega arith;
+    round = subst (λ (t : ℕ × ℕ). GoesRound t.0 t.1 (a.seen ++ b.seen)) (λ i. (sym en i, sym ew i)) (round_both number workers a.seen b.seen a.turn b.turn);
+  };
+  away = away;
 }
 
 -- two rounds that take nothing, and then the end
-pub seeks_nothing : (v w x : View) (word number workers : ℕ) → v.number ≡ number → v.workers ≡ workers → Toured v w (number + 1) workers → Toured w x 0 number → span_len (unpacked word) ≡ 0 → length x.settled ≤ length x.answers → FindsNothing v (ended x word)
+pub seeks_nothing : (v w x : View) (word number workers : ℕ) → v.number ≡ number → v.workers ≡ workers → Toured v w (number + 1) workers → Toured w x 0 number → span_len (unpacked word) ≡ 0 → length x.settled ≤ length x.answers → SeeksInVain v (ended x word)
 seeks_nothing v w x word number workers en ew a b empty few =
     let t : IsLater v x (a.seen ++ b.seen) [] = later_trans v w x a.seen b.seen [] [] a.later b.later in let place = t.place in let s : IsSeeking x = b.seeking in let f = s.free in
     let l : List Look = look x x.number word ∷ [] in
@@ -283,19 +305,24 @@ seeks_nothing v w x word number workers en ew a b empty few =
       settled = refl;
       looks = refl;
       moves = refl;
-    } in record {
-      seen = (a.seen ++ b.seen) ++ l;
-      later = subst (λ (n : ℕ). IsLater v (ended x word) ((a.seen ++ b.seen) ++ l) (by.End n ∷ [])) place.number (later_trans v x (ended x word) (a.seen ++ b.seen) l [] (by.End x.number ∷ []) t e);
-      fresh = fresh_more v x (a.seen ++ b.seen) l t (fresh_more v w a.seen b.seen a.later a.fresh b.fresh) (fresh_one x x.number word);
-      over = record { hand = f.hand; over = refl };
-      empty = (look x x.number word, Contains-append_right (a.seen ++ b.seen) l (look x x.number word) (Contains-push [] (look x x.number word)), place.number, empty);
-      others = λ o lo ne. bare_left (a.seen ++ b.seen) l o (go o lo ne (cases_lt o number));
-      brief = λ o n. let p = a.brief o in let q = b.brief o in let y = apart o number workers (λ e. n (e ∙ sym en)) in
-          let z = looks_at-append o a.seen b.seen in let z' = looks_at-append o (a.seen ++ b.seen) l in let h = looks_at-not x o x.number word (λ e. n (e ∙ place.number)) in omega arith;
-      round = round_before v.number v.workers (a.seen ++ b.seen) l
-          (subst (λ (t : ℕ × ℕ). GoesRound t.0 t.1 (a.seen ++ b.seen)) (λ i. (sym en i, sym ew i)) (round_both number workers a.seen b.seen a.turn b.turn))
-          (subst (λ (n : ℕ). AtHome n l) place.number (home_one x word));
-      few = few;
+    } in
+    let away : AreElsewhere v.number (a.seen ++ b.seen) = both_away v.number number workers a.seen b.seen en a.turn b.turn in record {
+      claim = record {
+        seen = (a.seen ++ b.seen) ++ l;
+        later = subst (λ (n : ℕ). IsLater v (ended x word) ((a.seen ++ b.seen) ++ l) (by.End n ∷ [])) place.number (later_trans v x (ended x word) (a.seen ++ b.seen) l [] (by.End x.number ∷ []) t e);
+        fresh = fresh_more v x (a.seen ++ b.seen) l t (fresh_more v w a.seen b.seen a.later a.fresh b.fresh) (fresh_one x x.number word);
+        over = record { hand = f.hand; over = refl };
+        empty = (look x x.number word, Contains-append_right (a.seen ++ b.seen) l (look x x.number word) (Contains-push [] (look x x.number word)), place.number, empty);
+        others = λ o lo ne. bare_left (a.seen ++ b.seen) l o (go o lo ne (cases_lt o number));
+        shorter = record { early = a.seen ++ b.seen; last = look x x.number word; all = refl; own = place.number; shorter = shorter_away v.number (a.seen ++ b.seen) away };
+        brief = λ o n. let p = a.brief o in let q = b.brief o in let y = apart o number workers (λ e. n (e ∙ sym en)) in
+            let z = looks_at-append o a.seen b.seen in let z' = looks_at-append o (a.seen ++ b.seen) l in let h = looks_at-not x o x.number word (λ e. n (e ∙ place.number)) in omega arith;
+        round = round_before v.number v.workers (a.seen ++ b.seen) l
+            (subst (λ (t : ℕ × ℕ). GoesRound t.0 t.1 (a.seen ++ b.seen)) (λ i. (sym en i, sym ew i)) (round_both number workers a.seen b.seen a.turn b.turn))
+            (subst (λ (n : ℕ). AtHome n l) place.number (home_one x word));
+        few = few;
+      };
+      away = away;
     }
   where
     go : (o : ℕ) → o < v.workers → o ≢ v.number → (o < number) ⊎ (number ≤ o) → IsBare (a.seen ++ b.seen) o

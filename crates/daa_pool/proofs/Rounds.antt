@@ -11,7 +11,7 @@ use Rattle.daa_pool.specs.Claim.{way_to, GoesRound}
 use Rattle.daa_pool.specs.Tour.{InTurn}
 use Rattle.daa_pool.proofs.Lists.{Contains-nil}
 
-pairs_append : {A : Type 0} (R : A → A → Type 0) (xs ys : List A) → AllPairs R xs → AllPairs R ys → ((x y : A) → Contains xs x → Contains ys y → R x y) → AllPairs R (xs ++ ys)
+pub pairs_append : {A : Type 0} (R : A → A → Type 0) (xs ys : List A) → AllPairs R xs → AllPairs R ys → ((x y : A) → Contains xs x → Contains ys y → R x y) → AllPairs R (xs ++ ys)
 pairs_append R [] ys a b across = b
 pairs_append {A} R (x ∷ xs) ys a b across = AllPairs-cons R x (xs ++ ys) first
     (pairs_append R xs ys (λ i j d lt in'. a (suc i) (suc j) d (omega arith) (omega arith)) b (λ y z h k. across y z (Contains-append_right (x ∷ []) xs y h) k))

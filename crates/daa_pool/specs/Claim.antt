@@ -52,6 +52,18 @@ way_to number workers worker = if nat_lt number worker then worker - number else
 abbrev pub GoesRound : ℕ → ℕ → List Look → Type 0
 GoesRound number workers seen = AllPairs (λ look next. look.worker ≢ number → next.worker ≢ number → way_to number workers look.worker ≤ way_to number workers next.worker) seen
 
+-- of two looks at the worker's range the later one found fewer units
+abbrev pub GetsShorter : ℕ → List Look → Type 0
+GetsShorter worker seen = AllPairs (λ look next. look.worker ≡ worker → next.worker ≡ worker → span_len (unpacked next.word) < span_len (unpacked look.word)) seen
+
+-- the last look is at the worker's range, by the End, and of two looks before it the later one found fewer units
+pub record EndsShort (worker : ℕ) (seen : List Look) : Type 0 where
+  pub early : List Look
+  pub last : Look
+  pub all : seen ≡ early ++ last ∷ []
+  pub own : last.worker ≡ worker
+  pub shorter : GetsShorter worker early
+
 -- how a unit comes to the hand: by Claim, by Steal, or by Steal and Keep
 abbrev pub IsTaking : ℕ → List Step → Type 0
 IsTaking number steps =
@@ -59,13 +71,14 @@ IsTaking number steps =
     ⊎ ((other : ℕ) × (steps ≡ Steal number other ∷ []))
     ⊎ ((other : ℕ) × (steps ≡ Steal number other ∷ Keep number ∷ []))
 
--- a call that gives the piece of a unit
+-- a call that gives the piece of a unit: it looked at the own range once, and again only where an exchange showed a shorter one
 pub record Claims (before after : View) (unit : ℕ) : Type 0 where
   pub seen : List Look
   pub steps : List Step
   pub later : IsLater before after seen steps
   pub taking : IsTaking before.number steps
   pub piece : HasPiece after unit
+  pub shorter : GetsShorter before.number seen
   pub brief : IsBrief before.number seen
   pub round : GoesRound before.number before.workers seen
 
@@ -77,6 +90,7 @@ pub record FindsNothing (before after : View) : Type 0 where
   pub over : IsOver after
   pub empty : SawEmpty seen before.number
   pub others : (other : ℕ) → other < before.workers → other ≢ before.number → IsBare seen other
+  pub shorter : EndsShort before.number seen
   pub brief : IsBrief before.number seen
   pub round : GoesRound before.number before.workers seen
   pub few : length after.settled ≤ length after.answers

@@ -1,12 +1,12 @@
 -- Within one call of `claim`: the round through the other workers.
-use Rattle.std.specs.Prelude.{◌≡◌, ℕ, ◌*◌, ◌<◌, ◌≤◌, List, []}
+use Rattle.std.specs.Prelude.{◌≡◌, ◌≢◌, ℕ, ◌*◌, ◌<◌, ◌≤◌, List, []}
 use Rattle.std.specs.List.{AllPairs, Contains}
 use Rattle.daa_range.specs.Range.{span, span_len, times_in}
 use Rattle.daa_schedule.specs.declared.step.Step.{Step}
 use Rattle.daa_pool.specs.declared.view.View.{View}
 use Rattle.daa_pool.specs.declared.view.Look.{Look}
 use Rattle.daa_pool.specs.Seat.{IsFree, HasPiece}
-use Rattle.daa_pool.specs.Claim.{IsLater, IsTaking, AreFresh, IsBare, looks_at}
+use Rattle.daa_pool.specs.Claim.{IsLater, IsTaking, AreFresh, IsBare, looks_at, Claims, FindsNothing}
 
 -- the seat goes on to other ranges: it is free, and its own range is empty, as the last look showed
 pub record IsSeeking (view : View) : Type 0 where
@@ -37,3 +37,17 @@ pub record Toured (before after : View) (first upto : ℕ) : Type 0 where
   pub bare : (other : ℕ) → first ≤ other → other < upto → IsBare seen other
   pub brief : (other : ℕ) → looks_at other seen ≤ 2 * times_in other (span first upto)
   pub turn : InTurn first upto seen
+
+-- none of the looks is at the worker's range
+abbrev pub AreElsewhere : ℕ → List Look → Type 0
+AreElsewhere worker seen = (look : Look) → Contains seen look → look.worker ≢ worker
+
+-- the round took a unit, without a look at the own range
+pub record SeeksWell (before after : View) (unit : ℕ) : Type 0 where
+  pub claim : Claims before after unit
+  pub away : AreElsewhere before.number (claim.seen)
+
+-- the round found nothing, without a look at the own range but that of the End
+pub record SeeksInVain (before after : View) : Type 0 where
+  pub claim : FindsNothing before after
+  pub away : AreElsewhere before.number (claim.shorter.early)

@@ -2,16 +2,18 @@
 ghost use Rattle.std.specs.Prelude.{◌≡◌, ◌≢◌, ℕ, ◌+◌, ◌<◌, ◌≤◌, IfSome, IfNone, MatchOption};
 ghost use Rattle.daa_pool.specs.Seat.{view, workers_of, IsSeatOf, IsFree};
 ghost use Rattle.daa_pool.specs.Claim.{Claims, FindsNothing};
-ghost use Rattle.daa_pool.specs.Tour.{IsSeeking, TakesFrom, Toured};
+ghost use Rattle.daa_pool.specs.Tour.{IsSeeking, SeeksInVain, SeeksWell, TakesFrom, Toured};
 
 use crate::pool::Pool;
 use crate::seat::{Piece, Seat};
 use daa_range::{pack, unpack};
 
 impl Pool {
-    /// A unit to answer, for a seat of this pool that holds no piece and is not over. Where the own range is empty, the
-    /// others are looked at from the next number round. With `None` the seat is over: the own range was empty, and each
-    /// other worker's range had fewer than two units, or changed, at a look of this call.
+    /// A unit to answer, for a seat of this pool that holds no piece and is not over. Where the own
+    /// range is empty, the others are looked at from the next number round. The own range is looked
+    /// at once, and again only by an exchange that failed and showed a shorter one. With `None` the
+    /// seat is over, after one more look at the own range: it was empty, and each other worker's
+    /// range had fewer than two units, or changed, at a look of this call.
     pub fn claim(&self, seat: &mut Seat) -> Option<Piece>
         requires pool { IsSeatOf self.now seat.old }
         requires free { IsFree (view seat.old) }
@@ -35,7 +37,8 @@ impl Pool {
         requires pool { IsSeatOf self.now seat.old }
         requires bare { IsSeeking (view seat.old) }
         ensures pool { IsSeatOf self.now seat.new }
-        ensures claim { MatchOption result (FindsNothing (view seat.old) (view seat.new)) (λ unit. Claims (view seat.old) (view seat.new) unit) }
+        ensures claim { MatchOption result (SeeksInVain (view seat.old) (view seat.new))
+            (λ unit. SeeksWell (view seat.old) (view seat.new) unit) }
     {
         let number = seat.number;
         if let Some(piece) = self.tour(seat, number + 1, self.workers) {

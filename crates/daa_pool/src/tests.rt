@@ -5,7 +5,7 @@ ghost use Rattle.daa_pool.specs.Seat.{view, workers_of, units_of, IsSeatOf, IsSa
 ghost use Rattle.daa_pool.specs.Pool.{AllReady, AllWorked, IsWorked};
 
 use crate::{Look, NoMemory, Part, Piece, Pool, Seat, View, answer_all, unit};
-use daa_outside::{Gate, Open};
+use daa_outside::{Gate, Meeting, Open};
 use daa_schedule::Answers;
 use std::alloc::{AllocError, Global};
 use std::process::Abort;
@@ -217,6 +217,24 @@ fn the_gate_is_passed_once_before_each_answer(rt: HostRuntime) {
         assert!(rt; done.is_ok());
         assert!(rt; watch.has_passed_each_unit_once_in_time(), "with {workers}");
     }
+}
+
+// Three workers of four meet at the gate, which one thread can't. As a worker may find nothing to steal by chance, the
+// meeting is tried five times.
+#[test]
+fn three_of_four_workers_meet_at_the_gate(rt: HostRuntime) {
+    let mut met = false;
+    for _ in 0..5 {
+        if !met {
+            let given = Numbers::new(300);
+            let meeting = Meeting::of(&rt, 3);
+            let mut words = [0; 300];
+            let done = answer_all(&rt, rt.alloc(), &given, &meeting, 4, &mut words);
+            assert!(rt; done.is_ok());
+            met = meeting.has_met();
+        }
+    }
+    assert!(rt; met);
 }
 
 fn may_be_sent<T: Send>() {}

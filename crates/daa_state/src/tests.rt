@@ -1,4 +1,6 @@
 use super::*;
+use std::alloc::{AllocError, Global};
+use std::error::Error;
 use std::test::Fail;
 
 const OWN: Own = Own {
@@ -315,6 +317,64 @@ fn a_copy_has_the_same_aircraft(rt: HostRuntime) -> Result<(), Fail> {
     assert_eq!(rt; copy.traffic.len(), 2);
     assert_eq!(rt; copy.traffic.as_slice()[0].id.bytes(), b"A".as_slice());
     assert_eq!(rt; copy.traffic.as_slice()[1].vy, 3600);
+    Ok(())
+}
+
+/// The sentence of an error, as a caller prints it.
+fn sentence_of<E: Error>(alloc: Global, error: E) -> Result<String, AllocError> {
+    format!(in alloc; "{error}")
+}
+
+static SENTENCES: [(LineFault, &str); 14] = [
+    (
+        LineFault::LongLine,
+        "fault 1: the line has more than 255 bytes",
+    ),
+    (
+        LineFault::BadWord,
+        "fault 2: the first field is no word of a state line",
+    ),
+    (
+        LineFault::FieldCount,
+        "fault 3: the word takes another number of fields",
+    ),
+    (
+        LineFault::BadNumber,
+        "fault 4: a field is no number of 1 to 10 digits",
+    ),
+    (
+        LineFault::BadId,
+        "fault 5: the identifier is not 1 to 8 letters, digits, underscores or dashes",
+    ),
+    (
+        LineFault::OutOfRange,
+        "fault 6: a number is outside its range",
+    ),
+    (LineFault::NoMoment, "fault 7: no moment is open"),
+    (LineFault::MomentOpen, "fault 8: a moment is open"),
+    (
+        LineFault::NotLater(4294967295),
+        "fault 9: the time is not later than 4294967295 s, at which the last moment ended",
+    ),
+    (LineFault::OwnTwice, "fault 10: the moment has an ownship"),
+    (
+        LineFault::SameId,
+        "fault 11: the moment has an aircraft of that identifier",
+    ),
+    (LineFault::Full, "fault 12: the moment has 64 aircraft"),
+    (LineFault::NoOwn, "fault 13: the moment has no ownship"),
+    (
+        LineFault::Unfinished,
+        "fault 14: the input ended while a moment is open",
+    ),
+];
+
+#[test]
+fn each_fault_has_a_sentence(rt: HostRuntime) -> Result<(), Fail> {
+    for (fault, wanted) in SENTENCES {
+        let sentence = sentence_of(rt.alloc(), fault)?;
+        assert_eq!(rt; sentence.as_str(), wanted);
+    }
     Ok(())
 }
 

@@ -1,18 +1,21 @@
-use Rattle.std.proofs.Common.{◌≡◌, ℕ, ◌<◌, ◌∙◌, length, sym, ap, subst}
+use Rattle.std.proofs.Common.{◌≡◌, ◌≢◌, ℕ, ◌<◌, ◌∙◌, length, sym, ap, subst}
 use Rattle.daa_pool.specs.declared.view.View.{View}
 use Rattle.daa_pool.specs.Seat.{view, IsFree}
 use Rattle.daa_range.specs.Range.{Span}
 use Rattle.daa_pool.specs.Claim.{Claims}
+use Rattle.daa_range.specs.Word.{packed}
+use Rattle.daa_pool.proofs.Shorter.{found_fewer}
 use Rattle.daa_pool.proofs.Looks.{LooksHome, looks_home_more, claimed_home, some_after, none_after}
 use Rattle.daa_pool.proofs.pool.Pool.claim.Goals as goal
 
 pub loop-own-preserved : goal.loop-own-preserved
 loop-own-preserved c = let u : View = view c.args.seat.now in let v : View = view c.loop-own.seat in let f = c.loop-own.invariant.free in
-    let miss = c.try_claim-found.ensures.missed (λ e. c.if-found-pack.false (e ∙ sym c.pack.ensures)) in record {
+    let miss = c.try_claim-found.ensures.missed (λ e. c.if-found-pack.false (e ∙ sym c.pack.ensures)) in
+    let other : c.try_claim-found.result ≢ packed v.bound = (λ e. c.if-found-pack.false ((e ∙ ap packed c.loop-own.invariant.bound) ∙ sym c.pack.ensures)) in record {
       pool = c.try_claim-found.ensures.pool;
       free = subst (λ (x : View). IsFree x) (sym miss.0) (record { hand = f.hand; going = f.going });
       bound = ap (λ (x : View). x.bound) miss.0 ∙ sym c.unpack-own-in-loop-own.ensures;
-      looks = subst (λ (x : View). LooksHome u x) (sym miss.0) (looks_home_more u v c.try_claim-found.result c.loop-own.invariant.looks);
+      looks = subst (λ (x : View). LooksHome u x) (sym miss.0) (looks_home_more u v c.try_claim-found.result c.loop-own.invariant.looks (found_fewer v c.try_claim-found.result miss.1 other));
     }
 
 pub returns-then-found-pack-clause-some : goal.returns-then-found-pack-clause-some

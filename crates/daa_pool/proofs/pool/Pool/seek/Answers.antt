@@ -1,13 +1,13 @@
 use Rattle.std.proofs.Common.{◌≤◌, length, sym, subst}
 use Rattle.daa_pool.specs.declared.view.View.{View}
 use Rattle.daa_pool.specs.Seat.{view}
-use Rattle.daa_pool.specs.Claim.{FindsNothing}
+use Rattle.daa_pool.specs.Tour.{SeeksInVain}
 use Rattle.daa_pool.proofs.Looks.{seeks_first, seeks_second, seeks_nothing}
 use Rattle.daa_pool.proofs.pool.Pool.seek.Goals as goal
 
 pub returns-clause-claim : goal.returns-clause-claim
 returns-clause-claim c = let q = c.args.seat.now in let of = c.requires.pool in
-    subst (λ (x : View). FindsNothing (view q) x) (sym c.end.ensures.view)
+    subst (λ (x : View). SeeksInVain (view q) x) (sym c.end.ensures.view)
     (seeks_nothing (view q) (view c.tour.new.seat) (view c.tour-2.new.seat) c.end.result q.number c.args.self.now.workers q.numbered of.workers (c.in_default.ensures).claim (c.in_default-tour.ensures).claim c.end.ensures.empty (subst (λ (x : View). length x.settled ≤ length (view c.tour-2.new.seat).answers) c.end.ensures.view c.end.ensures.few))
 
 pub returns-in-Some-clause-claim : goal.returns-in-Some-clause-claim
