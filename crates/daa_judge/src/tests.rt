@@ -25,11 +25,13 @@ fn found<R: AllocGlobal>(
         fails.to_vec(alloc)?,
     );
     let mut matching = Matching::new(most);
-    for text in texts {
-        let found = matching.compare(&mut source, text);
-        if found != Found::Alike {
-            return Ok(found);
-        }
+    let found = matching.compare(&mut source, texts[0]);
+    if found != Found::Alike {
+        return Ok(found);
+    }
+    let found = matching.compare(&mut source, texts[1]);
+    if found != Found::Alike {
+        return Ok(found);
     }
     Ok(matching.end(&mut source))
 }

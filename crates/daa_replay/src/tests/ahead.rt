@@ -3,17 +3,25 @@
 use super::{ONE, ONE_TEXT, ONES, Outside, PLAIN, SEVENS, gives};
 use std::test::Fail;
 
-/// The words that ask for reading ahead, by one piece and by four.
-pub(super) static NEAR: &[&str] = &["daidalus", "replay", "--config", "c", "--ahead", "1"];
-
-pub(super) static FAR: &[&str] = &["daidalus", "replay", "--config", "c", "--ahead", "4"];
+/// The words that ask for a replay by turns, and for reading ahead by one piece and by four.
+pub(super) static READINGS: [&[&str]; 3] = [
+    &["daidalus", "replay", "--config", "c"],
+    &["daidalus", "replay", "--config", "c", "--ahead", "1"],
+    &["daidalus", "replay", "--config", "c", "--ahead", "4"],
+];
 
 /// As far as may be asked for.
 static FARTHEST: &[&str] = &["daidalus", "replay", "--config", "c", "--ahead", "1024"];
 
+/// Pieces of nine bytes.
+static NINES: [usize; 8] = [9; 8];
+
+/// `ONE` with three lines more.
+static LONGER: &[u8] = b"moment 0\nown 0 0 1000 0 3600 0\ntraffic A 0 0 1000 0 3600 0\nend\n\n\n\n";
+
 #[test]
 fn reading_ahead_changes_nothing(rt: HostRuntime) -> Result<(), Fail> {
-    for words in [NEAR, FAR, FARTHEST] {
+    for words in &READINGS {
         let plain = Outside { words, ..PLAIN };
         gives(&rt, ONE, plain, 0, ONE_TEXT)?;
         for read_pieces in [ONES.as_slice(), SEVENS.as_slice()] {
@@ -26,7 +34,11 @@ fn reading_ahead_changes_nothing(rt: HostRuntime) -> Result<(), Fail> {
         }
         gives(&rt, b"\n\n\n\n\n", Outside { most: 4, ..plain }, 8, b"")?;
     }
-    Ok(())
+    let farthest = Outside {
+        words: FARTHEST,
+        ..PLAIN
+    };
+    gives(&rt, ONE, farthest, 0, ONE_TEXT)
 }
 
 /// With pieces of nine bytes: a read and a write that fail, the most bytes that are read, the status, and what the sink took.
@@ -41,29 +53,28 @@ static FAULTS: [(u64, u64, u64, u8, &[u8]); 6] = [
 
 #[test]
 fn a_fault_is_met_in_its_place(rt: HostRuntime) -> Result<(), Fail> {
-    let nines = [9; 8];
-    for words in [PLAIN.words, NEAR, FAR] {
-        for (read_fails, write_fails, most, status, text) in FAULTS {
+    for words in &READINGS {
+        let plain = Outside {
+            words,
+            read_pieces: &NINES,
+            ..PLAIN
+        };
+        for (read_fails, write_fails, most, status, text) in &FAULTS {
             let outside = Outside {
-                words,
-                read_pieces: &nines,
-                read_fails: &[read_fails],
-                write_fails: &[write_fails],
-                most,
-                ..PLAIN
+                read_fails: &[*read_fails],
+                write_fails: &[*write_fails],
+                most: *most,
+                ..plain
             };
-            gives(&rt, ONE, outside, status, text)?;
+            gives(&rt, ONE, outside, *status, text)?;
         }
         // the sink fails before as many bytes as may be read are taken, though they are read ahead
         let limited = Outside {
-            words,
-            read_pieces: &nines,
             write_fails: &[0],
             most: 64,
-            ..PLAIN
+            ..plain
         };
-        let longer = b"moment 0\nown 0 0 1000 0 3600 0\ntraffic A 0 0 1000 0 3600 0\nend\n\n\n\n";
-        gives(&rt, longer, limited, 5, b"")?;
+        gives(&rt, LONGER, limited, 5, b"")?;
     }
     Ok(())
 }

@@ -235,7 +235,10 @@ fn a_line_that_is_not_written_is_a_write_fault(rt: HostRuntime) -> Result<(), Fa
                 write_fails: &[fails],
                 ..JUDGE
             };
-            judges(&rt, ONE, report, outside, 5, &line[..taken])?;
+            let Some(front) = line.get(..taken) else {
+                return Err("a front of the line".into());
+            };
+            judges(&rt, ONE, report, outside, 5, front)?;
         }
     }
     let mut long = Vec::new(rt.alloc());

@@ -1,6 +1,6 @@
 //! Lines, their refusals, and the pieces in which they come.
 
-use super::ahead::{FAR, NEAR};
+use super::ahead::READINGS;
 use super::{COVERED, ONE, ONE_TEXT, ONES, Outside, PLAIN, SEVENS, gives, whole};
 use std::alloc::AllocError;
 use std::test::Fail;
@@ -58,7 +58,7 @@ fn pieces_and_line_ends_do_not_matter(rt: HostRuntime) -> Result<(), Fail> {
     let returns =
         b"moment 0\r\nown 0 0 1000 0 3600 0\r\ntraffic A 0 0 1000 0 3600 0\r\nend\r\n".as_slice();
     let no_feed = b"moment 0\nown 0 0 1000 0 3600 0\ntraffic A 0 0 1000 0 3600 0\nend".as_slice();
-    for words in [PLAIN.words, NEAR, FAR] {
+    for words in &READINGS {
         for read_pieces in [&[], ONES.as_slice(), SEVENS.as_slice()] {
             let outside = Outside {
                 words,
@@ -171,15 +171,14 @@ fn a_moment_has_64_aircraft(rt: HostRuntime) -> Result<(), Fail> {
     text.push_str(COVERED)?;
     text.push_str("done 0\n")?;
     let ones = vec![in alloc; 1; 4000]?;
-    for words in [PLAIN.words, NEAR, FAR] {
-        for read_pieces in [&[], ones.as_slice()] {
-            let outside = Outside {
-                words,
-                read_pieces,
-                ..PLAIN
-            };
-            gives(&rt, input.as_bytes(), outside, 1, text.as_bytes())?;
-        }
+    for words in &READINGS {
+        let at_once = Outside { words, ..PLAIN };
+        gives(&rt, input.as_bytes(), at_once, 1, text.as_bytes())?;
+        let in_ones = Outside {
+            read_pieces: ones.as_slice(),
+            ..at_once
+        };
+        gives(&rt, input.as_bytes(), in_ones, 1, text.as_bytes())?;
     }
     Ok(())
 }
