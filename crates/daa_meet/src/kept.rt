@@ -1,5 +1,5 @@
-//! The same walk along a flight whose legs are kept: what is asked of it more than once is flown once. Where the flight is
-//! straight the rest is tested as one leg.
+//! The same walk along a flight whose legs are kept: what is asked of it more than once is flown
+//! once. Where the flight is straight the rest is tested as one leg.
 
 ghost use Rattle.std.specs.Prelude.{◌≡◌, ◌≤◌, ◌<◌, ◌+◌, ◌↔◌, IsTrue};
 ghost use Rattle.daa_taumod.specs.Volume.{IsVolumeInRange};
@@ -16,9 +16,9 @@ use daa_legs::{OwnRun, Trunk, relative, relative_run};
 use daa_state::{Own, Traffic};
 use daa_taumod::Volume;
 
-/// What `meets_between` answers, of a candidate whose first `upto` legs are kept and which keeps one velocity after leg
-/// `leaves`: whether its flight violates the volume round the aircraft at some time of a leg from `first` on, before `upto`,
-/// which is at most 180.
+/// What `meets_between` answers, of a candidate whose first `upto` legs are kept and which keeps one
+/// velocity after leg `leaves`: whether its flight violates the volume round the aircraft at some
+/// time of a leg from `first` on, before `upto`, which is at most 180.
 pub fn meets_along(
     config: &Config,
     own: &Own,
@@ -37,7 +37,8 @@ pub fn meets_along(
     requires straight { FliesOn own.now (rates_of config.now) candidate (leaves + 1) }
     requires aircraft { IsTrafficInRange aircraft.now }
     requires volume { IsVolumeInRange volume.now }
-    ensures { IsTrue result ↔ MeetsBetween config.now own.now candidate aircraft.now volume.now first upto }
+    ensures { IsTrue result
+        ↔ MeetsBetween config.now own.now candidate aircraft.now volume.now first upto }
 {
     let mut k = first;
     while k < upto {
@@ -75,7 +76,8 @@ fn meets_straight(
     requires after { leaves < k }
     requires aircraft { IsTrafficInRange aircraft.now }
     requires volume { IsVolumeInRange volume.now }
-    ensures { IsTrue result ↔ MeetsBetween config.now own.now candidate aircraft.now volume.now k upto }
+    ensures { IsTrue result
+        ↔ MeetsBetween config.now own.now candidate aircraft.now volume.now k upto }
 {
     let _rates = config.rates();
     let leg = legs.leg(k);

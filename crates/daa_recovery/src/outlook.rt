@@ -191,7 +191,8 @@ impl<'a> Outlook<'a> {
         false
     }
 
-    /// Whether the candidate violates a volume round the aircraft on one of the legs from `first` on, before `upto`.
+    /// Whether the candidate violates a volume round the aircraft on one of the legs from `first`
+    /// on, before `upto`.
     fn meets(
         &self,
         course: &Course,
@@ -204,7 +205,9 @@ impl<'a> Outlook<'a> {
         requires aircraft { IsTrafficInRange aircraft.now }
         requires volume { IsVolumeInRange volume.now }
         requires ahead { upto ≤ self.now.horizon }
-        ensures { IsTrue result ↔ MeetsBetween self.now.settings self.now.picture.own course.now.candidate aircraft.now volume.now first upto }
+        ensures { IsTrue result
+            ↔ MeetsBetween self.now.settings self.now.picture.own course.now.candidate
+            aircraft.now volume.now first upto }
     {
         meets_along(
             self.config,
