@@ -46,13 +46,15 @@ pub fn boards_tell_what_is_covered()
         → IsResolution (CoveredAt s p) s p.own kind side answer }
 {}
 
-/// Under a configuration without a table of recovery the text is that of the lines that there are without recoveries.
+/// Under a configuration without a table of recovery the text is that of the lines that there are
+/// without recoveries.
 pub fn texts_without_a_recovery_are_as_before()
-    ensures { (s : Settings) (p : Picture) (text : Text) → s.recovery ≡ None → IsMomentText s p text ↔ IsPlainText s p text }
+    ensures { (s : Settings) (p : Picture) (text : Text) → s.recovery ≡ None
+        → IsMomentText s p text ↔ IsPlainText s p text }
 {}
 
-/// The text of a picture in range, whose time is a `u32`, has at most 130176 bytes: at most 64 for each of its lines. So a sheet of
-/// one byte more is never full.
+/// The text of a picture in range, whose time is a `u32`, has at most 130176 bytes: at most 64 for
+/// each of its lines. So a sheet of one byte more is never full.
 pub fn texts_are_short()
     ensures { (s : Settings) (p : Picture) (text : Text) → IsAccepted s → IsPictureInRange p → p.time < 2 ^ 32 → IsMomentText s p text
         → length text ≤ longest_moment }
