@@ -1,0 +1,97 @@
+//! A display: a screen, an engine that writes for it, and what was drawn last.
+ghost use Rattle.std.specs.Prelude.{◌≡◌, ◌≤◌, [], IsTrue, IfOk};
+ghost use Rattle.daa_screen.specs.Story.{GoesOn};
+ghost use Rattle.daa_cockpit.specs.Shows.{IsDrawn, ShowsAll};
+
+use anyhow::{Result, bail};
+use daa_engine::Engine;
+use daa_outside::{MemSink, Open};
+use daa_screen::{Feed, Screen};
+use std::alloc::{AllocError, Global};
+use std::sync::atomic::{AtomicBool, Ordering};
+use std::thread::{self, Threads};
+
+/// The most bytes of a moment's text.
+const ROOM: usize = 130_176;
+
+/// A display. Between two looks it hands the processor on so many times.
+#[derive(Drop)]
+pub struct Display {
+    pub screen: Screen,
+    pub engine: Engine,
+    pub drawing: MemSink,
+    pub pace: u32,
+}
+
+/// A sheet on which nothing is drawn.
+pub fn blank(alloc: Global) -> std::result::Result<MemSink, AllocError>
+    ensures { IfOk result (λ sheet. sheet.taken ≡ []) }
+{
+    Ok(MemSink::over(vec![in alloc; 0; ROOM]?, Vec::new(alloc), Vec::new(alloc)))
+}
+
+impl Display {
+    /// Draws what the screen sees. Where there was no memory for a drawing, or it does not fit, the
+    /// last one stays, and this is false.
+    pub fn look<R: Threads + Sync>(&mut self, rt: &R, alloc: Global) -> bool
+        ensures seen { GoesOn self.old.screen self.new.screen }
+        ensures drawn { IsTrue result → IsDrawn self.new }
+    {
+        let Ok(mut drawing) = blank(alloc) else {
+            return false;
+        };
+        let answered = self
+            .screen
+            .ask(rt, alloc, &mut self.engine, &mut drawing, &Open);
+        if answered.is_err() {
+            return false;
+        }
+        self.drawing = drawing;
+        true
+    }
+
+    /// Looks at its own pace until the feed has ended, and once more then.
+    pub fn watch<R: Threads + Sync>(&mut self, rt: &R, alloc: Global, ended: &AtomicBool)
+        ensures { self.new.screen.feed ≡ self.old.screen.feed }
+    {
+        for _ in 0..u64::MAX {
+            let last = ended.load(Ordering::SeqCst);
+            self.look(rt, alloc);
+            if last {
+                break;
+            }
+            self.rest();
+        }
+    }
+
+    /// Hands the processor on, as often as its pace says.
+    fn rest(&self) {
+        for _ in 0..self.pace {
+            thread::yield_now();
+        }
+    }
+
+    /// Whether its screen has seen all that was published, and nothing else.
+    #[tactic(auto, using(crate::proofs::Whole::goes_on_whole))]
+    fn has_all(&self, feed: &Feed) -> bool
+        requires { GoesOn feed.now self.now.screen }
+        ensures { IsTrue result → self.now.screen ≡ feed.now }
+    {
+        self.screen.seen() == feed.published()
+    }
+
+    /// Is told of all that was published, and draws that.
+    #[tactic(auto, using(daa_screen::proofs::Kept::goes_on_and_on))]
+    pub fn catch_up<R: Threads + Sync>(self, rt: &R, alloc: Global, feed: &Feed) -> Result<Display>
+        requires { self.screen.feed ≡ feed.now.feed }
+        ensures { IfOk result (λ display. ShowsAll feed.now display) }
+    {
+        let mut display = self;
+        display.screen.learn(feed.tell());
+        let drawn = display.look(rt, alloc);
+        if drawn && display.has_all(feed) {
+            return Ok(display);
+        }
+        bail!("what was published last could not be drawn");
+    }
+}

@@ -1,0 +1,93 @@
+//! The displays together.
+ghost use Rattle.std.specs.Prelude.{◌≡◌, IfOk};
+ghost use Rattle.daa_cockpit.specs.Shows.{ShowsAll};
+
+use crate::display::Display;
+use crate::feeding::publish_moments;
+use anyhow::Result;
+use daa_screen::Feed;
+use std::alloc::Global;
+use std::sync::Wait;
+use std::sync::atomic::{AtomicBool, Ordering};
+use std::thread::{Threads, join_mut};
+
+/// The three displays.
+#[derive(Drop)]
+pub struct FlightDeck {
+    pub pilot: Display,
+    pub observer: Display,
+    pub ground: Display,
+}
+
+impl FlightDeck {
+    /// Each display looks, in a thread of its own and at its own pace, until the feed has ended.
+    fn watch<R: Threads + Sync>(&mut self, rt: &R, alloc: Global, ended: &AtomicBool)
+        ensures pilot { self.new.pilot.screen.feed ≡ self.old.pilot.screen.feed }
+        ensures observer { self.new.observer.screen.feed ≡ self.old.observer.screen.feed }
+        ensures ground { self.new.ground.screen.feed ≡ self.old.ground.screen.feed }
+    {
+        let (pilot, observer, ground) = (&mut self.pilot, &mut self.observer, &mut self.ground);
+        join_mut(
+            rt,
+            &mut || pilot.watch(rt, alloc, ended),
+            &mut || {
+                join_mut(
+                    rt,
+                    &mut || observer.watch(rt, alloc, ended),
+                    &mut || ground.watch(rt, alloc, ended),
+                );
+            },
+        );
+    }
+
+    /// Publishes the moments of the text while the displays look.
+    fn publish_and_watch<R: Threads + Wait + Sync>(
+        &mut self,
+        rt: &R,
+        alloc: Global,
+        states: &str,
+        feed: &mut Feed,
+    ) -> Result<()>
+        ensures feed { feed.new.feed ≡ feed.old.feed }
+        ensures pilot { self.new.pilot.screen.feed ≡ self.old.pilot.screen.feed }
+        ensures observer { self.new.observer.screen.feed ≡ self.old.observer.screen.feed }
+        ensures ground { self.new.ground.screen.feed ≡ self.old.ground.screen.feed }
+    {
+        let ended = AtomicBool::new(false);
+        let (published, ()) = join_mut(
+            rt,
+            &mut || {
+                let published = publish_moments(rt, states, feed);
+                ended.store(true, Ordering::SeqCst);
+                published
+            },
+            &mut || self.watch(rt, alloc, &ended),
+        );
+        published
+    }
+
+    /// Publishes the moments of the text while the displays look. At the end each display
+    /// shows all that was published.
+    pub fn show<R: Threads + Wait + Sync>(
+        self,
+        rt: &R,
+        alloc: Global,
+        states: &str,
+        feed: &mut Feed,
+    ) -> Result<FlightDeck>
+        requires pilot { self.pilot.screen.feed ≡ feed.old.feed }
+        requires observer { self.observer.screen.feed ≡ feed.old.feed }
+        requires ground { self.ground.screen.feed ≡ feed.old.feed }
+        ensures pilot { IfOk result (λ deck. ShowsAll feed.new deck.pilot) }
+        ensures observer { IfOk result (λ deck. ShowsAll feed.new deck.observer) }
+        ensures ground { IfOk result (λ deck. ShowsAll feed.new deck.ground) }
+    {
+        let mut deck = self;
+        deck.publish_and_watch(rt, alloc, states, feed)?;
+        Ok(FlightDeck {
+            pilot: deck.pilot.catch_up(rt, alloc, feed)?,
+            observer: deck.observer.catch_up(rt, alloc, feed)?,
+            ground: deck.ground.catch_up(rt, alloc, feed)?,
+        })
+    }
+}

@@ -1,0 +1,92 @@
+//! Making the feed and the displays.
+ghost use Rattle.std.specs.Prelude.{◌≡◌, [], IfOk};
+
+use crate::display::{Display, blank};
+use crate::flight_deck::FlightDeck;
+use anyhow::{Result, anyhow, bail};
+use daa_config::read;
+use daa_engine::Engine;
+use daa_screen::{Feed, Screen};
+use std::alloc::Global;
+use std::rt::{Env, Files};
+use std::sync::Wait;
+use std::{env, fs};
+
+/// The text of the configuration that the command line names.
+pub fn config_text<R: Env + Files + AllocGlobal>(rt: &R) -> Result<String> {
+    let Some(name) = env::args(rt)?.nth(1) else {
+        bail!("the name of a configuration is missing");
+    };
+    Ok(fs::read_to_string(rt, name.as_str())?)
+}
+
+/// An engine of one worker under this configuration.
+fn new_engine(alloc: Global, config: &str) -> Result<Engine> {
+    match read(alloc, config.as_bytes()) {
+        Ok(config) => Engine::new(alloc, config, 1).map_err(|_| anyhow!("no memory")),
+        Err(fault) => bail!("the configuration is refused with code {:?}", fault.code()),
+    }
+}
+
+/// An engine for each display.
+pub fn new_engines(alloc: Global, config: &str) -> Result<(Engine, Engine, Engine)> {
+    Ok((
+        new_engine(alloc, config)?,
+        new_engine(alloc, config)?,
+        new_engine(alloc, config)?,
+    ))
+}
+
+/// A display on which nothing is drawn.
+fn new_display(alloc: Global, screen: Screen, engine: Engine, pace: u32) -> Result<Display>
+    ensures { IfOk result (λ display. display.screen ≡ screen) }
+{
+    Ok(Display {
+        screen,
+        engine,
+        drawing: blank(alloc)?,
+        pace,
+    })
+}
+
+/// The displays of these screens, each at its own pace.
+fn new_deck(
+    alloc: Global,
+    screens: (Screen, Screen, Screen),
+    engines: (Engine, Engine, Engine),
+) -> Result<FlightDeck>
+    ensures pilot { IfOk result (λ deck. deck.pilot.screen ≡ screens.0) }
+    ensures observer { IfOk result (λ deck. deck.observer.screen ≡ screens.1) }
+    ensures ground { IfOk result (λ deck. deck.ground.screen ≡ screens.2) }
+{
+    Ok(FlightDeck {
+        pilot: new_display(alloc, screens.0, engines.0, 1)?,
+        observer: new_display(alloc, screens.1, engines.1, 100)?,
+        ground: new_display(alloc, screens.2, engines.2, 10_000)?,
+    })
+}
+
+/// A feed with its three displays.
+pub fn open<W: Wait>(
+    rt: &W,
+    alloc: Global,
+    engines: (Engine, Engine, Engine),
+) -> Result<(Feed, FlightDeck)>
+    ensures pilot { IfOk result (λ opened. opened.1.pilot.screen ≡ opened.0) }
+    ensures observer { IfOk result (λ opened. opened.1.observer.screen ≡ opened.0) }
+    ensures ground { IfOk result (λ opened. opened.1.ground.screen ≡ opened.0) }
+{
+    let Ok((feed, mut screens)) = Feed::open(rt, alloc, 3) else {
+        bail!("no memory");
+    };
+    let ground = screens.pop().unwrap();
+    let observer = screens.pop().unwrap();
+    let pilot = screens.pop().unwrap();
+    match new_deck(alloc, (pilot, observer, ground), engines) {
+        Ok(deck) => Ok((feed, deck)),
+        Err(error) => {
+            feed.close(rt);
+            Err(error)
+        }
+    }
+}
