@@ -75,12 +75,13 @@ impl Engine {
         // tells that its numbers are in range
         let _levels = config.levels();
         let words = vec![in alloc; 0u64; MOST_UNITS]?;
+        let trunks = Trunks::new(alloc)?;
         Ok(Engine {
             config,
             workers,
             board: Board::new(),
             words,
-            trunks: Trunks::new(),
+            trunks,
         })
     }
 

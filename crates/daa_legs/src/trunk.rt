@@ -1,16 +1,19 @@
 //! The legs of a flight, kept.
 
-ghost use Rattle.std.specs.Prelude.{◌≡◌, ◌≤◌, ◌<◌, length, slice_index_or};
+ghost use Rattle.std.specs.Prelude.{◌≡◌, ◌≤◌, ◌<◌, IfOk, length, slice_index_or};
 ghost use Rattle.daa_config.specs.Settings.{IsCandidateInRange, rates_of};
 ghost use Rattle.daa_state.specs.InRange.{IsOwnInRange};
 ghost use Rattle.daa_legs.specs.Kept.{AreLegsOf};
 ghost use Rattle.daa_legs.specs.declared.own_leg.OwnLeg.{OwnLeg};
 
-use crate::flight::Flight;
+use crate::flight::{Flight, sum};
+use crate::motion::velocity_from;
 use crate::own_leg::OwnLeg;
 use daa_config::{Candidate, Config};
 use daa_fixed::{Flat, Solid};
+use daa_heading::velocity;
 use daa_state::Own;
+use std::alloc::{AllocError, Global};
 use std::marker::Model;
 
 /// How many legs a flight has.
@@ -21,10 +24,15 @@ const NOWHERE: Solid = Solid {
     up: 0,
 };
 
-/// The first legs of a flight. Contracts see them as a list of 180.
+const AT_REST: OwnLeg = OwnLeg {
+    place: NOWHERE,
+    velocity: NOWHERE,
+};
+
+/// The first legs of a flight. Contracts see them as a list of 180. They stand on the heap, so that a trunk is moved without them.
 #[derive(Drop)]
 pub struct Trunk {
-    legs: [OwnLeg; LEGS],
+    legs: Vec<OwnLeg>,
 }
 
 impl Model for Trunk {
@@ -33,22 +41,18 @@ impl Model for Trunk {
 
     ghost Value = { List OwnLeg };
 
-    ghost view = { λ t. t.legs };
+    ghost view = { λ t. t.legs.items };
 
-    ghost invariant = { λ t. length t.legs ≡ 180 };
+    ghost invariant = { λ t. length t.legs.items ≡ 180 };
 }
 
 impl Trunk {
-    /// Room for a flight's legs.
-    pub fn new() -> Trunk
-        ensures { length result ≡ 180 }
+    /// Room for a flight's legs. `AllocError` says that there was no memory for it.
+    pub fn new(alloc: Global) -> Result<Trunk, AllocError>
+        ensures { IfOk result (λ trunk. length trunk ≡ 180) }
     {
-        Trunk {
-            legs: [OwnLeg {
-                place: NOWHERE,
-                velocity: NOWHERE,
-            }; LEGS],
-        }
+        let legs = vec![in alloc; AT_REST; LEGS]?;
+        Ok(Trunk { legs })
     }
 
     /// Keeps the first `most` legs of a candidate's flight.
@@ -58,9 +62,15 @@ impl Trunk {
         requires most { most ≤ 180 }
         ensures { AreLegsOf own.now (rates_of config.now) candidate most self.new }
     {
+        let rates = config.rates();
+        let present = velocity(own.gs, own.trk);
+        // the place is a local, since a read of what was just written in halves is slow
         let mut flight = Flight::begin(own, config, candidate);
+        let mut place = flight.next_leg().place;
         for k in 0..most {
-            self.legs[k as usize] = flight.next_leg();
+            let velocity = velocity_from(own, &rates, candidate, k, &present);
+            self.legs[k as usize] = OwnLeg { place, velocity };
+            place = sum(&place, &velocity);
         }
     }
 

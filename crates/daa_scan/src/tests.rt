@@ -1,10 +1,10 @@
 //! Worked scenes: a configuration, an ownship and aircraft as their lines say them, and what the scan answers.
 
-ghost use Rattle.std.specs.Prelude.{IfSome};
+ghost use Rattle.std.specs.Prelude.{IfOk, IfSome};
 ghost use Rattle.daa_state.specs.InRange.{IsPictureInRange};
 ghost use Rattle.daa_scan.specs.Trunks.{AreTrunksOf};
 
-mod by_seconds;
+mod drawn;
 mod reaching;
 mod rows;
 mod words;
@@ -12,6 +12,7 @@ mod words;
 use super::*;
 use daa_config::{Config, read};
 use daa_state::{Moments, Picture, read_line};
+use std::alloc::Global;
 use std::process::Abort;
 use std::test::Fail;
 
@@ -50,13 +51,13 @@ fn picture_in(lines: &[&str]) -> Option<Picture>
 }
 
 /// The flights that lead on the sides of each kind.
-fn trunks_of(config: &Config, picture: &Picture) -> Trunks
+fn trunks_of(alloc: Global, config: &Config, picture: &Picture) -> Result<Trunks, Fail>
     requires { IsPictureInRange picture.now }
-    ensures { AreTrunksOf config.now picture.now.own result }
+    ensures { IfOk result (λ trunks. AreTrunksOf config.now picture.now.own trunks) }
 {
-    let mut trunks = Trunks::new();
+    let mut trunks = Trunks::new(alloc)?;
     trunks.fill(&picture.own, config);
-    trunks
+    Ok(trunks)
 }
 
 fn may_be_shared<T: Send + Sync>() {}

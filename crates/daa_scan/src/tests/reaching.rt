@@ -210,7 +210,7 @@ fn the_last_place_in_reach(rt: HostRuntime) -> Result<(), Fail> {
             "the lines of a moment",
         );
         assert!(rt; picture.traffic.len() == 1, "{}", row.shows);
-        let trunks = trunks_of(&config, &picture);
+        let trunks = trunks_of(rt.alloc(), &config, &picture)?;
         let scene = Scene::of(&config, &picture, &trunks);
         assert!(rt;
             scene.in_reach(0) == row.in_reach,

@@ -1,13 +1,14 @@
 //! The levels at which each candidate meets one aircraft.
 
-ghost use Rattle.daa_state.specs.InRange.{IsPictureInRange};
+ghost use Rattle.daa_config.specs.Settings.{IsCandidateInRange};
+ghost use Rattle.daa_state.specs.InRange.{IsOwnInRange, IsPictureInRange, IsTrafficInRange};
 
-use super::by_seconds::meets_by_seconds;
 use super::{Settings, config_of, picture_in, trunks_of};
 use crate::Scene;
-use daa_config::Config;
 use daa_config::examples::{FOUR_LEVELS, ONE_LEVEL, THREE_LEVELS};
-use daa_state::Picture;
+use daa_config::{Candidate, Config};
+use daa_meet::meets_between;
+use daa_state::{Own, Picture, Traffic};
 use std::process::Abort;
 use std::test::Fail;
 
@@ -230,7 +231,7 @@ fn worked_rows(rt: HostRuntime) -> Result<(), Fail> {
             &rt,
             "the lines of a moment",
         );
-        let trunks = trunks_of(&config, &picture);
+        let trunks = trunks_of(rt.alloc(), &config, &picture)?;
         let scene = Scene::of(&config, &picture, &trunks);
         assert!(rt; config.total() == 8, "{}", row.shows);
         assert!(rt; picture.traffic.len() == 1, "{}", row.shows);
@@ -246,47 +247,88 @@ fn worked_rows(rt: HostRuntime) -> Result<(), Fail> {
     Ok(())
 }
 
-/// Each candidate meets each aircraft at the same levels by runs and second by second.
-fn expect_same_levels(rt: &impl Abort, config: &Config, picture: &Picture)
+/// Room for a mask of each candidate.
+const MASKS: usize = 2048;
+
+/// Each candidate meets each aircraft at the levels at which it does by the plain walk: asked for the whole list, and by itself.
+pub(super) fn expect_same_levels(
+    rt: &(impl AllocGlobal + Abort),
+    config: &Config,
+    picture: &Picture,
+) -> Result<(), Fail>
     requires { IsPictureInRange picture.now }
 {
-    let trunks = trunks_of(config, picture);
+    let trunks = trunks_of(rt.alloc(), config, picture)?;
     let scene = Scene::of(config, picture, &trunks);
     for place in 0..picture.traffic.len() {
+        let mut masks = [0u8; MASKS];
+        scene.levels_from(0, place as u32, &mut masks);
         for index in 0..config.total() {
-            let mask = scene.levels(index, place as u32);
-            for l in 1..=config.levels() {
-                let meets = meets_by_seconds(
-                    config,
-                    &picture.own,
-                    config.candidate(index),
-                    &picture.traffic[place],
-                    config.level(l),
-                );
-                assert!(rt;
-                    (mask >> (l - 1) & 1 == 1) == meets,
-                    "candidate {index}, aircraft {place}, level {l}"
-                );
-            }
+            let mask = masks[index as usize];
+            assert!(rt;
+                scene.levels(index, place as u32) == mask,
+                "candidate {index}, aircraft {place}"
+            );
+            expect_mask(
+                rt,
+                config,
+                &picture.own,
+                config.candidate(index),
+                &picture.traffic[place],
+                mask,
+            );
         }
     }
+    Ok(())
+}
+
+/// The mask has the levels that the candidate meets by the plain walk.
+fn expect_mask(
+    rt: &impl Abort,
+    config: &Config,
+    own: &Own,
+    candidate: Candidate,
+    aircraft: &Traffic,
+    mask: u8,
+)
+    requires own { IsOwnInRange own.now }
+    requires candidate { IsCandidateInRange candidate }
+    requires aircraft { IsTrafficInRange aircraft.now }
+{
+    for l in 1..=config.levels() {
+        let level = config.level(l);
+        let meets = meets_between(
+            config,
+            own,
+            candidate,
+            aircraft,
+            &level.volume,
+            0,
+            level.lookahead,
+        );
+        assert!(rt;
+            (mask >> (l - 1) & 1 == 1) == meets,
+            "{candidate:?}, level {l}"
+        );
+    }
+    assert!(rt; mask >> config.levels() == 0, "{candidate:?}");
 }
 
 #[test]
-fn rows_are_the_same_second_by_second(rt: HostRuntime) -> Result<(), Fail> {
+fn rows_are_the_same_by_the_plain_walk(rt: HostRuntime) -> Result<(), Fail> {
     for row in &ROWS {
         let config = config_of(&rt, &row.settings)?;
         let picture = picture_in(&["moment 0", row.own, row.aircraft, "end"]).expect(
             &rt,
             "the lines of a moment",
         );
-        expect_same_levels(&rt, &config, &picture);
+        expect_same_levels(&rt, &config, &picture)?;
     }
     Ok(())
 }
 
 #[test]
-fn the_example_is_the_same_second_by_second(rt: HostRuntime) -> Result<(), Fail> {
+fn the_example_is_the_same_by_the_plain_walk(rt: HostRuntime) -> Result<(), Fail> {
     let config = config_of(
         &rt,
         &Settings {
@@ -302,6 +344,6 @@ fn the_example_is_the_same_second_by_second(rt: HostRuntime) -> Result<(), Fail>
         "end",
     ])
     .expect(&rt, "the lines of a moment");
-    expect_same_levels(&rt, &config, &picture);
+    expect_same_levels(&rt, &config, &picture)?;
     Ok(())
 }

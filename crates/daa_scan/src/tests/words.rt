@@ -33,7 +33,7 @@ fn words_of_one_group(rt: HostRuntime) -> Result<(), Fail> {
         },
     )?;
     let picture = picture_in(&LINES).expect(&rt, "the lines of a moment");
-    let trunks = trunks_of(&config, &picture);
+    let trunks = trunks_of(rt.alloc(), &config, &picture)?;
     let scene = Scene::of(&config, &picture, &trunks);
     assert!(rt; scene.count_in_reach() == 2);
     assert!(rt; scene.units() == 2);
@@ -74,7 +74,7 @@ fn words_of_two_groups(rt: HostRuntime) -> Result<(), Fail> {
         },
     )?;
     let picture = picture_in(&LINES).expect(&rt, "the lines of a moment");
-    let trunks = trunks_of(&config, &picture);
+    let trunks = trunks_of(rt.alloc(), &config, &picture)?;
     let scene = Scene::of(&config, &picture, &trunks);
     assert!(rt; scene.units() == 4);
     assert!(rt;
@@ -105,7 +105,7 @@ fn no_units_where_none_is_in_reach(rt: HostRuntime) -> Result<(), Fail> {
     let none = ["moment 0", "own 0 0 1000 0 3600 0", "end"];
     for lines in [far.as_slice(), none.as_slice()] {
         let picture = picture_in(lines).expect(&rt, "the lines of a moment");
-        let trunks = trunks_of(&config, &picture);
+        let trunks = trunks_of(rt.alloc(), &config, &picture)?;
         let scene = Scene::of(&config, &picture, &trunks);
         assert!(rt; scene.units() == 0);
         assert!(rt; scene.count_in_reach() == 0);

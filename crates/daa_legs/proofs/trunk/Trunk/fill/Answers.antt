@@ -1,25 +1,42 @@
-use Rattle.std.proofs.Common.{◌≡◌, ◌≤◌, ◌+◌, ◌∙◌, ℕ, ap, subst, arith}
-use Rattle.daa_config.specs.Settings.{rates_of}
-use Rattle.daa_legs.specs.FlightProgress.{FlightProgress}
+use Rattle.std.proofs.Common.{rules, ◌≡◌, ◌<◌, ◌≤◌, ◌+◌, ◌∙◌, ℕ, ap, subst, arith, FitsSigned, w32, to_z-of_z}
+use Rattle.daa_heading.specs.Heading.{velocity_of}
+use Rattle.daa_config.specs.declared.config.Rates.{Rates}
+use Rattle.daa_config.specs.Settings.{AreRatesInRange, rates_of}
 use Rattle.daa_legs.specs.Kept.{AreLegsOf}
-use Rattle.daa_legs.proofs.Keeping.{kept_none, kept_more, next_kept}
+use Rattle.daa_legs.specs.declared.own_leg.OwnLeg.{OwnLeg}
+use Rattle.daa_legs.proofs.Keeping.{kept_none, kept_more, next_kept, leg_kept, place_after, place_small, velocity_small}
 use Rattle.daa_legs.proofs.trunk.Trunk.fill.Goals as goal
 
 pub loop-k-init : goal.loop-k-init
-loop-k-init c = record { at = c.begin-flight.ensures; kept = kept_none _ _ _ _ c.self.invariant }
+loop-k-init c = record {
+  at = ap (λ (l : OwnLeg). l.place) (next_kept c.args.own.now (rates_of c.args.config.now) c.args.candidate c.begin-flight.result 0 c.next_leg.result c.begin-flight.ensures c.next_leg.ensures.leg);
+  kept = kept_none _ _ _ _ c.self.invariant;
+}
 
-pub next_leg-requires : goal.next_leg-requires
-next_leg-requires c = let e = ap (λ (f : FlightProgress). f.taken) c.loop-k.invariant.at in omega (arith, e, c.loop-k-test.true, c.requires.most)
+pub velocity_from-velocity-requires-clause-present : goal.velocity_from-velocity-requires-clause-present
+velocity_from-velocity-requires-clause-present c =
+    let g : FitsSigned w32 c.args.own.now.gs = search rules in
+    let t : FitsSigned w32 c.args.own.now.trk = search rules in
+    simp to_z-of_z at c.velocity-present.ensures
+
+pub sum-place-requires-clause-x : goal.sum-place-requires-clause-x
+sum-place-requires-clause-x c = place_small c.args.own.now (rates_of c.args.config.now) c.args.candidate c.requires.own (subst (λ (r : Rates). AreRatesInRange r) c.rates-rates.ensures.value c.rates-rates.ensures.in_range) c.requires.candidate c.loop-k.k c.loop-k.place c.velocity_from-velocity.result
+    (omega (arith, c.loop-k-test.true, c.requires.most)) c.loop-k.invariant.at
+
+pub sum-place-requires-clause-y : goal.sum-place-requires-clause-y
+sum-place-requires-clause-y c = velocity_small c.args.own.now (rates_of c.args.config.now) c.args.candidate c.requires.own (subst (λ (r : Rates). AreRatesInRange r) c.rates-rates.ensures.value c.rates-rates.ensures.in_range) c.requires.candidate c.loop-k.k c.loop-k.place c.velocity_from-velocity.result
+    c.rates-rates.result c.rates-rates.ensures.value c.velocity_from-velocity.ensures
 
 pub loop-k-preserved : goal.loop-k-preserved
-loop-k-preserved c = record {
-  at = c.next_leg.ensures.taken ∙ ap (λ (f : FlightProgress). record f { taken = f.taken + 1 }) c.loop-k.invariant.at;
-  kept = kept_more c.args.own.now (rates_of c.args.config.now) c.args.candidate c.loop-k.k c.loop-k.self-inside.legs c.next_leg.result (omega (arith, c.loop-k-test.true, c.requires.most)) c.loop-k.invariant.kept
-      (next_kept c.args.own.now (rates_of c.args.config.now) c.args.candidate c.loop-k.flight c.loop-k.k c.next_leg.result c.loop-k.invariant.at c.next_leg.ensures.leg);
-}
+loop-k-preserved c =
+    let leg = leg_kept c.args.own.now (rates_of c.args.config.now) c.args.candidate c.rates-rates.result c.loop-k.k c.loop-k.place c.velocity_from-velocity.result c.rates-rates.ensures.value c.loop-k.invariant.at c.velocity_from-velocity.ensures in
+    record {
+      at = place_after c.args.own.now (rates_of c.args.config.now) c.args.candidate c.loop-k.k c.loop-k.place c.velocity_from-velocity.result c.sum-place.result leg c.sum-place.ensures;
+      kept = kept_more c.args.own.now (rates_of c.args.config.now) c.args.candidate c.loop-k.k c.loop-k.self-inside.legs.items (record { place = c.loop-k.place; velocity = c.velocity_from-velocity.result }) (omega (arith, c.loop-k-test.true, c.requires.most)) c.loop-k.invariant.kept leg;
+    }
 
 all : (k most : ℕ) → k ≤ most → most ≤ k → k ≡ most
 all k most a b = omega (arith, a, b)
 
 pub returns : goal.returns
-returns c = subst (λ (n : ℕ). AreLegsOf c.args.own.now (rates_of c.args.config.now) c.args.candidate n c.loop-k.self-inside.legs) (all c.loop-k.k c.args.most c.loop-k.auto.k-end c.loop-k-test.false) c.loop-k.invariant.kept
+returns c = subst (λ (n : ℕ). AreLegsOf c.args.own.now (rates_of c.args.config.now) c.args.candidate n c.loop-k.self-inside.legs.items) (all c.loop-k.k c.args.most c.loop-k.auto.k-end c.loop-k-test.false) c.loop-k.invariant.kept

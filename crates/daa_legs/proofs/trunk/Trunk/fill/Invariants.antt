@@ -1,11 +1,12 @@
 use Rattle.std.proofs.Common.{◌≡◌}
 use Rattle.daa_config.specs.Settings.{rates_of}
 use Rattle.daa_legs.specs.Kept.{AreLegsOf}
+use Rattle.daa_legs.specs.OwnLegs.{place_on}
 use Rattle.daa_legs.proofs.trunk.Trunk.fill.Given as goal
 
--- the first k legs were taken and are kept
+-- the first k legs are kept, and the place is that of leg k
 abbrev pub invariant-loop-k : goal.invariant-loop-k
 invariant-loop-k l = record {
-  at : l.flight ≡ record { own = l.fn.own; rates = rates_of l.fn.config; candidate = l.fn.candidate; taken = l.k };
-  kept : AreLegsOf l.fn.own (rates_of l.fn.config) l.fn.candidate l.k l.self-inside.legs;
+  at : l.place ≡ place_on l.fn.own (rates_of l.fn.config) l.fn.candidate l.k;
+  kept : AreLegsOf l.fn.own (rates_of l.fn.config) l.fn.candidate l.k l.self-inside.legs.items;
 }
