@@ -75,13 +75,12 @@ impl Engine {
         // tells that its numbers are in range
         let _levels = config.levels();
         let words = vec![in alloc; 0u64; MOST_UNITS]?;
-        let trunks = Trunks::new(alloc)?;
         Ok(Engine {
             config,
             workers,
             board: Board::new(),
             words,
-            trunks,
+            trunks: Trunks::new(),
         })
     }
 

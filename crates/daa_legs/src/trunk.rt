@@ -1,6 +1,6 @@
 //! The legs of a flight, kept.
 
-ghost use Rattle.std.specs.Prelude.{◌≡◌, ◌≤◌, ◌<◌, IfOk, length, slice_index_or};
+ghost use Rattle.std.specs.Prelude.{◌≡◌, ◌≤◌, ◌<◌, length, slice_index_or};
 ghost use Rattle.daa_config.specs.Settings.{IsCandidateInRange, rates_of};
 ghost use Rattle.daa_state.specs.InRange.{IsOwnInRange};
 ghost use Rattle.daa_legs.specs.Kept.{AreLegsOf};
@@ -13,7 +13,6 @@ use daa_config::{Candidate, Config};
 use daa_fixed::{Flat, Solid};
 use daa_heading::velocity;
 use daa_state::Own;
-use std::alloc::{AllocError, Global};
 use std::marker::Model;
 
 /// How many legs a flight has.
@@ -29,10 +28,10 @@ const AT_REST: OwnLeg = OwnLeg {
     velocity: NOWHERE,
 };
 
-/// The first legs of a flight. Contracts see them as a list of 180. They stand on the heap, so that a trunk is moved without them.
+/// The first legs of a flight. Contracts see them as a list of 180.
 #[derive(Drop)]
 pub struct Trunk {
-    legs: Vec<OwnLeg>,
+    legs: [OwnLeg; LEGS],
 }
 
 impl Model for Trunk {
@@ -41,18 +40,19 @@ impl Model for Trunk {
 
     ghost Value = { List OwnLeg };
 
-    ghost view = { λ t. t.legs.items };
+    ghost view = { λ t. t.legs };
 
-    ghost invariant = { λ t. length t.legs.items ≡ 180 };
+    ghost invariant = { λ t. length t.legs ≡ 180 };
 }
 
 impl Trunk {
-    /// Room for a flight's legs. `AllocError` says that there was no memory for it.
-    pub fn new(alloc: Global) -> Result<Trunk, AllocError>
-        ensures { IfOk result (λ trunk. length trunk ≡ 180) }
+    /// Room for a flight's legs.
+    pub fn new() -> Trunk
+        ensures { length result ≡ 180 }
     {
-        let legs = vec![in alloc; AT_REST; LEGS]?;
-        Ok(Trunk { legs })
+        Trunk {
+            legs: [AT_REST; LEGS],
+        }
     }
 
     /// Keeps the first `most` legs of a candidate's flight.

@@ -55,7 +55,7 @@ fn trunks_of(alloc: Global, config: &Config, picture: &Picture) -> Result<Trunks
     requires { IsPictureInRange picture.now }
     ensures { IfOk result (λ trunks. AreTrunksOf config.now picture.now.own trunks) }
 {
-    let mut trunks = Trunks::new(alloc)?;
+    let mut trunks = Trunks::new();
     trunks.fill(&picture.own, config);
     Ok(trunks)
 }

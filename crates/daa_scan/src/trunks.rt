@@ -12,7 +12,6 @@ ghost use Rattle.daa_scan.specs.Trunks.{trunk_in, AreTrunksOf, IsAhead};
 use daa_config::{Candidate, Config, Kind};
 use daa_legs::Trunk;
 use daa_state::Own;
-use std::alloc::{AllocError, Global};
 
 /// The kept flights: half a turn to the right and to the left, and those to the greatest and the least value of the other kinds.
 #[derive(Drop)]
@@ -28,18 +27,18 @@ pub struct Trunks {
 }
 
 impl Trunks {
-    /// Room for them. `AllocError` says that there was no memory for it.
-    pub fn new(alloc: Global) -> Result<Trunks, AllocError> {
-        Ok(Trunks {
-            right: Trunk::new(alloc)?,
-            left: Trunk::new(alloc)?,
-            faster: Trunk::new(alloc)?,
-            slower: Trunk::new(alloc)?,
-            climbing: Trunk::new(alloc)?,
-            descending: Trunk::new(alloc)?,
-            higher: Trunk::new(alloc)?,
-            lower: Trunk::new(alloc)?,
-        })
+    /// Room for them.
+    pub fn new() -> Trunks {
+        Trunks {
+            right: Trunk::new(),
+            left: Trunk::new(),
+            faster: Trunk::new(),
+            slower: Trunk::new(),
+            climbing: Trunk::new(),
+            descending: Trunk::new(),
+            higher: Trunk::new(),
+            lower: Trunk::new(),
+        }
     }
 
     /// Keeps the flights that lead, as far as any level looks ahead.

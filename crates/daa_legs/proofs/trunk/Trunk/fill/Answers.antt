@@ -32,11 +32,11 @@ loop-k-preserved c =
     let leg = leg_kept c.args.own.now (rates_of c.args.config.now) c.args.candidate c.rates-rates.result c.loop-k.k c.loop-k.place c.velocity_from-velocity.result c.rates-rates.ensures.value c.loop-k.invariant.at c.velocity_from-velocity.ensures in
     record {
       at = place_after c.args.own.now (rates_of c.args.config.now) c.args.candidate c.loop-k.k c.loop-k.place c.velocity_from-velocity.result c.sum-place.result leg c.sum-place.ensures;
-      kept = kept_more c.args.own.now (rates_of c.args.config.now) c.args.candidate c.loop-k.k c.loop-k.self-inside.legs.items (record { place = c.loop-k.place; velocity = c.velocity_from-velocity.result }) (omega (arith, c.loop-k-test.true, c.requires.most)) c.loop-k.invariant.kept leg;
+      kept = kept_more c.args.own.now (rates_of c.args.config.now) c.args.candidate c.loop-k.k c.loop-k.self-inside.legs (record { place = c.loop-k.place; velocity = c.velocity_from-velocity.result }) (omega (arith, c.loop-k-test.true, c.requires.most)) c.loop-k.invariant.kept leg;
     }
 
 all : (k most : ℕ) → k ≤ most → most ≤ k → k ≡ most
 all k most a b = omega (arith, a, b)
 
 pub returns : goal.returns
-returns c = subst (λ (n : ℕ). AreLegsOf c.args.own.now (rates_of c.args.config.now) c.args.candidate n c.loop-k.self-inside.legs.items) (all c.loop-k.k c.args.most c.loop-k.auto.k-end c.loop-k-test.false) c.loop-k.invariant.kept
+returns c = subst (λ (n : ℕ). AreLegsOf c.args.own.now (rates_of c.args.config.now) c.args.candidate n c.loop-k.self-inside.legs) (all c.loop-k.k c.args.most c.loop-k.auto.k-end c.loop-k-test.false) c.loop-k.invariant.kept

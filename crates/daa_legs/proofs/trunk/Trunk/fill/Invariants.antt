@@ -8,5 +8,5 @@ use Rattle.daa_legs.proofs.trunk.Trunk.fill.Given as goal
 abbrev pub invariant-loop-k : goal.invariant-loop-k
 invariant-loop-k l = record {
   at : l.place ≡ place_on l.fn.own (rates_of l.fn.config) l.fn.candidate l.k;
-  kept : AreLegsOf l.fn.own (rates_of l.fn.config) l.fn.candidate l.k l.self-inside.legs.items;
+  kept : AreLegsOf l.fn.own (rates_of l.fn.config) l.fn.candidate l.k l.self-inside.legs;
 }
