@@ -3,6 +3,7 @@ use Rattle.std.proofs.Common.{◌≡◌, ◌↔◌, ⊎_elim, ℕ, ◌+◌, ◌<
 use Rattle.std.proofs.lemmas.Bool.{cases_lt}
 use Rattle.std.specs.Prelude.{IsTrue, slice_index_or}
 use Rattle.daa_fixed.specs.declared.Leg.{Leg}
+use Rattle.daa_fixed.specs.declared.Solid.{Solid}
 use Rattle.daa_fixed.specs.Time.{HoldsSometime}
 use Rattle.daa_taumod.specs.declared.Volume.{Volume}
 use Rattle.daa_taumod.specs.Volume.{Violates}
@@ -15,7 +16,7 @@ use Rattle.daa_state.specs.InRange.{IsOwnInRange}
 use Rattle.daa_legs.specs.declared.own_leg.OwnLeg.{OwnLeg}
 use Rattle.daa_legs.specs.Branch.{FliesOn}
 use Rattle.daa_legs.specs.Kept.{AreLegsOf}
-use Rattle.daa_legs.specs.OwnLegs.{own_leg, IsOwnLegInRange}
+use Rattle.daa_legs.specs.OwnLegs.{place_on, own_leg, IsOwnLegInRange}
 use Rattle.daa_legs.specs.Relative.{relative_for}
 use Rattle.daa_legs.specs.Runs.{IsRunOf, MeetsBetween}
 use Rattle.daa_legs.specs.Meeting.{ViolatesOn}
@@ -40,7 +41,7 @@ module _ (own : Own) (rates : Rates) (candidate : Candidate) where
 
   -- straight from a leg on is so from a later one on
   pub straight_later : (n k : ℕ) → n ≤ k → FliesOn own rates candidate n → FliesOn own rates candidate k
-  straight_later n k le on = record { same = λ j h. on.same j (omega (arith, le, h)) ∙ sym (on.same k le) }
+  straight_later n k le on = record { there = λ j h. on.there j (omega (arith, le, h)) }
 
 module _ (settings : Settings) (own : Own) (candidate : Candidate) (aircraft : Traffic) (volume : Volume) where
   -- a test of one leg
@@ -54,7 +55,9 @@ module _ (settings : Settings) (own : Own) (candidate : Candidate) (aircraft : T
       → (IsRunOf own (rates_of settings) candidate k (record { place = rest.place; velocity = rest.velocity; secs = secs }) → HoldsSometime rel.secs (Violates rel volume) ↔ MeetsBetween settings own candidate aircraft volume k (k + secs))
       → IsTrue hit ↔ HoldsSometime rel.secs (Violates rel volume) → IsTrue hit ↔ MeetsBetween settings own candidate aircraft volume k m
   rest_tested k secs m rest rel hit e on s seconds tests =
-      let run = subst (λ (l : OwnLeg). IsRunOf own (rates_of settings) candidate k (record { place = l.place; velocity = l.velocity; secs = secs })) (sym e) (straight_run own (rates_of settings) candidate k secs on) in
+      let there = subst (λ (v : Solid). IsRunOf own (rates_of settings) candidate k (record { place = place_on own (rates_of settings) candidate k; velocity = v; secs = secs })) (sym (on.there k (omega arith)))
+          (straight_run own (rates_of settings) candidate k secs on) in
+      let run = subst (λ (l : OwnLeg). IsRunOf own (rates_of settings) candidate k (record { place = l.place; velocity = l.velocity; secs = secs })) (sym e) there in
       let o = seconds run in
       subst (λ (n : ℕ). IsTrue hit ↔ MeetsBetween settings own candidate aircraft volume k n) s ((λ t. o.0 (tests.0 t)), (λ v. tests.1 (o.1 v)))
 

@@ -1,7 +1,7 @@
 //! The same walk along a flight whose legs are kept: what is asked of it more than once is flown
 //! once. Where the flight is straight the rest is tested as one leg.
 
-ghost use Rattle.std.specs.Prelude.{◌≡◌, ◌≤◌, ◌<◌, ◌+◌, ◌↔◌, IsTrue};
+ghost use Rattle.std.specs.Prelude.{◌≡◌, ◌≤◌, ◌<◌, ◌↔◌, IsTrue};
 ghost use Rattle.daa_taumod.specs.Volume.{IsVolumeInRange};
 ghost use Rattle.daa_config.specs.Settings.{IsCandidateInRange, rates_of};
 ghost use Rattle.daa_state.specs.InRange.{IsOwnInRange, IsTrafficInRange};
@@ -17,14 +17,14 @@ use daa_state::{Own, Traffic};
 use daa_taumod::Volume;
 
 /// What `meets_between` answers, of a candidate whose first `upto` legs are kept and which keeps one
-/// velocity after leg `leaves`: whether its flight violates the volume round the aircraft at some
+/// velocity from leg `settles` on: whether its flight violates the volume round the aircraft at some
 /// time of a leg from `first` on, before `upto`, which is at most 180.
 pub fn meets_along(
     config: &Config,
     own: &Own,
     candidate: Candidate,
     legs: &Trunk,
-    leaves: u32,
+    settles: u32,
     aircraft: &Traffic,
     volume: &Volume,
     first: u32,
@@ -34,7 +34,7 @@ pub fn meets_along(
     requires candidate { IsCandidateInRange candidate }
     requires upto { upto ≤ 180 }
     requires legs { AreLegsOf own.now (rates_of config.now) candidate upto legs.now }
-    requires straight { FliesOn own.now (rates_of config.now) candidate (leaves + 1) }
+    requires straight { FliesOn own.now (rates_of config.now) candidate settles }
     requires aircraft { IsTrafficInRange aircraft.now }
     requires volume { IsVolumeInRange volume.now }
     ensures { IsTrue result
@@ -42,9 +42,9 @@ pub fn meets_along(
 {
     let mut k = first;
     while k < upto {
-        if k > leaves {
+        if k >= settles {
             return meets_straight(
-                config, own, candidate, legs, leaves, aircraft, volume, k, upto,
+                config, own, candidate, legs, settles, aircraft, volume, k, upto,
             );
         }
         if violates_on(config, own, candidate, legs, aircraft, volume, k, upto) {
@@ -61,7 +61,7 @@ fn meets_straight(
     own: &Own,
     candidate: Candidate,
     legs: &Trunk,
-    leaves: u32,
+    settles: u32,
     aircraft: &Traffic,
     volume: &Volume,
     k: u32,
@@ -72,8 +72,8 @@ fn meets_straight(
     requires k { k < upto }
     requires upto { upto ≤ 180 }
     requires legs { AreLegsOf own.now (rates_of config.now) candidate upto legs.now }
-    requires straight { FliesOn own.now (rates_of config.now) candidate (leaves + 1) }
-    requires after { leaves < k }
+    requires straight { FliesOn own.now (rates_of config.now) candidate settles }
+    requires after { settles ≤ k }
     requires aircraft { IsTrafficInRange aircraft.now }
     requires volume { IsVolumeInRange volume.now }
     ensures { IsTrue result

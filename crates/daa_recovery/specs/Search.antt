@@ -10,11 +10,11 @@ use Rattle.daa_recovery.specs.Recovery.{Recovers, RecoversAt}
 use Rattle.daa_recovery.specs.declared.recovery.Recovery.{Recovery}
 use Rattle.daa_recovery.specs.declared.course.Course.{Course}
 
--- its legs up to the horizon are kept, and after leg `leaves` it keeps one velocity
+-- its legs up to the horizon are kept, and from leg `settles` on it keeps one velocity
 pub record IsCourse (p : Prospect) (course : Course) : Type 0 where
   pub in_range : IsCandidateInRange course.candidate
   pub legs : AreLegsOf p.picture.own (rates_of p.settings) course.candidate p.horizon course.legs
-  pub straight : FliesOn p.picture.own (rates_of p.settings) course.candidate (course.leaves + 1)
+  pub straight : FliesOn p.picture.own (rates_of p.settings) course.candidate course.settles
 
 -- the time that the next candidate has to be below
 abbrev pub bound_of : Prospect → Option Recovery → ℕ

@@ -120,7 +120,7 @@ impl<'a> Outlook<'a> {
         Course {
             candidate,
             legs,
-            leaves: branch.leaves,
+            settles: branch.settles,
         }
     }
 
@@ -214,7 +214,7 @@ impl<'a> Outlook<'a> {
             &self.picture.own,
             course.candidate,
             &course.legs,
-            course.leaves,
+            course.settles,
             aircraft,
             volume,
             first,

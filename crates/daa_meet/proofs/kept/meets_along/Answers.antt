@@ -6,8 +6,8 @@ use Rattle.daa_meet.proofs.kept.meets_along.Goals as goal
 pub loop-k-init : goal.loop-k-init
 loop-k-init c = record { free = λ j from h. absurd (omega (arith, from, h)); from = omega arith }
 
-pub returns-then-k-leaves : goal.returns-then-k-leaves
-returns-then-k-leaves c =
+pub returns-then-k-settles : goal.returns-then-k-settles
+returns-then-k-settles c =
     let r = free_rest c.args.config.now c.args.own.now c.args.candidate c.args.aircraft.now c.args.volume.now c.args.first c.args.upto c.loop-k.k c.loop-k.invariant.from c.loop-k.invariant.free in
     ((λ t. r.0 (c.meets_straight.ensures.0 t)), (λ m. c.meets_straight.ensures.1 (r.1 m)))
 

@@ -17,5 +17,5 @@ whole k upto h = omega (arith, h)
 pub returns : goal.returns
 returns c = rest_tested c.args.config.now c.args.own.now c.args.candidate c.args.aircraft.now c.args.volume.now c.args.k (c.args.upto - c.args.k) c.args.upto c.leg-leg.result.now c.relative_run.result c.is_hit.result
     (kept_is c.args.own.now (rates_of c.args.config.now) c.args.candidate c.args.upto c.args.k c.args.legs.now c.leg-leg.result.now c.requires.legs c.requires.k c.leg-leg.ensures)
-    (straight_later c.args.own.now (rates_of c.args.config.now) c.args.candidate (c.args.leaves + 1) c.args.k (omega (arith, c.requires.after)) c.requires.straight)
+    (straight_later c.args.own.now (rates_of c.args.config.now) c.args.candidate c.args.settles c.args.k c.requires.after c.requires.straight)
     (whole c.args.k c.args.upto c.requires.k) (c.relative_run.ensures.seconds c.args.config.now c.args.own.now c.args.candidate c.args.volume.now) c.is_hit.ensures

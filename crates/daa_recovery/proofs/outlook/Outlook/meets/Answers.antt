@@ -21,7 +21,7 @@ meets_along-requires-clause-legs c =
 
 pub meets_along-requires-clause-straight : goal.meets_along-requires-clause-straight
 meets_along-requires-clause-straight c =
-    subst (λ (p : Prospect). FliesOn p.picture.own (rates_of p.settings) c.args.course.now.candidate (c.args.course.now.leaves + 1)) (sym c.self.view_is) c.requires.course.straight
+    subst (λ (p : Prospect). FliesOn p.picture.own (rates_of p.settings) c.args.course.now.candidate c.args.course.now.settles) (sym c.self.view_is) c.requires.course.straight
 
 pub returns : goal.returns
 returns c =
