@@ -583,7 +583,8 @@ fn sinks_that_fail(rt: HostRuntime) -> Result<(), Fail> {
         let mut out = sink(alloc, room, fails)?;
         let said = engine.report(&rt, alloc, &picture, &mut out, &Open);
         assert_eq!(rt; said, Err(SinkFault));
-        assert_eq!(rt; out.taken(), &TOGETHER.as_bytes()[..taken]);
+        assert_eq!(rt; out.taken().len(), taken);
+        assert!(rt; TOGETHER.as_bytes().starts_with(out.taken()));
     }
     let mut out = sink(alloc, 213, &[])?;
     let said = engine.report(&rt, alloc, &picture, &mut out, &Open);
