@@ -5,6 +5,7 @@ use daa_config::{Kind, Resolution};
 use daa_outside::MemSink;
 use daa_state::Id;
 use std::alloc::{AllocError, Global};
+use std::error::Error;
 use std::test::Fail;
 
 fn sink(alloc: Global, fails: &[u64]) -> Result<MemSink, AllocError> {
@@ -105,6 +106,18 @@ fn a_full_page_is_written_first(rt: HostRuntime) -> Result<(), Fail> {
     }
     // 269 lines of 15 bytes leave less than 64 bytes of 4096
     assert_eq!(rt; out.taken().len(), 269 * 15);
+    Ok(())
+}
+
+/// The sentence of an error, as a caller prints it.
+fn sentence_of<E: Error>(alloc: Global, error: E) -> Result<String, AllocError> {
+    format!(in alloc; "{error}")
+}
+
+#[test]
+fn the_fault_has_a_sentence(rt: HostRuntime) -> Result<(), Fail> {
+    let sentence = sentence_of(rt.alloc(), SinkFault)?;
+    assert_eq!(rt; sentence.as_str(), "the sink failed before it took the whole text");
     Ok(())
 }
 

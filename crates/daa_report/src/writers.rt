@@ -7,9 +7,11 @@ use crate::line::Line;
 use daa_config::{Kind, Resolution};
 use daa_outside::{Failed, Sink};
 use daa_state::Id;
+use thiserror::Error;
 
 /// The sink failed: its count of faults rose in the call, and it took no more than a beginning of the text.
-#[derive(Clone, Copy, Debug, PartialEq, Eq)]
+#[derive(Clone, Copy, Debug, PartialEq, Eq, Error)]
+#[error("the sink failed before it took the whole text")]
 pub struct SinkFault;
 
 /// Writes the whole piece, by as many writes as it takes.
