@@ -3,30 +3,38 @@ ghost use Rattle.std.specs.Prelude.{◌≡◌};
 ghost use Rattle.daa_config.specs.declared.fault.ConfigFault.TheVariants.{NoMemory};
 
 use std::alloc::{AllocError, AllocFailed};
-use std::error::Error;
-use std::fmt;
+use thiserror::Error;
 
 /// Why a configuration is refused. Where several faults apply, the one of least number is told,
 /// wherever in the text it applies. `NoMemory` says nothing of the text.
-#[derive(Clone, Copy, Debug, PartialEq, Eq)]
+#[derive(Clone, Copy, Debug, PartialEq, Eq, Error)]
 pub enum ConfigFault {
     /// The text has more than 65536 bytes.
+    #[error("fault 1: the text is longer than 65536 bytes")]
     TooLong,
     /// The text is not UTF-8, or no document of TOML.
+    #[error("fault 2: the text is no TOML document")]
     NotToml,
     /// A table has a key that is not listed.
+    #[error("fault 3: a key is unknown")]
     UnknownKey,
     /// A table lacks a key that it must have.
+    #[error("fault 4: a key is missing")]
     MissingKey,
     /// A number's place holds no whole number, `gs`, `vs` or `alt` is no table, or `level` is no list of tables.
+    #[error("fault 5: a value is no whole number, or no table")]
     NotNumber,
     /// A number is outside its range, `min` is above `max`, or `track_step` does not divide 360.
+    #[error("fault 6: a number is out of its range")]
     OutOfRange,
     /// There is no level, there are more than four, or `resolve` is above their number.
+    #[error("fault 7: there is no level, there are too many, or `resolve` is above them")]
     Levels,
     /// A kind has more than 512 candidates.
+    #[error("fault 8: a kind has too many candidates")]
     TooMany,
     /// Memory ran out.
+    #[error("memory ran out")]
     NoMemory,
 }
 
@@ -50,25 +58,6 @@ impl ConfigFault {
         }
     }
 }
-
-impl fmt::Display for ConfigFault {
-    fn fmt<W: fmt::Write>(&self, f: &mut fmt::Formatter<W>) -> fmt::Result {
-        f.write_str(match self {
-            ConfigFault::TooLong => "the text is longer than 65536 bytes",
-            ConfigFault::NotToml => "the text is no TOML document",
-            ConfigFault::UnknownKey => "a key is unknown",
-            ConfigFault::MissingKey => "a key is missing",
-            ConfigFault::NotNumber => "a value is no whole number, or no table",
-            ConfigFault::OutOfRange => "a number is out of its range",
-            ConfigFault::Levels =>
-                "there is no level, there are too many, or `resolve` is above them",
-            ConfigFault::TooMany => "a kind has too many candidates",
-            ConfigFault::NoMemory => "memory ran out",
-        })
-    }
-}
-
-impl Error for ConfigFault {}
 
 impl From<AllocError> for ConfigFault {
     ghost from_gives = { λ _ e. e ≡ NoMemory };

@@ -6,12 +6,14 @@ ghost use Rattle.daa_judge.specs.Sheets.{IsSheet};
 use daa_outside::{Failed, Sink};
 use std::alloc::Global;
 use std::marker::Model;
+use thiserror::Error;
 
 /// How many bytes a sheet has room for.
 const ROOM: usize = 130177;
 
 /// There was no memory for a sheet.
-#[derive(Clone, Copy, Debug, PartialEq, Eq)]
+#[derive(Clone, Copy, Debug, PartialEq, Eq, Error)]
+#[error("there was no memory for a sheet")]
 pub struct NoMemory;
 
 /// A sheet with room for 130177 bytes.

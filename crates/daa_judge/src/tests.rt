@@ -1,7 +1,9 @@
 //! Comparing over a source in memory, and a sheet.
 
-use super::{Found, Matching, Sheet};
+use super::{Found, Matching, NoMemory, Sheet};
 use daa_outside::{Failed, MemSource, Sink};
+use std::alloc::{AllocError, Global};
+use std::error::Error;
 use std::process::Abort;
 use std::test::Fail;
 
@@ -74,6 +76,18 @@ fn a_sheet_takes_what_it_has_room_for(rt: HostRuntime) -> Result<(), Fail> {
     sheet.clear();
     assert_eq!(rt; sheet.write(b"x"), Ok(1));
     assert_eq!(rt; sheet.text(), b"x".as_slice());
+    Ok(())
+}
+
+/// The sentence of an error, as a caller prints it.
+fn sentence_of<E: Error>(alloc: Global, error: E) -> Result<String, AllocError> {
+    format!(in alloc; "{error}")
+}
+
+#[test]
+fn the_fault_has_a_sentence(rt: HostRuntime) -> Result<(), Fail> {
+    let sentence = sentence_of(rt.alloc(), NoMemory)?;
+    assert_eq!(rt; sentence.as_str(), "there was no memory for a sheet");
     Ok(())
 }
 

@@ -14,7 +14,7 @@ use Rattle.daa_config.proofs.CandidateLemmas.{length_candidates, few_candidates}
 use Rattle.daa_state.specs.InRange.{IsPictureInRange}
 use Rattle.daa_state.specs.Picture.{aircraft_of}
 use Rattle.daa_scan.specs.Situation.{Situation, MeetsAt}
-use Rattle.daa_scan.specs.Units.{group_count, index_in, IsWordOf, AreWordsOf}
+use Rattle.daa_scan.specs.Units.{group_count, index_in, IsWordOf, AreWordsOf, IsWordOfUnit}
 use Rattle.daa_scan.specs.Packed.{entry_at, packed_from, packed_word, at_least_one, word_of, values_from, words_of, places_in_reach}
 use Rattle.daa_scan.proofs.Masking.{IsEntry, entry_there, entry_past}
 use Rattle.daa_scan.proofs.Numbers.{are_in_reach, place_within}
@@ -269,3 +269,22 @@ word_found s a p unit at group h ea eg =
     let here : at < length (aircraft_of s.picture) = subst (λ (n : ℕ). n < length (aircraft_of s.picture)) (sym ea) (place_within s (unit / group_count s.settings) i) in
     let inside : group < group_count s.settings = subst (λ (n : ℕ). n < group_count s.settings) (sym eg) (unit_group s unit) in
     sym (word_kept s a p at here group inside) ∙ (λ i. at_least_one (packed_word s (ea i) (eg i))) ∙ sym (word_at s unit l ∙ word_shown s unit)
+
+-- the same, told by the list and by the field
+pub word_told : (own s : Situation) → own ≡ s → IsAccepted own.settings → IsPictureInRange own.picture → (groups unit at word : ℕ) → groups ≡ group_count own.settings
+    → unit < length (words_of s) → at ≡ slice_index (places_in_reach s) (unit / groups) → word ≡ packed_word s at (unit % groups)
+    → (word ≡ slice_index (words_of s) unit) × IsWordOfUnit s unit word
+word_told own s same a p groups unit at word counted h ea ew =
+    let a' : IsAccepted s.settings = subst (λ (t : Situation). IsAccepted t.settings) same a in
+    let p' : IsPictureInRange s.picture = subst (λ (t : Situation). IsPictureInRange t.picture) same p in
+    let g : groups ≡ group_count s.settings = counted ∙ ap (λ (t : Situation). group_count t.settings) same in
+    let e : word ≡ slice_index (words_of s) unit = ew ∙ word_found s a' p' unit at (unit % groups) h (ea ∙ ap (λ (n : ℕ). slice_index (places_in_reach s) (unit / n)) g) (ap (λ (n : ℕ). unit % n) g) in
+    let w : AreWordsOf s (words_of s) = are_words s a' p' in (
+      e,
+      record {
+        places = places_in_reach s;
+        in_reach = are_in_reach s;
+        there = unit_place s unit (subst (λ (n : ℕ). unit < n) (words_count s) h);
+        is = subst (λ (v : ℕ). IsWordOf s (slice_index (places_in_reach s) (unit / group_count s.settings)) (unit % group_count s.settings) v) (sym e) (w.each unit h);
+      },
+    )

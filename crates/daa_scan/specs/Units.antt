@@ -42,3 +42,10 @@ pub record AreWordsOf (s : Situation) (words : List ℕ) : Type 0 where
   pub in_reach : AreInReach s places
   pub count : length words ≡ group_count s.settings * length places
   pub each : (unit : ℕ) → unit < length words → IsWordOf s (slice_index places (unit / group_count s.settings)) (unit % group_count s.settings) (slice_index words unit)
+
+-- the word is that of a unit: of group u mod g and the aircraft that stands at place u / g among those in reach
+pub record IsWordOfUnit (s : Situation) (unit word : ℕ) : Type 0 where
+  pub places : List ℕ
+  pub in_reach : AreInReach s places
+  pub there : unit / group_count s.settings < length places
+  pub is : IsWordOf s (slice_index places (unit / group_count s.settings)) (unit % group_count s.settings) word

@@ -178,7 +178,7 @@ impl<'a> Scene<'a> {
 
 impl<'a> Answers for Scene<'a> {
     ghost use Rattle.daa_scan.specs.Reach.{NoneIsMetOutOfReach};
-    ghost use Rattle.daa_scan.specs.Units.{most_units, AreWordsOf};
+    ghost use Rattle.daa_scan.specs.Units.{most_units, AreWordsOf, IsWordOfUnit};
     ghost use Rattle.daa_scan.specs.Packed.{words_of, words_real};
 
     ghost answers = { words_of };
@@ -197,7 +197,10 @@ impl<'a> Answers for Scene<'a> {
     /// The word of a unit, which is group `unit % groups` of the aircraft that stands at place `unit / groups` among those
     /// in reach, in input order: five bits for each of twelve candidates, the first the lowest. The lowest of the five says
     /// that the candidate is there, the others are the levels from 1 to 4 that it meets the aircraft at.
-    fn word(&self, unit: u32) -> u64 {
+    fn word(&self, unit: u32) -> u64
+        ensures value { result ≡ slice_index (words_of self.now) unit }
+        ensures field { IsWordOfUnit self.now unit result }
+    {
         let aircraft = self.place_in_list(unit / self.groups);
         self.word_of_group(aircraft, unit % self.groups)
     }

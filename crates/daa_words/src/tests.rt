@@ -2,6 +2,7 @@
 
 use crate::{Order, Task, WordsFault, daidalus, read_words};
 use std::alloc::{AllocError, Global};
+use std::error::Error;
 use std::test::Fail;
 
 /// The words as a program is given them.
@@ -220,6 +221,31 @@ fn words_that_ask_for_no_exercise(rt: HostRuntime) -> Result<(), Fail> {
 fn the_command_has_the_programs_name(rt: HostRuntime) -> Result<(), Fail> {
     let command = daidalus(rt.alloc())?;
     assert_eq!(rt; command.get_name(), "daidalus");
+    Ok(())
+}
+
+/// The sentence of an error, as a caller prints it.
+fn sentence_of<E: Error>(alloc: Global, error: E) -> Result<String, AllocError> {
+    format!(in alloc; "{error}")
+}
+
+static SENTENCES: [(WordsFault, &str); 2] = [
+    (
+        WordsFault::NotTaken,
+        "the command line does not take the words",
+    ),
+    (
+        WordsFault::NoMemory,
+        "there was no memory for the command line",
+    ),
+];
+
+#[test]
+fn each_fault_has_a_sentence(rt: HostRuntime) -> Result<(), Fail> {
+    for (fault, wanted) in SENTENCES {
+        let sentence = sentence_of(rt.alloc(), fault)?;
+        assert_eq!(rt; sentence.as_str(), wanted);
+    }
     Ok(())
 }
 

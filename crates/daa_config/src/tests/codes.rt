@@ -2,7 +2,8 @@
 
 use crate::examples::{FOUR_LEVELS, LARGEST_VALUES, ONE_LEVEL, THREE_LEVELS};
 use crate::{ConfigFault, read};
-use std::alloc::Global;
+use std::alloc::{AllocError, Global};
+use std::error::Error;
 use std::process::Abort;
 use std::test::Fail;
 
@@ -411,6 +412,50 @@ fn codes_of_faults(rt: HostRuntime) {
     assert_eq!(rt; ConfigFault::TooLong.code(), Some(1));
     assert_eq!(rt; ConfigFault::TooMany.code(), Some(8));
     assert_eq!(rt; ConfigFault::NoMemory.code(), None);
+}
+
+/// The sentence of an error, as a caller prints it.
+fn sentence_of<E: Error>(alloc: Global, error: E) -> Result<String, AllocError> {
+    format!(in alloc; "{error}")
+}
+
+static SENTENCES: [(ConfigFault, &str); 9] = [
+    (
+        ConfigFault::TooLong,
+        "fault 1: the text is longer than 65536 bytes",
+    ),
+    (
+        ConfigFault::NotToml,
+        "fault 2: the text is no TOML document",
+    ),
+    (ConfigFault::UnknownKey, "fault 3: a key is unknown"),
+    (ConfigFault::MissingKey, "fault 4: a key is missing"),
+    (
+        ConfigFault::NotNumber,
+        "fault 5: a value is no whole number, or no table",
+    ),
+    (
+        ConfigFault::OutOfRange,
+        "fault 6: a number is out of its range",
+    ),
+    (
+        ConfigFault::Levels,
+        "fault 7: there is no level, there are too many, or `resolve` is above them",
+    ),
+    (
+        ConfigFault::TooMany,
+        "fault 8: a kind has too many candidates",
+    ),
+    (ConfigFault::NoMemory, "memory ran out"),
+];
+
+#[test]
+fn each_fault_has_a_sentence(rt: HostRuntime) -> Result<(), Fail> {
+    for (fault, wanted) in SENTENCES {
+        let sentence = sentence_of(rt.alloc(), fault)?;
+        assert_eq!(rt; sentence.as_str(), wanted);
+    }
+    Ok(())
 }
 
 /// The end of the text.

@@ -3,7 +3,7 @@
 use crate::Engine;
 use crate::tests::{NORTH, engine_of, engine_of_workers, picture_in};
 use daa_config::examples::{ONE_LEVEL, THREE_LEVELS};
-use daa_outside::{Gate, Open};
+use daa_outside::{Gate, Meeting, Open};
 use daa_state::Picture;
 use std::process::Abort;
 use std::sync::atomic::AtomicU64;
@@ -85,61 +85,18 @@ fn the_gate_is_passed_once_for_each_unit_of_several_workers(rt: HostRuntime) -> 
     Ok(())
 }
 
-/// How long a worker is held at most.
-const TURNS: u32 = 10_000_000;
-
-/// A gate that holds each of the first four workers at its first unit until three of them have come.
-#[derive(Drop)]
-struct Crowd {
-    units: [AtomicU64; 4],
-    workers: AtomicU64,
-}
-
-impl Crowd {
-    fn new() -> Crowd {
-        Crowd {
-            units: [
-                AtomicU64::new(0),
-                AtomicU64::new(0),
-                AtomicU64::new(0),
-                AtomicU64::new(0),
-            ],
-            workers: AtomicU64::new(0),
-        }
-    }
-
-    fn has_three(&self) -> bool {
-        self.workers.load(SeqCst) >= 3
-    }
-}
-
-impl Gate for Crowd {
-    fn pass(&self, worker: u32, _unit: u32) {
-        let is_first = self
-            .units
-            .get(worker as usize)
-            .is_some_and(|units| units.fetch_add(1, SeqCst) == 0);
-        if is_first {
-            self.workers.fetch_add(1, SeqCst);
-            for _ in 0..TURNS {
-                if self.has_three() {
-                    return;
-                }
-            }
-        }
-    }
-}
-
-/// As a worker may find nothing to steal by chance, the meeting is tried three times.
+/// As a worker may find nothing to steal by chance, the meeting is tried five times.
 #[test]
 fn three_of_four_workers_meet_at_the_gate(rt: HostRuntime) -> Result<(), Fail> {
     let picture = picture_in(&EXAMPLE_MOMENT).expect(&rt, "the lines of a moment");
     let mut met = false;
-    for _ in 0..3 {
-        let mut engine = engine_of_workers(&rt, THREE_LEVELS, &[], 4)?;
-        let crowd = Crowd::new();
-        engine.decide(&rt, rt.alloc(), &picture, &crowd);
-        met = met || crowd.has_three();
+    for _ in 0..5 {
+        if !met {
+            let mut engine = engine_of_workers(&rt, THREE_LEVELS, &[], 4)?;
+            let meeting = Meeting::of(&rt, 3);
+            engine.decide(&rt, rt.alloc(), &picture, &meeting);
+            met = meeting.has_met();
+        }
     }
     assert!(rt; met);
     Ok(())

@@ -2,33 +2,26 @@
 
 use super::{ONE_LEVEL, shelf_with, strings, whole};
 use crate::run;
-use daa_outside::{Gate, MemSink, MemSource, Open};
+use daa_outside::{Gate, Meeting, MemSink, MemSource, Open};
 use std::process::Abort;
 use std::sync::atomic::AtomicU64;
 use std::sync::atomic::Ordering::SeqCst;
 use std::test::Fail;
 use std::thread::Threads;
+use std::time::Clock;
 
-/// How long a worker is held at most.
-const TURNS: u32 = 10_000_000;
-
-/// A gate that holds worker 0 at its first unit until another worker has come, and the first other worker until worker 0 has
-/// come. It counts who passes for each of the first four units, and for all others.
+/// A gate that counts who passes for each of the first four units, and for all others, and at which two workers meet.
 #[derive(Drop)]
-struct Meeting {
-    zero: AtomicU64,
-    others: AtomicU64,
-    met: AtomicU64,
+struct Watched<C> {
+    meeting: Meeting<C>,
     passes: [AtomicU64; 4],
     beyond: AtomicU64,
 }
 
-impl Meeting {
-    fn new() -> Meeting {
-        Meeting {
-            zero: AtomicU64::new(0),
-            others: AtomicU64::new(0),
-            met: AtomicU64::new(0),
+impl<C: Clock> Watched<C> {
+    fn by(clock: C) -> Self {
+        Watched {
+            meeting: Meeting::of(clock, 2),
             passes: [
                 AtomicU64::new(0),
                 AtomicU64::new(0),
@@ -39,41 +32,19 @@ impl Meeting {
         }
     }
 
-    /// The first that comes on one side waits until some come on the other.
-    fn wait_for(&self, own: &AtomicU64, other: &AtomicU64) {
-        if own.fetch_add(1, SeqCst) > 0 {
-            return;
-        }
-        for _ in 0..TURNS {
-            if other.load(SeqCst) > 0 {
-                self.met.fetch_add(1, SeqCst);
-                return;
-            }
-        }
-    }
-
-    /// Each of the four units was passed for once, and no other.
-    fn was_passed_once_for_each(&self) -> bool {
-        self.passes.iter().all(|count| count.load(SeqCst) == 1) && self.beyond.load(SeqCst) == 0
-    }
-
-    /// Worker 0 and another were held until the other came.
-    fn was_met(&self) -> bool {
-        self.met.load(SeqCst) == 2
+    /// Each of the four units was passed for so often, and no other.
+    fn was_passed(&self, times: u64) -> bool {
+        self.passes.iter().all(|count| count.load(SeqCst) == times) && self.beyond.load(SeqCst) == 0
     }
 }
 
-impl Gate for Meeting {
+impl<C: Clock + Sync> Gate for Watched<C> {
     fn pass(&self, worker: u32, unit: u32) {
         self.passes
             .get(unit as usize)
             .unwrap_or(&self.beyond)
             .fetch_add(1, SeqCst);
-        if worker == 0 {
-            self.wait_for(&self.zero, &self.others);
-        } else {
-            self.wait_for(&self.others, &self.zero);
-        }
+        self.meeting.pass(worker, unit);
     }
 }
 
@@ -123,16 +94,18 @@ fn expect_four<R: Abort + Threads + Sync + AllocGlobal, G: Gate>(
     Ok(())
 }
 
-/// As a worker may find nothing to steal by chance, the meeting is tried three times.
+/// As a worker may find nothing to steal by chance, the meeting is tried five times.
 #[test]
 fn two_workers_meet_at_the_gate(rt: HostRuntime) -> Result<(), Fail> {
     expect_four(&rt, &ONE_WORKER, &Open)?;
     let mut met = false;
-    for _ in 0..3 {
-        let gate = Meeting::new();
-        expect_four(&rt, &FOUR_WORKERS, &gate)?;
-        assert!(rt; gate.was_passed_once_for_each());
-        met = met || gate.was_met();
+    for _ in 0..5 {
+        if !met {
+            let gate = Watched::by(&rt);
+            expect_four(&rt, &FOUR_WORKERS, &gate)?;
+            assert!(rt; gate.was_passed(1));
+            met = gate.meeting.has_met();
+        }
     }
     assert!(rt; met);
     Ok(())
@@ -141,9 +114,8 @@ fn two_workers_meet_at_the_gate(rt: HostRuntime) -> Result<(), Fail> {
 /// One thread passes no gate.
 #[test]
 fn one_worker_meets_nobody(rt: HostRuntime) -> Result<(), Fail> {
-    let gate = Meeting::new();
+    let gate = Watched::by(&rt);
     expect_four(&rt, &ONE_WORKER, &gate)?;
-    assert!(rt; gate.passes.iter().all(|count| count.load(SeqCst) == 0));
-    assert!(rt; gate.beyond.load(SeqCst) == 0);
+    assert!(rt; gate.was_passed(0));
     Ok(())
 }

@@ -5,7 +5,7 @@ use Rattle.daa_state.specs.InRange.{IsPictureInRange}
 use Rattle.daa_scan.specs.Situation.{Situation}
 use Rattle.daa_scan.specs.Units.{group_count}
 use Rattle.daa_scan.specs.Packed.{places_in_reach}
-use Rattle.daa_scan.proofs.Packs.{few_groups, some_group, words_count, unit_place, unit_group, word_found}
+use Rattle.daa_scan.proofs.Packs.{few_groups, some_group, words_count, unit_place, unit_group, word_told}
 use Rattle.daa_scan.proofs.scene.SceneAnswers.word.Goals as goal
 use Rattle.daa_scan.proofs.scene.SceneAnswers.word.Goals.{Start}
 
@@ -28,13 +28,12 @@ word_of_group-requires-clause-group c =
     let n : c.args.unit % c.self.inside.groups < group_count c.self.inside.config.now = subst (λ (n : ℕ). c.args.unit % n < group_count c.self.inside.config.now) (sym c.self.invariant.counted) u in
     omega (arith, few, n)
 
-pub returns : goal.returns
-returns c =
-    let s = c.args.self.now in
-    let a : IsAccepted s.settings = subst (λ (s : Situation). IsAccepted s.settings) c.self.view_is c.self.invariant.accepted in
-    let p : IsPictureInRange s.picture = subst (λ (s : Situation). IsPictureInRange s.picture) c.self.view_is c.self.invariant.picture in
-    let g : c.self.inside.groups ≡ group_count s.settings = c.self.invariant.counted ∙ ap (λ (s : Situation). group_count s.settings) c.self.view_is in
-    c.word_of_group.ensures
-    ∙ word_found s a p c.args.unit c.place_in_list-aircraft.result (c.args.unit % c.self.inside.groups) c.requires
-    (c.place_in_list-aircraft.ensures.value ∙ ap (λ (n : ℕ). slice_index (places_in_reach s) (c.args.unit / n)) g)
-    (ap (λ (n : ℕ). c.args.unit % n) g)
+pub returns-clause-value : goal.returns-clause-value
+returns-clause-value c =
+    (word_told (record { settings = c.self.inside.config.now; picture = c.self.inside.picture.now }) c.args.self.now c.self.view_is c.self.invariant.accepted c.self.invariant.picture
+    c.self.inside.groups c.args.unit c.place_in_list-aircraft.result c.word_of_group.result c.self.invariant.counted c.requires c.place_in_list-aircraft.ensures.value c.word_of_group.ensures).0
+
+pub returns-clause-field : goal.returns-clause-field
+returns-clause-field c =
+    (word_told (record { settings = c.self.inside.config.now; picture = c.self.inside.picture.now }) c.args.self.now c.self.view_is c.self.invariant.accepted c.self.invariant.picture
+    c.self.inside.groups c.args.unit c.place_in_list-aircraft.result c.word_of_group.result c.self.invariant.counted c.requires c.place_in_list-aircraft.ensures.value c.word_of_group.ensures).1
