@@ -15,11 +15,10 @@ use Rattle.daa_config.specs.declared.numbers.Numbers.{Numbers}
 use Rattle.daa_config.specs.declared.numbers.LevelNumbers.{LevelNumbers}
 use Rattle.daa_config.specs.declared.numbers.RecoveryNumbers.{RecoveryNumbers}
 use Rattle.daa_taumod.specs.declared.Volume.{Volume}
-use Rattle.daa_taumod.specs.Volume.{IsVolumeInRange}
 use Rattle.daa_config.specs.Limits.{full_turn, resolve_bounds, turn_rate_bounds, track_step_bounds, gs_limits, vs_limits, alt_limits, level_limits, recovery_limits, most_levels, most_values}
 use Rattle.daa_config.specs.Numbers.{is_in, grid_fits, track_step_fits, numbers_fit, recovery_fits, level_fits, levels_are_wrong, count_of, has_too_many}
 use Rattle.daa_config.specs.Stepped.{IsStepped}
-use Rattle.daa_config.specs.Settings.{IsInBounds, IsGridInRange, IsLevelInRange, IsAccepted}
+use Rattle.daa_config.specs.Settings.{IsInBounds, IsGridInRange, IsLevelInRange, IsAccepted, IsCylinder}
 use Rattle.daa_config.specs.ConfigOf.{Written}
 use Rattle.daa_config.specs.Level.{level_of, cylinder_of}
 
@@ -223,14 +222,20 @@ recovery_small n h =
     let p = recovery_parts n h in
     record { hdist = widened 1 10000 n.hdist (omega arith) p.hdist; vdist = p.vdist }
 
-recovery_in_range : (r : Option RecoveryNumbers) → recovery_fits r ≡ true → (cylinder : Volume) → option_map cylinder_of r ≡ Some cylinder → IsVolumeInRange cylinder
+recovery_in_range : (r : Option RecoveryNumbers) → recovery_fits r ≡ true → (cylinder : Volume) → option_map cylinder_of r ≡ Some cylinder → IsCylinder cylinder
 recovery_in_range None h cylinder e = absurd (cc e)
 recovery_in_range (Some n) h cylinder e =
     let p = recovery_parts n h in
     let hdist = sized 1 10000 n.hdist p.hdist in
     let vdist = sized 0 10000 n.vdist p.vdist in
     let same : cylinder_of n ≡ cylinder = cc in
-    subst IsVolumeInRange same (record { dthr = omega (arith, hdist); zthr = omega (arith, vdist); tthr = omega arith; tcoa = omega arith })
+    subst IsCylinder same (record {
+      in_range = record { dthr = omega (arith, hdist); zthr = omega (arith, vdist); tthr = omega arith; tcoa = omega arith };
+      wide = omega (arith, hdist);
+      tthr = refl;
+      tcoa = refl;
+      model = refl;
+    })
 
 pub accepted : (w : Written) → (numbers_fit w.numbers && (recovery_fits w.recovery && list_all level_fits w.levels)) ≡ true → levels_are_wrong w.numbers.resolve w.levels ≡ false
     → has_too_many w.numbers ≡ false → IsAccepted (record { numbers = w.numbers; recovery = option_map cylinder_of w.recovery; levels = map level_of w.levels })

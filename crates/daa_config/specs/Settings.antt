@@ -1,6 +1,7 @@
 -- A configuration as contracts see it, and what holds of every one that is accepted.
 use Rattle.std.specs.Prelude.{◌≡◌, ℕ, ℤ, pos, ◌-◌, ◌%◌, ◌≤◌, ◌≤ℤ◌, nat_abs, List, length, slice_get, Option, Some}
 use Rattle.daa_fixed.specs.Size.{IsFrom}
+use Rattle.daa_taumod.specs.declared.Model.TheVariants.{Taumod}
 use Rattle.daa_taumod.specs.declared.Volume.{Volume}
 use Rattle.daa_taumod.specs.Volume.{IsVolumeInRange}
 use Rattle.daa_config.specs.declared.candidate.Candidate.{Candidate}
@@ -79,6 +80,14 @@ pub record IsLevelInRange (level : Level) : Type 0 where
   pub alert_least : 1 ≤ level.alert
   pub alert_most : level.alert ≤ 180
 
+-- what a recovery stays out of: a cylinder, since it looks at no time ahead, at least 0.001 NM wide
+pub record IsCylinder (cylinder : Volume) : Type 0 where
+  pub in_range : IsVolumeInRange cylinder
+  pub wide : 36 ≤ cylinder.dthr
+  pub tthr : cylinder.tthr ≡ 0
+  pub tcoa : cylinder.tcoa ≡ 0
+  pub model : cylinder.model ≡ Taumod
+
 -- a configuration that is accepted has its numbers in their ranges
 pub record IsAccepted (s : Settings) : Type 0 where
   pub rates : AreRatesInRange (rates_of s)
@@ -90,5 +99,5 @@ pub record IsAccepted (s : Settings) : Type 0 where
   pub some_level : 1 ≤ length s.levels
   pub few_levels : length s.levels ≤ most_levels
   pub level : (l : ℕ) (level : Level) → IsLevelAt s l level → IsLevelInRange level
-  pub recovery : (cylinder : Volume) → s.recovery ≡ Some cylinder → IsVolumeInRange cylinder
+  pub recovery : (cylinder : Volume) → s.recovery ≡ Some cylinder → IsCylinder cylinder
   pub resolve : IsFrom (pos 1) (pos (length s.levels)) s.numbers.resolve

@@ -234,7 +234,7 @@ module _ (s : Settings) (a : IsAccepted s) where
       go (inl (v, e)) =
           let m = some_horizon in
           let p : Prospect = record { settings = s; picture = picture; cylinder = v; horizon = m.0 } in
-          let f = some_found p (record { accepted = a; picture = in'; cylinder = a.recovery v e; horizon = m.1 }) kind in
+          let f = some_found p (record { accepted = a; picture = in'; cylinder = (a.recovery v e).in_range; horizon = m.1 }) kind in
           let is : IsRecovery s picture kind f.0 = record { cylinder = v; horizon = m.0; asked = e; ahead = m.1; found = f.1 } in
           record { one = f.0; is = is; only = λ other h. recovery_only s picture kind other f.0 h is }
       go (inr none) = absurd (asked none)
