@@ -279,12 +279,16 @@ word_told own s same a p groups unit at word counted h ea ew =
     let p' : IsPictureInRange s.picture = subst (λ (t : Situation). IsPictureInRange t.picture) same p in
     let g : groups ≡ group_count s.settings = counted ∙ ap (λ (t : Situation). group_count t.settings) same in
     let e : word ≡ slice_index (words_of s) unit = ew ∙ word_found s a' p' unit at (unit % groups) h (ea ∙ ap (λ (n : ℕ). slice_index (places_in_reach s) (unit / n)) g) (ap (λ (n : ℕ). unit % n) g) in
-    let w : AreWordsOf s (words_of s) = are_words s a' p' in (
+    let l : unit < group_count s.settings * length (places_in_reach s) = subst (λ (n : ℕ). unit < n) (words_count s) h in
+    let i = unit_place s unit l in
+    let listed : IsWordOf s (slice_index (places_in_reach s) (unit / group_count s.settings)) (unit % group_count s.settings) (slice_index (words_of s) unit) =
+        subst (λ (v : ℕ). IsWordOf s (slice_index (places_in_reach s) (unit / group_count s.settings)) (unit % group_count s.settings) v) (sym (word_at s unit l ∙ word_shown s unit))
+        (is_word s a' p' (slice_index (places_in_reach s) (unit / group_count s.settings)) (place_within s (unit / group_count s.settings) i) (unit % group_count s.settings) (unit_group s unit)) in (
       e,
       record {
         places = places_in_reach s;
         in_reach = are_in_reach s;
-        there = unit_place s unit (subst (λ (n : ℕ). unit < n) (words_count s) h);
-        is = subst (λ (v : ℕ). IsWordOf s (slice_index (places_in_reach s) (unit / group_count s.settings)) (unit % group_count s.settings) v) (sym e) (w.each unit h);
+        there = i;
+        is = subst (λ (v : ℕ). IsWordOf s (slice_index (places_in_reach s) (unit / group_count s.settings)) (unit % group_count s.settings) v) (sym e) listed;
       },
     )

@@ -198,6 +198,7 @@ impl<'a> Answers for Scene<'a> {
     /// in reach, in input order: five bits for each of twelve candidates, the first the lowest. The lowest of the five says
     /// that the candidate is there, the others are the levels from 1 to 4 that it meets the aircraft at.
     fn word(&self, unit: u32) -> u64
+        requires { unit < length (words_of self.now) }
         ensures value { result ≡ slice_index (words_of self.now) unit }
         ensures field { IsWordOfUnit self.now unit result }
     {
