@@ -1,4 +1,5 @@
-//! Reading in pieces for someone who takes them: by turns with the taking, or ahead of it on a thread of its own.
+//! Reading in pieces for someone who takes them: by turns with the taking, or ahead of it on a
+//! thread of its own.
 #![tactic(auto)]
 
 mod ended;

@@ -8,8 +8,9 @@ use crate::halving::first_leg;
 use daa_config::Config;
 use daa_state::{Own, Traffic};
 
-/// The greatest level whose volume the present flight violates within that level's alert time, with its first leg;
-/// level 0 and no leg where it violates none. Levels need not nest: a lower one may be clear.
+/// The greatest level whose volume the present flight violates within that level's alert time, with
+/// its first leg; level 0 and no leg where it violates none. Levels need not nest: a lower one may
+/// be clear.
 pub fn alert(config: &Config, own: &Own, aircraft: &Traffic) -> Alert
     requires own { IsOwnInRange own.now }
     requires aircraft { IsTrafficInRange aircraft.now }

@@ -1,5 +1,6 @@
-//! The first leg of the present flight that violates a level's volume. That flight is straight, so that any number of
-//! its seconds is one leg, and the number of seconds within which it violates the volume is found by halving.
+//! The first leg of the present flight that violates a level's volume. That flight is straight, so
+//! that any number of its seconds is one leg, and the number of seconds within which it violates
+//! the volume is found by halving.
 
 ghost use Rattle.std.specs.Prelude.{◌↔◌, ◌<◌, ◌≤◌, IsTrue, MatchOption, length};
 ghost use Rattle.daa_taumod.specs.Volume.{IsVolumeInRange};
@@ -14,8 +15,8 @@ use daa_legs::{Flight, OwnRun, relative_run};
 use daa_state::{Own, Traffic};
 use daa_taumod::Volume;
 
-/// The least leg of the present flight, below level `level`'s alert time, on which the level's volume is violated at
-/// some time; `None` exactly where there is none. Levels are numbered from 1.
+/// The least leg of the present flight, below level `level`'s alert time, on which the level's
+/// volume is violated at some time; `None` exactly where there is none. Levels are numbered from 1.
 pub fn first_leg(config: &Config, own: &Own, aircraft: &Traffic, level: u32) -> Option<u32>
     requires own { IsOwnInRange own.now }
     requires aircraft { IsTrafficInRange aircraft.now }
@@ -39,7 +40,8 @@ fn meets_within(config: &Config, own: &Own, aircraft: &Traffic, volume: &Volume,
     requires volume { IsVolumeInRange volume.now }
     requires some { 1 ≤ m }
     requires short { m ≤ 180 }
-    ensures { IsTrue result ↔ MeetsWithin config.now own.now Candidate.Hold aircraft.now volume.now m }
+    ensures { IsTrue result
+        ↔ MeetsWithin config.now own.now Candidate.Hold aircraft.now volume.now m }
 {
     let leg = Flight::begin(own, config, Candidate::Hold).next_leg();
     let run = OwnRun {

@@ -11,7 +11,9 @@ ghost use Rattle.daa_alert.specs.Alert.{IsAlertOf};
 /// An aircraft has one level now, and one alert.
 pub fn alerts_are_unique()
     ensures levels { (settings : Settings) (own : Own) (aircraft : Traffic) (level other : ℕ)
-        → IsNowLevel settings own aircraft level → IsNowLevel settings own aircraft other → level ≡ other }
+        → IsNowLevel settings own aircraft level → IsNowLevel settings own aircraft other
+        → level ≡ other }
     ensures alerts { (settings : Settings) (own : Own) (aircraft : Traffic) (alert other : Alert)
-        → IsAlertOf settings own aircraft alert → IsAlertOf settings own aircraft other → alert ≡ other }
+        → IsAlertOf settings own aircraft alert → IsAlertOf settings own aircraft other
+        → alert ≡ other }
 {}

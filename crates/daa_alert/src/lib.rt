@@ -1,5 +1,5 @@
-//! The alerts of an aircraft: the greatest level that the present flight violates now, and the greatest that it
-//! violates within the level's alert time, with the first second on which it does.
+//! The alerts of an aircraft: the greatest level that the present flight violates now, and the
+//! greatest that it violates within the level's alert time, with the first second on which it does.
 #![tactic(auto)]
 
 mod aircraft_alert;

@@ -12,8 +12,8 @@ use daa_legs::{Flight, relative};
 use daa_state::{Own, Traffic};
 use daa_taumod::violates;
 
-/// The greatest level whose volume is violated now, at the beginning of the present flight, or 0 where none is.
-/// Levels need not nest: a lower one may be clear.
+/// The greatest level whose volume is violated now, at the beginning of the present flight, or 0
+/// where none is. Levels need not nest: a lower one may be clear.
 pub fn now_level(config: &Config, own: &Own, aircraft: &Traffic) -> u8
     requires own { IsOwnInRange own.now }
     requires aircraft { IsTrafficInRange aircraft.now }

@@ -1,4 +1,5 @@
-//! Worked alerts: a configuration, an ownship and an aircraft as their lines say them, and what is answered.
+//! Worked alerts: a configuration, an ownship and an aircraft as their lines say them, and what is
+//! answered.
 
 ghost use Rattle.std.specs.Prelude.{IfSome};
 ghost use Rattle.daa_state.specs.InRange.{IsOwnInRange, IsTrafficInRange};
@@ -13,8 +14,8 @@ use daa_state::{Own, Traffic, Word, read_line};
 use std::process::Abort;
 use std::test::Fail;
 
-/// A configuration's text with parts replaced, the lines of an ownship and of an aircraft with its age, and the answers:
-/// the level now, the alert level and its first leg.
+/// A configuration's text with parts replaced, the lines of an ownship and of an aircraft with its
+/// age, and the answers: the level now, the alert level and its first leg.
 struct Row {
     shows: &'static str,
     text: &'static str,
@@ -256,8 +257,8 @@ static ROWS: [Row; 27] = [
         level: 1,
         first: Some(9),
     },
-    // Straight ahead modified tau is at most 35 seconds from 130331 units on: in 13.8 seconds of 180000, in 33.8 of
-    // 252000, in 73.8 of 396000.
+    // Straight ahead modified tau is at most 35 seconds from 130331 units on: in 13.8 seconds of
+    // 180000, in 33.8 of 252000, in 73.8 of 396000.
     Row {
         shows: "ahead, within 25 seconds",
         text: THREE_LEVELS,

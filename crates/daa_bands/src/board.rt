@@ -1,5 +1,5 @@
-//! The levels at which each candidate of a moment is covered, as masks. What the workers found comes in packed words,
-//! twelve candidates in each.
+//! The levels at which each candidate of a moment is covered, as masks. What the workers found
+//! comes in packed words, twelve candidates in each.
 ghost use Rattle.std.specs.Prelude.{◌≡◌, ◌<◌, ◌≤◌, ◌+◌, ◌*◌, ◌≢◌, ℕ, slice_index, bit_or, replicate};
 ghost use Rattle.daa_config.specs.Mask.{HasLevel, IsGreatestLevel};
 ghost use Rattle.daa_config.specs.Packing.{group_size, mask_in};
@@ -11,7 +11,8 @@ use std::marker::Model;
 /// How many candidates a board has a mask for; a configuration has at most 1897.
 const SIZE: usize = 2048;
 
-/// The masks of 2048 candidates, by their indices in the whole list: bit l - 1 of a mask stands for level l.
+/// The masks of 2048 candidates, by their indices in the whole list: bit l - 1 of a mask stands for
+/// level l.
 #[derive(Drop)]
 pub struct Board {
     masks: [u8; SIZE],
@@ -48,8 +49,8 @@ impl Board {
         self.masks[index as usize] |= mask;
     }
 
-    /// Adds the levels that a packed word has of the twelve candidates of a group: those with the indices from
-    /// 12 * group on, which are below 2048.
+    /// Adds the levels that a packed word has of the twelve candidates of a group: those with the
+    /// indices from 12 * group on, which are below 2048.
     pub fn merge_word(&mut self, group: u32, word: u64)
         requires { group_size * group + group_size ≤ board_size }
         ensures { AddsWord group word self.old self.new }
@@ -67,7 +68,8 @@ impl Board {
         self.masks[index as usize]
     }
 
-    /// The shown level of the candidate at an index, which is below 2048: the greatest that its mask has, or 0.
+    /// The shown level of the candidate at an index, which is below 2048: the greatest that its
+    /// mask has, or 0.
     pub fn shown(&self, index: u32) -> u8
         requires { index < board_size }
         ensures { IsGreatestLevel (HasLevel (slice_index self.now index)) mask_levels result }

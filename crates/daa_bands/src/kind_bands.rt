@@ -6,8 +6,9 @@ use crate::board::Board;
 use crate::walk::Runs;
 use daa_config::{Config, Kind};
 
-/// The bands of a kind over the levels that a board shows, in the rising order of the values: each stretch of equal level
-/// is one band, those of level 0 too, and those of track end at north. Source: the DAIDALUS reference manual, on bands.
+/// The bands of a kind over the levels that a board shows, in the rising order of the values: each
+/// stretch of equal level is one band, those of level 0 too, and those of track end at north.
+/// Source: the DAIDALUS reference manual, on bands.
 pub fn runs<'a>(board: &'a Board, config: &'a Config, kind: Kind) -> Runs<'a>
     ensures { AreKindBands (HasLevelOn board.now) mask_levels config.now kind result }
 {

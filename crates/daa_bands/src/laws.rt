@@ -13,25 +13,30 @@ ghost use Rattle.daa_bands.specs.KindBands.{AreKindBands};
 /// Values with their levels have exactly one list of bands, and so has each kind over any board.
 pub fn has_one_list_of_bands()
     ensures marks { (marks : List Mark) → HasOne (AreBands marks) }
-    ensures kinds { (board : List ℕ) (s : Settings) (kind : Kind) → HasOne (AreKindBands (HasLevelOn board) mask_levels s kind) }
+    ensures kinds { (board : List ℕ) (s : Settings) (kind : Kind)
+        → HasOne (AreKindBands (HasLevelOn board) mask_levels s kind) }
 {}
 
 /// Where a board stands for what is covered, the bands that it shows are those of what is covered.
 pub fn board_shows_what_is_covered()
     ensures { (covered : ℕ → ℕ → Bool) (board : List ℕ) (s : Settings) (kind : Kind) (bands : List Band) → IsAccepted s
-        → IsBoardOf (λ index l. IsTrue (covered index l)) s board → AreKindBands (HasLevelOn board) mask_levels s kind bands
+        → IsBoardOf (λ index l. IsTrue (covered index l)) s board
+        → AreKindBands (HasLevelOn board) mask_levels s kind bands
         → AreKindBands (λ index l. IsTrue (covered index l)) (length s.levels) s kind bands }
 {}
 
-/// Worked examples: of the tracks 0, 90, 180 and 270 the middle two show the same level and are one band, the first and the
-/// last are not joined over north; a run is not split, and the values of level 0 have a band too. A mask of levels 1 and 3
-/// shows 3, and the fourth place of the packed word 0xa8023 has levels 2 and 4.
+/// Worked examples: of the tracks 0, 90, 180 and 270 the middle two show the same level and are one
+/// band, the first and the last are not joined over north; a run is not split, and the values of
+/// level 0 have a band too. A mask of levels 1 and 3 shows 3, and the fourth place of the packed
+/// word 0xa8023 has levels 2 and 4.
 pub fn worked_examples()
     ensures joined { AreBands ((pos 0, 1) ∷ (pos 90, 2) ∷ (pos 180, 2) ∷ (pos 270, 1) ∷ [])
         (band_of (pos 0) (pos 0) 1 ∷ band_of (pos 90) (pos 180) 2 ∷ band_of (pos 270) (pos 270) 1 ∷ []) }
     ensures one_value { AreBands ((pos 1000, 0) ∷ []) (band_of (pos 1000) (pos 1000) 0 ∷ []) }
-    ensures split { AreBands ((pos 0, 1) ∷ (pos 90, 1) ∷ []) (band_of (pos 0) (pos 0) 1 ∷ band_of (pos 90) (pos 90) 1 ∷ []) → ⊥ }
-    ensures left_out { AreBands ((pos 0, 1) ∷ (pos 90, 0) ∷ []) (band_of (pos 0) (pos 0) 1 ∷ []) → ⊥ }
+    ensures split { AreBands ((pos 0, 1) ∷ (pos 90, 1) ∷ [])
+        (band_of (pos 0) (pos 0) 1 ∷ band_of (pos 90) (pos 90) 1 ∷ []) → ⊥ }
+    ensures left_out { AreBands ((pos 0, 1) ∷ (pos 90, 0) ∷ []) (band_of (pos 0) (pos 0) 1 ∷ [])
+        → ⊥ }
     ensures greatest { IsGreatestLevel (HasLevel 5) mask_levels 3 }
     ensures packed { mask_in 688163 3 ≡ 10 }
 {}

@@ -7,8 +7,8 @@ use daa_config::{Config, Kind, read};
 use std::process::Abort;
 use std::test::Fail;
 
-/// Hold has the index 0, the tracks 0, 90, 180 and 270 have 1 to 4, the ground speeds 3000, 3300, 3600 and 3900 have 5 to
-/// 8, the vertical speed has 9 and the altitude 10.
+/// Hold has the index 0, the tracks 0, 90, 180 and 270 have 1 to 4, the ground speeds 3000, 3300,
+/// 3600 and 3900 have 5 to 8, the vertical speed has 9 and the altitude 10.
 const TEXT: &str = "resolve = 1
 turn_rate = 3
 track_step = 90
@@ -59,8 +59,8 @@ fn nothing_covered(rt: HostRuntime) -> Result<(), Fail> {
     Ok(())
 }
 
-/// Equal levels are joined whatever the masks, level 0 stands between others, and the tracks 270 and 0, which have the
-/// same level, are not joined over north.
+/// Equal levels are joined whatever the masks, level 0 stands between others, and the tracks 270
+/// and 0, which have the same level, are not joined over north.
 #[test]
 fn runs_of_all_kinds(rt: HostRuntime) -> Result<(), Fail> {
     let config = read(rt.alloc(), TEXT.as_bytes())?;
@@ -99,10 +99,12 @@ fn shown_levels(rt: HostRuntime) {
     }
 }
 
-/// Of twelve candidates the first has level 1, the second none, the fourth 2 and 4, and the last all four.
+/// Of twelve candidates the first has level 1, the second none, the fourth 2 and 4, and the last
+/// all four.
 const WORD: u64 = 0x0f80_0000_000a_8023;
 
-/// A packed word adds what its masks add one by one, in the first group and in the last that a board has room for.
+/// A packed word adds what its masks add one by one, in the first group and in the last that a
+/// board has room for.
 #[test]
 fn packed_word(rt: HostRuntime) {
     for (group, first) in [(0, 0), (1, 12), (169, 2028)] {

@@ -85,8 +85,10 @@ fn last_of_level(board: &Board, start: u32, level: u8, first: u32, count: u32) -
     requires level { shown_of (slice_index board.now (start + first)) ≡ level }
     ensures later { first ≤ result }
     ensures within { result < count }
-    ensures same { (i : ℕ) → first ≤ i → i ≤ result → shown_of (slice_index board.now (start + i)) ≡ level }
-    ensures other { result + 1 < count → shown_of (slice_index board.now (start + result + 1)) ≢ level }
+    ensures same { (i : ℕ) → first ≤ i → i ≤ result
+        → shown_of (slice_index board.now (start + i)) ≡ level }
+    ensures other { result + 1 < count
+        → shown_of (slice_index board.now (start + result + 1)) ≢ level }
 {
     let mut last = first;
     while last + 1 < count && shown_at(board, start + last + 1) == level {

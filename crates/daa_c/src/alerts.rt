@@ -36,7 +36,8 @@ fn told(config: &Config, own: &Own, aircraft: &Traffic) -> DaaAlert
     }
 }
 
-/// Fills in the level of an aircraft now, its alert level and its first leg. Answers 0, or why nothing was filled in.
+/// Fills in the level of an aircraft now, its alert level and its first leg. Answers 0, or why
+/// nothing was filled in.
 #[unsafe(no_mangle)]
 pub extern "C" fn daa_alert(
     alloc: Global,
@@ -45,7 +46,8 @@ pub extern "C" fn daa_alert(
     traffic: &DaaTraffic,
     out: &mut DaaAlert,
 ) -> i32
-    ensures told { result ≡ pos 0 → IsToldUnder config.now (own_of own.now) (traffic_of traffic.now) out.new }
+    ensures told { result ≡ pos 0
+        → IsToldUnder config.now (own_of own.now) (traffic_of traffic.now) out.new }
     ensures kept { result ≢ pos 0 → out.new ≡ out.old }
 {
     let config = match read(alloc, config) {

@@ -66,8 +66,9 @@ fn show(engine: &Engine, levels: &mut [u8])
     }
 }
 
-/// Fills in the level that each candidate shows, in the order of the whole list: the present flight, then tracks, ground
-/// speeds, vertical speeds and altitudes. Answers 0, or why nothing was filled in.
+/// Fills in the level that each candidate shows, in the order of the whole list: the present
+/// flight, then tracks, ground speeds, vertical speeds and altitudes. Answers 0, or why nothing was
+/// filled in.
 #[unsafe(no_mangle)]
 pub extern "C" fn daa_levels(
     alloc: Global,
@@ -76,7 +77,8 @@ pub extern "C" fn daa_levels(
     traffic: &[DaaTraffic],
     levels: &mut [u8],
 ) -> i32
-    ensures shown { result ≡ pos 0 → AreLevelsUnder config.now (picture_of own.now traffic.now) levels.new }
+    ensures shown { result ≡ pos 0
+        → AreLevelsUnder config.now (picture_of own.now traffic.now) levels.new }
     ensures kept { result ≢ pos 0 → levels.new ≡ levels.old }
 {
     let config = match read(alloc, config) {

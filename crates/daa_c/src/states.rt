@@ -85,7 +85,8 @@ pub(crate) fn aircraft(traffic: &DaaTraffic) -> Result<Traffic, OutOfRange>
     .checked()
 }
 
-/// The code of a configuration that is not read: that of its fault, 1 to 8, or that there is no memory.
+/// The code of a configuration that is not read: that of its fault, 1 to 8, or that there is no
+/// memory.
 pub(crate) fn refusal(fault: ConfigFault) -> i32
     ensures { result ≢ pos 0 }
 {

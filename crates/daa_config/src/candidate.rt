@@ -1,7 +1,7 @@
 //! What an ownship may try, and what is answered of it.
 
-/// A flight that is tried: the present one, or one that goes to a track (degrees, 0 to 359), a ground
-/// speed (0.1 kt), a vertical speed (ft/min) or an altitude (ft).
+/// A flight that is tried: the present one, or one that goes to a track (degrees, 0 to 359), a
+/// ground speed (0.1 kt), a vertical speed (ft/min) or an altitude (ft).
 #[derive(Clone, Copy, Debug, PartialEq, Eq)]
 pub enum Candidate {
     Hold,

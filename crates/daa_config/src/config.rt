@@ -11,8 +11,8 @@ use crate::numbers::{Grid, Numbers, count};
 use daa_taumod::Volume;
 use std::marker::Model;
 
-/// By how much a second may change the track (degrees), the ground speed (0.1 kt), the vertical speed
-/// (ft/min) and the altitude (ft/min, which is units per second).
+/// By how much a second may change the track (degrees), the ground speed (0.1 kt), the vertical
+/// speed (ft/min) and the altitude (ft/min, which is units per second).
 #[derive(Clone, Copy, Debug, PartialEq, Eq)]
 pub struct Rates {
     pub turn: i32,
@@ -46,7 +46,8 @@ impl Config {
 
     /// A configuration of these numbers.
     pub(crate) fn new(numbers: Numbers, recovery: Option<Volume>, levels: Vec<Level>) -> Config
-        requires { IsAccepted (record { numbers = numbers; recovery = recovery; levels = levels.items }) }
+        requires { IsAccepted
+            (record { numbers = numbers; recovery = recovery; levels = levels.items }) }
         ensures { result ≡ record { numbers = numbers; recovery = recovery; levels = levels.items } }
     {
         Config {
@@ -56,8 +57,8 @@ impl Config {
         }
     }
 
-    /// The cylinder round each aircraft that a recovery stays out of, in units of 1/36000 NM and 1/60 ft: None exactly where
-    /// the configuration asks for no recovery.
+    /// The cylinder round each aircraft that a recovery stays out of, in units of 1/36000 NM and
+    /// 1/60 ft: None exactly where the configuration asks for no recovery.
     pub fn recovery(&self) -> Option<&Volume>
         ensures value { option_map (λ v. v.now) result ≡ self.now.recovery }
         ensures accepted { IsAccepted self.now }
@@ -86,7 +87,8 @@ impl Config {
         &self.levels[(l - 1) as usize]
     }
 
-    /// The level from which on up to the greatest a candidate must be clear to be open: 1 to the number of levels.
+    /// The level from which on up to the greatest a candidate must be clear to be open: 1 to the
+    /// number of levels.
     pub fn resolve(&self) -> u32
         ensures value { pos result ≡ self.now.numbers.resolve }
         ensures numbered { 1 ≤ result }
@@ -213,7 +215,8 @@ impl Config {
     #[tactic(auto, using(crate::proofs::CandidateLemmas::kind_within, crate::proofs::CandidateLemmas::kind_few), unfolding(crate::specs::Candidates::start_of))]
     pub fn start(&self, kind: Kind) -> u32
         ensures value { result ≡ start_of kind self.now }
-        ensures within { result + length (values_of kind self.now) ≤ length (candidates_of self.now) }
+        ensures within { result + length (values_of kind self.now) ≤ length
+            (candidates_of self.now) }
         ensures few { result + length (values_of kind self.now) ≤ 1897 }
         ensures accepted { IsAccepted self.now }
     {
@@ -264,7 +267,8 @@ impl Config {
     /// The candidate at a place of a kind.
     fn going(&self, kind: Kind, place: u32) -> Candidate
         requires { place < length (values_of kind self.now) }
-        ensures value { slice_get (candidates_of self.now) (start_of kind self.now + place) ≡ Some result }
+        ensures value { slice_get (candidates_of self.now)
+            (start_of kind self.now + place) ≡ Some result }
         ensures within { IsCandidateOf self.now result }
         ensures in_range { IsCandidateInRange result }
         ensures accepted { IsAccepted self.now }

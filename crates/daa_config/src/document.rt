@@ -92,7 +92,8 @@ fn cylinder_of(table: &Table) -> Option<RecoveryNumbers>
     })
 }
 
-/// The numbers of the recovery where the document has a table for it; a document without one asks for none.
+/// The numbers of the recovery where the document has a table for it; a document without one asks
+/// for none.
 #[tactic(auto, unfolding(crate::specs::Document::recovery_in))]
 pub fn recovery_of(document: &Table) -> Option<Option<RecoveryNumbers>>
     ensures { result ≡ recovery_in (table_view document.now) }

@@ -1,7 +1,8 @@
-//! Texts of configurations that are accepted, as examples of the format and for tests. Their numbers are this project's own and no standard's.
+//! Texts of configurations that are accepted, as examples of the format and for tests. Their
+//! numbers are this project's own and no standard's.
 
-/// Three levels that alert 55, 55 and 25 seconds ahead, and 341 candidates. The file `examples/three_levels.toml` has it
-/// with comments.
+/// Three levels that alert 55, 55 and 25 seconds ahead, and 341 candidates. The file
+/// `examples/three_levels.toml` has it with comments.
 pub const THREE_LEVELS: &str = "resolve = 2
 turn_rate = 3
 track_step = 5
@@ -43,7 +44,8 @@ lookahead = 55
 alert = 25
 ";
 
-/// One level that alerts 10 seconds ahead, four tracks and one value of each other kind: 8 candidates.
+/// One level that alerts 10 seconds ahead, four tracks and one value of each other kind: 8
+/// candidates.
 pub const ONE_LEVEL: &str = "resolve = 1
 turn_rate = 3
 track_step = 90
@@ -66,7 +68,8 @@ level = [ { dthr = 700, zthr = 450, tthr = 0, tcoa = 0, lookahead = 10, alert = 
   { dthr = 660, zthr = 450, tthr = 0, tcoa = 0, lookahead = 10, alert = 10 } ]
 ";
 
-/// One level with the largest values that it may have, and 1860 candidates, over the whole range of each kind.
+/// One level with the largest values that it may have, and 1860 candidates, over the whole range of
+/// each kind.
 pub const LARGEST_VALUES: &str = "resolve = 1
 turn_rate = 30
 track_step = 1

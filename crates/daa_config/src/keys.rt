@@ -96,7 +96,8 @@ fn lacks_required_key(keys: &Keys, table: &Table) -> bool
 
 /// Whether there is a table that differs from what is listed for it.
 fn differs(difference: Difference, keys: &Keys, table: Option<&Table>) -> bool
-    ensures { result ≡ passes (differs_by difference (listed_by keys.now)) (option_map (λ t. table_view t.now) table.entry) }
+    ensures { result ≡ passes (differs_by difference (listed_by keys.now))
+        (option_map (λ t. table_view t.now) table.entry) }
 {
     match table {
         None => false,
@@ -109,7 +110,8 @@ fn differs(difference: Difference, keys: &Keys, table: Option<&Table>) -> bool
 
 /// Whether one of the items is a table that differs from what is listed for it.
 fn any_differs(difference: Difference, keys: &Keys, items: &[Value]) -> bool
-    ensures { result ≡ any_item (differs_by difference (listed_by keys.now)) (items_view items.now) }
+    ensures { result ≡ any_item (differs_by difference (listed_by keys.now))
+        (items_view items.now) }
 {
     for value in items {
         if differs(difference, keys, value.as_table()) {

@@ -11,7 +11,9 @@ pub fn accepted_is_in_range()
     ensures { (text : Text) (s : Settings) → config_of text ≡ Ok s → IsAccepted s }
 {}
 
-/// The values of a kind are the least and each further step that is not above the greatest that may be.
+/// The values of a kind are the least and each further step that is not above the greatest that may
+/// be.
 pub fn values_are_all_steps()
-    ensures { (kind : Kind) (s : Settings) → IsAccepted s → AreStepsUpTo (grid_of kind s) (values_of kind s) }
+    ensures { (kind : Kind) (s : Settings) → IsAccepted s
+        → AreStepsUpTo (grid_of kind s) (values_of kind s) }
 {}

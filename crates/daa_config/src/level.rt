@@ -10,9 +10,9 @@ use daa_fixed::{feet, mils};
 use daa_taumod::{Model, Volume};
 use std::alloc::{AllocError, Global};
 
-/// An alert level: its well-clear volume (1/36000 NM, 1/60 ft and seconds), and how many seconds ahead,
-/// 1 to 180, it is looked for a candidate's violation of the volume and alerted of one by the present
-/// flight.
+/// An alert level: its well-clear volume (1/36000 NM, 1/60 ft and seconds), and how many seconds
+/// ahead, 1 to 180, it is looked for a candidate's violation of the volume and alerted of one by
+/// the present flight.
 #[derive(Clone, Copy, Debug, PartialEq, Eq)]
 pub struct Level {
     pub volume: Volume,

@@ -1,6 +1,6 @@
 //! The configuration: what a text of TOML says of levels and candidates, and the candidates that it
-//! lists. A text is read into numbers, the numbers are checked against the table of their ranges, and
-//! what is accepted is a [`Config`], whose readers know every range.
+//! lists. A text is read into numbers, the numbers are checked against the table of their ranges,
+//! and what is accepted is a [`Config`], whose readers know every range.
 #![tactic(auto)]
 
 mod candidate;

@@ -9,8 +9,8 @@ use crate::limits::{
     TURN_RATE, VS,
 };
 
-/// The values `min`, `min + step` and so on up to `max` that a kind of candidate may go to, and by how
-/// much a second may change the present value.
+/// The values `min`, `min + step` and so on up to `max` that a kind of candidate may go to, and by
+/// how much a second may change the present value.
 #[derive(Clone, Copy, Debug)]
 pub struct Grid {
     pub min: i64,
@@ -31,8 +31,8 @@ pub struct Numbers {
     pub alt: Grid,
 }
 
-/// The numbers of a level as the text has them: 0.001 NM, ft, seconds, and 1 where the volume goes by
-/// the time to the closest approach.
+/// The numbers of a level as the text has them: 0.001 NM, ft, seconds, and 1 where the volume goes
+/// by the time to the closest approach.
 #[derive(Clone, Copy, Debug)]
 pub struct LevelNumbers {
     pub dthr: i64,
@@ -51,7 +51,8 @@ pub struct RecoveryNumbers {
     pub vdist: i64,
 }
 
-/// Whether the numbers of a kind are in their ranges, and its least value is not above its greatest.
+/// Whether the numbers of a kind are in their ranges, and its least value is not above its
+/// greatest.
 #[tactic(auto, unfolding(crate::specs::Numbers::grid_fits))]
 fn grid_is_in_range(limits: &GridLimits, grid: &Grid) -> bool
     ensures { result ≡ grid_fits limits.now grid.now }

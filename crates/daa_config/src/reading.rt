@@ -73,7 +73,8 @@ fn find(alloc: Global, document: &Table) -> Result<Found, ConfigFault>
 
 /// Whether every number is in its range.
 fn are_all_in_range(found: &Found) -> bool
-    ensures { result ≡ (numbers_fit found.now.numbers && (recovery_fits found.now.recovery && list_all level_fits found.now.levels.items)) }
+    ensures { result ≡ (numbers_fit found.now.numbers &&
+        (recovery_fits found.now.recovery && list_all level_fits found.now.levels.items)) }
 {
     are_in_range(&found.numbers)
         && (recovery_is_in_range(&found.recovery) && levels_are_in_range(found.levels.as_slice()))
@@ -99,8 +100,8 @@ fn check(alloc: Global, found: &Found) -> Result<Config, ConfigFault>
 }
 
 /// The configuration that the text is, or the fault of least number that applies anywhere in it.
-/// Want of memory apart, it is accepted or refused exactly as the definition says. The text is read as
-/// a TOML document; the table of keys, units and ranges stands in the documentation.
+/// Want of memory apart, it is accepted or refused exactly as the definition says. The text is read
+/// as a TOML document; the table of keys, units and ranges stands in the documentation.
 #[tactic(auto, unfolding(crate::specs::ConfigOf::config_of))]
 pub fn read(alloc: Global, text: &[u8]) -> Result<Config, ConfigFault>
     ensures accepted { IfOk result (λ config. config_of text.now ≡ Ok config) }

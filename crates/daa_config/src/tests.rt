@@ -1,4 +1,5 @@
-//! Texts and what they are read as: the code of each fault, and what the readers tell of the examples.
+//! Texts and what they are read as: the code of each fault, and what the readers tell of the
+//! examples.
 
 mod codes;
 mod readers;

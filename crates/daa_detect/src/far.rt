@@ -1,5 +1,6 @@
-//! The box test: legs that are so far away that they need no exact test. What violates horizontally comes within `dthr` in
-//! at most `tthr` seconds, so a leg that stays beyond `dthr` on one axis until then violates at no time.
+//! The box test: legs that are so far away that they need no exact test. What violates horizontally
+//! comes within `dthr` in at most `tthr` seconds, so a leg that stays beyond `dthr` on one axis
+//! until then violates at no time.
 
 ghost use Rattle.std.specs.Prelude.{◌↔◌, ◌≤◌, IsTrue};
 ghost use Rattle.daa_fixed.specs.Leg.{IsLegInRange};
@@ -10,7 +11,8 @@ ghost use Rattle.daa_detect.specs.Far.{IsBeyond, StaysBeyond, IsFar};
 use daa_fixed::Leg;
 use daa_taumod::Volume;
 
-/// Whether the leg, flown on for `tthr` seconds, stays more than `dthr` off on one side. It takes two products of 64 bits.
+/// Whether the leg, flown on for `tthr` seconds, stays more than `dthr` off on one side. It takes
+/// two products of 64 bits.
 pub(crate) fn is_far(leg: &Leg, volume: &Volume) -> bool
     requires leg { IsLegInRange leg.now }
     requires volume { IsVolumeInRange volume.now }
@@ -30,7 +32,8 @@ pub(crate) fn is_far(leg: &Leg, volume: &Volume) -> bool
     )
 }
 
-/// Whether what begins at `begin` and moves at `speed` stays more than `radius` off on one side for `secs` seconds.
+/// Whether what begins at `begin` and moves at `speed` stays more than `radius` off on one side for
+/// `secs` seconds.
 fn stays_beyond(begin: i64, speed: i64, secs: u32, radius: u32) -> bool
     requires begin { IsWithin 40000000 begin }
     requires speed { IsWithin 40000 speed }

@@ -11,7 +11,8 @@ use crate::motion::Motion;
 use daa_fixed::{Leg, Point};
 use daa_taumod::{Model, Volume};
 
-/// How fast the distance grows at that time, times the distance and the time's denominator: below 0 where it falls.
+/// How fast the distance grows at that time, times the distance and the time's denominator: below 0
+/// where it falls.
 pub(crate) fn rate_at(motion: &Motion, point: &Point) -> i64
     requires { HasSmallNumbers point.now }
     ensures { result ≡ rate_of motion.now point.now.num point.now.den }
@@ -19,8 +20,8 @@ pub(crate) fn rate_at(motion: &Motion, point: &Point) -> i64
     point.den * motion.rate + point.num * motion.speed_squared
 }
 
-/// Whether the horizontal part of the volume holds at that time of a leg whose line comes within `dthr`: two products of 128
-/// bits at most.
+/// Whether the horizontal part of the volume holds at that time of a leg whose line comes within
+/// `dthr`: two products of 128 bits at most.
 pub(crate) fn holds_at(leg: &Leg, volume: &Volume, motion: &Motion, point: &Point) -> bool
     requires leg { IsLegInRange leg.now }
     requires volume { IsVolumeInRange volume.now }
@@ -59,16 +60,17 @@ fn is_near(leg: &Leg, volume: &Volume, motion: &Motion, point: &Point) -> bool
 fn begins_near(leg: &Leg, volume: &Volume) -> bool
     requires leg { IsLegInRange leg.now }
     requires volume { IsVolumeInRange volume.now }
-    ensures { IsTrue result ↔ (dot_of leg.now.place.flat leg.now.place.flat ≤ℤ square_of (pos volume.now.dthr)) }
+    ensures { IsTrue result
+        ↔ (dot_of leg.now.place.flat leg.now.place.flat ≤ℤ square_of (pos volume.now.dthr)) }
 {
     let s = &leg.place.flat;
     let dthr = volume.dthr as i64;
     s.east * s.east + s.north * s.north <= dthr * dthr
 }
 
-/// Whether `s.s + secs (s.v)` is at most `dthr^2` at that time, for what moves: with 0 seconds the distance is at most `dthr`,
-/// and where it falls modified tau is at most `secs`. Multiplied by `v.v`, that compares the product of the rate and the rate
-/// `secs` seconds later with the margin.
+/// Whether `s.s + secs (s.v)` is at most `dthr^2` at that time, for what moves: with 0 seconds the
+/// distance is at most `dthr`, and where it falls modified tau is at most `secs`. Multiplied by
+/// `v.v`, that compares the product of the rate and the rate `secs` seconds later with the margin.
 fn is_tau_within(motion: &Motion, point: &Point, secs: u32) -> bool
     requires small { HasSmallNumbers point.now }
     requires secs { secs ≤ 120 }
@@ -83,7 +85,9 @@ fn is_tau_within(motion: &Motion, point: &Point, secs: u32) -> bool
 fn is_closest_within(motion: &Motion, point: &Point, secs: u32) -> bool
     requires small { HasSmallNumbers point.now }
     requires secs { secs ≤ 120 }
-    ensures { IsTrue result ↔ (neg_ℤ (rate_of motion.now point.now.num point.now.den) ≤ℤ (pos secs *ℤ point.now.den *ℤ motion.now.speed_squared)) }
+    ensures { IsTrue result
+        ↔ (neg_ℤ (rate_of motion.now point.now.num point.now.den) ≤ℤ
+        (pos secs *ℤ point.now.den *ℤ motion.now.speed_squared)) }
 {
     -rate_at(motion, point) <= gained(motion, point, secs)
 }

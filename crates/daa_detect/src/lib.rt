@@ -1,5 +1,6 @@
-//! Whether and when a straight leg violates a well-clear volume, decided exactly over every fraction of it: no time between
-//! two instants is passed over, no square root is taken and no irrational time computed.
+//! Whether and when a straight leg violates a well-clear volume, decided exactly over every
+//! fraction of it: no time between two instants is passed over, no square root is taken and no
+//! irrational time computed.
 #![tactic(auto)]
 
 mod detection;

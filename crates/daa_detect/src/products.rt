@@ -44,7 +44,8 @@ fn rate(leg: &Leg) -> i64
     s.east * v.east + s.north * v.north
 }
 
-/// The distance at the closest approach of the straight line, times the speed, with a sign for the side: `s x v`.
+/// The distance at the closest approach of the straight line, times the speed, with a sign for the
+/// side: `s x v`.
 fn miss(leg: &Leg) -> i64
     requires { IsLegInRange leg.now }
     ensures { result ≡ cross_of leg.now.place.flat leg.now.velocity.flat }

@@ -1,5 +1,5 @@
-//! Worked legs. The horizontal unit is 1/36000 nautical mile: 23760 units are 0.66 miles, and 3600 a second are 360 knots. The
-//! vertical unit is 1/60 foot, and one a second is a foot a minute.
+//! Worked legs. The horizontal unit is 1/36000 nautical mile: 23760 units are 0.66 miles, and 3600
+//! a second are 360 knots. The vertical unit is 1/60 foot, and one a second is a foot a minute.
 
 ghost use Rattle.std.specs.Prelude.{◌≡◌, ◌<◌, ◌≤◌, unsigned_abs};
 ghost use Rattle.daa_fixed.specs.Leg.{IsLegInRange, IsSolidBelow};
@@ -113,7 +113,8 @@ fn violates_for_a_fraction_of_a_second(rt: HostRuntime) -> Result<(), Fail> {
     Ok(())
 }
 
-// Near until 6.6 seconds, and within 100 feet from 6.8 seconds on, both on the seventh second; within 120 feet from 6.4 on.
+// Near until 6.6 seconds, and within 100 feet from 6.8 seconds on, both on the seventh second;
+// within 120 feet from 6.4 on.
 #[test]
 fn both_parts_at_one_time(rt: HostRuntime) -> Result<(), Fail> {
     let hundred_feet = Volume {
@@ -142,8 +143,9 @@ fn no_speed_on_any_axis(rt: HostRuntime) -> Result<(), Fail> {
     Ok(())
 }
 
-// Ten seconds before a closest approach of 0.33 miles, with 8 seconds: modified tau counts at once, the time to the closest
-// approach from second 2 on. A line that misses 0.66 miles by a unit never counts.
+// Ten seconds before a closest approach of 0.33 miles, with 8 seconds: modified tau counts at once,
+// the time to the closest approach from second 2 on. A line that misses 0.66 miles by a unit never
+// counts.
 #[test]
 fn times_ahead_by_model(rt: HostRuntime) -> Result<(), Fail> {
     let tau = Volume {
@@ -218,8 +220,8 @@ fn closest_of(leg: &Leg) -> Option<Point>
     }
 }
 
-/// Whether the volume itself holds at one of three times: the first and the last at which its vertical part does, and the
-/// closest approach.
+/// Whether the volume itself holds at one of three times: the first and the last at which its
+/// vertical part does, and the closest approach.
 fn violates_at_one_of_three(leg: &Leg, volume: &Volume) -> bool
     requires leg { IsLegInRange leg.now }
     requires volume { IsVolumeInRange volume.now }
@@ -249,7 +251,8 @@ fn agreed(leg: &Leg, volume: &Volume) -> Option<bool>
     }
 }
 
-// On each side at 23760 units and one more, standing still; and with ten seconds ahead, flying there.
+// On each side at 23760 units and one more, standing still; and with ten seconds ahead, flying
+// there.
 #[test]
 fn box_test_changes_no_answer(rt: HostRuntime) -> Result<(), Fail> {
     assert!(rt; agreed(&leg(&solid(23760, 0, 0), &STILL, 1), &CYLINDER) == Some(true));
@@ -276,8 +279,8 @@ const HUNDRED_FEET: Volume = Volume {
     ..CYLINDER
 };
 
-/// Ten seconds northward at 360 knots, climbing at 3000 feet a minute from 140 feet below: within 100 feet from 0.8 to 4.8
-/// seconds.
+/// Ten seconds northward at 360 knots, climbing at 3000 feet a minute from 140 feet below: within
+/// 100 feet from 0.8 to 4.8 seconds.
 fn climbing(east: i64, north: i64) -> Leg
     requires east { unsigned_abs east < 40000000 }
     requires north { unsigned_abs north < 40000000 }
@@ -286,7 +289,8 @@ fn climbing(east: i64, north: i64) -> Leg
     leg(&solid(east, north, -8400), &solid(0, 3600, 3000), 10)
 }
 
-// It is 0.66 miles off at 0.8 seconds, at 4.8 seconds or at the closest approach, or a unit farther.
+// It is 0.66 miles off at 0.8 seconds, at 4.8 seconds or at the closest approach, or a unit
+// farther.
 #[test]
 fn nearest_time_of_the_window_decides(rt: HostRuntime) -> Result<(), Fail> {
     assert!(rt; agreed(&climbing(0, 20880), &HUNDRED_FEET) == Some(true));
@@ -304,7 +308,8 @@ fn nearest_time_of_the_window_decides(rt: HostRuntime) -> Result<(), Fail> {
     Ok(())
 }
 
-// At 4.8 seconds the closest approach is a second ahead, at 23760 units, or ten seconds ahead, at 11880; or a unit farther on.
+// At 4.8 seconds the closest approach is a second ahead, at 23760 units, or ten seconds ahead, at
+// 11880; or a unit farther on.
 #[test]
 fn time_ahead_at_the_end_of_the_window(rt: HostRuntime) -> Result<(), Fail> {
     let second = Volume {

@@ -20,7 +20,8 @@ pub(crate) struct AircraftAlert {
 /// What is found of each aircraft, in the order of the input.
 pub(crate) fn find_alerts(config: &Config, picture: &Picture) -> ArrayVec<AircraftAlert, 64>
     requires { IsPictureInRange picture.now }
-    ensures { AreAircraftAlerts config.now picture.now.own (aircraft_of picture.now) (length (aircraft_of picture.now)) result.items }
+    ensures { AreAircraftAlerts config.now picture.now.own (aircraft_of picture.now)
+        (length (aircraft_of picture.now)) result.items }
 {
     let mut all = ArrayVec::new();
     for aircraft in picture.traffic.as_slice() {

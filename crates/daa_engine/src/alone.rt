@@ -1,4 +1,5 @@
-//! A moment decided in the caller's own thread, and what is asked after it. Nothing here starts a thread or takes memory.
+//! A moment decided in the caller's own thread, and what is asked after it. Nothing here starts a
+//! thread or takes memory.
 ghost use Rattle.std.specs.Prelude.{◌≡◌, ◌≢◌, ◌<◌, ◌≤◌, None, length, slice_index_or};
 ghost use Rattle.daa_bands.specs.Board.{HasLevelOn, IsBoardOf, mask_levels};
 ghost use Rattle.daa_bands.specs.KindBands.{AreKindBands};
@@ -32,17 +33,20 @@ use daa_resolve::{Side, nearest};
 use daa_state::{Own, Picture};
 
 impl Engine {
-    /// Decides a moment as `decide` does, in the caller's thread alone and without memory, whatever the number of workers.
+    /// Decides a moment as `decide` does, in the caller's thread alone and without memory, whatever
+    /// the number of workers.
     pub fn decide_alone(&mut self, picture: &Picture)
         requires { IsPictureInRange picture.now }
         ensures kept { self.new ≡ record self.old { board = self.new.board } }
-        ensures board { IsBoardOf (CoveredAt self.old.settings picture.now) self.old.settings self.new.board }
+        ensures board { IsBoardOf
+            (CoveredAt self.old.settings picture.now) self.old.settings self.new.board }
     {
         self.trunks.fill(&picture.own, &self.config);
         fill(&mut self.board, &self.trunks, &self.config, picture);
     }
 
-    /// Decides a moment and writes its lines as `report` does, in the caller's thread alone and without memory.
+    /// Decides a moment and writes its lines as `report` does, in the caller's thread alone and
+    /// without memory.
     pub fn report_alone<K: Sink>(
         &mut self,
         picture: &Picture,
@@ -50,9 +54,12 @@ impl Engine {
     ) -> Result<(), SinkFault>
         requires { IsPictureInRange picture.now }
         ensures kept { self.new ≡ record self.old { board = self.new.board } }
-        ensures board { IsBoardOf (CoveredAt self.old.settings picture.now) self.old.settings self.new.board }
-        ensures short { (text : Text) → IsMomentText self.old.settings picture.now text → length text ≤ longest_moment }
-        ensures says { SaysSome (IsMomentText self.old.settings picture.now) (K.taken sink.old) (K.taken sink.new) (K.faults sink.old) (K.faults sink.new) result }
+        ensures board { IsBoardOf
+            (CoveredAt self.old.settings picture.now) self.old.settings self.new.board }
+        ensures short { (text : Text) → IsMomentText self.old.settings picture.now text
+            → length text ≤ longest_moment }
+        ensures says { SaysSome (IsMomentText self.old.settings picture.now) (K.taken sink.old)
+            (K.taken sink.new) (K.faults sink.old) (K.faults sink.new) result }
     {
         // tells that it is a `u32`
         let _time = time_of(picture);
@@ -71,18 +78,20 @@ impl Engine {
         )
     }
 
-    /// The level of an aircraft of a picture now, by its place in the picture's list: the greatest level whose volume is
-    /// violated at the beginning of the present flight, or 0.
+    /// The level of an aircraft of a picture now, by its place in the picture's list: the greatest
+    /// level whose volume is violated at the beginning of the present flight, or 0.
     pub fn now_of(&self, picture: &Picture, aircraft: usize) -> u8
         requires picture { IsPictureInRange picture.now }
         requires aircraft { aircraft < length (aircraft_of picture.now) }
-        ensures { (t : Traffic) → IsNowLevel self.now.settings picture.now.own (slice_index_or (aircraft_of picture.now) aircraft t) result }
+        ensures { (t : Traffic)
+            → IsNowLevel self.now.settings picture.now.own
+            (slice_index_or (aircraft_of picture.now) aircraft t) result }
     {
         now_level(&self.config, &picture.own, &picture.traffic[aircraft])
     }
 
-    /// The level of the candidate at an index of the configuration's whole list: the greatest that the board of the latest
-    /// moment has for it, or 0.
+    /// The level of the candidate at an index of the configuration's whole list: the greatest that
+    /// the board of the latest moment has for it, or 0.
     pub fn level_of(&self, index: u32) -> u8
         requires { index < length (candidates_of self.now.settings) }
         ensures { IsGreatestLevel (HasLevelOn self.now.board index) mask_levels result }
@@ -92,23 +101,26 @@ impl Engine {
         self.board.shown(index)
     }
 
-    /// The bands of a kind in the latest moment, in the rising order of the values, those of level 0 too.
+    /// The bands of a kind in the latest moment, in the rising order of the values, those of level
+    /// 0 too.
     pub fn bands(&self, kind: Kind) -> Runs<'_>
-        ensures { AreKindBands (HasLevelOn self.now.board) mask_levels self.now.settings kind result }
+        ensures { AreKindBands
+            (HasLevelOn self.now.board) mask_levels self.now.settings kind result }
     {
         runs(&self.board, &self.config, kind)
     }
 
-    /// What is answered in the latest moment on a side of a kind: the nearest open candidate, that there is none, or that
-    /// the present flight may be kept. The ownship is that moment's.
+    /// What is answered in the latest moment on a side of a kind: the nearest open candidate, that
+    /// there is none, or that the present flight may be kept. The ownship is that moment's.
     pub fn resolution(&self, own: &Own, kind: Kind, side: Side) -> Resolution
-        ensures { IsResolution (HasLevelOn self.now.board) self.now.settings own.now kind side result }
+        ensures { IsResolution
+            (HasLevelOn self.now.board) self.now.settings own.now kind side result }
     {
         nearest(&self.board, &self.config, own, kind, side)
     }
 
-    /// The recovery of a kind in a moment: after how many seconds the first candidate is clear, and its value. The
-    /// configuration asks for recoveries.
+    /// The recovery of a kind in a moment: after how many seconds the first candidate is clear, and
+    /// its value. The configuration asks for recoveries.
     pub fn recovery(&self, picture: &Picture, kind: Kind) -> Option<Recovery>
         requires asked { self.now.settings.recovery ≢ None }
         requires picture { IsPictureInRange picture.now }

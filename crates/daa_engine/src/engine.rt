@@ -66,11 +66,12 @@ pub(crate) fn time_of(picture: &Picture) -> u32
 }
 
 impl Engine {
-    /// An engine of this configuration and so many workers, 1 to 16, before its first moment. `NoMemory` says that there
-    /// was no memory for it.
+    /// An engine of this configuration and so many workers, 1 to 16, before its first moment.
+    /// `NoMemory` says that there was no memory for it.
     pub fn new(alloc: Global, config: Config, workers: u32) -> Result<Engine, NoMemory>
         requires { IsWorkerCount workers }
-        ensures { IfOk result (λ engine. engine ≡ record { settings = config; workers = workers; board = replicate board_size 0 }) }
+        ensures { IfOk result
+            (λ engine. engine ≡ record { settings = config; workers = workers; board = replicate board_size 0 }) }
     {
         // tells that its numbers are in range
         let _levels = config.levels();
@@ -100,20 +101,25 @@ impl Engine {
         &self.board
     }
 
-    /// The alert of an aircraft of a picture, by its place in the picture's list: the greatest level whose volume the present
-    /// flight violates round it within the level's alert time, or 0, and the first leg that does.
+    /// The alert of an aircraft of a picture, by its place in the picture's list: the greatest
+    /// level whose volume the present flight violates round it within the level's alert time, or 0,
+    /// and the first leg that does.
     pub fn alert_of(&self, picture: &Picture, aircraft: usize) -> Alert
         requires picture { IsPictureInRange picture.now }
         requires aircraft { aircraft < length (aircraft_of picture.now) }
-        ensures { (t : Traffic) → IsAlertOf self.now.settings picture.now.own (slice_index_or (aircraft_of picture.now) aircraft t) result }
+        ensures { (t : Traffic)
+            → IsAlertOf self.now.settings picture.now.own
+            (slice_index_or (aircraft_of picture.now) aircraft t) result }
     {
         alert(&self.config, &picture.own, &picture.traffic[aircraft])
     }
 
-    /// Decides a moment: bit l - 1 at a candidate's index is then set exactly where some aircraft of the picture meets the
-    /// candidate within the lookahead of level l, and no other bit is. Aircraft that no candidate can reach are skipped.
-    /// With more than one worker and some aircraft in reach each worker runs on a thread of its own; the gate is then passed
-    /// before each unit of work. Memory is asked for the workers alone; where there is none, one thread finds the same board.
+    /// Decides a moment: bit l - 1 at a candidate's index is then set exactly where some aircraft
+    /// of the picture meets the candidate within the lookahead of level l, and no other bit is.
+    /// Aircraft that no candidate can reach are skipped. With more than one worker and some
+    /// aircraft in reach each worker runs on a thread of its own; the gate is then passed before
+    /// each unit of work. Memory is asked for the workers alone; where there is none, one thread
+    /// finds the same board.
     pub fn decide<R: Threads + Sync, G: Gate>(
         &mut self,
         rt: &R,
@@ -123,7 +129,8 @@ impl Engine {
     )
         requires { IsPictureInRange picture.now }
         ensures kept { self.new ≡ record self.old { board = self.new.board } }
-        ensures board { IsBoardOf (CoveredAt self.old.settings picture.now) self.old.settings self.new.board }
+        ensures board { IsBoardOf
+            (CoveredAt self.old.settings picture.now) self.old.settings self.new.board }
     {
         self.trunks.fill(&picture.own, &self.config);
         if self.workers > 1 {
@@ -145,10 +152,11 @@ impl Engine {
         fill(&mut self.board, &self.trunks, &self.config, picture);
     }
 
-    /// Decides a moment and writes its lines to the sink: its first line, the lines of the aircraft, those of the bands of
-    /// each kind, of what is answered and of the recoveries, and its last line. Everything is found before the first byte is written, and
-    /// nothing is held back when the call returns. `SinkFault` comes only where the sink failed; then a beginning of the
-    /// lines is written. The lines have at most 130176 bytes together.
+    /// Decides a moment and writes its lines to the sink: its first line, the lines of the
+    /// aircraft, those of the bands of each kind, of what is answered and of the recoveries, and
+    /// its last line. Everything is found before the first byte is written, and nothing is held
+    /// back when the call returns. `SinkFault` comes only where the sink failed; then a beginning
+    /// of the lines is written. The lines have at most 130176 bytes together.
     pub fn report<R: Threads + Sync, K: Sink, G: Gate>(
         &mut self,
         rt: &R,
@@ -159,9 +167,12 @@ impl Engine {
     ) -> Result<(), SinkFault>
         requires { IsPictureInRange picture.now }
         ensures kept { self.new ≡ record self.old { board = self.new.board } }
-        ensures board { IsBoardOf (CoveredAt self.old.settings picture.now) self.old.settings self.new.board }
-        ensures short { (text : Text) → IsMomentText self.old.settings picture.now text → length text ≤ longest_moment }
-        ensures says { SaysSome (IsMomentText self.old.settings picture.now) (K.taken sink.old) (K.taken sink.new) (K.faults sink.old) (K.faults sink.new) result }
+        ensures board { IsBoardOf
+            (CoveredAt self.old.settings picture.now) self.old.settings self.new.board }
+        ensures short { (text : Text) → IsMomentText self.old.settings picture.now text
+            → length text ≤ longest_moment }
+        ensures says { SaysSome (IsMomentText self.old.settings picture.now) (K.taken sink.old)
+            (K.taken sink.new) (K.faults sink.old) (K.faults sink.new) result }
     {
         // tells that it is a `u32`
         let _time = time_of(picture);

@@ -29,11 +29,13 @@ pub(crate) fn fill(board: &mut Board, trunks: &Trunks, config: &Config, picture:
     }
 }
 
-/// Marks the levels at which each candidate meets an aircraft: none where no candidate can reach it.
+/// Marks the levels at which each candidate meets an aircraft: none where no candidate can reach
+/// it.
 fn mark_aircraft(board: &mut Board, scene: &Scene, config: &Config, place: u32)
     requires config { scene.now.settings ≡ config.now }
     requires place { place < length (aircraft_of scene.now.picture) }
-    ensures { AddsAircraft scene.now place (length (candidates_of scene.now.settings)) board.old board.new }
+    ensures { AddsAircraft scene.now place
+        (length (candidates_of scene.now.settings)) board.old board.new }
 {
     if !scene.in_reach(place) {
         return;

@@ -17,32 +17,36 @@ ghost use Rattle.daa_engine.specs.Longest.{longest_moment};
 ghost use Rattle.daa_engine.specs.MomentText.{IsMomentText};
 ghost use Rattle.daa_engine.specs.PlainText.{IsPlainText};
 
-/// Under a configuration that is accepted exactly one text is that of a picture in range. This holds of the definitions
-/// alone, whatever a program does: no memory or sink is in it.
+/// Under a configuration that is accepted exactly one text is that of a picture in range. This
+/// holds of the definitions alone, whatever a program does: no memory or sink is in it.
 pub fn every_picture_has_one_text()
-    ensures { (s : Settings) (p : Picture) → IsAccepted s → IsPictureInRange p → HasOne (IsMomentText s p) }
+    ensures { (s : Settings) (p : Picture) → IsAccepted s → IsPictureInRange p
+        → HasOne (IsMomentText s p) }
 {}
 
 /// Under a configuration that is accepted a picture has no two texts, in range or not.
 pub fn has_one_text()
-    ensures { (s : Settings) (p : Picture) (a b : Text) → IsAccepted s → IsMomentText s p a → IsMomentText s p b → a ≡ b }
+    ensures { (s : Settings) (p : Picture) (a b : Text) → IsAccepted s → IsMomentText s p a
+        → IsMomentText s p b → a ≡ b }
 {}
 
-/// A picture has one board at most: two boards that stand for what is covered have the same levels. So the workers' board is
-/// that of one thread.
+/// A picture has one board at most: two boards that stand for what is covered have the same levels.
+/// So the workers' board is that of one thread.
 pub fn has_one_board()
     ensures { (s : Settings) (p : Picture) (a b : List ℕ) (index l : ℕ) → IsBoardOf (CoveredAt s p) s a → IsBoardOf (CoveredAt s p) s b → 1 ≤ l
         → HasLevelOn a index l → HasLevelOn b index l }
 {}
 
-/// What a board shows is what aircraft do: over a board that stands for what is covered, the bands of a kind and the answer
-/// on a side are those over what is covered.
+/// What a board shows is what aircraft do: over a board that stands for what is covered, the bands
+/// of a kind and the answer on a side are those over what is covered.
 pub fn boards_tell_what_is_covered()
     ensures bands { (s : Settings) (p : Picture) (board : List ℕ) (kind : Kind) (bands : List Band) → IsAccepted s
-        → IsBoardOf (CoveredAt s p) s board → AreKindBands (HasLevelOn board) mask_levels s kind bands
+        → IsBoardOf (CoveredAt s p) s board
+        → AreKindBands (HasLevelOn board) mask_levels s kind bands
         → AreKindBands (CoveredAt s p) (length s.levels) s kind bands }
     ensures answers { (s : Settings) (p : Picture) (board : List ℕ) (kind : Kind) (side : Side) (answer : Resolution) → IsAccepted s
-        → IsBoardOf (CoveredAt s p) s board → IsResolution (HasLevelOn board) s p.own kind side answer
+        → IsBoardOf (CoveredAt s p) s board
+        → IsResolution (HasLevelOn board) s p.own kind side answer
         → IsResolution (CoveredAt s p) s p.own kind side answer }
 {}
 

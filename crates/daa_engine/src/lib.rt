@@ -1,5 +1,6 @@
-//! One moment: which candidates are covered, on a board, and the lines of its report. Every answer is found before the
-//! first byte is written, and what is written does not depend on how many workers there are.
+//! One moment: which candidates are covered, on a board, and the lines of its report. Every answer
+//! is found before the first byte is written, and what is written does not depend on how many
+//! workers there are.
 #![tactic(auto)]
 
 mod advice;

@@ -9,7 +9,8 @@ use daa_config::{Config, Kind, Resolution};
 use daa_recovery::{Recovery, least};
 use daa_state::Picture;
 
-/// What the line of a kind's recovery says, where the kind has one: after how many seconds, and the value; or that there is none.
+/// What the line of a kind's recovery says, where the kind has one: after how many seconds, and the
+/// value; or that there is none.
 #[derive(Clone, Copy, Debug)]
 pub(crate) enum Rescue {
     Silent,

@@ -23,7 +23,8 @@ fn say_now<K: Sink>(
     aircraft: &Traffic,
     alert: &AircraftAlert,
 ) -> Result<(), SinkFault>
-    ensures { PageSays (K.taken sink.old) (K.taken sink.new) page.old page.new (K.faults sink.old) (K.faults sink.new) (now_line aircraft.now.id alert.now.level_now) result }
+    ensures { PageSays (K.taken sink.old) (K.taken sink.new) page.old page.new (K.faults sink.old)
+        (K.faults sink.new) (now_line aircraft.now.id alert.now.level_now) result }
 {
     page.say(sink, &Line::now(&aircraft.id, alert.level_now))
 }
@@ -35,7 +36,8 @@ fn say_alert<K: Sink>(
     aircraft: &Traffic,
     alert: &AircraftAlert,
 ) -> Result<(), SinkFault>
-    ensures { PageSays (K.taken sink.old) (K.taken sink.new) page.old page.new (K.faults sink.old) (K.faults sink.new) (alert_line aircraft.now.id alert.now.level alert.now.first) result }
+    ensures { PageSays (K.taken sink.old) (K.taken sink.new) page.old page.new (K.faults sink.old)
+        (K.faults sink.new) (alert_line aircraft.now.id alert.now.level alert.now.first) result }
 {
     page.say(sink, &Line::alert(&aircraft.id, alert.level, alert.first))
 }
@@ -47,7 +49,8 @@ fn say_aircraft<K: Sink>(
     aircraft: &Traffic,
     alert: &AircraftAlert,
 ) -> Result<(), SinkFault>
-    ensures { PageSays (K.taken sink.old) (K.taken sink.new) page.old page.new (K.faults sink.old) (K.faults sink.new) (aircraft_text (aircraft.now, alert.now)) result }
+    ensures { PageSays (K.taken sink.old) (K.taken sink.new) page.old page.new (K.faults sink.old)
+        (K.faults sink.new) (aircraft_text (aircraft.now, alert.now)) result }
 {
     say_now(page, sink, aircraft, alert)?;
     say_alert(page, sink, aircraft, alert)
@@ -61,7 +64,8 @@ fn say_alerts<K: Sink>(
     alerts: &[AircraftAlert],
 ) -> Result<(), SinkFault>
     requires { length alerts.now ≡ length traffic.now }
-    ensures { PageSays (K.taken sink.old) (K.taken sink.new) page.old page.new (K.faults sink.old) (K.faults sink.new) (alerts_text traffic.now alerts.now) result }
+    ensures { PageSays (K.taken sink.old) (K.taken sink.new) page.old page.new (K.faults sink.old)
+        (K.faults sink.new) (alerts_text traffic.now alerts.now) result }
 {
     for place in 0..traffic.len() {
         say_aircraft(page, sink, &traffic[place], &alerts[place])?;
@@ -76,7 +80,8 @@ fn say_band<K: Sink>(
     kind: Kind,
     band: &Band,
 ) -> Result<(), SinkFault>
-    ensures { PageSays (K.taken sink.old) (K.taken sink.new) page.old page.new (K.faults sink.old) (K.faults sink.new) (line_of kind band.now) result }
+    ensures { PageSays (K.taken sink.old) (K.taken sink.new) page.old page.new (K.faults sink.old)
+        (K.faults sink.new) (line_of kind band.now) result }
 {
     page.say(sink, &Line::band(kind, band.from, band.upto, band.level))
 }
@@ -89,7 +94,8 @@ fn say_bands<K: Sink>(
     config: &Config,
     kind: Kind,
 ) -> Result<(), SinkFault>
-    ensures { PageSays (K.taken sink.old) (K.taken sink.new) page.old page.new (K.faults sink.old) (K.faults sink.new) (bands_text config.now board.now kind) result }
+    ensures { PageSays (K.taken sink.old) (K.taken sink.new) page.old page.new (K.faults sink.old)
+        (K.faults sink.new) (bands_text config.now board.now kind) result }
 {
     for band in runs(board, config, kind) {
         say_band(page, sink, kind, &band)?;
@@ -104,7 +110,8 @@ fn say_all_bands<K: Sink>(
     board: &Board,
     config: &Config,
 ) -> Result<(), SinkFault>
-    ensures { PageSays (K.taken sink.old) (K.taken sink.new) page.old page.new (K.faults sink.old) (K.faults sink.new) (bands_texts config.now board.now) result }
+    ensures { PageSays (K.taken sink.old) (K.taken sink.new) page.old page.new (K.faults sink.old)
+        (K.faults sink.new) (bands_texts config.now board.now) result }
 {
     say_bands(page, sink, board, config, Kind::Track)?;
     say_bands(page, sink, board, config, Kind::Speed)?;
@@ -119,14 +126,16 @@ fn say_sides<K: Sink>(
     kind: Kind,
     sides: &Sides,
 ) -> Result<(), SinkFault>
-    ensures { PageSays (K.taken sink.old) (K.taken sink.new) page.old page.new (K.faults sink.old) (K.faults sink.new) (sides_text kind sides.now) result }
+    ensures { PageSays (K.taken sink.old) (K.taken sink.new) page.old page.new (K.faults sink.old)
+        (K.faults sink.new) (sides_text kind sides.now) result }
 {
     page.say(sink, &Line::resolve(kind, sides.lower, sides.upper))
 }
 
 /// Says the lines of what is answered on all sides.
 fn say_advice<K: Sink>(page: &mut Page, sink: &mut K, advice: &Advice) -> Result<(), SinkFault>
-    ensures { PageSays (K.taken sink.old) (K.taken sink.new) page.old page.new (K.faults sink.old) (K.faults sink.new) (advice_text advice.now) result }
+    ensures { PageSays (K.taken sink.old) (K.taken sink.new) page.old page.new (K.faults sink.old)
+        (K.faults sink.new) (advice_text advice.now) result }
 {
     say_sides(page, sink, Kind::Track, &advice.track)?;
     say_sides(page, sink, Kind::Speed, &advice.speed)?;
@@ -141,7 +150,8 @@ fn say_rescue<K: Sink>(
     kind: Kind,
     rescue: &Rescue,
 ) -> Result<(), SinkFault>
-    ensures { PageSays (K.taken sink.old) (K.taken sink.new) page.old page.new (K.faults sink.old) (K.faults sink.new) (rescue_text kind rescue.now) result }
+    ensures { PageSays (K.taken sink.old) (K.taken sink.new) page.old page.new (K.faults sink.old)
+        (K.faults sink.new) (rescue_text kind rescue.now) result }
 {
     match *rescue {
         Rescue::Silent => Ok(()),
@@ -151,7 +161,8 @@ fn say_rescue<K: Sink>(
 
 /// Says the lines of the recoveries of all kinds that have one.
 fn say_rescues<K: Sink>(page: &mut Page, sink: &mut K, rescues: &Rescues) -> Result<(), SinkFault>
-    ensures { PageSays (K.taken sink.old) (K.taken sink.new) page.old page.new (K.faults sink.old) (K.faults sink.new) (rescues_text rescues.now) result }
+    ensures { PageSays (K.taken sink.old) (K.taken sink.new) page.old page.new (K.faults sink.old)
+        (K.faults sink.new) (rescues_text rescues.now) result }
 {
     say_rescue(page, sink, Kind::Track, &rescues.track)?;
     say_rescue(page, sink, Kind::Speed, &rescues.speed)?;
@@ -161,14 +172,16 @@ fn say_rescues<K: Sink>(page: &mut Page, sink: &mut K, rescues: &Rescues) -> Res
 
 /// Says the line that begins a moment.
 fn say_head<K: Sink>(page: &mut Page, sink: &mut K, picture: &Picture) -> Result<(), SinkFault>
-    ensures { PageSays (K.taken sink.old) (K.taken sink.new) page.old page.new (K.faults sink.old) (K.faults sink.new) (moment_line picture.now.time) result }
+    ensures { PageSays (K.taken sink.old) (K.taken sink.new) page.old page.new (K.faults sink.old)
+        (K.faults sink.new) (moment_line picture.now.time) result }
 {
     page.say(sink, &Line::moment(picture.time))
 }
 
 /// Says the line that ends a moment.
 fn say_foot<K: Sink>(page: &mut Page, sink: &mut K, picture: &Picture) -> Result<(), SinkFault>
-    ensures { PageSays (K.taken sink.old) (K.taken sink.new) page.old page.new (K.faults sink.old) (K.faults sink.new) (done_line picture.now.time) result }
+    ensures { PageSays (K.taken sink.old) (K.taken sink.new) page.old page.new (K.faults sink.old)
+        (K.faults sink.new) (done_line picture.now.time) result }
 {
     page.say(sink, &Line::done(picture.time))
 }
@@ -181,7 +194,8 @@ fn say_traffic<K: Sink>(
     alerts: &[AircraftAlert],
 ) -> Result<(), SinkFault>
     requires { length alerts.now ≡ length (aircraft_of picture.now) }
-    ensures { PageSays (K.taken sink.old) (K.taken sink.new) page.old page.new (K.faults sink.old) (K.faults sink.new) (alerts_text (aircraft_of picture.now) alerts.now) result }
+    ensures { PageSays (K.taken sink.old) (K.taken sink.new) page.old page.new (K.faults sink.old)
+        (K.faults sink.new) (alerts_text (aircraft_of picture.now) alerts.now) result }
 {
     say_alerts(page, sink, picture.traffic.as_slice(), alerts)
 }
@@ -198,7 +212,8 @@ fn say_parts<K: Sink>(
     rescues: &Rescues,
 ) -> Result<(), SinkFault>
     requires { length alerts.now ≡ length (aircraft_of picture.now) }
-    ensures { PageSays (K.taken sink.old) (K.taken sink.new) page.old page.new (K.faults sink.old) (K.faults sink.new) (written config.now picture.now board.now alerts.now advice.now rescues.now) result }
+    ensures { PageSays (K.taken sink.old) (K.taken sink.new) page.old page.new (K.faults sink.old)
+        (K.faults sink.new) (written config.now picture.now board.now alerts.now advice.now rescues.now) result }
 {
     say_head(page, sink, picture)?;
     say_traffic(page, sink, picture, alerts)?;
@@ -220,7 +235,8 @@ pub(crate) fn say<K: Sink>(
     rescues: &Rescues,
 ) -> Result<(), SinkFault>
     requires { length alerts.now ≡ length (aircraft_of picture.now) }
-    ensures { Says (K.taken sink.old) (K.taken sink.new) (K.faults sink.old) (K.faults sink.new) (written config.now picture.now board.now alerts.now advice.now rescues.now) result }
+    ensures { Says (K.taken sink.old) (K.taken sink.new) (K.faults sink.old) (K.faults sink.new)
+        (written config.now picture.now board.now alerts.now advice.now rescues.now) result }
 {
     let mut page = Page::new();
     say_parts(

@@ -566,7 +566,8 @@ fn largest_values(rt: HostRuntime) -> Result<(), Fail> {
     Ok(())
 }
 
-/// The lines of the aircraft are written before those of the bands, and a sink that fails has taken a beginning.
+/// The lines of the aircraft are written before those of the bands, and a sink that fails has taken
+/// a beginning.
 #[test]
 fn sinks_that_fail(rt: HostRuntime) -> Result<(), Fail> {
     let alloc = rt.alloc();
@@ -642,7 +643,8 @@ fn has_mask(engine: &Engine, mask: u8) -> bool {
     false
 }
 
-/// In both moments some candidates are clear, some are covered at level 1 alone and some at all three.
+/// In both moments some candidates are clear, some are covered at level 1 alone and some at all
+/// three.
 #[test]
 fn boards_are_those_of_a_walk_second_by_second(rt: HostRuntime) -> Result<(), Fail> {
     let mut engine = engine_of(&rt, THREE_LEVELS, &[])?;

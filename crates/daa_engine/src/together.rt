@@ -1,4 +1,5 @@
-//! Fills a board by all workers together: each unit of work is answered by one of them with a packed word.
+//! Fills a board by all workers together: each unit of work is answered by one of them with a
+//! packed word.
 ghost use Rattle.std.specs.Prelude.{◌≡◌, ◌<◌, ◌≤◌, OnErr, OnOk, length, replicate};
 ghost use Rattle.daa_bands.specs.Board.{IsBoardOf, board_size};
 ghost use Rattle.daa_scan.specs.Reach.{NoneIsMetOutOfReach};
@@ -19,9 +20,10 @@ use daa_state::Picture;
 use std::alloc::Global;
 use std::thread::Threads;
 
-/// Marks the levels at which each candidate is covered, and no others, by so many workers. The words are room for their
-/// answers. Where no aircraft is in reach there is no unit, and no worker is needed. `NoMemory` says that there was no
-/// memory for the workers; then the board is as it was.
+/// Marks the levels at which each candidate is covered, and no others, by so many workers. The
+/// words are room for their answers. Where no aircraft is in reach there is no unit, and no worker
+/// is needed. `NoMemory` says that there was no memory for the workers; then the board is as it
+/// was.
 pub(crate) fn fill_together<R: Threads + Sync, G: Gate>(
     rt: &R,
     alloc: Global,
@@ -38,7 +40,8 @@ pub(crate) fn fill_together<R: Threads + Sync, G: Gate>(
     requires room { HasRoom words.old.items }
     requires workers { IsWorkerCount workers }
     ensures room { HasRoom words.new.items }
-    ensures board { OnOk result (IsBoardOf (CoveredAt config.now picture.now) config.now board.new) }
+    ensures board { OnOk result
+        (IsBoardOf (CoveredAt config.now picture.now) config.now board.new) }
     ensures kept { OnErr result (board.new ≡ board.old) }
 {
     let scene = Scene::of(config, picture, trunks);
@@ -51,7 +54,8 @@ pub(crate) fn fill_together<R: Threads + Sync, G: Gate>(
     Ok(())
 }
 
-/// Marks the levels at which each candidate is covered, and no others. The words are those of the scene's units, in order.
+/// Marks the levels at which each candidate is covered, and no others. The words are those of the
+/// scene's units, in order.
 fn merge(board: &mut Board, scene: &Scene, words: &[u64])
     requires few { length words.now ≤ most_units }
     requires words { AreWordsOf scene.now words.now }

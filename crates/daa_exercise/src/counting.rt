@@ -14,8 +14,8 @@ use daa_config::Kind;
 use daa_engine::Engine;
 use daa_state::Picture;
 
-/// What is counted of the moments so far: the aircraft, how often each level was an aircraft's alert level, and how often it
-/// was the shown level of a candidate of each kind.
+/// What is counted of the moments so far: the aircraft, how often each level was an aircraft's
+/// alert level, and how often it was the shown level of a candidate of each kind.
 #[derive(Drop)]
 pub(crate) struct Counts {
     pub(crate) aircraft: u32,
@@ -46,7 +46,8 @@ impl Counts {
     pub(crate) fn add(&mut self, engine: &Engine, picture: &Picture)
         requires accepted { IsAccepted engine.now.settings }
         requires picture { IsPictureInRange picture.now }
-        requires board { IsBoardOf (CoveredAt engine.now.settings picture.now) engine.now.settings engine.now.board }
+        requires board { IsBoardOf
+            (CoveredAt engine.now.settings picture.now) engine.now.settings engine.now.board }
         requires room { IsRoomy self.old }
         ensures { CountsPicture engine.now.settings picture.now self.old self.new }
     {
@@ -74,7 +75,8 @@ fn count_alerts(tally: &mut Tally, engine: &Engine, picture: &Picture)
 /// Counts the levels that the board shows of a kind's candidates.
 fn count_shown(tally: &mut Tally, engine: &Engine, kind: Kind)
     requires { HasRoomFor 512 tally.old }
-    ensures { Adds (AreShown (HasLevelOn engine.now.board) mask_levels engine.now.settings kind) tally.old tally.new }
+    ensures { Adds (AreShown
+        (HasLevelOn engine.now.board) mask_levels engine.now.settings kind) tally.old tally.new }
 {
     let config = engine.config();
     let start = config.start(kind);

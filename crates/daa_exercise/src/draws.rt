@@ -1,4 +1,5 @@
-//! What is drawn: the outputs of a generator, the numbers that they pick, and the moments of these numbers.
+//! What is drawn: the outputs of a generator, the numbers that they pick, and the moments of these
+//! numbers.
 ghost use Rattle.std.specs.Prelude.{◌≡◌, ◌≤◌, ◌+◌, ◌*◌, ◌≤ℤ◌, nat_abs, pos};
 ghost use Rattle.daa_state.specs.InRange.{IsPictureInRange};
 ghost use Rattle.daa_exercise.specs.Drawing.{after, range_of, IsSpan};

@@ -12,11 +12,12 @@ use daa_report::{SinkFault, put};
 use std::alloc::Global;
 use std::thread::Threads;
 
-/// Decides the moments that a seed draws, as many as are asked for, at most 10000, and writes their summary: how many
-/// aircraft they had, how often each level was an aircraft's alert level, and how often each was the shown level of a
-/// candidate of each kind. All is counted before the first byte is written, and the same seed has the same summary for
-/// every number of workers. Of the allocator the engine asks what it asks for to decide. `SinkFault` comes only where
-/// the sink failed; then a beginning of the summary is written.
+/// Decides the moments that a seed draws, as many as are asked for, at most 10000, and writes their
+/// summary: how many aircraft they had, how often each level was an aircraft's alert level, and how
+/// often each was the shown level of a candidate of each kind. All is counted before the first byte
+/// is written, and the same seed has the same summary for every number of workers. Of the allocator
+/// the engine asks what it asks for to decide. `SinkFault` comes only where the sink failed; then a
+/// beginning of the summary is written.
 pub fn exercise<R: Threads + Sync, K: Sink, G: Gate>(
     engine: &mut Engine,
     rt: &R,
@@ -28,7 +29,8 @@ pub fn exercise<R: Threads + Sync, K: Sink, G: Gate>(
 ) -> Result<(), SinkFault>
     requires few { moments ≤ 10000 }
     ensures kept { engine.new ≡ record engine.old { board = engine.new.board } }
-    ensures says { SaysSome (IsSummaryOf engine.old.settings seed moments) (K.taken sink.old) (K.taken sink.new) (K.faults sink.old) (K.faults sink.new) result }
+    ensures says { SaysSome (IsSummaryOf engine.old.settings seed moments) (K.taken sink.old)
+        (K.taken sink.new) (K.faults sink.old) (K.faults sink.new) result }
 {
     let top = engine.config().levels();
     let mut draws = Draws::of(seed);

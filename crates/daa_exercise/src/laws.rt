@@ -14,10 +14,11 @@ ghost use Rattle.daa_exercise.specs.Summary.{IsSummaryOf};
 ghost use Rattle.daa_exercise.specs.Taken.{IsTaken};
 ghost use Rattle.daa_exercise.specs.Outputs.{Outputs, generator_of, outputs_of};
 
-/// Under a configuration that is accepted exactly one text is the summary of a seed and a number of moments. This holds of
-/// the definitions alone, whatever a program does.
+/// Under a configuration that is accepted exactly one text is the summary of a seed and a number of
+/// moments. This holds of the definitions alone, whatever a program does.
 pub fn every_exercise_has_one_summary()
-    ensures { (s : Settings) (seed moments : ℕ) → IsAccepted s → HasOne (IsSummaryOf s seed moments) }
+    ensures { (s : Settings) (seed moments : ℕ) → IsAccepted s
+        → HasOne (IsSummaryOf s seed moments) }
 {}
 
 /// Every moment that is drawn is in range, whatever the outputs are.
@@ -25,16 +26,16 @@ pub fn drawn_moments_are_in_range()
     ensures { (output : Outputs) (time : ℕ) → IsPictureInRange (moment_of output time) }
 {}
 
-/// No moment that is drawn is refused: after any state with no open moment whose last time, if there is one, is earlier, each
-/// word that says the moment is accepted, and its end gives the moment. So the moments of the times 0, 1, .. are accepted one
-/// after the other.
+/// No moment that is drawn is refused: after any state with no open moment whose last time, if
+/// there is one, is earlier, each word that says the moment is accepted, and its end gives the
+/// moment. So the moments of the times 0, 1, .. are accepted one after the other.
 pub fn drawn_moments_are_taken()
     ensures { (output : Outputs) (time : ℕ) (state : State) → time < 2 ^ 32 → state.moment ≡ None → IfSome state.last (λ last. last < time)
         → IsTaken state (moment_of output time) }
 {}
 
-/// How often each level was an alert level adds up to the number of aircraft, and how often each was shown for a kind to
-/// the number of moments times that of the kind's candidates.
+/// How often each level was an alert level adds up to the number of aircraft, and how often each
+/// was shown for a kind to the number of moments times that of the kind's candidates.
 pub fn counts_add_up()
     ensures alerts { (s : Settings) (output : Outputs) (moments : ℕ) (levels : List ℕ) → AreLevels (HasAlerts s) output moments levels
         → sum (counts_of (length s.levels) levels) ≡ aircraft_in output moments }
@@ -42,13 +43,15 @@ pub fn counts_add_up()
         → sum (counts_of (length s.levels) levels) ≡ moments * length (values_of kind s) }
 {}
 
-/// Worked examples: the first outputs of the seed 7, its first ownship and first aircraft, the draws before its second
-/// moment, and levels that are counted.
+/// Worked examples: the first outputs of the seed 7, its first ownship and first aircraft, the
+/// draws before its second moment, and levels that are counted.
 pub fn worked_examples()
-    ensures outputs { first_words pcg32 3 (generator_of 7) ≡ 2442223337 ∷ 414063806 ∷ 2743600285 ∷ [] }
+    ensures outputs { first_words pcg32 3
+        (generator_of 7) ≡ 2442223337 ∷ 414063806 ∷ 2743600285 ∷ [] }
     ensures third { outputs_of 7 2 ≡ 2743600285 }
     ensures own { own_at (outputs_of 7) 0 ≡ record { x = pos 0; y = pos 0; alt = pos 1232; trk = pos 86; gs = pos 2732; vs = pos 1808 } }
-    ensures aircraft { aircraft_at (outputs_of 7) (pos 1232) 1 5 ≡ record { id = codes "A1"; x = pos 4580; y = pos 474; alt = pos 1225; vx = neg_ℤ (pos 2328); vy = neg_ℤ (pos 127); vs = neg_ℤ (pos 1150); age = 0 } }
+    ensures aircraft { aircraft_at (outputs_of 7)
+        (pos 1232) 1 5 ≡ record { id = codes "A1"; x = pos 4580; y = pos 474; alt = pos 1225; vx = neg_ℤ (pos 2328); vy = neg_ℤ (pos 127); vs = neg_ℤ (pos 1150); age = 0 } }
     ensures second { begin_of (outputs_of 7) 1 ≡ 23 }
     ensures counts { counts_of 3 (0 ∷ 3 ∷ 0 ∷ 1 ∷ []) ≡ 2 ∷ 1 ∷ 0 ∷ 1 ∷ [] }
 {}

@@ -1,4 +1,5 @@
-//! An exercise: moments that a random generator draws, what the engine answers of them counted, and the summary written.
+//! An exercise: moments that a random generator draws, what the engine answers of them counted, and
+//! the summary written.
 #![tactic(auto)]
 
 mod counting;

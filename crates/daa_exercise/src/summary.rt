@@ -10,7 +10,8 @@ use arrayvec::ArrayVec;
 use daa_config::Kind;
 use daa_report::{Line, kind_word};
 
-/// The summary of a seed and so many moments, with the counts of the levels up to the top one, which is at most 4.
+/// The summary of a seed and so many moments, with the counts of the levels up to the top one,
+/// which is at most 4.
 #[tactic(auto, unfolding(crate::specs::Summary::summary_text))]
 pub(crate) fn summary(seed: u32, moments: u32, top: u32, counts: &Counts) -> ArrayVec<u8, 512>
     requires { top ≤ 4 }
@@ -32,7 +33,8 @@ pub(crate) fn summary(seed: u32, moments: u32, top: u32, counts: &Counts) -> Arr
 fn add_kind(text: &mut ArrayVec<u8, 512>, kind: Kind, tally: &Tally, top: u32)
     requires room { array_vec_len text.old + 64 ≤ 512 }
     requires top { top ≤ 4 }
-    ensures items { text.new.items ≡ text.old.items ++ numbers_line (kind_word kind) (take (top + 1) tally.now) }
+    ensures items { text.new.items ≡ text.old.items ++ numbers_line (kind_word kind)
+        (take (top + 1) tally.now) }
     ensures len { array_vec_len text.new ≤ array_vec_len text.old + 64 }
 {
     add(text, &Line::numbers(kind_word(kind), tally.upto(top)));

@@ -94,7 +94,8 @@ fn twenty_moments_of_three_levels(rt: HostRuntime) -> Result<(), Fail> {
     expect_summary(&rt, THREE_LEVELS, 7, 20, TWENTY)
 }
 
-/// A third of a second as the gate builds it, but minutes under `rt try`, which wants `--seconds 400` here.
+/// A third of a second as the gate builds it, but minutes under `rt try`, which wants `--seconds
+/// 400` here.
 #[test]
 fn a_hundred_moments_of_three_levels(rt: HostRuntime) -> Result<(), Fail> {
     expect_summary(&rt, THREE_LEVELS, 7, 100, HUNDRED)
@@ -148,7 +149,8 @@ impl Gate for Counter {
     }
 }
 
-/// Of the seven aircraft of three moments four are in reach, each of which is one unit of work; one thread passes no gate.
+/// Of the seven aircraft of three moments four are in reach, each of which is one unit of work; one
+/// thread passes no gate.
 #[test]
 fn the_gate_is_passed_once_for_each_unit(rt: HostRuntime) -> Result<(), Fail> {
     for (workers, passes) in [(1, 0), (2, 4)] {

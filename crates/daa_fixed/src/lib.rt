@@ -1,5 +1,5 @@
-//! Exact whole-number geometry of the local plane: vectors, straight legs, fractions of seconds and units.
-//! Nothing is rounded: products and comparisons are those of the numbers themselves.
+//! Exact whole-number geometry of the local plane: vectors, straight legs, fractions of seconds and
+//! units. Nothing is rounded: products and comparisons are those of the numbers themselves.
 #![tactic(auto)]
 
 ghost use Rattle.std.specs.Prelude.{◌^◌, ◌≤ℤ◌, pos};
@@ -20,8 +20,8 @@ pub struct Solid {
     pub up: i64,
 }
 
-/// A straight flight of 1 to 180 seconds at one velocity, of one aircraft as seen from another. In range its
-/// place is below 40000000 and its velocity below 40000 in size on each axis.
+/// A straight flight of 1 to 180 seconds at one velocity, of one aircraft as seen from another. In
+/// range its place is below 40000000 and its velocity below 40000 in size on each axis.
 #[derive(Clone, Copy, Debug, PartialEq, Eq)]
 pub struct Leg {
     pub place: Solid,

@@ -42,7 +42,8 @@ pub fn unit(deg: i32) -> (i32, i32)
 /// A law of the table: at each of the 360 degrees the squares of sine and cosine add up to
 /// 100000000, but for 15000 at most.
 pub fn sines_are_near_circle()
-    ensures { (deg : ℤ) → IsFrom (pos 0) (pos 359) deg → IsNearCircle (sine_of deg) (cosine_of deg) }
+    ensures { (deg : ℤ) → IsFrom (pos 0) (pos 359) deg
+        → IsNearCircle (sine_of deg) (cosine_of deg) }
 {}
 
 /// The part of a speed along an axis, cut toward zero.

@@ -1,5 +1,5 @@
-//! The velocity of an aircraft from its heading and ground speed, by a table of sines: whole numbers
-//! only, each axis cut toward zero.
+//! The velocity of an aircraft from its heading and ground speed, by a table of sines: whole
+//! numbers only, each axis cut toward zero.
 #![tactic(auto)]
 
 mod heading;

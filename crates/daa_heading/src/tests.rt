@@ -18,7 +18,8 @@ fn velocities_of_headings(rt: HostRuntime) -> Result<(), Fail> {
     Ok(())
 }
 
-// East is at 90 degrees, south at 180, west at 270; a degree left of north is the mirror of one right of it.
+// East is at 90 degrees, south at 180, west at 270; a degree left of north is the mirror of one
+// right of it.
 #[test]
 fn sines_and_cosines(rt: HostRuntime) -> Result<(), Fail> {
     for (deg, sine, cosine) in [

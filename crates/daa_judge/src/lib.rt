@@ -1,4 +1,5 @@
-//! Compares a report, which comes text by text, with what a source hands out; and a sheet on which such a text is written first.
+//! Compares a report, which comes text by text, with what a source hands out; and a sheet on which
+//! such a text is written first.
 #![tactic(auto)]
 
 mod found;

@@ -16,7 +16,8 @@ use daa_outside::Source;
 /// How many bytes are read at once.
 const BUFFER: usize = 4096;
 
-/// How many bytes may still be read, and the number of the line, from 1 on, that the next byte is in.
+/// How many bytes may still be read, and the number of the line, from 1 on, that the next byte is
+/// in.
 #[derive(Debug, Drop)]
 pub struct Matching {
     pub(crate) left: u64,
@@ -88,7 +89,9 @@ impl Matching {
         requires some { 0 < length text.now }
         requires buffer { (0 < length buf.old) × (length buf.old ≤ longest_read) }
         requires room { HasRoom self.old }
-        ensures steps { Steps result text.now self.old self.new (source_state (S.left source.old) (S.faults source.old)) (source_state (S.left source.new) (S.faults source.new)) }
+        ensures steps { Steps result text.now self.old self.new
+            (source_state (S.left source.old) (S.faults source.old))
+            (source_state (S.left source.new) (S.faults source.new)) }
         ensures room { HasRoom self.new }
         ensures never_falls { S.faults source.old ≤ S.faults source.new }
         ensures same_size { length buf.new ≡ length buf.old }
@@ -100,13 +103,14 @@ impl Matching {
         }
     }
 
-    /// Compares a text with what the source hands out. At `Alike` the source handed out the text and nothing else; at every other
-    /// answer comparing is over, and that is found of each report that begins with what was compared before and goes on with this
-    /// text.
+    /// Compares a text with what the source hands out. At `Alike` the source handed out the text
+    /// and nothing else; at every other answer comparing is over, and that is found of each report
+    /// that begins with what was compared before and goes on with this text.
     pub fn compare<S: Source>(&mut self, source: &mut S, text: &[u8]) -> Found
         requires room { HasRoom self.old }
         ensures compares { (most : ℕ) (first : SourceState) (before : Bytes) → IsMatched most first before self.old (source_state (S.left source.old) (S.faults source.old))
-            → Compares result most first before text.now self.new (source_state (S.left source.new) (S.faults source.new)) }
+            → Compares result most first before text.now self.new
+            (source_state (S.left source.new) (S.faults source.new)) }
         ensures room { HasRoom self.new }
         ensures never_falls { S.faults source.old ≤ S.faults source.new }
     {
@@ -124,7 +128,8 @@ impl Matching {
     /// The report is over: whether the source hands out anything further.
     pub fn end<S: Source>(&self, source: &mut S) -> Found
         ensures finds { (most : ℕ) (first : SourceState) (report : Bytes) → IsMatched most first report self.now (source_state (S.left source.old) (S.faults source.old))
-            → Finds report most result first (source_state (S.left source.new) (S.faults source.new)) }
+            → Finds report most result first
+            (source_state (S.left source.new) (S.faults source.new)) }
         ensures never_falls { S.faults source.old ≤ S.faults source.new }
     {
         let mut buf = [0u8; 1];

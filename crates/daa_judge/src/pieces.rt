@@ -8,7 +8,8 @@ pub(crate) fn common(piece: &[u8], other: &[u8]) -> usize
     ensures within { result ≤ length piece.now }
     ensures other { result ≤ length other.now }
     ensures same { take result piece.now ≡ take result other.now }
-    ensures apart { result < length piece.now → result < length other.now → slice_index piece.now result ≢ slice_index other.now result }
+    ensures apart { result < length piece.now → result < length other.now
+        → slice_index piece.now result ≢ slice_index other.now result }
 {
     let mut at = 0;
     while at < piece.len() && at < other.len() && piece[at] == other[at] {

@@ -11,8 +11,9 @@ use daa_config::{Candidate, Rates};
 use daa_fixed::feet;
 use daa_state::Own;
 
-/// A candidate flies before leg `leaves` as the flight does that leads on its side. From leg `settles` on, which is leg `leaves` or
-/// the one after it, it flies straight on; leg `leaves` is its own where it is the one after.
+/// A candidate flies before leg `leaves` as the flight does that leads on its side. From leg
+/// `settles` on, which is leg `leaves` or the one after it, it flies straight on; leg `leaves` is
+/// its own where it is the one after.
 #[derive(Clone, Copy, Debug, PartialEq, Eq)]
 pub struct Branch {
     /// To the right or up, else to the left or down.
@@ -21,7 +22,8 @@ pub struct Branch {
     pub settles: u32,
 }
 
-/// A way to a value: to the right or up or the other way, and how many whole seconds at the rate fit into it.
+/// A way to a value: to the right or up or the other way, and how many whole seconds at the rate
+/// fit into it.
 #[derive(Clone, Copy)]
 pub(crate) struct Way {
     pub(crate) upper: bool,
@@ -33,7 +35,8 @@ pub fn branch_of(own: &Own, rates: &Rates, candidate: Candidate) -> Branch
     requires own { IsOwnInRange own.now }
     requires rates { AreRatesInRange rates.now }
     requires candidate { IsCandidateInRange candidate }
-    ensures before { FliesAs own.now rates.now candidate (lead_of own.now candidate result.upper) result.leaves }
+    ensures before { FliesAs own.now rates.now candidate
+        (lead_of own.now candidate result.upper) result.leaves }
     ensures after { FliesOn own.now rates.now candidate result.settles }
     ensures near { (result.leaves ≤ result.settles) × (result.settles ≤ result.leaves + 1) }
 {
@@ -50,7 +53,8 @@ pub fn branch_of(own: &Own, rates: &Rates, candidate: Candidate) -> Branch
     }
 }
 
-/// A track or a speed is that of the leading flight also on the leg after the whole seconds, and then the candidate's.
+/// A track or a speed is that of the leading flight also on the leg after the whole seconds, and
+/// then the candidate's.
 fn beside(way: Way) -> Branch
     requires { way.legs ≤ 7200000 }
     ensures { result ≡ record { upper = way.upper; leaves = way.legs + 1; settles = way.legs + 1 } }
@@ -83,7 +87,8 @@ fn turn_away(track: i32, c: i32, rate: i32) -> Way
     ensures left { result.upper ≡ false → pos 181 ≤ℤ right_angle track c }
     ensures right_legs { IsTrue result.upper → IsWholeLegs (right_angle track c) rate result.legs }
     ensures few { result.legs ≤ 7200000 }
-    ensures left_legs { result.upper ≡ false → IsWholeLegs (pos 360 -ℤ right_angle track c) rate result.legs }
+    ensures left_legs { result.upper ≡ false
+        → IsWholeLegs (pos 360 -ℤ right_angle track c) rate result.legs }
 {
     let right = (c - track).rem_euclid(360);
     if right <= 180 {

@@ -18,8 +18,9 @@ use crate::traffic::{place_of, velocity_of};
 use daa_fixed::{Flat, Leg, Solid};
 use daa_state::Traffic;
 
-/// The ownship minus the aircraft on second `k`, 0 to 179: the ownship's leg less the aircraft's place at that
-/// second, which is `age + k` seconds after its report, and less its velocity. The leg has one second.
+/// The ownship minus the aircraft on second `k`, 0 to 179: the ownship's leg less the aircraft's
+/// place at that second, which is `age + k` seconds after its report, and less its velocity. The
+/// leg has one second.
 pub fn relative(leg: &OwnLeg, aircraft: &Traffic, k: u32) -> Leg
     requires leg { IsOwnLegInRange leg.now }
     requires aircraft { IsTrafficInRange aircraft.now }
@@ -34,9 +35,9 @@ pub fn relative(leg: &OwnLeg, aircraft: &Traffic, k: u32) -> Leg
     }
 }
 
-/// The ownship minus the aircraft on the run that begins with second `k`, as one leg of all its seconds. Where the
-/// run is one of a candidate's flight, a volume is violated at some time of this leg exactly where it is at some
-/// time of one of the run's one-second legs.
+/// The ownship minus the aircraft on the run that begins with second `k`, as one leg of all its
+/// seconds. Where the run is one of a candidate's flight, a volume is violated at some time of this
+/// leg exactly where it is at some time of one of the run's one-second legs.
 pub fn relative_run(run: &OwnRun, aircraft: &Traffic, k: u32) -> Leg
     requires run { IsOwnRunInRange run.now }
     requires aircraft { IsTrafficInRange aircraft.now }

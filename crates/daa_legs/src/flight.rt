@@ -39,7 +39,8 @@ impl Model for Flight {
 }
 
 impl Flight {
-    /// The flight to what the candidate asks for, at the configuration's rates, before its first leg.
+    /// The flight to what the candidate asks for, at the configuration's rates, before its first
+    /// leg.
     pub fn begin(own: &Own, config: &Config, candidate: Candidate) -> Flight
         requires own { IsOwnInRange own.now }
         requires candidate { IsCandidateInRange candidate }
@@ -76,7 +77,8 @@ impl Flight {
         leg
     }
 
-    /// The next seconds that all have the first one's velocity: as many as there are, up to `most`. They count as taken.
+    /// The next seconds that all have the first one's velocity: as many as there are, up to `most`.
+    /// They count as taken.
     pub fn next_run(&mut self, most: u32) -> OwnRun
         requires some { 1 ≤ most }
         requires left { self.old.taken + most ≤ 180 }

@@ -1,4 +1,5 @@
-//! Laws of the definitions: that their closed forms are the flights that are meant, and legs that are known.
+//! Laws of the definitions: that their closed forms are the flights that are meant, and legs that
+//! are known.
 
 ghost use Rattle.std.specs.Prelude.{◌≡◌, ◌+◌, ℕ, ℤ, pos, negsuc, ◌*ℤ◌, ◌≤ℤ◌, codes};
 ghost use Rattle.daa_fixed.specs.Toward.{toward_of};
@@ -15,13 +16,17 @@ ghost use Rattle.daa_legs.specs.Motion.{track_on, ground_speed_on, vertical_spee
 ghost use Rattle.daa_legs.specs.OwnLegs.{own_place, place_on};
 ghost use Rattle.daa_legs.specs.Relative.{reported_place, traffic_place, traffic_velocity};
 
-/// A flight begins where the ownship is, on leg 0 with the present track and ground speed, and with the present vertical
-/// speed where it goes to one. Hold keeps the present velocity on every leg.
+/// A flight begins where the ownship is, on leg 0 with the present track and ground speed, and with
+/// the present vertical speed where it goes to one. Hold keeps the present velocity on every leg.
 pub fn flights_begin_as_now()
-    ensures place { (own : Own) (rates : Rates) (candidate : Candidate) → place_on own rates candidate 0 ≡ own_place own }
-    ensures track { (own : Own) (rates : Rates) (candidate : Candidate) → IsOwnInRange own → track_on own rates candidate 0 ≡ own.trk }
-    ensures ground_speed { (own : Own) (rates : Rates) (candidate : Candidate) → ground_speed_on own rates candidate 0 ≡ own.gs }
-    ensures vertical_speed { (own : Own) (rates : Rates) (w : ℤ) → vertical_speed_on own rates (Candidate.Climb w) 0 ≡ own.vs }
+    ensures place { (own : Own) (rates : Rates) (candidate : Candidate)
+        → place_on own rates candidate 0 ≡ own_place own }
+    ensures track { (own : Own) (rates : Rates) (candidate : Candidate) → IsOwnInRange own
+        → track_on own rates candidate 0 ≡ own.trk }
+    ensures ground_speed { (own : Own) (rates : Rates) (candidate : Candidate)
+        → ground_speed_on own rates candidate 0 ≡ own.gs }
+    ensures vertical_speed { (own : Own) (rates : Rates) (w : ℤ)
+        → vertical_speed_on own rates (Candidate.Climb w) 0 ≡ own.vs }
     ensures hold { (own : Own) (rates : Rates) (k : ℕ) → velocity_on own rates Candidate.Hold k
         ≡ record { flat = velocity_of own.gs own.trk; up = own.vs } }
 {}
@@ -32,8 +37,9 @@ pub fn legs_join()
         place_on own rates candidate (k + 1) ≡ plus (place_on own rates candidate k) (velocity_on own rates candidate k) }
 {}
 
-/// From leg to leg a speed moves toward the candidate's by at most its rate, and each leg to an altitude moves the height
-/// toward it by at most the rate: neither passes it, and both stay once they are there.
+/// From leg to leg a speed moves toward the candidate's by at most its rate, and each leg to an
+/// altitude moves the height toward it by at most the rate: neither passes it, and both stay once
+/// they are there.
 pub fn legs_move_by_the_rates()
     ensures ground_speed { (own : Own) (rates : Rates) (g : ℤ) (k : ℕ) → AreRatesInRange rates →
         ground_speed_on own rates (Candidate.Speed g) (k + 1) ≡ toward_of (ground_speed_on own rates (Candidate.Speed g) k) g rates.gs }
@@ -43,7 +49,8 @@ pub fn legs_move_by_the_rates()
         (place_on own rates (Candidate.Height a) (k + 1)).up ≡ toward_of (place_on own rates (Candidate.Height a) k).up (pos 60 *ℤ a) rates.alt }
 {}
 
-/// A turn arrives: once half a turn could have been flown, the track is that of the candidate, and stays.
+/// A turn arrives: once half a turn could have been flown, the track is that of the candidate, and
+/// stays.
 pub fn turns_arrive()
     ensures { (own : Own) (rates : Rates) (c : ℤ) (k : ℕ) → IsOwnInRange own → IsCandidateInRange (Candidate.Track c)
         → pos 180 ≤ℤ (pos k *ℤ rates.turn) → track_on own rates (Candidate.Track c) k ≡ c }
@@ -71,5 +78,6 @@ pub fn worked_examples()
 /// A report of age 0 is where its aircraft is now, and the aircraft flies on from there.
 pub fn new_reports_stand()
     ensures { (aircraft : Traffic) (k : ℕ) → aircraft.age ≡ 0
-        → traffic_place aircraft k ≡ plus (reported_place aircraft) (times (pos k) (traffic_velocity aircraft)) }
+        → traffic_place aircraft k ≡ plus (reported_place aircraft)
+        (times (pos k) (traffic_velocity aircraft)) }
 {}

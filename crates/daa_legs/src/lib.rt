@@ -1,5 +1,6 @@
-//! Flights: the ownship's legs on the way to what a candidate asks for, second by second or in runs of one
-//! velocity, and how an aircraft sees them. A flight is flown in one-second legs, each straight at one velocity.
+//! Flights: the ownship's legs on the way to what a candidate asks for, second by second or in runs
+//! of one velocity, and how an aircraft sees them. A flight is flown in one-second legs, each
+//! straight at one velocity.
 #![tactic(auto)]
 
 mod branch;

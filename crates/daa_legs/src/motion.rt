@@ -151,7 +151,8 @@ fn rise(alt: i32, a: i32, rate: i32, k: u32) -> i64
     requires a { IsFrom (negsuc 1999) (pos 60000) a }
     requires rate { IsFrom (pos 1) (pos 10000) rate }
     requires k { k < 180 }
-    ensures value { result ≡ toward_of (pos 60 *ℤ alt) (pos 60 *ℤ a) (pos (k + 1) *ℤ rate) -ℤ toward_of (pos 60 *ℤ alt) (pos 60 *ℤ a) (pos k *ℤ rate) }
+    ensures value { result ≡ toward_of (pos 60 *ℤ alt) (pos 60 *ℤ a)
+        (pos (k + 1) *ℤ rate) -ℤ toward_of (pos 60 *ℤ alt) (pos 60 *ℤ a) (pos k *ℤ rate) }
     ensures size { IsWithin 10000 result }
 {
     moved(feet(alt), feet(a), rate, k + 1) - moved(feet(alt), feet(a), rate, k)

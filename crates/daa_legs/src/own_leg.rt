@@ -2,16 +2,17 @@
 
 use daa_fixed::Solid;
 
-/// One second of the ownship: its place at the beginning, in 1/36000 nautical mile and 1/60 foot, and its
-/// velocity in those units per second. In range the place is below 20000000 and the velocity below 20000 in size on each axis.
+/// One second of the ownship: its place at the beginning, in 1/36000 nautical mile and 1/60 foot,
+/// and its velocity in those units per second. In range the place is below 20000000 and the
+/// velocity below 20000 in size on each axis.
 #[derive(Clone, Copy, Debug, PartialEq, Eq)]
 pub struct OwnLeg {
     pub place: Solid,
     pub velocity: Solid,
 }
 
-/// So many seconds of the ownship at one velocity, from its place at their beginning, each in range as an `OwnLeg`'s.
-/// A flight has 180 seconds.
+/// So many seconds of the ownship at one velocity, from its place at their beginning, each in range
+/// as an `OwnLeg`'s. A flight has 180 seconds.
 #[derive(Clone, Copy, Debug, PartialEq, Eq)]
 pub struct OwnRun {
     pub place: Solid,

@@ -1,4 +1,5 @@
-//! Worked flights. The rates are 3 degrees, 1 knot, 100 ft/min and 1000 ft/min a second; 3600 units a second are 360 knots.
+//! Worked flights. The rates are 3 degrees, 1 knot, 100 ft/min and 1000 ft/min a second; 3600 units
+//! a second are 360 knots.
 
 ghost use Rattle.std.specs.Prelude.{◌≡◌, ◌+◌, ◌<◌};
 ghost use Rattle.daa_config.specs.Settings.{IsCandidateInRange};
@@ -60,7 +61,8 @@ fn has_runs(config: &Config, own: &Own, candidate: Candidate, lengths: &[u32]) -
     left == 0
 }
 
-// Sines of 3 and 1 degrees are 0.0523 and 0.0175. The turns of 179 and 180 degrees go right, that of 181 goes left.
+// Sines of 3 and 1 degrees are 0.0523 and 0.0175. The turns of 179 and 180 degrees go right, that
+// of 181 goes left.
 #[test]
 fn half_a_turn_goes_right(rt: HostRuntime) -> Result<(), Fail> {
     let config = read(rt.alloc(), ONE_LEVEL.as_bytes())?;
@@ -89,7 +91,8 @@ fn speeds_move_by_their_rates(rt: HostRuntime) -> Result<(), Fail> {
     Ok(())
 }
 
-// 40 feet are 2400 units. What climbs at present levels off at once where it goes to the present altitude.
+// 40 feet are 2400 units. What climbs at present levels off at once where it goes to the present
+// altitude.
 #[test]
 fn climbs_to_an_altitude_and_stays(rt: HostRuntime) -> Result<(), Fail> {
     let config = read(rt.alloc(), ONE_LEVEL.as_bytes())?;
@@ -175,7 +178,8 @@ fn run(place: Solid, velocity: Solid, secs: u32) -> OwnRun {
     }
 }
 
-// 0.66 miles east, and 60 feet a minute of climb. A report of 10 seconds is one of now from 10 seconds further on.
+// 0.66 miles east, and 60 feet a minute of climb. A report of 10 seconds is one of now from 10
+// seconds further on.
 #[test]
 fn an_aircraft_flies_on_from_its_report(rt: HostRuntime) -> Result<(), Fail> {
     let config = read(rt.alloc(), ONE_LEVEL.as_bytes())?;

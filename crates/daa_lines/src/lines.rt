@@ -1,6 +1,6 @@
 //! The lines of a stream, one at a time: bytes are fed until a line stands, and the line is taken.
-//! A line ends at a line feed or with the input. One of 256 bytes or more is long: it stands as soon as 256 bytes of it
-//! are there, and the rest of it is skipped.
+//! A line ends at a line feed or with the input. One of 256 bytes or more is long: it stands as
+//! soon as 256 bytes of it are there, and the rest of it is skipped.
 
 ghost use Rattle.std.specs.Prelude.{◌≡◌, ◌<◌, ◌≤◌, ◌+◌, ◌^◌, ◌↔◌, ◌⊎◌, ◌++◌, [], ◌∷◌, List, ℕ, length, take, false, true, slice_get};
 ghost use Rattle.daa_lines.specs.LinesOf.{lines_of};
@@ -41,7 +41,8 @@ pub enum Line<'a> {
 #[derive(Drop)]
 pub struct Lines {
     line: ArrayVec<u8, 256>,
-    // The bytes in `line` are of a line that was taken: it may still be borrowed then, so the next byte clears it.
+    // The bytes in `line` are of a line that was taken: it may still be borrowed then, so the next
+    // byte clears it.
     stale: bool,
     stage: Stage,
     ended: bool,
@@ -117,9 +118,10 @@ impl Lines {
         matches!(self.stage, Stage::Whole | Stage::Long)
     }
 
-    /// Takes the first bytes of the piece, and answers how many: those up to and with the next line feed, but of a line
-    /// no more than its first 256, and none while a line stands that is not taken yet. The rest of a long line is taken
-    /// up to and with its line feed. `end` must not have been called, and fewer than 2^63 bytes be fed in all.
+    /// Takes the first bytes of the piece, and answers how many: those up to and with the next line
+    /// feed, but of a line no more than its first 256, and none while a line stands that is not
+    /// taken yet. The rest of a long line is taken up to and with its line feed. `end` must not
+    /// have been called, and fewer than 2^63 bytes be fed in all.
     #[tactic(auto, unfolding(crate::specs::Pushing::after_byte))]
     pub fn feed(&mut self, piece: &[u8]) -> usize
         requires going { self.old.ended ≡ false }
@@ -146,8 +148,8 @@ impl Lines {
         piece.len()
     }
 
-    /// Takes the line that stands, if one does: `NotYet` comes exactly where none does, and `Long` exactly where the
-    /// line has 256 bytes or more.
+    /// Takes the line that stands, if one does: `NotYet` comes exactly where none does, and `Long`
+    /// exactly where the line has 256 bytes or more.
     pub fn take_line(&mut self) -> Line<'_>
         ensures* after { sem 𝓛 (LeavesTaken self.entry) }
         ensures handed { IsHanded self.old result }
@@ -156,7 +158,8 @@ impl Lines {
         ensures line { (bytes : List ℕ) (taken : List (List ℕ)) → Stands bytes taken self.old
             → IsLineOf (slice_get (lines_of bytes self.old.ended) (length taken)) result }
         ensures kept { (bytes : List ℕ) (taken : List (List ℕ)) → Stands bytes taken self.old
-            → Stands bytes (taken ++ standing self.old.stage self.old.line) (after_taking self.old) }
+            → Stands bytes (taken ++ standing self.old.stage self.old.line)
+            (after_taking self.old) }
     {
         match self.stage {
             Stage::Whole => {
@@ -189,8 +192,8 @@ impl Lines {
         self.ended = true;
     }
 
-    /// The input is over: a rest that is not empty becomes a whole line. What is left of a long line that was taken
-    /// becomes none, and a second call changes nothing.
+    /// The input is over: a rest that is not empty becomes a whole line. What is left of a long
+    /// line that was taken becomes none, and a second call changes nothing.
     pub fn end(&mut self)
         ensures value { self.new ≡ after_end self.old }
         ensures kept { (bytes : List ℕ) (taken : List (List ℕ)) → Stands bytes taken self.old

@@ -1,4 +1,5 @@
-//! Worked inputs, fed in several pieces. Lines are shown by their numbers and their bytes in brackets.
+//! Worked inputs, fed in several pieces. Lines are shown by their numbers and their bytes in
+//! brackets.
 
 ghost use Rattle.std.specs.Prelude.{◌≡◌, ◌<◌, false};
 

@@ -56,7 +56,7 @@ module _ (settings : Settings) (own : Own) (candidate : Candidate) (aircraft : T
       → IsTrue hit ↔ HoldsSometime rel.secs (Violates rel volume) → IsTrue hit ↔ MeetsBetween settings own candidate aircraft volume k m
   rest_tested k secs m rest rel hit e on s seconds tests =
       let there = subst (λ (v : Solid). IsRunOf own (rates_of settings) candidate k (record { place = place_on own (rates_of settings) candidate k; velocity = v; secs = secs })) (sym (on.there k (omega arith)))
-          (straight_run own (rates_of settings) candidate k secs on) in
+      (straight_run own (rates_of settings) candidate k secs on) in
       let run = subst (λ (l : OwnLeg). IsRunOf own (rates_of settings) candidate k (record { place = l.place; velocity = l.velocity; secs = secs })) (sym e) there in
       let o = seconds run in
       subst (λ (n : ℕ). IsTrue hit ↔ MeetsBetween settings own candidate aircraft volume k n) s ((λ t. o.0 (tests.0 t)), (λ v. tests.1 (o.1 v)))

@@ -16,9 +16,9 @@ use daa_legs::{OwnRun, Trunk, relative, relative_run};
 use daa_state::{Own, Traffic};
 use daa_taumod::Volume;
 
-/// What `meets_between` answers, of a candidate whose first `upto` legs are kept and which keeps one
-/// velocity from leg `settles` on: whether its flight violates the volume round the aircraft at some
-/// time of a leg from `first` on, before `upto`, which is at most 180.
+/// What `meets_between` answers, of a candidate whose first `upto` legs are kept and which keeps
+/// one velocity from leg `settles` on: whether its flight violates the volume round the aircraft at
+/// some time of a leg from `first` on, before `upto`, which is at most 180.
 pub fn meets_along(
     config: &Config,
     own: &Own,

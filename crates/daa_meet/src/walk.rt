@@ -1,5 +1,5 @@
-//! A walk along a candidate's flight in runs of seconds with one velocity. Each run, cut at the last second that is asked for,
-//! is tested as one leg.
+//! A walk along a candidate's flight in runs of seconds with one velocity. Each run, cut at the
+//! last second that is asked for, is tested as one leg.
 
 ghost use Rattle.std.specs.Prelude.{◌≡◌, ◌≤◌, ◌↔◌, IsTrue};
 ghost use Rattle.daa_taumod.specs.Volume.{IsVolumeInRange};
@@ -13,8 +13,9 @@ use daa_legs::{Flight, relative_run};
 use daa_state::{Own, Traffic};
 use daa_taumod::Volume;
 
-/// Whether the candidate's flight violates the volume round the aircraft at some time of a leg from `first` on, before `upto`,
-/// which is at most 180. Leg k is the second from k to k + 1, both ends included; where `upto` is not above `first` there is none.
+/// Whether the candidate's flight violates the volume round the aircraft at some time of a leg from
+/// `first` on, before `upto`, which is at most 180. Leg k is the second from k to k + 1, both ends
+/// included; where `upto` is not above `first` there is none.
 pub fn meets_between(
     config: &Config,
     own: &Own,
@@ -29,7 +30,8 @@ pub fn meets_between(
     requires aircraft { IsTrafficInRange aircraft.now }
     requires volume { IsVolumeInRange volume.now }
     requires upto { upto ≤ 180 }
-    ensures { IsTrue result ↔ MeetsBetween config.now own.now candidate aircraft.now volume.now first upto }
+    ensures { IsTrue result
+        ↔ MeetsBetween config.now own.now candidate aircraft.now volume.now first upto }
 {
     if upto <= first {
         return false;

@@ -32,8 +32,8 @@ impl Model for CalmSource {
 }
 
 impl CalmSource {
-    /// A source of these bytes. Call i gives at most `pieces[i]` bytes, where 0 counts as 1, and past
-    /// the end of `pieces` there is no bound. Calls are numbered from 0.
+    /// A source of these bytes. Call i gives at most `pieces[i]` bytes, where 0 counts as 1, and
+    /// past the end of `pieces` there is no bound. Calls are numbered from 0.
     pub fn new(bytes: Vec<u8>, pieces: Vec<usize>) -> Self
         ensures { result ≡ record {
           left = bytes.items;
@@ -62,7 +62,8 @@ impl Source for CalmSource {
 
     fn read(&mut self, buf: &mut [u8]) -> Result<usize, Failed>
         ensures within { IfOk result (λ n. n ≤ length buf.old) }
-        ensures next { IfOk result (λ n. Consumes (Some self.old.left) (Some self.new.left) (take n buf.new)) }
+        ensures next { IfOk result
+            (λ n. Consumes (Some self.old.left) (Some self.new.left) (take n buf.new)) }
         ensures end { IfOk result (λ n. n ≡ 0 → 0 < length buf.old → IsAtEnd (Some self.old.left)) }
 
         ensures exactly { IsOkAnd result (λ n. n ≡ moved_by self.old.pieces self.old.calls

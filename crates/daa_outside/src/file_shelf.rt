@@ -22,8 +22,8 @@ impl<R: Files> FileShelf<R> {
     ghost use Rattle.std.specs.Prelude.{◌≡◌};
     ghost use Rattle.daa_outside.specs.FileShelf.{faults_of};
 
-    /// A shelf over the files that this runtime reaches. Each error of opening or reading is a fault,
-    /// but for want of memory while a file is read.
+    /// A shelf over the files that this runtime reaches. Each error of opening or reading is a
+    /// fault, but for want of memory while a file is read.
     pub fn new(files: R) -> Self
         ensures { faults_of result ≡ 0 }
     {
@@ -44,11 +44,14 @@ impl<R: Files> Shelf for FileShelf<R> {
     /// Reads at most one byte more than the longest text has.
     fn fetch(&mut self, alloc: Global, name: &str) -> Result<Vec<u8>, FetchFault>
         ensures short { IfOk result (λ text. length text.items ≤ longest_text) }
-        ensures risen { result ≡ Err FetchFault.Failed → HasRisen (faults_of self.old) (faults_of self.new) }
+        ensures risen { result ≡ Err FetchFault.Failed
+            → HasRisen (faults_of self.old) (faults_of self.new) }
         ensures never_falls { faults_of self.old ≤ faults_of self.new }
 
-        ensures no_fault { result ≢ Err FetchFault.Failed → faults_of self.new ≡ faults_of self.old }
-        ensures one_fault { result ≡ Err FetchFault.Failed → faults_of self.new ≡ one_more (faults_of self.old) }
+        ensures no_fault { result ≢ Err FetchFault.Failed
+            → faults_of self.new ≡ faults_of self.old }
+        ensures one_fault { result ≡ Err FetchFault.Failed
+            → faults_of self.new ≡ one_more (faults_of self.old) }
     {
         let answer = match fs::open(&self.files, name) {
             Ok(file) => text_of(alloc, file),
@@ -81,7 +84,8 @@ pub(crate) fn text_of<R: Read + Drop>(alloc: Global, reader: R) -> Result<Vec<u8
 
 /// Want of memory, as the system tells it, is no fault of the shelf.
 fn fault_of(error: &io::Error) -> FetchFault
-    ensures memory { (result ≡ FetchFault.NoMemory) ↔ (error_kind error.now ≡ ErrorKind.OutOfMemory) }
+    ensures memory { (result ≡ FetchFault.NoMemory)
+        ↔ (error_kind error.now ≡ ErrorKind.OutOfMemory) }
     ensures short { result ≢ FetchFault.TooLong }
 {
     match error.kind() {

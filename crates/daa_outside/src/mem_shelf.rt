@@ -63,23 +63,27 @@ impl Shelf for MemShelf {
     ghost faults = { λ s. s.faults };
 
     fn fetch(&mut self, alloc: Global, name: &str) -> Result<Vec<u8>, FetchFault>
-        ensures held { IfOk result (λ text. text_under self.old.names self.old.texts name.now ≡ Some text.items) }
+        ensures held { IfOk result
+            (λ text. text_under self.old.names self.old.texts name.now ≡ Some text.items) }
         ensures short { IfOk result (λ text. length text.items ≤ longest_text) }
 
         ensures too_long { result ≡ Err FetchFault.TooLong →
             IsSomeAnd (text_under self.old.names self.old.texts name.now) (λ text. longest_text < length text) }
         ensures long { IfSome (text_under self.old.names self.old.texts name.now) (λ text. longest_text < length text →
             (result ≡ Err FetchFault.TooLong) ⊎ (result ≡ Err FetchFault.Failed)) }
-        ensures absent { IfNone (text_under self.old.names self.old.texts name.now) (result ≡ Err FetchFault.Failed) }
+        ensures absent { IfNone (text_under self.old.names self.old.texts name.now)
+            (result ≡ Err FetchFault.Failed) }
 
         ensures risen { result ≡ Err FetchFault.Failed → HasRisen self.old.faults self.new.faults }
         ensures never_falls { self.old.faults ≤ self.new.faults }
-        ensures kept { Some (text_under self.new.names self.new.texts) ≡ Some (text_under self.old.names self.old.texts) }
+        ensures kept { Some (text_under self.new.names self.new.texts) ≡ Some
+            (text_under self.old.names self.old.texts) }
 
         ensures fails { (result ≡ Err FetchFault.Failed) ↔ (Contains self.old.fails self.old.calls
             ⊎ IsNone (text_under self.old.names self.old.texts name.now)) }
         ensures no_fault { result ≢ Err FetchFault.Failed → self.new.faults ≡ self.old.faults }
-        ensures one_fault { result ≡ Err FetchFault.Failed → self.new.faults ≡ one_more self.old.faults }
+        ensures one_fault { result ≡ Err FetchFault.Failed
+            → self.new.faults ≡ one_more self.old.faults }
         ensures counted { self.new.calls ≡ one_more self.old.calls }
         ensures same_names { self.new.names ≡ self.old.names }
         ensures same_texts { self.new.texts ≡ self.old.texts }

@@ -37,10 +37,10 @@ impl Model for MemSink {
 }
 
 impl MemSink {
-    /// A sink that takes as many bytes as `room` has, over whatever stands there. Call i takes at most
-    /// `pieces[i]` bytes, where 0 counts as 1, and past the end of `pieces` there is no bound. The
-    /// calls in `fails` fail, and each call once the vector is full, also that of an empty piece.
-    /// Calls are numbered from 0.
+    /// A sink that takes as many bytes as `room` has, over whatever stands there. Call i takes at
+    /// most `pieces[i]` bytes, where 0 counts as 1, and past the end of `pieces` there is no bound.
+    /// The calls in `fails` fail, and each call once the vector is full, also that of an empty
+    /// piece. Calls are numbered from 0.
     pub fn over(room: Vec<u8>, pieces: Vec<usize>, fails: Vec<u64>) -> Self
         ensures { result ≡ record {
           taken = [];
@@ -80,7 +80,8 @@ impl Sink for MemSink {
     fn write(&mut self, piece: &[u8]) -> Result<usize, Failed>
         ensures within { IfOk result (λ n. n ≤ length piece.now) }
         ensures moves { IfOk result (λ n. 0 < length piece.now → 0 < n) }
-        ensures appended { IfOk result (λ n. Appends (Some self.old.taken) (Some self.new.taken) (take n piece.now)) }
+        ensures appended { IfOk result
+            (λ n. Appends (Some self.old.taken) (Some self.new.taken) (take n piece.now)) }
 
         ensures risen { OnErr result (HasRisen self.old.faults self.new.faults) }
         ensures kept { OnErr result (Keeps (Some self.old.taken) (Some self.new.taken)) }
@@ -88,7 +89,8 @@ impl Sink for MemSink {
 
         ensures exactly { IfOk result (λ n. n ≡ moved_by self.old.pieces self.old.calls
             (min (length piece.now) self.old.room)) }
-        ensures fails { IsErr result ↔ (Contains self.old.fails self.old.calls ⊎ (self.old.room ≡ 0)) }
+        ensures fails { IsErr result
+            ↔ (Contains self.old.fails self.old.calls ⊎ (self.old.room ≡ 0)) }
         ensures less_room { IfOk result (λ n. self.new.room + n ≡ self.old.room) }
         ensures same_room { OnErr result (self.new.room ≡ self.old.room) }
         ensures no_fault { OnOk result (self.new.faults ≡ self.old.faults) }

@@ -35,8 +35,9 @@ impl Model for MemSource {
 }
 
 impl MemSource {
-    /// A source of these bytes. Call i gives at most `pieces[i]` bytes, where 0 counts as 1, and past
-    /// the end of `pieces` there is no bound. The calls in `fails` fail. Calls are numbered from 0.
+    /// A source of these bytes. Call i gives at most `pieces[i]` bytes, where 0 counts as 1, and
+    /// past the end of `pieces` there is no bound. The calls in `fails` fail. Calls are numbered
+    /// from 0.
     pub fn new(bytes: Vec<u8>, pieces: Vec<usize>, fails: Vec<u64>) -> Self
         ensures { result ≡ record {
           left = bytes.items;
@@ -67,7 +68,8 @@ impl Source for MemSource {
 
     fn read(&mut self, buf: &mut [u8]) -> Result<usize, Failed>
         ensures within { IfOk result (λ n. n ≤ length buf.old) }
-        ensures next { IfOk result (λ n. Consumes (Some self.old.left) (Some self.new.left) (take n buf.new)) }
+        ensures next { IfOk result
+            (λ n. Consumes (Some self.old.left) (Some self.new.left) (take n buf.new)) }
         ensures end { IfOk result (λ n. n ≡ 0 → 0 < length buf.old → IsAtEnd (Some self.old.left)) }
 
         ensures risen { OnErr result (HasRisen self.old.faults self.new.faults) }

@@ -23,7 +23,8 @@ pub(crate) fn hand_out(
     buf: &mut [u8],
 ) -> usize
     requires { at ≤ length bytes.now }
-    ensures count { result ≡ moved_by pieces.now call (min (length buf.old) (length (drop at bytes.now))) }
+    ensures count { result ≡ moved_by pieces.now call
+        (min (length buf.old) (length (drop at bytes.now))) }
     ensures within { at + result ≤ length bytes.now }
     ensures fits { result ≤ length buf.old }
     ensures next { drop at bytes.now ≡ take result buf.new ++ drop (at + result) bytes.now }

@@ -29,22 +29,26 @@ pub trait Shelf {
     // The texts that it holds, where it tells them.
     ghost texts: { Self → Option Texts };
 
-    // How many of its calls failed. The count rises in a call that fails, and stands in every other.
+    // How many of its calls failed. The count rises in a call that fails, and stands in every
+    // other.
     ghost faults: { Self → ℕ };
 
     /// A copy of the text under the name, which has at most 65536 bytes. A longer one is `TooLong`
     /// or `Failed`, and a name that is not there is `Failed`. The copy may find no memory.
     fn fetch(&mut self, alloc: Global, name: &str) -> Result<Vec<u8>, FetchFault>
-        ensures held { IfOk result (λ text. IfSome (texts self.old) (λ held. held name.now ≡ Some text.items)) }
+        ensures held { IfOk result
+            (λ text. IfSome (texts self.old) (λ held. held name.now ≡ Some text.items)) }
         ensures short { IfOk result (λ text. length text.items ≤ longest_text) }
 
         ensures too_long { result ≡ Err FetchFault.TooLong → IfSome (texts self.old) (λ held.
             IsSomeAnd (held name.now) (λ text. longest_text < length text)) }
         ensures long { IfSome (texts self.old) (λ held. IfSome (held name.now) (λ text. longest_text < length text →
             (result ≡ Err FetchFault.TooLong) ⊎ (result ≡ Err FetchFault.Failed))) }
-        ensures absent { IfSome (texts self.old) (λ held. IfNone (held name.now) (result ≡ Err FetchFault.Failed)) }
+        ensures absent { IfSome (texts self.old)
+            (λ held. IfNone (held name.now) (result ≡ Err FetchFault.Failed)) }
 
-        ensures risen { result ≡ Err FetchFault.Failed → HasRisen (faults self.old) (faults self.new) }
+        ensures risen { result ≡ Err FetchFault.Failed
+            → HasRisen (faults self.old) (faults self.new) }
         ensures never_falls { faults self.old ≤ faults self.new }
         ensures no_fault { result ≢ Err FetchFault.Failed → faults self.new ≡ faults self.old }
         ensures kept { texts self.new ≡ texts self.old };

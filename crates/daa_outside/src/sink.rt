@@ -11,15 +11,17 @@ pub trait Sink {
     // The bytes that it took so far, where it tells them.
     ghost taken: { Self → Option (List ℕ) };
 
-    // How many of its calls failed. The count rises in a call that fails, and stands in every other.
+    // How many of its calls failed. The count rises in a call that fails, and stands in every
+    // other.
     ghost faults: { Self → ℕ };
 
-    /// Takes bytes from the front of `piece`, and says how many: at least one of a piece that is not
-    /// empty. A call that fails takes nothing.
+    /// Takes bytes from the front of `piece`, and says how many: at least one of a piece that is
+    /// not empty. A call that fails takes nothing.
     fn write(&mut self, piece: &[u8]) -> Result<usize, Failed>
         ensures within { IfOk result (λ n. n ≤ length piece.now) }
         ensures moves { IfOk result (λ n. 0 < length piece.now → 0 < n) }
-        ensures appended { IfOk result (λ n. Appends (taken self.old) (taken self.new) (take n piece.now)) }
+        ensures appended { IfOk result
+            (λ n. Appends (taken self.old) (taken self.new) (take n piece.now)) }
 
         ensures risen { OnErr result (HasRisen (faults self.old) (faults self.new)) }
         ensures kept { OnErr result (Keeps (taken self.old) (taken self.new)) }

@@ -11,14 +11,16 @@ pub trait Source {
     // The bytes that it has left, where it tells them.
     ghost left: { Self → Option (List ℕ) };
 
-    // How many of its calls failed. The count rises in a call that fails, and stands in every other.
+    // How many of its calls failed. The count rises in a call that fails, and stands in every
+    // other.
     ghost faults: { Self → ℕ };
 
     /// Hands out the next bytes into the front of `buf`, and says how many. An answer of 0 into a
     /// buffer that is not empty is the end of the input. A call that fails hands out nothing.
     fn read(&mut self, buf: &mut [u8]) -> Result<usize, Failed>
         ensures within { IfOk result (λ n. n ≤ length buf.old) }
-        ensures next { IfOk result (λ n. Consumes (left self.old) (left self.new) (take n buf.new)) }
+        ensures next { IfOk result
+            (λ n. Consumes (left self.old) (left self.new) (take n buf.new)) }
         ensures end { IfOk result (λ n. n ≡ 0 → 0 < length buf.old → IsAtEnd (left self.old)) }
 
         ensures risen { OnErr result (HasRisen (faults self.old) (faults self.new)) }

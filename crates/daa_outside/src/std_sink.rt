@@ -20,8 +20,8 @@ impl<W: Write> StdSink<W> {
     ghost use Rattle.std.specs.Prelude.{◌≡◌};
     ghost use Rattle.daa_outside.specs.StdSink.{writer_of, faults_of};
 
-    /// A sink over this writer. Each error of the writer is a fault, and so is a write of no bytes of
-    /// a piece that is not empty.
+    /// A sink over this writer. Each error of the writer is a fault, and so is a write of no bytes
+    /// of a piece that is not empty.
     pub fn new(writer: W) -> Self
         ensures writer { writer_of result ≡ writer }
         ensures faults { faults_of result ≡ 0 }
@@ -68,8 +68,10 @@ impl<W: Write> Sink for StdSink<W> {
 
 fn write_and_flush<W: Write>(writer: &mut W, piece: &[u8]) -> io::Result<usize>
     ensures within { IfOk result (λ n. n ≤ length piece.now) }
-    ensures appended { IfOk result (λ n. Appends (W.contents writer.old) (W.contents writer.new) (take n piece.now)) }
-    ensures front { OnErr result ((n : ℕ) × Appends (W.contents writer.old) (W.contents writer.new) (take n piece.now)) }
+    ensures appended { IfOk result
+        (λ n. Appends (W.contents writer.old) (W.contents writer.new) (take n piece.now)) }
+    ensures front { OnErr result ((n : ℕ)
+        × Appends (W.contents writer.old) (W.contents writer.new) (take n piece.now)) }
 {
     let n = writer.write(piece)?;
     writer.flush()?;

@@ -160,7 +160,8 @@ fn errors_of_the_system_are_faults(rt: HostRuntime) -> Result<(), Fail> {
     Ok(())
 }
 
-/// A reader and a writer whose call of this number fails, from 0, once. Every other call moves one byte.
+/// A reader and a writer whose call of this number fails, from 0, once. Every other call moves one
+/// byte.
 #[derive(Drop)]
 struct FailsOnce {
     at: u32,

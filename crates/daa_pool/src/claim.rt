@@ -56,9 +56,11 @@ impl Pool {
         requires pool { IsSeatOf self.now seat.old }
         requires bare { IsSeeking (view seat.old) }
         requires range { (first ≤ upto) × (upto ≤ workers_of self.now) }
-        requires others { (worker : ℕ) → first ≤ worker → worker < upto → worker ≢ (view seat.old).number }
+        requires others { (worker : ℕ) → first ≤ worker → worker < upto
+            → worker ≢ (view seat.old).number }
         ensures pool { IsSeatOf self.now seat.new }
-        ensures claim { MatchOption result (Toured (view seat.old) (view seat.new) first upto) (λ unit. TakesFrom (view seat.old) (view seat.new) first upto unit) }
+        ensures claim { MatchOption result (Toured (view seat.old) (view seat.new) first upto)
+            (λ unit. TakesFrom (view seat.old) (view seat.new) first upto unit) }
     {
         for other in first..upto {
             if let Some(piece) = self.visit(seat, other) {
@@ -74,7 +76,9 @@ impl Pool {
         requires bare { IsSeeking (view seat.old) }
         requires other { (other < workers_of self.now) × (other ≢ (view seat.old).number) }
         ensures pool { IsSeatOf self.now seat.new }
-        ensures claim { MatchOption result (Toured (view seat.old) (view seat.new) other (other + 1)) (λ unit. TakesFrom (view seat.old) (view seat.new) other (other + 1) unit) }
+        ensures claim { MatchOption result
+            (Toured (view seat.old) (view seat.new) other (other + 1))
+            (λ unit. TakesFrom (view seat.old) (view seat.new) other (other + 1) unit) }
     {
         let range = unpack(self.look_away(seat, other));
         if range.len() < 2 {

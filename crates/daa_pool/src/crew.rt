@@ -12,9 +12,10 @@ use std::alloc::Global;
 use std::thread;
 use std::thread::Threads;
 
-/// Fills the words with the answers in order of units, found by 1 to 16 workers, each on a thread of its own; a worker
-/// whose thread can't be started is run by the caller. There is at least one unit, and a word for each. The gate is passed
-/// before each unit is answered. `NoMemory` says that there was no memory for the pool; then the words are as they were.
+/// Fills the words with the answers in order of units, found by 1 to 16 workers, each on a thread
+/// of its own; a worker whose thread can't be started is run by the caller. There is at least one
+/// unit, and a word for each. The gate is passed before each unit is answered. `NoMemory` says that
+/// there was no memory for the pool; then the words are as they were.
 pub fn answer_all<R: Threads + Sync, A: Answers + Sync, G: Gate>(
     rt: &R,
     alloc: Global,
@@ -24,7 +25,8 @@ pub fn answer_all<R: Threads + Sync, A: Answers + Sync, G: Gate>(
     words: &mut [u64],
 ) -> Result<(), NoMemory>
     requires workers { (0 < workers) × (workers ≤ 16) }
-    requires units { (0 < length (A.answers answers.now)) × (length words.old ≡ length (A.answers answers.now)) }
+    requires units { (0 < length (A.answers answers.now))
+        × (length words.old ≡ length (A.answers answers.now)) }
     ensures answered { OnOk result (words.new ≡ A.answers answers.now) }
     ensures kept { OnErr result (words.new ≡ words.old) }
 {
@@ -52,7 +54,8 @@ fn work_all<R: Threads + Sync, A: Answers + Sync, G: Gate>(
         seats,
         count,
         &|_number: usize, seat: &mut Seat|
-            requires { IsReady pool.now seat.old (A.answers answers.now) × IsSync A.row × IsSync G.row }
+            requires { IsReady pool.now seat.old (A.answers answers.now) × IsSync A.row
+                × IsSync G.row }
             ensures { IsWorked pool.entry.now seat.entry.now seat.exit.now }
         { pool.work(seat, answers, gate) },
     );

@@ -12,17 +12,21 @@ use crate::rule::JoinSeat;
 use crate::seat::Seat;
 
 impl Pool {
-    /// Fills the words with the answers in order of units. All seats of this pool are given, each of them over, and there
-    /// is a word for each unit. Over all seats each unit was settled once, and the steps that the seats made are one
-    /// history of the core, none of them refused, from the opening until all workers have ended; what a seat found where
-    /// it looked was so at a point of it.
+    /// Fills the words with the answers in order of units. All seats of this pool are given, each
+    /// of them over, and there is a word for each unit. Over all seats each unit was settled once,
+    /// and the steps that the seats made are one history of the core, none of them refused, from
+    /// the opening until all workers have ended; what a seat found where it looked was so at a
+    /// point of it.
     pub fn gather(self, mut seats: Vec<Seat>, words: &mut [u64])
         requires seats { All (λ seat. IsDone self seat) seats.items }
         requires all { AreAll (workers_of self) seats.items }
         requires words { length words.old ≡ units_of self }
         ensures words { (answers : List ℕ) → HaveAnswers answers seats.items → words.new ≡ answers }
-        ensures once { (unit : ℕ) → sum_by (λ seat. times unit (view seat).settled) seats.items ≡ once_below unit (units_of self) }
-        ensures history { (answers : List ℕ) → HaveAnswers answers seats.items → IsOneHistory answers (workers_of self) (HasPartOf seats.items) }
+        ensures once { (unit : ℕ)
+            → sum_by (λ seat. times unit (view seat).settled) seats.items ≡ once_below unit
+            (units_of self) }
+        ensures history { (answers : List ℕ) → HaveAnswers answers seats.items
+            → IsOneHistory answers (workers_of self) (HasPartOf seats.items) }
     {
         let Some(mut seat) = seats.pop() else {
             unreachable!()

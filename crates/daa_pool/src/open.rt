@@ -16,8 +16,9 @@ use std::alloc::{AllocError, Global};
 use std::marker::Brand;
 
 impl Pool {
-    /// A pool for 1 to 16 workers and at least one unit, and one seat for each worker, numbered from 0. Worker 0 has the
-    /// range of all units, every other range and every hand is empty, and nothing is settled.
+    /// A pool for 1 to 16 workers and at least one unit, and one seat for each worker, numbered
+    /// from 0. Worker 0 has the range of all units, every other range and every hand is empty, and
+    /// nothing is settled.
     pub fn open<A: Answers>(
         alloc: Global,
         answers: &A,
@@ -25,8 +26,10 @@ impl Pool {
     ) -> Result<(Pool, Vec<Seat>), NoMemory>
         requires workers { (0 < workers) × (workers ≤ 16) }
         requires units { 0 < length (A.answers answers.now) }
-        ensures pool { IfOk result (λ opened. (workers_of opened.0 ≡ workers) × (units_of opened.0 ≡ length (A.answers answers.now))) }
-        ensures seats { IfOk result (λ opened. AreOpening opened.0 opened.1.items workers (A.answers answers.now)) }
+        ensures pool { IfOk result (λ opened. (workers_of opened.0 ≡ workers)
+            × (units_of opened.0 ≡ length (A.answers answers.now))) }
+        ensures seats { IfOk result
+            (λ opened. AreOpening opened.0 opened.1.items workers (A.answers answers.now)) }
     {
         let units = answers.units();
         let mut words = vec![in alloc; 0u64; workers as usize + units as usize]?;
@@ -48,7 +51,8 @@ impl Pool {
     fn deal(&self, alloc: Global, first: Seat) -> Result<Vec<Seat>, AllocError>
         requires pool { IsSeatOf self.now first }
         requires first { IsLast (view first) 0 (workers_of self.now) (view first).answers }
-        ensures { IfOk result (λ seats. AreOpening self.now seats.items (workers_of self.now) (view first).answers) }
+        ensures { IfOk result
+            (λ seats. AreOpening self.now seats.items (workers_of self.now) (view first).answers) }
     {
         let mut seats = Vec::with_capacity(alloc, self.workers as usize)?;
         let mut last = first;
@@ -64,7 +68,8 @@ impl Pool {
     // The new seat has the next number, and the count of seats made goes with it.
     fn split(&self, seat: &mut Seat, number: u32) -> Seat
         requires pool { IsSeatOf self.now seat.old }
-        requires next { ((view seat.old).carries ≡ true) × ((view seat.old).made ≡ number) × (number < workers_of self.now) }
+        requires next { ((view seat.old).carries ≡ true) × ((view seat.old).made ≡ number)
+            × (number < workers_of self.now) }
         ensures pool { IsSeatOf self.now seat.new × IsSeatOf self.now result }
         ensures left { view seat.new ≡ left_behind (view seat.old) }
         ensures right { view result ≡ next_seat (view seat.old) }
@@ -86,9 +91,12 @@ fn told<A: Answers>(
     workers: u32,
 )
     requires table { (seat.old.table_id ≡ shared.now.table_id) × (0 < shared.now.table_id.words) }
-    requires size { (shared.now.key.workers ≡ workers) × (0 < workers) × (shared.now.key.units ≡ length (A.answers answers.now)) × (length (A.answers answers.now) < 2 ^ 32) }
+    requires size { (shared.now.key.workers ≡ workers) × (0 < workers)
+        × (shared.now.key.units ≡ length (A.answers answers.now))
+        × (length (A.answers answers.now) < 2 ^ 32) }
     requires blank { seat.old.me ≡ (blank, []) }
-    ensures { (seat.new.table_id ≡ seat.old.table_id) × (seat.new.me ≡ (opener workers (A.answers answers.now), [])) }
+    ensures { (seat.new.table_id ≡ seat.old.table_id)
+        × (seat.new.me ≡ (opener workers (A.answers answers.now), [])) }
 {
     begin::<Brand, A>(shared, seat, answers, workers);
 }
@@ -102,9 +110,12 @@ fn begin<J: Telling, A: Answers>(
 )
     requires picked { (J.answers ≡ A.answers answers.now) × (J.workers ≡ workers) }
     requires table { (seat.old.table_id ≡ shared.now.table_id) × (0 < shared.now.table_id.words) }
-    requires size { (shared.now.key.workers ≡ workers) × (0 < workers) × (shared.now.key.units ≡ length (A.answers answers.now)) × (length (A.answers answers.now) < 2 ^ 32) }
+    requires size { (shared.now.key.workers ≡ workers) × (0 < workers)
+        × (shared.now.key.units ≡ length (A.answers answers.now))
+        × (length (A.answers answers.now) < 2 ^ 32) }
     requires blank { seat.old.me ≡ (blank, []) }
-    ensures { (seat.new.table_id ≡ seat.old.table_id) × (seat.new.me ≡ (opener workers (A.answers answers.now), [])) }
+    ensures { (seat.new.table_id ≡ seat.old.table_id)
+        × (seat.new.me ≡ (opener workers (A.answers answers.now), [])) }
 {
     shared.load::<Begin<J>>(seat, 0);
 }

@@ -6,8 +6,8 @@ use crate::view::View;
 use atomic_table::Table;
 use std::alloc::Global;
 
-/// The ranges of the workers and the words of the units, in one table: first a word for each worker, its range, and
-/// then a word for each unit, 0 until it is settled.
+/// The ranges of the workers and the words of the units, in one table: first a word for each
+/// worker, its range, and then a word for each unit, 0 until it is settled.
 #[derive(Drop)]
 pub struct Pool {
     pub(crate) table: Table<(), View, Size, PoolRule, Global>,

@@ -1,5 +1,5 @@
-//! The atomic steps, each on one word by one seat. Each that succeeds in changing a range or a unit's word, and the one
-//! that ends a worker, is one step of the core; the others change nothing.
+//! The atomic steps, each on one word by one seat. Each that succeeds in changing a range or a
+//! unit's word, and the one that ends a worker, is one step of the core; the others change nothing.
 ghost use Rattle.std.specs.Prelude.{◌≡◌, ◌≢◌, ℕ, ◌<◌, ◌≤◌, ◌^◌, false, length, slice_index};
 ghost use Rattle.daa_range.specs.Range.{span_len};
 ghost use Rattle.daa_range.specs.Word.{packed, unpacked, IsInOrder};
@@ -28,15 +28,17 @@ impl Pool {
             .load::<LookHome>(&mut seat.seat, seat.number as usize)
     }
 
-    // Exchanges the own range, as it was last seen, for all but its first unit. It answers what it found, which is
-    // that range where the unit is claimed.
+    // Exchanges the own range, as it was last seen, for all but its first unit. It answers what it
+    // found, which is that range where the unit is claimed.
     pub(crate) fn try_claim(&self, seat: &mut Seat, own: Range) -> u64
         requires pool { IsSeatOf self.now seat.old }
         requires free { IsFree (view seat.old) }
         requires own { (own ≡ (view seat.old).bound) × (0 < span_len own) }
         ensures pool { IsSeatOf self.now seat.new }
-        ensures claimed { result ≡ packed own → (view seat.new ≡ claimed (view seat.old)) × (own.first < length (view seat.old).answers) }
-        ensures missed { result ≢ packed own → (view seat.new ≡ looked_home (view seat.old) result) × IsHome (view seat.old) result }
+        ensures claimed { result ≡ packed own → (view seat.new ≡ claimed (view seat.old))
+            × (own.first < length (view seat.old).answers) }
+        ensures missed { result ≢ packed own → (view seat.new ≡ looked_home (view seat.old) result)
+            × IsHome (view seat.old) result }
     {
         self.table.shared.compare_exchange::<Claim>(
             &mut seat.seat,
@@ -60,16 +62,19 @@ impl Pool {
             .load::<LookAway>(&mut seat.seat, other as usize)
     }
 
-    // Exchanges another range, as it was last seen, for its lower half. It answers what it found, which is that range
-    // where the upper half is stolen.
+    // Exchanges another range, as it was last seen, for its lower half. It answers what it found,
+    // which is that range where the upper half is stolen.
     pub(crate) fn try_steal(&self, seat: &mut Seat, other: u32, range: Range) -> u64
         requires pool { IsSeatOf self.now seat.old }
         requires free { IsFree (view seat.old) × (span_len (view seat.old).bound ≡ 0) }
         requires other { (other < workers_of self.now) × (other ≢ (view seat.old).number) }
         requires range { (2 ≤ span_len range) × (range.upto < 2 ^ 32) }
         ensures pool { IsSeatOf self.now seat.new }
-        ensures stolen { result ≡ packed range → (view seat.new ≡ stolen (view seat.old) other range) × (range.upto ≤ length (view seat.old).answers) }
-        ensures missed { result ≢ packed range → view seat.new ≡ looked (view seat.old) other result }
+        ensures stolen { result ≡ packed range
+            → (view seat.new ≡ stolen (view seat.old) other range)
+            × (range.upto ≤ length (view seat.old).answers) }
+        ensures missed { result ≢ packed range
+            → view seat.new ≡ looked (view seat.old) other result }
     {
         self.table.shared.compare_exchange::<Steal>(
             &mut seat.seat,
@@ -127,13 +132,16 @@ impl Pool {
     // Reads a unit's word, once all workers have ended.
     pub(crate) fn read(&self, seat: &mut Seat, unit: usize) -> u64
         requires done { IsDone self.now seat.old }
-        requires all { (number : ℕ) → number < workers_of self.now → HasNumber (view seat.old) number }
+        requires all { (number : ℕ) → number < workers_of self.now
+            → HasNumber (view seat.old) number }
         requires unit { unit < length (view seat.old).answers }
         ensures done { IsDone self.now seat.new }
         ensures view { view seat.new ≡ view seat.old }
         ensures word { result ≡ slice_index (view seat.old).answers unit }
-        ensures once { (u : ℕ) → times u (view seat.old).settled ≡ once_below u (length (view seat.old).answers) }
-        ensures history { IsOneHistory (view seat.old).answers (view seat.old).workers (HasPart (view seat.old)) }
+        ensures once { (u : ℕ)
+            → times u (view seat.old).settled ≡ once_below u (length (view seat.old).answers) }
+        ensures history { IsOneHistory (view seat.old).answers (view seat.old).workers
+            (HasPart (view seat.old)) }
     {
         let place = self.workers as usize + unit;
         self.table.shared.load::<Read>(&mut seat.seat, place)

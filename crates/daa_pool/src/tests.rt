@@ -54,8 +54,8 @@ impl Answers for Numbers {
     ghost real = { λ given. AreAnswers-numbers given.units };
 }
 
-// The same for five units, beside a gate that counts who passes for each unit. It counts too which units are answered
-// before their gate is passed.
+// The same for five units, beside a gate that counts who passes for each unit. It counts too which
+// units are answered before their gate is passed.
 #[derive(Drop)]
 struct Watch {
     passes: [AtomicU64; 5],
@@ -219,8 +219,8 @@ fn the_gate_is_passed_once_before_each_answer(rt: HostRuntime) {
     }
 }
 
-// Three workers of four meet at the gate, which one thread can't. As a worker may find nothing to steal by chance, the
-// meeting is tried five times.
+// Three workers of four meet at the gate, which one thread can't. As a worker may find nothing to
+// steal by chance, the meeting is tried five times.
 #[test]
 fn three_of_four_workers_meet_at_the_gate(rt: HostRuntime) {
     let mut met = false;

@@ -10,7 +10,8 @@ use daa_outside::Gate;
 use daa_schedule::Answers;
 
 impl Pool {
-    /// Puts the answer of the unit on the board, whose piece this seat holds. The word is that answer.
+    /// Puts the answer of the unit on the board, whose piece this seat holds. The word is that
+    /// answer.
     pub fn settle(&self, seat: &mut Seat, piece: Piece, word: u64)
         requires pool { IsSeatOf self.now seat.old }
         requires piece { HasPiece (view seat.old) piece }
@@ -30,8 +31,8 @@ impl Pool {
         seat.over
     }
 
-    /// Claims, passes the gate, answers and settles until a claim finds nothing; the seat is over then. The answers are
-    /// those that the pool was opened for.
+    /// Claims, passes the gate, answers and settles until a claim finds nothing; the seat is over
+    /// then. The answers are those that the pool was opened for.
     pub fn work<A: Answers, G: Gate>(&self, seat: &mut Seat, answers: &A, gate: &G)
         requires ready { IsReady self.now seat.old (A.answers answers.now) }
         ensures done { IsDone self.now seat.new }

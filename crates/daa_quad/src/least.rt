@@ -8,9 +8,9 @@ ghost use Rattle.daa_quad.specs.Slope.{slope_of};
 use crate::{Quad, Sign, sign_at};
 use daa_fixed::Point;
 
-/// A time from `from` to `upto` whose value no fraction between them undercuts; which one, where several are least, is left
-/// open. The vertex `-b/2a`, where it lies between the two, has to be a point in range; one that lies outside is never made
-/// into a point.
+/// A time from `from` to `upto` whose value no fraction between them undercuts; which one, where
+/// several are least, is left open. The vertex `-b/2a`, where it lies between the two, has to be a
+/// point in range; one that lies outside is never made into a point.
 pub fn least_point(q: &Quad, from: &Point, upto: &Point) -> Point
     requires in_order { IsInOrder from.now upto.now }
     requires vertex { HasVertexInRange q.now from.now upto.now }
@@ -26,12 +26,13 @@ pub fn least_point(q: &Quad, from: &Point, upto: &Point) -> Point
     vertex(q)
 }
 
-/// A time from `from` to `upto` at which the value is at most 0, and `None` exactly where it is above 0 at every fraction
-/// between them. The conditions are those of `least_point`.
+/// A time from `from` to `upto` at which the value is at most 0, and `None` exactly where it is
+/// above 0 at every fraction between them. The conditions are those of `least_point`.
 pub fn dips(q: &Quad, from: &Point, upto: &Point) -> Option<Point>
     requires in_order { IsInOrder from.now upto.now }
     requires vertex { HasVertexInRange q.now from.now upto.now }
-    ensures { MatchOption result (IsAboveBetween q.now from.now upto.now) (λ p. IsDip q.now from.now upto.now p.num p.den) }
+    ensures { MatchOption result (IsAboveBetween q.now from.now upto.now)
+        (λ p. IsDip q.now from.now upto.now p.num p.den) }
 {
     let least = least_point(q, from, upto);
     match sign_at(q, &least) {

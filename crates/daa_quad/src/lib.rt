@@ -1,11 +1,11 @@
-//! Quadratics over an interval of times, exactly: the sign at a time, a time of least value, and whether the value falls to
-//! zero. No root is taken.
+//! Quadratics over an interval of times, exactly: the sign at a time, a time of least value, and
+//! whether the value falls to zero. No root is taken.
 #![tactic(auto)]
 
 ghost use Rattle.std.specs.Prelude.{ℤ, pos, ◌^◌, ◌<◌, ◌≤ℤ◌, unsigned_abs};
 
-/// The quadratic `a t^2 + b t + c` of a time t in seconds, with `a` not negative. In size `a` is below 2^32, `b` below 2^43
-/// and `c` below 2^52.
+/// The quadratic `a t^2 + b t + c` of a time t in seconds, with `a` not negative. In size `a` is
+/// below 2^32, `b` below 2^43 and `c` below 2^52.
 #[derive(Clone, Copy, Debug)]
 pub struct Quad {
     pub a: i128,

@@ -1,5 +1,5 @@
-//! Ranges of units of work, and how a range stands in one 64-bit word, so that a single atomic step can read or
-//! change a whole range.
+//! Ranges of units of work, and how a range stands in one 64-bit word, so that a single atomic step
+//! can read or change a whole range.
 #![tactic(auto)]
 
 mod laws;

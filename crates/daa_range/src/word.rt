@@ -14,7 +14,8 @@ pub fn pack(range: Range) -> u64
     u64::from(range.first) * PART + u64::from(range.upto)
 }
 
-/// The range of a word. A word whose parts are not in order is read as the empty range at its first part.
+/// The range of a word. A word whose parts are not in order is read as the empty range at its first
+/// part.
 pub fn unpack(word: u64) -> Range
     ensures { result ≡ unpacked word }
 {

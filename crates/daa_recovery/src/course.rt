@@ -3,8 +3,8 @@
 use daa_config::Candidate;
 use daa_legs::Trunk;
 
-/// A candidate, the legs of its flight as far as a recovery looks ahead, and the leg from which on it
-/// is straight.
+/// A candidate, the legs of its flight as far as a recovery looks ahead, and the leg from which on
+/// it is straight.
 #[derive(Drop)]
 pub(crate) struct Course {
     pub(crate) candidate: Candidate,

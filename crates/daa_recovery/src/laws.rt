@@ -23,10 +23,12 @@ pub fn has_one_recovery()
 
 /// What recovers at a second recovers at each later one.
 pub fn recovering_lasts()
-    ensures { (p : Prospect) (candidate : Candidate) (m n : ℕ) → m ≤ n → Recovers p candidate m → Recovers p candidate n }
+    ensures { (p : Prospect) (candidate : Candidate) (m n : ℕ) → m ≤ n → Recovers p candidate m
+        → Recovers p candidate n }
 {}
 
-/// With no time thresholds a volume is the cylinder: at most so far off, and at most so far above or below.
+/// With no time thresholds a volume is the cylinder: at most so far off, and at most so far above
+/// or below.
 pub fn the_cylinder_is_what_is_near()
     ensures { (leg : Leg) (dthr zthr : ℕ) (n d : ℤ) → pos 1 ≤ℤ d
         → Violates leg (record { dthr = dthr; zthr = zthr; tthr = 0; tcoa = 0; model = Model.Taumod }) n d

@@ -1,4 +1,5 @@
-//! Recovery: where every candidate of a kind loses well-clear, how soon one of them has it again. Nothing here takes memory.
+//! Recovery: where every candidate of a kind loses well-clear, how soon one of them has it again.
+//! Nothing here takes memory.
 #![tactic(auto)]
 
 mod course;

@@ -20,8 +20,8 @@ use daa_state::{Picture, Traffic};
 use daa_taumod::Volume;
 use std::marker::Model;
 
-/// A configuration with a moment and the cylinder that a recovery stays out of, and how many seconds ahead it looks. Contracts see
-/// it as a `Prospect`.
+/// A configuration with a moment and the cylinder that a recovery stays out of, and how many
+/// seconds ahead it looks. Contracts see it as a `Prospect`.
 #[derive(Drop)]
 pub(crate) struct Outlook<'a> {
     config: &'a Config,
@@ -57,7 +57,8 @@ impl<'a> Outlook<'a> {
         }
     }
 
-    /// The least time after which a candidate of the kind recovers, and the first candidate that does.
+    /// The least time after which a candidate of the kind recovers, and the first candidate that
+    /// does.
     pub(crate) fn least(&self, kind: Kind) -> Option<Recovery>
         ensures { IsFound self.now kind result }
     {
@@ -68,7 +69,8 @@ impl<'a> Outlook<'a> {
         found
     }
 
-    /// What is found of the candidates of a kind up to that at a place, where `found` is what was found of those before it.
+    /// What is found of the candidates of a kind up to that at a place, where `found` is what was
+    /// found of those before it.
     fn better(&self, kind: Kind, place: u32, found: Option<Recovery>) -> Option<Recovery>
         requires place { place < length (values_of kind self.now.settings) }
         requires found { IsFoundBelow self.now kind place found }
@@ -157,8 +159,8 @@ impl<'a> Outlook<'a> {
         true
     }
 
-    /// Whether the candidate keeps clear of an aircraft: it violates no level that closes from second `m` on within the level's
-    /// lookahead, and never comes into the cylinder.
+    /// Whether the candidate keeps clear of an aircraft: it violates no level that closes from
+    /// second `m` on within the level's lookahead, and never comes into the cylinder.
     fn is_clear(&self, course: &Course, m: u32, aircraft: &Traffic) -> bool
         requires course { IsCourse self.now course.now }
         requires aircraft { IsTrafficInRange aircraft.now }
@@ -176,7 +178,8 @@ impl<'a> Outlook<'a> {
         self.meets(course, aircraft, self.cylinder, 0, self.horizon)
     }
 
-    /// Whether the candidate violates a level that closes, from second `m` on and within the level's lookahead.
+    /// Whether the candidate violates a level that closes, from second `m` on and within the
+    /// level's lookahead.
     fn is_closed_from(&self, course: &Course, m: u32, aircraft: &Traffic) -> bool
         requires course { IsCourse self.now course.now }
         requires aircraft { IsTrafficInRange aircraft.now }

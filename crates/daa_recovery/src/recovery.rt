@@ -8,15 +8,17 @@ use crate::outlook::Outlook;
 use daa_config::{Config, Kind};
 use daa_state::Picture;
 
-/// After how many seconds, 1 to 179, a candidate of a kind is clear, and the value that it goes to: degrees, 0.1 kt, ft/min or ft.
+/// After how many seconds, 1 to 179, a candidate of a kind is clear, and the value that it goes to:
+/// degrees, 0.1 kt, ft/min or ft.
 #[derive(Clone, Copy, Debug, PartialEq, Eq)]
 pub struct Recovery {
     pub after: u32,
     pub value: i32,
 }
 
-/// The least number of seconds after which some candidate of the kind recovers, with the first such candidate of the rising list;
-/// None exactly where none recovers. The configuration must ask for it by its table of recovery.
+/// The least number of seconds after which some candidate of the kind recovers, with the first such
+/// candidate of the rising list; None exactly where none recovers. The configuration must ask for
+/// it by its table of recovery.
 pub fn least(config: &Config, picture: &Picture, kind: Kind) -> Option<Recovery>
     requires asked { config.now.recovery ≢ None }
     requires picture { IsPictureInRange picture.now }

@@ -16,7 +16,8 @@ use std::thread::Threads;
 
 /// Writes the line of a refusal.
 fn say_refusal<K: Sink>(sink: &mut K, number: u64, code: u8) -> Result<(), SinkFault>
-    ensures says { Says (K.taken sink.old) (K.taken sink.new) (K.faults sink.old) (K.faults sink.new) (refused_line number code) result }
+    ensures says { Says (K.taken sink.old) (K.taken sink.new) (K.faults sink.old)
+        (K.faults sink.new) (refused_line number code) result }
     ensures short { length (refused_line number code) ≤ 64 }
 {
     let line = Line::refused(number, code);
@@ -32,8 +33,10 @@ pub(crate) fn say_event<R: Threads + Sync, K: Sink, G: Gate>(
 ) -> Result<(), SinkFault>
     requires { IsEventInRange event.now }
     ensures kept { engine.new.settings ≡ engine.old.settings }
-    ensures short { (text : Text) → IsEventText engine.old.settings event.now text → length text ≤ longest_moment }
-    ensures says { SaysSome (IsEventText engine.old.settings event.now) (K.taken sink.old) (K.taken sink.new) (K.faults sink.old) (K.faults sink.new) result }
+    ensures short { (text : Text) → IsEventText engine.old.settings event.now text
+        → length text ≤ longest_moment }
+    ensures says { SaysSome (IsEventText engine.old.settings event.now) (K.taken sink.old)
+        (K.taken sink.new) (K.faults sink.old) (K.faults sink.new) result }
 {
     match event {
         Event::Refused(number, fault) => say_refusal(sink, *number, fault.code()),

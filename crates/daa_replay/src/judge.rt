@@ -14,7 +14,8 @@ use daa_outside::{Gate, Sink, Source};
 use daa_report::{differs, same};
 use std::thread::Threads;
 
-/// Compares what the source gives, of which at most `most` bytes are read, with the report of the states, and writes what it finds.
+/// Compares what the source gives, of which at most `most` bytes are read, with the report of the
+/// states, and writes what it finds.
 pub(crate) fn judge_within<R: Threads + Sync, S: Source, K: Sink, G: Gate>(
     tools: &Tools<'_, R, G>,
     engine: &mut Engine,

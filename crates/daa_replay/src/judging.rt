@@ -91,11 +91,15 @@ fn judge_line<R: Threads + Sync, S: Source, G: Gate>(
     ensures room { HasRoom matching.new }
     ensures never_falls { S.faults source.old ≤ S.faults source.new }
     ensures ok { OnOk result ((settings : Settings) (most : ℕ) (first : SourceState) (bytes : Bytes) → engine.old.settings ≡ settings
-        → IsJudged settings most first bytes progress.old matching.old (source_state (S.left source.old) (S.faults source.old))
-        → IsJudged settings most first bytes progress.new matching.new (source_state (S.left source.new) (S.faults source.new))) }
+        → IsJudged settings most first bytes progress.old matching.old
+        (source_state (S.left source.old) (S.faults source.old))
+        → IsJudged settings most first bytes progress.new matching.new
+        (source_state (S.left source.new) (S.faults source.new))) }
     ensures err { IfErr result (λ found. (settings : Settings) (most : ℕ) (first : SourceState) (bytes : Bytes) → engine.old.settings ≡ settings
-        → IsJudged settings most first bytes progress.old matching.old (source_state (S.left source.old) (S.faults source.old))
-        → StopsIn settings most first bytes progress.old.lines.ended found (source_state (S.left source.new) (S.faults source.new))) }
+        → IsJudged settings most first bytes progress.old matching.old
+        (source_state (S.left source.old) (S.faults source.old))
+        → StopsIn settings most first bytes progress.old.lines.ended found
+        (source_state (S.left source.new) (S.faults source.new))) }
 {
     match take_event(&mut progress.lines, &mut progress.moments) {
         None => Ok(()),
@@ -127,11 +131,15 @@ fn judge_piece<R: Threads + Sync, S: Source, G: Gate>(
     ensures room { HasRoom matching.new }
     ensures never_falls { S.faults source.old ≤ S.faults source.new }
     ensures ok { OnOk result ((settings : Settings) (most : ℕ) (first : SourceState) (bytes : Bytes) → engine.old.settings ≡ settings
-        → IsJudged settings most first bytes progress.old matching.old (source_state (S.left source.old) (S.faults source.old))
-        → IsJudged settings most first (bytes ++ piece.now) progress.new matching.new (source_state (S.left source.new) (S.faults source.new))) }
+        → IsJudged settings most first bytes progress.old matching.old
+        (source_state (S.left source.old) (S.faults source.old))
+        → IsJudged settings most first (bytes ++ piece.now) progress.new matching.new
+        (source_state (S.left source.new) (S.faults source.new))) }
     ensures err { IfErr result (λ found. (settings : Settings) (most : ℕ) (first : SourceState) (bytes : Bytes) → engine.old.settings ≡ settings
-        → IsJudged settings most first bytes progress.old matching.old (source_state (S.left source.old) (S.faults source.old))
-        → StopsIn settings most first (bytes ++ piece.now) false found (source_state (S.left source.new) (S.faults source.new))) }
+        → IsJudged settings most first bytes progress.old matching.old
+        (source_state (S.left source.old) (S.faults source.old))
+        → StopsIn settings most first (bytes ++ piece.now) false found
+        (source_state (S.left source.new) (S.faults source.new))) }
 {
     let mut done = 0;
     while done < piece.len() {
@@ -161,11 +169,15 @@ fn judge_last<R: Threads + Sync, S: Source, G: Gate>(
     ensures room { HasRoom matching.new }
     ensures never_falls { S.faults source.old ≤ S.faults source.new }
     ensures ok { OnOk result ((settings : Settings) (most : ℕ) (first : SourceState) (bytes : Bytes) → engine.old.settings ≡ settings
-        → IsJudged settings most first bytes progress.old matching.old (source_state (S.left source.old) (S.faults source.old))
-        → IsWhole settings most first bytes matching.new (source_state (S.left source.new) (S.faults source.new))) }
+        → IsJudged settings most first bytes progress.old matching.old
+        (source_state (S.left source.old) (S.faults source.old))
+        → IsWhole settings most first bytes matching.new
+        (source_state (S.left source.new) (S.faults source.new))) }
     ensures err { IfErr result (λ found. (settings : Settings) (most : ℕ) (first : SourceState) (bytes : Bytes) → engine.old.settings ≡ settings
-        → IsJudged settings most first bytes progress.old matching.old (source_state (S.left source.old) (S.faults source.old))
-        → StopsIn settings most first bytes true found (source_state (S.left source.new) (S.faults source.new))) }
+        → IsJudged settings most first bytes progress.old matching.old
+        (source_state (S.left source.old) (S.faults source.old))
+        → StopsIn settings most first bytes true found
+        (source_state (S.left source.new) (S.faults source.new))) }
 {
     match take_end(&progress.lines, &progress.moments) {
         None => Ok(()),
@@ -190,11 +202,15 @@ fn judge_end<R: Threads + Sync, S: Source, G: Gate>(
     ensures room { HasRoom matching.new }
     ensures never_falls { S.faults source.old ≤ S.faults source.new }
     ensures ok { OnOk result ((settings : Settings) (most : ℕ) (first : SourceState) (bytes : Bytes) → engine.old.settings ≡ settings
-        → IsJudged settings most first bytes progress.old matching.old (source_state (S.left source.old) (S.faults source.old))
-        → IsWhole settings most first bytes matching.new (source_state (S.left source.new) (S.faults source.new))) }
+        → IsJudged settings most first bytes progress.old matching.old
+        (source_state (S.left source.old) (S.faults source.old))
+        → IsWhole settings most first bytes matching.new
+        (source_state (S.left source.new) (S.faults source.new))) }
     ensures err { IfErr result (λ found. (settings : Settings) (most : ℕ) (first : SourceState) (bytes : Bytes) → engine.old.settings ≡ settings
-        → IsJudged settings most first bytes progress.old matching.old (source_state (S.left source.old) (S.faults source.old))
-        → StopsIn settings most first bytes true found (source_state (S.left source.new) (S.faults source.new))) }
+        → IsJudged settings most first bytes progress.old matching.old
+        (source_state (S.left source.old) (S.faults source.old))
+        → StopsIn settings most first bytes true found
+        (source_state (S.left source.new) (S.faults source.new))) }
 {
     progress.lines.end();
     judge_line(tools, engine, sheet, source, matching, progress)?;
@@ -215,9 +231,11 @@ fn judge_states<R: Threads + Sync, S: Source, G: Gate>(
     ensures room { HasRoom matching.new }
     ensures never_falls { S.faults source.old ≤ S.faults source.new }
     ensures ok { OnOk result ((most : ℕ) (first : SourceState) → IsMatched most first [] matching.old (source_state (S.left source.old) (S.faults source.old))
-        → IsWhole engine.old.settings most first states.now matching.new (source_state (S.left source.new) (S.faults source.new))) }
+        → IsWhole engine.old.settings most first states.now matching.new
+        (source_state (S.left source.new) (S.faults source.new))) }
     ensures err { IfErr result (λ found. (most : ℕ) (first : SourceState) → IsMatched most first [] matching.old (source_state (S.left source.old) (S.faults source.old))
-        → StopsIn engine.old.settings most first states.now true found (source_state (S.left source.new) (S.faults source.new))) }
+        → StopsIn engine.old.settings most first states.now true found
+        (source_state (S.left source.new) (S.faults source.new))) }
 {
     let mut progress = begin();
     match judge_piece(
@@ -234,7 +252,8 @@ fn judge_states<R: Threads + Sync, S: Source, G: Gate>(
     }
 }
 
-/// What the bytes of the source are, of which at most `most` are read, compared with the report of the states.
+/// What the bytes of the source are, of which at most `most` are read, compared with the report of
+/// the states.
 pub(crate) fn judge_all<R: Threads + Sync, S: Source, G: Gate>(
     tools: &Tools<'_, R, G>,
     engine: &mut Engine,
@@ -245,7 +264,9 @@ pub(crate) fn judge_all<R: Threads + Sync, S: Source, G: Gate>(
 ) -> Found
     requires bound { most ≤ 2 ^ 40 }
     requires few { length states.now < 2 ^ 63 }
-    ensures judged { Judged engine.old.settings states.now most result (stream_state (S.left source.old) (S.faults source.old)) (stream_state (S.left source.new) (S.faults source.new)) }
+    ensures judged { Judged engine.old.settings states.now most result
+        (stream_state (S.left source.old) (S.faults source.old))
+        (stream_state (S.left source.new) (S.faults source.new)) }
     ensures never_falls { S.faults source.old ≤ S.faults source.new }
 {
     // tells that the configuration is accepted

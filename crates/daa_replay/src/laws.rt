@@ -15,10 +15,11 @@ ghost use Rattle.daa_replay.specs.Opening.{ConfigurationsAreUnique};
 use crate::event::Event;
 use daa_state::LineFault;
 
-/// Under an accepted configuration exactly one text is the report of an input: every run of bytes has one, whether they
-/// are the whole input or its beginning, and no other text is it.
+/// Under an accepted configuration exactly one text is the report of an input: every run of bytes
+/// has one, whether they are the whole input or its beginning, and no other text is it.
 pub fn every_input_has_one_report()
-    ensures { (settings : Settings) (bytes : Bytes) (ended : Bool) → IsAccepted settings → HasOne (IsReportOf settings bytes ended) }
+    ensures { (settings : Settings) (bytes : Bytes) (ended : Bool) → IsAccepted settings
+        → HasOne (IsReportOf settings bytes ended) }
 {}
 
 /// The picture of every moment that an input ends is in range.
@@ -29,17 +30,21 @@ pub fn ended_moments_are_in_range()
 /// A beginning of a report, as it is said event by event, is a beginning of the whole text.
 pub fn fronts_begin_reports()
     ensures { (settings : Settings) (bytes : Bytes) (ended : Bool) (front text : Text) → IsAccepted settings
-        → IsReportFront settings bytes ended front → IsReportOf settings bytes ended text → (rest : Text) × (text ≡ front ++ rest) }
+        → IsReportFront settings bytes ended front → IsReportOf settings bytes ended text
+        → (rest : Text) × (text ≡ front ++ rest) }
 {}
 
-/// The events of a longer input begin with those of a shorter one, and those at its end with those before.
+/// The events of a longer input begin with those of a shorter one, and those at its end with those
+/// before.
 pub fn events_only_grow()
-    ensures longer { (bytes more : Bytes) → (events : List Event) × (events_of (bytes ++ more) false ≡ events_of bytes false ++ events) }
-    ensures whole { (bytes : Bytes) → (events : List Event) × (events_of bytes true ≡ events_of bytes false ++ events) }
+    ensures longer { (bytes more : Bytes) → (events : List Event)
+        × (events_of (bytes ++ more) false ≡ events_of bytes false ++ events) }
+    ensures whole { (bytes : Bytes) → (events : List Event)
+        × (events_of bytes true ≡ events_of bytes false ++ events) }
 {}
 
-/// An input without a line whose first field is `format` reads as where there are neither that word nor ages, and the
-/// reports of its aircraft are of the moment itself.
+/// An input without a line whose first field is `format` reads as where there are neither that word
+/// nor ages, and the reports of its aircraft are of the moment itself.
 pub fn format_lines_alone_matter()
     ensures words { ReadsAsFourWords }
     ensures ages { HasNoAges }
@@ -47,13 +52,13 @@ pub fn format_lines_alone_matter()
 
 /// How a run ends where the words, the shelf and the number of bytes say it. With an accepted
 /// configuration and no fault a replay ends with 0 or 1, or with 8 where there are more bytes than
-/// may be read, and an exercise with 0. A comparison with states of at most 65536 bytes and no fault
-/// ends with 0 or 1, or with 8 where there are more bytes than may be read and the report begins with
-/// those that may be; whatever failed, at 0 the bytes are the report and at 1 they are not. With
-/// longer states it ends with 5, 7 or 9, with none under the name with 7. With words that are not
-/// taken a run ends with 2 or 5, with a refused configuration with 3, 5 or 7, with none under the
-/// name with 7. Want of memory, 6, may come in each. Where the count of faults of the source, the
-/// sink or the shelf did not rise, 4, 5 or 7 does not come.
+/// may be read, and an exercise with 0. A comparison with states of at most 65536 bytes and no
+/// fault ends with 0 or 1, or with 8 where there are more bytes than may be read and the report
+/// begins with those that may be; whatever failed, at 0 the bytes are the report and at 1 they are
+/// not. With longer states it ends with 5, 7 or 9, with none under the name with 7. With words that
+/// are not taken a run ends with 2 or 5, with a refused configuration with 3, 5 or 7, with none
+/// under the name with 7. Want of memory, 6, may come in each. Where the count of faults of the
+/// source, the sink or the shelf did not rise, 4, 5 or 7 does not come.
 pub fn runs_are_complete()
     ensures { RunsAreComplete }
 {}
@@ -65,7 +70,8 @@ pub fn configurations_are_unique()
 
 /// The events of inputs, at examples.
 pub fn worked_examples()
-    ensures long_line_once { events_of (replicate 300 97) true ≡ Event.Refused 1 LineFault.LongLine ∷ [] }
+    ensures long_line_once { events_of
+        (replicate 300 97) true ≡ Event.Refused 1 LineFault.LongLine ∷ [] }
     ensures end_before_own { events_of (codes "moment 0\nend\nown 0 0 1000 0 3600 0\nend\n") true
         ≡ Event.Refused 2 LineFault.NoOwn
         ∷ Event.Ended (record {
@@ -73,7 +79,9 @@ pub fn worked_examples()
           own = record { x = pos 0; y = pos 0; alt = pos 1000; trk = pos 0; gs = pos 3600; vs = pos 0 };
           traffic = record { items = [] };
         }) ∷ [] }
-    ensures unfinished { events_of (codes "moment 5\nown 0 0 1000 0 3600 0") true ≡ Event.Refused 3 LineFault.Unfinished ∷ [] }
+    ensures unfinished { events_of
+        (codes "moment 5\nown 0 0 1000 0 3600 0") true ≡ Event.Refused 3 LineFault.Unfinished ∷ [] }
     ensures not_unfinished_yet { events_of (codes "moment 5\nown 0 0 1000 0 3600 0\n") false ≡ [] }
-    ensures format_while_open { events_of (codes "format 2\nmoment 1\nformat 1\n") false ≡ Event.Refused 3 LineFault.MomentOpen ∷ [] }
+    ensures format_while_open { events_of
+        (codes "format 2\nmoment 1\nformat 1\n") false ≡ Event.Refused 3 LineFault.MomentOpen ∷ [] }
 {}

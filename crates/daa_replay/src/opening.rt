@@ -22,7 +22,8 @@ pub(crate) enum Work {
     Replay { ahead: u32 },
     /// So many moments are drawn, and each is decided.
     Exercise { seed: u32, moments: u32 },
-    /// A report is compared with that of these states, each text of which is written on the sheet first.
+    /// A report is compared with that of these states, each text of which is written on the sheet
+    /// first.
     Judge { states: Vec<u8>, sheet: Sheet },
 }
 
@@ -82,7 +83,8 @@ fn unfetched(fault: FetchFault, long: Unready) -> Unready
 /// The configuration that the shelf holds under the name.
 fn fetch<F: Shelf>(alloc: Global, shelf: &mut F, name: &str) -> Result<Config, Unready>
     ensures fetched { FetchesAs (F.texts shelf.old) name.now result }
-    ensures risen { result ≡ Err Unready.FetchFault → HasRisen (F.faults shelf.old) (F.faults shelf.new) }
+    ensures risen { result ≡ Err Unready.FetchFault
+        → HasRisen (F.faults shelf.old) (F.faults shelf.new) }
     ensures never_falls { F.faults shelf.old ≤ F.faults shelf.new }
     ensures no_fault { result ≢ Err Unready.FetchFault → F.faults shelf.new ≡ F.faults shelf.old }
     ensures kept { F.texts shelf.new ≡ F.texts shelf.old }
@@ -103,7 +105,8 @@ fn fetch_engine<F: Shelf>(
     requires { IsWorkerCount workers }
     ensures fetched { FetchesAs (F.texts shelf.old) name.now (settings_in result) }
     ensures workers { IfOk result (λ engine. engine.workers ≡ workers) }
-    ensures risen { result ≡ Err Unready.FetchFault → HasRisen (F.faults shelf.old) (F.faults shelf.new) }
+    ensures risen { result ≡ Err Unready.FetchFault
+        → HasRisen (F.faults shelf.old) (F.faults shelf.new) }
     ensures never_falls { F.faults shelf.old ≤ F.faults shelf.new }
     ensures no_fault { result ≢ Err Unready.FetchFault → F.faults shelf.new ≡ F.faults shelf.old }
     ensures kept { F.texts shelf.new ≡ F.texts shelf.old }
@@ -120,7 +123,8 @@ fn fetch_engine<F: Shelf>(
 /// A comparison with the report of the states that the shelf holds under the name.
 fn fetch_states<F: Shelf>(alloc: Global, shelf: &mut F, name: &str) -> Result<Work, Unready>
     ensures prepared { PreparesAs (F.texts shelf.old) (Judge name.now) result }
-    ensures risen { result ≡ Err Unready.FetchFault → HasRisen (F.faults shelf.old) (F.faults shelf.new) }
+    ensures risen { result ≡ Err Unready.FetchFault
+        → HasRisen (F.faults shelf.old) (F.faults shelf.new) }
     ensures never_falls { F.faults shelf.old ≤ F.faults shelf.new }
     ensures no_fault { result ≢ Err Unready.FetchFault → F.faults shelf.new ≡ F.faults shelf.old }
     ensures kept { F.texts shelf.new ≡ F.texts shelf.old }
@@ -139,7 +143,8 @@ fn prepare<F: Shelf>(alloc: Global, shelf: &mut F, task: &Task<'_>) -> Result<Wo
     requires { TaskIsInRange (task_of task.now) }
     ensures prepared { PreparesAs (F.texts shelf.old) (task_of task.now) result }
     ensures in_range { IfOk result WorkIsInRange }
-    ensures risen { result ≡ Err Unready.FetchFault → HasRisen (F.faults shelf.old) (F.faults shelf.new) }
+    ensures risen { result ≡ Err Unready.FetchFault
+        → HasRisen (F.faults shelf.old) (F.faults shelf.new) }
     ensures never_falls { F.faults shelf.old ≤ F.faults shelf.new }
     ensures no_fault { result ≢ Err Unready.FetchFault → F.faults shelf.new ≡ F.faults shelf.old }
     ensures kept { F.texts shelf.new ≡ F.texts shelf.old }
@@ -154,13 +159,15 @@ fn prepare<F: Shelf>(alloc: Global, shelf: &mut F, task: &Task<'_>) -> Result<Wo
     }
 }
 
-/// The engine of the configuration that the shelf holds under the order's name, with the order's workers, and the work of its task.
+/// The engine of the configuration that the shelf holds under the order's name, with the order's
+/// workers, and the work of its task.
 fn make_ready<F: Shelf>(alloc: Global, order: &Order<'_>, shelf: &mut F) -> Result<Ready, Unready>
     requires { IsInRange (meaning order.now) }
     ensures made { MakesReady (F.texts shelf.old) (meaning order.now) result }
     ensures in_range { IfOk result (λ ready. WorkIsInRange ready.work) }
     ensures workers { IfOk result (λ ready. ready.engine.workers ≡ order.now.workers) }
-    ensures risen { result ≡ Err Unready.FetchFault → HasRisen (F.faults shelf.old) (F.faults shelf.new) }
+    ensures risen { result ≡ Err Unready.FetchFault
+        → HasRisen (F.faults shelf.old) (F.faults shelf.new) }
     ensures never_falls { F.faults shelf.old ≤ F.faults shelf.new }
     ensures no_fault { result ≢ Err Unready.FetchFault → F.faults shelf.new ≡ F.faults shelf.old }
     ensures kept { F.texts shelf.new ≡ F.texts shelf.old }
@@ -172,7 +179,8 @@ fn make_ready<F: Shelf>(alloc: Global, order: &Order<'_>, shelf: &mut F) -> Resu
     }
 }
 
-/// The work that the words ask for, and the engine of the configuration that they and the shelf give.
+/// The work that the words ask for, and the engine of the configuration that they and the shelf
+/// give.
 pub(crate) fn open<F: Shelf>(
     alloc: Global,
     words: &[String],
@@ -180,7 +188,8 @@ pub(crate) fn open<F: Shelf>(
 ) -> Result<Ready, Unready>
     ensures opened { OpensAs (map string_bytes words.now) (F.texts shelf.old) result }
     ensures in_range { IfOk result (λ ready. WorkIsInRange ready.work) }
-    ensures risen { result ≡ Err Unready.FetchFault → HasRisen (F.faults shelf.old) (F.faults shelf.new) }
+    ensures risen { result ≡ Err Unready.FetchFault
+        → HasRisen (F.faults shelf.old) (F.faults shelf.new) }
     ensures never_falls { F.faults shelf.old ≤ F.faults shelf.new }
     ensures no_fault { result ≢ Err Unready.FetchFault → F.faults shelf.new ≡ F.faults shelf.old }
     ensures kept { F.texts shelf.new ≡ F.texts shelf.old }

@@ -58,7 +58,8 @@ fn conduct<R: Threads + Sync, F: Shelf, S: Source + Send, K: Sink + Send, G: Gat
 ///   a name;
 /// - 6 where there was no memory for words, texts, configuration, engine or sheet; nothing is read
 ///   or written;
-/// - 8 exactly where `most` bytes were read and there was one more, and the sink did not fail before
+/// - 8 exactly where `most` bytes were read and there was one more, and the sink did not fail
+///   before
 ///   they were reported; of a comparison only where the report begins with those bytes;
 /// - 9 where the states have more than 65536 bytes; `states long` is written.
 ///

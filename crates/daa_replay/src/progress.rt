@@ -34,7 +34,8 @@ pub(crate) fn begin() -> Progress
     ensures free { is_standing result.lines.stage ≡ false }
     ensures going { result.lines.ended ≡ false }
     ensures fed { result.lines.fed ≡ 0 }
-    ensures reports { (settings : Settings) (first : ToldBytes) → Reports settings first [] result first }
+    ensures reports { (settings : Settings) (first : ToldBytes)
+        → Reports settings first [] result first }
 {
     Progress {
         lines: Lines::new(),
@@ -105,7 +106,8 @@ pub(crate) fn report_piece<R: Threads + Sync, K: Sink, G: Gate>(
     Ok(())
 }
 
-/// The input is over: writes what its last line gives, and what its end gives. Says whether some line was refused.
+/// The input is over: writes what its last line gives, and what its end gives. Says whether some
+/// line was refused.
 pub(crate) fn report_end<R: Threads + Sync, K: Sink, G: Gate>(
     tools: &Tools<'_, R, G>,
     engine: &mut Engine,

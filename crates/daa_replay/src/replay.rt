@@ -47,8 +47,8 @@ fn over<R: Threads + Sync, K: Sink, G: Gate>(
     }
 }
 
-/// Writes the report of what the source gives, of at most `most` bytes, under this configuration; read by turns where `places` is
-/// 0, and else ahead by up to so many pieces.
+/// Writes the report of what the source gives, of at most `most` bytes, under this configuration;
+/// read by turns where `places` is 0, and else ahead by up to so many pieces.
 pub(crate) fn replay_within<R: Threads + Sync, S: Source + Send, K: Sink + Send, G: Gate>(
     tools: &Tools<'_, R, G>,
     engine: &mut Engine,

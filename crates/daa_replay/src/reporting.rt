@@ -21,8 +21,11 @@ fn take_piece<R: Threads + Sync, K: Sink, G: Gate>(
     progress: &mut Progress,
     piece: &[u8],
 ) -> bool
-    requires { CanReport (desk engine.old.settings progress.old (K.taken sink.old) (K.faults sink.old)) (length piece.now) }
-    ensures { Steps (desk engine.old.settings progress.old (K.taken sink.old) (K.faults sink.old)) piece.now result (desk engine.new.settings progress.new (K.taken sink.new) (K.faults sink.new)) }
+    requires { CanReport (desk engine.old.settings progress.old (K.taken sink.old)
+        (K.faults sink.old)) (length piece.now) }
+    ensures { Steps (desk engine.old.settings progress.old (K.taken sink.old)
+        (K.faults sink.old)) piece.now result
+        (desk engine.new.settings progress.new (K.taken sink.new) (K.faults sink.new)) }
 {
     match report_piece(tools, engine, progress, sink, piece) {
         Ok(()) => true,
@@ -63,15 +66,20 @@ pub(crate) fn report_all<R: Threads + Sync, S: Source + Send, K: Sink + Send, G:
     requires places { places ≤ 1024 }
     requires some { 1 ≤ most }
     requires bound { most ≤ 2 ^ 40 }
-    requires between { IsBetween (desk engine.old.settings progress.old (K.taken sink.old) (K.faults sink.old)) }
+    requires between { IsBetween
+        (desk engine.old.settings progress.old (K.taken sink.old) (K.faults sink.old)) }
     requires begun { progress.old.lines.fed ≡ 0 }
     ensures moves { Moves places result most (source_state (S.left source.old) (S.faults source.old)) (source_state (S.left source.new) (S.faults source.new))
         (λ bytes. Steps (desk engine.old.settings progress.old (K.taken sink.old) (K.faults sink.old)) bytes (wants_more result) (desk engine.new.settings progress.new (K.taken sink.new) (K.faults sink.new))) }
 {
     let mut taker = Calls {
         call: |piece: &[u8]| -> bool
-            requires { CanReport (desk engine.now.settings progress.now (K.taken sink.now) (K.faults sink.now)) (length piece.now) }
-            ensures { Steps (desk engine.entry.now.settings progress.entry.now (K.taken sink.entry.now) (K.faults sink.entry.now)) piece.entry.now result (desk engine.exit.now.settings progress.exit.now (K.taken sink.exit.now) (K.faults sink.exit.now)) }
+            requires { CanReport (desk engine.now.settings progress.now (K.taken sink.now)
+                (K.faults sink.now)) (length piece.now) }
+            ensures { Steps (desk engine.entry.now.settings progress.entry.now
+                (K.taken sink.entry.now) (K.faults sink.entry.now)) piece.entry.now result
+                (desk engine.exit.now.settings progress.exit.now (K.taken sink.exit.now)
+                (K.faults sink.exit.now)) }
         { take_piece(tools, engine, sink, progress, piece) },
     };
     read_for(tools, source, places, most, &mut taker)

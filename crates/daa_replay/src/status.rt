@@ -10,7 +10,8 @@ use daa_report::SinkFault;
 pub(crate) enum Status {
     /// The input was read to its end, and no line was refused; or a report is the right one.
     Accepted,
-    /// The input was read to its end, and some line was refused; or a report differs from the right one.
+    /// The input was read to its end, and some line was refused; or a report differs from the right
+    /// one.
     Refused,
     /// The command words are not taken.
     NotTaken,

@@ -15,9 +15,11 @@ const USAGE: &[u8] =
 /// What is written where the states are too long.
 const LONG: &[u8] = b"states long\n";
 
-/// Writes the usage line, that the states are too long, or the code of a refused configuration, and answers the status.
+/// Writes the usage line, that the states are too long, or the code of a refused configuration, and
+/// answers the status.
 pub(crate) fn tell<K: Sink>(why: Unready, sink: &mut K) -> Status
-    ensures { Tells why (stream_state (K.taken sink.old) (K.faults sink.old)) (stream_state (K.taken sink.new) (K.faults sink.new)) result }
+    ensures { Tells why (stream_state (K.taken sink.old) (K.faults sink.old))
+        (stream_state (K.taken sink.new) (K.faults sink.new)) result }
 {
     match why {
         Unready::NotTaken => status_of(put(sink, USAGE), Status::NotTaken),

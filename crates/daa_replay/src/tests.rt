@@ -17,8 +17,8 @@ use std::process::Abort;
 use std::test::Fail;
 use std::thread::Threads;
 
-/// The command words, what the shelf holds under the name `c`, how the shelf, the source and the sink behave, and how many
-/// bytes may be read.
+/// The command words, what the shelf holds under the name `c`, how the shelf, the source and the
+/// sink behave, and how many bytes may be read.
 #[derive(Clone, Copy)]
 struct Outside<'a> {
     words: &'a [&'a str],
@@ -89,7 +89,8 @@ resolve vs down none up none
 resolve alt down none up none
 ";
 
-/// A text with the lines of `CLEAR` for a line `clear`, and those of `COVERED` for a line `covered`.
+/// A text with the lines of `CLEAR` for a line `clear`, and those of `COVERED` for a line
+/// `covered`.
 fn whole<R: AllocGlobal>(rt: &R, text: &str) -> Result<String, AllocError> {
     let mut whole = String::new(rt.alloc());
     for line in text.lines() {

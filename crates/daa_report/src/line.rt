@@ -136,7 +136,8 @@ impl Line {
         Line { bytes: line }
     }
 
-    /// The line of the recovery of a kind: after how many seconds a candidate is clear, and the value that it goes to.
+    /// The line of the recovery of a kind: after how many seconds a candidate is clear, and the
+    /// value that it goes to.
     #[tactic(auto, unfolding(crate::specs::Lines::recover_line))]
     pub fn recover(kind: Kind, found: Option<(u32, i32)>) -> Line
         ensures text { result ≡ recover_line kind found }

@@ -117,7 +117,10 @@ fn sentence_of<E: Error>(alloc: Global, error: E) -> Result<String, AllocError> 
 #[test]
 fn the_fault_has_a_sentence(rt: HostRuntime) -> Result<(), Fail> {
     let sentence = sentence_of(rt.alloc(), SinkFault)?;
-    assert_eq!(rt; sentence.as_str(), "the sink failed before it took the whole text");
+    assert_eq!(rt;
+        sentence.as_str(),
+        "the sink failed before it took the whole text"
+    );
     Ok(())
 }
 

@@ -9,14 +9,16 @@ use daa_outside::{Failed, Sink};
 use daa_state::Id;
 use thiserror::Error;
 
-/// The sink failed: its count of faults rose in the call, and it took no more than a beginning of the text.
+/// The sink failed: its count of faults rose in the call, and it took no more than a beginning of
+/// the text.
 #[derive(Clone, Copy, Debug, PartialEq, Eq, Error)]
 #[error("the sink failed before it took the whole text")]
 pub struct SinkFault;
 
 /// Writes the whole piece, by as many writes as it takes.
 pub fn put<K: Sink>(sink: &mut K, piece: &[u8]) -> Result<(), SinkFault>
-    ensures { Says (K.taken sink.old) (K.taken sink.new) (K.faults sink.old) (K.faults sink.new) piece.now result }
+    ensures { Says (K.taken sink.old) (K.taken sink.new) (K.faults sink.old)
+        (K.faults sink.new) piece.now result }
 {
     let mut at = 0;
     while at < piece.len() {
@@ -37,33 +39,38 @@ fn rest_from(bytes: &[u8], at: usize) -> &[u8]
 
 /// Writes that the line of this number, from 1 on, was refused with this code.
 pub fn refused<K: Sink>(sink: &mut K, number: u64, code: u8) -> Result<(), SinkFault>
-    ensures { Says (K.taken sink.old) (K.taken sink.new) (K.faults sink.old) (K.faults sink.new) (refused_line number code) result }
+    ensures { Says (K.taken sink.old) (K.taken sink.new) (K.faults sink.old) (K.faults sink.new)
+        (refused_line number code) result }
 {
     put(sink, Line::refused(number, code).as_bytes())
 }
 
 /// Writes that the moment of this time, in seconds, begins.
 pub fn moment<K: Sink>(sink: &mut K, time: u32) -> Result<(), SinkFault>
-    ensures { Says (K.taken sink.old) (K.taken sink.new) (K.faults sink.old) (K.faults sink.new) (moment_line time) result }
+    ensures { Says (K.taken sink.old) (K.taken sink.new) (K.faults sink.old) (K.faults sink.new)
+        (moment_line time) result }
 {
     put(sink, Line::moment(time).as_bytes())
 }
 
 /// Writes the level of an aircraft now, 0 where none is violated.
 pub fn now<K: Sink>(sink: &mut K, id: &Id, level: u8) -> Result<(), SinkFault>
-    ensures { Says (K.taken sink.old) (K.taken sink.new) (K.faults sink.old) (K.faults sink.new) (now_line id.now level) result }
+    ensures { Says (K.taken sink.old) (K.taken sink.new) (K.faults sink.old) (K.faults sink.new)
+        (now_line id.now level) result }
 {
     put(sink, Line::now(id, level).as_bytes())
 }
 
 /// Writes the alert level of an aircraft, and from which leg on: the second, from 0.
 pub fn alert<K: Sink>(sink: &mut K, id: &Id, level: u8, first: Option<u32>) -> Result<(), SinkFault>
-    ensures { Says (K.taken sink.old) (K.taken sink.new) (K.faults sink.old) (K.faults sink.new) (alert_line id.now level first) result }
+    ensures { Says (K.taken sink.old) (K.taken sink.new) (K.faults sink.old) (K.faults sink.new)
+        (alert_line id.now level first) result }
 {
     put(sink, Line::alert(id, level, first).as_bytes())
 }
 
-/// Writes that the values of a kind from one up to another, in degrees, 0.1 kt, ft/min or ft, show this level.
+/// Writes that the values of a kind from one up to another, in degrees, 0.1 kt, ft/min or ft, show
+/// this level.
 pub fn band<K: Sink>(
     sink: &mut K,
     kind: Kind,
@@ -71,59 +78,68 @@ pub fn band<K: Sink>(
     upto: i32,
     level: u8,
 ) -> Result<(), SinkFault>
-    ensures { Says (K.taken sink.old) (K.taken sink.new) (K.faults sink.old) (K.faults sink.new) (band_line kind from upto level) result }
+    ensures { Says (K.taken sink.old) (K.taken sink.new) (K.faults sink.old) (K.faults sink.new)
+        (band_line kind from upto level) result }
 {
     put(sink, Line::band(kind, from, upto, level).as_bytes())
 }
 
-/// Writes what is answered on the lower side of a kind, left or down, and on the upper, right or up.
+/// Writes what is answered on the lower side of a kind, left or down, and on the upper, right or
+/// up.
 pub fn resolve<K: Sink>(
     sink: &mut K,
     kind: Kind,
     lower: Resolution,
     upper: Resolution,
 ) -> Result<(), SinkFault>
-    ensures { Says (K.taken sink.old) (K.taken sink.new) (K.faults sink.old) (K.faults sink.new) (resolve_line kind lower upper) result }
+    ensures { Says (K.taken sink.old) (K.taken sink.new) (K.faults sink.old) (K.faults sink.new)
+        (resolve_line kind lower upper) result }
 {
     put(sink, Line::resolve(kind, lower, upper).as_bytes())
 }
 
-/// Writes the recovery of a kind: after how many seconds a candidate is clear and the value that it goes to, in degrees, 0.1 kt, ft/min
-/// or ft; or that none is.
+/// Writes the recovery of a kind: after how many seconds a candidate is clear and the value that it
+/// goes to, in degrees, 0.1 kt, ft/min or ft; or that none is.
 pub fn recover<K: Sink>(
     sink: &mut K,
     kind: Kind,
     found: Option<(u32, i32)>,
 ) -> Result<(), SinkFault>
-    ensures { Says (K.taken sink.old) (K.taken sink.new) (K.faults sink.old) (K.faults sink.new) (recover_line kind found) result }
+    ensures { Says (K.taken sink.old) (K.taken sink.new) (K.faults sink.old) (K.faults sink.new)
+        (recover_line kind found) result }
 {
     put(sink, Line::recover(kind, found).as_bytes())
 }
 
 /// Writes that the moment of this time, in seconds, ends.
 pub fn done<K: Sink>(sink: &mut K, time: u32) -> Result<(), SinkFault>
-    ensures { Says (K.taken sink.old) (K.taken sink.new) (K.faults sink.old) (K.faults sink.new) (done_line time) result }
+    ensures { Says (K.taken sink.old) (K.taken sink.new) (K.faults sink.old) (K.faults sink.new)
+        (done_line time) result }
 {
     put(sink, Line::done(time).as_bytes())
 }
 
 /// Writes that the configuration was refused with this code.
 pub fn config<K: Sink>(sink: &mut K, code: u8) -> Result<(), SinkFault>
-    ensures { Says (K.taken sink.old) (K.taken sink.new) (K.faults sink.old) (K.faults sink.new) (config_line code) result }
+    ensures { Says (K.taken sink.old) (K.taken sink.new) (K.faults sink.old) (K.faults sink.new)
+        (config_line code) result }
 {
     put(sink, Line::config(code).as_bytes())
 }
 
 /// Writes that a report is the right one.
 pub fn same<K: Sink>(sink: &mut K) -> Result<(), SinkFault>
-    ensures { Says (K.taken sink.old) (K.taken sink.new) (K.faults sink.old) (K.faults sink.new) same_line result }
+    ensures { Says (K.taken sink.old) (K.taken sink.new) (K.faults sink.old)
+        (K.faults sink.new) same_line result }
 {
     put(sink, Line::same().as_bytes())
 }
 
-/// Writes that a report differs from the right one, and that the line of this number, from 1 on, is the first that does.
+/// Writes that a report differs from the right one, and that the line of this number, from 1 on, is
+/// the first that does.
 pub fn differs<K: Sink>(sink: &mut K, line: u64) -> Result<(), SinkFault>
-    ensures { Says (K.taken sink.old) (K.taken sink.new) (K.faults sink.old) (K.faults sink.new) (differs_line line) result }
+    ensures { Says (K.taken sink.old) (K.taken sink.new) (K.faults sink.old) (K.faults sink.new)
+        (differs_line line) result }
 {
     put(sink, Line::differs(line).as_bytes())
 }

@@ -12,13 +12,15 @@ ghost use Rattle.daa_config.specs.One.{HasOne};
 ghost use Rattle.daa_resolve.specs.Resolution.{IsResolution};
 ghost use Rattle.daa_resolve.specs.Side.{distance_of, IsOnSide};
 
-/// Each side of each kind has exactly one answer: there is one, and no two candidates of a side are equally far.
+/// Each side of each kind has exactly one answer: there is one, and no two candidates of a side are
+/// equally far.
 pub fn has_one_answer()
     ensures { (board : List ℕ) (s : Settings) (own : Own) (kind : Kind) (side : Side) → IsAccepted s
         → HasOne (IsResolution (HasLevelOn board) s own kind side) }
 {}
 
-/// Where a board stands for what is covered, the answers over the board are those over what is covered.
+/// Where a board stands for what is covered, the answers over the board are those over what is
+/// covered.
 pub fn board_answers_for_what_is_covered()
     ensures { (covered : ℕ → ℕ → Bool) (board : List ℕ) (s : Settings) (own : Own) (kind : Kind) (side : Side) (answer : Resolution)
         → IsAccepted s → IsBoardOf (λ index l. IsTrue (covered index l)) s board
@@ -26,8 +28,9 @@ pub fn board_answers_for_what_is_covered()
         → IsResolution (λ index l. IsTrue (covered index l)) s own kind side answer }
 {}
 
-/// Worked examples: from track 45 the track 0 is 45 degrees to the left, 90 is 45 to the right, 180 is 135 to the right and
-/// 270 is 135 to the left; exactly half a turn is to the right alone; the present value is to the left or down.
+/// Worked examples: from track 45 the track 0 is 45 degrees to the left, 90 is 45 to the right, 180
+/// is 135 to the right and 270 is 135 to the left; exactly half a turn is to the right alone; the
+/// present value is to the left or down.
 pub fn worked_examples()
     ensures left_45 { distance_of Track Lower (pos 45) (pos 0) ≡ pos 45 }
     ensures right_45 { distance_of Track Upper (pos 45) (pos 90) ≡ pos 45 }

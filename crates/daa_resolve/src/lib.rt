@@ -1,5 +1,6 @@
-//! What is answered on the two sides of each kind: the nearest open candidate, by [`nearest`]. A candidate is open where
-//! no aircraft is met at the corrective level or above. Nothing here takes memory.
+//! What is answered on the two sides of each kind: the nearest open candidate, by [`nearest`]. A
+//! candidate is open where no aircraft is met at the corrective level or above. Nothing here takes
+//! memory.
 #![tactic(auto)]
 
 mod laws;

@@ -12,11 +12,12 @@ use daa_bands::Board;
 use daa_config::{Config, Kind, Resolution};
 use daa_state::Own;
 
-/// What is answered on a side of a kind: `Keep` where the present flight is open, else the value of the nearest open
-/// candidate on that side, or `Nothing` where there is none. On track, right has the candidates that are 1 to 180 degrees
-/// to the right and left those 0 to 179 degrees to the left; on the other kinds up has the values greater than the present
-/// one and down the others, so that a candidate of the present value itself is an answer of left or down. Source: the
-/// DAIDALUS reference manual, on resolutions relative to a corrective level.
+/// What is answered on a side of a kind: `Keep` where the present flight is open, else the value of
+/// the nearest open candidate on that side, or `Nothing` where there is none. On track, right has
+/// the candidates that are 1 to 180 degrees to the right and left those 0 to 179 degrees to the
+/// left; on the other kinds up has the values greater than the present one and down the others, so
+/// that a candidate of the present value itself is an answer of left or down. Source: the DAIDALUS
+/// reference manual, on resolutions relative to a corrective level.
 pub fn nearest(board: &Board, config: &Config, own: &Own, kind: Kind, side: Side) -> Resolution
     ensures { IsResolution (HasLevelOn board.now) config.now own.now kind side result }
 {
@@ -31,7 +32,8 @@ pub fn nearest(board: &Board, config: &Config, own: &Own, kind: Kind, side: Side
 
 /// The place of the nearest of all.
 fn best(board: &Board, config: &Config, own: &Own, kind: Kind, side: Side) -> Option<u32>
-    ensures { IsBest (HasLevelOn board.now) config.now own.now kind side (length (values_of kind config.now)) result }
+    ensures { IsBest (HasLevelOn board.now) config.now own.now kind side
+        (length (values_of kind config.now)) result }
 {
     let mut best = None;
     for place in 0..config.count(kind) {
@@ -80,7 +82,9 @@ fn is_open_on_side(
     place: u32,
 ) -> bool
     requires { place < length (values_of kind config.now) }
-    ensures { IsTrue result ↔ ((value : ℤ) × IsOpenOnSide (HasLevelOn board.now) config.now own.now kind side place value) }
+    ensures { IsTrue result
+        ↔ ((value : ℤ) × IsOpenOnSide
+        (HasLevelOn board.now) config.now own.now kind side place value) }
 {
     let value = config.value(kind, place);
     let index = config.start(kind) + place;

@@ -8,8 +8,8 @@ use daa_state::Own;
 use std::process::Abort;
 use std::test::Fail;
 
-/// Hold has the index 0, the tracks 0, 90, 180 and 270 have 1 to 4, the ground speeds 3000, 3300, 3600 and 3900 have 5 to
-/// 8, the vertical speed 0 has 9 and the altitude 1000 has 10.
+/// Hold has the index 0, the tracks 0, 90, 180 and 270 have 1 to 4, the ground speeds 3000, 3300,
+/// 3600 and 3900 have 5 to 8, the vertical speed 0 has 9 and the altitude 1000 has 10.
 const QUARTERS: &str = "resolve = 1
 turn_rate = 3
 track_step = 90
@@ -77,7 +77,8 @@ fn expect_answers(
     assert_eq!(rt; nearest(board, config, own, kind, Side::Upper), wanted.1);
 }
 
-/// Track 45: 0 is 45 degrees to the left, 90 is 45 to the right, 180 is 135 to the right and 270 is 135 to the left.
+/// Track 45: 0 is 45 degrees to the left, 90 is 45 to the right, 180 is 135 to the right and 270 is
+/// 135 to the left.
 #[test]
 fn angles_from_45(rt: HostRuntime) -> Result<(), Fail> {
     assert_eq!(rt; distance(Kind::Track, Side::Lower, &45, &0), 45);
@@ -170,7 +171,8 @@ fn hold_open_or_nothing_open(rt: HostRuntime) -> Result<(), Fail> {
     Ok(())
 }
 
-/// Of three levels the second and third close a candidate; the first does not, nor does a fourth, which is not there.
+/// Of three levels the second and third close a candidate; the first does not, nor does a fourth,
+/// which is not there.
 #[test]
 fn corrective_levels(rt: HostRuntime) -> Result<(), Fail> {
     let config = read(rt.alloc(), LEVELS.as_bytes())?;

@@ -282,8 +282,8 @@ word_told own s same a p groups unit at word counted h ea ew =
     let l : unit < group_count s.settings * length (places_in_reach s) = subst (λ (n : ℕ). unit < n) (words_count s) h in
     let i = unit_place s unit l in
     let listed : IsWordOf s (slice_index (places_in_reach s) (unit / group_count s.settings)) (unit % group_count s.settings) (slice_index (words_of s) unit) =
-        subst (λ (v : ℕ). IsWordOf s (slice_index (places_in_reach s) (unit / group_count s.settings)) (unit % group_count s.settings) v) (sym (word_at s unit l ∙ word_shown s unit))
-        (is_word s a' p' (slice_index (places_in_reach s) (unit / group_count s.settings)) (place_within s (unit / group_count s.settings) i) (unit % group_count s.settings) (unit_group s unit)) in (
+    subst (λ (v : ℕ). IsWordOf s (slice_index (places_in_reach s) (unit / group_count s.settings)) (unit % group_count s.settings) v) (sym (word_at s unit l ∙ word_shown s unit))
+    (is_word s a' p' (slice_index (places_in_reach s) (unit / group_count s.settings)) (place_within s (unit / group_count s.settings) i) (unit % group_count s.settings) (unit_group s unit)) in (
       e,
       record {
         places = places_in_reach s;

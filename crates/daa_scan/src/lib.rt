@@ -1,5 +1,5 @@
-//! The scan: which levels each candidate meets each aircraft at, which aircraft are near enough to be met at all, and
-//! how the answers are divided into units of work. Nothing here takes memory.
+//! The scan: which levels each candidate meets each aircraft at, which aircraft are near enough to
+//! be met at all, and how the answers are divided into units of work. Nothing here takes memory.
 #![tactic(auto)]
 
 mod laws;

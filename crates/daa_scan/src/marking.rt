@@ -1,5 +1,6 @@
-//! The levels at which the candidates of a stretch of the whole list meet an aircraft. Level after level is gone through, and at
-//! each level the kinds: what the candidates of a side share of their flights is tested once.
+//! The levels at which the candidates of a stretch of the whole list meet an aircraft. Level after
+//! level is gone through, and at each level the kinds: what the candidates of a side share of their
+//! flights is tested once.
 
 ghost use Rattle.std.specs.Prelude.{◌≡◌, ◌-◌, Bool, ◌<◌, ◌≤◌, ◌^◌, ◌↔◌, ◌+◌, ◌⊎◌, ℕ, ℤ, IsTrue, false, length, bit_or, slice_index, slice_get, Some, replicate};
 ghost use Rattle.std.specs.Int.{bit_at};
@@ -41,8 +42,8 @@ const BEGUN: Trail = Trail {
     hit: false,
 };
 
-/// Sets the masks, which are 0, to those of the candidates from number `first` of the whole list on. Places past the list are as
-/// they were.
+/// Sets the masks, which are 0, to those of the candidates from number `first` of the whole list
+/// on. Places past the list are as they were.
 pub(crate) fn mark_levels(
     config: &Config,
     own: &Own,
@@ -56,7 +57,8 @@ pub(crate) fn mark_levels(
     requires trunks { AreTrunksOf config.now own.now trunks.now }
     requires short { first + length masks.old < 2 ^ 32 }
     requires clear { masks.old ≡ replicate (length masks.old) 0 }
-    ensures masks { AreMasks config.now own.now aircraft.now first (length config.now.levels) masks.new }
+    ensures masks { AreMasks config.now own.now aircraft.now first
+        (length config.now.levels) masks.new }
     ensures length { length masks.new ≡ length masks.old }
 {
     for l in 0..config.levels() {
@@ -145,8 +147,10 @@ fn mark_kind(
     requires l { l < length config.now.levels }
     requires few { l < 8 }
     requires short { first + length masks.old < 2 ^ 32 }
-    requires masks { AreMarked config.now own.now aircraft.now first (start_of kind config.now) l masks.old }
-    ensures masks { AreMarked config.now own.now aircraft.now first (start_of kind config.now + length (values_of kind config.now)) l masks.new }
+    requires masks { AreMarked config.now own.now aircraft.now first
+        (start_of kind config.now) l masks.old }
+    ensures masks { AreMarked config.now own.now aircraft.now first
+        (start_of kind config.now + length (values_of kind config.now)) l masks.new }
     ensures length { length masks.new ≡ length masks.old }
 {
     let level = config.level(l + 1);
@@ -185,7 +189,9 @@ fn is_nested(config: &Config, l: u32) -> bool
     requires l { l < length config.now.levels }
     requires few { l < 8 }
     ensures some { IsTrue result → 1 ≤ l }
-    ensures nested { IsTrue result → (own : Own) (candidate : Candidate) (aircraft : Traffic) → Meets config.now own candidate aircraft (l + 1) → Meets config.now own candidate aircraft l }
+    ensures nested { IsTrue result → (own : Own) (candidate : Candidate) (aircraft : Traffic)
+        → Meets config.now own candidate aircraft (l + 1)
+        → Meets config.now own candidate aircraft l }
 {
     l > 0 && lies_within(config.level(l + 1), config.level(l))
 }
@@ -209,9 +215,14 @@ fn next_mask(
     requires few { l < 8 }
     requires level { IsLevelInRange level.now }
     requires at { IsLevelAt config.now (l + 1) level.now }
-    requires trunks { (upper : Bool) (z : ℤ) → AreLegsOf own.now (rates_of config.now) (lead_of own.now (candidate_to kind z) upper) level.now.lookahead (trunk_in trunks.now kind upper) }
+    requires trunks { (upper : Bool) (z : ℤ)
+        → AreLegsOf own.now (rates_of config.now)
+        (lead_of own.now (candidate_to kind z) upper) level.now.lookahead
+        (trunk_in trunks.now kind upper) }
     requires some { IsTrue nested → 1 ≤ l }
-    requires nested { IsTrue nested → (candidate : Candidate) → Meets config.now own.now candidate aircraft.now (l + 1) → Meets config.now own.now candidate aircraft.now l }
+    requires nested { IsTrue nested → (candidate : Candidate)
+        → Meets config.now own.now candidate aircraft.now (l + 1)
+        → Meets config.now own.now candidate aircraft.now l }
     requires candidate { IsCandidateInRange candidate }
     requires of { (value : ℤ) × (candidate ≡ candidate_to kind value) }
     requires trails { AreTrailsOf config.now own.now aircraft.now level.now.volume kind trails.old }
@@ -260,11 +271,15 @@ fn meets_shared(
     requires own { IsOwnInRange own.now }
     requires aircraft { IsTrafficInRange aircraft.now }
     requires level { IsLevelInRange level.now }
-    requires trunks { (upper : Bool) (z : ℤ) → AreLegsOf own.now (rates_of config.now) (lead_of own.now (candidate_to kind z) upper) level.now.lookahead (trunk_in trunks.now kind upper) }
+    requires trunks { (upper : Bool) (z : ℤ)
+        → AreLegsOf own.now (rates_of config.now)
+        (lead_of own.now (candidate_to kind z) upper) level.now.lookahead
+        (trunk_in trunks.now kind upper) }
     requires candidate { IsCandidateInRange candidate }
     requires of { (value : ℤ) × (candidate ≡ candidate_to kind value) }
     requires trails { AreTrailsOf config.now own.now aircraft.now level.now.volume kind trails.old }
-    ensures met { IsTrue result ↔ MeetsWithin config.now own.now candidate aircraft.now level.now.volume level.now.lookahead }
+    ensures met { IsTrue result
+        ↔ MeetsWithin config.now own.now candidate aircraft.now level.now.volume level.now.lookahead }
     ensures trails { AreTrailsOf config.now own.now aircraft.now level.now.volume kind trails.new }
 {
     let rates = config.rates();
@@ -301,7 +316,8 @@ fn meets_shared(
 /// The candidate at a place of a kind.
 fn candidate_in(config: &Config, kind: Kind, place: u32) -> Candidate
     requires { place < length (values_of kind config.now) }
-    ensures value { slice_get (candidates_of config.now) (start_of kind config.now + place) ≡ Some result }
+    ensures value { slice_get (candidates_of config.now)
+        (start_of kind config.now + place) ≡ Some result }
     ensures in_range { IsCandidateInRange result }
     ensures of { (value : ℤ) × (result ≡ candidate_to kind value) }
 {
@@ -314,7 +330,8 @@ fn candidate_in(config: &Config, kind: Kind, place: u32) -> Candidate
     }
 }
 
-/// Whether the candidate meets the aircraft within the level's lookahead. The trail is walked on as far as is needed.
+/// Whether the candidate meets the aircraft within the level's lookahead. The trail is walked on as
+/// far as is needed.
 fn meets_along(
     config: &Config,
     own: &Own,
@@ -334,9 +351,11 @@ fn meets_along(
     requires trunk { AreLegsOf own.now (rates_of config.now) lead level.now.lookahead trunk.now }
     requires before { FliesAs own.now (rates_of config.now) candidate lead branch.now.leaves }
     requires after { FliesOn own.now (rates_of config.now) candidate branch.now.settles }
-    requires near { (branch.now.leaves ≤ branch.now.settles) × (branch.now.settles ≤ branch.now.leaves + 1) }
+    requires near { (branch.now.leaves ≤ branch.now.settles)
+        × (branch.now.settles ≤ branch.now.leaves + 1) }
     requires trail { IsTrailOf config.now own.now lead aircraft.now level.now.volume trail.old }
-    ensures met { IsTrue result ↔ MeetsWithin config.now own.now candidate aircraft.now level.now.volume level.now.lookahead }
+    ensures met { IsTrue result
+        ↔ MeetsWithin config.now own.now candidate aircraft.now level.now.volume level.now.lookahead }
     ensures trail { IsTrailOf config.now own.now lead aircraft.now level.now.volume trail.new }
 {
     let upto = branch.leaves.min(level.lookahead);

@@ -7,8 +7,9 @@ ghost use Rattle.daa_scan.specs.Nesting.{LiesWithin};
 use daa_config::Level;
 use daa_taumod::Model;
 
-/// Whether no threshold of the inner level and not its lookahead is above that of the outer one, and the outer one does not
-/// count by the closest approach alone. Whatever meets the inner level then meets the outer one.
+/// Whether no threshold of the inner level and not its lookahead is above that of the outer one,
+/// and the outer one does not count by the closest approach alone. Whatever meets the inner level
+/// then meets the outer one.
 pub(crate) fn lies_within(inner: &Level, outer: &Level) -> bool
     ensures { IsTrue result ↔ LiesWithin inner.now outer.now }
 {

@@ -1,4 +1,5 @@
-//! Which aircraft are near enough to be met at all, by their places now and the greatest speeds at which they can near.
+//! Which aircraft are near enough to be met at all, by their places now and the greatest speeds at
+//! which they can near.
 
 ghost use Rattle.std.specs.Prelude.{◌≡◌, ◌↔◌, ◌≤◌, ◌^◌, IsTrue, pos, ◌+ℤ◌, ◌*ℤ◌, ◌≤ℤ◌};
 ghost use Rattle.daa_fixed.specs.Leg.{IsSolidBelow};
@@ -69,8 +70,8 @@ fn size(x: i32) -> i64
     i64::from(x).abs()
 }
 
-/// Whether what is at this place, and nears at no more than these speeds, can enter the level's volume within its
-/// lookahead.
+/// Whether what is at this place, and nears at no more than these speeds, can enter the level's
+/// volume within its lookahead.
 fn can_enter(level: &Level, place: &Solid, horizontal: i64, vertical: i64) -> bool
     requires level { IsLevelInRange level.now }
     requires place { IsSolidBelow 40000000 place.now }

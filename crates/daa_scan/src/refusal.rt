@@ -1,5 +1,6 @@
-//! Candidates that need not be flown. Who changes track or ground speed alone keeps the heights of the present flight, and who
-//! changes height alone its way over ground, so that one test of the present flight refuses them all.
+//! Candidates that need not be flown. Who changes track or ground speed alone keeps the heights of
+//! the present flight, and who changes height alone its way over ground, so that one test of the
+//! present flight refuses them all.
 
 ghost use Rattle.std.specs.Prelude.{◌≡◌, ◌≤◌, ◌↔◌, ℤ, IsTrue};
 ghost use Rattle.daa_config.specs.Candidates.{candidate_to};
@@ -20,8 +21,9 @@ use daa_fixed::{Flat, Leg, Solid};
 use daa_legs::{Flight, OwnRun, relative_run};
 use daa_state::{Own, Traffic};
 
-/// Whether a candidate of the kind may meet the aircraft within the level's lookahead: not where the part of the motion that it
-/// shares with the present flight never violates its part of the volume.
+/// Whether a candidate of the kind may meet the aircraft within the level's lookahead: not where
+/// the part of the motion that it shares with the present flight never violates its part of the
+/// volume.
 pub(crate) fn kind_may_meet(
     config: &Config,
     own: &Own,
@@ -32,7 +34,8 @@ pub(crate) fn kind_may_meet(
     requires own { IsOwnInRange own.now }
     requires aircraft { IsTrafficInRange aircraft.now }
     requires level { IsLevelInRange level.now }
-    ensures { (z : ℤ) → MeetsWithin config.now own.now (candidate_to kind z) aircraft.now level.now.volume level.now.lookahead → IsTrue result }
+    ensures { (z : ℤ) → MeetsWithin config.now own.now
+        (candidate_to kind z) aircraft.now level.now.volume level.now.lookahead → IsTrue result }
 {
     let leg = present_leg(config, own, aircraft, level.lookahead);
     match kind {
@@ -49,9 +52,11 @@ pub(crate) fn present_leg(config: &Config, own: &Own, aircraft: &Traffic, secs: 
     requires aircraft { IsTrafficInRange aircraft.now }
     requires some { 1 ≤ secs }
     requires short { secs ≤ 180 }
-    ensures value { result ≡ relative_for secs (own_leg own.now (rates_of config.now) Candidate.Hold 0) aircraft.now 0 }
+    ensures value { result ≡ relative_for secs
+        (own_leg own.now (rates_of config.now) Candidate.Hold 0) aircraft.now 0 }
     ensures in_range { IsLegInRange result }
-    ensures seconds { (volume : Volume) → HoldsSometime result.secs (Violates result volume) ↔ MeetsWithin config.now own.now Candidate.Hold aircraft.now volume secs }
+    ensures seconds { (volume : Volume) → HoldsSometime result.secs (Violates result volume)
+        ↔ MeetsWithin config.now own.now Candidate.Hold aircraft.now volume secs }
 {
     let leg = Flight::begin(own, config, Candidate::Hold).next_leg();
     let run = OwnRun {

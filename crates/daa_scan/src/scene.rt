@@ -48,7 +48,8 @@ impl<'a> Model for Scene<'a> {
 }
 
 impl<'a> Scene<'a> {
-    /// The scene of a configuration and an ended moment, and the flights that lead on the sides of each kind.
+    /// The scene of a configuration and an ended moment, and the flights that lead on the sides of
+    /// each kind.
     pub fn of(config: &'a Config, picture: &'a Picture, trunks: &'a Trunks) -> Scene<'a>
         requires picture { IsPictureInRange picture.now }
         requires trunks { AreTrunksOf config.now picture.now.own trunks.now }
@@ -63,13 +64,15 @@ impl<'a> Scene<'a> {
         }
     }
 
-    /// The mask of the levels at which candidate `index` of the whole list meets aircraft `aircraft` of the moment:
-    /// bit l - 1 is set exactly where the candidate's flight violates level l's volume round the aircraft at some time
-    /// within the level's lookahead. Bits past the levels are 0.
+    /// The mask of the levels at which candidate `index` of the whole list meets aircraft
+    /// `aircraft` of the moment: bit l - 1 is set exactly where the candidate's flight violates
+    /// level l's volume round the aircraft at some time within the level's lookahead. Bits past the
+    /// levels are 0.
     pub fn levels(&self, index: u32, aircraft: u32) -> u8
         requires index { index < length (candidates_of self.now.settings) }
         requires aircraft { aircraft < length (aircraft_of self.now.picture) }
-        ensures { IsMaskOf (MeetsAt self.now index aircraft) (length self.now.settings.levels) result }
+        ensures { IsMaskOf (MeetsAt self.now index aircraft)
+            (length self.now.settings.levels) result }
     {
         // tells that the index is small
         let _total = self.config.total();
@@ -78,14 +81,15 @@ impl<'a> Scene<'a> {
         masks[0]
     }
 
-    /// The masks of the candidates from number `first` of the whole list on against an aircraft, each as `levels` gives it. The
-    /// masks are 0 before; places past the list stay so.
+    /// The masks of the candidates from number `first` of the whole list on against an aircraft,
+    /// each as `levels` gives it. The masks are 0 before; places past the list stay so.
     pub fn levels_from(&self, first: u32, aircraft: u32, masks: &mut [u8])
         requires aircraft { aircraft < length (aircraft_of self.now.picture) }
         requires short { first + length masks.old < 2 ^ 32 }
         requires clear { masks.old ≡ replicate (length masks.old) 0 }
         ensures masks { (j : ℕ) → j < length masks.new → first + j < length (candidates_of self.now.settings)
-            → IsMaskOf (MeetsAt self.now (first + j) aircraft) (length self.now.settings.levels) (slice_index masks.new j) }
+            → IsMaskOf (MeetsAt self.now (first + j) aircraft) (length self.now.settings.levels)
+            (slice_index masks.new j) }
         ensures length { length masks.new ≡ length masks.old }
     {
         mark_levels(
@@ -98,9 +102,10 @@ impl<'a> Scene<'a> {
         );
     }
 
-    /// Whether the aircraft is near enough to be met: by its place now, the greatest speeds at which it and a candidate
-    /// can near each other, and some level's thresholds and lookahead. An aircraft that is not in reach is met by no
-    /// candidate at any level within the level's lookahead.
+    /// Whether the aircraft is near enough to be met: by its place now, the greatest speeds at
+    /// which it and a candidate can near each other, and some level's thresholds and lookahead. An
+    /// aircraft that is not in reach is met by no candidate at any level within the level's
+    /// lookahead.
     pub fn in_reach(&self, aircraft: u32) -> bool
         requires { aircraft < length (aircraft_of self.now.picture) }
         ensures exact { IsTrue result ↔ IsInReachAt self.now aircraft }
@@ -109,7 +114,8 @@ impl<'a> Scene<'a> {
         is_in_reach(self.config, &self.picture.own, self.aircraft(aircraft))
     }
 
-    /// How many groups of twelve the whole list of candidates has, 1 to 159; the last group may have fewer.
+    /// How many groups of twelve the whole list of candidates has, 1 to 159; the last group may
+    /// have fewer.
     pub fn groups(&self) -> u32
         ensures value { result ≡ group_count self.now.settings }
         ensures some { 1 ≤ result }
@@ -126,7 +132,8 @@ impl<'a> Scene<'a> {
         self.places.len() as u32
     }
 
-    /// Where the aircraft that stands at a place among those in reach has its place in the moment's list.
+    /// Where the aircraft that stands at a place among those in reach has its place in the moment's
+    /// list.
     fn place_in_list(&self, place: u32) -> u32
         requires { place < length (places_in_reach self.now) }
         ensures value { result ≡ slice_index (places_in_reach self.now) place }
@@ -152,11 +159,13 @@ impl<'a> Scene<'a> {
         word
     }
 
-    /// What a word says of the candidate at an index: a bit that says that it is there, and above it the levels at which
-    /// it meets the aircraft, which are this mask; 0 where the index is past the list.
+    /// What a word says of the candidate at an index: a bit that says that it is there, and above
+    /// it the levels at which it meets the aircraft, which are this mask; 0 where the index is past
+    /// the list.
     fn entry(&self, aircraft: u32, index: u32, mask: u8) -> u64
         requires aircraft { aircraft < length (aircraft_of self.now.picture) }
-        requires mask { index < length (candidates_of self.now.settings) → IsMaskOf (MeetsAt self.now index aircraft) (length self.now.settings.levels) mask }
+        requires mask { index < length (candidates_of self.now.settings)
+            → IsMaskOf (MeetsAt self.now index aircraft) (length self.now.settings.levels) mask }
         ensures value { result ≡ entry_at self.now aircraft index }
         ensures small { result < 32 }
     {
@@ -183,8 +192,9 @@ impl<'a> Answers for Scene<'a> {
 
     ghost answers = { words_of };
 
-    /// One for each group of twelve candidates and each aircraft in reach; 0 where none is in reach, and at most 10176. The words say what
-    /// each candidate meets of the aircraft in reach, and it meets no other.
+    /// One for each group of twelve candidates and each aircraft in reach; 0 where none is in
+    /// reach, and at most 10176. The words say what each candidate meets of the aircraft in reach,
+    /// and it meets no other.
     fn units(&self) -> u32
         ensures value { result ≡ length (words_of self.now) }
         ensures words { AreWordsOf self.now (words_of self.now) }
@@ -194,9 +204,10 @@ impl<'a> Answers for Scene<'a> {
         self.groups * self.count_in_reach()
     }
 
-    /// The word of a unit, which is group `unit % groups` of the aircraft that stands at place `unit / groups` among those
-    /// in reach, in input order: five bits for each of twelve candidates, the first the lowest. The lowest of the five says
-    /// that the candidate is there, the others are the levels from 1 to 4 that it meets the aircraft at.
+    /// The word of a unit, which is group `unit % groups` of the aircraft that stands at place
+    /// `unit / groups` among those in reach, in input order: five bits for each of twelve
+    /// candidates, the first the lowest. The lowest of the five says that the candidate is there,
+    /// the others are the levels from 1 to 4 that it meets the aircraft at.
     fn word(&self, unit: u32) -> u64
         requires { unit < length (words_of self.now) }
         ensures value { result ≡ slice_index (words_of self.now) unit }
@@ -212,7 +223,8 @@ impl<'a> Answers for Scene<'a> {
 /// The places of the aircraft that are near enough to be met at all, in the moment's order.
 fn places_near(config: &Config, picture: &Picture) -> ArrayVec<u32, 64>
     requires { IsPictureInRange picture.now }
-    ensures { result.items ≡ places_in_reach (record { settings = config.now; picture = picture.now }) }
+    ensures { result.items ≡ places_in_reach
+        (record { settings = config.now; picture = picture.now }) }
 {
     let mut places = ArrayVec::new();
     for place in 0..picture.traffic.len() as u32 {
@@ -223,7 +235,8 @@ fn places_near(config: &Config, picture: &Picture) -> ArrayVec<u32, 64>
     places
 }
 
-/// How many groups of twelve the candidates have; those that go to an altitude are the last of the whole list.
+/// How many groups of twelve the candidates have; those that go to an altitude are the last of the
+/// whole list.
 #[tactic(auto, using(daa_config::proofs::CandidateLemmas::whole_ends))]
 fn groups_of(config: &Config) -> u32
     ensures value { result ≡ group_count config.now }

@@ -1,4 +1,5 @@
-//! What the candidates of one side share against an aircraft: the walk along the flight that leads on their side.
+//! What the candidates of one side share against an aircraft: the walk along the flight that leads
+//! on their side.
 
 ghost use Rattle.std.specs.Prelude.{◌≡◌, ◌≤◌, ◌<◌, ◌+◌, ◌↔◌, ◌⊎◌, IsTrue, false};
 ghost use Rattle.daa_taumod.specs.Volume.{IsVolumeInRange};
@@ -96,8 +97,10 @@ fn meets_after(
     requires trunk { AreLegsOf own.now (rates_of config.now) lead level.now.lookahead trunk.now }
     requires before { FliesAs own.now (rates_of config.now) candidate lead branch.now.leaves }
     requires after { FliesOn own.now (rates_of config.now) candidate branch.now.settles }
-    requires near { (branch.now.leaves ≤ branch.now.settles) × (branch.now.settles ≤ branch.now.leaves + 1) }
-    ensures { IsTrue result ↔ MeetsBetween config.now own.now candidate aircraft.now level.now.volume branch.now.leaves level.now.lookahead }
+    requires near { (branch.now.leaves ≤ branch.now.settles)
+        × (branch.now.settles ≤ branch.now.leaves + 1) }
+    ensures { IsTrue result
+        ↔ MeetsBetween config.now own.now candidate aircraft.now level.now.volume branch.now.leaves level.now.lookahead }
 {
     let k = branch.leaves;
     let place = &trunk.leg(k).place;
@@ -108,7 +111,8 @@ fn meets_after(
     }
 }
 
-/// Whether the candidate, which is at this place, meets the aircraft on leg `k` or later. After leg `k` it flies straight on.
+/// Whether the candidate, which is at this place, meets the aircraft on leg `k` or later. After leg
+/// `k` it flies straight on.
 fn meets_from_own_leg(
     config: &Config,
     own: &Own,
@@ -125,7 +129,8 @@ fn meets_from_own_leg(
     requires k { k < level.now.lookahead }
     requires place { place.now ≡ place_on own.now (rates_of config.now) candidate k }
     requires after { FliesOn own.now (rates_of config.now) candidate (k + 1) }
-    ensures { IsTrue result ↔ MeetsBetween config.now own.now candidate aircraft.now level.now.volume k level.now.lookahead }
+    ensures { IsTrue result
+        ↔ MeetsBetween config.now own.now candidate aircraft.now level.now.volume k level.now.lookahead }
 {
     let rates = config.rates();
     let first = leg_at(own, &rates, candidate, place, k);
@@ -143,7 +148,8 @@ fn meets_from_own_leg(
     )
 }
 
-/// Whether the candidate, which flies straight on from this place, meets the aircraft on leg `k` or later.
+/// Whether the candidate, which flies straight on from this place, meets the aircraft on leg `k` or
+/// later.
 fn meets_on_rest(
     config: &Config,
     own: &Own,
@@ -159,7 +165,8 @@ fn meets_on_rest(
     requires level { IsLevelInRange level.now }
     requires place { place.now ≡ place_on own.now (rates_of config.now) candidate k }
     requires on { FliesOn own.now (rates_of config.now) candidate k }
-    ensures { IsTrue result ↔ MeetsBetween config.now own.now candidate aircraft.now level.now.volume k level.now.lookahead }
+    ensures { IsTrue result
+        ↔ MeetsBetween config.now own.now candidate aircraft.now level.now.volume k level.now.lookahead }
 {
     if k >= level.lookahead {
         return false;
@@ -175,7 +182,8 @@ fn meets_on_rest(
     is_hit(&relative_run(&run, aircraft, k), &level.volume)
 }
 
-/// Whether the candidate meets the aircraft within the level's lookahead, where it leaves the trunk as the branch says.
+/// Whether the candidate meets the aircraft within the level's lookahead, where it leaves the trunk
+/// as the branch says.
 pub(crate) fn meets_by_branch(
     config: &Config,
     own: &Own,
@@ -194,10 +202,13 @@ pub(crate) fn meets_by_branch(
     requires trunk { AreLegsOf own.now (rates_of config.now) lead level.now.lookahead trunk.now }
     requires before { FliesAs own.now (rates_of config.now) candidate lead branch.now.leaves }
     requires after { FliesOn own.now (rates_of config.now) candidate branch.now.settles }
-    requires near { (branch.now.leaves ≤ branch.now.settles) × (branch.now.settles ≤ branch.now.leaves + 1) }
+    requires near { (branch.now.leaves ≤ branch.now.settles)
+        × (branch.now.settles ≤ branch.now.leaves + 1) }
     requires trail { IsTrailOf config.now own.now lead aircraft.now level.now.volume trail.now }
-    requires walked { trail.now.hit ≡ false → (branch.now.leaves ≤ trail.now.walked) ⊎ (level.now.lookahead ≤ trail.now.walked) }
-    ensures { IsTrue result ↔ MeetsWithin config.now own.now candidate aircraft.now level.now.volume level.now.lookahead }
+    requires walked { trail.now.hit ≡ false → (branch.now.leaves ≤ trail.now.walked)
+        ⊎ (level.now.lookahead ≤ trail.now.walked) }
+    ensures { IsTrue result
+        ↔ MeetsWithin config.now own.now candidate aircraft.now level.now.volume level.now.lookahead }
 {
     if trail.hit && trail.walked < branch.leaves && trail.walked < level.lookahead {
         return true;

@@ -1,4 +1,5 @@
-//! Worked scenes: a configuration, an ownship and aircraft as their lines say them, and what the scan answers.
+//! Worked scenes: a configuration, an ownship and aircraft as their lines say them, and what the
+//! scan answers.
 
 ghost use Rattle.std.specs.Prelude.{IfOk, IfSome};
 ghost use Rattle.daa_state.specs.InRange.{IsPictureInRange};

@@ -13,7 +13,8 @@ use daa_config::{Candidate, Config, Kind};
 use daa_legs::Trunk;
 use daa_state::Own;
 
-/// The kept flights: half a turn to the right and to the left, and those to the greatest and the least value of the other kinds.
+/// The kept flights: half a turn to the right and to the left, and those to the greatest and the
+/// least value of the other kinds.
 #[derive(Drop)]
 pub struct Trunks {
     right: Trunk,
@@ -93,7 +94,8 @@ pub(crate) fn lead_to(own: &Own, kind: Kind, upper: bool) -> Candidate
 fn keep(trunk: &mut Trunk, own: &Own, config: &Config, kind: Kind, upper: bool, most: u32)
     requires own { IsOwnInRange own.now }
     requires most { most ≤ 180 }
-    ensures { (z : ℤ) → AreLegsOf own.now (rates_of config.now) (lead_of own.now (candidate_to kind z) upper) most trunk.new }
+    ensures { (z : ℤ) → AreLegsOf own.now (rates_of config.now)
+        (lead_of own.now (candidate_to kind z) upper) most trunk.new }
 {
     trunk.fill(own, config, lead_to(own, kind, upper), most);
 }

@@ -6,7 +6,8 @@ ghost use Rattle.daa_schedule.specs.Step.{fault_of, stepped, verdict};
 use crate::{Core, Step, StepFault};
 
 impl Core {
-    /// Makes the step, or refuses it by the first rule of the step's list that applies and leaves the core as it was.
+    /// Makes the step, or refuses it by the first rule of the step's list that applies and leaves
+    /// the core as it was.
     pub fn apply(&mut self, step: Step) -> Result<(), StepFault>
         ensures fault { result ≡ verdict (fault_of self.old step) }
         ensures core { self.new ≡ stepped self.old step }

@@ -1,4 +1,5 @@
-//! The core: for each worker a range, a hand and whether it has ended, and for each unit the word on the board.
+//! The core: for each worker a range, a hand and whether it has ended, and for each unit the word
+//! on the board.
 ghost use Rattle.std.specs.Prelude.{◌≡◌, ℕ, ◌+◌, ◌<◌, ◌≤◌, ◌^◌, IfOk, None, length, slice_index};
 ghost use Rattle.daa_range.specs.Range.{span_len};
 ghost use Rattle.daa_schedule.specs.Answers.{AreAnswers};
@@ -34,8 +35,8 @@ impl Model for Core {
 
 // What a core shows.
 impl Core {
-    /// Worker 0 has the range of all units, every other range and every hand is empty, and nothing is on the board.
-    /// There are 1 to 16 workers and at least one unit, and no answer is 0.
+    /// Worker 0 has the range of all units, every other range and every hand is empty, and nothing
+    /// is on the board. There are 1 to 16 workers and at least one unit, and no answer is 0.
     pub fn open(alloc: Global, answers: &[u64], workers: u32) -> Result<Core, NoMemory>
         requires workers { (0 < workers) × (workers ≤ 16) }
         requires units { (0 < length answers.now) × (length answers.now < 2 ^ 32) }

@@ -1,5 +1,6 @@
-//! The schedule of a pool of workers as a machine of single steps, with no thread and no atomic: which worker has
-//! which units, and what has been answered. Every list of steps keeps each unit exactly once.
+//! The schedule of a pool of workers as a machine of single steps, with no thread and no atomic:
+//! which worker has which units, and what has been answered. Every list of steps keeps each unit
+//! exactly once.
 #![tactic(auto)]
 
 mod answers;

@@ -11,8 +11,8 @@ use std::test::Fail;
 // The answer of unit u is 11 + u.
 const FIVE: [u64; 5] = [11, 12, 13, 14, 15];
 
-// How many steps may still be accepted, at most: 3 for each unit in a range, 1 for a hand of one unit, and 3m - 1 for
-// one of m units.
+// How many steps may still be accepted, at most: 3 for each unit in a range, 1 for a hand of one
+// unit, and 3m - 1 for one of m units.
 fn left(core: &Core) -> u64
     requires { worker_count core.now ≡ 2 }
 {

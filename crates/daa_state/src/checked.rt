@@ -1,5 +1,5 @@
-//! States from numbers: which of a caller's numbers is out of its range, or the value, of which contracts then know every
-//! range.
+//! States from numbers: which of a caller's numbers is out of its range, or the value, of which
+//! contracts then know every range.
 
 ghost use Rattle.std.specs.Prelude.{◌≡◌, ◌<◌, length, true, false, slice_get, Some, None, IfOk, IfErr, OnOk, pos};
 ghost use Rattle.daa_state.specs.Checked.{range_of, is_within, outside, first_outside, number_of, own_numbers, traffic_numbers, IsTakenAt, AreTaken, IsPictureFault};
@@ -40,7 +40,8 @@ pub enum Field {
     Age,
 }
 
-/// A number of a state is out of its range: what it is, and the least and the greatest that it may be.
+/// A number of a state is out of its range: what it is, and the least and the greatest that it may
+/// be.
 #[derive(Clone, Copy, Debug, PartialEq, Eq)]
 pub struct OutOfRange {
     pub field: Field,
@@ -114,7 +115,9 @@ struct Number {
 /// Whether a number is in the range of its field.
 fn test(number: &Number) -> Result<(), OutOfRange>
     ensures within { OnOk result (is_within (range_of number.now.field) number.now.number ≡ true) }
-    ensures beyond { IfErr result (λ fault. (is_within (range_of number.now.field) number.now.number ≡ false) × (fault ≡ outside number.now.field)) }
+    ensures beyond { IfErr result
+        (λ fault. (is_within (range_of number.now.field) number.now.number ≡ false)
+        × (fault ≡ outside number.now.field)) }
 {
     let least = number.field.least();
     let greatest = number.field.greatest();
@@ -191,7 +194,8 @@ fn traffic_numbers(aircraft: &Traffic) -> [Number; 7]
 }
 
 impl Own {
-    /// The same ownship, where each of its numbers is in its range; else the first that is not, in the order of the fields.
+    /// The same ownship, where each of its numbers is in its range; else the first that is not, in
+    /// the order of the fields.
     #[tactic(auto, using(crate::proofs::TakenLemmas::own_range))]
     pub fn checked(self) -> Result<Own, OutOfRange>
         ensures value { IfOk result (λ own. own ≡ self) }
@@ -204,12 +208,14 @@ impl Own {
 }
 
 impl Traffic {
-    /// The same aircraft, where each of its numbers is in its range; else the first that is not, in the order of the fields.
+    /// The same aircraft, where each of its numbers is in its range; else the first that is not, in
+    /// the order of the fields.
     #[tactic(auto, using(crate::proofs::TakenLemmas::traffic_range))]
     pub fn checked(self) -> Result<Traffic, OutOfRange>
         ensures value { IfOk result (λ aircraft. aircraft ≡ self) }
         ensures range { IfOk result IsTrafficInRange }
-        ensures refused { IfErr result (λ fault. first_outside (traffic_numbers self) ≡ Some fault) }
+        ensures refused { IfErr result
+            (λ fault. first_outside (traffic_numbers self) ≡ Some fault) }
     {
         // tells that they are an identifier's
         let _bytes = self.id.bytes();
@@ -228,7 +234,8 @@ fn is_among(traffic: &[Traffic], id: &Id) -> bool
 /// Whether the aircraft at a place is in range, and none before it has its identifier.
 fn test_aircraft(traffic: &[Traffic], own: &Own, place: usize) -> Result<(), PictureFault>
     requires { place < length traffic.now }
-    ensures taken { OnOk result ((t : Traffic) → slice_get traffic.now place ≡ Some t → IsTakenAt traffic.now place t) }
+    ensures taken { OnOk result ((t : Traffic) → slice_get traffic.now place ≡ Some t
+        → IsTakenAt traffic.now place t) }
     ensures refused { IfErr result (IsPictureFault own.now traffic.now) }
 {
     let aircraft = traffic[place];
@@ -245,8 +252,9 @@ fn test_aircraft(traffic: &[Traffic], own: &Own, place: usize) -> Result<(), Pic
 }
 
 impl Picture {
-    /// The picture of this time in seconds, this ownship and these aircraft, where each of their numbers is in its range and
-    /// there are at most 64 aircraft of different identifiers; else why it is none. The answer depends on them alone.
+    /// The picture of this time in seconds, this ownship and these aircraft, where each of their
+    /// numbers is in its range and there are at most 64 aircraft of different identifiers; else why
+    /// it is none. The answer depends on them alone.
     pub fn checked(time: u32, own: Own, traffic: &[Traffic]) -> Result<Picture, PictureFault>
         ensures time { IfOk result (λ picture. picture.time ≡ time) }
         ensures own { IfOk result (λ picture. picture.own ≡ own) }

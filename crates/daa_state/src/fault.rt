@@ -5,8 +5,9 @@ ghost use Rattle.daa_state.specs.Fault.{code_of};
 
 use thiserror::Error;
 
-/// Why a line is refused. Where more than one cause applies, the first of this list is answered, but that `BadNumber`,
-/// `BadId` and `OutOfRange` are decided field by field from the left, for each field first its spelling.
+/// Why a line is refused. Where more than one cause applies, the first of this list is answered,
+/// but that `BadNumber`, `BadId` and `OutOfRange` are decided field by field from the left, for
+/// each field first its spelling.
 #[derive(Clone, Copy, Debug, PartialEq, Eq, Error)]
 pub enum LineFault {
     /// The line has more than 255 bytes, a carriage return at its end counted; also a comment.
@@ -21,7 +22,8 @@ pub enum LineFault {
     /// A number's field is not an optional sign and 1 to 10 digits.
     #[error("fault 4: a field is no number of 1 to 10 digits")]
     BadNumber,
-    /// The identifier's field is not 1 to 8 bytes, each an ASCII letter or digit, an underscore or a dash.
+    /// The identifier's field is not 1 to 8 bytes, each an ASCII letter or digit, an underscore or
+    /// a dash.
     #[error("fault 5: the identifier is not 1 to 8 letters, digits, underscores or dashes")]
     BadId,
     /// A number is outside its range.
@@ -33,7 +35,8 @@ pub enum LineFault {
     /// `moment` or `format` while a moment is open.
     #[error("fault 8: a moment is open")]
     MomentOpen,
-    /// `moment` with a time that is not greater than that of the last ended moment, which is carried, in seconds.
+    /// `moment` with a time that is not greater than that of the last ended moment, which is
+    /// carried, in seconds.
     #[error("fault 9: the time is not later than {0} s, at which the last moment ended")]
     NotLater(u32),
     /// `own` while the moment has one.

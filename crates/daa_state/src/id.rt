@@ -10,8 +10,8 @@ use std::marker::Model;
 /// The most bytes that an identifier has.
 const MOST_BYTES: usize = 8;
 
-/// The identifier of an aircraft: 1 to 8 bytes, each an ASCII letter, a digit, an underscore or a dash. Letters of
-/// different case differ. Contracts see it as the list of its bytes.
+/// The identifier of an aircraft: 1 to 8 bytes, each an ASCII letter, a digit, an underscore or a
+/// dash. Letters of different case differ. Contracts see it as the list of its bytes.
 #[derive(Clone, Copy, Debug)]
 pub struct Id {
     // The bytes, and zeros after them.

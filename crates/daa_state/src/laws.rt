@@ -14,8 +14,9 @@ pub fn first_256_bytes_decide()
     ensures long { LongFrom256Bytes }
 {}
 
-/// Where no line's first field is `format`, the format stays 1: such a line says no format word, and in format 1 it says
-/// what it says where there are the words `moment`, `own`, `traffic` and `end` alone.
+/// Where no line's first field is `format`, the format stays 1: such a line says no format word,
+/// and in format 1 it says what it says where there are the words `moment`, `own`, `traffic` and
+/// `end` alone.
 pub fn without_format_lines_four_words_are_read()
     ensures none { OnlyFormatLinesSayFormats }
     ensures same { ReadsAsFourWords }
@@ -26,8 +27,8 @@ pub fn other_words_leave_the_format()
     ensures { OtherWordsLeaveTheFormat }
 {}
 
-/// In format 1 every report is of age 0, and where all words are such, so is every report of a moment that they open, and
-/// of its picture.
+/// In format 1 every report is of age 0, and where all words are such, so is every report of a
+/// moment that they open, and of its picture.
 pub fn format_1_has_no_ages()
     ensures words { Format1SaysNoAges }
     ensures steps { NoAgesLeaveNoAges }

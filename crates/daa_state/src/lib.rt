@@ -1,6 +1,6 @@
-//! State lines to moments: `read_line` gives the word that a line says, and `Moments` steps from word to word and gives
-//! a picture at the end of each moment. A line or a word that does not fit is refused with one fault and changes
-//! nothing. Nothing here takes memory.
+//! State lines to moments: `read_line` gives the word that a line says, and `Moments` steps from
+//! word to word and gives a picture at the end of each moment. A line or a word that does not fit
+//! is refused with one fault and changes nothing. Nothing here takes memory.
 #![tactic(auto)]
 
 mod checked;

@@ -14,7 +14,8 @@ use std::marker::Model;
 /// The most aircraft of a moment.
 const MOST_AIRCRAFT: usize = 64;
 
-/// A moment that is open: its time in seconds, its ownship if it has one, and its aircraft in the order of their lines.
+/// A moment that is open: its time in seconds, its ownship if it has one, and its aircraft in the
+/// order of their lines.
 #[derive(Debug, Drop)]
 pub struct Moment {
     pub time: u32,
@@ -22,8 +23,8 @@ pub struct Moment {
     pub traffic: ArrayVec<Traffic, MOST_AIRCRAFT>,
 }
 
-/// What stands between two words: the open moment, if there is one, the time of the last ended moment, if there is one,
-/// and the format of the lines that come.
+/// What stands between two words: the open moment, if there is one, the time of the last ended
+/// moment, if there is one, and the format of the lines that come.
 #[derive(Debug, Drop)]
 pub struct Moments {
     moment: Option<Moment>,
@@ -55,12 +56,13 @@ impl Moments {
         }
     }
 
-    /// Takes the next word: a picture exactly at an `End` that is accepted. A word that is refused, with the first fault
-    /// that applies of codes 7 to 13, changes nothing.
+    /// Takes the next word: a picture exactly at an `End` that is accepted. A word that is refused,
+    /// with the first fault that applies of codes 7 to 13, changes nothing.
     #[tactic(auto, unfolding(crate::specs::MomentStep::step))]
     pub fn take(&mut self, word: Word) -> Result<Option<Picture>, LineFault>
         requires range { IsWordInRange word }
-        ensures taken { IfOk result (λ picture. step self.old word ≡ Ok (stepped self.new picture)) }
+        ensures taken { IfOk result
+            (λ picture. step self.old word ≡ Ok (stepped self.new picture)) }
         ensures at_end { IfOk result (λ picture. IsSome picture ↔ (word ≡ Word.End)) }
         ensures refused { IfErr result (λ fault. step self.old word ≡ Err fault) }
         ensures unchanged { OnErr result (self.new ≡ self.old) }
@@ -152,7 +154,8 @@ fn add_own(moment: &mut Option<Moment>, own: Own) -> Result<(), LineFault>
 #[tactic(auto, unfolding(crate::specs::MomentStep::with_traffic))]
 fn add_traffic(moment: &mut Option<Moment>, traffic: Traffic) -> Result<(), LineFault>
     requires range { IsTrafficInRange traffic }
-    ensures added { OnOk result (IsSomeAnd moment.new (λ new. with_traffic moment.old traffic ≡ Ok new)) }
+    ensures added { OnOk result
+        (IsSomeAnd moment.new (λ new. with_traffic moment.old traffic ≡ Ok new)) }
     ensures refused { IfErr result (λ fault. with_traffic moment.old traffic ≡ Err fault) }
     ensures unchanged { OnErr result (moment.new ≡ moment.old) }
     ensures range { IfSome moment.old IsMomentInRange → IfSome moment.new IsMomentInRange }
@@ -179,7 +182,8 @@ fn has_id(traffic: &ArrayVec<Traffic, MOST_AIRCRAFT>, id: &Id) -> bool
 /// Takes the open moment out as a picture.
 #[tactic(auto, unfolding(crate::specs::MomentStep::ended_picture))]
 fn end(moment: &mut Option<Moment>) -> Result<Picture, LineFault>
-    ensures ended { IfOk result (λ picture. (ended_picture moment.old ≡ Ok picture) × (moment.new ≡ None)) }
+    ensures ended { IfOk result (λ picture. (ended_picture moment.old ≡ Ok picture)
+        × (moment.new ≡ None)) }
     ensures refused { IfErr result (λ fault. ended_picture moment.old ≡ Err fault) }
     ensures unchanged { OnErr result (moment.new ≡ moment.old) }
     ensures range { IfSome moment.old IsMomentInRange → IfOk result IsPictureInRange }

@@ -18,9 +18,9 @@ use crate::word::{Own, Traffic, Word};
 /// The most bytes of a line that is read.
 const MOST_BYTES: usize = 255;
 
-/// The word that the line says in this format, 1 or 2, or the first fault that applies, of codes 1 to 6. The answer
-/// depends on the line and the format alone. Fields are separated by spaces and tabs, and one carriage return at the
-/// line's end is dropped.
+/// The word that the line says in this format, 1 or 2, or the first fault that applies, of codes 1
+/// to 6. The answer depends on the line and the format alone. Fields are separated by spaces and
+/// tabs, and one carriage return at the line's end is dropped.
 ///
 /// | Line | Fields after the first |
 /// |---|---|
@@ -30,8 +30,10 @@ const MOST_BYTES: usize = 255;
 /// | `format N` | the format, 1 or 2 |
 /// | `end` | none |
 ///
-/// A line of at most 255 bytes with no field, or whose first field begins with `#`, is `Skip`; a longer one is `LongLine`,
-/// also a comment. A number is an optional sign and 1 to 10 digits. The ranges are those of `Own` and `Traffic`; a time is below 2 ^ 32 seconds. In format 1 every age is 0.
+/// A line of at most 255 bytes with no field, or whose first field begins with `#`, is `Skip`; a
+/// longer one is `LongLine`, also a comment. A number is an optional sign and 1 to 10 digits. The
+/// ranges are those of `Own` and `Traffic`; a time is below 2 ^ 32 seconds. In format 1 every age
+/// is 0.
 #[tactic(auto, unfolding(crate::specs::WordOf::word_of))]
 pub fn read_line(line: &[u8], format: u32) -> Result<Word, LineFault>
     requires { IsFormat format }

@@ -6,18 +6,28 @@ ghost use Rattle.daa_taumod.specs.Volume.{Violates, ViolatesHorizontally, Violat
 
 use crate::Model;
 
-/// Times of which it is known by hand whether they violate: a touch at exactly `dthr`, half a second off
-/// and with a unit less; both models ten seconds ahead; co-altitude in exactly `tcoa` and a second later.
+/// Times of which it is known by hand whether they violate: a touch at exactly `dthr`, half a
+/// second off and with a unit less; both models ten seconds ahead; co-altitude in exactly `tcoa`
+/// and a second later.
 pub fn worked_examples()
     ensures touch { Violates touching (volume_of 23760 27000 0 0 Model.Taumod) (pos 1) (pos 2) }
-    ensures a_unit_less { ¬ ViolatesHorizontally touching (volume_of 23759 27000 0 0 Model.Taumod) (pos 1) (pos 2) }
-    ensures before_the_touch { ¬ ViolatesHorizontally touching (volume_of 23760 27000 0 0 Model.Taumod) (pos 0) (pos 1) }
-    ensures after_the_touch { ¬ ViolatesHorizontally touching (volume_of 23760 27000 35 0 Model.Taumod) (pos 1) (pos 1) }
+    ensures a_unit_less { ¬ ViolatesHorizontally touching (volume_of 23759 27000 0 0 Model.Taumod)
+        (pos 1) (pos 2) }
+    ensures before_the_touch { ¬ ViolatesHorizontally touching
+        (volume_of 23760 27000 0 0 Model.Taumod) (pos 0) (pos 1) }
+    ensures after_the_touch { ¬ ViolatesHorizontally touching
+        (volume_of 23760 27000 35 0 Model.Taumod) (pos 1) (pos 1) }
     ensures touch_ahead { Violates ahead (volume_of 23760 27000 35 0 Model.Taumod) (pos 0) (pos 1) }
-    ensures a_unit_less_ahead { ¬ ViolatesHorizontally ahead (volume_of 23759 27000 120 0 Model.Tcpa) (pos 0) (pos 1) }
-    ensures soon_by_tau { ViolatesHorizontally inside (volume_of 23760 27000 8 0 Model.Taumod) (pos 0) (pos 1) }
-    ensures not_soon_by_closest { ¬ ViolatesHorizontally inside (volume_of 23760 27000 8 0 Model.Tcpa) (pos 0) (pos 1) }
-    ensures soon_by_closest { ViolatesHorizontally inside (volume_of 23760 27000 8 0 Model.Tcpa) (pos 2) (pos 1) }
-    ensures co_altitude_in_thirty { ViolatesVertically below (volume_of 23760 27000 0 30 Model.Taumod) (pos 0) (pos 1) }
-    ensures co_altitude_too_late { ¬ ViolatesVertically below (volume_of 23760 29999 0 29 Model.Taumod) (pos 0) (pos 1) }
+    ensures a_unit_less_ahead { ¬ ViolatesHorizontally ahead
+        (volume_of 23759 27000 120 0 Model.Tcpa) (pos 0) (pos 1) }
+    ensures soon_by_tau { ViolatesHorizontally inside (volume_of 23760 27000 8 0 Model.Taumod)
+        (pos 0) (pos 1) }
+    ensures not_soon_by_closest { ¬ ViolatesHorizontally inside
+        (volume_of 23760 27000 8 0 Model.Tcpa) (pos 0) (pos 1) }
+    ensures soon_by_closest { ViolatesHorizontally inside (volume_of 23760 27000 8 0 Model.Tcpa)
+        (pos 2) (pos 1) }
+    ensures co_altitude_in_thirty { ViolatesVertically below
+        (volume_of 23760 27000 0 30 Model.Taumod) (pos 0) (pos 1) }
+    ensures co_altitude_too_late { ¬ ViolatesVertically below
+        (volume_of 23760 29999 0 29 Model.Taumod) (pos 0) (pos 1) }
 {}

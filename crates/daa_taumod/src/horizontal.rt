@@ -39,7 +39,8 @@ fn is_closing(leg: &Leg, volume: &Volume, point: &Point) -> bool
 /// Whether the distance falls.
 fn is_nearing(leg: &Leg, point: &Point) -> bool
     requires { IsLegInRange leg.now }
-    ensures { IsTrue result ↔ (dot_of (place_at leg.now point.now.num point.now.den) leg.now.velocity.flat <ℤ pos 0) }
+    ensures { IsTrue result
+        ↔ (dot_of (place_at leg.now point.now.num point.now.den) leg.now.velocity.flat <ℤ pos 0) }
 {
     dot(&place_then(leg, point), &leg.velocity.flat) < 0
 }
@@ -48,7 +49,8 @@ fn is_nearing(leg: &Leg, point: &Point) -> bool
 fn is_soon(leg: &Leg, volume: &Volume, point: &Point) -> bool
     requires leg { IsLegInRange leg.now }
     requires volume { IsVolumeInRange volume.now }
-    ensures { IsTrue result ↔ IsSoon volume.now.model leg.now volume.now point.now.num point.now.den }
+    ensures { IsTrue result
+        ↔ IsSoon volume.now.model leg.now volume.now point.now.num point.now.den }
 {
     match volume.model {
         Model::Taumod => is_tau_soon(leg, volume, point),
@@ -75,8 +77,8 @@ fn is_closest_soon(leg: &Leg, volume: &Volume, point: &Point) -> bool
     -dot(&place, &leg.velocity.flat) <= scaled(volume.tthr, point) * square(&leg.velocity.flat)
 }
 
-/// Whether the straight line comes within `dthr` at its closest approach, which is so at every time of
-/// the leg or at none.
+/// Whether the straight line comes within `dthr` at its closest approach, which is so at every time
+/// of the leg or at none.
 fn passes_near(leg: &Leg, volume: &Volume) -> bool
     requires leg { IsLegInRange leg.now }
     requires volume { IsVolumeInRange volume.now }

@@ -1,19 +1,19 @@
-//! The well-clear volume at one time of a straight leg, with modified tau or with the time to the closest
-//! approach, decided exactly in whole numbers.
+//! The well-clear volume at one time of a straight leg, with modified tau or with the time to the
+//! closest approach, decided exactly in whole numbers.
 #![tactic(auto)]
 
 /// Which time to a horizontal conflict a volume looks at.
 #[derive(Clone, Copy, Debug, PartialEq, Eq)]
 pub enum Model {
-    /// Modified tau: what the square of the distance has above that of `dthr`, over the distance times how fast
-    /// it falls.
+    /// Modified tau: what the square of the distance has above that of `dthr`, over the distance
+    /// times how fast it falls.
     Taumod,
     /// The time to the closest approach.
     Tcpa,
 }
 
-/// The thresholds of a well-clear volume, as in the models `WCV_TAUMOD` and `WCV_TCPA` of Munoz and others,
-/// A Family of Well-Clear Boundary Models.
+/// The thresholds of a well-clear volume, as in the models `WCV_TAUMOD` and `WCV_TCPA` of Munoz and
+/// others, A Family of Well-Clear Boundary Models.
 #[derive(Clone, Copy, Debug, PartialEq, Eq)]
 pub struct Volume {
     /// The horizontal distance in 1/36000 nautical mile, at most 360000.

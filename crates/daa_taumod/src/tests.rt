@@ -1,5 +1,5 @@
-//! Worked times of the volume. The aircraft moves north at 360 knots, 3600 units a second; 660 thousandths of a
-//! nautical mile are 23760 units.
+//! Worked times of the volume. The aircraft moves north at 360 knots, 3600 units a second; 660
+//! thousandths of a nautical mile are 23760 units.
 
 use super::*;
 use daa_fixed::{Flat, Leg, Point, Solid};
@@ -68,8 +68,8 @@ fn touch_at_exactly_the_distance_violates(rt: HostRuntime) -> Result<(), Fail> {
     Ok(())
 }
 
-// At the start modified tau is 6.7 s, (23760^2 - 11880^2 - 36000^2) / (-36000 * 3600); the closest approach is 10 s off then,
-// and 8 s off at second 2.
+// At the start modified tau is 6.7 s, (23760^2 - 11880^2 - 36000^2) / (-36000 * 3600); the closest
+// approach is 10 s off then, and 8 s off at second 2.
 #[test]
 fn times_of_the_two_models(rt: HostRuntime) -> Result<(), Fail> {
     let by_tau = Volume {

@@ -38,7 +38,8 @@ fn is_co_altitude_soon(leg: &Leg, volume: &Volume, point: &Point) -> bool
 /// Whether the difference in height falls.
 fn is_nearing_in_height(leg: &Leg, point: &Point) -> bool
     requires { IsLegInRange leg.now }
-    ensures { IsTrue result ↔ ((height_at leg.now point.now.num point.now.den *ℤ leg.now.velocity.up) <ℤ pos 0) }
+    ensures { IsTrue result
+        ↔ ((height_at leg.now point.now.num point.now.den *ℤ leg.now.velocity.up) <ℤ pos 0) }
 {
     (height_then(leg, point) as i128) * (leg.velocity.up as i128) < 0
 }

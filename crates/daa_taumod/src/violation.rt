@@ -11,8 +11,8 @@ use crate::vertical::violates_vertically;
 use crate::{Model, Volume};
 use daa_fixed::{Leg, Point};
 
-/// Whether the leg violates the volume at that time: horizontally and vertically at once, each bound
-/// inclusive. The time is any fraction in range; it need not be one of the leg's.
+/// Whether the leg violates the volume at that time: horizontally and vertically at once, each
+/// bound inclusive. The time is any fraction in range; it need not be one of the leg's.
 pub fn violates(leg: &Leg, volume: &Volume, point: &Point) -> bool
     requires leg { IsLegInRange leg.now }
     requires volume { IsVolumeInRange volume.now }

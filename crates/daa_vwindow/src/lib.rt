@@ -1,4 +1,5 @@
-//! The times of a straight leg at which the vertical part of the well-clear volume holds: one interval with exact ends.
+//! The times of a straight leg at which the vertical part of the well-clear volume holds: one
+//! interval with exact ends.
 #![tactic(auto)]
 
 mod band;

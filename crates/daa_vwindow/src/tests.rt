@@ -1,4 +1,5 @@
-//! Worked vertical windows. The unit of heights is 1/60 foot, and that of vertical speeds a foot a minute.
+//! Worked vertical windows. The unit of heights is 1/60 foot, and that of vertical speeds a foot a
+//! minute.
 
 ghost use Rattle.std.specs.Prelude.{◌<◌, ◌≤◌, unsigned_abs};
 ghost use Rattle.daa_fixed.specs.Leg.{IsLegInRange};
@@ -46,7 +47,8 @@ fn is_from(found: Option<(Point, Point)>, begin: (i64, i64), end: (i64, i64)) ->
     }
 }
 
-// 25 feet below at 3000 feet a minute: within a foot from 0.48 to 0.52 seconds, whichever of the two climbs.
+// 25 feet below at 3000 feet a minute: within a foot from 0.48 to 0.52 seconds, whichever of the
+// two climbs.
 #[test]
 fn passes_within_a_foot(rt: HostRuntime) -> Result<(), Fail> {
     assert!(rt; is_from(window(&leg(-1500, 3000, 1), &FOOT), (12, 25), (13, 25)));
@@ -64,8 +66,8 @@ fn level_flight_counts_all_along_or_never(rt: HostRuntime) -> Result<(), Fail> {
     Ok(())
 }
 
-// 440 feet below at 3000 feet a minute, with 100 feet: from 6.8 to 10.8 seconds. The seventh second alone, from 140 feet
-// below on, counts from its 0.8 on.
+// 440 feet below at 3000 feet a minute, with 100 feet: from 6.8 to 10.8 seconds. The seventh second
+// alone, from 140 feet below on, counts from its 0.8 on.
 #[test]
 fn ends_within_the_leg_or_with_it(rt: HostRuntime) -> Result<(), Fail> {
     let hundred_feet = Volume { zthr: 6000, ..FOOT };
@@ -82,8 +84,9 @@ fn ends_within_the_leg_or_with_it(rt: HostRuntime) -> Result<(), Fail> {
     Ok(())
 }
 
-// 500 feet below at 1000 feet a minute, co-altitude is 30 seconds off. With 20 seconds and no height it counts from 10
-// seconds until then; with a foot, a foot above still counts, and a climb away from there does not.
+// 500 feet below at 1000 feet a minute, co-altitude is 30 seconds off. With 20 seconds and no
+// height it counts from 10 seconds until then; with a foot, a foot above still counts, and a climb
+// away from there does not.
 #[test]
 fn time_to_co_altitude(rt: HostRuntime) -> Result<(), Fail> {
     let same_height = Volume {

@@ -1,4 +1,5 @@
-//! The vertical window of a leg. An aircraft that descends toward another is treated as its mirror image, one that climbs.
+//! The vertical window of a leg. An aircraft that descends toward another is treated as its mirror
+//! image, one that climbs.
 
 ghost use Rattle.std.specs.Prelude.{◌≤◌, ◌≤ℤ◌, ◌*ℤ◌, pos, IfSome, MatchOption};
 ghost use Rattle.std.specs.Int.{int_max};
@@ -13,9 +14,10 @@ use crate::band::{level_flight, passage};
 use daa_fixed::{Leg, Point};
 use daa_taumod::Volume;
 
-/// The first and the last time of the leg at which the vertical part of the volume holds: it holds at a fraction of the leg
-/// exactly where that is not before the first and not after the last. `None` exactly where it holds at no fraction.
-/// The numbers of both times are small: num at most 7200000, den at most 40000.
+/// The first and the last time of the leg at which the vertical part of the volume holds: it holds
+/// at a fraction of the leg exactly where that is not before the first and not after the last.
+/// `None` exactly where it holds at no fraction. The numbers of both times are small: num at most
+/// 7200000, den at most 40000.
 pub fn window(leg: &Leg, volume: &Volume) -> Option<(Point, Point)>
     requires leg { IsLegInRange leg.now }
     requires volume { IsVolumeInRange volume.now }
@@ -35,8 +37,9 @@ pub fn window(leg: &Leg, volume: &Volume) -> Option<(Point, Point)>
     }
 }
 
-/// The window of what rises from `height` at `speed`. Below, it counts from `zthr` or from the height that it gains in `tcoa`
-/// seconds, whichever is more; above, up to `zthr`, since from co-altitude on the difference grows.
+/// The window of what rises from `height` at `speed`. Below, it counts from `zthr` or from the
+/// height that it gains in `tcoa` seconds, whichever is more; above, up to `zthr`, since from
+/// co-altitude on the difference grows.
 fn rise(height: i64, speed: i64, volume: &Volume, secs: u32) -> Option<(Point, Point)>
     requires volume { IsVolumeInRange volume.now }
     requires secs { secs ≤ 180 }

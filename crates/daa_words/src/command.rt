@@ -112,12 +112,13 @@ fn base<'a>(alloc: Global) -> Command<'a>
 
 /// The command line that is taken: `daidalus replay --config FILE [--workers N] [--ahead N]`,
 /// `daidalus exercise --config FILE --seed N --moments M [--workers N]` or
-/// `daidalus judge --config FILE --states FILE [--workers N]`, and nothing else but clap's own help.
+/// `daidalus judge --config FILE --states FILE [--workers N]`, and nothing else but clap's own
+/// help.
 ///
-/// A subcommand is required, and so is each option but `--workers` and `--ahead`. Each option has one value: any text at `--config`
-/// and `--states`,
-/// a whole number from 1 to 16 at `--workers` (4 where it is not given), from 0 to 2^32 - 1 at `--seed` and from 1 to
-/// 10000 at `--moments`. The error says that memory ran out.
+/// A subcommand is required, and so is each option but `--workers` and `--ahead`. Each option has
+/// one value: any text at `--config` and `--states`, a whole number from 1 to 16 at `--workers` (4
+/// where it is not given), from 0 to 2^32 - 1 at `--seed` and from 1 to 10000 at `--moments`. The
+/// error says that memory ran out.
 #[tactic(auto, unfolding(crate::specs::Command::daidalus))]
 pub fn daidalus<'a>(alloc: Global) -> Result<Command<'a>, AllocError>
     ensures { IfOk result (λ c. app_of c ≡ spec.daidalus) }

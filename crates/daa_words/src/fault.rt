@@ -8,7 +8,8 @@ use thiserror::Error;
 /// Why words give no order.
 #[derive(Clone, Copy, Debug, PartialEq, Eq, Error)]
 pub enum WordsFault {
-    /// The command line does not take the words; a request for help or for a version is such a case.
+    /// The command line does not take the words; a request for help or for a version is such a
+    /// case.
     #[error("the command line does not take the words")]
     NotTaken,
     /// Memory ran out. It says nothing of the words.

@@ -6,8 +6,8 @@
 //! daidalus judge --config FILE --states FILE [--workers N]
 //! ```
 //!
-//! Which words are taken is clap's to decide, by a definition that is written in clap's own words; what is taken is read
-//! into an [`Order`].
+//! Which words are taken is clap's to decide, by a definition that is written in clap's own words;
+//! what is taken is read into an [`Order`].
 #![tactic(auto)]
 
 mod command;

@@ -72,7 +72,8 @@ fn judge_by<'a>(matches: &ArgMatches<'a>) -> Option<Task<'a>>
 
 /// The task of a subcommand, by its name and by the matches of its options.
 fn task_by<'a>(name: &str, matches: &ArgMatches<'a>) -> Option<Task<'a>>
-    ensures { option_map spec.task_of result ≡ spec.task_by name.now (rows_of (found_of matches.now)) }
+    ensures { option_map spec.task_of result ≡ spec.task_by name.now
+        (rows_of (found_of matches.now)) }
 {
     if name == "replay" {
         replay_by(matches)
@@ -88,7 +89,8 @@ fn task_by<'a>(name: &str, matches: &ArgMatches<'a>) -> Option<Task<'a>>
 /// What a subcommand asks for, by its name and by the matches of its options.
 #[tactic(auto, unfolding(crate::specs::Order::asked_by))]
 pub(crate) fn order_by<'a>(name: &str, matches: &ArgMatches<'a>) -> Option<Order<'a>>
-    ensures { option_map spec.meaning result ≡ spec.asked_by (name.now, rows_of (found_of matches.now)) }
+    ensures { option_map spec.meaning result ≡ spec.asked_by
+        (name.now, rows_of (found_of matches.now)) }
 {
     let task = task_by(name, matches)?;
     let config = matches.get_str("config")?;

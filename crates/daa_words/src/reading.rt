@@ -26,7 +26,8 @@ fn fault_by(error: &Error) -> WordsFault
 fn matches_of<'a>(alloc: Global, words: &'a [String]) -> Result<ArgMatches<'a>, WordsFault>
     ensures taken { IfOk result (λ m. (fault_of daidalus (map string_bytes words.entry.now) ≡ [])
         × (subcommand_rows_of m ≡ subcommand_of daidalus (map string_bytes words.entry.now))) }
-    ensures refused { IsErrOf result WordsFault.NotTaken → fault_of daidalus (map string_bytes words.entry.now) ≢ [] }
+    ensures refused { IsErrOf result WordsFault.NotTaken
+        → fault_of daidalus (map string_bytes words.entry.now) ≢ [] }
 {
     let command = daidalus(alloc)?;
     match command.try_get_matches_from(words) {
@@ -37,22 +38,26 @@ fn matches_of<'a>(alloc: Global, words: &'a [String]) -> Result<ArgMatches<'a>, 
 
 /// What the subcommand of the matches asks for.
 fn order_in<'a>(matches: &ArgMatches<'a>) -> Option<Order<'a>>
-    ensures { option_map spec.meaning result ≡ option_and_then spec.asked_by (subcommand_rows_of matches.now) }
+    ensures { option_map spec.meaning result ≡ option_and_then spec.asked_by
+        (subcommand_rows_of matches.now) }
 {
     let (name, inner) = matches.subcommand()?;
     order_by(name, inner)
 }
 
-/// What the words of a command line ask for, the program's name first. An empty list of words asks for nothing.
+/// What the words of a command line ask for, the program's name first. An empty list of words asks
+/// for nothing.
 ///
-/// The fault is `NotTaken` only where the command line does not take the words: clap's own definition finds a fault in
-/// them. A request for help or for a version is such a case. It is `NoMemory` where memory ran out. The numbers of an
-/// order are those at its options, and in their ranges: 1 to 16 workers, and of an exercise any `u32` as its seed and 1
-/// to 10000 moments.
+/// The fault is `NotTaken` only where the command line does not take the words: clap's own
+/// definition finds a fault in them. A request for help or for a version is such a case. It is
+/// `NoMemory` where memory ran out. The numbers of an order are those at its options, and in their
+/// ranges: 1 to 16 workers, and of an exercise any `u32` as its seed and 1 to 10000 moments.
 #[tactic(auto, unfolding(crate::specs::Order::order_of), using(crate::proofs::WordsLemmas::no_order))]
 pub fn read_words<'a>(alloc: Global, words: &'a [String]) -> Result<Order<'a>, WordsFault>
-    ensures taken { IfOk result (λ o. spec.order_of (map string_bytes words.entry.now) ≡ Some (spec.meaning o)) }
-    ensures refused { IsErrOf result WordsFault.NotTaken → spec.order_of (map string_bytes words.entry.now) ≡ None }
+    ensures taken { IfOk result
+        (λ o. spec.order_of (map string_bytes words.entry.now) ≡ Some (spec.meaning o)) }
+    ensures refused { IsErrOf result WordsFault.NotTaken
+        → spec.order_of (map string_bytes words.entry.now) ≡ None }
     ensures in_range { IfOk result (λ o. spec.IsInRange (spec.meaning o)) }
 {
     let matches = matches_of(alloc, words)?;

@@ -63,7 +63,8 @@ static NONE_IN_REACH: [&str; 3] = [
     "traffic HIGH 0 0 1617 0 0 0 0",
 ];
 
-/// One thread passes no gate, several pass once for each unit, and there is none where no aircraft is in reach.
+/// One thread passes no gate, several pass once for each unit, and there is none where no aircraft
+/// is in reach.
 #[test]
 fn the_gate_is_passed_once_for_each_unit_of_several_workers(rt: HostRuntime) -> Result<(), Fail> {
     let four = picture_in(&FOUR_IN_REACH).expect(&rt, "four aircraft in reach");

@@ -41,7 +41,8 @@ fn reading_ahead_changes_nothing(rt: HostRuntime) -> Result<(), Fail> {
     gives(&rt, ONE, farthest, 0, ONE_TEXT)
 }
 
-/// With pieces of nine bytes: a read and a write that fail, the most bytes that are read, the status, and what the sink took.
+/// With pieces of nine bytes: a read and a write that fail, the most bytes that are read, the
+/// status, and what the sink took.
 static FAULTS: [(u64, u64, u64, u8, &[u8]); 6] = [
     (7, 0, 63, 5, b""),
     (99, 0, 63, 5, b""),

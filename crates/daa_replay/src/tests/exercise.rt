@@ -226,7 +226,8 @@ static THREE_MOMENTS: [&str; 8] = [
     "3",
 ];
 
-/// A sink that fails has taken a beginning, a shelf that fails or a refused configuration ends it before.
+/// A sink that fails has taken a beginning, a shelf that fails or a refused configuration ends it
+/// before.
 #[test]
 fn an_exercise_may_fail(rt: HostRuntime) -> Result<(), Fail> {
     let exercise = Outside {

@@ -16,7 +16,8 @@ const JUDGE: Outside<'static> = Outside {
     ..PLAIN
 };
 
-/// A comparison of a report with that of the states, which lie under the name `s`, ends with this status and this text.
+/// A comparison of a report with that of the states, which lie under the name `s`, ends with this
+/// status and this text.
 fn judges<R: Abort + Threads + Sync + AllocGlobal>(
     rt: &R,
     states: &[u8],
@@ -82,8 +83,9 @@ fn the_report_of_the_states_is_the_same(rt: HostRuntime) -> Result<(), Fail> {
     judges(&rt, b"x\n", b"refused 1 2\n", JUDGE, 0, b"same\n")
 }
 
-/// States and their reports under one level: with carriage returns, without a last line end, of format 2 with an age, refused lines
-/// before, within and after a moment, and a moment that does not end.
+/// States and their reports under one level: with carriage returns, without a last line end, of
+/// format 2 with an age, refused lines before, within and after a moment, and a moment that does
+/// not end.
 static REPORTS: [(&[u8], &str); 6] = [
     (
         b"moment 0\r\nown 0 0 1000 0 3600 0\r\nend\r\n",

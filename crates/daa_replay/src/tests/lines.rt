@@ -33,7 +33,8 @@ static MOMENTS: [(&str, u8, &str); 7] = [
         1,
         "moment 7\nclear\ndone 7\nrefused 4 9\n",
     ),
-    // a moment that is as late as the last stays refused after a second try, and a later one is taken
+    // a moment that is as late as the last stays refused after a second try, and a later one is
+    // taken
     (
         "moment 7\nown 0 0 1000 0 3600 0\nend\nmoment 7\nend\nmoment 8\nown 0 0 1000 0 3600 0\nend\n",
         1,
@@ -125,7 +126,8 @@ fn line<R: AllocGlobal>(rt: &R, first: u8, size: usize, end: &[u8]) -> Result<Ve
     Ok(line)
 }
 
-/// A line of so many letters with another first byte and an end: the status and the text of an input of it.
+/// A line of so many letters with another first byte and an end: the status and the text of an
+/// input of it.
 static SIZES: [(u8, usize, &[u8], u8, &[u8]); 7] = [
     (b'#', 255, b"\n", 0, b""),
     (b'#', 256, b"\n", 1, b"refused 1 1\n"),

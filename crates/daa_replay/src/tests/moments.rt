@@ -13,7 +13,8 @@ vs = { min = 0, max = 0, step = 1, rate = 100 }
 alt = { min = 1000, max = 1000, step = 1, rate = 1000 }
 ";
 
-/// A configuration of these levels, each with its seven numbers, the first of which is to be kept clear from on.
+/// A configuration of these levels, each with its seven numbers, the first of which is to be kept
+/// clear from on.
 fn config_of<R: AllocGlobal>(rt: &R, resolve: u32, levels: &str) -> Result<String, Fail> {
     let alloc = rt.alloc();
     let mut config = format!(in alloc; "resolve = {resolve}\n{CANDIDATES}")?;
@@ -52,7 +53,8 @@ resolve alt down none up none
 done 0
 ";
 
-/// The levels, the ownship's vertical speed, an aircraft, the lines of the aircraft, and those after them.
+/// The levels, the ownship's vertical speed, an aircraft, the lines of the aircraft, and those
+/// after them.
 static UNDER_ONE_LEVEL: [(&str, i32, &str, &str, &str); 10] = [
     // at the same place with the same velocity
     (

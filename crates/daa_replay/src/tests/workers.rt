@@ -10,7 +10,8 @@ use std::test::Fail;
 use std::thread::Threads;
 use std::time::Clock;
 
-/// A gate that counts who passes for each of the first four units, and for all others, and at which two workers meet.
+/// A gate that counts who passes for each of the first four units, and for all others, and at which
+/// two workers meet.
 #[derive(Drop)]
 struct Watched<C> {
     meeting: Meeting<C>,

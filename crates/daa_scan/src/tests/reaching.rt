@@ -5,8 +5,8 @@ use crate::Scene;
 use daa_config::examples::ONE_LEVEL;
 use std::test::Fail;
 
-/// What stands in the place of parts of the configuration, the lines of an ownship and of an aircraft, and whether it is in
-/// reach.
+/// What stands in the place of parts of the configuration, the lines of an ownship and of an
+/// aircraft, and whether it is in reach.
 struct Row {
     shows: &'static str,
     edits: &'static [(&'static str, &'static str)],
@@ -33,11 +33,12 @@ const DESCENDING: [(&str, &str); 1] = [(
 /// Twenty seconds to co-altitude count.
 const LEVELLING: [(&str, &str); 1] = [("tcoa = 0", "tcoa = 20")];
 
-// 23760 and 45 times 3601 units are 185805, which is 5161.25 times 36; 27000 and 10 times 1000 are 37000, 616.67 times 60.
-// Where the aircraft flies east at 36 units a second, 23760 and 45 times 3637 are 187425, which is 5206.25 times 36.
-// Where it climbs at 60 units a second, 27000 and 10 times 1060 are 37600, which is 626.67 times 60.
-// At 7000 units a second 23760 and 45 times 7001 are 338805, which is 9411.25 times 36. With 3000 units a second up, or with
-// thirty seconds at 1000, 27000 and 30000 are 950 times 60; with 2000, 27000 and 20000 are 783.33 times 60.
+// 23760 and 45 times 3601 units are 185805, which is 5161.25 times 36; 27000 and 10 times 1000 are
+// 37000, 616.67 times 60. Where the aircraft flies east at 36 units a second, 23760 and 45 times
+// 3637 are 187425, which is 5206.25 times 36. Where it climbs at 60 units a second, 27000 and 10
+// times 1060 are 37600, which is 626.67 times 60. At 7000 units a second 23760 and 45 times 7001
+// are 338805, which is 9411.25 times 36. With 3000 units a second up, or with thirty seconds at
+// 1000, 27000 and 30000 are 950 times 60; with 2000, 27000 and 20000 are 783.33 times 60.
 static ROWS: [Row; 22] = [
     Row {
         shows: "east",

@@ -12,8 +12,9 @@ use daa_state::{Own, Picture, Traffic};
 use std::process::Abort;
 use std::test::Fail;
 
-/// A configuration of eight candidates, which are Hold, the tracks 0, 90, 180 and 270, the present ground speed, level flight
-/// and 1000 feet; a moment of one aircraft; and the mask of each candidate.
+/// A configuration of eight candidates, which are Hold, the tracks 0, 90, 180 and 270, the present
+/// ground speed, level flight and 1000 feet; a moment of one aircraft; and the mask of each
+/// candidate.
 struct Row {
     shows: &'static str,
     settings: Settings,
@@ -250,7 +251,8 @@ fn worked_rows(rt: HostRuntime) -> Result<(), Fail> {
 /// Room for a mask of each candidate.
 const MASKS: usize = 2048;
 
-/// Each candidate meets each aircraft at the levels at which it does by the plain walk: asked for the whole list, and by itself.
+/// Each candidate meets each aircraft at the levels at which it does by the plain walk: asked for
+/// the whole list, and by itself.
 pub(super) fn expect_same_levels(
     rt: &(impl AllocGlobal + Abort),
     config: &Config,

@@ -21,8 +21,8 @@ const LINES: [&str; 6] = [
     "end",
 ];
 
-// Of the eight candidates all but the fifth meet A, and all meet C: five bits are 3 where one is met, else 1, so that the
-// words are the sums of 3 or 1 times 32 to the candidate's place.
+// Of the eight candidates all but the fifth meet A, and all meet C: five bits are 3 where one is
+// met, else 1, so that the words are the sums of 3 or 1 times 32 to the candidate's place.
 #[test]
 fn words_of_one_group(rt: HostRuntime) -> Result<(), Fail> {
     let config = config_of(
