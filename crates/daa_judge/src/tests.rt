@@ -100,4 +100,5 @@ fn values_may_be_sent() {
     may_be_sent::<Matching>();
     may_be_sent::<Sheet>();
     may_be_sent::<Found>();
+    may_be_sent::<NoMemory>();
 }

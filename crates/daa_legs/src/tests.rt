@@ -245,6 +245,8 @@ fn values_may_be_sent() {
     may_be_sent::<OwnLeg>();
     may_be_sent::<OwnRun>();
     may_be_sent::<Flight>();
+    may_be_sent::<Trunk>();
+    may_be_sent::<Branch>();
 }
 
 #[test]

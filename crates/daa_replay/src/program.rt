@@ -47,7 +47,8 @@ fn conduct<R: Threads + Sync, F: Shelf, S: Source + Send, K: Sink + Send, G: Gat
 /// sink; an exercise reads nothing and writes the summary of the moments that its seed draws; a
 /// comparison fetches states too, reads at most `most` bytes, and writes whether they are the
 /// report of the states, or in which line they first differ. `words[0]` is the program's name. The
-/// bytes are the same for every number of workers and of pieces that are read ahead.
+/// bytes are the same for every number of workers, and where nothing fails for every number of
+/// pieces that are read ahead.
 ///
 /// Answers the status of the process:
 /// - 0 where the input was read to its end and no line was refused, or the exercise ended, or a

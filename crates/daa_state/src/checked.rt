@@ -254,7 +254,7 @@ fn test_aircraft(traffic: &[Traffic], own: &Own, place: usize) -> Result<(), Pic
 impl Picture {
     /// The picture of this time in seconds, this ownship and these aircraft, where each of their
     /// numbers is in its range and there are at most 64 aircraft of different identifiers; else why
-    /// it is none. The answer depends on them alone.
+    /// it is none.
     pub fn checked(time: u32, own: Own, traffic: &[Traffic]) -> Result<Picture, PictureFault>
         ensures time { IfOk result (λ picture. picture.time ≡ time) }
         ensures own { IfOk result (λ picture. picture.own ≡ own) }

@@ -117,8 +117,8 @@ fn base<'a>(alloc: Global) -> Command<'a>
 ///
 /// A subcommand is required, and so is each option but `--workers` and `--ahead`. Each option has
 /// one value: any text at `--config` and `--states`, a whole number from 1 to 16 at `--workers` (4
-/// where it is not given), from 0 to 2^32 - 1 at `--seed` and from 1 to 10000 at `--moments`. The
-/// error says that memory ran out.
+/// where it is not given), from 0 to 1024 at `--ahead` (0 where it is not given), from 0 to
+/// 2^32 - 1 at `--seed` and from 1 to 10000 at `--moments`. The error says that memory ran out.
 #[tactic(auto, unfolding(crate::specs::Command::daidalus))]
 pub fn daidalus<'a>(alloc: Global) -> Result<Command<'a>, AllocError>
     ensures { IfOk result (λ c. app_of c ≡ spec.daidalus) }

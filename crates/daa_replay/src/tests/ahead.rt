@@ -1,7 +1,12 @@
 //! Reading ahead of the report changes no byte and no status.
 
-use super::{ONE, ONE_TEXT, ONES, Outside, PLAIN, SEVENS, gives};
+use super::{ONE, ONE_LEVEL, ONE_TEXT, ONES, Outside, PLAIN, SEVENS, gives, shelf_with, strings};
+use crate::run;
+use daa_outside::{Failed, Gate, Meeting, MemSink, MemSource, Open, Sink, Source};
+use std::process::Abort;
 use std::test::Fail;
+use std::thread::Threads;
+use std::time::Clock;
 
 /// The words that ask for a replay by turns, and for reading ahead by one piece and by four.
 pub(super) static READINGS: [&[&str]; 3] = [
@@ -77,5 +82,104 @@ fn a_fault_is_met_in_its_place(rt: HostRuntime) -> Result<(), Fail> {
         };
         gives(&rt, LONGER, limited, 5, b"")?;
     }
+    Ok(())
+}
+
+/// The two that are to meet: the read behind a moment's end and the first write of its report.
+const READ: u32 = 0;
+
+const WRITE: u32 = 1;
+
+/// A source whose eighth read waits at a gate.
+#[derive(Drop)]
+struct HoldingSource<'a, G> {
+    inner: MemSource,
+    calls: u8,
+    meeting: &'a G,
+}
+
+impl<G: Gate> Source for HoldingSource<'_, G> {
+    ghost use Rattle.std.specs.Prelude.{Some};
+
+    ghost left = { λ s. Some s.inner.left };
+
+    ghost faults = { λ s. s.inner.faults };
+
+    fn read(&mut self, buf: &mut [u8]) -> Result<usize, Failed> {
+        if self.calls == 7 {
+            self.meeting.pass(READ, 0);
+        }
+        self.calls = self.calls.saturating_add(1);
+        self.inner.read(buf)
+    }
+}
+
+/// A sink whose first write waits there too.
+#[derive(Drop)]
+struct HoldingSink<'a, G> {
+    inner: MemSink,
+    calls: u8,
+    meeting: &'a G,
+}
+
+impl<G: Gate> Sink for HoldingSink<'_, G> {
+    ghost use Rattle.std.specs.Prelude.{Some};
+
+    ghost taken = { λ s. Some s.inner.taken };
+
+    ghost faults = { λ s. s.inner.faults };
+
+    fn write(&mut self, piece: &[u8]) -> Result<usize, Failed> {
+        if self.calls == 0 {
+            self.meeting.pass(WRITE, 0);
+        }
+        self.calls = self.calls.saturating_add(1);
+        self.inner.write(piece)
+    }
+}
+
+/// Whether a replay that reads four pieces ahead reads on while it writes the report of a moment.
+fn reads_on<R: Abort + Threads + Sync + AllocGlobal, C: Clock + Sync + Drop>(
+    rt: &R,
+    clock: C,
+) -> Result<bool, Fail> {
+    let alloc = rt.alloc();
+    let meeting = Meeting::of(clock, 2);
+    let mut shelf = shelf_with(rt, ONE_LEVEL, &[])?;
+    let mut source = HoldingSource {
+        inner: MemSource::new(LONGER.to_vec(alloc)?, NINES.to_vec(alloc)?, Vec::new(alloc)),
+        calls: 0,
+        meeting: &meeting,
+    };
+    let mut sink = HoldingSink {
+        inner: MemSink::over(vec![in alloc; 0; 1024]?, Vec::new(alloc), Vec::new(alloc)),
+        calls: 0,
+        meeting: &meeting,
+    };
+    let words = strings(rt, READINGS[2])?;
+    let status = run(
+        rt,
+        alloc,
+        words.as_slice(),
+        &mut shelf,
+        &mut source,
+        &mut sink,
+        &Open,
+    );
+    assert_eq!(rt; status, 0);
+    assert_eq!(rt; sink.inner.taken(), ONE_TEXT);
+    Ok(meeting.has_met())
+}
+
+/// As the reader's thread may not be had, the meeting is tried five times.
+#[test]
+fn the_read_behind_a_moment_and_its_report_meet(rt: HostRuntime) -> Result<(), Fail> {
+    let mut met = false;
+    for _ in 0..5 {
+        if !met {
+            met = reads_on(&rt, &rt)?;
+        }
+    }
+    assert!(rt; met);
     Ok(())
 }
