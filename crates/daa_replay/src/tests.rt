@@ -7,6 +7,7 @@ mod judge;
 mod lines;
 mod moments;
 mod opening;
+mod recoveries;
 mod workers;
 
 use super::{Event, ended_moments_are_in_range, every_input_has_one_report, run_within};
