@@ -100,6 +100,20 @@ class Map(unittest.TestCase):
             for crate in re.findall(r"\bdaa_\w+", read(name)):
                 self.assertIn(crate, {*crates(), "daa_alert", "daa_levels"}, name)
 
+    def test_each_public_item_is_named(self):
+        found = 0
+        for name in crates():
+            path = f"crates/{name}/src/lib.rt"
+            if os.path.exists(os.path.join(TOP, path)):
+                text = read(path)
+                items = re.findall(r"^pub (?:fn|struct|enum|trait|mod) (\w+)", text, re.M)
+                for used in re.findall(r"^pub use \w+::([^;]+);", text, re.M):
+                    items += re.findall(r"\w+", used)
+                for item in items:
+                    self.assertRegex(read(f"crates/{name}/README.md"), rf"\b{item}\b", name)
+                    found += 1
+        self.assertGreater(found, 150)
+
     def test_threads_start_where_the_map_says(self):
         said = re.search(r"^- Threads start in (.*?) alone\.", read("docs/ARCHITECTURE.md"), re.M)[1]
         found = set()
