@@ -122,6 +122,11 @@ class Map(unittest.TestCase):
                 found.add((path.split(os.sep)[-3], os.path.basename(path)))
         self.assertEqual({(crate, file) for file, crate in re.findall(r"`(\w+\.rt)` of (\w+)", said)}, found)
 
+    def test_only_screens_may_wait(self):
+        for path in glob.glob(os.path.join(TOP, "crates", "*", "src", "*.rt")):
+            if re.search(r"[:+] Wait\b", read(path)):
+                self.assertIn(path.split(os.sep)[-3], ("daa_screen", "daa_cockpit"), path)
+
 
 class WrongBodies(unittest.TestCase):
     def setUp(self):
