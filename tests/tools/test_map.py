@@ -1,0 +1,166 @@
+"""The map of the repository and the READMEs of its crates, held against what they tell of: docs/ARCHITECTURE.md,
+docs/CONTRIBUTING.md, docs/DECISIONS.md, docs/PROOFS.md, docs/DETECTOR.md and crates/*/README.md."""
+import functools
+import glob
+import os
+import re
+import unittest
+
+from common import TOP
+
+DOCUMENTS = [f"docs/{name}.md" for name in ("ARCHITECTURE", "CONTRIBUTING", "DECISIONS", "PROOFS", "DETECTOR")]
+PARTS = ("src", "src/tests", "specs", "proofs")
+# A file or folder of a crate: with its path, or a file's name alone in backquotes.
+PATH = re.compile(r"`((?:src|specs|proofs|must-fail|include|data)/[\w/.-]*[\w]|[\w]+\.(?:rt|antt))`")
+CRATE = re.compile(r"\b(daa_\w+|one_moment)\b")
+
+
+def read(name):
+    with open(os.path.join(TOP, name), encoding="utf-8") as file:
+        return file.read()
+
+
+@functools.cache
+def crates():
+    """The crates in the order of crates.txt, each with what it stands on."""
+    found = {}
+    for line in read("crates.txt").splitlines():
+        line = line.split("#")[0]
+        if ":" in line:
+            name, below = line.split(":")
+            found[name.split()[0]] = below.split()
+    return found
+
+
+def readmes():
+    return [f"crates/{name}/README.md" for name in crates()]
+
+
+def lies_in(crate, path):
+    """The path is one of the crate's files or folders, or a file's name alone is."""
+    tops = ("",) if "/" in path else PARTS
+    return any(os.path.exists(os.path.join(TOP, "crates", crate, top, path)) for top in tops)
+
+
+def paths_of(name):
+    """Each path of a crate that a document names, with the crates that it may be of: those named on its line, the last one
+    named before that, and the README's own."""
+    own = [name.split("/")[1]] if name.startswith("crates/") else []
+    last = []
+    for line in read(name).splitlines():
+        named = [crate for crate in CRATE.findall(line) if crate in crates()]
+        for match in PATH.finditer(line):
+            yield match[1], [*own, *last, *named]
+        last = named[-1:] or last
+
+
+class Map(unittest.TestCase):
+    def test_each_crate_has_its_readme(self):
+        self.assertGreater(len(crates()), 30)
+        for name in crates():
+            self.assertTrue(read(f"crates/{name}/README.md").startswith(f"# {name}\n"), name)
+        self.assertEqual(sorted(crates()), sorted(os.listdir(os.path.join(TOP, "crates"))))
+
+    def test_the_map_has_the_crates_in_their_order(self):
+        text = read("docs/ARCHITECTURE.md")
+        self.assertEqual(re.findall(r"^\| \[(\w+)\]\(\.\./crates/\1/README\.md\) \|", text, re.M), list(crates()))
+        self.assertLessEqual(len(text.encode()), 9000)
+
+    def test_each_readme_says_what_its_crate_stands_on(self):
+        for name, below in crates().items():
+            said = re.search(r"^Stands on(.*)\.$", read(f"crates/{name}/README.md"), re.M)
+            self.assertTrue(said, name)
+            words = re.findall(r"\w+", re.sub(r"of the kit|nothing but std", "", said[1]))
+            self.assertEqual(sorted(words), sorted(below), name)
+
+    def test_links_lead_to_files(self):
+        found = 0
+        for name in [*DOCUMENTS, *readmes()]:
+            for link in re.findall(r"\]\(([^)#:]+)(?:#[^)]*)?\)", read(name)):
+                self.assertTrue(os.path.exists(os.path.join(TOP, os.path.dirname(name), link)), f"{link} in {name}")
+                found += 1
+        self.assertGreater(found, 40)
+
+    def test_paths_of_crates_are_there(self):
+        found = 0
+        for name in [*DOCUMENTS, *readmes()]:
+            for path, of in paths_of(name):
+                self.assertTrue(any(lies_in(crate, path) for crate in of), f"{path} in {name}")
+                found += 1
+        self.assertGreater(found, 200)
+
+    def test_other_paths_are_there(self):
+        for name in [*DOCUMENTS, *readmes()]:
+            for path in re.findall(r"(?<![\w/.])((?:docs|crates|tests|tools|bench|examples)/[\w./*-]*\w)", read(name)):
+                if "NAME" not in path:
+                    self.assertTrue(glob.glob(os.path.join(TOP, path)), f"{path} in {name}")
+
+    def test_crates_that_are_named_are_there(self):
+        for name in [*DOCUMENTS, *readmes()]:
+            for crate in re.findall(r"\bdaa_\w+", read(name)):
+                self.assertIn(crate, {*crates(), "daa_alert", "daa_levels"}, name)
+
+    def test_each_public_item_is_named(self):
+        found = 0
+        for name in crates():
+            path = f"crates/{name}/src/lib.rt"
+            if os.path.exists(os.path.join(TOP, path)):
+                text = read(path)
+                items = re.findall(r"^pub (?:fn|struct|enum|trait|mod) (\w+)", text, re.M)
+                for used in re.findall(r"^pub use \w+::([^;]+);", text, re.M):
+                    items += re.findall(r"\w+", used)
+                for item in items:
+                    self.assertRegex(read(f"crates/{name}/README.md"), rf"\b{item}\b", name)
+                    found += 1
+        self.assertGreater(found, 150)
+
+    def test_threads_start_where_the_map_says(self):
+        said = re.search(r"^- Threads start in (.*?) alone\.", read("docs/ARCHITECTURE.md"), re.M)[1]
+        found = set()
+        for path in glob.glob(os.path.join(TOP, "crates", "*", "src", "*.rt")):
+            if os.path.basename(path) != "tests.rt" and re.search(r"\b(for_each_mut|join_mut|spawn|scope)\b\(", read(path)):
+                found.add((path.split(os.sep)[-3], os.path.basename(path)))
+        self.assertEqual({(crate, file) for file, crate in re.findall(r"`(\w+\.rt)` of (\w+)", said)}, found)
+
+    def test_only_screens_may_wait(self):
+        for path in glob.glob(os.path.join(TOP, "crates", "*", "src", "*.rt")):
+            if re.search(r"[:+] Wait\b", read(path)):
+                self.assertIn(path.split(os.sep)[-3], ("daa_screen", "daa_cockpit"), path)
+
+
+class WrongBodies(unittest.TestCase):
+    def setUp(self):
+        text = read("docs/CONTRIBUTING.md")
+        self.rows = re.findall(r"^\| (.*) \| (.*) \|$", text.split("| The wrong body |")[1], re.M)
+
+    def test_each_row_names_what_refuses_it(self):
+        self.assertGreater(len(self.rows), 60)
+        for body, refused_by in self.rows:
+            self.assertNotIn("`", body)
+            words = ("`", "the signatures", "a test", "the same test")
+            self.assertTrue(any(word in refused_by for word in words), body)
+
+    def test_each_name_is_an_edit_or_a_test(self):
+        found = 0
+        for _, refused_by in self.rows:
+            crate = None
+            for named, name in re.findall(r"\b(daa_\w+)\b|`([^`]*)`", refused_by):
+                crate = named or crate
+                if name:
+                    self.assertTrue(self.is_there(name, crate, refused_by), f"{name}: {refused_by}")
+                    found += 1
+        self.assertGreater(found, 110)
+
+    def is_there(self, name, crate, row):
+        """It is an edit of the crate that was named last, a test of one that the row names, or a test of the gate."""
+        if crate and os.path.exists(os.path.join(TOP, "crates", crate, "must-fail", f"{name}.edit")):
+            return True
+        for named in re.findall(r"\bdaa_\w+", row):
+            files = glob.glob(os.path.join(TOP, "crates", named, "src", "**", "*.rt"), recursive=True)
+            if any(re.search(rf"#\[test\]\s+fn {re.escape(name)}\(", read(path)) for path in files):
+                return True
+        return name.startswith("tests/") and os.path.exists(os.path.join(TOP, name))
+
+
+if __name__ == "__main__":
+    unittest.main()
