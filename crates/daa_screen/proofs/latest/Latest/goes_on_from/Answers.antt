@@ -1,4 +1,4 @@
-use Rattle.std.proofs.Common.{◌≡◌, ◌≤◌, ap, sym, subst, arith, length, List, leb, true}
+use Rattle.std.proofs.Common.{◌≤◌, ap, sym, subst, arith, length, List}
 use Rattle.std.proofs.lemmas.Bool.Decides.{nat_tests}
 use mathlib.Core.List.{IsPrefix}
 use Rattle.daa_state.specs.declared.word.Picture.{Picture}
