@@ -8,7 +8,8 @@ use Rattle.daa_state.specs.Current.{IsCurrent, IsCurrentWord, IsCurrentPicture, 
 use Rattle.daa_state.specs.Fields.{Bytes, fields_of}
 use Rattle.daa_state.specs.Laws.{Format1SaysNoAges, NoAgesLeaveNoAges}
 use Rattle.daa_state.specs.MomentStep.{step, empty_moment, begun_moment, with_own, with_traffic, has_id, picture_with, ended_picture}
-use Rattle.daa_state.specs.Number.{position, altitude, speed, vertical_speed, seconds, line_format}
+use Rattle.daa_state.specs.Number.{number_in, count_in}
+use Rattle.daa_state.specs.Ranges.{positions, altitudes, speeds, vertical_speeds, formats, times}
 use Rattle.daa_state.specs.WordOf.{identifier, is_comment, word_of, word_of_fields, word_of_name, moment_of, own_of, ownship, traffic_of, aircraft, format_of, end_of}
 use Rattle.daa_state.specs.declared.moments.Moment.{Moment}
 use Rattle.daa_state.specs.declared.word.Own.{Own}
@@ -21,13 +22,13 @@ use Rattle.daa_state.proofs.CheckedLemmas.{IfOk-with, IfOk-if, IfOk-any}
 aircraft-current : (id x y alt vx vy vs : Bytes) → IfOk (aircraft id x y alt vx vy vs) IsCurrent
 unfolding aircraft
 aircraft-current id x y alt vx vy vs =
-    IfOk-any _ (identifier id) _ (λ id. IfOk-any _ (position x) _ (λ x. IfOk-any _ (position y) _ (λ y. IfOk-any _ (altitude alt) _ (λ alt.
-    IfOk-any _ (speed vx) _ (λ vx. IfOk-any _ (speed vy) _ (λ vy. IfOk-any _ (vertical_speed vs) _ (λ vs. refl)))))))
+    IfOk-any _ (identifier id) _ (λ id. IfOk-any _ (number_in positions x) _ (λ x. IfOk-any _ (number_in positions y) _ (λ y. IfOk-any _ (number_in altitudes alt) _ (λ alt.
+    IfOk-any _ (number_in speeds vx) _ (λ vx. IfOk-any _ (number_in speeds vy) _ (λ vy. IfOk-any _ (number_in vertical_speeds vs) _ (λ vs. refl)))))))
 
 moment_of-current : (fields : List Bytes) → IfOk (moment_of fields) IsCurrentWord
 unfolding moment_of
 moment_of-current [] = tt
-moment_of-current (a ∷ []) = IfOk-any _ (seconds a) _ (λ time. tt)
+moment_of-current (a ∷ []) = IfOk-any _ (count_in times a) _ (λ time. tt)
 moment_of-current (a ∷ b ∷ fields) = tt
 
 own_of-current : (fields : List Bytes) → IfOk (own_of fields) IsCurrentWord
@@ -44,7 +45,7 @@ traffic_of-current _ = tt
 format_of-current : (fields : List Bytes) → IfOk (format_of fields) IsCurrentWord
 unfolding format_of
 format_of-current [] = tt
-format_of-current (a ∷ []) = IfOk-any _ (line_format a) _ (λ format. tt)
+format_of-current (a ∷ []) = IfOk-any _ (count_in formats a) _ (λ format. tt)
 format_of-current (a ∷ b ∷ fields) = tt
 
 end_of-current : (fields : List Bytes) → IfOk (end_of fields) IsCurrentWord

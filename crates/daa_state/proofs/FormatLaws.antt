@@ -7,7 +7,8 @@ use Rattle.daa_state.specs.Fault.{Checked}
 use Rattle.daa_state.specs.Fields.{Bytes, fields_of}
 use Rattle.daa_state.specs.FourWords.{begins_with_format, four_word_of_name, four_word_of_fields, four_word_of}
 use Rattle.daa_state.specs.Laws.{is_format_word, OnlyFormatLinesSayFormats, ReadsAsFourWords, OtherWordsLeaveTheFormat}
-use Rattle.daa_state.specs.Number.{seconds, age}
+use Rattle.daa_state.specs.Number.{count_in}
+use Rattle.daa_state.specs.Ranges.{ages, times}
 use Rattle.daa_state.specs.MomentStep.{step, begun_moment, with_own, with_traffic, ended_picture}
 use Rattle.daa_state.specs.WordOf.{is_comment, word_of, word_of_fields, word_of_name, moment_of, own_of, ownship, traffic_of, aged_traffic_of, aircraft, end_of}
 use Rattle.daa_state.specs.declared.word.Word.{Word}
@@ -20,7 +21,7 @@ SaysNoFormat said = IfOk said (λ word. is_format_word word ≡ false)
 moment_of-none : (fields : List Bytes) → SaysNoFormat (moment_of fields)
 unfolding moment_of
 moment_of-none [] = tt
-moment_of-none (a ∷ []) = IfOk-any _ (seconds a) _ (λ time. refl)
+moment_of-none (a ∷ []) = IfOk-any _ (count_in times a) _ (λ time. refl)
 moment_of-none (a ∷ b ∷ fields) = tt
 
 own_of-none : (fields : List Bytes) → SaysNoFormat (own_of fields)
@@ -36,7 +37,7 @@ traffic_of-none _ = tt
 aged_traffic_of-none : (fields : List Bytes) → SaysNoFormat (aged_traffic_of fields)
 unfolding aged_traffic_of
 aged_traffic_of-none (a ∷ b ∷ c ∷ d ∷ e ∷ f ∷ g ∷ h ∷ []) =
-    IfOk-any _ (aircraft a b c d e f g) _ (λ traffic. IfOk-any _ (age h) _ (λ seconds. refl))
+    IfOk-any _ (aircraft a b c d e f g) _ (λ traffic. IfOk-any _ (count_in ages h) _ (λ seconds. refl))
 aged_traffic_of-none _ = tt
 
 end_of-none : (fields : List Bytes) → SaysNoFormat (end_of fields)

@@ -7,7 +7,8 @@ use Rattle.daa_state.specs.Fault.{◌>>=◌}
 use Rattle.daa_state.specs.declared.word.Word.TheVariants as says
 use Rattle.daa_state.specs.Fields.{Bytes, fields_of}
 use Rattle.daa_state.specs.Texts.{texts}
-use Rattle.daa_state.specs.Number.{age}
+use Rattle.daa_state.specs.Number.{count_in}
+use Rattle.daa_state.specs.Ranges.{ages}
 use Rattle.daa_state.specs.WordOf.{word_of, word_of_fields, word_of_name, moment_of, own_of, traffic_of, aged_traffic_of, format_of, aircraft, end_of}
 
 -- no word takes more than ten fields, so ten show how many there are
@@ -49,7 +50,7 @@ traffic_of-seven (a ∷ b ∷ c ∷ d ∷ e ∷ f ∷ g ∷ i ∷ fields) blank 
 pub aged_traffic_of-eight : (fields : List (Bor Bytes)) (blank : Bor Bytes) → length fields ≡ 8
     → aged_traffic_of (texts fields) ≡ (aircraft (get_or fields 0 blank).now (get_or fields 1 blank).now (get_or fields 2 blank).now
     (get_or fields 3 blank).now (get_or fields 4 blank).now (get_or fields 5 blank).now (get_or fields 6 blank).now
-    >>= λ traffic. age (get_or fields 7 blank).now >>= λ seconds. Ok (says.Traffic (record traffic { age = seconds })))
+    >>= λ traffic. count_in ages (get_or fields 7 blank).now >>= λ seconds. Ok (says.Traffic (record traffic { age = seconds })))
 unfolding aged_traffic_of
 aged_traffic_of-eight [] blank h = absurd (omega arith)
 aged_traffic_of-eight (a ∷ []) blank h = absurd (omega arith)

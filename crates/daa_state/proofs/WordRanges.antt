@@ -7,8 +7,8 @@ use Rattle.std.specs.Str.Lines.{strip_carriage_return}
 use Rattle.daa_state.specs.Fields.{Bytes, fields_of}
 use Rattle.daa_state.specs.Id.{is_id}
 use Rattle.daa_state.specs.InRange.{IsWithin, IsPosition, IsAltitude, IsTrack, IsGroundSpeed, IsSpeed, IsVerticalSpeed, IsAge, IsFormat, IsOwnInRange, IsTrafficInRange, IsWordInRange}
-use Rattle.daa_state.specs.Number.{number, within, position, altitude, track, ground_speed, speed, vertical_speed, age, line_format, seconds}
-use Rattle.daa_state.specs.Ranges.{Range, positions, altitudes, tracks, ground_speeds, speeds, vertical_speeds, ages, formats}
+use Rattle.daa_state.specs.Number.{number, within, number_in, count_in}
+use Rattle.daa_state.specs.Ranges.{Range, positions, altitudes, tracks, ground_speeds, speeds, vertical_speeds, ages, formats, times}
 use Rattle.daa_state.specs.WordOf.{identifier, is_comment, word_of, word_of_fields, word_of_name, moment_of, own_of, ownship, traffic_of, aged_traffic_of, aircraft, format_of, end_of}
 use Rattle.daa_state.specs.declared.fault.LineFault.TheVariants.{OutOfRange, BadId}
 use Rattle.daa_state.proofs.CheckedLemmas.{IfOk-with, IfOk-if, IfOk-any}
@@ -23,40 +23,20 @@ within-range range n = go (int_le range.low n) (int_le n range.high) refl refl
     go true false e f = tt
     go false b e f = tt
 
-position-range : (field : Bytes) → IfOk (position field) IsPosition
-unfolding position
-position-range field = IfOk-any _ (number field) _ (within-range positions)
+number_in-range : (range : Range) (field : Bytes) → IfOk (number_in range field) (IsWithin range)
+unfolding number_in
+number_in-range range field = IfOk-any _ (number field) _ (within-range range)
 
-altitude-range : (field : Bytes) → IfOk (altitude field) IsAltitude
-unfolding altitude
-altitude-range field = IfOk-any _ (number field) _ (within-range altitudes)
-
-track-range : (field : Bytes) → IfOk (track field) IsTrack
-unfolding track
-track-range field = IfOk-any _ (number field) _ (within-range tracks)
-
-ground_speed-range : (field : Bytes) → IfOk (ground_speed field) IsGroundSpeed
-unfolding ground_speed
-ground_speed-range field = IfOk-any _ (number field) _ (within-range ground_speeds)
-
-speed-range : (field : Bytes) → IfOk (speed field) IsSpeed
-unfolding speed
-speed-range field = IfOk-any _ (number field) _ (within-range speeds)
-
-vertical_speed-range : (field : Bytes) → IfOk (vertical_speed field) IsVerticalSpeed
-unfolding vertical_speed
-vertical_speed-range field = IfOk-any _ (number field) _ (within-range vertical_speeds)
-
-age-range : (field : Bytes) → IfOk (age field) IsAge
-unfolding age
-age-range field = IfOk-any _ (number field) _ (λ n. IfOk-with (IsWithin ages) IsAge (within ages n) _ (within-range ages n) short)
+age-range : (field : Bytes) → IfOk (count_in ages field) IsAge
+unfolding count_in
+age-range field = IfOk-with (IsWithin ages) IsAge (number_in ages field) _ (number_in-range ages field) short
   where
     short : (z : ℤ) → IsWithin ages z → unsigned_abs z ≤ 60
     short z h = omega (arith, ints, h.0, h.1)
 
-line_format-range : (field : Bytes) → IfOk (line_format field) IsFormat
-unfolding line_format
-line_format-range field = IfOk-any _ (number field) _ (λ n. IfOk-with (IsWithin formats) IsFormat (within formats n) _ (within-range formats n) known)
+format-range : (field : Bytes) → IfOk (count_in formats field) IsFormat
+unfolding count_in
+format-range field = IfOk-with (IsWithin formats) IsFormat (number_in formats field) _ (number_in-range formats field) known
   where
     known : (z : ℤ) → IsWithin formats z → IsFormat (unsigned_abs z)
     known z h = (omega (arith, ints, h.0, h.1), omega (arith, ints, h.0, h.1))
@@ -74,30 +54,30 @@ identifier-is field = go (is_id field) refl
 ownship-range : (x y alt trk gs vs : Bytes) → IfOk (ownship x y alt trk gs vs) IsOwnInRange
 unfolding ownship
 ownship-range x y alt trk gs vs =
-    IfOk-with IsPosition IsOwnInRange (position x) _ (position-range x) (λ x in_x.
-    IfOk-with IsPosition IsOwnInRange (position y) _ (position-range y) (λ y in_y.
-    IfOk-with IsAltitude IsOwnInRange (altitude alt) _ (altitude-range alt) (λ alt in_alt.
-    IfOk-with IsTrack IsOwnInRange (track trk) _ (track-range trk) (λ trk in_trk.
-    IfOk-with IsGroundSpeed IsOwnInRange (ground_speed gs) _ (ground_speed-range gs) (λ gs in_gs.
-    IfOk-with IsVerticalSpeed IsOwnInRange (vertical_speed vs) _ (vertical_speed-range vs) (λ vs in_vs.
+    IfOk-with IsPosition IsOwnInRange (number_in positions x) _ (number_in-range positions x) (λ x in_x.
+    IfOk-with IsPosition IsOwnInRange (number_in positions y) _ (number_in-range positions y) (λ y in_y.
+    IfOk-with IsAltitude IsOwnInRange (number_in altitudes alt) _ (number_in-range altitudes alt) (λ alt in_alt.
+    IfOk-with IsTrack IsOwnInRange (number_in tracks trk) _ (number_in-range tracks trk) (λ trk in_trk.
+    IfOk-with IsGroundSpeed IsOwnInRange (number_in ground_speeds gs) _ (number_in-range ground_speeds gs) (λ gs in_gs.
+    IfOk-with IsVerticalSpeed IsOwnInRange (number_in vertical_speeds vs) _ (number_in-range vertical_speeds vs) (λ vs in_vs.
     record { x = in_x; y = in_y; alt = in_alt; trk = in_trk; gs = in_gs; vs = in_vs }))))))
 
 aircraft-range : (id x y alt vx vy vs : Bytes) → IfOk (aircraft id x y alt vx vy vs) IsTrafficInRange
 unfolding aircraft
 aircraft-range id x y alt vx vy vs =
     IfOk-with _ IsTrafficInRange (identifier id) _ (identifier-is id) (λ id in_id.
-    IfOk-with IsPosition IsTrafficInRange (position x) _ (position-range x) (λ x in_x.
-    IfOk-with IsPosition IsTrafficInRange (position y) _ (position-range y) (λ y in_y.
-    IfOk-with IsAltitude IsTrafficInRange (altitude alt) _ (altitude-range alt) (λ alt in_alt.
-    IfOk-with IsSpeed IsTrafficInRange (speed vx) _ (speed-range vx) (λ vx in_vx.
-    IfOk-with IsSpeed IsTrafficInRange (speed vy) _ (speed-range vy) (λ vy in_vy.
-    IfOk-with IsVerticalSpeed IsTrafficInRange (vertical_speed vs) _ (vertical_speed-range vs) (λ vs in_vs.
+    IfOk-with IsPosition IsTrafficInRange (number_in positions x) _ (number_in-range positions x) (λ x in_x.
+    IfOk-with IsPosition IsTrafficInRange (number_in positions y) _ (number_in-range positions y) (λ y in_y.
+    IfOk-with IsAltitude IsTrafficInRange (number_in altitudes alt) _ (number_in-range altitudes alt) (λ alt in_alt.
+    IfOk-with IsSpeed IsTrafficInRange (number_in speeds vx) _ (number_in-range speeds vx) (λ vx in_vx.
+    IfOk-with IsSpeed IsTrafficInRange (number_in speeds vy) _ (number_in-range speeds vy) (λ vy in_vy.
+    IfOk-with IsVerticalSpeed IsTrafficInRange (number_in vertical_speeds vs) _ (number_in-range vertical_speeds vs) (λ vs in_vs.
     record { id = in_id; x = in_x; y = in_y; alt = in_alt; vx = in_vx; vy = in_vy; vs = in_vs; age = omega arith })))))))
 
 moment_of-range : (fields : List Bytes) → IfOk (moment_of fields) IsWordInRange
 unfolding moment_of
 moment_of-range [] = tt
-moment_of-range (a ∷ []) = IfOk-any _ (seconds a) _ (λ time. tt)
+moment_of-range (a ∷ []) = IfOk-any _ (count_in times a) _ (λ time. tt)
 moment_of-range (a ∷ b ∷ fields) = tt
 
 own_of-range : (fields : List Bytes) → IfOk (own_of fields) IsWordInRange
@@ -114,14 +94,14 @@ aged_traffic_of-range : (fields : List Bytes) → IfOk (aged_traffic_of fields) 
 unfolding aged_traffic_of
 aged_traffic_of-range (a ∷ b ∷ c ∷ d ∷ e ∷ f ∷ g ∷ s ∷ []) =
     IfOk-with IsTrafficInRange _ (aircraft a b c d e f g) _ (aircraft-range a b c d e f g) (λ traffic h.
-    IfOk-with IsAge _ (age s) _ (age-range s) (λ seconds k.
+    IfOk-with IsAge _ (count_in ages s) _ (age-range s) (λ seconds k.
     record { id = h.id; x = h.x; y = h.y; alt = h.alt; vx = h.vx; vy = h.vy; vs = h.vs; age = k }))
 aged_traffic_of-range _ = tt
 
 format_of-range : (fields : List Bytes) → IfOk (format_of fields) IsWordInRange
 unfolding format_of
 format_of-range [] = tt
-format_of-range (a ∷ []) = IfOk-with IsFormat _ (line_format a) _ (line_format-range a) (λ format h. h)
+format_of-range (a ∷ []) = IfOk-with IsFormat _ (count_in formats a) _ (format-range a) (λ format h. h)
 format_of-range (a ∷ b ∷ fields) = tt
 
 end_of-range : (fields : List Bytes) → IfOk (end_of fields) IsWordInRange

@@ -1,6 +1,6 @@
 -- Which number of a state is out of its range, and which aircraft make no picture.
 use Rattle.std.specs.Prelude.{◌≡◌, ◌<◌, ℕ, ℤ, pos, true, false, Bool, ◌&&◌, int_le, List, [], ◌∷◌, length, take, slice_get, Option, Some, None, if◌then◌else◌}
-use Rattle.daa_state.specs.InRange.{IsOwnInRange, IsTrafficInRange}
+use Rattle.daa_state.specs.InRange.{IsTrafficInRange}
 use Rattle.daa_state.specs.MomentStep.{has_id}
 use Rattle.daa_state.specs.Ranges.{Range, positions, altitudes, tracks, ground_speeds, speeds, vertical_speeds, ages}
 use Rattle.daa_state.specs.declared.checked.Field.{Field}

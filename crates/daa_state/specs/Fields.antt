@@ -2,6 +2,7 @@
 use Rattle.std.specs.Prelude.{ℕ, Bool, true, false, List, [], ◌∷◌, ◌==◌, ◌||◌, filter}
 use Rattle.std.specs.List.{slice_split}
 
+-- bytes, as numbers
 abbrev pub Bytes : Type 0
 Bytes = List ℕ
 
@@ -9,6 +10,7 @@ Bytes = List ℕ
 abbrev pub is_blank : ℕ → Bool
 is_blank byte = byte == 32 || byte == 9
 
+-- a stretch that is not empty
 abbrev pub is_filled : Bytes → Bool
 is_filled [] = false
 is_filled (byte ∷ bytes) = true

@@ -1,7 +1,7 @@
 -- Words, moments and pictures whose numbers are in range.
-use Rattle.std.specs.Prelude.{ℕ, ◌≡◌, ◌≤◌, ℤ, ◌≤ℤ◌, true, length, All, IfSome}
+use Rattle.std.specs.Prelude.{ℕ, ◌≡◌, ◌≤◌, ℤ, ◌≤ℤ◌, unsigned_abs, true, length, All, IfSome}
 use Rattle.daa_state.specs.Id.{is_id}
-use Rattle.daa_state.specs.Ranges.{Range, positions, altitudes, tracks, ground_speeds, speeds, vertical_speeds, greatest_age, first_format, last_format}
+use Rattle.daa_state.specs.Ranges.{Range, positions, altitudes, tracks, ground_speeds, speeds, vertical_speeds, ages, formats}
 use Rattle.daa_state.specs.Picture.{aircraft_of}
 use Rattle.daa_state.specs.declared.word.Own.{Own}
 use Rattle.daa_state.specs.declared.word.Traffic.{Traffic}
@@ -33,11 +33,11 @@ IsVerticalSpeed = IsWithin vertical_speeds
 
 -- how many seconds old a report is
 abbrev pub IsAge : ℕ → Type 0
-IsAge n = n ≤ greatest_age
+IsAge n = n ≤ unsigned_abs ages.high
 
 -- the format of the lines
 abbrev pub IsFormat : ℕ → Type 0
-IsFormat n = (first_format ≤ n) × (n ≤ last_format)
+IsFormat n = (unsigned_abs formats.low ≤ n) × (n ≤ unsigned_abs formats.high)
 
 pub record IsOwnInRange (own : Own) : Type 0 where
   pub x : IsPosition own.x

@@ -26,9 +26,11 @@ pub record Stepped : Type 0 where
   pub state : State
   pub picture : Option Picture
 
+-- these two as one
 abbrev pub stepped : State → Option Picture → Stepped
 stepped state picture = record { state = state; picture = picture }
 
+-- a moment of this time, without an ownship and aircraft
 abbrev pub empty_moment : ℕ → Moment
 empty_moment time = record { time = time; own = None; traffic = record { items = [] } }
 

@@ -5,13 +5,14 @@ use Rattle.std.specs.Char.{is_ascii_digit}
 use Rattle.std.specs.Int.Digits.{number_from_digits}
 use Rattle.daa_state.specs.Fault.{Checked, ◌>>=◌}
 use Rattle.daa_state.specs.Fields.{Bytes}
-use Rattle.daa_state.specs.Ranges.{Range, positions, altitudes, tracks, ground_speeds, speeds, vertical_speeds, ages, formats, times}
+use Rattle.daa_state.specs.Ranges.{Range}
 use Rattle.daa_state.specs.declared.fault.LineFault.TheVariants.{BadNumber, OutOfRange}
 
 -- a plus or a minus
 abbrev pub is_sign : ℕ → Bool
 is_sign byte = byte == 43 || byte == 45
 
+-- whether a minus is in front
 abbrev pub has_minus : Bytes → Bool
 has_minus [] = false
 has_minus (byte ∷ bytes) = byte == 45
@@ -29,6 +30,7 @@ are_digits digits = nat_le 1 (length digits) && nat_le (length digits) 10 && lis
 abbrev pub size_of_digits : Bytes → ℕ
 size_of_digits digits = number_from_digits 10 (map (λ digit. digit - 48) digits)
 
+-- the number of this size, below 0 where there is a minus
 abbrev pub signed_number : Bool → ℕ → ℤ
 signed_number true size = neg_ℤ (pos size)
 signed_number false size = pos size
@@ -44,51 +46,14 @@ number field =
 abbrev pub within : Range → ℤ → Checked ℤ
 within range n = if int_le range.low n && int_le n range.high then Ok n else Err OutOfRange
 
--- each number of a line: first its spelling, then its range
-unfoldable pub position : Bytes → Checked ℤ
-position field = do
+-- the number of a range that a field spells: first its spelling is looked at, then its range
+unfoldable pub number_in : Range → Bytes → Checked ℤ
+number_in range field = do
   n ← number field
-  within positions n
+  within range n
 
-unfoldable pub altitude : Bytes → Checked ℤ
-altitude field = do
-  n ← number field
-  within altitudes n
-
-unfoldable pub track : Bytes → Checked ℤ
-track field = do
-  n ← number field
-  within tracks n
-
-unfoldable pub ground_speed : Bytes → Checked ℤ
-ground_speed field = do
-  n ← number field
-  within ground_speeds n
-
-unfoldable pub speed : Bytes → Checked ℤ
-speed field = do
-  n ← number field
-  within speeds n
-
-unfoldable pub vertical_speed : Bytes → Checked ℤ
-vertical_speed field = do
-  n ← number field
-  within vertical_speeds n
-
-unfoldable pub age : Bytes → Checked ℕ
-age field = do
-  n ← number field
-  age ← within ages n
-  Ok (unsigned_abs age)
-
-unfoldable pub line_format : Bytes → Checked ℕ
-line_format field = do
-  n ← number field
-  format ← within formats n
-  Ok (unsigned_abs format)
-
-unfoldable pub seconds : Bytes → Checked ℕ
-seconds field = do
-  n ← number field
-  time ← within times n
-  Ok (unsigned_abs time)
+-- the same, of a range without numbers below 0
+unfoldable pub count_in : Range → Bytes → Checked ℕ
+count_in range field = do
+  n ← number_in range field
+  Ok (unsigned_abs n)

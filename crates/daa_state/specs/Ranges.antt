@@ -1,6 +1,7 @@
 -- The ranges of the numbers of state lines. Both ends belong to a range.
-use Rattle.std.specs.Prelude.{ℕ, ℤ, pos, neg_ℤ}
+use Rattle.std.specs.Prelude.{ℤ, pos, neg_ℤ}
 
+-- the numbers from low to high
 pub record Range : Type 0 where
   pub low : ℤ
   pub high : ℤ
@@ -29,23 +30,13 @@ speeds = record { low = neg_ℤ (pos 10000); high = pos 10000 }
 abbrev pub vertical_speeds : Range
 vertical_speeds = record { low = neg_ℤ (pos 10000); high = pos 10000 }
 
--- how many seconds old a report is at most
-abbrev pub greatest_age : ℕ
-greatest_age = 60
-
 -- how many seconds old a report is
 abbrev pub ages : Range
-ages = record { low = pos 0; high = pos greatest_age }
+ages = record { low = pos 0; high = pos 60 }
 
--- the formats of the lines, from the first to the last
-abbrev pub first_format : ℕ
-first_format = 1
-
-abbrev pub last_format : ℕ
-last_format = 2
-
+-- the formats of the lines
 abbrev pub formats : Range
-formats = record { low = pos first_format; high = pos last_format }
+formats = record { low = pos 1; high = pos 2 }
 
 -- the times of moments, in seconds
 abbrev pub times : Range

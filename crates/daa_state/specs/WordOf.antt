@@ -5,32 +5,34 @@ use Rattle.std.specs.Str.Lines.{strip_carriage_return}
 use Rattle.daa_state.specs.Fault.{Checked, ◌>>=◌}
 use Rattle.daa_state.specs.Fields.{Bytes, fields_of}
 use Rattle.daa_state.specs.Id.{is_id}
-use Rattle.daa_state.specs.Number.{position, altitude, track, ground_speed, speed, vertical_speed, age, line_format, seconds}
+use Rattle.daa_state.specs.Number.{number_in, count_in}
+use Rattle.daa_state.specs.Ranges.{positions, altitudes, tracks, ground_speeds, speeds, vertical_speeds, ages, formats, times}
 use Rattle.daa_state.specs.declared.word.Word.{Word}
 use Rattle.daa_state.specs.declared.word.Word.TheVariants as says
 use Rattle.daa_state.specs.declared.word.Own.{Own}
 use Rattle.daa_state.specs.declared.word.Traffic.{Traffic}
 use Rattle.daa_state.specs.declared.fault.LineFault.TheVariants.{LongLine, BadWord, FieldCount, BadId}
 
+-- the identifier that a field is
 unfoldable pub identifier : Bytes → Checked Bytes
 identifier field = if is_id field then Ok field else Err BadId
 
 -- `moment T`
 unfoldable pub moment_of : List Bytes → Checked Word
 moment_of (time ∷ []) = do
-  time ← seconds time
+  time ← count_in times time
   Ok (says.Moment time)
 moment_of _ = Err FieldCount
 
 -- the ownship of the fields `X Y ALT TRK GS VS`
 unfoldable pub ownship : (x y alt trk gs vs : Bytes) → Checked Own
 ownship x y alt trk gs vs = do
-  x ← position x
-  y ← position y
-  alt ← altitude alt
-  trk ← track trk
-  gs ← ground_speed gs
-  vs ← vertical_speed vs
+  x ← number_in positions x
+  y ← number_in positions y
+  alt ← number_in altitudes alt
+  trk ← number_in tracks trk
+  gs ← number_in ground_speeds gs
+  vs ← number_in vertical_speeds vs
   Ok (record { x = x; y = y; alt = alt; trk = trk; gs = gs; vs = vs })
 
 -- `own X Y ALT TRK GS VS`
@@ -44,12 +46,12 @@ own_of _ = Err FieldCount
 unfoldable pub aircraft : (id x y alt vx vy vs : Bytes) → Checked Traffic
 aircraft id x y alt vx vy vs = do
   id ← identifier id
-  x ← position x
-  y ← position y
-  alt ← altitude alt
-  vx ← speed vx
-  vy ← speed vy
-  vs ← vertical_speed vs
+  x ← number_in positions x
+  y ← number_in positions y
+  alt ← number_in altitudes alt
+  vx ← number_in speeds vx
+  vy ← number_in speeds vy
+  vs ← number_in vertical_speeds vs
   Ok (record { id = id; x = x; y = y; alt = alt; vx = vx; vy = vy; vs = vs; age = 0 })
 
 -- `traffic ID X Y ALT VX VY VS`, of format 1
@@ -63,14 +65,14 @@ traffic_of _ = Err FieldCount
 unfoldable pub aged_traffic_of : List Bytes → Checked Word
 aged_traffic_of (id ∷ x ∷ y ∷ alt ∷ vx ∷ vy ∷ vs ∷ seconds ∷ []) = do
   traffic ← aircraft id x y alt vx vy vs
-  seconds ← age seconds
+  seconds ← count_in ages seconds
   Ok (says.Traffic (record traffic { age = seconds }))
 aged_traffic_of _ = Err FieldCount
 
 -- `format N`
 unfoldable pub format_of : List Bytes → Checked Word
 format_of (format ∷ []) = do
-  format ← line_format format
+  format ← count_in formats format
   Ok (says.Format format)
 format_of _ = Err FieldCount
 

@@ -4,7 +4,8 @@ ghost use Rattle.std.specs.Prelude.{◌≡◌, ◌≤◌, ◌<◌, ◌^◌, leng
 ghost use Rattle.std.specs.Option.{SomeIff};
 ghost use Rattle.std.specs.List.{list_all};
 ghost use Rattle.std.specs.Char.{is_ascii_digit};
-ghost use Rattle.daa_state.specs.Number.{has_minus, digits_of_field, size_of_digits, are_digits, number, position, altitude, track, ground_speed, speed, vertical_speed, age, line_format, seconds};
+ghost use Rattle.daa_state.specs.Number.{has_minus, digits_of_field, size_of_digits, are_digits, number, number_in, count_in};
+ghost use Rattle.daa_state.specs.Ranges.{positions, altitudes, tracks, ground_speeds, speeds, vertical_speeds, ages, formats, times};
 ghost use Rattle.daa_state.specs.InRange.{IsPosition, IsAltitude, IsTrack, IsGroundSpeed, IsSpeed, IsVerticalSpeed, IsAge, IsFormat};
 
 use crate::fault::LineFault;
@@ -69,9 +70,9 @@ fn digits_value(digits: &[u8]) -> Option<u64>
 }
 
 /// A place east or north, in thousandths of a nautical mile.
-#[tactic(auto, unfolding(crate::specs::Number::position))]
+#[tactic(auto, unfolding(crate::specs::Number::number_in))]
 pub(crate) fn position(field: &[u8]) -> Result<i32, LineFault>
-    ensures value { result ≡ position field.now }
+    ensures value { result ≡ number_in positions field.now }
     ensures range { IfOk result IsPosition }
 {
     match number(field)? {
@@ -81,9 +82,9 @@ pub(crate) fn position(field: &[u8]) -> Result<i32, LineFault>
 }
 
 /// Feet.
-#[tactic(auto, unfolding(crate::specs::Number::altitude))]
+#[tactic(auto, unfolding(crate::specs::Number::number_in))]
 pub(crate) fn altitude(field: &[u8]) -> Result<i32, LineFault>
-    ensures value { result ≡ altitude field.now }
+    ensures value { result ≡ number_in altitudes field.now }
     ensures range { IfOk result IsAltitude }
 {
     match number(field)? {
@@ -93,9 +94,9 @@ pub(crate) fn altitude(field: &[u8]) -> Result<i32, LineFault>
 }
 
 /// Degrees clockwise from north.
-#[tactic(auto, unfolding(crate::specs::Number::track))]
+#[tactic(auto, unfolding(crate::specs::Number::number_in))]
 pub(crate) fn track(field: &[u8]) -> Result<i32, LineFault>
-    ensures value { result ≡ track field.now }
+    ensures value { result ≡ number_in tracks field.now }
     ensures range { IfOk result IsTrack }
 {
     match number(field)? {
@@ -105,9 +106,9 @@ pub(crate) fn track(field: &[u8]) -> Result<i32, LineFault>
 }
 
 /// Tenths of a knot.
-#[tactic(auto, unfolding(crate::specs::Number::ground_speed))]
+#[tactic(auto, unfolding(crate::specs::Number::number_in))]
 pub(crate) fn ground_speed(field: &[u8]) -> Result<i32, LineFault>
-    ensures value { result ≡ ground_speed field.now }
+    ensures value { result ≡ number_in ground_speeds field.now }
     ensures range { IfOk result IsGroundSpeed }
 {
     match number(field)? {
@@ -117,9 +118,9 @@ pub(crate) fn ground_speed(field: &[u8]) -> Result<i32, LineFault>
 }
 
 /// A speed east or north, in tenths of a knot.
-#[tactic(auto, unfolding(crate::specs::Number::speed))]
+#[tactic(auto, unfolding(crate::specs::Number::number_in))]
 pub(crate) fn speed(field: &[u8]) -> Result<i32, LineFault>
-    ensures value { result ≡ speed field.now }
+    ensures value { result ≡ number_in speeds field.now }
     ensures range { IfOk result IsSpeed }
 {
     match number(field)? {
@@ -129,9 +130,9 @@ pub(crate) fn speed(field: &[u8]) -> Result<i32, LineFault>
 }
 
 /// Feet per minute.
-#[tactic(auto, unfolding(crate::specs::Number::vertical_speed))]
+#[tactic(auto, unfolding(crate::specs::Number::number_in))]
 pub(crate) fn vertical_speed(field: &[u8]) -> Result<i32, LineFault>
-    ensures value { result ≡ vertical_speed field.now }
+    ensures value { result ≡ number_in vertical_speeds field.now }
     ensures range { IfOk result IsVerticalSpeed }
 {
     match number(field)? {
@@ -141,9 +142,9 @@ pub(crate) fn vertical_speed(field: &[u8]) -> Result<i32, LineFault>
 }
 
 /// How many seconds old a report is.
-#[tactic(auto, unfolding(crate::specs::Number::age))]
+#[tactic(auto, unfolding(crate::specs::Number::count_in, crate::specs::Number::number_in))]
 pub(crate) fn age(field: &[u8]) -> Result<u32, LineFault>
-    ensures value { result ≡ age field.now }
+    ensures value { result ≡ count_in ages field.now }
     ensures range { IfOk result IsAge }
 {
     match number(field)? {
@@ -153,9 +154,9 @@ pub(crate) fn age(field: &[u8]) -> Result<u32, LineFault>
 }
 
 /// A format of the lines.
-#[tactic(auto, unfolding(crate::specs::Number::line_format))]
+#[tactic(auto, unfolding(crate::specs::Number::count_in, crate::specs::Number::number_in))]
 pub(crate) fn line_format(field: &[u8]) -> Result<u32, LineFault>
-    ensures value { result ≡ line_format field.now }
+    ensures value { result ≡ count_in formats field.now }
     ensures range { IfOk result IsFormat }
 {
     match number(field)? {
@@ -165,9 +166,9 @@ pub(crate) fn line_format(field: &[u8]) -> Result<u32, LineFault>
 }
 
 /// The time of a moment, in seconds.
-#[tactic(auto, unfolding(crate::specs::Number::seconds))]
+#[tactic(auto, unfolding(crate::specs::Number::count_in, crate::specs::Number::number_in))]
 pub(crate) fn seconds(field: &[u8]) -> Result<u32, LineFault>
-    ensures { result ≡ seconds field.now }
+    ensures { result ≡ count_in times field.now }
 {
     match number(field)? {
         n @ 0..=4_294_967_295 => Ok(n as u32),

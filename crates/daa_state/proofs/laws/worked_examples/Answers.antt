@@ -1,15 +1,15 @@
 use Rattle.std.proofs.Common.{refl}
-use Rattle.daa_state.specs.Number.{age, number, position, altitude, track, ground_speed, speed, vertical_speed}
+use Rattle.daa_state.specs.Number.{number, number_in, count_in}
 use Rattle.daa_state.specs.WordOf.{word_of, word_of_fields, word_of_name, own_of, ownship, traffic_of, aged_traffic_of, aircraft, identifier}
 use Rattle.daa_state.specs.MomentStep.{step, begun_moment}
 use Rattle.daa_state.proofs.laws.worked_examples.Goals as goal
 
 pub returns-clause-signs_and_zeros : goal.returns-clause-signs_and_zeros
-unfolding word_of word_of_fields word_of_name own_of ownship number position altitude track ground_speed vertical_speed
+unfolding word_of word_of_fields word_of_name own_of ownship number number_in
 returns-clause-signs_and_zeros c = refl
 
 pub returns-clause-blanks_and_age : goal.returns-clause-blanks_and_age
-unfolding word_of word_of_fields word_of_name aged_traffic_of aircraft identifier number position altitude speed vertical_speed age
+unfolding word_of word_of_fields word_of_name aged_traffic_of aircraft identifier number number_in count_in
 returns-clause-blanks_and_age c = refl
 
 pub returns-clause-longest_comment : goal.returns-clause-longest_comment
@@ -33,7 +33,7 @@ unfolding word_of word_of_fields word_of_name own_of
 returns-clause-two_fields c = refl
 
 pub returns-clause-spelling_first : goal.returns-clause-spelling_first
-unfolding word_of word_of_fields word_of_name own_of ownship number position altitude track
+unfolding word_of word_of_fields word_of_name own_of ownship number number_in
 returns-clause-spelling_first c = refl
 
 pub returns-clause-nine_bytes : goal.returns-clause-nine_bytes
@@ -41,7 +41,7 @@ unfolding word_of word_of_fields word_of_name traffic_of aircraft identifier
 returns-clause-nine_bytes c = refl
 
 pub returns-clause-range_first : goal.returns-clause-range_first
-unfolding word_of word_of_fields word_of_name own_of ownship number position altitude track
+unfolding word_of word_of_fields word_of_name own_of ownship number number_in
 returns-clause-range_first c = refl
 
 pub returns-clause-open_first : goal.returns-clause-open_first

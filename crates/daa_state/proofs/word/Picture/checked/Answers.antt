@@ -1,6 +1,4 @@
-use Rattle.std.proofs.Common.{ℕ, ◌≡◌, ◌≤◌, List, length, ap, subst, sym, ◌∙◌, arith}
-use Rattle.std.specs.Prelude.{All}
-use Rattle.daa_state.specs.InRange.{IsTrafficInRange}
+use Rattle.std.proofs.Common.{◌≡◌, ◌≤◌, List, length, subst, sym, arith}
 use Rattle.daa_state.specs.declared.word.Traffic.{Traffic}
 use Rattle.daa_state.proofs.TakenLemmas.{below-more, taken-range, next_aircraft, whole, taken_whole}
 use Rattle.daa_state.proofs.word.Picture.checked.Goals as goal
