@@ -7,27 +7,26 @@ use Rattle.daa_config.specs.declared.kind.Kind.TheVariants.{Track, Speed, Climb,
 use Rattle.daa_config.specs.declared.candidate.Resolution.{Resolution}
 use Rattle.daa_config.specs.declared.candidate.Resolution.TheVariants.{Keep, To, Nothing}
 
+-- bytes, as numbers
 abbrev pub Text : Type 0
 Text = List ℕ
 
--- what a kind is called, and its lower and upper side
+-- what a kind is called
 abbrev pub kind_word : Kind → Text
 kind_word Track = codes "track"
 kind_word Speed = codes "gs"
 kind_word Climb = codes "vs"
 kind_word Height = codes "alt"
 
+-- what its lower side is called
 abbrev pub lower_word : Kind → Text
 lower_word Track = codes "left"
-lower_word Speed = codes "down"
-lower_word Climb = codes "down"
-lower_word Height = codes "down"
+lower_word _ = codes "down"
 
+-- what its upper side is called
 abbrev pub upper_word : Kind → Text
 upper_word Track = codes "right"
-upper_word Speed = codes "up"
-upper_word Climb = codes "up"
-upper_word Height = codes "up"
+upper_word _ = codes "up"
 
 -- a dash where there is no leg
 abbrev pub first_text : Option ℕ → Text
@@ -40,15 +39,19 @@ answer_text Keep = codes "keep"
 answer_text (To value) = signed_decimal value
 answer_text Nothing = codes "none"
 
+-- the line of this number was refused, with this code
 unfoldable pub refused_line : ℕ → ℕ → Text
 refused_line number code = codes "refused " ++ decimal number ++ codes " " ++ decimal code ++ codes "\n"
 
+-- the first line of a moment, with its time
 unfoldable pub moment_line : ℕ → Text
 moment_line time = codes "moment " ++ decimal time ++ codes "\n"
 
+-- the level that an aircraft violates now
 unfoldable pub now_line : Text → ℕ → Text
 now_line id level = codes "now " ++ id ++ codes " " ++ decimal level ++ codes "\n"
 
+-- the level at which an aircraft alerts, and the first leg on which it does
 unfoldable pub alert_line : Text → ℕ → Option ℕ → Text
 alert_line id level first = codes "alert " ++ id ++ codes " " ++ decimal level ++ codes " " ++ first_text first ++ codes "\n"
 
@@ -80,15 +83,18 @@ found_text (Some found) = number_field found.0 ++ (codes " " ++ signed_decimal f
 unfoldable pub recover_line : Kind → Option (ℕ × ℤ) → Text
 recover_line kind found = codes "recover" ++ codes " " ++ kind_word kind ++ found_text found ++ codes "\n"
 
+-- the last line of a moment, with its time
 unfoldable pub done_line : ℕ → Text
 done_line time = codes "done " ++ decimal time ++ codes "\n"
 
+-- the configuration was refused, with this code
 unfoldable pub config_line : ℕ → Text
 config_line code = codes "config " ++ decimal code ++ codes "\n"
 
--- of a report that was compared: it is the right one, or the first line of it that is not is the one of this number
+-- a report that was compared is the right one
 unfoldable pub same_line : Text
 same_line = codes "same\n"
 
+-- the first of its lines that is not the right one has this number
 unfoldable pub differs_line : ℕ → Text
 differs_line number = codes "differs " ++ decimal number ++ codes "\n"

@@ -23,9 +23,7 @@ way_of Lower now value = now -ℤ value
 -- how far a value is on a side; on track it is the angle of turning right, or for Lower, left, from 0 to 359 degrees
 abbrev pub distance_of : Kind → Side → ℤ → ℤ → ℤ
 distance_of Track side now value = int_rem_euclid (way_of side now value) (pos full_turn)
-distance_of Speed side now value = way_of side now value
-distance_of Climb side now value = way_of side now value
-distance_of Height side now value = way_of side now value
+distance_of _ side now value = way_of side now value
 
 -- on track, right turns by 1 to 180 degrees and left by 0 to 179
 abbrev pub IsTurn : Side → ℤ → Type 0
@@ -40,6 +38,4 @@ IsBeyond Lower now value = value ≤ℤ now
 -- a value is on a side of the present one
 abbrev pub IsOnSide : Kind → Side → ℤ → ℤ → Type 0
 IsOnSide Track side now value = IsTurn side (distance_of Track side now value)
-IsOnSide Speed side now value = IsBeyond side now value
-IsOnSide Climb side now value = IsBeyond side now value
-IsOnSide Height side now value = IsBeyond side now value
+IsOnSide _ side now value = IsBeyond side now value
