@@ -47,6 +47,7 @@ candidate_to Speed g = ToSpeed g
 candidate_to Climb w = ToClimb w
 candidate_to Height a = ToHeight a
 
+-- the candidates that go to the values of a kind
 unfoldable pub candidates_to : Kind → Settings → List Candidate
 candidates_to kind s = map (candidate_to kind) (values_of kind s)
 

@@ -30,6 +30,7 @@ pub record Written : Type 0 where
 unfoldable pub document : Text → Option Members
 document text = if is_utf8 text then parse_document text else None
 
+-- that document, unless the text is too long or is none
 unfoldable pub document_of : Text → Result Members ConfigFault
 document_of text =
     if nat_lt longest_text (length text) then Err TooLong
@@ -41,12 +42,14 @@ numbers_written ms = option_and_then (λ numbers.
     option_and_then (λ recovery.
     option_and_then (λ levels. Some (record { numbers = numbers; recovery = recovery; levels = levels })) (levels_in ms)) (recovery_in ms)) (numbers_in ms)
 
+-- these numbers, unless a table has a key too many or too few, or a place holds something else
 unfoldable pub written_of : Members → Result Written ConfigFault
 written_of ms =
     if any_table has_other_key ms then Err UnknownKey
     else if any_table lacks_key ms then Err MissingKey
     else option_map_or (λ w. Ok w) (numbers_written ms) (Err NotNumber)
 
+-- the configuration of these numbers, unless one is out of its range or there are too many
 unfoldable pub settings_of : Written → Result Settings ConfigFault
 settings_of w =
     if not (numbers_fit w.numbers && (recovery_fits w.recovery && list_all level_fits w.levels)) then Err OutOfRange
@@ -54,6 +57,7 @@ settings_of w =
     else if has_too_many w.numbers then Err TooMany
     else Ok (record { numbers = w.numbers; recovery = option_map cylinder_of w.recovery; levels = map level_of w.levels })
 
+-- the configuration that the text is, unless one of these faults applies; then the first one
 unfoldable pub config_of : Text → Result Settings ConfigFault
 config_of text = do
   ms ← document_of text

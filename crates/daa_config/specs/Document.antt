@@ -1,5 +1,5 @@
 -- The numbers that stand in a document.
-use Rattle.std.specs.Prelude.{ℤ, pos, List, [], ◌∷◌, Option, Some, None, option_and_then, codes}
+use Rattle.std.specs.Prelude.{ℤ, pos, List, [], ◌∷◌, Option, Some, None, option_map, option_and_then, codes}
 use Rattle.std.specs.Option.{option_map_or}
 use Rattle.toml.specs.Data.{Members, get_member, as_integer, as_table, Items, no_items, item}
 use Rattle.daa_config.specs.declared.numbers.Grid.{Grid}
@@ -8,17 +8,15 @@ use Rattle.daa_config.specs.declared.numbers.LevelNumbers.{LevelNumbers}
 use Rattle.daa_config.specs.declared.numbers.RecoveryNumbers.{RecoveryNumbers}
 use Rattle.daa_config.specs.Keys.{Text, table_in, list_in}
 
+-- what comes next is done with what is there; where there is nothing, that is all
 infixl 10 ◌>>=◌
 abbrev pub ◌>>=◌ : {A B : Type 0} → Option A → (A → Option B) → Option B
 o >>= f = option_and_then f o
 
--- the whole number at a key; a float, a date or a truth value is none
+-- the whole number at a key; a float, a date or a truth value is none. Where no key that must be there is missing, only `tcpa`
+-- may be: then it is 0
 abbrev pub number_at : Text → Members → Option ℤ
-number_at key ms = option_and_then as_integer (get_member key ms)
-
--- the whole number at a key, 0 where the key is missing
-abbrev pub number_or_zero : Text → Members → Option ℤ
-number_or_zero key ms = option_map_or as_integer (get_member key ms) (Some (pos 0))
+number_at key ms = option_map_or as_integer (get_member key ms) (Some (pos 0))
 
 -- the numbers of a kind's table, where each place holds a whole number
 unfoldable pub grid_in : Members → Option Grid
@@ -42,10 +40,8 @@ cylinder_in ms = do
 
 -- the same, where there is such a table; a document without one has none
 unfoldable pub recovery_in : Members → Option (Option RecoveryNumbers)
-recovery_in ms = option_map_or (λ found. do
-  table ← as_table found
-  cylinder ← cylinder_in table
-  Some (Some cylinder)) (get_member (codes "recovery") ms) (Some None)
+recovery_in ms =
+    option_map_or (λ found. option_map Some (as_table found >>= cylinder_in)) (get_member (codes "recovery") ms) (Some None)
 
 -- the numbers of a level's table
 unfoldable pub level_in : Members → Option LevelNumbers
@@ -56,7 +52,7 @@ level_in ms = do
   tcoa ← number_at (codes "tcoa") ms
   lookahead ← number_at (codes "lookahead") ms
   alert ← number_at (codes "alert") ms
-  tcpa ← number_or_zero (codes "tcpa") ms
+  tcpa ← number_at (codes "tcpa") ms
   Some (record { dthr = dthr; zthr = zthr; tthr = tthr; tcoa = tcoa; lookahead = lookahead; alert = alert; tcpa = tcpa })
 
 -- the numbers of each level, where each member of the list is a table that holds them
@@ -68,6 +64,7 @@ each_level (item d ds) = do
   levels ← each_level ds
   Some (level ∷ levels)
 
+-- the numbers of the levels, where `level` is a list of such tables
 abbrev pub levels_in : Members → Option (List LevelNumbers)
 levels_in ms = option_and_then each_level (list_in (codes "level") ms)
 

@@ -15,6 +15,7 @@ code_of Levels = Some 7
 code_of TooMany = Some 8
 code_of NoMemory = None
 
+-- what comes next is done with the value, if there is one; the first fault stays
 infixl 10 ◌>>=◌
 abbrev pub ◌>>=◌ : {A B : Type 0} → Result A ConfigFault → (A → Result B ConfigFault) → Result B ConfigFault
 (Ok x) >>= f = f x

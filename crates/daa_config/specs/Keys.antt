@@ -5,6 +5,7 @@ use Rattle.std.specs.Str.{bytes_eq}
 use Rattle.std.specs.Option.{option_map_or}
 use Rattle.toml.specs.Data.{Members, no_members, member, get_member, as_table, as_array, Items, no_items, item}
 
+-- bytes, as numbers
 abbrev pub Text : Type 0
 Text = List ℕ
 
@@ -13,19 +14,21 @@ pub record TableKeys : Type 0 where
   pub required : List Text
   pub optional : List Text
 
+-- of the document
 abbrev pub document_keys : TableKeys
 document_keys = record {
   required = codes "resolve" ∷ codes "turn_rate" ∷ codes "track_step" ∷ codes "gs" ∷ codes "vs" ∷ codes "alt" ∷ codes "level" ∷ [];
   optional = codes "recovery" ∷ [];
 }
 
--- of ground speed, vertical speed and altitude
+-- of the tables of ground speed, vertical speed and altitude
 abbrev pub grid_keys : TableKeys
 grid_keys = record {
   required = codes "min" ∷ codes "max" ∷ codes "step" ∷ codes "rate" ∷ [];
   optional = [];
 }
 
+-- of the table of a level
 abbrev pub level_keys : TableKeys
 level_keys = record {
   required = codes "dthr" ∷ codes "zthr" ∷ codes "tthr" ∷ codes "tcoa" ∷ codes "lookahead" ∷ codes "alert" ∷ [];
@@ -75,6 +78,7 @@ abbrev pub any_item : (Members → Bool) → Items → Bool
 any_item test no_items = false
 any_item test (item d ds) = passes test (as_table d) || any_item test ds
 
+-- the same of the list of levels
 abbrev pub any_level : (Members → Bool) → Members → Bool
 any_level test ms = option_map_or (any_item test) (list_in (codes "level") ms) false
 

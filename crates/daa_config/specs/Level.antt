@@ -7,10 +7,12 @@ use Rattle.daa_config.specs.declared.level.Level.{Level}
 use Rattle.daa_config.specs.declared.numbers.LevelNumbers.{LevelNumbers}
 use Rattle.daa_config.specs.declared.numbers.RecoveryNumbers.{RecoveryNumbers}
 
+-- the model that the number at `tcpa` asks for
 abbrev pub model_of : ℤ → Model
 model_of (pos zero) = Taumod
 model_of _ = Tcpa
 
+-- the well-clear volume of a level
 abbrev pub volume_of : LevelNumbers → Volume
 volume_of n = record {
   dthr = 36 * nat_abs n.dthr;
@@ -30,5 +32,6 @@ cylinder_of n = record {
   model = Taumod;
 }
 
+-- the level of these numbers
 abbrev pub level_of : LevelNumbers → Level
 level_of n = record { volume = volume_of n; lookahead = nat_abs n.lookahead; alert = nat_abs n.alert }

@@ -1,10 +1,11 @@
 -- The table of ranges: which whole numbers a configuration may have, both ends included.
-use Rattle.std.specs.Prelude.{ℕ, ℤ, pos, neg_ℤ}
+use Rattle.std.specs.Prelude.{ℕ, ℤ, pos, neg_ℤ, ◌-ℤ◌}
 use Rattle.daa_config.specs.declared.limits.Bounds.{Bounds}
 use Rattle.daa_config.specs.declared.limits.GridLimits.{GridLimits}
 use Rattle.daa_config.specs.declared.limits.LevelLimits.{LevelLimits}
 use Rattle.daa_config.specs.declared.limits.RecoveryLimits.{RecoveryLimits}
 
+-- the numbers from low to high
 abbrev pub from_to : ℤ → ℤ → Bounds
 from_to low high = record { 0 = low; 1 = high }
 
@@ -12,10 +13,11 @@ from_to low high = record { 0 = low; 1 = high }
 abbrev pub longest_text : ℕ
 longest_text = 65536
 
--- the most levels, and the most candidates of a kind
+-- the most levels
 abbrev pub most_levels : ℕ
 most_levels = 4
 
+-- the most candidates of a kind
 abbrev pub most_values : ℕ
 most_values = 512
 
@@ -35,29 +37,25 @@ turn_rate_bounds = from_to (pos 1) (pos 30)
 abbrev pub track_step_bounds : Bounds
 track_step_bounds = from_to (pos 1) (pos 90)
 
--- ground speed: 0.1 kt, and that per second
-abbrev pub gs_limits : GridLimits
-gs_limits = record {
-  value = from_to (pos 0) (pos 10000);
-  step = from_to (pos 1) (pos 10000);
+-- of a kind whose values are from low to high: a step is at most the way between these
+abbrev pub limits_from_to : ℤ → ℤ → GridLimits
+limits_from_to low high = record {
+  value = from_to low high;
+  step = from_to (pos 1) (high -ℤ low);
   rate = from_to (pos 1) (pos 10000);
 }
+
+-- ground speed: 0.1 kt, and that per second
+abbrev pub gs_limits : GridLimits
+gs_limits = limits_from_to (pos 0) (pos 10000)
 
 -- vertical speed: ft/min, and that per second
 abbrev pub vs_limits : GridLimits
-vs_limits = record {
-  value = from_to (neg_ℤ (pos 10000)) (pos 10000);
-  step = from_to (pos 1) (pos 20000);
-  rate = from_to (pos 1) (pos 10000);
-}
+vs_limits = limits_from_to (neg_ℤ (pos 10000)) (pos 10000)
 
 -- altitude: ft, and its rate in ft/min
 abbrev pub alt_limits : GridLimits
-alt_limits = record {
-  value = from_to (neg_ℤ (pos 2000)) (pos 60000);
-  step = from_to (pos 1) (pos 62000);
-  rate = from_to (pos 1) (pos 10000);
-}
+alt_limits = limits_from_to (neg_ℤ (pos 2000)) (pos 60000)
 
 -- a level: 0.001 NM, ft, and seconds; tcpa is 1 where the time to the closest approach counts
 abbrev pub level_limits : LevelLimits

@@ -3,7 +3,7 @@ ghost use Rattle.std.specs.Prelude.{◌≡◌, option_map, IfOk};
 ghost use Rattle.toml.specs.Data.{get_member};
 ghost use Rattle.toml.specs.View.{table_view, view, array_view, items_view};
 ghost use Rattle.daa_config.specs.Keys.{table_in, list_in};
-ghost use Rattle.daa_config.specs.Document.{number_at, number_or_zero, grid_in, grid_at, cylinder_in, recovery_in, level_in, each_level, levels_in, numbers_in};
+ghost use Rattle.daa_config.specs.Document.{number_at, grid_in, grid_at, cylinder_in, recovery_in, level_in, each_level, levels_in, numbers_in};
 
 use crate::numbers::{Grid, LevelNumbers, Numbers, RecoveryNumbers};
 use std::alloc::{AllocError, Global};
@@ -37,19 +37,10 @@ pub fn list_at<'a>(table: &'a Table, key: &str) -> Option<&'a Array>
     }
 }
 
-/// The whole number at a key, where there is one.
+/// The whole number at a key, 0 where the key is missing: whoever reads has seen by then that no
+/// key that must be there is.
 fn whole_at(table: &Table, key: &str) -> Option<i64>
     ensures { result ≡ number_at key.now (table_view table.now) }
-{
-    match member_at(table, key) {
-        Some(value) => value.as_integer(),
-        None => None,
-    }
-}
-
-/// The whole number at a key, or 0 where the key is missing.
-fn whole_or_zero(table: &Table, key: &str) -> Option<i64>
-    ensures { result ≡ number_or_zero key.now (table_view table.now) }
 {
     match member_at(table, key) {
         Some(value) => value.as_integer(),
@@ -116,7 +107,7 @@ fn level_of(table: &Table) -> Option<LevelNumbers>
         tcoa: whole_at(table, "tcoa")?,
         lookahead: whole_at(table, "lookahead")?,
         alert: whole_at(table, "alert")?,
-        tcpa: whole_or_zero(table, "tcpa")?,
+        tcpa: whole_at(table, "tcpa")?,
     })
 }
 

@@ -26,6 +26,7 @@ own_ground_speeds = record { low = pos 500; high = pos 5000 }
 abbrev pub drawn_vertical_speeds : Range
 drawn_vertical_speeds = record { low = neg_ℤ (pos 2000); high = pos 2000 }
 
+-- how many aircraft a moment has
 abbrev pub aircraft_counts : Range
 aircraft_counts = record { low = pos 0; high = pos 8 }
 
@@ -98,5 +99,6 @@ module _ (output : Outputs) where
   begin_of zero = 0
   begin_of (suc time) = begin_of time + draws_at (begin_of time)
 
+  -- the moment of a time
   abbrev pub moment_of : ℕ → Picture
   moment_of time = moment_at time (begin_of time)

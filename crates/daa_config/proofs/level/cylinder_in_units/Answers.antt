@@ -1,6 +1,5 @@
-use Rattle.std.proofs.Common.{◌≡◌, ◌∙◌, true, Some, Option, sym, ap}
+use Rattle.std.proofs.Common.{◌∙◌, sym, ap}
 use Rattle.daa_config.specs.Numbers.{recovery_fits}
-use Rattle.daa_config.specs.declared.numbers.RecoveryNumbers.{RecoveryNumbers}
 use Rattle.daa_config.proofs.RangeLemmas.{recovery_small}
 use Rattle.daa_config.proofs.level.cylinder_in_units.Goals as goal
 
