@@ -49,18 +49,29 @@ longer_differs mark band [] d = tt
 longer_differs mark band (next ∷ bands) d = d
 
 add : (mark : Mark) (marks : List Mark) (bands : List Band) → AreBands marks bands → AreBands (mark ∷ marks) (with_mark mark bands)
-add mark marks [] h = subst (AreBands (mark ∷ marks)) (sym (with_mark_new mark [] tt)) (mark ∷ [], [], ap (λ (ms : List Mark). mark ∷ ms) h, one mark, tt, refl)
-add mark marks (band ∷ bands) (stretch, rest, e, s, d, r) = go (band.level == mark.1) refl
+add mark marks [] h = subst (AreBands (mark ∷ marks)) (sym (with_mark_new mark [] tt)) (
+  tt,
+  record { first = mark ∷ []; second = []; first_is = one mark; second_is = refl; joined = ap (λ (ms : List Mark). mark ∷ ms) h },
+)
+add mark marks (band ∷ bands) (d, h) = go (band.level == mark.1) refl
   where
     go : (b : Bool) → (band.level == mark.1) ≡ b → AreBands (mark ∷ marks) (with_mark mark (band ∷ bands))
     go true t =
         let l : mark.1 ≡ band.level = grind (arith, nat_tests) in
-        subst (AreBands (mark ∷ marks)) (sym (with_mark_same mark band bands (sym l)))
-        (mark ∷ stretch, rest, ap (λ (ms : List Mark). mark ∷ ms) e, more mark band stretch l s, longer_differs mark band bands d, r)
+        subst (AreBands (mark ∷ marks)) (sym (with_mark_same mark band bands (sym l))) (
+          longer_differs mark band bands d,
+          record {
+            first = mark ∷ h.first;
+            second = h.second;
+            first_is = more mark band h.first l h.first_is;
+            second_is = h.second_is;
+            joined = ap (λ (ms : List Mark). mark ∷ ms) h.joined;
+          },
+        )
     go false t =
         let l : mark.1 ≢ band.level = grind (arith, nat_tests) in
         subst (AreBands (mark ∷ marks)) (sym (with_mark_new mark (band ∷ bands) l))
-        (mark ∷ [], marks, refl, one mark, l, (stretch, rest, e, s, d, r))
+        (l, record { first = mark ∷ []; second = marks; first_is = one mark; second_is = (d, h); joined = refl })
 
 pub found : (marks : List Mark) → AreBands marks (bands_of marks)
 unfolding bands_of
@@ -111,16 +122,18 @@ module _ (mark : Mark) (marks : List Mark) (band : Band) (bands : List Band) (st
   shorter_bands next others f e s d r =
       let t = split (next ∷ others) f e in let l = next_level next others f s in
       let k = last_tail (band.from, band.level) next (band.upto, band.level) others s.last.0 (sym f ∙ s.last.1) in (
-        next ∷ others,
-        rest,
-        t.1,
-        record {
-          first = (others, ap (λ (n : ℕ). (next.0, n) ∷ others) l.0);
-          last = k;
-          level = All-from_recursion (λ (m : Mark). m.1 ≡ band.level) (next ∷ others) l.1;
-        },
         d,
-        r,
+        record {
+          first = next ∷ others;
+          second = rest;
+          first_is = record {
+            first = (others, ap (λ (n : ℕ). (next.0, n) ∷ others) l.0);
+            last = k;
+            level = All-from_recursion (λ (m : Mark). m.1 ≡ band.level) (next ∷ others) l.1;
+          };
+          second_is = r;
+          joined = t.1;
+        },
       )
 
   take_first : (known : List Band) → ((bs : List Band) → AreBands marks bs → bs ≡ known) → mark ∷ marks ≡ stretch ++ rest → IsStretch band stretch
@@ -144,9 +157,12 @@ module _ (mark : Mark) (marks : List Mark) (band : Band) (bands : List Band) (st
 pub only : (marks : List Mark) (bands : List Band) → AreBands marks bands → bands ≡ bands_of marks
 unfolding bands_of
 only [] [] h = refl
-only [] (band ∷ bands) (stretch, rest, e, s, d, r) = let f = s.first.1 in let g : [] ≡ ((band.from, band.level) ∷ s.first.0) ++ rest = subst (λ (ms : List Mark). [] ≡ ms ++ rest) f e in cc
+only [] (band ∷ bands) (d, h) =
+    let s = h.first_is in let f = s.first.1 in
+    let g : [] ≡ ((band.from, band.level) ∷ s.first.0) ++ h.second = subst (λ (ms : List Mark). [] ≡ ms ++ h.second) f h.joined in cc
 only (mark ∷ marks) [] h = cc
-only (mark ∷ marks) (band ∷ bands) (stretch, rest, e, s, d, r) = take_first mark marks band bands stretch rest (bands_of marks) (λ bs k. only marks bs k) e s d r
+only (mark ∷ marks) (band ∷ bands) (d, h) =
+    take_first mark marks band bands h.first h.second (bands_of marks) (λ bs k. only marks bs k) h.joined h.first_is d h.second_is
 
 pub one_list : (marks : List Mark) → HasOne (AreBands marks)
 one_list marks = record { one = bands_of marks; is = found marks; only = λ others h. only marks others h }

@@ -1,6 +1,7 @@
 -- The bands of a list of values, each with its level.
 use Rattle.std.specs.Prelude.{◌≡◌, ◌≢◌, ℕ, ℤ, List, [], ◌∷◌, ◌++◌}
 use Rattle.std.specs.List.{All}
+use Rattle.daa_bands.specs.Parts.{SplitsInto}
 use Rattle.daa_bands.specs.declared.band.Band.{Band}
 
 -- the band from one value up to another, at a level
@@ -26,5 +27,4 @@ DiffersFromFirst band (next ∷ bands) = band.level ≢ next.level
 abbrev pub AreBands : List Mark → List Band → Type 0
 AreBands marks [] = marks ≡ []
 AreBands marks (band ∷ bands) =
-    (stretch : List Mark) × (rest : List Mark) × (marks ≡ stretch ++ rest) × IsStretch band stretch
-    × DiffersFromFirst band bands × AreBands rest bands
+    DiffersFromFirst band bands × SplitsInto (IsStretch band) (λ rest. AreBands rest bands) marks
