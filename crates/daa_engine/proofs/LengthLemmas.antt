@@ -1,5 +1,5 @@
 -- How long the text of a moment can be.
-use Rattle.std.proofs.Common.{◌≡◌, ◌<◌, ◌≤◌, ◌+◌, ◌*◌, ◌^◌, ◌++◌, ◌∙◌, ◌&&◌, ◌⊎◌, ℕ, zero, suc, ℤ, pos, negsuc, ◌≤ℤ◌, Bool, true, false, List, [], ◌∷◌, length, Option, Some, None, option_map, refl, sym, ap, subst, arith, length-append, slice_get}
+use Rattle.std.proofs.Common.{◌≡◌, ◌<◌, ◌≤◌, ◌+◌, ◌*◌, ◌^◌, ◌++◌, ◌∙◌, ℕ, suc, ℤ, pos, negsuc, ◌≤ℤ◌, Bool, true, false, List, [], ◌∷◌, length, Option, Some, None, option_map, refl, sym, ap, subst, arith, length-append, slice_get}
 use Rattle.std.specs.Prelude.{codes, decimal, slice_index, MatchOption}
 use Rattle.std.specs.Option.{unwrap_or}
 use Rattle.daa_legs.specs.Alerts.{IsFirstLeg}
@@ -17,7 +17,7 @@ use Rattle.daa_config.specs.declared.candidate.Resolution.TheVariants.{Keep, To,
 use Rattle.daa_config.specs.declared.kind.Kind.{Kind}
 use Rattle.daa_config.specs.declared.kind.Kind.TheVariants.{Track, Speed, Climb, Height}
 use Rattle.daa_config.proofs.GridLemmas.{length-values, few_tracks, few_of_kind, value_there}
-use Rattle.daa_state.specs.Id.{is_id, is_id_byte}
+use Rattle.daa_state.specs.Id.{is_id}
 use Rattle.daa_state.specs.InRange.{IsTrafficInRange, IsPictureInRange}
 use Rattle.daa_state.specs.Picture.{aircraft_of}
 use Rattle.daa_state.specs.declared.word.Picture.{Picture}
@@ -25,7 +25,6 @@ use Rattle.daa_state.specs.declared.word.Traffic.{Traffic}
 use Rattle.daa_alert.specs.declared.aircraft_alert.Alert.{Alert}
 use Rattle.daa_alert.specs.Alert.{IsAlertOf}
 use Rattle.daa_bands.specs.Band.{Mark, IsStretch, AreBands}
-use Rattle.daa_bands.specs.KindBands.{AreKindBands}
 use Rattle.daa_bands.specs.declared.band.Band.{Band}
 use Rattle.daa_resolve.specs.Resolution.{IsResolution}
 use Rattle.daa_resolve.specs.declared.side.Side.{Side}
@@ -232,14 +231,17 @@ not_empty band stretch s = let e = ap length s.first.1 in omega arith
 
 bands_in : (marks : List Mark) (bands : List Band) → AreBands marks bands → AllByRecursion IsMark marks → AllByRecursion IsBand bands
 bands_in marks [] are h = tt
-bands_in marks (band ∷ bands) (stretch, rest, e, s, d, are) h =
-    let k = subst (AllByRecursion IsMark) e h in
-    (of_stretch band stretch s (left_all IsMark stretch rest k), bands_in rest bands are (right_all IsMark stretch rest k))
+bands_in marks (band ∷ bands) (d, are) h =
+    let k = subst (AllByRecursion IsMark) are.joined h in (
+      of_stretch band are.first are.first_is (left_all IsMark are.first are.second k),
+      bands_in are.second bands are.second_is (right_all IsMark are.first are.second k),
+    )
 
 bands_few : (marks : List Mark) (bands : List Band) → AreBands marks bands → length bands ≤ length marks
 bands_few marks [] are = omega arith
-bands_few marks (band ∷ bands) (stretch, rest, e, s, d, are) =
-    omega (arith, ap length e, length-append stretch rest, not_empty band stretch s, bands_few rest bands are)
+bands_few marks (band ∷ bands) (d, are) =
+    let e = ap length are.joined ∙ length-append are.first are.second in
+    omega (arith, e, not_empty band are.first are.first_is, bands_few are.second bands are.second_is)
 
 marks_in : (values : List ℤ) (levels : List ℕ) → AllByRecursion IsValue values → AllByRecursion (λ l. l ≤ 4) levels → AllByRecursion IsMark (zip values levels)
 marks_in [] levels v l = tt
@@ -338,23 +340,24 @@ module _ (s : Settings) (p : Picture) (ok : IsAccepted s) where
       omega arith
 
   aircraft_short : (t : Traffic) → IsTrafficInRange t → (text : Text) → AreAircraftLines s p t text → length text ≤ 128
-  aircraft_short t r text (now, alert, n, a, e) =
-      let few = ok.few_levels in
-      let w = n.within in
-      let v = a.greatest.within in
+  aircraft_short t r text is =
+      let few = ok.few_levels in let now = is.now in let alert = is.alert in let e = is.text_is in
+      let w = is.now_is.within in
+      let v = is.alert_is.greatest.within in
       let i = few_of_id t.id r.id in
       omega (
         arith,
         ap length e,
         length-append (now_line t.id now) (alert_line t.id alert.level alert.first),
         now_short t.id now i (omega arith),
-        alert_short t.id alert.level alert.first i (omega arith) (leg_in t alert a),
+        alert_short t.id alert.level alert.first i (omega arith) (leg_in t alert is.alert_is),
       )
 
   alerts_short : (ts : List Traffic) → AllByRecursion IsTrafficInRange ts → (text : Text) → AreAlertLines s p ts text → length text ≤ 128 * length ts
   alerts_short [] r text e = omega (arith, ap length e)
-  alerts_short (t ∷ ts) r text (first, rest, is, others, e) =
-      omega (arith, ap length e, length-append first rest, aircraft_short t r.0 first is, alerts_short ts r.1 rest others)
+  alerts_short (t ∷ ts) r text is =
+      let e = ap length is.joined ∙ length-append is.first is.second in
+      omega (arith, e, aircraft_short t r.0 is.first is.first_is, alerts_short ts r.1 is.second is.second_is)
 
   pub text_short : IsPictureInRange p → p.time < 2 ^ 32 → (text : Text) → IsMomentText s p text → length text ≤ longest_moment
   text_short r t text is =

@@ -24,14 +24,16 @@ use Rattle.daa_engine.specs.MomentText.{AreAircraftLines, AreAlertLines, AreBand
 
 module _ (s : Settings) (p : Picture) where
   aircraft_only : (t : Traffic) (a b : Text) → AreAircraftLines s p t a → AreAircraftLines s p t b → a ≡ b
-  aircraft_only t a b (now, alert, is_now, is_alert, e) (now', alert', is_now', is_alert', e') =
-      let n = now_once s p.own t now now' is_now is_now' in
-      e ∙ ap₂ (λ (x : ℕ) (y : Alert). now_line t.id x ++ alert_line t.id y.level y.first) n (alert_once s p.own t alert alert' is_alert is_alert') ∙ sym e'
+  aircraft_only t a b h k =
+      let n = now_once s p.own t h.now k.now h.now_is k.now_is in
+      let w = alert_once s p.own t h.alert k.alert h.alert_is k.alert_is in
+      h.text_is ∙ ap₂ (λ (x : ℕ) (y : Alert). now_line t.id x ++ alert_line t.id y.level y.first) n w ∙ sym k.text_is
 
   alerts_only : (ts : List Traffic) (a b : Text) → AreAlertLines s p ts a → AreAlertLines s p ts b → a ≡ b
   alerts_only [] a b h k = h ∙ sym k
-  alerts_only (t ∷ ts) a b (first, rest, is, others, e) (first', rest', is', others', e') =
-      e ∙ ap₂ (λ (x y : Text). x ++ y) (aircraft_only t first first' is is') (alerts_only ts rest rest' others others') ∙ sym e'
+  alerts_only (t ∷ ts) a b h k =
+      h.joined ∙ ap₂ (λ (x y : Text). x ++ y) (aircraft_only t h.first k.first h.first_is k.first_is) (alerts_only ts h.second k.second h.second_is k.second_is)
+      ∙ sym k.joined
 
   bands_only : (kind : Kind) (a b : Text) → AreBandLines s p kind a → AreBandLines s p kind b → a ≡ b
   bands_only kind a b h k =

@@ -61,14 +61,14 @@ module _ (s : Settings) (p : Picture) (a : IsAccepted s) (r : IsPictureInRange p
   aircraft_lines t in' =
       let now = some_now s p.own t (now_told s p.own t a r.own in') in
       let alert = some_alert s p.own t (on_told s p.own t a r.own in') (alerts_told s p.own t a r.own in') in
-      (now_line t.id now.0 ++ alert_line t.id alert.0.level alert.0.first, (now.0, alert.0, now.1, alert.1, refl))
+      (now_line t.id now.0 ++ alert_line t.id alert.0.level alert.0.first, record { now = now.0; alert = alert.0; now_is = now.1; alert_is = alert.1; text_is = refl })
 
   alert_lines : (ts : List Traffic) → AllByRecursion IsTrafficInRange ts → (text : Text) × AreAlertLines s p ts text
   alert_lines [] in' = ([], refl)
   alert_lines (t ∷ ts) in' =
       let first = aircraft_lines t in'.0 in
       let rest = alert_lines ts in'.1 in
-      (first.0 ++ rest.0, (first.0, rest.0, first.1, rest.1, refl))
+      (first.0 ++ rest.0, record { first = first.0; second = rest.0; first_is = first.1; second_is = rest.1; joined = refl })
 
   bands : (kind : Kind) → HasOne (AreKindBands (CoveredAt s p) (length s.levels) s kind)
   bands kind = one_kind_list (CoveredAt s p) (length s.levels) s kind (λ index. some_greatest (CoveredAt s p index) (covered_told index) (length s.levels))

@@ -36,13 +36,13 @@ unfolding aircraft_text
 alert_lines_are s p [] ws e h = refl
 alert_lines_are s p (t ∷ ts) [] e h = absurd (omega arith)
 alert_lines_are s p (t ∷ ts) (w ∷ ws) e h =
-    let first = h 0 t w (omega arith) in (
-      aircraft_text (t, w),
-      flat_map aircraft_text (zip ts ws),
-      (w.level_now, alert_of w, first.level_now, first.alert, refl),
-      alert_lines_are s p ts ws (omega arith) (λ i a b lt. h (suc i) a b (omega arith)),
-      refl,
-    )
+    let found = h 0 t w (omega arith) in record {
+      first = aircraft_text (t, w);
+      second = flat_map aircraft_text (zip ts ws);
+      first_is = record { now = w.level_now; alert = alert_of w; now_is = found.level_now; alert_is = found.alert; text_is = refl };
+      second_is = alert_lines_are s p ts ws (omega arith) (λ i a b lt. h (suc i) a b (omega arith));
+      joined = refl;
+    }
 
 -- ---- recoveries
 

@@ -13,6 +13,7 @@ use Rattle.daa_legs.specs.Alerts.{IsNowLevel}
 use Rattle.daa_alert.specs.Alert.{IsAlertOf}
 use Rattle.daa_alert.specs.declared.aircraft_alert.Alert.{Alert}
 use Rattle.daa_bands.specs.KindBands.{AreKindBands}
+use Rattle.daa_bands.specs.Parts.{SplitsInto}
 use Rattle.daa_bands.specs.declared.band.Band.{Band}
 use Rattle.daa_resolve.specs.Resolution.{IsResolution}
 use Rattle.daa_resolve.specs.declared.side.Side.TheVariants.{Lower, Upper}
@@ -44,16 +45,17 @@ told_of r = (r.after, r.value)
 
 module _ (settings : Settings) (picture : Picture) where
   -- the two lines of an aircraft: its level now, and its alert with the first leg
-  abbrev pub AreAircraftLines : Traffic → Text → Type 0
-  AreAircraftLines aircraft text =
-      (now : ℕ) × (alert : Alert) × IsNowLevel settings picture.own aircraft now × IsAlertOf settings picture.own aircraft alert
-      × (text ≡ now_line aircraft.id now ++ alert_line aircraft.id alert.level alert.first)
+  pub record AreAircraftLines (aircraft : Traffic) (text : Text) : Type 0 where
+    pub now : ℕ
+    pub alert : Alert
+    pub now_is : IsNowLevel settings picture.own aircraft now
+    pub alert_is : IsAlertOf settings picture.own aircraft alert
+    pub text_is : text ≡ now_line aircraft.id now ++ alert_line aircraft.id alert.level alert.first
 
   -- the lines of the aircraft, one after the other
   abbrev pub AreAlertLines : List Traffic → Text → Type 0
   AreAlertLines [] text = text ≡ []
-  AreAlertLines (aircraft ∷ others) text =
-      (first : Text) × (rest : Text) × AreAircraftLines aircraft first × AreAlertLines others rest × (text ≡ first ++ rest)
+  AreAlertLines (aircraft ∷ others) text = SplitsInto (AreAircraftLines aircraft) (AreAlertLines others) text
 
   -- the lines of a kind's bands, over the greatest levels at which its candidates are covered
   abbrev pub AreBandLines : Kind → Text → Type 0

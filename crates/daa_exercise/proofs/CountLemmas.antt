@@ -69,7 +69,13 @@ module _ (Has : Picture → List ℕ → Type 0) (output : Outputs) where
       → HasCounted Has output count a → Adds (Has picture) a b → HasCounted Has output (count + 1) b
   counted_next count picture a b most is h (here, has, more) = record {
     levels = h.levels ++ here;
-    are = subst (λ (n : ℕ). AreLevels Has output n (h.levels ++ here)) (sym (add-one count)) (h.levels, here, h.are, subst (λ (p : Picture). Has p here) is has, refl);
+    are = subst (λ (n : ℕ). AreLevels Has output n (h.levels ++ here)) (sym (add-one count)) (record {
+      first = h.levels;
+      second = here;
+      first_is = h.are;
+      second_is = subst (λ (p : Picture). Has p here) is has;
+      joined = refl;
+    });
     counted = more h.levels h.counted;
     few = (let m = most here has in let f = h.few in let e = length-append h.levels here in omega (arith, m, f, e));
   }
@@ -162,7 +168,13 @@ module _ (s : Settings) (seed moments : ℕ) (counts : Counts) (h : AreCounted s
       λ i. summary_text seed moments (count i) (alerts i) (λ kind. kinds kind i)
 
   pub is_summary : (top : ℕ) → IsAccepted s → top ≡ length s.levels → IsSummaryOf s seed moments (written seed moments top counts)
-  is_summary top ok e = (h.alerts.levels, shown, h.alerts.are, are_shown, text_is top e (let few = ok.few_levels in omega (arith, e, few)))
+  is_summary top ok e = record {
+    alerts = h.alerts.levels;
+    shown = shown;
+    alerts_are = h.alerts.are;
+    shown_are = are_shown;
+    text_is = text_is top e (let few = ok.few_levels in omega (arith, e, few));
+  }
 
 -- ---- all moments are counted, and the text is said
 

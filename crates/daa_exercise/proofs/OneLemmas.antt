@@ -29,8 +29,10 @@ module _ (s : Settings) (p : Picture) where
   -- the lines of the aircraft tell their levels
   told : (ts : List Traffic) (text : Text) → AreAlertLines s p ts text → (levels : List ℕ) × AllZip (IsAlertLevel s p.own) ts levels
   told [] text e = ([], tt)
-  told (t ∷ ts) text (first, rest, (now, alert, is_now, is_alert, e), others, e') =
-      let more = told ts rest others in (alert.level ∷ more.0, (is_alert.greatest, more.1))
+  told (t ∷ ts) text is =
+      let one = is.first_is in
+      let more = told ts is.second is.second_is in
+      (one.alert.level ∷ more.0, (one.alert_is.greatest, more.1))
 
   some_alerts : IsAccepted s → IsPictureInRange p → (levels : List ℕ) × HasAlerts s p levels
   some_alerts ok in' = let one = one_text s p ok in' in told (aircraft_of p) one.is.alerts one.is.alerts_are
@@ -64,12 +66,14 @@ module _ (Has : Picture → List ℕ → Type 0) (output : Outputs) where
   some_levels some (suc count) =
       let before = some_levels some count in
       let here = some count in
-      (before.0 ++ here.0, (before.0, here.0, before.1, here.1, refl))
+      (before.0 ++ here.0, record { first = before.0; second = here.0; first_is = before.1; second_is = here.1; joined = refl })
 
   levels_once : ((p : Picture) (a b : List ℕ) → Has p a → Has p b → a ≡ b) → (count : ℕ) (a b : List ℕ) → AreLevels Has output count a → AreLevels Has output count b → a ≡ b
   levels_once once zero a b h k = h ∙ sym k
-  levels_once once (suc count) a b (before, here, are, has, e) (before', here', are', has', e') =
-      e ∙ ap₂ (λ (x y : List ℕ). x ++ y) (levels_once once count before before' are are') (once (moment_of output count) here here' has has') ∙ sym e'
+  levels_once once (suc count) a b h k =
+      let before = levels_once once count h.first k.first h.first_is k.first_is in
+      let here = once (moment_of output count) h.second k.second h.second_is k.second_is in
+      h.joined ∙ ap₂ (λ (x y : List ℕ). x ++ y) before here ∙ sym k.joined
 
 -- ---- the summary
 
@@ -90,15 +94,21 @@ module _ (s : Settings) (seed moments : ℕ) (ok : IsAccepted s) where
   text_of xs ys = summary_text seed moments (aircraft_in output moments) (counts_of (length s.levels) xs) (λ kind. counts_of (length s.levels) (ys kind))
 
   text_once : (other : Text) → IsSummaryOf s seed moments other → other ≡ text_of alerts.0 (λ kind. (shown kind).0)
-  text_once other (xs, ys, are, each, e) =
-      let a = levels_once (HasAlerts s) output (alerts_once s) moments xs alerts.0 are alerts.1 in
-      let b : (kind : Kind) → ys kind ≡ (shown kind).0 = λ kind.
-      levels_once (λ p. HasShown s p kind) output (λ p. shown_once s p kind) moments (ys kind) (shown kind).0 (each kind) (shown kind).1 in
-      e ∙ (λ i. text_of (a i) (λ kind. b kind i))
+  text_once other is =
+      let a = levels_once (HasAlerts s) output (alerts_once s) moments is.alerts alerts.0 is.alerts_are alerts.1 in
+      let b : (kind : Kind) → is.shown kind ≡ (shown kind).0 = λ kind.
+      levels_once (λ p. HasShown s p kind) output (λ p. shown_once s p kind) moments (is.shown kind) (shown kind).0 (is.shown_are kind) (shown kind).1 in
+      is.text_is ∙ (λ i. text_of (a i) (λ kind. b kind i))
 
   pub one_summary : HasOne (IsSummaryOf s seed moments)
   one_summary = record {
     one = text_of alerts.0 (λ kind. (shown kind).0);
-    is = (alerts.0, (λ kind. (shown kind).0), alerts.1, (λ kind. (shown kind).1), refl);
+    is = record {
+      alerts = alerts.0;
+      shown = λ kind. (shown kind).0;
+      alerts_are = alerts.1;
+      shown_are = λ kind. (shown kind).1;
+      text_is = refl;
+    };
     only = text_once;
   }

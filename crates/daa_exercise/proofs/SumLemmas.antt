@@ -101,8 +101,9 @@ upto_each top (x ∷ xs) h = (h 0 (omega arith), upto_each top xs (λ i lt. h (s
 module _ (Has : Picture → List ℕ → Type 0) (output : Outputs) (top : ℕ) (each : (picture : Picture) (levels : List ℕ) → Has picture levels → AreUpto top levels) where
   all_upto : (count : ℕ) (levels : List ℕ) → AreLevels Has output count levels → AreUpto top levels
   all_upto zero levels e = subst (AreUpto top) (sym e) tt
-  all_upto (suc count) levels (before, here, are, has, e) =
-      subst (AreUpto top) (sym e) (upto_append top before here (all_upto count before are) (each (moment_of output count) here has))
+  all_upto (suc count) levels are =
+      subst (AreUpto top) (sym are.joined)
+      (upto_append top are.first are.second (all_upto count are.first are.first_is) (each (moment_of output count) are.second are.second_is))
 
 module _ (s : Settings) (output : Outputs) where
   alerts_upto : (p : Picture) (levels : List ℕ) → HasAlerts s p levels → AreUpto (length s.levels) levels
@@ -116,10 +117,10 @@ module _ (s : Settings) (output : Outputs) where
 
   alerts_many : (count : ℕ) (levels : List ℕ) → AreLevels (HasAlerts s) output count levels → length levels ≡ aircraft_in output count
   alerts_many zero levels e = ap (λ (xs : List ℕ). length xs) e ∙ sym (aircraft_none output)
-  alerts_many (suc count) levels (before, here, are, has, e) =
-      let a = alerts_many count before are in
-      let b = AllZip-long (IsAlertLevel s (moment_of output count).own) (aircraft_of (moment_of output count)) here has in
-      let n = ap (λ (xs : List ℕ). length xs) e ∙ length-append before here in
+  alerts_many (suc count) levels are =
+      let a = alerts_many count are.first are.first_is in
+      let b = AllZip-long (IsAlertLevel s (moment_of output count).own) (aircraft_of (moment_of output count)) are.second are.second_is in
+      let n = ap (λ (xs : List ℕ). length xs) are.joined ∙ length-append are.first are.second in
       let next = ap (aircraft_in output) (sym (add-one count)) ∙ aircraft_next output count in
       omega (arith, a, b, n, next)
 
@@ -136,11 +137,11 @@ module _ (s : Settings) (output : Outputs) where
 
     shown_many : (count : ℕ) (levels : List ℕ) → AreLevels Shown output count levels → length levels ≡ count * length (values_of kind s)
     shown_many zero levels e = ap (λ (xs : List ℕ). length xs) e ∙ sym (zero-mul (length (values_of kind s)))
-    shown_many (suc count) levels (before, here, are, has, e) =
-        let a = shown_many count before are in
-        let b = has.each in
-        let n = ap (λ (xs : List ℕ). length xs) e ∙ length-append before here in
-        n ∙ next (length before) (length here) count (length (values_of kind s)) a b
+    shown_many (suc count) levels are =
+        let a = shown_many count are.first are.first_is in
+        let b = are.second_is.each in
+        let n = ap (λ (xs : List ℕ). length xs) are.joined ∙ length-append are.first are.second in
+        n ∙ next (length are.first) (length are.second) count (length (values_of kind s)) a b
       where
         next : (x y c m : ℕ) → x ≡ c * m → y ≡ m → x + y ≡ suc c * m
         next x y c m e h = omega (arith, e, h, suc-mul c m)

@@ -1,5 +1,5 @@
 -- The levels that all moments of an exercise have, and how often each came.
-use Rattle.std.specs.Prelude.{◌≡◌, ◌==◌, ◌+◌, ℕ, zero, suc, List, [], ◌++◌, length, map}
+use Rattle.std.specs.Prelude.{◌≡◌, ◌==◌, ◌+◌, ℕ, zero, suc, List, [], length, map}
 use Rattle.std.specs.List.{AllZip, count_by, range_with_len, sum}
 use Rattle.daa_config.specs.Settings.{Settings}
 use Rattle.daa_config.specs.declared.kind.Kind.{Kind}
@@ -7,6 +7,7 @@ use Rattle.daa_state.specs.Picture.{aircraft_of}
 use Rattle.daa_state.specs.declared.word.Picture.{Picture}
 use Rattle.daa_legs.specs.Alerts.{IsAlertLevel}
 use Rattle.daa_bands.specs.KindBands.{AreShown}
+use Rattle.daa_bands.specs.Parts.{SplitsInto}
 use Rattle.daa_engine.specs.Covered.{CoveredAt}
 use Rattle.daa_exercise.specs.Outputs.{Outputs}
 use Rattle.daa_exercise.specs.Moments.{moment_of}
@@ -27,8 +28,7 @@ module _ (settings : Settings) (picture : Picture) where
 -- the levels of each of so many moments, one moment after the other
 abbrev pub AreLevels : (Picture → List ℕ → Type 0) → Outputs → ℕ → List ℕ → Type 0
 AreLevels Has output zero levels = levels ≡ []
-AreLevels Has output (suc count) levels =
-    (before : List ℕ) × (here : List ℕ) × AreLevels Has output count before × Has (moment_of output count) here × (levels ≡ before ++ here)
+AreLevels Has output (suc count) levels = SplitsInto (AreLevels Has output count) (Has (moment_of output count)) levels
 
 -- how many aircraft there are in so many moments
 unfoldable pub aircraft_in : Outputs → ℕ → ℕ

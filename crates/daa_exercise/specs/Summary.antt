@@ -19,10 +19,10 @@ summary_text seed moments aircraft alerts shown =
 
 -- the summary of so many moments of a seed under a configuration: over the alert levels of all aircraft of all moments, and
 -- over the shown levels of all candidates of each kind
-abbrev pub IsSummaryOf : Settings → (seed moments : ℕ) → Text → Type 0
-IsSummaryOf settings seed moments text =
-    (alerts : List ℕ) × (shown : Kind → List ℕ)
-    × AreLevels (HasAlerts settings) (outputs_of seed) moments alerts
-    × ((kind : Kind) → AreLevels (λ picture. HasShown settings picture kind) (outputs_of seed) moments (shown kind))
-    × (text ≡ summary_text seed moments (aircraft_in (outputs_of seed) moments)
-    (counts_of (length settings.levels) alerts) (λ kind. counts_of (length settings.levels) (shown kind)))
+pub record IsSummaryOf (settings : Settings) (seed moments : ℕ) (text : Text) : Type 0 where
+  pub alerts : List ℕ
+  pub shown : Kind → List ℕ
+  pub alerts_are : AreLevels (HasAlerts settings) (outputs_of seed) moments alerts
+  pub shown_are : (kind : Kind) → AreLevels (λ picture. HasShown settings picture kind) (outputs_of seed) moments (shown kind)
+  pub text_is : text ≡ summary_text seed moments (aircraft_in (outputs_of seed) moments)
+      (counts_of (length settings.levels) alerts) (λ kind. counts_of (length settings.levels) (shown kind))
