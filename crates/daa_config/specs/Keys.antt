@@ -23,10 +23,7 @@ document_keys = record {
 
 -- of the tables of ground speed, vertical speed and altitude
 abbrev pub grid_keys : TableKeys
-grid_keys = record {
-  required = codes "min" ∷ codes "max" ∷ codes "step" ∷ codes "rate" ∷ [];
-  optional = [];
-}
+grid_keys = record { required = codes "min" ∷ codes "max" ∷ codes "step" ∷ codes "rate" ∷ []; optional = [] }
 
 -- of the table of a level
 abbrev pub level_keys : TableKeys
@@ -37,10 +34,7 @@ level_keys = record {
 
 -- of the cylinder that a recovery stays out of
 abbrev pub recovery_keys : TableKeys
-recovery_keys = record {
-  required = codes "hdist" ∷ codes "vdist" ∷ [];
-  optional = [];
-}
+recovery_keys = record { required = codes "hdist" ∷ codes "vdist" ∷ []; optional = [] }
 
 -- the name is among these
 abbrev pub is_among : List Text → Text → Bool

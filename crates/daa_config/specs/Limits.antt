@@ -71,7 +71,4 @@ level_limits = record {
 
 -- the cylinder that a recovery stays out of: 0.001 NM and ft
 abbrev pub recovery_limits : RecoveryLimits
-recovery_limits = record {
-  hdist = from_to (pos 1) (pos 10000);
-  vdist = from_to (pos 0) (pos 10000);
-}
+recovery_limits = record { hdist = from_to (pos 1) (pos 10000); vdist = from_to (pos 0) (pos 10000) }

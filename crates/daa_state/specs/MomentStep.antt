@@ -67,17 +67,17 @@ unfoldable pub ended_picture : Option Moment → Checked Picture
 ended_picture None = Err NoMoment
 ended_picture (Some moment) = picture_with moment moment.own
 
+-- what was made of the open moment takes its place, unless the word is refused
+abbrev pub with_moment : State → Checked Moment → Checked Stepped
+with_moment state made = do
+  moment ← made
+  Ok (stepped (record state { moment = Some moment }) None)
+
 -- what a word makes of a state, or why it is refused; then the state stays
 unfoldable pub step : State → Word → Checked Stepped
-step state (says.Moment time) = do
-  moment ← begun_moment state.moment state.last time
-  Ok (stepped (record state { moment = Some moment }) None)
-step state (says.Own own) = do
-  moment ← with_own state.moment own
-  Ok (stepped (record state { moment = Some moment }) None)
-step state (says.Traffic traffic) = do
-  moment ← with_traffic state.moment traffic
-  Ok (stepped (record state { moment = Some moment }) None)
+step state (says.Moment time) = with_moment state (begun_moment state.moment state.last time)
+step state (says.Own own) = with_moment state (with_own state.moment own)
+step state (says.Traffic traffic) = with_moment state (with_traffic state.moment traffic)
 step state (says.Format format) =
     if is_some state.moment then Err MomentOpen else Ok (stepped (record state { format = format }) None)
 step state says.End = do
