@@ -8,8 +8,8 @@ use Rattle.daa_legs.proofs.StateRanges.{own_track}
 use Rattle.daa_legs.proofs.Leading.{speed_branch, climb_branch, height_branch, hold_on}
 use Rattle.daa_legs.proofs.Turning.{track_branch}
 use Rattle.daa_legs.proofs.Branching.{before_is, after_is, near_is}
-use Rattle.daa_legs.proofs.branch.branch_of.Goals as goal
-use Rattle.daa_legs.proofs.branch.branch_of.Goals.{After-beside, After-beside-in-Speed, After-beside-in-Climb, After-short_of}
+use Rattle.daa_legs.proofs.branch.parting_of.Goals as goal
+use Rattle.daa_legs.proofs.branch.parting_of.Goals.{After-beside, After-beside-in-Speed, After-beside-in-Climb, After-short_of}
 
 pub returns-in-Hold-clause-after : goal.returns-in-Hold-clause-after
 returns-in-Hold-clause-after c = subst (λ (x : Candidate). FliesOn c.args.own.now c.args.rates.now x 0) (sym c.in-Hold.is) (hold_on c.args.own.now c.args.rates.now)
