@@ -31,7 +31,7 @@ use daa_outside::Sink;
 use daa_recovery::{Recovery, least};
 use daa_report::SinkFault;
 use daa_resolve::{Side, nearest};
-use daa_scan::Trunks;
+use daa_scan::{fill_branches, fill_trunks};
 use daa_state::{Own, Picture};
 
 /// Decides a moment on room that the caller hands in: bit l - 1 at a candidate's index of the board
@@ -49,10 +49,12 @@ pub fn decide_in(
     requires trunks { length trunks.old ≡ 8 }
     requires branches { length (candidates_of config.now) ≤ length branches.old }
     ensures board { IsBoardOf (CoveredAt config.now picture.now) config.now board.new }
+    ensures trunks { length trunks.new ≡ 8 }
+    ensures branches { length branches.new ≡ length branches.old }
 {
-    let mut kept = Trunks::new();
-    kept.fill(&picture.own, config);
-    fill(board, &kept, config, picture);
+    fill_trunks(trunks, &picture.own, config);
+    fill_branches(branches, &picture.own, config);
+    fill(board, trunks, branches, config, picture);
 }
 
 impl Engine {
@@ -64,8 +66,13 @@ impl Engine {
         ensures board { IsBoardOf
             (CoveredAt self.old.settings picture.now) self.old.settings self.new.board }
     {
-        self.trunks.fill(&picture.own, &self.config);
-        fill(&mut self.board, &self.trunks, &self.config, picture);
+        decide_in(
+            &self.config,
+            picture,
+            self.trunks.as_mut_slice(),
+            self.branches.as_mut_slice(),
+            &mut self.board,
+        );
     }
 
     /// Decides a moment and writes its lines as `report` does, in the caller's thread alone and

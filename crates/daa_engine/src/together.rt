@@ -4,7 +4,8 @@ ghost use Rattle.std.specs.Prelude.{◌≡◌, ◌<◌, ◌≤◌, OnErr, OnOk, 
 ghost use Rattle.daa_bands.specs.Board.{IsBoardOf, board_size};
 ghost use Rattle.daa_scan.specs.Reach.{NoneIsMetOutOfReach};
 ghost use Rattle.daa_scan.specs.Units.{most_groups, most_units, AreWordsOf};
-ghost use Rattle.daa_scan.specs.Trunks.{AreTrunksOf};
+ghost use Rattle.daa_legs.specs.Table.{AreBranchesOf};
+ghost use Rattle.daa_scan.specs.Trunks.{AreLeads};
 ghost use Rattle.daa_state.specs.InRange.{IsPictureInRange};
 ghost use Rattle.daa_engine.specs.Covered.{CoveredAt};
 ghost use Rattle.daa_engine.specs.EngineState.{IsWorkerCount, HasRoom};
@@ -12,9 +13,10 @@ ghost use Rattle.daa_engine.specs.Merging.{IsMerged};
 
 use daa_bands::Board;
 use daa_config::Config;
+use daa_legs::{Branch, Trunk};
 use daa_outside::Gate;
 use daa_pool::answer_all;
-use daa_scan::{Scene, Trunks};
+use daa_scan::Scene;
 use daa_schedule::{Answers, NoMemory};
 use daa_state::Picture;
 use std::alloc::Global;
@@ -29,14 +31,17 @@ pub(crate) fn fill_together<R: Threads + Sync, G: Gate>(
     alloc: Global,
     board: &mut Board,
     words: &mut Vec<u64>,
-    trunks: &Trunks,
+    trunks: &[Trunk],
+    branches: &[Branch],
     config: &Config,
     picture: &Picture,
     workers: u32,
     gate: &G,
 ) -> Result<(), NoMemory>
     requires picture { IsPictureInRange picture.now }
-    requires trunks { AreTrunksOf config.now picture.now.own trunks.now }
+    requires leads { AreLeads config.now picture.now.own trunks.now }
+    requires eight { length trunks.now ≡ 8 }
+    requires branches { AreBranchesOf config.now picture.now.own branches.now }
     requires room { HasRoom words.old.items }
     requires workers { IsWorkerCount workers }
     ensures room { HasRoom words.new.items }
@@ -44,7 +49,7 @@ pub(crate) fn fill_together<R: Threads + Sync, G: Gate>(
         (IsBoardOf (CoveredAt config.now picture.now) config.now board.new) }
     ensures kept { OnErr result (board.new ≡ board.old) }
 {
-    let scene = Scene::of(config, picture, trunks);
+    let scene = Scene::of(config, picture, trunks, branches);
     let units = scene.units() as usize;
     let words = &mut words.as_mut_slice()[..units];
     if units > 0 {

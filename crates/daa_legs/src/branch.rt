@@ -1,25 +1,30 @@
 //! How a candidate's flight leaves the one that leads on its side.
 
-ghost use Rattle.std.specs.Prelude.{◌≡◌, ◌≤◌, ◌+◌, ◌≤ℤ◌, ◌-ℤ◌, pos, negsuc, true, false, IsTrue};
+ghost use Rattle.std.specs.Prelude.{◌≡◌, ◌≤◌, ◌<◌, ◌+◌, ℤ, ◌≤ℤ◌, ◌-ℤ◌, pos, negsuc, true, false, IsTrue};
 ghost use Rattle.daa_fixed.specs.Size.{IsFrom, IsWithin};
 ghost use Rattle.daa_config.specs.Settings.{IsCandidateInRange, AreRatesInRange};
+ghost use Rattle.daa_config.specs.declared.candidate.Candidate.{Candidate};
 ghost use Rattle.daa_state.specs.InRange.{IsOwnInRange};
 ghost use Rattle.daa_legs.specs.Branch.{lead_of, FliesAs, FliesOn, IsWholeLegs};
 ghost use Rattle.daa_legs.specs.Table.{IsBranchOf};
+ghost use Rattle.daa_legs.specs.Motion.{vertical_speed_on};
 ghost use Rattle.daa_legs.specs.Turn.{right_angle};
 
-use crate::motion::velocity_at_end;
+use crate::motion::{velocity_at_end, vertical_speed_at};
 use daa_config::{Candidate, Rates};
 use daa_fixed::{Flat, Solid, feet};
 use daa_state::Own;
 
 /// A candidate flies before leg `leaves` as the flight does that leads on its side. From leg
-/// `settles` on, which is leg `leaves` or the one after it, it flies straight on at one velocity;
-/// leg `leaves` is its own where it is the one after.
+/// `settles` on, which is leg `leaves` or the one after it, it flies straight on at one velocity.
+/// Where it is the one after, leg `leaves` is the candidate's own: it goes over ground at the same
+/// velocity, and rises by `rise`.
 #[derive(Clone, Copy, Debug, PartialEq, Eq)]
 pub struct Branch {
-    /// At which it flies straight on, in units of a second.
+    /// At which it flies straight on.
     pub velocity: Solid,
+    /// In 1/60 foot. It is told where the flight leaves the leading one within 180 seconds.
+    pub rise: i64,
     pub leaves: u32,
     pub settles: u32,
     /// To the right or up, else to the left or down.
@@ -34,6 +39,7 @@ impl Branch {
                 flat: Flat { east: 0, north: 0 },
                 up: 0,
             },
+            rise: 0,
             leaves: 0,
             settles: 0,
             upper: true,
@@ -68,9 +74,25 @@ pub fn branch_of(own: &Own, rates: &Rates, candidate: Candidate) -> Branch
     let parting = parting_of(own, rates, candidate);
     Branch {
         velocity: velocity_at_end(own, candidate),
+        rise: rise_on(own, rates, candidate, &parting),
         leaves: parting.leaves,
         settles: parting.settles,
         upper: parting.upper,
+    }
+}
+
+/// What a leg of the candidate's own rises, where it has one within 180 seconds.
+fn rise_on(own: &Own, rates: &Rates, candidate: Candidate, parting: &Parting) -> i64
+    requires own { IsOwnInRange own.now }
+    requires rates { AreRatesInRange rates.now }
+    requires candidate { IsCandidateInRange candidate }
+    ensures { parting.now.leaves < parting.now.settles → parting.now.leaves < 180
+        → result ≡ vertical_speed_on own.now rates.now candidate parting.now.leaves }
+{
+    if parting.leaves < parting.settles && parting.leaves < 180 {
+        vertical_speed_at(own, rates, candidate, parting.leaves)
+    } else {
+        0
     }
 }
 
@@ -83,6 +105,8 @@ fn parting_of(own: &Own, rates: &Rates, candidate: Candidate) -> Parting
         (lead_of own.now candidate result.upper) result.leaves }
     ensures after { FliesOn own.now rates.now candidate result.settles }
     ensures near { (result.leaves ≤ result.settles) × (result.settles ≤ result.leaves + 1) }
+    ensures level { result.leaves < result.settles
+        → (a : ℤ) × (candidate ≡ Candidate.Height a) }
 {
     match candidate {
         Candidate::Hold => Parting {

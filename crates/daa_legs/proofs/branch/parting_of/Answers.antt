@@ -7,7 +7,7 @@ use Rattle.daa_legs.specs.Branch.{lead_of, FliesAs, FliesOn}
 use Rattle.daa_legs.proofs.StateRanges.{own_track}
 use Rattle.daa_legs.proofs.Leading.{speed_branch, climb_branch, height_branch, hold_on}
 use Rattle.daa_legs.proofs.Turning.{track_branch}
-use Rattle.daa_legs.proofs.Branching.{before_is, after_is, near_is}
+use Rattle.daa_legs.proofs.Branching.{before_is, after_is, near_is, none_own}
 use Rattle.daa_legs.proofs.branch.parting_of.Goals as goal
 use Rattle.daa_legs.proofs.branch.parting_of.Goals.{After-beside, After-beside-in-Speed, After-beside-in-Climb, After-short_of}
 
@@ -99,3 +99,15 @@ returns-in-Height-clause-after c = after_is c.args.own.now c.args.rates.now _ _ 
 
 pub returns-in-Height-clause-near : goal.returns-in-Height-clause-near
 returns-in-Height-clause-near c = near_is _ _ c.short_of.ensures (omega arith) (omega arith)
+
+pub returns-in-Track-clause-level : goal.returns-in-Track-clause-level
+returns-in-Track-clause-level c h = absurd (none_own _ _ c.beside.ensures (omega arith) h)
+
+pub returns-in-Speed-clause-level : goal.returns-in-Speed-clause-level
+returns-in-Speed-clause-level c h = absurd (none_own _ _ c.beside-in-Speed.ensures (omega arith) h)
+
+pub returns-in-Climb-clause-level : goal.returns-in-Climb-clause-level
+returns-in-Climb-clause-level c h = absurd (none_own _ _ c.beside-in-Climb.ensures (omega arith) h)
+
+pub returns-in-Height-clause-level : goal.returns-in-Height-clause-level
+returns-in-Height-clause-level c h = (_, c.in-Height.is)
