@@ -15,7 +15,6 @@ ghost use Rattle.daa_report.specs.Says.{SaysSome};
 
 use crate::advice::advise;
 use crate::alerts::find_alerts;
-use crate::filling::fill;
 use crate::rescue::find_rescues;
 use crate::say::say;
 use crate::together::fill_together;
@@ -25,7 +24,6 @@ use daa_config::Config;
 use daa_legs::{Branch, Trunk};
 use daa_outside::{Gate, Sink};
 use daa_report::SinkFault;
-use daa_scan::{fill_branches, fill_trunks};
 use daa_schedule::NoMemory;
 use daa_state::Picture;
 use std::alloc::Global;
@@ -79,7 +77,7 @@ fn trunks_in(alloc: Global) -> Result<Vec<Trunk>, NoMemory>
     ensures { IfOk result (λ trunks. length trunks.items ≡ 8) }
 {
     let mut trunks = Vec::new(alloc);
-    for _ in 0..LEADS {
+    for _place in 0..LEADS {
         if trunks.push(Trunk::new()).is_err() {
             return Err(NoMemory);
         }
@@ -156,16 +154,14 @@ impl Engine {
         ensures board { IsBoardOf
             (CoveredAt self.old.settings picture.now) self.old.settings self.new.board }
     {
-        fill_trunks(self.trunks.as_mut_slice(), &picture.own, &self.config);
-        fill_branches(self.branches.as_mut_slice(), &picture.own, &self.config);
         if self.workers > 1 {
             let filled = fill_together(
                 rt,
                 alloc,
                 &mut self.board,
                 &mut self.words,
-                self.trunks.as_slice(),
-                self.branches.as_slice(),
+                self.trunks.as_mut_slice(),
+                self.branches.as_mut_slice(),
                 &self.config,
                 picture,
                 self.workers,
@@ -175,13 +171,7 @@ impl Engine {
                 return;
             }
         }
-        fill(
-            &mut self.board,
-            self.trunks.as_slice(),
-            self.branches.as_slice(),
-            &self.config,
-            picture,
-        );
+        self.decide_alone(picture);
     }
 
     /// Decides a moment and writes its lines to the sink: its first line, the lines of the
