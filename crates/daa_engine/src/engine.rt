@@ -15,16 +15,15 @@ ghost use Rattle.daa_report.specs.Says.{SaysSome};
 
 use crate::advice::advise;
 use crate::alerts::find_alerts;
-use crate::filling::fill;
 use crate::rescue::find_rescues;
 use crate::say::say;
 use crate::together::fill_together;
 use daa_alert::{Alert, alert};
 use daa_bands::Board;
 use daa_config::Config;
+use daa_legs::{Branch, Trunk};
 use daa_outside::{Gate, Sink};
 use daa_report::SinkFault;
-use daa_scan::Trunks;
 use daa_schedule::NoMemory;
 use daa_state::Picture;
 use std::alloc::Global;
@@ -34,6 +33,12 @@ use std::thread::Threads;
 /// How many units of work a moment has at most: 64 aircraft and 159 groups of candidates.
 const MOST_UNITS: usize = 10176;
 
+/// How many candidates a configuration has at most.
+const MOST_CANDIDATES: usize = 1897;
+
+/// How many flights lead: on two sides of four kinds.
+const LEADS: usize = 8;
+
 /// A configuration, 1 to 16 workers, and the board of the latest moment.
 #[derive(Drop)]
 pub struct Engine {
@@ -42,19 +47,21 @@ pub struct Engine {
     pub(crate) board: Board,
     // what the workers answer
     words: Vec<u64>,
-    // the flights that lead on the sides of each kind, of the latest moment
-    pub(crate) trunks: Trunks,
+    // room for the flights that lead on the sides of each kind
+    pub(crate) trunks: Vec<Trunk>,
+    // and for the candidates' branches
+    pub(crate) branches: Vec<Branch>,
 }
 
 impl Model for Engine {
     ghost use Rattle.std.specs.Prelude.{◌≡◌, length};
-    ghost use Rattle.daa_engine.specs.EngineState.{EngineState, IsEngine, HasRoom};
+    ghost use Rattle.daa_engine.specs.EngineState.{EngineState, IsEngine, HasRoom, HasFlights};
 
     ghost Value = { EngineState };
 
     ghost view = { λ e. record { settings = e.config; workers = e.workers; board = e.board } };
 
-    ghost invariant = { λ e. IsEngine (record { settings = e.config; workers = e.workers; board = e.board }) × HasRoom e.words.items };
+    ghost invariant = { λ e. IsEngine (record { settings = e.config; workers = e.workers; board = e.board }) × HasRoom e.words.items × HasFlights e.trunks.items e.branches.items };
 }
 
 /// The time of a picture, in seconds.
@@ -63,6 +70,19 @@ pub(crate) fn time_of(picture: &Picture) -> u32
     ensures fits { picture.now.time < 2 ^ 32 }
 {
     picture.time
+}
+
+/// Room for the flights that lead on the sides of each kind.
+fn trunks_in(alloc: Global) -> Result<Vec<Trunk>, NoMemory>
+    ensures { IfOk result (λ trunks. length trunks.items ≡ 8) }
+{
+    let mut trunks = Vec::new(alloc);
+    for _place in 0..LEADS {
+        if trunks.push(Trunk::new()).is_err() {
+            return Err(NoMemory);
+        }
+    }
+    Ok(trunks)
 }
 
 impl Engine {
@@ -76,12 +96,14 @@ impl Engine {
         // tells that its numbers are in range
         let _levels = config.levels();
         let words = vec![in alloc; 0u64; MOST_UNITS]?;
+        let branches = vec![in alloc; Branch::new(); MOST_CANDIDATES]?;
         Ok(Engine {
             config,
             workers,
             board: Board::new(),
             words,
-            trunks: Trunks::new(),
+            trunks: trunks_in(alloc)?,
+            branches,
         })
     }
 
@@ -132,14 +154,14 @@ impl Engine {
         ensures board { IsBoardOf
             (CoveredAt self.old.settings picture.now) self.old.settings self.new.board }
     {
-        self.trunks.fill(&picture.own, &self.config);
         if self.workers > 1 {
             let filled = fill_together(
                 rt,
                 alloc,
                 &mut self.board,
                 &mut self.words,
-                &self.trunks,
+                self.trunks.as_mut_slice(),
+                self.branches.as_mut_slice(),
                 &self.config,
                 picture,
                 self.workers,
@@ -149,7 +171,7 @@ impl Engine {
                 return;
             }
         }
-        fill(&mut self.board, &self.trunks, &self.config, picture);
+        self.decide_alone(picture);
     }
 
     /// Decides a moment and writes its lines to the sink: its first line, the lines of the

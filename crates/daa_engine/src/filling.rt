@@ -4,25 +4,35 @@ ghost use Rattle.daa_bands.specs.Board.{IsBoardOf};
 ghost use Rattle.daa_config.specs.Candidates.{candidates_of};
 ghost use Rattle.daa_state.specs.InRange.{IsPictureInRange};
 ghost use Rattle.daa_state.specs.Picture.{aircraft_of};
-ghost use Rattle.daa_scan.specs.Trunks.{AreTrunksOf};
+ghost use Rattle.daa_legs.specs.Table.{AreBranchesOf};
+ghost use Rattle.daa_scan.specs.Trunks.{AreLeads};
 ghost use Rattle.daa_engine.specs.Covered.{CoveredAt, scene_of};
 ghost use Rattle.daa_engine.specs.Filling.{AddsAircraft};
 
 use daa_bands::Board;
 use daa_config::Config;
-use daa_scan::{Scene, Trunks};
+use daa_legs::{Branch, Trunk};
+use daa_scan::Scene;
 use daa_state::Picture;
 
 /// Room for a mask of each candidate; a configuration has at most 1897.
 const MASKS: usize = 2048;
 
 /// Marks the levels at which each candidate is covered, and no others.
-pub(crate) fn fill(board: &mut Board, trunks: &Trunks, config: &Config, picture: &Picture)
+pub(crate) fn fill(
+    board: &mut Board,
+    trunks: &[Trunk],
+    branches: &[Branch],
+    config: &Config,
+    picture: &Picture,
+)
     requires picture { IsPictureInRange picture.now }
-    requires trunks { AreTrunksOf config.now picture.now.own trunks.now }
+    requires room { length trunks.now ≡ 8 }
+    requires leads { AreLeads config.now picture.now.own trunks.now }
+    requires branches { AreBranchesOf config.now picture.now.own branches.now }
     ensures { IsBoardOf (CoveredAt config.now picture.now) config.now board.new }
 {
-    let scene = Scene::of(config, picture, trunks);
+    let scene = Scene::of(config, picture, trunks, branches);
     board.clear();
     for place in 0..picture.traffic.len() as u32 {
         mark_aircraft(board, &scene, config, place);

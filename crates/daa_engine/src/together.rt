@@ -4,7 +4,7 @@ ghost use Rattle.std.specs.Prelude.{◌≡◌, ◌<◌, ◌≤◌, OnErr, OnOk, 
 ghost use Rattle.daa_bands.specs.Board.{IsBoardOf, board_size};
 ghost use Rattle.daa_scan.specs.Reach.{NoneIsMetOutOfReach};
 ghost use Rattle.daa_scan.specs.Units.{most_groups, most_units, AreWordsOf};
-ghost use Rattle.daa_scan.specs.Trunks.{AreTrunksOf};
+ghost use Rattle.daa_config.specs.Candidates.{candidates_of};
 ghost use Rattle.daa_state.specs.InRange.{IsPictureInRange};
 ghost use Rattle.daa_engine.specs.Covered.{CoveredAt};
 ghost use Rattle.daa_engine.specs.EngineState.{IsWorkerCount, HasRoom};
@@ -12,16 +12,18 @@ ghost use Rattle.daa_engine.specs.Merging.{IsMerged};
 
 use daa_bands::Board;
 use daa_config::Config;
+use daa_legs::{Branch, Trunk};
 use daa_outside::Gate;
 use daa_pool::answer_all;
-use daa_scan::{Scene, Trunks};
+use daa_scan::{Scene, fill_branches, fill_trunks};
 use daa_schedule::{Answers, NoMemory};
 use daa_state::Picture;
 use std::alloc::Global;
 use std::thread::Threads;
 
 /// Marks the levels at which each candidate is covered, and no others, by so many workers. The
-/// words are room for their answers. Where no aircraft is in reach there is no unit, and no worker
+/// words are room for their answers, the trunks and the branches for what the workers share. Where
+/// no aircraft is in reach there is no unit, and no worker
 /// is needed. `NoMemory` says that there was no memory for the workers; then the board is as it
 /// was.
 pub(crate) fn fill_together<R: Threads + Sync, G: Gate>(
@@ -29,22 +31,28 @@ pub(crate) fn fill_together<R: Threads + Sync, G: Gate>(
     alloc: Global,
     board: &mut Board,
     words: &mut Vec<u64>,
-    trunks: &Trunks,
+    trunks: &mut [Trunk],
+    branches: &mut [Branch],
     config: &Config,
     picture: &Picture,
     workers: u32,
     gate: &G,
 ) -> Result<(), NoMemory>
     requires picture { IsPictureInRange picture.now }
-    requires trunks { AreTrunksOf config.now picture.now.own trunks.now }
+    requires trunks { length trunks.old ≡ 8 }
+    requires branches { length (candidates_of config.now) ≤ length branches.old }
     requires room { HasRoom words.old.items }
     requires workers { IsWorkerCount workers }
     ensures room { HasRoom words.new.items }
     ensures board { OnOk result
         (IsBoardOf (CoveredAt config.now picture.now) config.now board.new) }
     ensures kept { OnErr result (board.new ≡ board.old) }
+    ensures trunks { length trunks.new ≡ 8 }
+    ensures branches { length branches.new ≡ length branches.old }
 {
-    let scene = Scene::of(config, picture, trunks);
+    fill_trunks(trunks, &picture.own, config);
+    fill_branches(branches, &picture.own, config);
+    let scene = Scene::of(config, picture, trunks, branches);
     let units = scene.units() as usize;
     let words = &mut words.as_mut_slice()[..units];
     if units > 0 {

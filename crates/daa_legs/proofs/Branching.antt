@@ -1,5 +1,5 @@
 -- Where a candidate meets an aircraft: on the legs that it flies as another does, on the leg after them, or on the straight rest.
-use Rattle.std.proofs.Common.{◌≡◌, ◌↔◌, ◌⊎◌, inl, inr, ⊎_elim, ℕ, zero, suc, ◌+◌, ◌<◌, ◌≤◌, refl, ap, sym, subst, arith}
+use Rattle.std.proofs.Common.{◌≡◌, ◌↔◌, ◌⊎◌, inl, inr, ⊎_elim, ℕ, ℤ, zero, suc, ◌+◌, ◌<◌, ◌≤◌, refl, ap, sym, subst, ◌∙◌, arith}
 use Rattle.std.proofs.lemmas.Bool.{cases_lt, cases_eq}
 use Rattle.daa_fixed.specs.declared.Solid.{Solid}
 use Rattle.daa_fixed.specs.declared.Leg.{Leg}
@@ -13,12 +13,14 @@ use Rattle.daa_config.specs.Settings.{Settings, rates_of}
 use Rattle.daa_state.specs.declared.word.Own.{Own}
 use Rattle.daa_state.specs.declared.word.Traffic.{Traffic}
 use Rattle.daa_legs.specs.declared.own_leg.OwnLeg.{OwnLeg}
-use Rattle.daa_legs.specs.Motion.{velocity_on}
+use Rattle.daa_legs.specs.Motion.{velocity_on, vertical_speed_on, ground_speed_on, track_on}
+use Rattle.daa_heading.specs.Heading.{velocity_of}
+use Rattle.daa_config.specs.declared.candidate.Candidate.TheVariants.{Height}
 use Rattle.daa_legs.specs.OwnLegs.{own_place, place_on, own_leg}
 use Rattle.daa_legs.specs.Relative.{relative_for}
 use Rattle.daa_legs.specs.Runs.{IsRunOf, MeetsBetween}
 use Rattle.daa_legs.specs.Meeting.{relative_leg, ViolatesOn, MeetsWithin}
-use Rattle.daa_legs.specs.declared.branch.Branch.{Branch}
+use Rattle.daa_legs.specs.declared.branch.Parting.{Parting}
 use Rattle.daa_legs.specs.Branch.{lead_of, velocity_there, FliesAs, FliesOn}
 
 sums : (f g : ℕ → Solid) (k : ℕ) → ((j : ℕ) → j < k → f j ≡ g j) → sum_below f k ≡ sum_below g k
@@ -35,15 +37,29 @@ module _ (own : Own) (rates : Rates) (candidate lead : Candidate) (n : ℕ) (ali
   leg_alike k h = λ i. record { place = place_alike k (omega (arith, h)) i; velocity = alike.same k h i }
 
 -- the parts of a branch that is known
-module _ (own : Own) (rates : Rates) (candidate known : Candidate) (b c : Branch) (e : candidate ≡ known) (is : b ≡ c) where
+module _ (own : Own) (rates : Rates) (candidate known : Candidate) (b c : Parting) (e : candidate ≡ known) (is : b ≡ c) where
   pub before_is : FliesAs own rates known (lead_of own known c.upper) c.leaves → FliesAs own rates candidate (lead_of own candidate b.upper) b.leaves
-  before_is h = subst (λ (x : Candidate). FliesAs own rates x (lead_of own x b.upper) b.leaves) (sym e) (subst (λ (y : Branch). FliesAs own rates known (lead_of own known y.upper) y.leaves) (sym is) h)
+  before_is h = subst (λ (x : Candidate). FliesAs own rates x (lead_of own x b.upper) b.leaves) (sym e) (subst (λ (y : Parting). FliesAs own rates known (lead_of own known y.upper) y.leaves) (sym is) h)
 
   pub after_is : FliesOn own rates known c.settles → FliesOn own rates candidate b.settles
-  after_is h = subst (λ (x : Candidate). FliesOn own rates x b.settles) (sym e) (subst (λ (y : Branch). FliesOn own rates known y.settles) (sym is) h)
+  after_is h = subst (λ (x : Candidate). FliesOn own rates x b.settles) (sym e) (subst (λ (y : Parting). FliesOn own rates known y.settles) (sym is) h)
 
-pub near_is : (b c : Branch) → b ≡ c → c.leaves ≤ c.settles → c.settles ≤ c.leaves + 1 → (b.leaves ≤ b.settles) × (b.settles ≤ b.leaves + 1)
-near_is b c is h k = (subst (λ (y : Branch). y.leaves ≤ y.settles) (sym is) h, subst (λ (y : Branch). y.settles ≤ y.leaves + 1) (sym is) k)
+pub near_is : (b c : Parting) → b ≡ c → c.leaves ≤ c.settles → c.settles ≤ c.leaves + 1 → (b.leaves ≤ b.settles) × (b.settles ≤ b.leaves + 1)
+near_is b c is h k = (subst (λ (y : Parting). y.leaves ≤ y.settles) (sym is) h, subst (λ (y : Parting). y.settles ≤ y.leaves + 1) (sym is) k)
+
+-- it has no leg of its own
+pub none_own : (b c : Parting) → b ≡ c → c.settles ≤ c.leaves → b.leaves < b.settles → ⊥
+none_own b c is h k = let l = subst (λ (y : Parting). y.settles ≤ y.leaves) (sym is) h in omega (arith, k, l)
+
+-- a leg on the way to an altitude has the way over ground of the rest
+pub rises : (own : Own) (rates : Rates) (candidate : Candidate) (a : ℤ) (n : ℕ) (velocity : Solid) (up : ℤ) → candidate ≡ Height a → velocity ≡ velocity_there own candidate
+    → up ≡ vertical_speed_on own rates candidate n → velocity_on own rates candidate n ≡ record { flat = velocity.flat; up = up }
+unfolding velocity_on velocity_there ground_speed_on track_on
+rises own rates candidate a n velocity up e v u =
+    let flat : velocity.flat ≡ velocity_of own.gs own.trk = ap (λ (s : Solid). s.flat) (v ∙ ap (velocity_there own) e) in
+    let over : velocity_on own rates candidate n ≡ record { flat = velocity_of own.gs own.trk; up = vertical_speed_on own rates candidate n } =
+        subst (λ (x : Candidate). velocity_on own rates x n ≡ record { flat = velocity_of own.gs own.trk; up = vertical_speed_on own rates x n }) (sym e) refl in
+    over ∙ (λ i. record { flat = sym flat i; up = sym u i })
 
 -- the straight rest, from any leg that is not before
 pub straight_run : (own : Own) (rates : Rates) (candidate : Candidate) (n secs : ℕ) → FliesOn own rates candidate n

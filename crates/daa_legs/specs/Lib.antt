@@ -9,3 +9,4 @@ pub mod Alerts
 pub mod Shared
 pub mod Branch
 pub mod Kept
+pub mod Table

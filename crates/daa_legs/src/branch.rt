@@ -1,25 +1,50 @@
 //! How a candidate's flight leaves the one that leads on its side.
 
-ghost use Rattle.std.specs.Prelude.{◌≡◌, ◌≤◌, ◌+◌, ◌≤ℤ◌, ◌-ℤ◌, pos, negsuc, true, false, IsTrue};
+ghost use Rattle.std.specs.Prelude.{◌≡◌, ◌≤◌, ◌<◌, ◌+◌, ℤ, ◌≤ℤ◌, ◌-ℤ◌, pos, negsuc, true, false, IsTrue};
 ghost use Rattle.daa_fixed.specs.Size.{IsFrom, IsWithin};
 ghost use Rattle.daa_config.specs.Settings.{IsCandidateInRange, AreRatesInRange};
+ghost use Rattle.daa_config.specs.declared.candidate.Candidate.{Candidate};
 ghost use Rattle.daa_state.specs.InRange.{IsOwnInRange};
 ghost use Rattle.daa_legs.specs.Branch.{lead_of, FliesAs, FliesOn, IsWholeLegs};
+ghost use Rattle.daa_legs.specs.Table.{IsBranchOf};
+ghost use Rattle.daa_legs.specs.Motion.{vertical_speed_on};
 ghost use Rattle.daa_legs.specs.Turn.{right_angle};
 
+use crate::motion::{velocity_at_end, vertical_speed_at};
 use daa_config::{Candidate, Rates};
-use daa_fixed::feet;
+use daa_fixed::{Flat, Solid, feet};
 use daa_state::Own;
 
 /// A candidate flies before leg `leaves` as the flight does that leads on its side. From leg
-/// `settles` on, which is leg `leaves` or the one after it, it flies straight on; leg `leaves` is
-/// its own where it is the one after.
+/// `settles` on, which is leg `leaves` or the one after it, it flies straight on at one velocity.
+/// Where it is the one after, leg `leaves` is the candidate's own: it goes over ground at the same
+/// velocity, and rises by `rise`.
 #[derive(Clone, Copy, Debug, PartialEq, Eq)]
 pub struct Branch {
-    /// To the right or up, else to the left or down.
-    pub upper: bool,
+    /// At which it flies straight on.
+    pub velocity: Solid,
+    /// In 1/60 foot. It is told where the flight leaves the leading one within 180 seconds.
+    pub rise: i64,
     pub leaves: u32,
     pub settles: u32,
+    /// To the right or up, else to the left or down.
+    pub upper: bool,
+}
+
+impl Branch {
+    /// Room for a branch in a table.
+    pub fn new() -> Branch {
+        Branch {
+            velocity: Solid {
+                flat: Flat { east: 0, north: 0 },
+                up: 0,
+            },
+            rise: 0,
+            leaves: 0,
+            settles: 0,
+            upper: true,
+        }
+    }
 }
 
 /// A way to a value: to the right or up or the other way, and how many whole seconds at the rate
@@ -30,8 +55,49 @@ pub(crate) struct Way {
     pub(crate) legs: u32,
 }
 
-/// Where the candidate's flight leaves the leading one.
+/// On which side a candidate's flight leaves the leading one, before which leg, and from which leg
+/// on it flies straight on.
+#[derive(Clone, Copy)]
+pub(crate) struct Parting {
+    pub(crate) upper: bool,
+    pub(crate) leaves: u32,
+    pub(crate) settles: u32,
+}
+
+/// Where the candidate's flight leaves the leading one, and how it flies on.
 pub fn branch_of(own: &Own, rates: &Rates, candidate: Candidate) -> Branch
+    requires own { IsOwnInRange own.now }
+    requires rates { AreRatesInRange rates.now }
+    requires candidate { IsCandidateInRange candidate }
+    ensures { IsBranchOf own.now rates.now candidate result }
+{
+    let parting = parting_of(own, rates, candidate);
+    Branch {
+        velocity: velocity_at_end(own, candidate),
+        rise: rise_on(own, rates, candidate, &parting),
+        leaves: parting.leaves,
+        settles: parting.settles,
+        upper: parting.upper,
+    }
+}
+
+/// What a leg of the candidate's own rises, where it has one within 180 seconds.
+fn rise_on(own: &Own, rates: &Rates, candidate: Candidate, parting: &Parting) -> i64
+    requires own { IsOwnInRange own.now }
+    requires rates { AreRatesInRange rates.now }
+    requires candidate { IsCandidateInRange candidate }
+    ensures { parting.now.leaves < parting.now.settles → parting.now.leaves < 180
+        → result ≡ vertical_speed_on own.now rates.now candidate parting.now.leaves }
+{
+    if parting.leaves < parting.settles && parting.leaves < 180 {
+        vertical_speed_at(own, rates, candidate, parting.leaves)
+    } else {
+        0
+    }
+}
+
+/// Where the candidate's flight leaves the leading one.
+fn parting_of(own: &Own, rates: &Rates, candidate: Candidate) -> Parting
     requires own { IsOwnInRange own.now }
     requires rates { AreRatesInRange rates.now }
     requires candidate { IsCandidateInRange candidate }
@@ -39,9 +105,11 @@ pub fn branch_of(own: &Own, rates: &Rates, candidate: Candidate) -> Branch
         (lead_of own.now candidate result.upper) result.leaves }
     ensures after { FliesOn own.now rates.now candidate result.settles }
     ensures near { (result.leaves ≤ result.settles) × (result.settles ≤ result.leaves + 1) }
+    ensures level { result.leaves < result.settles
+        → (a : ℤ) × (candidate ≡ Candidate.Height a) }
 {
     match candidate {
-        Candidate::Hold => Branch {
+        Candidate::Hold => Parting {
             upper: true,
             leaves: 0,
             settles: 0,
@@ -55,11 +123,11 @@ pub fn branch_of(own: &Own, rates: &Rates, candidate: Candidate) -> Branch
 
 /// A track or a speed is that of the leading flight also on the leg after the whole seconds, and
 /// then the candidate's.
-fn beside(way: Way) -> Branch
+fn beside(way: Way) -> Parting
     requires { way.legs ≤ 7200000 }
     ensures { result ≡ record { upper = way.upper; leaves = way.legs + 1; settles = way.legs + 1 } }
 {
-    Branch {
+    Parting {
         upper: way.upper,
         leaves: way.legs + 1,
         settles: way.legs + 1,
@@ -67,11 +135,11 @@ fn beside(way: Way) -> Branch
 }
 
 /// On the leg after the whole seconds an altitude is reached, by a rise of its own.
-fn short_of(way: Way) -> Branch
+fn short_of(way: Way) -> Parting
     requires { way.legs ≤ 7200000 }
     ensures { result ≡ record { upper = way.upper; leaves = way.legs; settles = way.legs + 1 } }
 {
-    Branch {
+    Parting {
         upper: way.upper,
         leaves: way.legs,
         settles: way.legs + 1,

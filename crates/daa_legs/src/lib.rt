@@ -19,7 +19,7 @@ mod turn;
 pub use branch::{Branch, branch_of};
 pub use encounter::{relative, relative_run};
 pub use flight::Flight;
-pub use joint::{end_of, leg_at, rest_from};
+pub use joint::end_of;
 pub use laws::{
     flights_begin_as_now, legs_join, legs_move_by_the_rates, new_reports_stand, turns_arrive,
     worked_examples,

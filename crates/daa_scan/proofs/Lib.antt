@@ -14,3 +14,4 @@ pub mod Trails
 pub mod Marks
 pub mod Sides
 pub mod Shown
+pub mod Tables

@@ -13,9 +13,9 @@ use Rattle.daa_config.specs.declared.kind.Kind.TheVariants.{Track}
 use Rattle.daa_config.specs.declared.level.Level.{Level}
 use Rattle.daa_config.specs.Candidates.{values_of, candidates_of, candidate_to, start_of}
 use Rattle.daa_config.specs.Mask.{IsMaskOf}
-use Rattle.daa_config.specs.Settings.{Settings, IsAccepted, IsLevelAt}
+use Rattle.daa_config.specs.Settings.{Settings, IsAccepted, IsCandidateInRange, IsLevelAt}
 use Rattle.daa_config.proofs.GridLemmas.{value_there}
-use Rattle.daa_config.proofs.CandidateLemmas.{candidate_at, hold_first}
+use Rattle.daa_config.proofs.CandidateLemmas.{candidate_at, hold_first, in_range-to}
 use Rattle.daa_state.specs.declared.word.Own.{Own}
 use Rattle.daa_state.specs.declared.word.Traffic.{Traffic}
 use Rattle.daa_legs.specs.Meeting.{MeetsWithin, Meets}
@@ -56,6 +56,14 @@ of_kind k s index candidate a h l there =
     let v = value_there k s (index - start_of k s) a (omega (arith, h, l)) in
     let back : start_of k s + (index - start_of k s) ≡ index = omega (arith, h) in
     (_, same_Some candidate _ (sym there ∙ ap (slice_get (candidates_of s)) (sym back) ∙ candidate_at k s (index - start_of k s) _ v.there))
+
+-- and to one in range
+pub of_kind_in_range : (k : Kind) (s : Settings) (index : ℕ) (candidate : Candidate) → IsAccepted s → start_of k s ≤ index → index < start_of k s + length (values_of k s) → slice_get (candidates_of s) index ≡ Some candidate
+    → IsCandidateInRange candidate
+of_kind_in_range k s index candidate a h l there =
+    let v = value_there k s (index - start_of k s) a (omega (arith, h, l)) in
+    let back : start_of k s + (index - start_of k s) ≡ index = omega (arith, h) in
+    subst (λ (x : Candidate). IsCandidateInRange x) (sym (same_Some candidate _ (sym there ∙ ap (slice_get (candidates_of s)) (sym back) ∙ candidate_at k s (index - start_of k s) _ v.there))) (in_range-to k _ v.in_range)
 
 module _ (settings : Settings) (own : Own) (aircraft : Traffic) (first l : ℕ) (masks : List ℕ) where
   pub marked_none : AreMasks settings own aircraft first l masks → AreMarked settings own aircraft first 0 l masks

@@ -1,26 +1,29 @@
 -- The sides of a kind: their leading flights, and how far they were walked.
-use Rattle.std.proofs.Common.{◌≡◌, ℕ, ℤ, pos, ◌+◌, ◌-◌, ◌≤◌, Bool, true, false, List, length, sym, subst, ap, ◌∙◌, arith, ⊎_elim}
+use Rattle.std.proofs.Common.{◌≡◌, ℕ, ℤ, pos, ◌+◌, ◌-◌, ◌<◌, ◌≤◌, Bool, [], true, false, List, length, sym, subst, ap, ◌∙◌, arith, ⊎_elim}
+use Rattle.std.specs.Prelude.{slice_index_or}
+use Rattle.std.proofs.Math.ListN.{set}
 use Rattle.std.proofs.lemmas.Bool.{cases_eq, cases_lt}
+use Rattle.std.proofs.lemmas.List.{get_or-set_same, get_or-set_other, length-set}
 use Rattle.std.proofs.lemmas.Option.{slice_get_within}
 use Rattle.daa_taumod.specs.declared.Volume.{Volume}
 use Rattle.daa_config.specs.declared.candidate.Candidate.{Candidate}
 use Rattle.daa_config.specs.declared.config.Rates.{Rates}
 use Rattle.daa_config.specs.declared.kind.Kind.{Kind}
+use Rattle.daa_config.specs.declared.kind.Kind.TheVariants.{Track, Speed, Climb, Height}
 use Rattle.daa_config.specs.declared.level.Level.{Level}
 use Rattle.daa_config.specs.Candidates.{candidate_to}
 use Rattle.daa_config.specs.Settings.{Settings, IsLevelAt, rates_of}
 use Rattle.daa_state.specs.declared.word.Own.{Own}
 use Rattle.daa_state.specs.declared.word.Traffic.{Traffic}
 use Rattle.daa_legs.specs.declared.own_leg.OwnLeg.{OwnLeg}
-use Rattle.daa_legs.specs.Branch.{lead_of, FliesAs}
+use Rattle.daa_legs.specs.Branch.{lead_of}
 use Rattle.daa_legs.specs.Kept.{AreLegsOf}
 use Rattle.daa_legs.proofs.AtLevel.{one_level}
 use Rattle.daa_scan.specs.declared.trail.Trail.{Trail}
 use Rattle.daa_scan.specs.declared.marking.Trails.{Trails}
-use Rattle.daa_scan.specs.declared.trunks.Trunks.{Trunks}
 use Rattle.daa_scan.specs.Marking.{AreTrailsOf}
 use Rattle.daa_scan.specs.Sharing.{IsTrailOf}
-use Rattle.daa_scan.specs.Trunks.{trunk_in, AreTrunksOf, IsAhead}
+use Rattle.daa_scan.specs.Trunks.{place_of, trunk_in, AreLeads, AreLeadsBelow, IsAhead}
 use Rattle.daa_scan.proofs.Trails.{fewer_legs}
 
 pub ahead_more : (settings : Settings) (l most new : ℕ) (next : Level) → IsAhead settings l most → IsLevelAt settings (l + 1) next → next.lookahead ≤ new → most ≤ new → IsAhead settings (l + 1) new
@@ -32,20 +35,49 @@ ahead_more settings l most new next h at a b k level le there = ⊎_elim
     below : (l j : ℕ) → j ≤ l + 1 → (j ≡ l + 1 → ⊥) → j ≤ l
     below l j h n = ⊎_elim (λ k. omega (arith, k)) (λ k. absurd (n (omega (arith, h, k)))) (cases_lt j (l + 1))
 
-pub trunks_lead : (settings : Settings) (own : Own) (t : Trunks) (most : ℕ) → IsAhead settings (length settings.levels) most
-    → ((kind : Kind) (upper : Bool) (z : ℤ) → AreLegsOf own (rates_of settings) (lead_of own (candidate_to kind z) upper) most (trunk_in t kind upper)) → AreTrunksOf settings own t
-trunks_lead settings own t most ahead each l level at kind upper z =
+-- none is kept
+pub none_led : (settings : Settings) (own : Own) (most : ℕ) (trunks : List (List OwnLeg)) → length trunks ≡ 8 → AreLeadsBelow settings own 0 most trunks
+none_led settings own most trunks room = record { room = room; each = λ kind upper z b. absurd (omega (arith, b)) }
+
+-- the next
+pub next_led : (settings : Settings) (own : Own) (most place : ℕ) (trunks : List (List OwnLeg)) (legs : List OwnLeg) → place < 8 → AreLeadsBelow settings own place most trunks
+    → ((kind : Kind) (upper : Bool) (z : ℤ) → place ≡ place_of kind upper → AreLegsOf own (rates_of settings) (lead_of own (candidate_to kind z) upper) most legs)
+    → AreLeadsBelow settings own (place + 1) most (set trunks place legs)
+next_led settings own most place trunks legs inside h is = record {
+  room = length-set trunks place legs ∙ h.room;
+  each = λ kind upper z b. ⊎_elim
+      (λ e. subst (λ (ls : List OwnLeg). AreLegsOf own (rates_of settings) (lead_of own (candidate_to kind z) upper) most ls) (sym (ap (λ (i : ℕ). slice_index_or (set trunks place legs) i []) e ∙ get_or-set_same trunks place legs [] (omega (arith, inside, h.room)))) (is kind upper z (sym e)))
+      (λ n. subst (λ (ls : List OwnLeg). AreLegsOf own (rates_of settings) (lead_of own (candidate_to kind z) upper) most ls) (sym (get_or-set_other trunks place (place_of kind upper) legs [] n)) (h.each kind upper z (below (place_of kind upper) b n)))
+      (cases_eq (place_of kind upper) place);
+}
+  where
+    below : (i : ℕ) → i < place + 1 → (i ≡ place → ⊥) → i < place
+    below i b n = ⊎_elim (λ k. k) (λ k. absurd (n (omega (arith, b, k)))) (cases_lt i place)
+
+place_small : (kind : Kind) (upper : Bool) → place_of kind upper < 8
+place_small Track true = omega arith
+place_small Track false = omega arith
+place_small Speed true = omega arith
+place_small Speed false = omega arith
+place_small Climb true = omega arith
+place_small Climb false = omega arith
+place_small Height true = omega arith
+place_small Height false = omega arith
+
+-- all of them lead
+pub all_led : (settings : Settings) (own : Own) (most place : ℕ) (trunks : List (List OwnLeg)) → 8 ≤ place → IsAhead settings (length settings.levels) most → AreLeadsBelow settings own place most trunks → AreLeads settings own trunks
+all_led settings own most place trunks all ahead h l level at kind upper z =
     let w = slice_get_within settings.levels (l - 1) level at.there in
-    fewer_legs own (rates_of settings) (lead_of own (candidate_to kind z) upper) most level.lookahead (trunk_in t kind upper) (ahead l level (omega (arith, w)) at) (each kind upper z)
+    let s = place_small kind upper in
+    fewer_legs own (rates_of settings) (lead_of own (candidate_to kind z) upper) most level.lookahead (trunk_in trunks kind upper) (ahead l level (omega (arith, w)) at) (h.each kind upper z (omega (arith, s, all)))
 
 module _ (own : Own) (kind : Kind) (upper : Bool) (lead : Candidate) (is : (z : ℤ) → lead ≡ lead_of own (candidate_to kind z) upper) where
-  pub trunk_led : (rates : Rates) (n : ℕ) (t : Trunks) (legs : List OwnLeg) → ((u : Bool) (z : ℤ) → AreLegsOf own rates (lead_of own (candidate_to kind z) u) n (trunk_in t kind u)) → legs ≡ trunk_in t kind upper → AreLegsOf own rates lead n legs
+  pub trunk_led : (rates : Rates) (n : ℕ) (t : List (List OwnLeg)) (legs : List OwnLeg) → ((u : Bool) (z : ℤ) → AreLegsOf own rates (lead_of own (candidate_to kind z) u) n (trunk_in t kind u)) → legs ≡ trunk_in t kind upper → AreLegsOf own rates lead n legs
   trunk_led rates n t legs h e = subst (λ (c : Candidate). AreLegsOf own rates c n legs) (sym (is (pos 0)))
       (subst (λ (ls : List OwnLeg). AreLegsOf own rates (lead_of own (candidate_to kind (pos 0)) upper) n ls) (sym e) (h upper (pos 0)))
 
-  pub flies_led : (rates r : Rates) (candidate : Candidate) (value : ℤ) (n : ℕ) → r ≡ rates → candidate ≡ candidate_to kind value → FliesAs own r candidate (lead_of own candidate upper) n → FliesAs own rates candidate lead n
-  flies_led rates r candidate value n e c f = subst (λ (x : Rates). FliesAs own x candidate lead n) e
-      (subst (λ (y : Candidate). FliesAs own r candidate y n) (ap (λ (x : Candidate). lead_of own x upper) c ∙ sym (is value)) f)
+  pub leads_of : (candidate : Candidate) (value : ℤ) → candidate ≡ candidate_to kind value → lead ≡ lead_of own candidate upper
+  leads_of candidate value c = is value ∙ ap (λ (x : Candidate). lead_of own x upper) (sym c)
 
   module _ (settings : Settings) (aircraft : Traffic) (volume : Volume) (trails : Trails) (h : AreTrailsOf settings own aircraft volume kind trails) where
     along : (u : Bool) → upper ≡ u → (z : ℤ) → lead ≡ lead_of own (candidate_to kind z) u

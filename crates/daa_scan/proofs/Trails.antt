@@ -15,7 +15,9 @@ use Rattle.daa_state.specs.InRange.{IsOwnInRange}
 use Rattle.daa_legs.specs.declared.own_leg.OwnLeg.{OwnLeg}
 use Rattle.daa_fixed.specs.declared.Solid.{Solid}
 use Rattle.daa_fixed.specs.Leg.{IsSolidBelow}
-use Rattle.daa_legs.specs.Branch.{velocity_there, FliesAs, FliesOn}
+use Rattle.daa_legs.specs.declared.branch.Branch.{Branch}
+use Rattle.daa_legs.specs.Branch.{lead_of, velocity_there, FliesAs, FliesOn}
+use Rattle.daa_legs.specs.Table.{IsBranchOf}
 use Rattle.daa_legs.specs.Kept.{AreLegsOf}
 use Rattle.daa_legs.specs.OwnLegs.{place_on, own_leg, IsOwnLegInRange}
 use Rattle.daa_legs.specs.Relative.{relative_for}
@@ -42,6 +44,20 @@ pub leaves_there : (own : Own) (rates : Rates) (candidate lead : Candidate) (n m
     → ((d : OwnLeg) → slice_index_or legs n d ≡ leg) → leg.place ≡ place_on own rates candidate n
 leaves_there own rates candidate lead n m legs leg alike h b k =
     ap (λ (l : OwnLeg). l.place) (kept_is own rates lead m n legs leg h b k) ∙ sym (place_alike own rates candidate lead n alike n (omega arith))
+
+-- it leaves the flight that leads on its side
+pub flies_as_lead : (own : Own) (rates : Rates) (candidate lead : Candidate) (branch : Branch) → lead ≡ lead_of own candidate branch.upper → IsBranchOf own rates candidate branch → FliesAs own rates candidate lead branch.leaves
+flies_as_lead own rates candidate lead branch e is = subst (λ (x : Candidate). FliesAs own rates candidate x branch.leaves) (sym e) is.before
+
+-- a leg of its own, by its branch
+pub own_by_branch : (own : Own) (rates : Rates) (candidate : Candidate) (branch : Branch) (place : Solid) (leg : OwnLeg) → IsBranchOf own rates candidate branch → branch.leaves < branch.settles → branch.leaves < 180
+    → place ≡ place_on own rates candidate branch.leaves → leg ≡ record { place = place; velocity = record { flat = branch.velocity.flat; up = branch.rise } } → leg ≡ own_leg own rates candidate branch.leaves
+own_by_branch own rates candidate branch place leg is later soon p e = e ∙ (λ i. record { place = p i; velocity = sym (is.rise later soon) i })
+
+-- the velocity of the straight rest is in range
+pub rest_velocity : (own : Own) (rates : Rates) (candidate : Candidate) (k : ℕ) (velocity : Solid) → IsOwnInRange own → AreRatesInRange rates → IsCandidateInRange candidate → velocity ≡ velocity_there own candidate → FliesOn own rates candidate k
+    → IsSolidBelow 20000 velocity
+rest_velocity own rates candidate k velocity o r h e on = subst (λ (v : Solid). IsSolidBelow 20000 v) (on.there k (omega arith) ∙ sym e) (velocity_on-below own rates candidate o r h k)
 
 -- a test of the straight rest
 pub rest_tested : (settings : Settings) (own : Own) (candidate : Candidate) (aircraft : Traffic) (volume : Volume) (k secs m : ℕ) (rest : OwnLeg) (rel : Leg) (hit : Bool)

@@ -4,13 +4,12 @@ use Rattle.daa_config.specs.Settings.{IsAccepted}
 use Rattle.daa_state.specs.InRange.{IsPictureInRange}
 use Rattle.daa_scan.specs.Packed.{places_in_reach}
 use Rattle.daa_scan.specs.Situation.{Situation}
-use Rattle.daa_scan.specs.Trunks.{AreTrunksOf}
+use Rattle.daa_scan.specs.Trunks.{Shared, AreTrunksOf}
 use Rattle.daa_scan.specs.Units.{group_count}
-use Rattle.daa_scan.specs.declared.trunks.Trunks.{Trunks}
 
 -- its configuration was accepted, its moment is in range, its groups are counted, the aircraft in reach are found, and the flights that
--- lead on the sides of each kind are kept
-pub record IsScene (s : Situation) (groups : ℕ) (places : List ℕ) (trunks : Trunks) : Type 0 where
+-- lead on the sides of each kind and the candidates' branches are kept
+pub record IsScene (s : Situation) (groups : ℕ) (places : List ℕ) (trunks : Shared) : Type 0 where
   pub accepted : IsAccepted s.settings
   pub picture : IsPictureInRange s.picture
   pub counted : groups ≡ group_count s.settings

@@ -9,6 +9,7 @@ mod reach;
 mod refusal;
 mod scene;
 mod sharing;
+mod table;
 #[cfg(test)]
 mod tests;
 mod trail;
@@ -16,4 +17,5 @@ mod trunks;
 
 pub use laws::worked_examples;
 pub use scene::Scene;
-pub use trunks::Trunks;
+pub use table::fill_branches;
+pub use trunks::{Trunks, fill_trunks};

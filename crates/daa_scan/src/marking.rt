@@ -12,7 +12,8 @@ ghost use Rattle.daa_config.specs.declared.candidate.Candidate.{Candidate};
 ghost use Rattle.daa_state.specs.declared.word.Own.{Own};
 ghost use Rattle.daa_state.specs.declared.word.Traffic.{Traffic};
 ghost use Rattle.daa_state.specs.InRange.{IsOwnInRange, IsTrafficInRange};
-ghost use Rattle.daa_legs.specs.Branch.{FliesAs, FliesOn, lead_of};
+ghost use Rattle.daa_legs.specs.Branch.{lead_of};
+ghost use Rattle.daa_legs.specs.Table.{IsBranchOf};
 ghost use Rattle.daa_legs.specs.Kept.{AreLegsOf};
 ghost use Rattle.daa_legs.specs.Meeting.{MeetsWithin, Meets};
 ghost use Rattle.daa_scan.specs.Sharing.{IsTrailOf};
@@ -26,7 +27,7 @@ use crate::trail::Trail;
 use crate::trunks::{Trunks, lead_to};
 use daa_config::{Candidate, Config, Kind, Level};
 use daa_detect::is_hit;
-use daa_legs::{Branch, Trunk, branch_of};
+use daa_legs::{Branch, Trunk};
 use daa_state::{Own, Traffic};
 
 /// How far the flights that lead on both sides of a kind were walked.
@@ -177,7 +178,7 @@ fn mark_kind(
             level,
             nested,
             kind,
-            candidate_in(config, kind, index - start),
+            index,
             &mut trails,
             masks[j],
         );
@@ -196,7 +197,8 @@ fn is_nested(config: &Config, l: u32) -> bool
     l > 0 && lies_within(config.level(l + 1), config.level(l))
 }
 
-/// The mask of a candidate with the level after level `l`.
+/// The mask of the candidate at an index of the whole list, one of a kind, with the level after
+/// level `l`.
 fn next_mask(
     config: &Config,
     own: &Own,
@@ -206,23 +208,22 @@ fn next_mask(
     level: &Level,
     nested: bool,
     kind: Kind,
-    candidate: Candidate,
+    index: u32,
     trails: &mut Trails,
     mask: u8,
 ) -> u8
+    ghost candidate: { Candidate }
     requires own { IsOwnInRange own.now }
     requires aircraft { IsTrafficInRange aircraft.now }
     requires few { l < 8 }
     requires level { IsLevelInRange level.now }
     requires at { IsLevelAt config.now (l + 1) level.now }
-    requires trunks { (upper : Bool) (z : ℤ)
-        → AreLegsOf own.now (rates_of config.now)
-        (lead_of own.now (candidate_to kind z) upper) level.now.lookahead
-        (trunk_in trunks.now kind upper) }
+    requires trunks { AreTrunksOf config.now own.now trunks.now }
     requires some { IsTrue nested → 1 ≤ l }
     requires nested { IsTrue nested → (candidate : Candidate)
         → Meets config.now own.now candidate aircraft.now (l + 1)
         → Meets config.now own.now candidate aircraft.now l }
+    requires listed { slice_get (candidates_of config.now) index ≡ Some candidate }
     requires candidate { IsCandidateInRange candidate }
     requires of { (value : ℤ) × (candidate ≡ candidate_to kind value) }
     requires trails { AreTrailsOf config.now own.now aircraft.now level.now.volume kind trails.old }
@@ -233,9 +234,8 @@ fn next_mask(
     if nested && !has_level(mask, l) {
         return mask;
     }
-    let met = meets_shared(
-        config, own, trunks, aircraft, level, kind, candidate, trails,
-    );
+    let branch = trunks.branch(index);
+    let met = meets_shared(config, own, trunks, aircraft, level, kind, branch, trails);
     with_level(mask, l, met)
 }
 
@@ -257,7 +257,8 @@ fn with_level(mask: u8, l: u32, met: bool) -> u8
     if met { mask | 1 << l } else { mask }
 }
 
-/// Whether a candidate of a kind meets the aircraft within the level's lookahead.
+/// Whether the candidate of a kind that has this branch meets the aircraft within the level's
+/// lookahead.
 fn meets_shared(
     config: &Config,
     own: &Own,
@@ -265,36 +266,35 @@ fn meets_shared(
     aircraft: &Traffic,
     level: &Level,
     kind: Kind,
-    candidate: Candidate,
+    branch: &Branch,
     trails: &mut Trails,
 ) -> bool
+    ghost candidate: { Candidate }
     requires own { IsOwnInRange own.now }
     requires aircraft { IsTrafficInRange aircraft.now }
     requires level { IsLevelInRange level.now }
     requires trunks { (upper : Bool) (z : ℤ)
         → AreLegsOf own.now (rates_of config.now)
         (lead_of own.now (candidate_to kind z) upper) level.now.lookahead
-        (trunk_in trunks.now kind upper) }
+        (trunk_in trunks.now.trunks kind upper) }
     requires candidate { IsCandidateInRange candidate }
     requires of { (value : ℤ) × (candidate ≡ candidate_to kind value) }
+    requires branch { IsBranchOf own.now (rates_of config.now) candidate branch.now }
     requires trails { AreTrailsOf config.now own.now aircraft.now level.now.volume kind trails.old }
     ensures met { IsTrue result
         ↔ MeetsWithin config.now own.now candidate aircraft.now level.now.volume level.now.lookahead }
     ensures trails { AreTrailsOf config.now own.now aircraft.now level.now.volume kind trails.new }
 {
-    let rates = config.rates();
-    let branch = branch_of(own, &rates, candidate);
     let lead = lead_to(own, kind, branch.upper);
     let trunk = trunks.trunk(kind, branch.upper);
     if branch.upper {
         meets_along(
             config,
             own,
-            candidate,
             lead,
             trunk,
             &mut trails.upper,
-            &branch,
+            branch,
             aircraft,
             level,
         )
@@ -302,40 +302,21 @@ fn meets_shared(
         meets_along(
             config,
             own,
-            candidate,
             lead,
             trunk,
             &mut trails.lower,
-            &branch,
+            branch,
             aircraft,
             level,
         )
     }
 }
 
-/// The candidate at a place of a kind.
-fn candidate_in(config: &Config, kind: Kind, place: u32) -> Candidate
-    requires { place < length (values_of kind config.now) }
-    ensures value { slice_get (candidates_of config.now)
-        (start_of kind config.now + place) ≡ Some result }
-    ensures in_range { IsCandidateInRange result }
-    ensures of { (value : ℤ) × (result ≡ candidate_to kind value) }
-{
-    let value = config.value(kind, place);
-    match kind {
-        Kind::Track => Candidate::Track(value),
-        Kind::Speed => Candidate::Speed(value),
-        Kind::Climb => Candidate::Climb(value),
-        Kind::Height => Candidate::Height(value),
-    }
-}
-
-/// Whether the candidate meets the aircraft within the level's lookahead. The trail is walked on as
-/// far as is needed.
+/// Whether the candidate that has this branch meets the aircraft within the level's lookahead. The
+/// trail is walked on as far as is needed.
 fn meets_along(
     config: &Config,
     own: &Own,
-    candidate: Candidate,
     lead: Candidate,
     trunk: &Trunk,
     trail: &mut Trail,
@@ -343,16 +324,15 @@ fn meets_along(
     aircraft: &Traffic,
     level: &Level,
 ) -> bool
+    ghost candidate: { Candidate }
     requires own { IsOwnInRange own.now }
     requires candidate { IsCandidateInRange candidate }
     requires lead { IsCandidateInRange lead }
     requires aircraft { IsTrafficInRange aircraft.now }
     requires level { IsLevelInRange level.now }
     requires trunk { AreLegsOf own.now (rates_of config.now) lead level.now.lookahead trunk.now }
-    requires before { FliesAs own.now (rates_of config.now) candidate lead branch.now.leaves }
-    requires after { FliesOn own.now (rates_of config.now) candidate branch.now.settles }
-    requires near { (branch.now.leaves ≤ branch.now.settles)
-        × (branch.now.settles ≤ branch.now.leaves + 1) }
+    requires leads { lead ≡ lead_of own.now candidate branch.now.upper }
+    requires branch { IsBranchOf own.now (rates_of config.now) candidate branch.now }
     requires trail { IsTrailOf config.now own.now lead aircraft.now level.now.volume trail.old }
     ensures met { IsTrue result
         ↔ MeetsWithin config.now own.now candidate aircraft.now level.now.volume level.now.lookahead }
@@ -369,7 +349,5 @@ fn meets_along(
         aircraft,
         &level.volume,
     );
-    meets_by_branch(
-        config, own, candidate, lead, trunk, trail, branch, aircraft, level,
-    )
+    meets_by_branch(config, own, lead, trunk, trail, branch, aircraft, level)
 }

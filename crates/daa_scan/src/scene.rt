@@ -8,7 +8,8 @@ ghost use Rattle.daa_state.specs.InRange.{IsPictureInRange};
 ghost use Rattle.daa_state.specs.Picture.{aircraft_of};
 ghost use Rattle.daa_scan.specs.Reach.{IsInReachAt};
 ghost use Rattle.daa_scan.specs.Situation.{MeetsAt};
-ghost use Rattle.daa_scan.specs.Trunks.{AreTrunksOf};
+ghost use Rattle.daa_legs.specs.Table.{AreBranchesOf};
+ghost use Rattle.daa_scan.specs.Trunks.{AreLeads};
 ghost use Rattle.daa_scan.specs.Units.{group_count, most_groups};
 ghost use Rattle.daa_scan.specs.Packed.{places_in_reach, packed_word, entry_at};
 
@@ -18,6 +19,7 @@ use crate::trunks::Trunks;
 use arrayvec::ArrayVec;
 use daa_config::packing::{GROUP, WIDTH};
 use daa_config::{Config, Kind};
+use daa_legs::{Branch, Trunk};
 use daa_schedule::Answers;
 use daa_state::{Picture, Traffic};
 use std::marker::Model;
@@ -33,7 +35,7 @@ pub struct Scene<'a> {
     groups: u32,
     // the places of the aircraft in reach, in the moment's order
     places: ArrayVec<u32, 64>,
-    trunks: &'a Trunks,
+    trunks: Trunks<'a>,
 }
 
 impl<'a> Model for Scene<'a> {
@@ -44,15 +46,22 @@ impl<'a> Model for Scene<'a> {
 
     ghost view = { λ s. record { settings = s.config.now; picture = s.picture.now } };
 
-    ghost invariant = { λ s. IsScene (record { settings = s.config.now; picture = s.picture.now }) s.groups s.places.items s.trunks.now };
+    ghost invariant = { λ s. IsScene (record { settings = s.config.now; picture = s.picture.now }) s.groups s.places.items s.trunks };
 }
 
 impl<'a> Scene<'a> {
-    /// The scene of a configuration and an ended moment, and the flights that lead on the sides of
-    /// each kind.
-    pub fn of(config: &'a Config, picture: &'a Picture, trunks: &'a Trunks) -> Scene<'a>
+    /// The scene of a configuration and an ended moment, with the flights that lead on the sides of
+    /// each kind and the candidates' branches.
+    pub fn of(
+        config: &'a Config,
+        picture: &'a Picture,
+        trunks: &'a [Trunk],
+        branches: &'a [Branch],
+    ) -> Scene<'a>
         requires picture { IsPictureInRange picture.now }
-        requires trunks { AreTrunksOf config.now picture.now.own trunks.now }
+        requires room { length trunks.now ≡ 8 }
+        requires leads { AreLeads config.now picture.now.own trunks.now }
+        requires branches { AreBranchesOf config.now picture.now.own branches.now }
         ensures { result ≡ record { settings = config.now; picture = picture.now } }
     {
         Scene {
@@ -60,7 +69,7 @@ impl<'a> Scene<'a> {
             picture,
             groups: groups_of(config),
             places: places_near(config, picture),
-            trunks,
+            trunks: Trunks::of(trunks, branches),
         }
     }
 
@@ -95,7 +104,7 @@ impl<'a> Scene<'a> {
         mark_levels(
             self.config,
             &self.picture.own,
-            self.trunks,
+            &self.trunks,
             self.aircraft(aircraft),
             first,
             masks,

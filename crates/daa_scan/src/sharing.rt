@@ -5,7 +5,9 @@ ghost use Rattle.std.specs.Prelude.{◌≡◌, ◌≤◌, ◌<◌, ◌+◌, ◌�
 ghost use Rattle.daa_taumod.specs.Volume.{IsVolumeInRange};
 ghost use Rattle.daa_config.specs.Settings.{IsCandidateInRange, IsLevelInRange, rates_of};
 ghost use Rattle.daa_state.specs.InRange.{IsOwnInRange, IsTrafficInRange};
-ghost use Rattle.daa_legs.specs.Branch.{FliesAs, FliesOn};
+ghost use Rattle.daa_config.specs.declared.candidate.Candidate.{Candidate};
+ghost use Rattle.daa_legs.specs.Branch.{FliesOn, lead_of, velocity_there};
+ghost use Rattle.daa_legs.specs.Table.{IsBranchOf};
 ghost use Rattle.daa_legs.specs.Kept.{AreLegsOf};
 ghost use Rattle.daa_legs.specs.Meeting.{MeetsWithin, ViolatesOn};
 ghost use Rattle.daa_legs.specs.OwnLegs.{place_on};
@@ -16,7 +18,7 @@ use crate::trail::Trail;
 use daa_config::{Candidate, Config, Level};
 use daa_detect::is_hit;
 use daa_fixed::Solid;
-use daa_legs::{Branch, OwnRun, Trunk, end_of, leg_at, relative, relative_run, rest_from};
+use daa_legs::{Branch, OwnLeg, OwnRun, Trunk, end_of, relative, relative_run};
 use daa_state::{Own, Traffic};
 use daa_taumod::Volume;
 
@@ -78,69 +80,71 @@ fn violates_on(
     is_hit(&relative(trunk.leg(k), aircraft, k), volume)
 }
 
-/// Whether the candidate meets the aircraft on the leg on which it leaves the trunk, or later.
+/// Whether the candidate that has this branch meets the aircraft on the leg on which it leaves the
+/// trunk, or later.
 fn meets_after(
     config: &Config,
     own: &Own,
-    candidate: Candidate,
     lead: Candidate,
     trunk: &Trunk,
     branch: &Branch,
     aircraft: &Traffic,
     level: &Level,
 ) -> bool
+    ghost candidate: { Candidate }
     requires own { IsOwnInRange own.now }
     requires candidate { IsCandidateInRange candidate }
     requires aircraft { IsTrafficInRange aircraft.now }
     requires level { IsLevelInRange level.now }
     requires leaves { branch.now.leaves < level.now.lookahead }
     requires trunk { AreLegsOf own.now (rates_of config.now) lead level.now.lookahead trunk.now }
-    requires before { FliesAs own.now (rates_of config.now) candidate lead branch.now.leaves }
-    requires after { FliesOn own.now (rates_of config.now) candidate branch.now.settles }
-    requires near { (branch.now.leaves ≤ branch.now.settles)
-        × (branch.now.settles ≤ branch.now.leaves + 1) }
+    requires leads { lead ≡ lead_of own.now candidate branch.now.upper }
+    requires branch { IsBranchOf own.now (rates_of config.now) candidate branch.now }
     ensures { IsTrue result
         ↔ MeetsBetween config.now own.now candidate aircraft.now level.now.volume branch.now.leaves level.now.lookahead }
 {
     let k = branch.leaves;
     let place = &trunk.leg(k).place;
     if branch.settles > k {
-        meets_from_own_leg(config, own, candidate, place, k, aircraft, level)
+        meets_from_own_leg(config, own, branch, place, aircraft, level)
     } else {
-        meets_on_rest(config, own, candidate, place, k, aircraft, level)
+        meets_on_rest(config, own, &branch.velocity, place, k, aircraft, level)
     }
 }
 
-/// Whether the candidate, which is at this place, meets the aircraft on leg `k` or later. After leg
-/// `k` it flies straight on.
+/// Whether the candidate that has this branch, and which is at this place when it leaves the trunk,
+/// meets the aircraft then or later. It leaves by a leg of its own.
 fn meets_from_own_leg(
     config: &Config,
     own: &Own,
-    candidate: Candidate,
+    branch: &Branch,
     place: &Solid,
-    k: u32,
     aircraft: &Traffic,
     level: &Level,
 ) -> bool
+    ghost candidate: { Candidate }
     requires own { IsOwnInRange own.now }
     requires candidate { IsCandidateInRange candidate }
     requires aircraft { IsTrafficInRange aircraft.now }
     requires level { IsLevelInRange level.now }
-    requires k { k < level.now.lookahead }
-    requires place { place.now ≡ place_on own.now (rates_of config.now) candidate k }
-    requires after { FliesOn own.now (rates_of config.now) candidate (k + 1) }
+    requires leaves { branch.now.leaves < level.now.lookahead }
+    requires place { place.now ≡ place_on own.now (rates_of config.now) candidate branch.now.leaves }
+    requires branch { IsBranchOf own.now (rates_of config.now) candidate branch.now }
+    requires later { branch.now.leaves < branch.now.settles }
     ensures { IsTrue result
-        ↔ MeetsBetween config.now own.now candidate aircraft.now level.now.volume k level.now.lookahead }
+        ↔ MeetsBetween config.now own.now candidate aircraft.now level.now.volume branch.now.leaves level.now.lookahead }
 {
-    let rates = config.rates();
-    let first = leg_at(own, &rates, candidate, place, k);
+    // tells that they are in range
+    let _rates = config.rates();
+    let k = branch.leaves;
+    let first = own_leg_of(branch, place);
     if is_hit(&relative(&first, aircraft, k), &level.volume) {
         return true;
     }
     meets_on_rest(
         config,
         own,
-        candidate,
+        &branch.velocity,
         &end_of(&first),
         k + 1,
         aircraft,
@@ -148,21 +152,37 @@ fn meets_from_own_leg(
     )
 }
 
-/// Whether the candidate, which flies straight on from this place, meets the aircraft on leg `k` or
-/// later.
+/// The leg of the candidate's own, which begins at this place.
+fn own_leg_of(branch: &Branch, place: &Solid) -> OwnLeg
+    ensures { result ≡ record { place = place.now;
+        velocity = record { flat = branch.now.velocity.flat; up = branch.now.rise } } }
+{
+    OwnLeg {
+        place: *place,
+        velocity: Solid {
+            flat: branch.velocity.flat,
+            up: branch.rise,
+        },
+    }
+}
+
+/// Whether the candidate, which flies straight on from this place at this velocity, meets the
+/// aircraft on leg `k` or later.
 fn meets_on_rest(
     config: &Config,
     own: &Own,
-    candidate: Candidate,
+    velocity: &Solid,
     place: &Solid,
     k: u32,
     aircraft: &Traffic,
     level: &Level,
 ) -> bool
+    ghost candidate: { Candidate }
     requires own { IsOwnInRange own.now }
     requires candidate { IsCandidateInRange candidate }
     requires aircraft { IsTrafficInRange aircraft.now }
     requires level { IsLevelInRange level.now }
+    requires velocity { velocity.now ≡ velocity_there own.now candidate }
     requires place { place.now ≡ place_on own.now (rates_of config.now) candidate k }
     requires on { FliesOn own.now (rates_of config.now) candidate k }
     ensures { IsTrue result
@@ -173,21 +193,18 @@ fn meets_on_rest(
     }
     // tells that they are in range
     let _rates = config.rates();
-    let rest = rest_from(own, candidate, place);
     let run = OwnRun {
-        place: rest.place,
-        velocity: rest.velocity,
+        place: *place,
+        velocity: *velocity,
         secs: level.lookahead - k,
     };
     is_hit(&relative_run(&run, aircraft, k), &level.volume)
 }
 
-/// Whether the candidate meets the aircraft within the level's lookahead, where it leaves the trunk
-/// as the branch says.
+/// Whether the candidate that has this branch meets the aircraft within the level's lookahead.
 pub(crate) fn meets_by_branch(
     config: &Config,
     own: &Own,
-    candidate: Candidate,
     lead: Candidate,
     trunk: &Trunk,
     trail: &Trail,
@@ -195,15 +212,14 @@ pub(crate) fn meets_by_branch(
     aircraft: &Traffic,
     level: &Level,
 ) -> bool
+    ghost candidate: { Candidate }
     requires own { IsOwnInRange own.now }
     requires candidate { IsCandidateInRange candidate }
     requires aircraft { IsTrafficInRange aircraft.now }
     requires level { IsLevelInRange level.now }
     requires trunk { AreLegsOf own.now (rates_of config.now) lead level.now.lookahead trunk.now }
-    requires before { FliesAs own.now (rates_of config.now) candidate lead branch.now.leaves }
-    requires after { FliesOn own.now (rates_of config.now) candidate branch.now.settles }
-    requires near { (branch.now.leaves ≤ branch.now.settles)
-        × (branch.now.settles ≤ branch.now.leaves + 1) }
+    requires leads { lead ≡ lead_of own.now candidate branch.now.upper }
+    requires branch { IsBranchOf own.now (rates_of config.now) candidate branch.now }
     requires trail { IsTrailOf config.now own.now lead aircraft.now level.now.volume trail.now }
     requires walked { trail.now.hit ≡ false → (branch.now.leaves ≤ trail.now.walked)
         ⊎ (level.now.lookahead ≤ trail.now.walked) }
@@ -216,5 +232,5 @@ pub(crate) fn meets_by_branch(
     if branch.leaves >= level.lookahead {
         return false;
     }
-    meets_after(config, own, candidate, lead, trunk, branch, aircraft, level)
+    meets_after(config, own, lead, trunk, branch, aircraft, level)
 }

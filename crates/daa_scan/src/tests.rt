@@ -1,9 +1,8 @@
 //! Worked scenes: a configuration, an ownship and aircraft as their lines say them, and what the
 //! scan answers.
 
-ghost use Rattle.std.specs.Prelude.{IfOk, IfSome};
+ghost use Rattle.std.specs.Prelude.{◌≡◌, IfSome, length};
 ghost use Rattle.daa_state.specs.InRange.{IsPictureInRange};
-ghost use Rattle.daa_scan.specs.Trunks.{AreTrunksOf};
 
 mod drawn;
 mod reaching;
@@ -12,8 +11,8 @@ mod words;
 
 use super::*;
 use daa_config::{Config, read};
+use daa_legs::{Branch, Trunk};
 use daa_state::{Moments, Picture, read_line};
-use std::alloc::Global;
 use std::process::Abort;
 use std::test::Fail;
 
@@ -51,14 +50,23 @@ fn picture_in(lines: &[&str]) -> Option<Picture>
     None
 }
 
-/// The flights that lead on the sides of each kind.
-fn trunks_of(alloc: Global, config: &Config, picture: &Picture) -> Result<Trunks, Fail>
-    requires { IsPictureInRange picture.now }
-    ensures { IfOk result (λ trunks. AreTrunksOf config.now picture.now.own trunks) }
+/// How many branches are kept: one for each candidate, of which there are at most so many.
+const BRANCHES: usize = 1897;
+
+/// Room for the flights that lead on the sides of each kind.
+fn eight() -> [Trunk; 8]
+    ensures { length result ≡ 8 }
 {
-    let mut trunks = Trunks::new();
-    trunks.fill(&picture.own, config);
-    Ok(trunks)
+    [
+        Trunk::new(),
+        Trunk::new(),
+        Trunk::new(),
+        Trunk::new(),
+        Trunk::new(),
+        Trunk::new(),
+        Trunk::new(),
+        Trunk::new(),
+    ]
 }
 
 fn may_be_shared<T: Send + Sync>() {}

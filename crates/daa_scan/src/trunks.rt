@@ -1,77 +1,106 @@
-//! The flights that lead on the two sides of each kind.
+//! The flights that lead on the two sides of each kind, and the branches of the candidates, both
+//! kept by the caller.
 
-ghost use Rattle.std.specs.Prelude.{◌≡◌, ◌≤◌, ℕ, ℤ, length};
+ghost use Rattle.std.specs.Prelude.{◌≡◌, ◌<◌, ◌≤◌, Bool, ℕ, ℤ, length, slice_index_or};
 ghost use Rattle.daa_config.specs.Candidates.{candidate_to};
 ghost use Rattle.daa_config.specs.Settings.{IsCandidateInRange, IsLevelAt, rates_of};
+ghost use Rattle.daa_config.specs.declared.kind.Kind.{Kind};
 ghost use Rattle.daa_config.specs.declared.level.Level.{Level};
 ghost use Rattle.daa_state.specs.InRange.{IsOwnInRange};
 ghost use Rattle.daa_legs.specs.Branch.{lead_of};
 ghost use Rattle.daa_legs.specs.Kept.{AreLegsOf};
-ghost use Rattle.daa_scan.specs.Trunks.{trunk_in, AreTrunksOf, IsAhead};
+ghost use Rattle.daa_legs.specs.declared.branch.Branch.{Branch};
+ghost use Rattle.daa_legs.specs.declared.own_leg.OwnLeg.{OwnLeg};
+ghost use Rattle.daa_scan.specs.Trunks.{place_of, trunk_in, AreLeads, IsAhead};
 
 use daa_config::{Candidate, Config, Kind};
-use daa_legs::Trunk;
+use daa_legs::{Branch, Trunk};
 use daa_state::Own;
+use std::marker::Model;
 
-/// The kept flights: half a turn to the right and to the left, and those to the greatest and the
-/// least value of the other kinds.
+/// How many flights lead: on two sides of four kinds.
+const LEADS: u32 = 8;
+
+/// The kept flights, half a turn to the right and to the left, and those to the greatest and the
+/// least value of the other kinds; and the branch of each candidate of the whole list.
 #[derive(Drop)]
-pub struct Trunks {
-    right: Trunk,
-    left: Trunk,
-    faster: Trunk,
-    slower: Trunk,
-    climbing: Trunk,
-    descending: Trunk,
-    higher: Trunk,
-    lower: Trunk,
+pub struct Trunks<'a> {
+    trunks: &'a [Trunk],
+    branches: &'a [Branch],
 }
 
-impl Trunks {
-    /// Room for them.
-    pub fn new() -> Trunks {
-        Trunks {
-            right: Trunk::new(),
-            left: Trunk::new(),
-            faster: Trunk::new(),
-            slower: Trunk::new(),
-            climbing: Trunk::new(),
-            descending: Trunk::new(),
-            higher: Trunk::new(),
-            lower: Trunk::new(),
-        }
-    }
+impl<'a> Model for Trunks<'a> {
+    ghost use Rattle.std.specs.Prelude.{◌≡◌, length};
+    ghost use Rattle.daa_scan.specs.Trunks.{Shared};
 
-    /// Keeps the flights that lead, as far as any level looks ahead.
-    pub fn fill(&mut self, own: &Own, config: &Config)
-        requires { IsOwnInRange own.now }
-        ensures { AreTrunksOf config.now own.now self.new }
+    ghost Value = { Shared };
+
+    ghost view = { λ t. record { trunks = t.trunks.now; branches = t.branches.now } };
+
+    ghost invariant = { λ t. length t.trunks.now ≡ 8 };
+}
+
+impl<'a> Trunks<'a> {
+    /// What is kept.
+    pub fn of(trunks: &'a [Trunk], branches: &'a [Branch]) -> Trunks<'a>
+        requires { length trunks.now ≡ 8 }
+        ensures { result ≡ record { trunks = trunks.now; branches = branches.now } }
     {
-        let most = most_lookahead(config);
-        keep(&mut self.right, own, config, Kind::Track, true, most);
-        keep(&mut self.left, own, config, Kind::Track, false, most);
-        keep(&mut self.faster, own, config, Kind::Speed, true, most);
-        keep(&mut self.slower, own, config, Kind::Speed, false, most);
-        keep(&mut self.climbing, own, config, Kind::Climb, true, most);
-        keep(&mut self.descending, own, config, Kind::Climb, false, most);
-        keep(&mut self.higher, own, config, Kind::Height, true, most);
-        keep(&mut self.lower, own, config, Kind::Height, false, most);
+        Trunks { trunks, branches }
     }
 
     /// The flight that leads on a side of a kind.
     pub(crate) fn trunk(&self, kind: Kind, upper: bool) -> &Trunk
-        ensures { result.now ≡ trunk_in self.now kind upper }
+        ensures { result.now ≡ trunk_in self.now.trunks kind upper }
     {
-        match kind {
-            Kind::Track => if upper { &self.right } else { &self.left },
-            Kind::Speed => if upper { &self.faster } else { &self.slower },
-            Kind::Climb => if upper {
-                &self.climbing
-            } else {
-                &self.descending
-            },
-            Kind::Height => if upper { &self.higher } else { &self.lower },
-        }
+        &self.trunks[place_of(kind, upper) as usize]
+    }
+
+    /// The branch of the candidate at an index of the whole list.
+    pub(crate) fn branch(&self, index: u32) -> &Branch
+        requires { index < length self.now.branches }
+        ensures { (d : Branch) → slice_index_or self.now.branches index d ≡ result.now }
+    {
+        &self.branches[index as usize]
+    }
+}
+
+/// Keeps the flights that lead, as far as any level looks ahead.
+pub fn fill_trunks(trunks: &mut [Trunk], own: &Own, config: &Config)
+    requires own { IsOwnInRange own.now }
+    requires room { length trunks.old ≡ 8 }
+    ensures leads { AreLeads config.now own.now trunks.new }
+    ensures room { length trunks.new ≡ 8 }
+{
+    let most = most_lookahead(config);
+    for place in 0..LEADS {
+        keep(&mut trunks[place as usize], own, config, place, most);
+    }
+}
+
+/// Where the flight that leads on a side of a kind is kept.
+fn place_of(kind: Kind, upper: bool) -> u32
+    ensures value { result ≡ place_of kind upper }
+    ensures within { result < 8 }
+{
+    match kind {
+        Kind::Track => if upper { 0 } else { 1 },
+        Kind::Speed => if upper { 2 } else { 3 },
+        Kind::Climb => if upper { 4 } else { 5 },
+        Kind::Height => if upper { 6 } else { 7 },
+    }
+}
+
+/// The kind whose side has this place.
+fn kind_at(place: u32) -> Kind
+    requires { place < 8 }
+    ensures { (kind : Kind) (upper : Bool) → place ≡ place_of kind upper → result ≡ kind }
+{
+    match place / 2 {
+        0 => Kind::Track,
+        1 => Kind::Speed,
+        2 => Kind::Climb,
+        _ => Kind::Height,
     }
 }
 
@@ -90,14 +119,17 @@ pub(crate) fn lead_to(own: &Own, kind: Kind, upper: bool) -> Candidate
     }
 }
 
-/// Keeps so many legs of the flight that leads on a side of a kind.
-fn keep(trunk: &mut Trunk, own: &Own, config: &Config, kind: Kind, upper: bool, most: u32)
+/// Keeps so many legs of the flight that leads on the side with this place.
+fn keep(trunk: &mut Trunk, own: &Own, config: &Config, place: u32, most: u32)
     requires own { IsOwnInRange own.now }
+    requires place { place < 8 }
     requires most { most ≤ 180 }
-    ensures { (z : ℤ) → AreLegsOf own.now (rates_of config.now)
-        (lead_of own.now (candidate_to kind z) upper) most trunk.new }
+    ensures { (kind : Kind) (upper : Bool) (z : ℤ) → place ≡ place_of kind upper
+        → AreLegsOf own.now (rates_of config.now) (lead_of own.now (candidate_to kind z) upper) most
+        trunk.new }
 {
-    trunk.fill(own, config, lead_to(own, kind, upper), most);
+    let lead = lead_to(own, kind_at(place), place % 2 == 0);
+    trunk.fill(own, config, lead, most);
 }
 
 /// The greatest number of seconds that a level looks ahead.

@@ -3,10 +3,11 @@
 ghost use Rattle.daa_config.specs.Settings.{IsCandidateInRange};
 ghost use Rattle.daa_state.specs.InRange.{IsOwnInRange, IsPictureInRange, IsTrafficInRange};
 
-use super::{Settings, config_of, picture_in, trunks_of};
-use crate::Scene;
+use super::{BRANCHES, Settings, config_of, eight, picture_in};
+use crate::{Scene, fill_branches, fill_trunks};
 use daa_config::examples::{FOUR_LEVELS, ONE_LEVEL, THREE_LEVELS};
 use daa_config::{Candidate, Config};
+use daa_legs::Branch;
 use daa_meet::meets_between;
 use daa_state::{Own, Picture, Traffic};
 use std::process::Abort;
@@ -232,8 +233,11 @@ fn worked_rows(rt: HostRuntime) -> Result<(), Fail> {
             &rt,
             "the lines of a moment",
         );
-        let trunks = trunks_of(rt.alloc(), &config, &picture)?;
-        let scene = Scene::of(&config, &picture, &trunks);
+        let mut trunks = eight();
+        fill_trunks(&mut trunks, &picture.own, &config);
+        let mut branches = [Branch::new(); BRANCHES];
+        fill_branches(&mut branches, &picture.own, &config);
+        let scene = Scene::of(&config, &picture, &trunks, &branches);
         assert!(rt; config.total() == 8, "{}", row.shows);
         assert!(rt; picture.traffic.len() == 1, "{}", row.shows);
         for index in 0..config.total() {
@@ -260,8 +264,11 @@ pub(super) fn expect_same_levels(
 ) -> Result<(), Fail>
     requires { IsPictureInRange picture.now }
 {
-    let trunks = trunks_of(rt.alloc(), config, picture)?;
-    let scene = Scene::of(config, picture, &trunks);
+    let mut trunks = eight();
+    fill_trunks(&mut trunks, &picture.own, config);
+    let mut branches = [Branch::new(); BRANCHES];
+    fill_branches(&mut branches, &picture.own, config);
+    let scene = Scene::of(config, picture, &trunks, &branches);
     for place in 0..picture.traffic.len() {
         let mut masks = [0u8; MASKS];
         scene.levels_from(0, place as u32, &mut masks);

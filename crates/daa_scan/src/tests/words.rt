@@ -3,10 +3,11 @@
 ghost use Rattle.std.specs.Prelude.{◌≡◌, ◌<◌, length};
 ghost use Rattle.daa_state.specs.Picture.{aircraft_of};
 
-use super::{Settings, config_of, picture_in, trunks_of};
-use crate::Scene;
+use super::{BRANCHES, Settings, config_of, eight, picture_in};
+use crate::{Scene, fill_branches, fill_trunks};
 use daa_config::Config;
 use daa_config::examples::ONE_LEVEL;
+use daa_legs::Branch;
 use daa_schedule::Answers;
 use std::process::Abort;
 use std::test::Fail;
@@ -33,8 +34,11 @@ fn words_of_one_group(rt: HostRuntime) -> Result<(), Fail> {
         },
     )?;
     let picture = picture_in(&LINES).expect(&rt, "the lines of a moment");
-    let trunks = trunks_of(rt.alloc(), &config, &picture)?;
-    let scene = Scene::of(&config, &picture, &trunks);
+    let mut trunks = eight();
+    fill_trunks(&mut trunks, &picture.own, &config);
+    let mut branches = [Branch::new(); BRANCHES];
+    fill_branches(&mut branches, &picture.own, &config);
+    let scene = Scene::of(&config, &picture, &trunks, &branches);
     assert!(rt; scene.count_in_reach() == 2);
     assert!(rt; scene.units() == 2);
     assert!(rt; scene.word(0) == 0b00011_00011_00011_00001_00011_00011_00011_00011);
@@ -74,8 +78,11 @@ fn words_of_two_groups(rt: HostRuntime) -> Result<(), Fail> {
         },
     )?;
     let picture = picture_in(&LINES).expect(&rt, "the lines of a moment");
-    let trunks = trunks_of(rt.alloc(), &config, &picture)?;
-    let scene = Scene::of(&config, &picture, &trunks);
+    let mut trunks = eight();
+    fill_trunks(&mut trunks, &picture.own, &config);
+    let mut branches = [Branch::new(); BRANCHES];
+    fill_branches(&mut branches, &picture.own, &config);
+    let scene = Scene::of(&config, &picture, &trunks, &branches);
     assert!(rt; scene.units() == 4);
     assert!(rt;
         scene.word(2) == 0b00011_00011_00011_00011_00011_00011_00011_00011_00011_00011_00011_00011
@@ -105,8 +112,11 @@ fn no_units_where_none_is_in_reach(rt: HostRuntime) -> Result<(), Fail> {
     let none = ["moment 0", "own 0 0 1000 0 3600 0", "end"];
     for lines in [far.as_slice(), none.as_slice()] {
         let picture = picture_in(lines).expect(&rt, "the lines of a moment");
-        let trunks = trunks_of(rt.alloc(), &config, &picture)?;
-        let scene = Scene::of(&config, &picture, &trunks);
+        let mut trunks = eight();
+        fill_trunks(&mut trunks, &picture.own, &config);
+        let mut branches = [Branch::new(); BRANCHES];
+        fill_branches(&mut branches, &picture.own, &config);
+        let scene = Scene::of(&config, &picture, &trunks, &branches);
         assert!(rt; scene.units() == 0);
         assert!(rt; scene.count_in_reach() == 0);
     }

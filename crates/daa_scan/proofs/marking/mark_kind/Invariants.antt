@@ -1,4 +1,7 @@
 use Rattle.std.proofs.Common.{◌≡◌, ◌≤◌, ◌⊎◌}
+use Rattle.std.specs.Prelude.{slice_index_or}
+use Rattle.daa_config.specs.declared.candidate.Candidate.TheVariants.{Hold}
+use Rattle.daa_config.specs.Candidates.{candidates_of}
 use Rattle.daa_scan.specs.Marking.{AreTrailsOf, AreMarked}
 use Rattle.daa_scan.proofs.marking.mark_kind.Given as goal
 
@@ -9,3 +12,7 @@ invariant-loop-index l = record {
   masks : AreMarked l.config l.own l.aircraft l.first l.index l.fn.l l.masks;
   near : (l.index ≤ l.upto) ⊎ (l.index ≡ l.from);
 }
+
+-- the candidate at the index
+abbrev pub ghost-next_mask : goal.ghost-next_mask
+ghost-next_mask a = slice_index_or (candidates_of a.config.now) a.index Hold

@@ -1,10 +1,28 @@
+use Rattle.std.proofs.Common.{◌+◌, ◌≡◌, ◌<◌, ℕ, length, sym, subst, ◌∙◌, arith}
+use Rattle.std.specs.Prelude.{slice_index_or}
+use Rattle.std.proofs.lemmas.Option.{slice_get_within}
+use Rattle.daa_config.specs.Candidates.{candidates_of}
+use Rattle.daa_config.specs.Settings.{rates_of}
+use Rattle.daa_legs.specs.declared.branch.Branch.{Branch}
+use Rattle.daa_legs.specs.Table.{IsBranchOf}
 use Rattle.daa_scan.proofs.Marks.{none_nested, one_more}
 use Rattle.daa_scan.proofs.marking.next_mask.Goals as goal
 
 pub returns-then-not-has_level-clause-mask : goal.returns-then-not-has_level-clause-mask
-returns-then-not-has_level-clause-mask c = none_nested c.args.config.now c.args.own.now c.args.candidate c.args.aircraft.now c.args.l c.args.mask c.requires.mask
-    (c.requires.some c.if-nested.true) (c.requires.nested c.if-nested.true c.args.candidate) (λ b. let t = c.has_level.ensures.1 b in cc (t, c.if-not-has_level.true))
+returns-then-not-has_level-clause-mask g c = none_nested c.args.config.now c.args.own.now g.candidate c.args.aircraft.now c.args.l c.args.mask c.requires.1.1.1.1.1.1.1.1.1.1.1.1
+    (c.requires.1.1.1.1.1.1.0 c.if-nested.true) (c.requires.1.1.1.1.1.1.1.0 c.if-nested.true g.candidate) (λ b. let t = c.has_level.ensures.1 b in cc (t, c.if-not-has_level.true))
+
+pub branch-branch-requires : goal.branch-branch-requires
+branch-branch-requires g c =
+    let w = slice_get_within (candidates_of c.args.config.now) c.args.index g.candidate c.requires.1.1.1.1.1.1.1.1.0 in
+    omega (arith, w, c.requires.1.1.1.1.1.0.branches.room)
+
+pub meets_shared-met-requires : goal.meets_shared-met-requires
+meets_shared-met-requires g c =
+    let trunks = c.requires.1.1.1.1.1.0.leads (c.args.l + 1) c.args.level.now c.requires.1.1.1.1.0 c.args.kind in
+    let branch = subst (λ (b : Branch). IsBranchOf c.args.own.now (rates_of c.args.config.now) g.candidate b) (c.branch-branch.ensures c.branch-branch.result.now) (c.requires.1.1.1.1.1.0.branches.each c.args.index g.candidate c.branch-branch.result.now c.requires.1.1.1.1.1.1.1.1.0) in
+    (c.requires.0, (c.requires.1.0, (c.requires.1.1.1.0, (trunks, (c.requires.1.1.1.1.1.1.1.1.1.0, (c.requires.1.1.1.1.1.1.1.1.1.1.0, (branch, c.requires.1.1.1.1.1.1.1.1.1.1.1.0)))))))
 
 pub returns-clause-mask : goal.returns-clause-mask
-returns-clause-mask c = one_more c.args.config.now c.args.own.now c.args.candidate c.args.aircraft.now c.args.l c.args.mask c.requires.mask c.args.level.now c.requires.at c.meets_shared-met.result c.with_level.result
+returns-clause-mask g c = one_more c.args.config.now c.args.own.now g.candidate c.args.aircraft.now c.args.l c.args.mask c.requires.1.1.1.1.1.1.1.1.1.1.1.1 c.args.level.now c.requires.1.1.1.1.0 c.meets_shared-met.result c.with_level.result
     c.meets_shared-met.ensures.met c.with_level.ensures.met c.with_level.ensures.not_met

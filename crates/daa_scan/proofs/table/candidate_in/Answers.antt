@@ -4,7 +4,7 @@ use Rattle.daa_config.specs.Candidates.{candidate_to}
 use Rattle.daa_config.specs.declared.kind.Kind.{Kind}
 use Rattle.daa_config.specs.declared.candidate.Candidate.TheVariants.{Track, Speed, Climb, Height}
 use Rattle.daa_config.proofs.CandidateLemmas.{candidate_at}
-use Rattle.daa_scan.proofs.marking.candidate_in.Goals as goal
+use Rattle.daa_scan.proofs.table.candidate_in.Goals as goal
 
 pub returns-in-Track-clause-value : goal.returns-in-Track-clause-value
 returns-in-Track-clause-value c =
@@ -29,15 +29,3 @@ returns-in-Height-clause-value c =
     let v : ℤ = c.value-value.result in let f : FitsSigned w32 v = search rules in
     candidate_at c.args.kind c.args.config.now c.args.place v c.value-value.ensures.value
     ∙ ap (λ (k : Kind). Some (candidate_to k v)) c.in-Height.is ∙ ap (λ (z : ℤ). Some (Height z)) (sym (to_z-of_z w32 v f))
-
-pub returns-in-Track-clause-of : goal.returns-in-Track-clause-of
-returns-in-Track-clause-of c = (to_z w32 (of_z w32 c.value-value.result), ap (λ (k : Kind). candidate_to k (to_z w32 (of_z w32 c.value-value.result))) (sym c.in-Track.is))
-
-pub returns-in-Speed-clause-of : goal.returns-in-Speed-clause-of
-returns-in-Speed-clause-of c = (to_z w32 (of_z w32 c.value-value.result), ap (λ (k : Kind). candidate_to k (to_z w32 (of_z w32 c.value-value.result))) (sym c.in-Speed.is))
-
-pub returns-in-Climb-clause-of : goal.returns-in-Climb-clause-of
-returns-in-Climb-clause-of c = (to_z w32 (of_z w32 c.value-value.result), ap (λ (k : Kind). candidate_to k (to_z w32 (of_z w32 c.value-value.result))) (sym c.in-Climb.is))
-
-pub returns-in-Height-clause-of : goal.returns-in-Height-clause-of
-returns-in-Height-clause-of c = (to_z w32 (of_z w32 c.value-value.result), ap (λ (k : Kind). candidate_to k (to_z w32 (of_z w32 c.value-value.result))) (sym c.in-Height.is))

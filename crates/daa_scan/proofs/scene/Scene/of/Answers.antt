@@ -1,0 +1,12 @@
+use Rattle.std.proofs.Common.{sym, subst}
+use Rattle.daa_scan.specs.Trunks.{Shared, AreTrunksOf}
+use Rattle.daa_scan.proofs.scene.Scene.of.Goals as goal
+
+pub invariant_of-result : goal.invariant_of-result
+invariant_of-result c = record {
+  accepted = c.groups_of.ensures.accepted;
+  picture = c.requires.picture;
+  counted = c.groups_of.ensures.value;
+  found = c.places_near.ensures;
+  kept = subst (λ (t : Shared). AreTrunksOf c.args.config.now c.args.picture.now.own t) (sym c.of.ensures) (record { leads = c.requires.leads; branches = c.requires.branches });
+}

@@ -1,0 +1,72 @@
+//! The table of the candidates' branches.
+
+ghost use Rattle.std.specs.Prelude.{◌≡◌, ◌<◌, ◌≤◌, ◌+◌, ℤ, length, slice_get, Some};
+ghost use Rattle.daa_config.specs.Candidates.{candidate_to, candidates_of, start_of, values_of};
+ghost use Rattle.daa_config.specs.Settings.{IsCandidateInRange};
+ghost use Rattle.daa_state.specs.InRange.{IsOwnInRange};
+ghost use Rattle.daa_legs.specs.Table.{AreBranchesOf};
+ghost use Rattle.daa_scan.specs.Trunks.{AreBranchesBelow};
+
+use daa_config::{Candidate, Config, Kind};
+use daa_legs::{Branch, branch_of};
+use daa_state::Own;
+
+/// Keeps the branch of each candidate of the whole list, by the candidate's number. Places past the
+/// list are as they were.
+pub fn fill_branches(branches: &mut [Branch], own: &Own, config: &Config)
+    requires own { IsOwnInRange own.now }
+    requires room { length (candidates_of config.now) ≤ length branches.old }
+    ensures branches { AreBranchesOf config.now own.now branches.new }
+    ensures length { length branches.new ≡ length branches.old }
+{
+    fill_present(branches, own, config);
+    fill_kind(branches, own, config, Kind::Track);
+    fill_kind(branches, own, config, Kind::Speed);
+    fill_kind(branches, own, config, Kind::Climb);
+    fill_kind(branches, own, config, Kind::Height);
+}
+
+/// Keeps that of the present flight, the first of the whole list.
+fn fill_present(branches: &mut [Branch], own: &Own, config: &Config)
+    requires own { IsOwnInRange own.now }
+    requires room { length (candidates_of config.now) ≤ length branches.old }
+    ensures branches { AreBranchesBelow config.now own.now
+        (start_of Kind.Track config.now) branches.new }
+    ensures length { length branches.new ≡ length branches.old }
+{
+    // tells that there is a candidate
+    let _total = config.total();
+    branches[0] = branch_of(own, &config.rates(), Candidate::Hold);
+}
+
+/// Keeps those of a kind, after those of the kinds before it.
+fn fill_kind(branches: &mut [Branch], own: &Own, config: &Config, kind: Kind)
+    requires own { IsOwnInRange own.now }
+    requires before { AreBranchesBelow config.now own.now (start_of kind config.now) branches.old }
+    ensures branches { AreBranchesBelow config.now own.now
+        (start_of kind config.now + length (values_of kind config.now)) branches.new }
+    ensures length { length branches.new ≡ length branches.old }
+{
+    let rates = config.rates();
+    let start = config.start(kind);
+    for place in 0..config.count(kind) {
+        let candidate = candidate_in(config, kind, place);
+        branches[(start + place) as usize] = branch_of(own, &rates, candidate);
+    }
+}
+
+/// The candidate at a place of a kind.
+fn candidate_in(config: &Config, kind: Kind, place: u32) -> Candidate
+    requires { place < length (values_of kind config.now) }
+    ensures value { slice_get (candidates_of config.now)
+        (start_of kind config.now + place) ≡ Some result }
+    ensures in_range { IsCandidateInRange result }
+{
+    let value = config.value(kind, place);
+    match kind {
+        Kind::Track => Candidate::Track(value),
+        Kind::Speed => Candidate::Speed(value),
+        Kind::Climb => Candidate::Climb(value),
+        Kind::Height => Candidate::Height(value),
+    }
+}
