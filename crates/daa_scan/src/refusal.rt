@@ -68,16 +68,16 @@ pub(crate) fn present_leg(config: &Config, own: &Own, aircraft: &Traffic, secs: 
     relative_run(&run, aircraft, 0)
 }
 
-/// The seconds of the leg, flown on as far as any level looks ahead, in which its heights violate
-/// the vertical part of the volume.
-pub(crate) fn seconds_in_height(leg: &Leg, volume: &Volume) -> Seconds
-    requires leg { IsLegInRange leg.now }
+/// The seconds of a straight flight, flown on as far as any level looks ahead, in which its heights
+/// violate the vertical part of the volume.
+pub(crate) fn seconds_in_height(present: &Leg, volume: &Volume) -> Seconds
+    requires present { IsLegInRange present.now }
     requires volume { IsVolumeInRange volume.now }
-    ensures { AreSecondsInHeight leg.now volume.now result }
+    ensures { AreSecondsInHeight present.now volume.now result }
 {
     let longest = Leg {
-        place: leg.place,
-        velocity: leg.velocity,
+        place: present.place,
+        velocity: present.velocity,
         secs: LONGEST,
     };
     match window(&longest, volume) {
