@@ -151,21 +151,26 @@ module _ (settings : Settings) (own : Own) (candidate : Candidate) (aircraft : T
   velocity_of_leg : (k : ℕ) → k < m → (relative_leg settings own Hold aircraft k).velocity ≡ present.velocity
   velocity_of_leg k h = subst (λ (j : ℕ). (relative_leg settings own Hold aircraft j).velocity ≡ present.velocity) (zero_more k) (short_velocity settings own Hold aircraft volume 0 run runs k h)
 
+  -- a time of leg k at which the candidate violates: the present heights do then
+  pub held_in_height : KeepsHeights own (rates_of settings) candidate → (k : ℕ) → k < m → (n d : ℤ) → pos 1 ≤ℤ d → Violates (relative_leg settings own candidate aircraft k) volume n d
+      → Violates (in_height present) volume (n +ℤ pos k *ℤ d) d
+  held_in_height h k b n d d1 v =
+      let there : Violates (in_height (relative_leg settings own Hold aircraft k)) volume n d =
+      subst (λ (l : Leg). Violates l volume n d) (same_heights h k) (violates_in_height (relative_leg settings own candidate aircraft k) volume n d d1 v) in
+      violates_moved (in_height (relative_leg settings own Hold aircraft k)) (in_height present) volume n (n +ℤ pos k *ℤ d) d
+      (still (relative_leg settings own Hold aircraft k) volume n d d1 ∙ sym (still present volume (n +ℤ pos k *ℤ d) d d1))
+      (height_on k b n d)
+      (ap (λ (v : Solid). record { flat = record { east = pos 0; north = pos 0 }; up = v.up }) (velocity_of_leg k b))
+      there
+
   pub met_in_height : KeepsHeights own (rates_of settings) candidate → MeetsWithin settings own candidate aircraft volume m → HoldsSometime m (Violates (in_height present) volume)
   met_in_height h e =
       let x = e.violates in
-      let k : ℕ = e.leg in
-      let there : Violates (in_height (relative_leg settings own Hold aircraft k)) volume x.num x.den =
-      subst (λ (l : Leg). Violates l volume x.num x.den) (same_heights h k) (violates_in_height (relative_leg settings own candidate aircraft k) volume x.num x.den x.time.fraction x.holds) in
       record {
-        num = x.num +ℤ pos k *ℤ x.den;
+        num = x.num +ℤ pos e.leg *ℤ x.den;
         den = x.den;
-        time = out_second m k x.num x.den e.before x.time;
-        holds = violates_moved (in_height (relative_leg settings own Hold aircraft k)) (in_height present) volume x.num (x.num +ℤ pos k *ℤ x.den) x.den
-            (still (relative_leg settings own Hold aircraft k) volume x.num x.den x.time.fraction ∙ sym (still present volume (x.num +ℤ pos k *ℤ x.den) x.den x.time.fraction))
-            (height_on k e.before x.num x.den)
-            (ap (λ (v : Solid). record { flat = record { east = pos 0; north = pos 0 }; up = v.up }) (velocity_of_leg k e.before))
-            there;
+        time = out_second m e.leg x.num x.den e.before x.time;
+        holds = held_in_height h e.leg e.before x.num x.den x.time.fraction x.holds;
       }
 
   pub met_in_plane : KeepsWay own (rates_of settings) candidate → MeetsWithin settings own candidate aircraft volume m → HoldsSometime m (Violates (in_plane present) volume)

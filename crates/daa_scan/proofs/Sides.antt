@@ -1,5 +1,5 @@
 -- The sides of a kind: their leading flights, and how far they were walked.
-use Rattle.std.proofs.Common.{◌≡◌, ℕ, ℤ, pos, ◌+◌, ◌-◌, ◌<◌, ◌≤◌, Bool, [], true, false, List, length, sym, subst, ap, ◌∙◌, arith, ⊎_elim}
+use Rattle.std.proofs.Common.{◌≡◌, ℕ, ℤ, pos, ◌+◌, ◌-◌, ◌<◌, ◌≤◌, Bool, [], true, false, List, length, refl, sym, subst, ap, ◌∙◌, arith, ⊎_elim}
 use Rattle.std.specs.Prelude.{slice_index_or}
 use Rattle.std.proofs.Math.ListN.{set}
 use Rattle.std.proofs.lemmas.Bool.{cases_eq, cases_lt}
@@ -19,9 +19,11 @@ use Rattle.daa_legs.specs.declared.own_leg.OwnLeg.{OwnLeg}
 use Rattle.daa_legs.specs.Branch.{lead_of}
 use Rattle.daa_legs.specs.Kept.{AreLegsOf}
 use Rattle.daa_legs.proofs.AtLevel.{one_level}
+use Rattle.daa_scan.specs.declared.refusal.Seconds.{Seconds}
 use Rattle.daa_scan.specs.declared.trail.Trail.{Trail}
 use Rattle.daa_scan.specs.declared.marking.Trails.{Trails}
 use Rattle.daa_scan.specs.Marking.{AreTrailsOf}
+use Rattle.daa_scan.specs.Refusal.{AreSecondsOf}
 use Rattle.daa_scan.specs.Sharing.{IsTrailOf}
 use Rattle.daa_scan.specs.Trunks.{place_of, trunk_in, AreLeads, AreLeadsBelow, IsAhead}
 use Rattle.daa_scan.proofs.Trails.{fewer_legs}
@@ -95,9 +97,23 @@ module _ (own : Own) (kind : Kind) (upper : Bool) (lead : Candidate) (is : (z : 
     pub lower_kept : (new : Trail) → upper ≡ false → IsTrailOf settings own lead aircraft volume new → AreTrailsOf settings own aircraft volume kind (record { upper = trails.upper; lower = new })
     lower_kept new e t = record { upper = h.upper; lower = λ z. subst (λ (c : Candidate). IsTrailOf settings own c aircraft volume new) (along false e z) t }
 
--- nothing was walked
-pub begun : (settings : Settings) (own : Own) (aircraft : Traffic) (volume : Volume) (kind : Kind) → AreTrailsOf settings own aircraft volume kind (record { upper = record { walked = 0; hit = false }; lower = record { walked = 0; hit = false } })
-begun settings own aircraft volume kind = record {
-  upper = λ z. record { none = λ j h. absurd (omega (arith, h)); hit = λ t. absurd (cc t) };
-  lower = λ z. record { none = λ j h. absurd (omega (arith, h)); hit = λ t. absurd (cc t) };
-}
+-- what leads on a side is a candidate of the kind
+leads : (own : Own) (kind : Kind) (upper : Bool) (z : ℤ) → (w : ℤ) × (lead_of own (candidate_to kind z) upper ≡ candidate_to kind w)
+unfolding lead_of
+leads own Track upper z = (_, refl)
+leads own Speed upper z = (_, refl)
+leads own Climb upper z = (_, refl)
+leads own Height upper z = (_, refl)
+
+-- nothing was walked: a trail is at the first of the kind's seconds
+pub begun : (settings : Settings) (own : Own) (aircraft : Traffic) (volume : Volume) (kind : Kind) (m : ℕ) (seconds : Seconds) → AreSecondsOf settings own aircraft kind volume m seconds → seconds.first < m
+    → AreTrailsOf settings own aircraft volume kind (record { upper = record { walked = seconds.first; end = seconds.end; hit = false }; lower = record { walked = seconds.first; end = seconds.end; hit = false } })
+begun settings own aircraft volume kind m seconds h b = record { upper = fresh true; lower = fresh false }
+  where
+    fresh : (upper : Bool) (z : ℤ) → IsTrailOf settings own (lead_of own (candidate_to kind z) upper) aircraft volume (record { walked = seconds.first; end = seconds.end; hit = false })
+    fresh upper z = let w = leads own kind upper z in
+        subst (λ (c : Candidate). IsTrailOf settings own c aircraft volume (record { walked = seconds.first; end = seconds.end; hit = false })) (sym w.1) (record {
+          none = λ j k. h.before w.0 j (omega (arith, k, b)) k;
+          hit = λ t. absurd (cc t);
+          later = λ j k e. h.after w.0 j k e;
+        })

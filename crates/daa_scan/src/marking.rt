@@ -4,7 +4,9 @@
 
 ghost use Rattle.std.specs.Prelude.{◌≡◌, ◌-◌, Bool, ◌<◌, ◌≤◌, ◌^◌, ◌↔◌, ◌+◌, ◌⊎◌, ℕ, ℤ, IsTrue, false, length, bit_or, slice_index, slice_get, Some, replicate};
 ghost use Rattle.std.specs.Int.{bit_at};
-ghost use Rattle.daa_taumod.specs.Volume.{IsVolumeInRange};
+ghost use Rattle.daa_fixed.specs.Leg.{IsLegInRange};
+ghost use Rattle.daa_fixed.specs.Time.{HoldsSometime};
+ghost use Rattle.daa_taumod.specs.Volume.{IsVolumeInRange, Violates};
 ghost use Rattle.daa_config.specs.Candidates.{candidate_to, candidates_of, start_of, values_of};
 ghost use Rattle.daa_config.specs.Mask.{IsMaskOf};
 ghost use Rattle.daa_config.specs.Settings.{IsCandidateInRange, IsLevelAt, IsLevelInRange, IsInBounds, value_bounds, rates_of};
@@ -16,17 +18,19 @@ ghost use Rattle.daa_legs.specs.Branch.{lead_of};
 ghost use Rattle.daa_legs.specs.Table.{IsBranchOf};
 ghost use Rattle.daa_legs.specs.Kept.{AreLegsOf};
 ghost use Rattle.daa_legs.specs.Meeting.{MeetsWithin, Meets};
+ghost use Rattle.daa_scan.specs.Refusal.{AreSecondsAt};
 ghost use Rattle.daa_scan.specs.Sharing.{IsTrailOf};
 ghost use Rattle.daa_scan.specs.Trunks.{AreTrunksOf, trunk_in};
 ghost use Rattle.daa_scan.specs.Marking.{AreTrailsOf, AreMarked, AreMasks};
 
 use crate::nesting::lies_within;
-use crate::refusal::{kind_may_meet, present_leg};
+use crate::refusal::{Seconds, present_leg, seconds_in_height, seconds_in_plane};
 use crate::sharing::{meets_by_branch, walk_on};
 use crate::trail::Trail;
 use crate::trunks::{Trunks, lead_to};
 use daa_config::{Candidate, Config, Kind, Level};
 use daa_detect::is_hit;
+use daa_fixed::Leg;
 use daa_legs::{Branch, Trunk};
 use daa_state::{Own, Traffic};
 
@@ -36,12 +40,6 @@ pub(crate) struct Trails {
     pub(crate) upper: Trail,
     pub(crate) lower: Trail,
 }
-
-/// A trail before the first leg.
-const BEGUN: Trail = Trail {
-    walked: 0,
-    hit: false,
-};
 
 /// Sets the masks, which are 0, to those of the candidates from number `first` of the whole list
 /// on. Places past the list are as they were.
@@ -87,51 +85,111 @@ fn mark_level(
     ensures masks { AreMasks config.now own.now aircraft.now first (l + 1) masks.new }
     ensures length { length masks.new ≡ length masks.old }
 {
-    mark_present(config, own, aircraft, l, first, masks);
-    mark_kind(config, own, trunks, aircraft, l, Kind::Track, first, masks);
-    mark_kind(config, own, trunks, aircraft, l, Kind::Speed, first, masks);
-    mark_kind(config, own, trunks, aircraft, l, Kind::Climb, first, masks);
-    mark_kind(config, own, trunks, aircraft, l, Kind::Height, first, masks);
+    let level = config.level(l + 1);
+    let present = present_leg(config, own, aircraft, level.lookahead);
+    let heights = seconds_in_height(&present, &level.volume);
+    let way = seconds_in_plane(&present, &level.volume);
+    mark_present(config, own, aircraft, l, level, &present, first, masks);
+    mark_kind(
+        config,
+        own,
+        trunks,
+        aircraft,
+        l,
+        Kind::Track,
+        heights,
+        first,
+        masks,
+    );
+    mark_kind(
+        config,
+        own,
+        trunks,
+        aircraft,
+        l,
+        Kind::Speed,
+        heights,
+        first,
+        masks,
+    );
+    mark_kind(
+        config,
+        own,
+        trunks,
+        aircraft,
+        l,
+        Kind::Climb,
+        way,
+        first,
+        masks,
+    );
+    mark_kind(
+        config,
+        own,
+        trunks,
+        aircraft,
+        l,
+        Kind::Height,
+        way,
+        first,
+        masks,
+    );
 }
 
-/// The same of the present flight alone, the first of the whole list.
+/// The same of the present flight alone, the first of the whole list, whose seconds up to the
+/// lookahead are one leg.
 fn mark_present(
     config: &Config,
     own: &Own,
     aircraft: &Traffic,
     l: u32,
+    level: &Level,
+    present: &Leg,
     first: u32,
     masks: &mut [u8],
 )
-    requires own { IsOwnInRange own.now }
-    requires aircraft { IsTrafficInRange aircraft.now }
-    requires l { l < length config.now.levels }
     requires few { l < 8 }
+    requires level { IsLevelInRange level.now }
+    requires at { IsLevelAt config.now (l + 1) level.now }
+    requires in_range { IsLegInRange present.now }
+    requires seconds { HoldsSometime present.now.secs (Violates present.now level.now.volume)
+        ↔ MeetsWithin config.now own.now Candidate.Hold aircraft.now
+        level.now.volume level.now.lookahead }
     requires masks { AreMasks config.now own.now aircraft.now first l masks.old }
     ensures masks { AreMarked config.now own.now aircraft.now first 1 l masks.new }
     ensures length { length masks.new ≡ length masks.old }
 {
     if first == 0 && masks.len() > 0 {
-        masks[0] = present_mask(config, own, aircraft, l, masks[0]);
+        masks[0] = present_mask(config, own, aircraft, l, level, present, masks[0]);
     }
 }
 
 /// The mask of the present flight with one level more.
-fn present_mask(config: &Config, own: &Own, aircraft: &Traffic, l: u32, mask: u8) -> u8
-    requires own { IsOwnInRange own.now }
-    requires aircraft { IsTrafficInRange aircraft.now }
-    requires l { l < length config.now.levels }
+fn present_mask(
+    config: &Config,
+    own: &Own,
+    aircraft: &Traffic,
+    l: u32,
+    level: &Level,
+    present: &Leg,
+    mask: u8,
+) -> u8
     requires few { l < 8 }
+    requires level { IsLevelInRange level.now }
+    requires at { IsLevelAt config.now (l + 1) level.now }
+    requires in_range { IsLegInRange present.now }
+    requires seconds { HoldsSometime present.now.secs (Violates present.now level.now.volume)
+        ↔ MeetsWithin config.now own.now Candidate.Hold aircraft.now
+        level.now.volume level.now.lookahead }
     requires mask { IsMaskOf (Meets config.now own.now Candidate.Hold aircraft.now) l mask }
     ensures { IsMaskOf (Meets config.now own.now Candidate.Hold aircraft.now) (l + 1) result }
 {
-    let level = config.level(l + 1);
-    let leg = present_leg(config, own, aircraft, level.lookahead);
-    let met = is_hit(&leg, &level.volume);
+    let met = is_hit(present, &level.volume);
     with_level(mask, l, met)
 }
 
-/// The same of the candidates of a kind, after those of the kinds before it.
+/// The same of the candidates of a kind, after those of the kinds before it, which violate the
+/// level's volume in these seconds alone.
 fn mark_kind(
     config: &Config,
     own: &Own,
@@ -139,6 +197,7 @@ fn mark_kind(
     aircraft: &Traffic,
     l: u32,
     kind: Kind,
+    seconds: Seconds,
     first: u32,
     masks: &mut [u8],
 )
@@ -147,6 +206,7 @@ fn mark_kind(
     requires trunks { AreTrunksOf config.now own.now trunks.now }
     requires l { l < length config.now.levels }
     requires few { l < 8 }
+    requires seconds { AreSecondsAt config.now own.now aircraft.now kind (l + 1) seconds }
     requires short { first + length masks.old < 2 ^ 32 }
     requires masks { AreMarked config.now own.now aircraft.now first
         (start_of kind config.now) l masks.old }
@@ -155,13 +215,18 @@ fn mark_kind(
     ensures length { length masks.new ≡ length masks.old }
 {
     let level = config.level(l + 1);
-    if !kind_may_meet(config, own, kind, aircraft, level) {
+    if seconds.first >= level.lookahead {
         return;
     }
     let nested = is_nested(config, l);
+    let begun = Trail {
+        walked: seconds.first,
+        end: seconds.end,
+        hit: false,
+    };
     let mut trails = Trails {
-        upper: BEGUN,
-        lower: BEGUN,
+        upper: begun,
+        lower: begun,
     };
     let start = config.start(kind);
     let end = start + config.count(kind);

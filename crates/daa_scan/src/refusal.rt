@@ -1,50 +1,51 @@
-//! Candidates that need not be flown. Who changes track or ground speed alone keeps the heights of
-//! the present flight, and who changes height alone its way over ground, so that one test of the
-//! present flight refuses them all.
+//! Which seconds of a kind's candidates may violate a level's volume. Who changes track or ground
+//! speed alone keeps the heights of the present flight, and who changes height alone its way over
+//! ground, so that one test of the present flight tells it for all of them.
 
-ghost use Rattle.std.specs.Prelude.{◌≡◌, ◌≤◌, ◌↔◌, ℤ, IsTrue};
-ghost use Rattle.daa_config.specs.Candidates.{candidate_to};
+ghost use Rattle.std.specs.Prelude.{◌≡◌, ◌≤◌, ◌↔◌, ◌+◌, ◌*ℤ◌, ◌≤ℤ◌, ℕ, pos};
+ghost use Rattle.daa_config.specs.declared.candidate.Candidate.{Candidate};
 ghost use Rattle.daa_fixed.specs.Leg.{IsLegInRange};
 ghost use Rattle.daa_fixed.specs.Time.{HoldsSometime};
-ghost use Rattle.daa_taumod.specs.Volume.{Violates};
+ghost use Rattle.daa_taumod.specs.Volume.{IsVolumeInRange, Violates};
 ghost use Rattle.daa_taumod.specs.declared.Volume.{Volume};
-ghost use Rattle.daa_config.specs.Settings.{IsLevelInRange, rates_of};
+ghost use Rattle.daa_vwindow.specs.Window.{HasSmallNumbers};
+ghost use Rattle.daa_config.specs.Settings.{rates_of};
 ghost use Rattle.daa_state.specs.InRange.{IsOwnInRange, IsTrafficInRange};
 ghost use Rattle.daa_legs.specs.Meeting.{MeetsWithin};
 ghost use Rattle.daa_legs.specs.OwnLegs.{own_leg};
 ghost use Rattle.daa_legs.specs.Relative.{relative_for};
-ghost use Rattle.daa_legs.specs.Shared.{in_height, in_plane};
+ghost use Rattle.daa_legs.specs.Shared.{in_plane};
+ghost use Rattle.daa_scan.specs.Refusal.{AreSecondsInHeight};
 
-use daa_config::{Candidate, Config, Kind, Level};
+use daa_config::{Candidate, Config};
 use daa_detect::is_hit;
-use daa_fixed::{Flat, Leg, Solid};
+use daa_fixed::{Flat, Leg, Point, Solid};
 use daa_legs::{Flight, OwnRun, relative_run};
 use daa_state::{Own, Traffic};
+use daa_taumod::Volume;
+use daa_vwindow::window;
 
-/// Whether a candidate of the kind may meet the aircraft within the level's lookahead: not where
-/// the part of the motion that it shares with the present flight never violates its part of the
-/// volume.
-pub(crate) fn kind_may_meet(
-    config: &Config,
-    own: &Own,
-    kind: Kind,
-    aircraft: &Traffic,
-    level: &Level,
-) -> bool
-    requires own { IsOwnInRange own.now }
-    requires aircraft { IsTrafficInRange aircraft.now }
-    requires level { IsLevelInRange level.now }
-    ensures { (z : ℤ) → MeetsWithin config.now own.now
-        (candidate_to kind z) aircraft.now level.now.volume level.now.lookahead → IsTrue result }
-{
-    let leg = present_leg(config, own, aircraft, level.lookahead);
-    match kind {
-        Kind::Track => is_hit(&heights_alone(&leg), &level.volume),
-        Kind::Speed => is_hit(&heights_alone(&leg), &level.volume),
-        Kind::Climb => is_hit(&way_alone(&leg), &level.volume),
-        Kind::Height => is_hit(&way_alone(&leg), &level.volume),
-    }
+/// Seconds of a flight, as numbers of its legs: from `first` on, before `end`.
+#[derive(Clone, Copy, Debug)]
+pub(crate) struct Seconds {
+    pub(crate) first: u32,
+    pub(crate) end: u32,
 }
+
+/// The longest flight, and so the longest lookahead.
+const LONGEST: u32 = 180;
+
+/// No second.
+const NONE: Seconds = Seconds {
+    first: LONGEST,
+    end: LONGEST,
+};
+
+/// Each second.
+const ALL: Seconds = Seconds {
+    first: 0,
+    end: LONGEST,
+};
 
 /// So many seconds of the present flight as one leg, as the aircraft sees it.
 pub(crate) fn present_leg(config: &Config, own: &Own, aircraft: &Traffic, secs: u32) -> Leg
@@ -67,22 +68,57 @@ pub(crate) fn present_leg(config: &Config, own: &Own, aircraft: &Traffic, secs: 
     relative_run(&run, aircraft, 0)
 }
 
-/// The leg as if both flew at one place.
-fn heights_alone(leg: &Leg) -> Leg
-    requires { IsLegInRange leg.now }
-    ensures value { result ≡ in_height leg.now }
-    ensures in_range { IsLegInRange result }
+/// The seconds of a straight flight, flown on as far as any level looks ahead, in which its heights
+/// violate the vertical part of the volume.
+pub(crate) fn seconds_in_height(present: &Leg, volume: &Volume) -> Seconds
+    requires present { IsLegInRange present.now }
+    requires volume { IsVolumeInRange volume.now }
+    ensures { AreSecondsInHeight present.now volume.now result }
 {
-    Leg {
-        place: Solid {
-            flat: Flat { east: 0, north: 0 },
-            up: leg.place.up,
+    let longest = Leg {
+        place: present.place,
+        velocity: present.velocity,
+        secs: LONGEST,
+    };
+    match window(&longest, volume) {
+        Some((begin, end)) => Seconds {
+            first: first_second(&begin),
+            end: last_second(&end) + 1,
         },
-        velocity: Solid {
-            flat: Flat { east: 0, north: 0 },
-            up: leg.velocity.up,
-        },
-        secs: leg.secs,
+        None => NONE,
+    }
+}
+
+/// The first second that ends at the time or after it.
+fn first_second(time: &Point) -> u32
+    requires { HasSmallNumbers time.now }
+    ensures { (k : ℕ) → time.now.num ≤ℤ (pos (k + 1) *ℤ time.now.den) → result ≤ k }
+{
+    (time.num as u32).saturating_sub(1) / time.den as u32
+}
+
+/// The last second that begins at the time or before it.
+fn last_second(time: &Point) -> u32
+    requires { HasSmallNumbers time.now }
+    ensures last { (k : ℕ) → (pos k *ℤ time.now.den) ≤ℤ time.now.num → k ≤ result }
+    ensures few { result ≤ 7200000 }
+{
+    time.num as u32 / time.den as u32
+}
+
+/// All seconds where the way of the leg over ground violates the horizontal part of the volume at
+/// some time, else none.
+pub(crate) fn seconds_in_plane(leg: &Leg, volume: &Volume) -> Seconds
+    requires leg { IsLegInRange leg.now }
+    requires volume { IsVolumeInRange volume.now }
+    ensures first { HoldsSometime leg.now.secs (Violates (in_plane leg.now) volume.now)
+        → result.first ≡ 0 }
+    ensures end { result.end ≡ 180 }
+{
+    if is_hit(&way_alone(leg), volume) {
+        ALL
+    } else {
+        NONE
     }
 }
 

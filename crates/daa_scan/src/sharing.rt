@@ -46,14 +46,23 @@ pub(crate) fn walk_on(
     if trail.hit {
         return *trail;
     }
+    let last = upto.min(trail.end);
     let mut walked = trail.walked;
-    while walked < upto {
+    while walked < last {
         if violates_on(config, own, lead, trunk, upto, walked, aircraft, volume) {
-            return Trail { walked, hit: true };
+            return Trail {
+                walked,
+                hit: true,
+                ..*trail
+            };
         }
         walked += 1;
     }
-    Trail { walked, hit: false }
+    Trail {
+        walked: walked.max(upto),
+        hit: false,
+        ..*trail
+    }
 }
 
 /// Whether a leg of the trunk violates the volume.

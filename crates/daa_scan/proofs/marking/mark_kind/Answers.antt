@@ -8,13 +8,14 @@ use Rattle.daa_scan.proofs.Marks.{of_kind, of_kind_in_range, marked_past, marked
 use Rattle.daa_scan.proofs.Sides.{begun}
 use Rattle.daa_scan.proofs.marking.mark_kind.Goals as goal
 
-pub returns-then-not-kind_may_meet-clause-masks : goal.returns-then-not-kind_may_meet-clause-masks
-returns-then-not-kind_may_meet-clause-masks c = marked_past c.args.config.now c.args.own.now c.args.aircraft.now c.args.first c.args.l c.args.masks.now c.args.kind c.level-level.result.now c.level-level.ensures.accepted c.level-level.ensures.value
-    (λ z m. let t = c.kind_may_meet.ensures z m in cc (t, c.if-not-kind_may_meet.true)) c.requires.masks
+pub returns-then-seconds-level-clause-masks : goal.returns-then-seconds-level-clause-masks
+returns-then-seconds-level-clause-masks c = marked_past c.args.config.now c.args.own.now c.args.aircraft.now c.args.first c.args.l c.args.masks.now c.args.kind c.level-level.result.now c.level-level.ensures.accepted c.level-level.ensures.value
+    (λ z m. (c.requires.seconds c.level-level.result.now c.level-level.ensures.value).before z m.leg m.before (omega (arith, m.before, c.if-seconds-level.true)) m.violates) c.requires.masks
 
 pub loop-index-init : goal.loop-index-init
 loop-index-init c = record {
-  trails = begun c.args.config.now c.args.own.now c.args.aircraft.now c.level-level.result.now.volume c.args.kind;
+  trails = begun c.args.config.now c.args.own.now c.args.aircraft.now c.level-level.result.now.volume c.args.kind c.level-level.result.now.lookahead c.args.seconds
+      (c.requires.seconds c.level-level.result.now c.level-level.ensures.value) (omega (arith, c.if-seconds-level.false));
   masks = marked_on c.args.config.now c.args.own.now c.args.aircraft.now c.args.first c.args.l c.args.masks.now (start_of c.args.kind c.args.config.now) c.max-from.result
       (λ j b h. omega (arith, c.max-from.ensures, c.start-start.ensures.value, h)) (λ j b h. omega (arith, c.max-from.ensures, c.start-start.ensures.value, h)) c.requires.masks;
   near = inr refl;

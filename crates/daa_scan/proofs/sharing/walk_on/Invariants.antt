@@ -7,4 +7,4 @@ abbrev pub invariant-loop-walked : goal.invariant-loop-walked
 invariant-loop-walked l = (j : ℕ) → j < l.walked → ¬ ViolatesOn l.config l.own l.fn.lead l.aircraft l.volume j
 
 abbrev pub decreases-loop-walked : goal.decreases-loop-walked
-decreases-loop-walked l = l.upto - l.walked
+decreases-loop-walked l = l.last - l.walked
