@@ -24,13 +24,36 @@ use crate::filling::fill;
 use crate::rescue::find_rescues;
 use crate::say::say;
 use daa_alert::now_level;
-use daa_bands::{Runs, runs};
-use daa_config::{Kind, Resolution};
+use daa_bands::{Board, Runs, runs};
+use daa_config::{Config, Kind, Resolution};
+use daa_legs::{Branch, Trunk};
 use daa_outside::Sink;
 use daa_recovery::{Recovery, least};
 use daa_report::SinkFault;
 use daa_resolve::{Side, nearest};
+use daa_scan::Trunks;
 use daa_state::{Own, Picture};
+
+/// Decides a moment on room that the caller hands in: bit l - 1 at a candidate's index of the board
+/// is then set exactly where some aircraft of the picture meets the candidate within the lookahead
+/// of level l, and no other bit is. The room needs nothing in it: eight trunks, and a branch for
+/// each candidate of the configuration, of which there are at most 1897.
+pub fn decide_in(
+    config: &Config,
+    picture: &Picture,
+    trunks: &mut [Trunk],
+    branches: &mut [Branch],
+    board: &mut Board,
+)
+    requires picture { IsPictureInRange picture.now }
+    requires trunks { length trunks.old ≡ 8 }
+    requires branches { length (candidates_of config.now) ≤ length branches.old }
+    ensures board { IsBoardOf (CoveredAt config.now picture.now) config.now board.new }
+{
+    let mut kept = Trunks::new();
+    kept.fill(&picture.own, config);
+    fill(board, &kept, config, picture);
+}
 
 impl Engine {
     /// Decides a moment as `decide` does, in the caller's thread alone and without memory, whatever

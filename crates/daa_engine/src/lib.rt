@@ -15,6 +15,7 @@ mod say;
 mod tests;
 mod together;
 
+pub use alone::decide_in;
 pub use daa_schedule::NoMemory;
 pub use engine::Engine;
 pub use laws::{
