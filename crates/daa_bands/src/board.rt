@@ -34,6 +34,20 @@ impl Board {
         Board { masks: [0; SIZE] }
     }
 
+    /// A board of these masks, by the candidates' indices, as [`Board::masks`] hands them out.
+    pub fn of(masks: &[u8; SIZE]) -> Board
+        ensures { result ≡ masks.now }
+    {
+        Board { masks: *masks }
+    }
+
+    /// The masks, by the candidates' indices: bit l - 1 of a mask stands for level l.
+    pub fn masks(&self) -> &[u8; SIZE]
+        ensures { result.now ≡ self.now }
+    {
+        &self.masks
+    }
+
     /// Takes all levels of all candidates away.
     pub fn clear(&mut self)
         ensures { self.new ≡ replicate board_size 0 }

@@ -1,12 +1,17 @@
-/* The detect-and-avoid engine for C: which level each aircraft alerts, and which level each candidate flight shows.
+/* The detect-and-avoid engine for C and C++: alerts, bands, resolutions and recoveries of a moment, and its report.
  *
- * There is no global state: each call answers from what it is handed alone, so calls may run side by side in threads of the
- * caller. No call starts a thread, prints, or keeps a pointer after it returns. What it takes of memory (malloc) it gives
- * back before it returns.
+ * There is no handle and no global state. What a caller keeps is plain numbers in structs of its own: a configuration
+ * (struct daa_config, filled in by hand or by daa_read) and a moment's board of levels (struct daa_board, filled in by
+ * daa_decide). Each call answers from what it is handed alone, so calls may run side by side in threads of the caller.
+ * No call starts a thread, waits, prints, or keeps a pointer after it returns. daa_read alone takes memory (malloc), and
+ * gives it back before it returns.
  *
- * What the caller must keep, since nothing checks it: each pointer is valid for the length that goes with it, also of
- * length 0, and is not null; what a call writes to is not shared with anything else that the call is handed or that another
- * thread reads or writes at the time. */
+ * Each call answers DAA_OK, or another number of the list below; then it has filled in nothing. Every number is looked at,
+ * also those of a configuration, so no number that is handed in makes a call undefined.
+ *
+ * What the caller must keep, since nothing checks it: each pointer is valid for what it points to, or for the length that
+ * follows it, also of length 0, and is not null; what a call fills in overlaps nothing else that the call is handed, and
+ * no other thread reads or writes it at the time. */
 #ifndef DAIDALUS_H
 #define DAIDALUS_H
 
@@ -17,22 +22,73 @@
 extern "C" {
 #endif
 
-/* What calls answer: 0, or why they did nothing. 1 to 8 are the faults of a configuration's text. */
+/* What calls answer. 1 to 8 are the faults of a configuration; from numbers alone only 6 to 8 come. */
 enum {
     DAA_OK = 0,
-    DAA_CONFIG_TOO_LONG = 1,
-    DAA_CONFIG_NOT_TOML = 2,
+    DAA_CONFIG_TOO_LONG = 1,     /* the text has more than 65536 bytes */
+    DAA_CONFIG_NOT_TOML = 2,     /* the text is no document of TOML */
     DAA_CONFIG_UNKNOWN_KEY = 3,
     DAA_CONFIG_MISSING_KEY = 4,
-    DAA_CONFIG_NOT_NUMBER = 5,
-    DAA_CONFIG_OUT_OF_RANGE = 6,
-    DAA_CONFIG_LEVELS = 7,
-    DAA_CONFIG_TOO_MANY = 8,
-    DAA_BAD_OWN = 16,      /* a number of the ownship is out of its range */
-    DAA_BAD_TRAFFIC = 17,  /* a number of an aircraft is out of its range */
-    DAA_TOO_MANY = 18,     /* there are more than 64 aircraft */
-    DAA_SHORT = 19,        /* the caller's room is too short */
-    DAA_NO_MEMORY = 20     /* there is no memory */
+    DAA_CONFIG_NOT_NUMBER = 5,   /* a value is no whole number, or no table */
+    DAA_CONFIG_OUT_OF_RANGE = 6, /* a number is out of its range */
+    DAA_CONFIG_LEVELS = 7,       /* the count of levels is not 1 to 4, or resolve is above it */
+    DAA_CONFIG_TOO_MANY = 8,     /* a kind has more than 512 candidates */
+    DAA_BAD_OWN = 16,            /* a number of the ownship is out of its range */
+    DAA_BAD_TRAFFIC = 17,        /* a number of an aircraft is out of its range */
+    DAA_TOO_MANY = 18,           /* there are more than 64 aircraft */
+    DAA_SHORT = 19,              /* the caller's room is too short */
+    DAA_NO_MEMORY = 20,          /* there is no memory; daa_read alone answers it */
+    DAA_BAD_ID = 21,             /* an aircraft's identifier is not allowed */
+    DAA_SAME_ID = 22,            /* two aircraft have one identifier */
+    DAA_BAD_KIND = 23,           /* the kind is none of daa_kind */
+    DAA_BAD_SIDE = 24,           /* the side is none of daa_side */
+    DAA_BAD_INDEX = 25,          /* the configuration has no candidate at the index */
+    DAA_NOT_ASKED = 26           /* the configuration asks for no recovery */
+};
+
+/* What a candidate changes. DAA_HOLD is the present flight, which is of no kind. */
+enum daa_kind {
+    DAA_HOLD = 0,
+    DAA_TRACK = 1,  /* degrees clockwise from north */
+    DAA_SPEED = 2,  /* ground speed, 0.1 kt */
+    DAA_CLIMB = 3,  /* vertical speed, ft/min */
+    DAA_HEIGHT = 4  /* altitude, ft */
+};
+
+/* The sides of a kind. */
+enum daa_side {
+    DAA_LOWER = 0, /* to the left, slower, or lower */
+    DAA_UPPER = 1  /* to the right, faster, or higher */
+};
+
+/* The values min, min + step and so on up to max that a kind's candidates go to, at most 512, and by how much a second may
+ * change the present value, in the kind's unit (of altitudes in ft/min): rate is 1 to 10000. */
+struct daa_grid {
+    int64_t min, max, step, rate;
+};
+
+/* An alert level. dthr in 0.001 NM (1 to 10000), zthr in ft (0 to 10000), tthr and tcoa in seconds (0 to 120): the well-clear
+ * volume. lookahead and alert in seconds (1 to 180): how far ahead candidates and the present flight are looked at. tcpa: 0
+ * where the horizontal test is modified tau, 1 where it is the time to the closest approach. */
+struct daa_level {
+    int64_t dthr, zthr, tthr, tcoa, lookahead, alert, tcpa;
+};
+
+/* A configuration: the numbers of a text, under the names of its keys and in their units.
+ * resolve: the least level (1 to count) that closes a candidate that is covered at it.
+ * turn_rate in degrees a second (1 to 30), track_step in degrees (1 to 90, a divisor of 360).
+ * gs in 0.1 kt (0 to 10000, step 1 to 10000), vs in ft/min (-10000 to 10000, step 1 to 20000), alt in ft (-2000 to 60000,
+ * step 1 to 62000).
+ * recovery: 0 where no recovery is asked for, else hdist in 0.001 NM (1 to 10000) and vdist in ft (0 to 10000) are the
+ * cylinder that a recovery stays out of.
+ * count: how many levels there are, 1 to 4; level[0] is level 1. Places of level from count on are not read. */
+struct daa_config {
+    int64_t resolve, turn_rate, track_step;
+    struct daa_grid gs, vs, alt;
+    uint64_t recovery;
+    int64_t hdist, vdist;
+    uint64_t count;
+    struct daa_level level[4];
 };
 
 /* The ownship: x east and y north in 0.001 NM (-200000 to 200000), alt in ft (-2000 to 60000), trk in degrees clockwise
@@ -41,9 +97,11 @@ struct daa_own {
     int32_t x, y, alt, trk, gs, vs;
 };
 
-/* An aircraft: x, y, alt and vs as above, vx east and vy north in 0.1 kt (-10000 to 10000), and the age of its report in
- * seconds (0 to 60). */
+/* An aircraft. id: its identifier, 1 to 8 bytes, each an ASCII letter or digit, '_' or '-'; it ends at the first byte 0, or
+ * with the eighth. x, y, alt and vs as above, vx east and vy north in 0.1 kt (-10000 to 10000), and the age of its report
+ * in seconds (0 to 60). */
 struct daa_traffic {
+    char id[8];
     int32_t x, y, alt, vx, vy, vs;
     uint32_t age;
 };
@@ -55,16 +113,113 @@ struct daa_alert {
     int64_t first;
 };
 
-/* Fills in the alert of one aircraft. config is the text of a configuration, of size bytes. On any answer but DAA_OK
- * nothing is filled in. */
-int32_t daa_alert(const uint8_t *config, size_t size, const struct daa_own *own, const struct daa_traffic *traffic,
+/* Numbers of a state, as struct daa_fault names them. */
+enum daa_field {
+    DAA_EAST = 1,           /* x */
+    DAA_NORTH = 2,          /* y */
+    DAA_ALTITUDE = 3,       /* alt */
+    DAA_TRK = 4,            /* trk */
+    DAA_GROUND_SPEED = 5,   /* gs */
+    DAA_VERTICAL_SPEED = 6, /* vs */
+    DAA_SPEED_EAST = 7,     /* vx */
+    DAA_SPEED_NORTH = 8,    /* vy */
+    DAA_AGE = 9             /* age */
+};
+
+/* What is wrong with a state. code: DAA_OK where nothing is, DAA_TOO_MANY, DAA_BAD_OWN, DAA_BAD_ID, DAA_BAD_TRAFFIC or
+ * DAA_SAME_ID. place: which aircraft it is, counted from 0 (after DAA_SAME_ID the later of the two), or 0 where it is none.
+ * field: which number (enum daa_field) is out of its range from least to greatest, after DAA_BAD_OWN and DAA_BAD_TRAFFIC; all
+ * three are 0 after the others. */
+struct daa_fault {
+    int32_t code, field, least, greatest;
+    uint64_t place;
+};
+
+/* The levels at which each candidate is covered in a moment: bit l - 1 of mask[i] stands for level l of the candidate at
+ * index i of the whole list. It goes with the configuration and the picture of which daa_decide made it. */
+struct daa_board {
+    uint8_t mask[2048];
+};
+
+/* A candidate: its kind, and the value that it goes to, in the kind's unit; 0 where the kind is DAA_HOLD. */
+struct daa_candidate {
+    int32_t kind, value;
+};
+
+/* A stretch of a kind's rising values, from one up to another, that all show the same level (0: none is met). */
+struct daa_band {
+    int32_t from, upto;
+    uint32_t level;
+};
+
+/* What is answered on a side of a kind. what: 0 where the present flight may be kept, 1 where value is the nearest open
+ * one, 2 where there is none; value is 0 but after 1. */
+struct daa_resolution {
+    int32_t what, value;
+};
+
+/* The recovery of a kind. found: 1, and then after (seconds, from 1 on) is the least time from which on some value is clear,
+ * and value the first that is; or 0 where there is none, and after and value are 0. */
+struct daa_recovery {
+    int32_t found;
+    uint32_t after;
+    int32_t value;
+};
+
+/* ---- a configuration */
+
+/* Fills in the numbers of a configuration's text of TOML, of size bytes. The numbers are then in their ranges. Places of
+ * level from count on stay as they were, and hdist and vdist where no recovery is asked for. */
+int32_t daa_read(const uint8_t *text, size_t size, struct daa_config *config);
+
+/* Whether a configuration is accepted: DAA_OK, or the first that applies of DAA_CONFIG_OUT_OF_RANGE, DAA_CONFIG_LEVELS and
+ * DAA_CONFIG_TOO_MANY. Every call below that takes a configuration answers these too. */
+int32_t daa_check(const struct daa_config *config);
+
+/* The candidate at an index of the configuration's whole list: the present flight at 0, then the tracks, ground speeds,
+ * vertical speeds and altitudes, each rising. Else DAA_BAD_INDEX. A list has at most 1897. */
+int32_t daa_candidate(const struct daa_config *config, uint32_t index, struct daa_candidate *out);
+
+/* ---- states */
+
+/* Fills in what is wrong with an ownship and aircraft, or that nothing is; the answer is DAA_OK either way. What is told is
+ * one of the things that are wrong. Every call below that takes a picture answers the same codes. */
+int32_t daa_fault(const struct daa_own *own, const struct daa_traffic *traffic, size_t count, struct daa_fault *out);
+
+/* ---- a moment */
+
+/* Fills in the alert of one aircraft. */
+int32_t daa_alert(const struct daa_config *config, const struct daa_own *own, const struct daa_traffic *traffic,
                   struct daa_alert *out);
 
-/* Fills in the level (0 to 4) that each candidate shows, in the order of the whole list: the present flight, then the
- * tracks, ground speeds, vertical speeds and altitudes of the configuration, each rising. 1897 places are always enough.
- * On any answer but DAA_OK nothing is filled in; places past the candidates are not promised to stay as they were. */
-int32_t daa_levels(const uint8_t *config, size_t size, const struct daa_own *own, const struct daa_traffic *traffic,
-                   size_t count, uint8_t *levels, size_t room);
+/* Fills in the board of a moment: at which levels each candidate flight meets some aircraft. */
+int32_t daa_decide(const struct daa_config *config, const struct daa_own *own, const struct daa_traffic *traffic, size_t count,
+                   struct daa_board *board);
+
+/* Fills in the level (0 to 4) that each candidate shows on a board, in the order of the whole list, and how many there are.
+ * DAA_SHORT where room is less; 1897 places are always enough. Places from there on stay as they were. */
+int32_t daa_levels(const struct daa_config *config, const struct daa_board *board, uint8_t *levels, size_t room, size_t *count);
+
+/* Fills in the bands of a kind on a board, in the rising order of the values, those of level 0 too, and how many there are.
+ * DAA_SHORT where room is less than the values of the kind; 512 places are always enough. Places past the bands stay as
+ * they were. */
+int32_t daa_bands(const struct daa_config *config, const struct daa_board *board, int32_t kind, struct daa_band *bands,
+                  size_t room, size_t *count);
+
+/* Fills in what is answered on a side of a kind: keep, the nearest open value, or that there is none. The ownship is that of
+ * the board's moment. */
+int32_t daa_resolution(const struct daa_config *config, const struct daa_own *own, const struct daa_board *board, int32_t kind,
+                       int32_t side, struct daa_resolution *out);
+
+/* Fills in the recovery of a kind in a moment, under a configuration that asks for one; else DAA_NOT_ASKED. */
+int32_t daa_recovery(const struct daa_config *config, const struct daa_own *own, const struct daa_traffic *traffic,
+                     size_t count, int32_t kind, struct daa_recovery *out);
+
+/* Writes the text of a moment as the program's report has it, and says how many bytes it has; time is in seconds. DAA_SHORT
+ * where room is less; 130176 bytes are always enough. On any answer but DAA_OK what stands in text is not promised, and
+ * length is as it was. */
+int32_t daa_report(const struct daa_config *config, uint32_t time, const struct daa_own *own, const struct daa_traffic *traffic,
+                   size_t count, uint8_t *text, size_t room, size_t *length);
 
 #ifdef __cplusplus
 }

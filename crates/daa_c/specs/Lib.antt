@@ -1,2 +1,6 @@
+pub mod Asked
+pub mod Codes
+pub mod Faults
+pub mod Filled
+pub mod Numbers
 pub mod States
-pub mod Told

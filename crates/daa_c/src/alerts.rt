@@ -1,16 +1,26 @@
 //! The alert of an aircraft.
-ghost use Rattle.std.specs.Prelude.{◌≡◌, ◌≢◌, pos};
+ghost use Rattle.std.specs.Prelude.{◌≡◌, ◌≢◌, ◌∷◌, [], pos, IfOk, IfErr};
 ghost use Rattle.daa_state.specs.InRange.{IsOwnInRange, IsTrafficInRange};
+ghost use Rattle.daa_c.specs.Asked.{IsToldUnder};
+ghost use Rattle.daa_c.specs.Faults.{IsRefusal, IsCodeOf};
+ghost use Rattle.daa_c.specs.Filled.{leg_of, IsTold};
 ghost use Rattle.daa_c.specs.States.{own_of, traffic_of};
-ghost use Rattle.daa_c.specs.Told.{leg_of, IsTold, IsToldUnder};
 
-use crate::states::{
-    BAD_OWN, BAD_TRAFFIC, DaaAlert, DaaOwn, DaaTraffic, aircraft, ownship, refusal,
-};
+use crate::refusal::{Refusal, code};
+use crate::setting::{DaaConfig, accept};
+use crate::states::{DaaOwn, DaaTraffic, checked_own, checked_traffic};
 use daa_alert::{alert, now_level};
-use daa_config::{Config, read};
+use daa_config::Config;
 use daa_state::{Own, Traffic};
-use std::alloc::Global;
+
+/// The level of an aircraft now, its alert level, and the first second that alerts, or -1.
+#[repr(C)]
+#[derive(Clone, Copy)]
+pub struct DaaAlert {
+    pub now: u32,
+    pub level: u32,
+    pub first: i64,
+}
 
 /// A number of a leg, or -1 for none.
 fn leg(first: Option<u32>) -> i64
@@ -36,12 +46,26 @@ fn told(config: &Config, own: &Own, aircraft: &Traffic) -> DaaAlert
     }
 }
 
+/// What is told of an aircraft of these numbers.
+fn alert_of(config: &DaaConfig, own: &DaaOwn, traffic: &DaaTraffic) -> Result<DaaAlert, Refusal>
+    ensures told { IfOk result
+        (IsToldUnder config.now (own_of own.now) (traffic_of traffic.now)) }
+    ensures refused { IfErr result (IsRefusal config.now own.now (traffic.now ∷ [])) }
+{
+    let config = match accept(config) {
+        Ok(config) => config,
+        Err(fault) => return Err(Refusal::Config(fault)),
+    };
+    let own = checked_own(own)?;
+    let traffic = checked_traffic(traffic)?;
+    Ok(told(&config, &own, &traffic))
+}
+
 /// Fills in the level of an aircraft now, its alert level and its first leg. Answers 0, or why
 /// nothing was filled in.
 #[unsafe(no_mangle)]
 pub extern "C" fn daa_alert(
-    alloc: Global,
-    config: &[u8],
+    config: &DaaConfig,
     own: &DaaOwn,
     traffic: &DaaTraffic,
     out: &mut DaaAlert,
@@ -49,17 +73,14 @@ pub extern "C" fn daa_alert(
     ensures told { result ≡ pos 0
         → IsToldUnder config.now (own_of own.now) (traffic_of traffic.now) out.new }
     ensures kept { result ≢ pos 0 → out.new ≡ out.old }
+    ensures refused { result ≢ pos 0
+        → IsCodeOf (IsRefusal config.now own.now (traffic.now ∷ [])) result }
 {
-    let config = match read(alloc, config) {
-        Ok(config) => config,
-        Err(fault) => return refusal(fault),
-    };
-    let Ok(own) = ownship(own) else {
-        return BAD_OWN;
-    };
-    let Ok(traffic) = aircraft(traffic) else {
-        return BAD_TRAFFIC;
-    };
-    *out = told(&config, &own, &traffic);
-    0
+    match alert_of(config, own, traffic) {
+        Ok(alert) => {
+            *out = alert;
+            0
+        }
+        Err(refusal) => code(refusal),
+    }
 }

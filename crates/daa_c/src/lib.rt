@@ -1,8 +1,15 @@
-//! The engine for C: a configuration's text and states in, alerts and levels out. There is no
-//! global state: each call answers from what it is handed alone. `include/daidalus.h` has the
-//! declarations.
+//! The engine for C: numbers in, alerts, levels, bands, resolutions, recoveries and the report of a
+//! moment out. There is no global state and no handle: each call answers from what it is handed
+//! alone. `include/daidalus.h` has the declarations.
 #![tactic(auto)]
 
 mod alerts;
-mod levels;
+mod bands;
+mod candidates;
+mod codes;
+mod deciding;
+mod recovery;
+mod refusal;
+mod resolution;
+mod setting;
 mod states;

@@ -1,21 +1,18 @@
 //! States as C has them.
-ghost use Rattle.std.specs.Prelude.{◌≡◌, ◌≢◌, pos, IfOk, IfErr};
+ghost use Rattle.std.specs.Prelude.{◌≡◌, ◌≤◌, ◌∷◌, [], List, length, map, take, IsTrue, IfOk, IfErr};
+ghost use Rattle.std.specs.Option.{SomeIff};
+ghost use Rattle.daa_state.specs.Id.{is_id};
 ghost use Rattle.daa_state.specs.InRange.{IsOwnInRange, IsTrafficInRange};
-ghost use Rattle.daa_c.specs.States.{own_of, traffic_of};
+ghost use Rattle.daa_c.specs.Asked.{IsTaken};
+ghost use Rattle.daa_c.specs.Faults.{IsRefusal};
+ghost use Rattle.daa_c.specs.States.{own_of, text_of, traffic_of, picture_of};
+ghost use Rattle.daa_c.specs.declared.setting.DaaConfig.{DaaConfig};
+ghost use Rattle.daa_c.specs.declared.states.DaaOwn.{DaaOwn};
+ghost use Rattle.daa_c.specs.declared.states.DaaTraffic.{DaaTraffic};
 
-use daa_config::ConfigFault;
-use daa_state::{Id, OutOfRange, Own, Traffic};
-
-/// A number of the ownship is out of its range.
-pub(crate) const BAD_OWN: i32 = 16;
-/// A number of an aircraft is out of its range.
-pub(crate) const BAD_TRAFFIC: i32 = 17;
-/// There are more than 64 aircraft.
-pub(crate) const TOO_MANY: i32 = 18;
-/// The caller's room is too short.
-pub(crate) const SHORT: i32 = 19;
-/// There is no memory.
-pub(crate) const NO_MEMORY: i32 = 20;
+use crate::refusal::Refusal;
+use arrayvec::ArrayVec;
+use daa_state::{Id, Own, Picture, PictureFault, Traffic};
 
 /// The ownship, in the units of state lines.
 #[repr(C)]
@@ -29,10 +26,11 @@ pub struct DaaOwn {
     pub vs: i32,
 }
 
-/// An aircraft, in the units of state lines.
+/// An aircraft, in the units of state lines. Its identifier ends before the first byte 0.
 #[repr(C)]
 #[derive(Clone, Copy)]
 pub struct DaaTraffic {
+    pub id: [u8; 8],
     pub x: i32,
     pub y: i32,
     pub alt: i32,
@@ -42,19 +40,21 @@ pub struct DaaTraffic {
     pub age: u32,
 }
 
-/// The level of an aircraft now, its alert level, and the first second that alerts, or -1.
-#[repr(C)]
-#[derive(Clone, Copy)]
-pub struct DaaAlert {
-    pub now: u32,
-    pub level: u32,
-    pub first: i64,
+/// How many bytes stand before the first 0.
+fn text_end(bytes: &[u8]) -> usize
+    ensures within { result ≤ length bytes.now }
+    ensures text { take result bytes.now ≡ text_of bytes.now }
+{
+    let mut end = 0;
+    while end < bytes.len() && bytes[end] != 0 {
+        end += 1;
+    }
+    end
 }
 
-/// The ownship of these numbers, where they are in range.
-pub(crate) fn ownship(own: &DaaOwn) -> Result<Own, OutOfRange>
-    ensures value { IfOk result (λ o. o ≡ own_of own.now) }
-    ensures range { IfOk result IsOwnInRange }
+/// The ownship of these numbers.
+fn ownship(own: &DaaOwn) -> Own
+    ensures { result ≡ own_of own.now }
 {
     Own {
         x: own.x,
@@ -64,16 +64,15 @@ pub(crate) fn ownship(own: &DaaOwn) -> Result<Own, OutOfRange>
         gs: own.gs,
         vs: own.vs,
     }
-    .checked()
 }
 
-/// The aircraft of these numbers, where they are in range.
-pub(crate) fn aircraft(traffic: &DaaTraffic) -> Result<Traffic, OutOfRange>
-    ensures value { IfOk result (λ t. t ≡ traffic_of traffic.now) }
-    ensures range { IfOk result IsTrafficInRange }
+/// The aircraft of these numbers, where its identifier is allowed.
+fn aircraft(traffic: &DaaTraffic) -> Option<Traffic>
+    ensures { SomeIff result (IsTrue (is_id (text_of traffic.now.id))) (traffic_of traffic.now) }
 {
-    Traffic {
-        id: Id::default(),
+    let id = Id::of(&traffic.id[..text_end(&traffic.id)])?;
+    Some(Traffic {
+        id,
         x: traffic.x,
         y: traffic.y,
         alt: traffic.alt,
@@ -81,24 +80,67 @@ pub(crate) fn aircraft(traffic: &DaaTraffic) -> Result<Traffic, OutOfRange>
         vy: traffic.vy,
         vs: traffic.vs,
         age: traffic.age,
-    }
-    .checked()
+    })
 }
 
-/// The code of a configuration that is not read: that of its fault, 1 to 8, or that there is no
-/// memory.
-pub(crate) fn refusal(fault: ConfigFault) -> i32
-    ensures { result ≢ pos 0 }
+/// The ownship of these numbers, where they are in range.
+pub(crate) fn checked_own(own: &DaaOwn) -> Result<Own, Refusal>
+    ensures value { IfOk result (λ o. o ≡ own_of own.now) }
+    ensures range { IfOk result IsOwnInRange }
+    ensures refused { (config : DaaConfig) (traffic : List DaaTraffic)
+        → IfErr result (IsRefusal config own.now traffic) }
 {
-    match fault {
-        ConfigFault::TooLong => 1,
-        ConfigFault::NotToml => 2,
-        ConfigFault::UnknownKey => 3,
-        ConfigFault::MissingKey => 4,
-        ConfigFault::NotNumber => 5,
-        ConfigFault::OutOfRange => 6,
-        ConfigFault::Levels => 7,
-        ConfigFault::TooMany => 8,
-        ConfigFault::NoMemory => NO_MEMORY,
+    match ownship(own).checked() {
+        Ok(own) => Ok(own),
+        Err(fault) => Err(Refusal::Picture(PictureFault::Own(fault))),
+    }
+}
+
+/// The aircraft of these numbers, where they are in range and its identifier is allowed.
+pub(crate) fn checked_traffic(traffic: &DaaTraffic) -> Result<Traffic, Refusal>
+    ensures value { IfOk result (λ t. t ≡ traffic_of traffic.now) }
+    ensures range { IfOk result IsTrafficInRange }
+    ensures refused { (config : DaaConfig) (own : DaaOwn)
+        → IfErr result (IsRefusal config own (traffic.now ∷ [])) }
+{
+    let Some(one) = aircraft(traffic) else {
+        return Err(Refusal::BadId(0));
+    };
+    match one.checked() {
+        Ok(one) => Ok(one),
+        Err(fault) => Err(Refusal::Picture(PictureFault::Traffic(0, fault))),
+    }
+}
+
+/// The aircraft of these numbers, where their identifiers are allowed.
+fn all_aircraft(traffic: &[DaaTraffic]) -> Result<ArrayVec<Traffic, 64>, Refusal>
+    requires { length traffic.now ≤ 64 }
+    ensures value { IfOk result (λ all. all.items ≡ map traffic_of traffic.now) }
+    ensures refused { (config : DaaConfig) (own : DaaOwn)
+        → IfErr result (IsRefusal config own traffic.now) }
+{
+    let mut all = ArrayVec::new();
+    for place in 0..traffic.len() {
+        let Some(one) = aircraft(&traffic[place]) else {
+            return Err(Refusal::BadId(place));
+        };
+        all.push(one);
+    }
+    Ok(all)
+}
+
+/// The picture of these numbers, where the engine takes it.
+pub(crate) fn picture(time: u32, own: &DaaOwn, traffic: &[DaaTraffic]) -> Result<Picture, Refusal>
+    ensures value { IfOk result (λ p. p ≡ picture_of time own.now traffic.now) }
+    ensures taken { IfOk result IsTaken }
+    ensures refused { (config : DaaConfig) → IfErr result (IsRefusal config own.now traffic.now) }
+{
+    if traffic.len() > 64 {
+        return Err(Refusal::Picture(PictureFault::TooMany));
+    }
+    let all = all_aircraft(traffic)?;
+    match Picture::checked(time, ownship(own), all.as_slice()) {
+        Ok(picture) => Ok(picture),
+        Err(fault) => Err(Refusal::Picture(fault)),
     }
 }

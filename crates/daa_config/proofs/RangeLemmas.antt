@@ -265,6 +265,14 @@ accepted w fit counted few =
       resolve = record { least = p.resolve.least; most = rw same (not_below (pos (length w.levels)) w.numbers.resolve m.1) };
     }
 
+-- levels whose count passes are no more than a list of them has room for
+pub few_counted : (resolve : ℤ) (levels : List LevelNumbers) → levels_are_wrong resolve levels ≡ false → length levels ≤ most_levels
+unfolding levels_are_wrong
+few_counted resolve levels counted =
+    let l = or_parts (length levels == 0) _ counted in
+    let m = or_parts (nat_lt most_levels (length levels)) _ l.1 in
+    not_over most_levels (length levels) m.0
+
 -- ---- counting along a grid
 
 pub stepped : (limits : GridLimits) (g : Grid) → negsuc 99999 ≤ℤ limits.value.0 → limits.value.1 ≤ℤ pos 100000 → pos 1 ≤ℤ limits.step.0

@@ -8,6 +8,7 @@ use crate::candidate::Candidate;
 use crate::kind::Kind;
 use crate::level::Level;
 use crate::numbers::{Grid, Numbers, count};
+use arrayvec::ArrayVec;
 use daa_taumod::Volume;
 use std::marker::Model;
 
@@ -21,12 +22,29 @@ pub struct Rates {
     pub alt: i32,
 }
 
-/// A configuration that was accepted.
+/// A configuration that was accepted. It owns no memory.
 #[derive(Drop)]
 pub struct Config {
     numbers: Numbers,
     recovery: Option<Volume>,
-    levels: Vec<Level>,
+    levels: ArrayVec<Level, 4>,
+}
+
+/// A level of no size, which fills the unused places of a configuration's levels.
+impl Default for Level {
+    fn default() -> Level {
+        Level {
+            volume: Volume {
+                dthr: 0,
+                zthr: 0,
+                tthr: 0,
+                tcoa: 0,
+                model: daa_taumod::Model::Taumod,
+            },
+            lookahead: 0,
+            alert: 0,
+        }
+    }
 }
 
 impl Model for Config {
@@ -45,7 +63,11 @@ impl Config {
     ghost use Rattle.daa_config.specs.Candidates.{grid_of, values_of, least_of, greatest_of, candidates_of, start_of, IsCandidateOf};
 
     /// A configuration of these numbers.
-    pub(crate) fn new(numbers: Numbers, recovery: Option<Volume>, levels: Vec<Level>) -> Config
+    pub(crate) fn new(
+        numbers: Numbers,
+        recovery: Option<Volume>,
+        levels: ArrayVec<Level, 4>,
+    ) -> Config
         requires { IsAccepted
             (record { numbers = numbers; recovery = recovery; levels = levels.items }) }
         ensures { result ≡ record { numbers = numbers; recovery = recovery; levels = levels.items } }

@@ -1,14 +1,14 @@
 //! Alert levels, in units.
-ghost use Rattle.std.specs.Prelude.{◌≡◌, ◌*◌, ℕ, pos, nat_abs, true, map, option_map, IfOk};
+ghost use Rattle.std.specs.Prelude.{◌≡◌, ◌≤◌, ◌*◌, ℕ, pos, nat_abs, true, length, map, option_map};
 ghost use Rattle.std.specs.List.{list_all};
 ghost use Rattle.daa_fixed.specs.Size.{IsFrom};
 ghost use Rattle.daa_config.specs.Numbers.{level_fits, recovery_fits};
 ghost use Rattle.daa_config.specs.Level.{level_of, cylinder_of, model_of};
 
 use crate::numbers::{LevelNumbers, RecoveryNumbers};
+use arrayvec::ArrayVec;
 use daa_fixed::{feet, mils};
 use daa_taumod::{Model, Volume};
-use std::alloc::{AllocError, Global};
 
 /// An alert level: its well-clear volume (1/36000 NM, 1/60 ft and seconds), and how many seconds
 /// ahead, 1 to 180, it is looked for a candidate's violation of the volume and alerted of one by
@@ -100,13 +100,14 @@ fn in_cylinder(numbers: &RecoveryNumbers) -> Volume
 }
 
 /// The levels of these numbers, in order.
-pub fn all_in_units(alloc: Global, numbers: &[LevelNumbers]) -> Result<Vec<Level>, AllocError>
-    requires { list_all level_fits numbers.now ≡ true }
-    ensures { IfOk result (λ v. v.items ≡ map level_of numbers.now) }
+pub fn all_in_units(numbers: &[LevelNumbers]) -> ArrayVec<Level, 4>
+    requires fit { list_all level_fits numbers.now ≡ true }
+    requires few { length numbers.now ≤ 4 }
+    ensures { result.items ≡ map level_of numbers.now }
 {
-    let mut levels = Vec::with_capacity(alloc, numbers.len())?;
+    let mut levels = ArrayVec::new();
     for one in numbers {
-        levels.push(in_units(one))?;
+        levels.push(in_units(one));
     }
-    Ok(levels)
+    levels
 }

@@ -3,6 +3,7 @@
 //! and what is accepted is a [`Config`], whose readers know every range.
 #![tactic(auto)]
 
+mod accepting;
 mod candidate;
 mod config;
 mod document;
@@ -23,7 +24,8 @@ pub use fault::ConfigFault;
 pub use kind::Kind;
 pub use laws::{accepted_is_in_range, values_are_all_steps};
 pub use level::Level;
-pub use reading::read;
+pub use numbers::{ConfigNumbers, Grid, LevelNumbers, Numbers, RecoveryNumbers};
+pub use reading::{read, read_numbers};
 
 #[cfg(test)]
 mod tests;

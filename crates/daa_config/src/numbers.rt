@@ -8,10 +8,12 @@ use crate::limits::{
     ALT, FULL_TURN, GS, GridLimits, LEVEL, MOST_LEVELS, MOST_VALUES, RECOVERY, RESOLVE, TRACK_STEP,
     TURN_RATE, VS,
 };
+use arrayvec::ArrayVec;
 
 /// The values `min`, `min + step` and so on up to `max` that a kind of candidate may go to, and by
-/// how much a second may change the present value.
-#[derive(Clone, Copy, Debug)]
+/// how much a second may change the present value (of altitudes in ft/min). C lays it out alike.
+#[repr(C)]
+#[derive(Clone, Copy, Debug, PartialEq, Eq)]
 pub struct Grid {
     pub min: i64,
     pub max: i64,
@@ -20,8 +22,10 @@ pub struct Grid {
 }
 
 /// All numbers of a configuration but those of its levels: the least level that closes a candidate
-/// which is covered at it, degrees per second, degrees, and the grids in 0.1 kt, ft/min and ft.
-#[derive(Clone, Copy, Debug)]
+/// which is covered at it, degrees per second, degrees, and the grids in 0.1 kt, ft/min and ft. C
+/// lays it out alike.
+#[repr(C)]
+#[derive(Clone, Copy, Debug, PartialEq, Eq)]
 pub struct Numbers {
     pub resolve: i64,
     pub turn_rate: i64,
@@ -32,8 +36,9 @@ pub struct Numbers {
 }
 
 /// The numbers of a level as the text has them: 0.001 NM, ft, seconds, and 1 where the volume goes
-/// by the time to the closest approach.
-#[derive(Clone, Copy, Debug)]
+/// by the time to the closest approach, else 0. C lays it out alike.
+#[repr(C)]
+#[derive(Clone, Copy, Debug, Default, PartialEq, Eq)]
 pub struct LevelNumbers {
     pub dthr: i64,
     pub zthr: i64,
@@ -44,11 +49,22 @@ pub struct LevelNumbers {
     pub tcpa: i64,
 }
 
-/// The cylinder that a recovery stays out of, as the text has it: 0.001 NM and ft.
-#[derive(Clone, Copy, Debug)]
+/// The cylinder that a recovery stays out of, as the text has it: 0.001 NM and ft. C lays it out
+/// alike.
+#[repr(C)]
+#[derive(Clone, Copy, Debug, PartialEq, Eq)]
 pub struct RecoveryNumbers {
     pub hdist: i64,
     pub vdist: i64,
+}
+
+/// All numbers of a configuration as its text has them; the first of the levels is level 1. The
+/// table of keys, units and ranges stands in the documentation.
+#[derive(Debug, Drop)]
+pub struct ConfigNumbers {
+    pub numbers: Numbers,
+    pub recovery: Option<RecoveryNumbers>,
+    pub levels: ArrayVec<LevelNumbers, 4>,
 }
 
 /// Whether the numbers of a kind are in their ranges, and its least value is not above its

@@ -1,23 +1,19 @@
 //! Reads a configuration's text.
-ghost use Rattle.std.specs.Prelude.{◌≡◌, ◌≢◌, ◌&&◌, Ok, Err, IfOk, IfErr};
-ghost use Rattle.std.specs.List.{list_all};
+ghost use Rattle.std.specs.Prelude.{◌≡◌, ◌≢◌, ◌≤◌, length, Ok, Err, IsOk, IfOk, IfErr};
 ghost use Rattle.toml.specs.View.{table_view};
 ghost use Rattle.daa_config.specs.declared.fault.ConfigFault.TheVariants.{NoMemory};
 ghost use Rattle.daa_config.specs.Fault.{Gives};
-ghost use Rattle.daa_config.specs.Numbers.{numbers_fit, recovery_fits, level_fits};
-ghost use Rattle.daa_config.specs.Written.{written_in};
+ghost use Rattle.daa_config.specs.Written.{written_by, written_in};
 ghost use Rattle.daa_config.specs.ConfigOf.{config_of, document_of, written_of, settings_of};
 
+use crate::accepting::test;
 use crate::config::Config;
 use crate::document::{levels_of, numbers_of, recovery_of};
 use crate::fault::ConfigFault;
 use crate::keys::{Difference, any_table_differs};
-use crate::level::{all_in_units, cylinder_in_units};
 use crate::limits::LONGEST_TEXT;
-use crate::numbers::{
-    LevelNumbers, Numbers, RecoveryNumbers, are_in_range, are_too_many, have_wrong_count,
-    levels_are_in_range, recovery_is_in_range,
-};
+use crate::numbers::{ConfigNumbers, LevelNumbers, Numbers, RecoveryNumbers};
+use arrayvec::ArrayVec;
 use std::alloc::Global;
 use toml::Table;
 
@@ -71,43 +67,55 @@ fn find(alloc: Global, document: &Table) -> Result<Found, ConfigFault>
     }
 }
 
-/// Whether every number is in its range.
-fn are_all_in_range(found: &Found) -> bool
-    ensures { result ≡ (numbers_fit found.now.numbers &&
-        (recovery_fits found.now.recovery && list_all level_fits found.now.levels.items)) }
+/// The levels, of which there are at most four.
+fn kept(levels: &[LevelNumbers]) -> ArrayVec<LevelNumbers, 4>
+    requires { length levels.now ≤ 4 }
+    ensures { result.items ≡ levels.now }
 {
-    are_in_range(&found.numbers)
-        && (recovery_is_in_range(&found.recovery) && levels_are_in_range(found.levels.as_slice()))
+    let mut all = ArrayVec::new();
+    for one in levels {
+        all.push(*one);
+    }
+    all
 }
 
-/// The configuration of these numbers, where they may stand there.
+/// The numbers, where they may stand in a configuration.
 #[tactic(auto, unfolding(crate::specs::ConfigOf::settings_of))]
-fn check(alloc: Global, found: &Found) -> Result<Config, ConfigFault>
-    ensures { Gives (λ c. c) result (settings_of (written_in found.now)) }
+fn accept(found: &Found) -> Result<ConfigNumbers, ConfigFault>
+    ensures same { IfOk result (λ numbers. written_by numbers ≡ written_in found.now) }
+    ensures accepted { IfOk result (λ numbers. IsOk (settings_of (written_by numbers))) }
+    ensures refused { IfErr result (λ fault. settings_of (written_in found.now) ≡ Err fault) }
 {
-    if !are_all_in_range(found) {
-        return Err(ConfigFault::OutOfRange);
-    }
-    if have_wrong_count(&found.numbers, found.levels.as_slice()) {
-        return Err(ConfigFault::Levels);
-    }
-    if are_too_many(&found.numbers) {
-        return Err(ConfigFault::TooMany);
-    }
-    let levels = all_in_units(alloc, found.levels.as_slice())?;
-    let recovery = cylinder_in_units(&found.recovery);
-    Ok(Config::new(found.numbers, recovery, levels))
+    let levels = found.levels.as_slice();
+    test(&found.numbers, &found.recovery, levels)?;
+    Ok(ConfigNumbers {
+        numbers: found.numbers,
+        recovery: found.recovery,
+        levels: kept(levels),
+    })
+}
+
+/// The numbers of the configuration that the text is, which are accepted, or the fault of least
+/// number that applies anywhere in it. Want of memory apart, they are accepted or refused exactly
+/// as the definition says.
+#[tactic(auto, unfolding(crate::specs::ConfigOf::config_of))]
+pub fn read_numbers(alloc: Global, text: &[u8]) -> Result<ConfigNumbers, ConfigFault>
+    ensures same { IfOk result (λ numbers. config_of text.now ≡ settings_of (written_by numbers)) }
+    ensures accepted { IfOk result (λ numbers. IsOk (settings_of (written_by numbers))) }
+    ensures refused { IfErr result (λ fault. fault ≢ NoMemory → config_of text.now ≡ Err fault) }
+{
+    let document = parse(alloc, text)?;
+    let found = find(alloc, &document)?;
+    accept(&found)
 }
 
 /// The configuration that the text is, or the fault of least number that applies anywhere in it.
 /// Want of memory apart, it is accepted or refused exactly as the definition says. The text is read
 /// as a TOML document; the table of keys, units and ranges stands in the documentation.
-#[tactic(auto, unfolding(crate::specs::ConfigOf::config_of))]
 pub fn read(alloc: Global, text: &[u8]) -> Result<Config, ConfigFault>
     ensures accepted { IfOk result (λ config. config_of text.now ≡ Ok config) }
     ensures refused { IfErr result (λ fault. fault ≢ NoMemory → config_of text.now ≡ Err fault) }
 {
-    let document = parse(alloc, text)?;
-    let found = find(alloc, &document)?;
-    check(alloc, &found)
+    let found = read_numbers(alloc, text)?;
+    Config::of(&found.numbers, &found.recovery, found.levels.as_slice())
 }

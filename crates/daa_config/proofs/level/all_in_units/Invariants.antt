@@ -1,4 +1,4 @@
-use Rattle.std.proofs.Common.{◌≡◌, ◌++◌, true, map, drop}
+use Rattle.std.proofs.Common.{◌≡◌, ◌++◌, true, map, drop, length}
 use Rattle.std.specs.List.{list_all}
 use Rattle.daa_config.specs.Numbers.{level_fits}
 use Rattle.daa_config.specs.Level.{level_of}
@@ -9,3 +9,4 @@ abbrev pub invariant-loop-one : goal.invariant-loop-one
 invariant-loop-one l =
     (l.levels.items ++ map level_of (drop l.one-index l.numbers) ≡ map level_of l.numbers)
     × (list_all level_fits (drop l.one-index l.numbers) ≡ true)
+    × (length l.levels.items ≡ l.one-index)

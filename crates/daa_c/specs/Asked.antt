@@ -1,0 +1,97 @@
+-- What calls answer where they answer 0: under the configuration that the numbers are, which is accepted.
+use Rattle.std.specs.Prelude.{◌≡◌, ℕ, ℤ, List, length, map, take, slice_get, Option, Some, Ok}
+use Rattle.daa_bands.specs.Board.{HasLevelOn, IsBoardOf, mask_levels}
+use Rattle.daa_bands.specs.KindBands.{AreKindBands}
+use Rattle.daa_config.specs.Candidates.{candidates_of}
+use Rattle.daa_config.specs.Settings.{Settings}
+use Rattle.daa_config.specs.declared.candidate.Candidate.{Candidate}
+use Rattle.daa_config.specs.declared.candidate.Resolution.{Resolution}
+use Rattle.daa_config.specs.declared.kind.Kind.{Kind}
+use Rattle.daa_engine.specs.Covered.{CoveredAt}
+use Rattle.daa_recovery.specs.Recovery.{IsRecovery}
+use Rattle.daa_recovery.specs.declared.recovery.Recovery.{Recovery}
+use Rattle.daa_resolve.specs.Resolution.{IsResolution}
+use Rattle.daa_resolve.specs.declared.side.Side.{Side}
+use Rattle.daa_state.specs.Checked.{AreTaken}
+use Rattle.daa_state.specs.InRange.{IsOwnInRange, IsTrafficInRange, IsPictureInRange}
+use Rattle.daa_state.specs.Picture.{aircraft_of}
+use Rattle.daa_state.specs.declared.word.Own.{Own}
+use Rattle.daa_state.specs.declared.word.Traffic.{Traffic}
+use Rattle.daa_state.specs.declared.word.Picture.{Picture}
+use Rattle.daa_c.specs.declared.alerts.DaaAlert.{DaaAlert}
+use Rattle.daa_c.specs.declared.bands.DaaBand.{DaaBand}
+use Rattle.daa_c.specs.declared.candidates.DaaCandidate.{DaaCandidate}
+use Rattle.daa_c.specs.declared.recovery.DaaRecovery.{DaaRecovery}
+use Rattle.daa_c.specs.declared.resolution.DaaResolution.{DaaResolution}
+use Rattle.daa_c.specs.declared.setting.DaaConfig.{DaaConfig}
+use Rattle.daa_c.specs.Codes.{candidate_by, kind_of, side_of}
+use Rattle.daa_c.specs.Filled.{IsTold, AreLevelsOn, band_of, resolution_by, recovery_by}
+use Rattle.daa_c.specs.Numbers.{settings_by}
+
+-- a picture that the engine takes
+pub record IsTaken (picture : Picture) : Type 0 where
+  pub range : IsPictureInRange picture
+  pub different : AreTaken (aircraft_of picture)
+
+module _ (config : DaaConfig) where
+  -- the candidate at an index of the whole list
+  pub record IsCandidateAt (index : ℕ) (out : DaaCandidate) : Type 0 where
+    pub settings : Settings
+    pub accepted : settings_by config ≡ Ok settings
+    pub candidate : Candidate
+    pub there : slice_get (candidates_of settings) index ≡ Some candidate
+    pub told : out ≡ candidate_by candidate
+
+  -- the level now and the alert of an aircraft, of numbers in range
+  pub record IsToldUnder (own : Own) (aircraft : Traffic) (out : DaaAlert) : Type 0 where
+    pub settings : Settings
+    pub accepted : settings_by config ≡ Ok settings
+    pub own_range : IsOwnInRange own
+    pub traffic_range : IsTrafficInRange aircraft
+    pub told : IsTold settings own aircraft out
+
+  -- the board of a picture
+  pub record IsDecided (picture : Picture) (board : List ℕ) : Type 0 where
+    pub settings : Settings
+    pub accepted : settings_by config ≡ Ok settings
+    pub taken : IsTaken picture
+    pub covers : IsBoardOf (CoveredAt settings picture) settings board
+
+  -- the levels that a board shows of all candidates, and how many they are
+  pub record AreLevelsUnder (board levels : List ℕ) (count : ℕ) : Type 0 where
+    pub settings : Settings
+    pub accepted : settings_by config ≡ Ok settings
+    pub all : count ≡ length (candidates_of settings)
+    pub shown : AreLevelsOn board count levels
+
+  -- the bands of the kind that a number stands for, and how many they are
+  pub record AreBandsUnder (board : List ℕ) (number : ℤ) (bands : List DaaBand) (count : ℕ) : Type 0 where
+    pub settings : Settings
+    pub accepted : settings_by config ≡ Ok settings
+    pub kind : Kind
+    pub kind_is : kind_of number ≡ Some kind
+    pub are : AreKindBands (HasLevelOn board) mask_levels settings kind (map band_of (take count bands))
+
+  -- what is answered on the side of the kind that numbers stand for
+  pub record IsResolutionUnder (own : Own) (board : List ℕ) (kind_number side_number : ℤ) (out : DaaResolution) : Type 0 where
+    pub settings : Settings
+    pub accepted : settings_by config ≡ Ok settings
+    pub own_range : IsOwnInRange own
+    pub kind : Kind
+    pub kind_is : kind_of kind_number ≡ Some kind
+    pub side : Side
+    pub side_is : side_of side_number ≡ Some side
+    pub answer : Resolution
+    pub is : IsResolution (HasLevelOn board) settings own kind side answer
+    pub told : out ≡ resolution_by answer
+
+  -- the recovery of the kind that a number stands for
+  pub record IsRecoveryUnder (picture : Picture) (number : ℤ) (out : DaaRecovery) : Type 0 where
+    pub settings : Settings
+    pub accepted : settings_by config ≡ Ok settings
+    pub taken : IsTaken picture
+    pub kind : Kind
+    pub kind_is : kind_of number ≡ Some kind
+    pub answer : Option Recovery
+    pub is : IsRecovery settings picture kind answer
+    pub told : out ≡ recovery_by answer

@@ -1,0 +1,51 @@
+-- The numbers that stand for kinds, sides, candidates and faults in C.
+use Rattle.std.specs.Prelude.{ℕ, ℤ, pos, negsuc, Option, Some, None, Result, Ok, Err}
+use Rattle.daa_config.specs.declared.fault.ConfigFault.{ConfigFault}
+use Rattle.daa_config.specs.declared.fault.ConfigFault.TheVariants.{TooLong, NotToml, UnknownKey, MissingKey, NotNumber, OutOfRange, Levels, TooMany, NoMemory}
+use Rattle.daa_config.specs.declared.candidate.Candidate.{Candidate}
+use Rattle.daa_config.specs.declared.candidate.Candidate.TheVariants as goes
+use Rattle.daa_config.specs.declared.kind.Kind.{Kind}
+use Rattle.daa_config.specs.declared.kind.Kind.TheVariants.{Track, Speed, Climb, Height}
+use Rattle.daa_config.specs.Settings.{Settings}
+use Rattle.daa_resolve.specs.declared.side.Side.{Side}
+use Rattle.daa_resolve.specs.declared.side.Side.TheVariants.{Lower, Upper}
+use Rattle.daa_c.specs.declared.candidates.DaaCandidate.{DaaCandidate}
+
+-- the code of a configuration's fault
+abbrev pub code_of : ConfigFault → ℤ
+code_of TooLong = pos 1
+code_of NotToml = pos 2
+code_of UnknownKey = pos 3
+code_of MissingKey = pos 4
+code_of NotNumber = pos 5
+code_of OutOfRange = pos 6
+code_of Levels = pos 7
+code_of TooMany = pos 8
+code_of NoMemory = pos 20
+
+-- the code that says whether a configuration is accepted
+abbrev pub answer_of : Result Settings ConfigFault → ℤ
+answer_of (Ok settings) = pos 0
+answer_of (Err fault) = code_of fault
+
+-- the kind that a number stands for
+abbrev pub kind_of : ℤ → Option Kind
+kind_of (pos 1) = Some Track
+kind_of (pos 2) = Some Speed
+kind_of (pos 3) = Some Climb
+kind_of (pos 4) = Some Height
+kind_of _ = None
+
+-- the side that a number stands for
+abbrev pub side_of : ℤ → Option Side
+side_of (pos 0) = Some Lower
+side_of (pos 1) = Some Upper
+side_of _ = None
+
+-- the numbers of a candidate
+abbrev pub candidate_by : Candidate → DaaCandidate
+candidate_by goes.Hold = record { kind = pos 0; value = pos 0 }
+candidate_by (goes.Track c) = record { kind = pos 1; value = c }
+candidate_by (goes.Speed g) = record { kind = pos 2; value = g }
+candidate_by (goes.Climb w) = record { kind = pos 3; value = w }
+candidate_by (goes.Height a) = record { kind = pos 4; value = a }

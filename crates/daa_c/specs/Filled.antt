@@ -1,0 +1,46 @@
+-- What the numbers that are filled in say.
+use Rattle.std.specs.Prelude.{◌≡◌, ◌<◌, ℕ, ℤ, pos, negsuc, List, map, slice_index, Option, Some, None}
+use Rattle.daa_alert.specs.Alert.{IsAlertOf}
+use Rattle.daa_bands.specs.Board.{HasLevelOn, mask_levels}
+use Rattle.daa_bands.specs.declared.band.Band.{Band}
+use Rattle.daa_config.specs.Mask.{IsGreatestLevel}
+use Rattle.daa_config.specs.Settings.{Settings}
+use Rattle.daa_config.specs.declared.candidate.Resolution.{Resolution}
+use Rattle.daa_config.specs.declared.candidate.Resolution.TheVariants.{Keep, To, Nothing}
+use Rattle.daa_legs.specs.Alerts.{IsNowLevel}
+use Rattle.daa_recovery.specs.declared.recovery.Recovery.{Recovery}
+use Rattle.daa_state.specs.declared.word.Own.{Own}
+use Rattle.daa_state.specs.declared.word.Traffic.{Traffic}
+use Rattle.daa_c.specs.declared.alerts.DaaAlert.{DaaAlert}
+use Rattle.daa_c.specs.declared.bands.DaaBand.{DaaBand}
+use Rattle.daa_c.specs.declared.resolution.DaaResolution.{DaaResolution}
+use Rattle.daa_c.specs.declared.recovery.DaaRecovery.{DaaRecovery}
+
+-- a number of a leg; less than 0 stands for none
+abbrev pub leg_of : ℤ → Option ℕ
+leg_of (pos n) = Some n
+leg_of (negsuc n) = None
+
+-- the level now and the alert of an aircraft
+pub record IsTold (settings : Settings) (own : Own) (aircraft : Traffic) (told : DaaAlert) : Type 0 where
+  pub now : IsNowLevel settings own aircraft told.now
+  pub alert : IsAlertOf settings own aircraft (record { level = told.level; first = leg_of told.first })
+
+-- levels of so many candidates, in the order of the whole list: those that a board shows
+abbrev pub AreLevelsOn : List ℕ → ℕ → List ℕ → Type 0
+AreLevelsOn board count levels = (index : ℕ) → index < count → IsGreatestLevel (HasLevelOn board index) mask_levels (slice_index levels index)
+
+-- the band of a caller's numbers
+abbrev pub band_of : DaaBand → Band
+band_of b = record { from = b.from; upto = b.upto; level = b.level }
+
+-- the numbers of what is answered on a side
+abbrev pub resolution_by : Resolution → DaaResolution
+resolution_by Keep = record { what = pos 0; value = pos 0 }
+resolution_by (To value) = record { what = pos 1; value = value }
+resolution_by Nothing = record { what = pos 2; value = pos 0 }
+
+-- the numbers of a recovery
+abbrev pub recovery_by : Option Recovery → DaaRecovery
+recovery_by None = record { found = pos 0; after = 0; value = pos 0 }
+recovery_by (Some r) = record { found = pos 1; after = r.after; value = r.value }

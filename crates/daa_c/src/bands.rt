@@ -1,0 +1,75 @@
+//! The bands of a kind.
+ghost use Rattle.std.specs.Prelude.{◌≡◌, ◌≢◌, ◌≤◌, pos, length, map, take};
+ghost use Rattle.daa_bands.specs.Board.{HasLevelOn, mask_levels};
+ghost use Rattle.daa_bands.specs.KindBands.{AreKindBands};
+ghost use Rattle.daa_config.specs.Candidates.{values_of};
+ghost use Rattle.daa_c.specs.Asked.{AreBandsUnder};
+ghost use Rattle.daa_c.specs.Filled.{band_of};
+
+use crate::codes::{BAD_KIND, SHORT, fault_code, kind_in};
+use crate::deciding::DaaBoard;
+use crate::setting::{DaaConfig, accept};
+use daa_bands::{Band, Board, runs};
+use daa_config::{Config, Kind};
+
+/// A stretch of a kind's rising values, from one up to another, that all show one level.
+#[repr(C)]
+#[derive(Clone, Copy)]
+pub struct DaaBand {
+    pub from: i32,
+    pub upto: i32,
+    pub level: u32,
+}
+
+/// The numbers of a band.
+fn told(band: &Band) -> DaaBand
+    ensures { band_of result ≡ band.now }
+{
+    DaaBand {
+        from: band.from,
+        upto: band.upto,
+        level: u32::from(band.level),
+    }
+}
+
+/// Fills in the bands of a kind, and answers how many there are.
+fn fill(config: &Config, board: &Board, kind: Kind, bands: &mut [DaaBand]) -> usize
+    requires { length (values_of kind config.now) ≤ length bands.old }
+    ensures { AreKindBands (HasLevelOn board.now) mask_levels config.now kind
+        (map band_of (take result bands.new)) }
+{
+    let mut count = 0;
+    for band in runs(board, config, kind) {
+        bands[count] = told(&band);
+        count += 1;
+    }
+    count
+}
+
+/// Fills in the bands of a kind, and how many there are. Answers 0, or why nothing was filled in.
+#[unsafe(no_mangle)]
+pub extern "C" fn daa_bands(
+    config: &DaaConfig,
+    board: &DaaBoard,
+    kind: i32,
+    bands: &mut [DaaBand],
+    count: &mut usize,
+) -> i32
+    ensures told { result ≡ pos 0
+        → AreBandsUnder config.now board.now.masks kind bands.new count.new }
+    ensures bands_kept { result ≢ pos 0 → bands.new ≡ bands.old }
+    ensures count_kept { result ≢ pos 0 → count.new ≡ count.old }
+{
+    let config = match accept(config) {
+        Ok(config) => config,
+        Err(fault) => return fault_code(fault),
+    };
+    let Some(kind) = kind_in(kind) else {
+        return BAD_KIND;
+    };
+    if bands.len() < config.count(kind) as usize {
+        return SHORT;
+    }
+    *count = fill(&config, &Board::of(&board.masks), kind, bands);
+    0
+}

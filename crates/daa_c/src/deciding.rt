@@ -1,0 +1,134 @@
+//! A moment decided, and the levels that its board shows.
+ghost use Rattle.std.specs.Prelude.{◌≡◌, ◌≢◌, ◌≤◌, pos, length, IfOk, IfErr};
+ghost use Rattle.daa_bands.specs.Board.{IsBoardOf};
+ghost use Rattle.daa_config.specs.Candidates.{candidates_of};
+ghost use Rattle.daa_engine.specs.Covered.{CoveredAt};
+ghost use Rattle.daa_state.specs.InRange.{IsPictureInRange};
+ghost use Rattle.daa_c.specs.Asked.{IsDecided, AreLevelsUnder};
+ghost use Rattle.daa_c.specs.Faults.{IsRefusal, IsCodeOf};
+ghost use Rattle.daa_c.specs.Filled.{AreLevelsOn};
+ghost use Rattle.daa_c.specs.States.{picture_of};
+
+use crate::codes::{SHORT, fault_code};
+use crate::refusal::{Refusal, code};
+use crate::setting::{DaaConfig, accept};
+use crate::states::{DaaOwn, DaaTraffic, picture};
+use daa_bands::Board;
+use daa_config::Config;
+use daa_engine::decide_in;
+use daa_legs::{Branch, Trunk};
+use daa_state::Picture;
+
+/// The most candidates of a configuration.
+const MOST_CANDIDATES: usize = 1897;
+
+/// The levels at which each candidate is covered: bit l - 1 of a mask stands for level l.
+#[repr(C)]
+#[derive(Clone, Copy)]
+pub struct DaaBoard {
+    pub masks: [u8; 2048],
+}
+
+/// Eight flights that lead.
+fn trunks() -> [Trunk; 8] {
+    [
+        Trunk::new(),
+        Trunk::new(),
+        Trunk::new(),
+        Trunk::new(),
+        Trunk::new(),
+        Trunk::new(),
+        Trunk::new(),
+        Trunk::new(),
+    ]
+}
+
+/// The board of a picture.
+pub(crate) fn decided(config: &Config, picture: &Picture) -> Board
+    requires { IsPictureInRange picture.now }
+    ensures { IsBoardOf (CoveredAt config.now picture.now) config.now result }
+{
+    // tells how many there are
+    let _total = config.total();
+    let mut board = Board::new();
+    let mut trunks = trunks();
+    let mut branches = [Branch::new(); MOST_CANDIDATES];
+    decide_in(config, picture, &mut trunks, &mut branches, &mut board);
+    board
+}
+
+/// The board of a picture of these numbers.
+fn board_of(config: &DaaConfig, own: &DaaOwn, traffic: &[DaaTraffic]) -> Result<DaaBoard, Refusal>
+    ensures decided { IfOk result
+        (λ b. IsDecided config.now (picture_of 0 own.now traffic.now) b.masks) }
+    ensures refused { IfErr result (IsRefusal config.now own.now traffic.now) }
+{
+    let config = match accept(config) {
+        Ok(config) => config,
+        Err(fault) => return Err(Refusal::Config(fault)),
+    };
+    let picture = picture(0, own, traffic)?;
+    Ok(DaaBoard {
+        masks: *decided(&config, &picture).masks(),
+    })
+}
+
+/// Fills in the board of a moment. Answers 0, or why nothing was filled in.
+#[unsafe(no_mangle)]
+pub extern "C" fn daa_decide(
+    config: &DaaConfig,
+    own: &DaaOwn,
+    traffic: &[DaaTraffic],
+    board: &mut DaaBoard,
+) -> i32
+    ensures decided { result ≡ pos 0
+        → IsDecided config.now (picture_of 0 own.now traffic.now) board.new.masks }
+    ensures kept { result ≢ pos 0 → board.new ≡ board.old }
+    ensures refused { result ≢ pos 0
+        → IsCodeOf (IsRefusal config.now own.now traffic.now) result }
+{
+    match board_of(config, own, traffic) {
+        Ok(decided) => {
+            *board = decided;
+            0
+        }
+        Err(refusal) => code(refusal),
+    }
+}
+
+/// Fills in the levels that a board shows.
+fn show(config: &Config, board: &Board, levels: &mut [u8])
+    requires { length (candidates_of config.now) ≤ length levels.old }
+    ensures { AreLevelsOn board.now (length (candidates_of config.now)) levels.new }
+{
+    for index in 0..config.total() {
+        levels[index as usize] = board.shown(index);
+    }
+}
+
+/// Fills in the level that each candidate shows, in the order of the whole list, and how many there
+/// are. Answers 0, or why nothing was filled in.
+#[unsafe(no_mangle)]
+pub extern "C" fn daa_levels(
+    config: &DaaConfig,
+    board: &DaaBoard,
+    levels: &mut [u8],
+    count: &mut usize,
+) -> i32
+    ensures shown { result ≡ pos 0
+        → AreLevelsUnder config.now board.now.masks levels.new count.new }
+    ensures levels_kept { result ≢ pos 0 → levels.new ≡ levels.old }
+    ensures count_kept { result ≢ pos 0 → count.new ≡ count.old }
+{
+    let config = match accept(config) {
+        Ok(config) => config,
+        Err(fault) => return fault_code(fault),
+    };
+    let total = config.total() as usize;
+    if levels.len() < total {
+        return SHORT;
+    }
+    show(&config, &Board::of(&board.masks), levels);
+    *count = total;
+    0
+}

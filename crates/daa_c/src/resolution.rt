@@ -1,0 +1,65 @@
+//! What is answered on a side of a kind.
+ghost use Rattle.std.specs.Prelude.{◌≡◌, ◌≢◌, pos};
+ghost use Rattle.daa_c.specs.Asked.{IsResolutionUnder};
+ghost use Rattle.daa_c.specs.Filled.{resolution_by};
+ghost use Rattle.daa_c.specs.States.{own_of};
+
+use crate::codes::{BAD_KIND, BAD_SIDE, fault_code, kind_in, side_in};
+use crate::deciding::DaaBoard;
+use crate::refusal::code;
+use crate::setting::{DaaConfig, accept};
+use crate::states::{DaaOwn, checked_own};
+use daa_bands::Board;
+use daa_config::Resolution;
+use daa_resolve::nearest;
+
+/// What is answered: 0 to keep the present flight, 1 to go to the value, 2 that there is none.
+#[repr(C)]
+#[derive(Clone, Copy)]
+pub struct DaaResolution {
+    pub what: i32,
+    pub value: i32,
+}
+
+/// The numbers of what is answered.
+fn told(resolution: Resolution) -> DaaResolution
+    ensures { result ≡ resolution_by resolution }
+{
+    match resolution {
+        Resolution::Keep => DaaResolution { what: 0, value: 0 },
+        Resolution::To(value) => DaaResolution { what: 1, value },
+        Resolution::Nothing => DaaResolution { what: 2, value: 0 },
+    }
+}
+
+/// Fills in what is answered on a side of a kind. Answers 0, or why nothing was filled in.
+#[unsafe(no_mangle)]
+pub extern "C" fn daa_resolution(
+    config: &DaaConfig,
+    own: &DaaOwn,
+    board: &DaaBoard,
+    kind: i32,
+    side: i32,
+    out: &mut DaaResolution,
+) -> i32
+    ensures told { result ≡ pos 0
+        → IsResolutionUnder config.now (own_of own.now) board.now.masks kind side out.new }
+    ensures kept { result ≢ pos 0 → out.new ≡ out.old }
+{
+    let config = match accept(config) {
+        Ok(config) => config,
+        Err(fault) => return fault_code(fault),
+    };
+    let own = match checked_own(own) {
+        Ok(own) => own,
+        Err(refusal) => return code(refusal),
+    };
+    let Some(kind) = kind_in(kind) else {
+        return BAD_KIND;
+    };
+    let Some(side) = side_in(side) else {
+        return BAD_SIDE;
+    };
+    *out = told(nearest(&Board::of(&board.masks), &config, &own, kind, side));
+    0
+}
