@@ -1,6 +1,6 @@
 -- What one read gives of a comparison.
 use Rattle.std.specs.Prelude.{ℕ, ◌≡◌, ◌≢◌, ◌<◌, ◌≤◌, ◌++◌, length, take}
-use Rattle.daa_ahead.specs.Bytes.{Bytes, SourceState}
+use Rattle.daa_ahead.specs.Bytes.{Bytes, StreamState}
 use Rattle.daa_judge.specs.Finding.{Finds}
 use Rattle.daa_judge.specs.Matched.{IsMatched}
 use Rattle.daa_ahead.specs.declared.ended.Ended.{Ended}
@@ -19,14 +19,14 @@ found_at Limit line = found.Limit
 found_at Stopped line = found.Fault
 
 -- so many bytes of the text matched
-pub record Took (count : ℕ) (text : Bytes) (old new : Matching) (source_old source_new : SourceState) : Type 0 where
+pub record Took (count : ℕ) (text : Bytes) (old new : Matching) (source_old source_new : StreamState) : Type 0 where
   pub some : 0 < count
   pub within : count ≤ length text
-  pub matched : (most : ℕ) (first : SourceState) (before : Bytes) → IsMatched most first before old source_old
+  pub matched : (most : ℕ) (first : StreamState) (before : Bytes) → IsMatched most first before old source_old
       → IsMatched most first (before ++ take count text) new source_new
 
-abbrev pub Steps : Step → Bytes → (old new : Matching) → (source_old source_new : SourceState) → Type 0
+abbrev pub Steps : Step → Bytes → (old new : Matching) → (source_old source_new : StreamState) → Type 0
 Steps (step.Took count) text old new source_old source_new = Took count text old new source_old source_new
 Steps (step.Stop result) text old new source_old source_new =
-    (result ≢ found.Alike) × ((most : ℕ) (first : SourceState) (before rest : Bytes) → IsMatched most first before old source_old
+    (result ≢ found.Alike) × ((most : ℕ) (first : StreamState) (before rest : Bytes) → IsMatched most first before old source_old
     → Finds (before ++ (text ++ rest)) most result first source_new)

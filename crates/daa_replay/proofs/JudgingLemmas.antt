@@ -1,7 +1,7 @@
 -- What is found as the report of states is compared, event by event.
 use Rattle.std.proofs.Common.{◌≡◌, ◌≢◌, ◌∙◌, ◌||◌, ◌<◌, ◌≤◌, ◌+◌, ◌-◌, ℕ, Bool, true, false, List, [], ◌∷◌, ◌++◌, Some, Ok, Err, Result, refl, sym, ap, subst, arith, append_assoc, append-nil, length, take, drop}
 use Rattle.std.specs.Prelude.{IfErr, OnOk}
-use Rattle.daa_ahead.specs.Bytes.{SourceState}
+use Rattle.daa_ahead.specs.Bytes.{StreamState}
 use Rattle.daa_config.specs.One.{HasOne}
 use Rattle.daa_config.specs.Settings.{Settings, IsAccepted}
 use Rattle.daa_judge.specs.Finding.{Finds}
@@ -19,8 +19,7 @@ use Rattle.daa_replay.specs.declared.progress.Progress.{Progress}
 use Rattle.daa_replay.specs.Comparing.{IsJudged, IsWhole, StopsIn, ComparesSome, found_in}
 use Rattle.daa_replay.specs.Events.{is_refusal, events_of}
 use Rattle.daa_replay.specs.Follows.{Follows}
-use Rattle.daa_replay.specs.Judging.{Judged, source_of}
-use Rattle.daa_replay.specs.Outside.{StreamState}
+use Rattle.daa_replay.specs.Judging.{Judged}
 use Rattle.daa_replay.specs.Report.{IsEventText, IsReportOf}
 use Rattle.daa_replay.specs.Reporting.{Reports, ReportsAll}
 use Rattle.daa_replay.proofs.EventLemmas.{events_end}
@@ -30,7 +29,7 @@ use Rattle.daa_replay.proofs.TextLemmas.{begins-more}
 use Rattle.daa_replay.proofs.SomeReport.{one_report}
 
 -- what every stop but a match finds
-finds_of : (result : Found) → result ≢ found.Alike → (most : ℕ) (first : SourceState) (before text : Text) (m : Matching) (now : SourceState)
+finds_of : (result : Found) → result ≢ found.Alike → (most : ℕ) (first : StreamState) (before text : Text) (m : Matching) (now : StreamState)
     → Compares result most first before text m now → (rest : Text) → Finds ((before ++ text) ++ rest) most result first now
 finds_of found.Alike other most first before text m now c rest = absurd (other refl)
 finds_of (found.Differs number) other most first before text m now c rest =
@@ -47,12 +46,12 @@ pub if_err : (r : Result (Unit {0}) Found) (P G : Found → Type 0) → P (found
 if_err (Ok x) P G p other f = tt
 if_err (Err x) P G p other f = f x other p
 
-module _ {settings : Settings} (most : ℕ) (first : SourceState) (bytes : Bytes) where
+module _ {settings : Settings} (most : ℕ) (first : StreamState) (bytes : Bytes) where
   here : (s' : Settings) (event : Event) (text : Text) → s' ≡ settings → IsEventText s' event text → IsEventText settings event text
   here s' event text e is = subst (λ (x : Settings). IsEventText x event text) e is
 
   -- the text of an event that a line gave matched
-  pub judged-event : (old new : Progress) (event : Event) (m n : Matching) (s t : SourceState)
+  pub judged-event : (old new : Progress) (event : Event) (m n : Matching) (s t : StreamState)
       → ((b : Bytes) (g : List Event) → Follows b g old.lines old.moments → Follows b (g ++ event ∷ []) new.lines new.moments)
       → new.any_refused ≡ (old.any_refused || is_refusal event)
       → (s' : Settings) → s' ≡ settings → ComparesSome (IsEventText s' event) found.Alike m n s t
@@ -64,7 +63,7 @@ module _ {settings : Settings} (most : ℕ) (first : SourceState) (bytes : Bytes
   }
 
   -- comparing ended within it
-  pub stopped-line : (old : Progress) (lines : Cutting) (moments : State) (event : Event) (m n : Matching) (s t : SourceState) (result : Found)
+  pub stopped-line : (old : Progress) (lines : Cutting) (moments : State) (event : Event) (m n : Matching) (s t : StreamState) (result : Found)
       → ((b : Bytes) (g : List Event) → Follows b g old.lines old.moments → Follows b (g ++ event ∷ []) lines moments)
       → lines.ended ≡ old.lines.ended → result ≢ found.Alike
       → (s' : Settings) → s' ≡ settings → ComparesSome (IsEventText s' event) result m n s t
@@ -75,11 +74,11 @@ module _ {settings : Settings} (most : ℕ) (first : SourceState) (bytes : Bytes
     finds = finds_of result other most first j.text c.text n t (c.compares most first j.text j.matched);
   }
 
-  pub judged-lines : (old : Progress) (lines : Cutting) (m : Matching) (s : SourceState) → ((b : Bytes) (t : List Bytes) → Stands b t old.lines → Stands b t lines)
+  pub judged-lines : (old : Progress) (lines : Cutting) (m : Matching) (s : StreamState) → ((b : Bytes) (t : List Bytes) → Stands b t old.lines → Stands b t lines)
       → IsJudged settings most first bytes old m s → IsJudged settings most first bytes (record old { lines = lines }) m s
   judged-lines old lines m s kept j = record { text = j.text; reports = reports-lines (Some []) (Some j.text) bytes old lines kept j.reports; matched = j.matched }
 
-  pub judged-part : (piece : Bytes) (old : Progress) (lines : Cutting) (done n : ℕ) (m : Matching) (s : SourceState) → n ≤ length piece - done
+  pub judged-part : (piece : Bytes) (old : Progress) (lines : Cutting) (done n : ℕ) (m : Matching) (s : StreamState) → n ≤ length piece - done
       → ((b : Bytes) (t : List Bytes) → Stands b t old.lines → Stands (b ++ take n (take (length piece - done) (drop done piece))) t lines)
       → IsJudged settings most first (bytes ++ take done piece) old m s → IsJudged settings most first (bytes ++ take (done + n) piece) (record old { lines = lines }) m s
   judged-part piece old lines done n m s within kept j = record {
@@ -88,7 +87,7 @@ module _ {settings : Settings} (most : ℕ) (first : SourceState) (bytes : Bytes
     matched = j.matched;
   }
 
-  pub stopped-part : (piece : Bytes) (ended : Bool) (n : ℕ) (result : Found) (t : SourceState) → ended ≡ false
+  pub stopped-part : (piece : Bytes) (ended : Bool) (n : ℕ) (result : Found) (t : StreamState) → ended ≡ false
       → StopsIn settings most first (bytes ++ take n piece) ended result t → StopsIn settings most first (bytes ++ piece) false result t
   stopped-part piece ended n result t going s = record {
     front = s.front;
@@ -97,12 +96,12 @@ module _ {settings : Settings} (most : ℕ) (first : SourceState) (bytes : Bytes
   }
 
   -- nothing was fed yet
-  pub begun : (progress : Progress) (m : Matching) (s : SourceState) → Reports settings (Some []) bytes progress (Some []) → IsMatched most first [] m s
+  pub begun : (progress : Progress) (m : Matching) (s : StreamState) → Reports settings (Some []) bytes progress (Some []) → IsMatched most first [] m s
       → IsJudged settings most first bytes progress m s
   begun progress m s r h = record { text = []; reports = r; matched = h }
 
   -- a beginning of the report of what may go on is one where nothing more comes
-  pub stopped-early : (result : Found) (t : SourceState) → StopsIn settings most first bytes false result t → StopsIn settings most first bytes true result t
+  pub stopped-early : (result : Found) (t : StreamState) → StopsIn settings most first bytes false result t → StopsIn settings most first bytes true result t
   stopped-early result t s =
       let whole = events_end bytes in
       let f = s.begins.front in
@@ -127,7 +126,7 @@ module _ {settings : Settings} (most : ℕ) (first : SourceState) (bytes : Bytes
 
   -- ---- at the end of the states
 
-  whole_of : (refused : Bool) (text : Text) (m : Matching) (s : SourceState) → ReportsAll settings (Some []) bytes refused (Some text)
+  whole_of : (refused : Bool) (text : Text) (m : Matching) (s : StreamState) → ReportsAll settings (Some []) bytes refused (Some text)
       → IsMatched most first text m s → IsWhole settings most first bytes m s
   whole_of refused text m s r h = record {
     report = r.written.text;
@@ -135,12 +134,12 @@ module _ {settings : Settings} (most : ℕ) (first : SourceState) (bytes : Bytes
     matched = subst (λ (t : Text). IsMatched most first t m s) r.written.taken h;
   }
 
-  pub judged-none : (progress : Progress) (m : Matching) (s : SourceState)
+  pub judged-none : (progress : Progress) (m : Matching) (s : StreamState)
       → ((b : Bytes) (g : List Event) → Follows b g progress.lines progress.moments → g ≡ events_of b true)
       → IsJudged settings most first bytes progress m s → IsWhole settings most first bytes m s
   judged-none progress m s whole j = whole_of progress.any_refused j.text m s (whole-none (Some []) (Some j.text) bytes progress whole j.reports) j.matched
 
-  pub judged-last : (progress : Progress) (event : Event) (m n : Matching) (s t : SourceState)
+  pub judged-last : (progress : Progress) (event : Event) (m n : Matching) (s t : StreamState)
       → ((b : Bytes) (g : List Event) → Follows b g progress.lines progress.moments → g ++ event ∷ [] ≡ events_of b true)
       → (s' : Settings) → s' ≡ settings → ComparesSome (IsEventText s' event) found.Alike m n s t
       → IsJudged settings most first bytes progress m s → IsWhole settings most first bytes n t
@@ -149,7 +148,7 @@ module _ {settings : Settings} (most : ℕ) (first : SourceState) (bytes : Bytes
       (whole-event (Some []) (Some j.text) (Some (j.text ++ c.text)) bytes progress event c.text (progress.any_refused || is_refusal event) whole refl (here s' event c.text e c.is) refl j.reports)
       (c.compares most first j.text j.matched)
 
-  pub stopped-last : (progress : Progress) (event : Event) (m n : Matching) (s t : SourceState) (result : Found)
+  pub stopped-last : (progress : Progress) (event : Event) (m n : Matching) (s t : StreamState) (result : Found)
       → ((b : Bytes) (g : List Event) → Follows b g progress.lines progress.moments → g ++ event ∷ [] ≡ events_of b true)
       → result ≢ found.Alike → (s' : Settings) → s' ≡ settings → ComparesSome (IsEventText s' event) result m n s t
       → IsJudged settings most first bytes progress m s → StopsIn settings most first bytes true result t
@@ -161,7 +160,7 @@ module _ {settings : Settings} (most : ℕ) (first : SourceState) (bytes : Bytes
 
   -- ---- what was found
 
-  pub judged_stop : (result : Found) (now : SourceState) → IsAccepted settings → StopsIn settings most first bytes true result now
+  pub judged_stop : (result : Found) (now : StreamState) → IsAccepted settings → StopsIn settings most first bytes true result now
       → (report : HasOne (IsReportOf settings bytes true)) × Finds report.one most result first now
   judged_stop result now ok s =
       let one = one_report settings ok bytes true in
@@ -169,7 +168,7 @@ module _ {settings : Settings} (most : ℕ) (first : SourceState) (bytes : Bytes
       let rest = front_begins settings ok bytes true s.begins.text one.one s.begins.front one.is in
       (one, subst (λ (t : Text). Finds t most result first now) (ap (λ (t : Text). t ++ rest.0) e ∙ sym rest.1) (s.finds rest.0))
 
-  pub judged_whole : (result : Found) (m : Matching) (s now : SourceState) → IsAccepted settings → IsWhole settings most first bytes m s
+  pub judged_whole : (result : Found) (m : Matching) (s now : StreamState) → IsAccepted settings → IsWhole settings most first bytes m s
       → ((report : Text) → IsMatched most first report m s → Finds report most result first now)
       → (report : HasOne (IsReportOf settings bytes true)) × Finds report.one most result first now
   judged_whole result m s now ok w f =

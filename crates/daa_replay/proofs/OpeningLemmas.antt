@@ -12,7 +12,7 @@ use Rattle.daa_report.specs.Lines.{Text}
 use Rattle.daa_report.specs.Says.{Says}
 use Rattle.daa_replay.specs.declared.status.Status.{Status}
 use Rattle.daa_replay.specs.declared.status.Status.TheVariants.{WriteFault}
-use Rattle.daa_replay.specs.Outside.{StreamState}
+use Rattle.daa_ahead.specs.Bytes.{StreamState}
 use Rattle.daa_config.specs.Settings.{Settings}
 use Rattle.daa_engine.specs.EngineState.{EngineState}
 use Rattle.daa_words.specs.Order.{Asked, order_of}

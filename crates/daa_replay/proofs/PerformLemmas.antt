@@ -20,12 +20,11 @@ use Rattle.daa_replay.specs.declared.opening.Unready.{Unready}
 use Rattle.daa_replay.specs.declared.opening.Unready.TheVariants as unready
 use Rattle.daa_replay.specs.declared.status.Status.TheVariants.{Accepted, WriteFault}
 use Rattle.daa_replay.specs.declared.status.Status.TheVariants as status
-use Rattle.daa_replay.specs.Exercising.{Exercises}
-use Rattle.daa_replay.specs.Judging.{Judged, Judges}
+use Rattle.daa_replay.specs.Judging.{Judged}
 use Rattle.daa_replay.specs.Opening.{usage_line, long_line, Opens, OpensLong, IsRefused, IsHeld}
-use Rattle.daa_replay.specs.Outside.{Outside, StreamState, Takes}
-use Rattle.daa_replay.specs.Performing.{Performs}
-use Rattle.daa_replay.specs.Replaying.{Replays}
+use Rattle.daa_replay.specs.Outside.{Outside, ShelfState, outside, Takes}
+use Rattle.daa_ahead.specs.Bytes.{StreamState}
+use Rattle.daa_replay.specs.Performing.{Performs, Replays, Judges, Exercises}
 use Rattle.daa_replay.specs.Run.{Breaks, Runs}
 use Rattle.daa_replay.specs.Ready.{OpensAs, IsWork}
 use Rattle.daa_replay.specs.Status.{code_of}
@@ -33,17 +32,17 @@ use Rattle.daa_replay.specs.Telling.{Tells, Writes}
 
 -- ---- the task
 
-pub by_work : (most status : ℕ) (settings : Settings) (work known : Work) (so sn ko kn : StreamState) → work ≡ known
-    → Performs most status settings known so sn ko kn → Performs most status settings work so sn ko kn
-by_work most status settings work known so sn ko kn e h = subst (λ (t : Work). Performs most status settings t so sn ko kn) (sym e) h
+pub by_work : (most status : ℕ) (settings : Settings) (work known : Work) (old new : Outside) → work ≡ known
+    → Performs settings most status old new known → Performs settings most status old new work
+by_work most status settings work known old new e h = subst (λ (t : Work). Performs settings most status old new t) (sym e) h
 
 -- `same` was written, or the sink failed within it
-pub same_told : {E : Type 0} (settings : Settings) (states : Bytes) (most : ℕ) (so sn ko kn : StreamState) (r : Result (Unit {0}) E) (result : Status)
-    → Judged settings states most found.Alike so sn → so.faults ≤ sn.faults → Says ko.bytes kn.bytes ko.faults kn.faults same_line r
-    → OnOk r (result ≡ Accepted) → OnErr r (result ≡ WriteFault) → Judges settings states most (code_of result) so sn ko kn
-same_told settings states most so sn ko kn (Ok x) result j f s whole broken =
+pub same_told : {E : Type 0} (settings : Settings) (states : Bytes) (most : ℕ) (old new : Outside) (r : Result (Unit {0}) E) (result : Status)
+    → Judged settings states most found.Alike old.source new.source → old.source.faults ≤ new.source.faults → Says old.sink.bytes new.sink.bytes old.sink.faults new.sink.faults same_line r
+    → OnOk r (result ≡ Accepted) → OnErr r (result ≡ WriteFault) → Judges settings most (code_of result) old new states
+same_told settings states most old new (Ok x) result j f s whole broken =
     let steady = s.cause.steady in
-    subst (λ (st : Status). Judges settings states most (code_of st) so sn ko kn) (sym whole) (record {
+    subst (λ (st : Status). Judges settings most (code_of st) old new states) (sym whole) (record {
       named = inl refl;
       same = λ e. record { judged = j; written = record { taken = s.whole; calm = steady } };
       differs = λ e. absurd (omega (arith, e));
@@ -53,8 +52,8 @@ same_told settings states most so sn ko kn (Ok x) result j f s whole broken =
       reads = f;
       writes = omega (arith, steady);
     })
-same_told settings states most so sn ko kn (Err x) result j f s whole broken =
-    subst (λ (st : Status). Judges settings states most (code_of st) so sn ko kn) (sym broken) (record {
+same_told settings states most old new (Err x) result j f s whole broken =
+    subst (λ (st : Status). Judges settings most (code_of st) old new states) (sym broken) (record {
       named = inr (inr (inr (inl refl)));
       same = λ e. absurd (omega (arith, e));
       differs = λ e. absurd (omega (arith, e));
@@ -66,12 +65,12 @@ same_told settings states most so sn ko kn (Err x) result j f s whole broken =
     })
 
 -- the number of the first line that differs was written, or the sink failed within it
-pub difference_told : {E : Type 0} (settings : Settings) (states : Bytes) (most number : ℕ) (so sn ko kn : StreamState) (r : Result (Unit {0}) E) (result : Status)
-    → Judged settings states most (found.Differs number) so sn → so.faults ≤ sn.faults → Says ko.bytes kn.bytes ko.faults kn.faults (differs_line number) r
-    → OnOk r (result ≡ status.Refused) → OnErr r (result ≡ WriteFault) → Judges settings states most (code_of result) so sn ko kn
-difference_told settings states most number so sn ko kn (Ok x) result j f s whole broken =
+pub difference_told : {E : Type 0} (settings : Settings) (states : Bytes) (most number : ℕ) (old new : Outside) (r : Result (Unit {0}) E) (result : Status)
+    → Judged settings states most (found.Differs number) old.source new.source → old.source.faults ≤ new.source.faults → Says old.sink.bytes new.sink.bytes old.sink.faults new.sink.faults (differs_line number) r
+    → OnOk r (result ≡ status.Refused) → OnErr r (result ≡ WriteFault) → Judges settings most (code_of result) old new states
+difference_told settings states most number old new (Ok x) result j f s whole broken =
     let steady = s.cause.steady in
-    subst (λ (st : Status). Judges settings states most (code_of st) so sn ko kn) (sym whole) (record {
+    subst (λ (st : Status). Judges settings most (code_of st) old new states) (sym whole) (record {
       named = inr (inl refl);
       same = λ e. absurd (omega (arith, e));
       differs = λ e. record { number = number; judged = j; written = record { taken = s.whole; calm = steady } };
@@ -81,8 +80,8 @@ difference_told settings states most number so sn ko kn (Ok x) result j f s whol
       reads = f;
       writes = omega (arith, steady);
     })
-difference_told settings states most number so sn ko kn (Err x) result j f s whole broken =
-    subst (λ (st : Status). Judges settings states most (code_of st) so sn ko kn) (sym broken) (record {
+difference_told settings states most number old new (Err x) result j f s whole broken =
+    subst (λ (st : Status). Judges settings most (code_of st) old new states) (sym broken) (record {
       named = inr (inr (inr (inl refl)));
       same = λ e. absurd (omega (arith, e));
       differs = λ e. absurd (omega (arith, e));
@@ -94,9 +93,9 @@ difference_told settings states most number so sn ko kn (Err x) result j f s who
     })
 
 -- comparing ended before it could be told
-pub fault_told : (settings : Settings) (states : Bytes) (most : ℕ) (so sn k : StreamState) → Judged settings states most found.Fault so sn → so.faults ≤ sn.faults
-    → Judges settings states most 4 so sn k k
-fault_told settings states most so sn k j f = record {
+pub fault_told : (settings : Settings) (states : Bytes) (most : ℕ) (before after : ShelfState) (so sn k : StreamState) → Judged settings states most found.Fault so sn → so.faults ≤ sn.faults
+    → Judges settings most 4 (outside before so k) (outside after sn k) states
+fault_told settings states most before after so sn k j f = record {
   named = inr (inr (inl refl));
   same = λ e. absurd (omega (arith, e));
   differs = λ e. absurd (omega (arith, e));
@@ -107,9 +106,9 @@ fault_told settings states most so sn k j f = record {
   writes = omega arith;
 }
 
-pub limit_told : (settings : Settings) (states : Bytes) (most : ℕ) (so sn k : StreamState) → Judged settings states most found.Limit so sn → so.faults ≤ sn.faults
-    → Judges settings states most 8 so sn k k
-limit_told settings states most so sn k j f = record {
+pub limit_told : (settings : Settings) (states : Bytes) (most : ℕ) (before after : ShelfState) (so sn k : StreamState) → Judged settings states most found.Limit so sn → so.faults ≤ sn.faults
+    → Judges settings most 8 (outside before so k) (outside after sn k) states
+limit_told settings states most before after so sn k j f = record {
   named = inr (inr (inr (inr refl)));
   same = λ e. absurd (omega (arith, e));
   differs = λ e. absurd (omega (arith, e));
@@ -121,23 +120,25 @@ limit_told settings states most so sn k j f = record {
 }
 
 -- the summary was written, or the sink failed within it
-pub exercised : {E : Type 0} (settings : Settings) (seed moments : ℕ) (so ko kn : StreamState) (text : Text) (r : Result (Unit {0}) E) (result : Status)
+pub exercised : {E : Type 0} (settings : Settings) (most seed moments : ℕ) (before after : ShelfState) (so ko kn : StreamState) (text : Text) (r : Result (Unit {0}) E) (result : Status)
     → IsSummaryOf settings seed moments text → Says ko.bytes kn.bytes ko.faults kn.faults text r
-    → OnOk r (result ≡ Accepted) → OnErr r (result ≡ WriteFault) → Exercises settings seed moments (code_of result) so so ko kn
-exercised settings seed moments so ko kn text (Ok x) result i s whole broken =
+    → OnOk r (result ≡ Accepted) → OnErr r (result ≡ WriteFault) → Exercises settings most (code_of result) (outside before so ko) (outside after so kn) seed moments
+exercised settings most seed moments before after so ko kn text (Ok x) result i s whole broken =
     let steady = s.cause.steady in
-    subst (λ (st : Status). Exercises settings seed moments (code_of st) so so ko kn) (sym whole) (record {
+    subst (λ (st : Status). Exercises settings most (code_of st) (outside before so ko) (outside after so kn) seed moments) (sym whole) (record {
       named = inl refl;
-      ended = λ e. record { text = text; summary = i; written = record { taken = s.whole; calm = steady } };
+      ended = λ e. record { source = refl; text = text; is = i; written = record { taken = s.whole; calm = steady } };
+      risen = λ e. absurd (omega (arith, e));
       write_fault = λ e. absurd (omega (arith, e));
       source = refl;
       writes = omega (arith, steady);
     })
-exercised settings seed moments so ko kn text (Err x) result i s whole broken =
-    subst (λ (st : Status). Exercises settings seed moments (code_of st) so so ko kn) (sym broken) (record {
+exercised settings most seed moments before after so ko kn text (Err x) result i s whole broken =
+    subst (λ (st : Status). Exercises settings most (code_of st) (outside before so ko) (outside after so kn) seed moments) (sym broken) (record {
       named = inr refl;
       ended = λ e. absurd (omega (arith, e));
-      write_fault = λ e. record { risen = s.cause.risen; text = text; summary = i; written = s.front };
+      risen = λ e. s.cause.risen;
+      write_fault = λ e. record { source = refl; text = text; is = i; begun = s.front };
       source = refl;
       writes = s.cause.later;
     })
@@ -165,7 +166,7 @@ none_of_two status n (inr k) e a b = b (sym e ∙ k)
 
 module _ (most status : ℕ) (words : List Text) (old new : Outside) (settings : Settings)
     (texts : new.shelf.texts ≡ old.shelf.texts) (fetches : new.shelf.faults ≡ old.shelf.faults) where
-  pub replay_runs : (ahead : ℕ) → Opens words old.shelf.texts (Replay ahead) settings → Replays settings ahead most status old.source new.source old.sink new.sink
+  pub replay_runs : (ahead : ℕ) → Opens words old.shelf.texts (Replay ahead) settings → Replays settings most status old new ahead
       → Runs most words status old new
   replay_runs ahead opens r = record {
     named = omega (arith, five_are_few status r.named);
@@ -174,7 +175,7 @@ module _ (most status : ℕ) (words : List Text) (old new : Outside) (settings :
     not_taken = λ e. absurd (never 2 e (λ k. omega (arith, k)) (λ k. omega (arith, k)) (λ k. omega (arith, k)) (λ k. omega (arith, k)) (λ k. omega (arith, k)));
     bad_configuration = λ e. absurd (never 3 e (λ k. omega (arith, k)) (λ k. omega (arith, k)) (λ k. omega (arith, k)) (λ k. omega (arith, k)) (λ k. omega (arith, k)));
     read_fault = λ e. record { task = Replay ahead; settings = settings; opens = opens; so = r.read_fault e };
-    write_fault = λ e. let w = r.write_fault e in record { risen = w.risen; so = inr (inr (inr (record { task = Replay ahead; settings = settings; opens = opens; so = w }))) };
+    write_fault = λ e. let w = r.write_fault e in record { risen = w.risen; so = inr (record { task = Replay ahead; settings = settings; opens = opens; so = w }) };
     no_memory = λ e. absurd (never 6 e (λ k. omega (arith, k)) (λ k. omega (arith, k)) (λ k. omega (arith, k)) (λ k. omega (arith, k)) (λ k. omega (arith, k)));
     fetch_fault = λ e. absurd (never 7 e (λ k. omega (arith, k)) (λ k. omega (arith, k)) (λ k. omega (arith, k)) (λ k. omega (arith, k)) (λ k. omega (arith, k)));
     limit = λ e. record { task = Replay ahead; settings = settings; opens = opens; so = r.limit e };
@@ -190,19 +191,19 @@ module _ (most status : ℕ) (words : List Text) (old new : Outside) (settings :
       never n e = none_of_five status n r.named e
 
   pub exercise_runs : (seed moments : ℕ) → Opens words old.shelf.texts (Exercise seed moments) settings
-      → Exercises settings seed moments status old.source new.source old.sink new.sink → Runs most words status old new
+      → Exercises settings most status old new seed moments → Runs most words status old new
   exercise_runs seed moments opens r =
       let source = r.source in
       record {
         named = few r.named;
-        accepted = λ e. record { task = Exercise seed moments; settings = settings; opens = opens; so = record { so = r.ended e; source = source } };
+        accepted = λ e. record { task = Exercise seed moments; settings = settings; opens = opens; so = r.ended e };
         refused = λ e. absurd (never 1 e (λ k. omega (arith, k)) (λ k. omega (arith, k)));
         not_taken = λ e. absurd (never 2 e (λ k. omega (arith, k)) (λ k. omega (arith, k)));
         bad_configuration = λ e. absurd (never 3 e (λ k. omega (arith, k)) (λ k. omega (arith, k)));
         read_fault = λ e. absurd (never 4 e (λ k. omega (arith, k)) (λ k. omega (arith, k)));
-        write_fault = λ e. let w = r.write_fault e in record {
-          risen = w.risen;
-          so = inr (inr (inr (record { task = Exercise seed moments; settings = settings; opens = opens; so = record { so = w; source = source } })));
+        write_fault = λ e. record {
+          risen = r.risen e;
+          so = inr (record { task = Exercise seed moments; settings = settings; opens = opens; so = r.write_fault e });
         };
         no_memory = λ e. absurd (never 6 e (λ k. omega (arith, k)) (λ k. omega (arith, k)));
         fetch_fault = λ e. absurd (never 7 e (λ k. omega (arith, k)) (λ k. omega (arith, k)));
@@ -226,7 +227,7 @@ module _ (most status : ℕ) (words : List Text) (old new : Outside) (settings :
       same a b e = omega (arith, e)
 
   pub judge_runs : (name : Text) (states : Bytes) → Opens words old.shelf.texts (Judge name) settings → IsHeld old.shelf.texts name states → length states ≤ longest_text
-      → Judges settings states most status old.source new.source old.sink new.sink
+      → Judges settings most status old new states
       → Runs most words status old new
   judge_runs name states opens held short r = record {
     named = omega (arith, five_are_few status r.named);
@@ -235,7 +236,7 @@ module _ (most status : ℕ) (words : List Text) (old new : Outside) (settings :
     not_taken = λ e. absurd (never 2 e (λ k. omega (arith, k)) (λ k. omega (arith, k)) (λ k. omega (arith, k)) (λ k. omega (arith, k)) (λ k. omega (arith, k)));
     bad_configuration = λ e. absurd (never 3 e (λ k. omega (arith, k)) (λ k. omega (arith, k)) (λ k. omega (arith, k)) (λ k. omega (arith, k)) (λ k. omega (arith, k)));
     read_fault = λ e. record { task = Judge name; settings = settings; opens = opens; so = record { states = states; held = held; short = short; so = r.read_fault e } };
-    write_fault = λ e. let w = r.write_fault e in record { risen = w.risen; so = inr (inr (inr (record { task = Judge name; settings = settings; opens = opens; so = record { states = states; held = held; short = short; so = w } }))) };
+    write_fault = λ e. let w = r.write_fault e in record { risen = w.risen; so = inr (record { task = Judge name; settings = settings; opens = opens; so = record { states = states; held = held; short = short; so = w } }) };
     no_memory = λ e. absurd (never 6 e (λ k. omega (arith, k)) (λ k. omega (arith, k)) (λ k. omega (arith, k)) (λ k. omega (arith, k)) (λ k. omega (arith, k)));
     fetch_fault = λ e. absurd (never 7 e (λ k. omega (arith, k)) (λ k. omega (arith, k)) (λ k. omega (arith, k)) (λ k. omega (arith, k)) (λ k. omega (arith, k)));
     limit = λ e. record { task = Judge name; settings = settings; opens = opens; so = record { states = states; held = held; short = short; so = r.limit e } };
@@ -254,7 +255,7 @@ module _ (most status : ℕ) (words : List Text) (old new : Outside) (settings :
   asks task known e o = subst (λ (t : Task). Opens words old.shelf.texts t settings) e o
 
   pub performs_runs : (task : Task) (w : Work) → Opens words old.shelf.texts task settings → IsWork old.shelf.texts task w
-      → Performs most status settings w old.source new.source old.sink new.sink → Runs most words status old new
+      → Performs settings most status old new w → Runs most words status old new
   performs_runs task (work.Replay ahead) opens is r = replay_runs ahead (asks task (Replay ahead) is opens) r
   performs_runs task (work.Exercise seed moments) opens is r = exercise_runs seed moments (asks task (Exercise seed moments) is opens) r
   performs_runs task (work.Judge states sheet) opens (name, is, held, short) r =
@@ -267,15 +268,12 @@ module _ (most : ℕ) (words : List Text) (old new : Outside) (source : new.sour
   stood : (a b : ℕ) → b ≡ a → a ≤ b
   stood a b e = omega (arith, e)
 
-  same_shelf : new.shelf.faults ≡ old.shelf.faults → new.shelf ≡ old.shelf
-  same_shelf e i = record { texts = texts i; faults = e i }
-
   usage_told : order_of words ≡ None → new.shelf.faults ≡ old.shelf.faults → Takes old.sink new.sink usage_line → Runs most words 2 old new
   usage_told none calm taken = record {
     named = omega arith;
     accepted = λ e. absurd (omega (arith, e));
     refused = λ e. absurd (omega (arith, e));
-    not_taken = λ e. record { not_taken = none; shelf = same_shelf calm; source = source; written = taken };
+    not_taken = λ e. record { source = source; text = usage_line; is = (none, refl); written = taken };
     bad_configuration = λ e. absurd (omega (arith, e));
     read_fault = λ e. absurd (omega (arith, e));
     write_fault = λ e. absurd (omega (arith, e));
@@ -296,7 +294,7 @@ module _ (most : ℕ) (words : List Text) (old new : Outside) (source : new.sour
     accepted = λ e. absurd (omega (arith, e));
     refused = λ e. absurd (omega (arith, e));
     not_taken = λ e. absurd (omega (arith, e));
-    bad_configuration = λ e. record { code = code; refused = refused; shelf = same_shelf calm; source = source; written = taken };
+    bad_configuration = λ e. record { source = source; text = config_line code; is = (code, refused, refl); written = taken };
     read_fault = λ e. absurd (omega (arith, e));
     write_fault = λ e. absurd (omega (arith, e));
     no_memory = λ e. absurd (omega (arith, e));
@@ -322,7 +320,7 @@ module _ (most : ℕ) (words : List Text) (old new : Outside) (source : new.sour
     no_memory = λ e. absurd (omega (arith, e));
     fetch_fault = λ e. absurd (omega (arith, e));
     limit = λ e. absurd (omega (arith, e));
-    states_long = λ e. record { opens = opens; shelf = same_shelf calm; source = source; written = taken };
+    states_long = λ e. record { source = source; text = long_line; is = (opens, refl); written = taken };
     texts = texts;
     shelf_calm = λ n. calm;
     fetches = fetches;
@@ -396,19 +394,19 @@ module _ (most : ℕ) (words : List Text) (old new : Outside) (source : new.sour
   usage_runs : (result : Status) → order_of words ≡ None → new.shelf.faults ≡ old.shelf.faults → Writes status.NotTaken old.sink new.sink usage_line result → Runs most words (code_of result) old new
   usage_runs result none calm (inl w) = by_code result status.NotTaken w.0 (usage_told none calm w.1)
   usage_runs result none calm (inr w) = by_code result WriteFault w.0 (not_told
-      (record { risen = w.1.risen; so = inl (record { not_taken = none; shelf = same_shelf calm; source = source; written = w.1.front }) }) calm w.1.later)
+      (record { risen = w.1.risen; so = inl (record { source = source; text = usage_line; is = inl (none, refl); begun = w.1.front }) }) calm w.1.later)
 
   code_runs : (result : Status) (code : ℕ) → IsRefused words old.shelf.texts code → new.shelf.faults ≡ old.shelf.faults → Writes status.BadConfiguration old.sink new.sink (config_line code) result
       → Runs most words (code_of result) old new
   code_runs result code refused calm (inl w) = by_code result status.BadConfiguration w.0 (code_told code refused calm w.1)
   code_runs result code refused calm (inr w) = by_code result WriteFault w.0 (not_told
-      (record { risen = w.1.risen; so = inr (inl (record { code = code; refused = refused; shelf = same_shelf calm; source = source; written = w.1.front })) }) calm w.1.later)
+      (record { risen = w.1.risen; so = inl (record { source = source; text = config_line code; is = inr (inl (code, refused, refl)); begun = w.1.front }) }) calm w.1.later)
 
   long_runs : (result : Status) → OpensLong words old.shelf.texts → new.shelf.faults ≡ old.shelf.faults → Writes status.StatesLong old.sink new.sink long_line result
       → Runs most words (code_of result) old new
   long_runs result opens calm (inl w) = by_code result status.StatesLong w.0 (long_told opens calm w.1)
   long_runs result opens calm (inr w) = by_code result WriteFault w.0 (not_told
-      (record { risen = w.1.risen; so = inr (inr (inl (record { opens = opens; shelf = same_shelf calm; source = source; written = w.1.front }))) }) calm w.1.later)
+      (record { risen = w.1.risen; so = inl (record { source = source; text = long_line; is = inr (inr (opens, refl)); begun = w.1.front }) }) calm w.1.later)
 
   pub tells_runs : (why : Unready) (result : Status) → OpensAs words old.shelf.texts (Err why) → Tells why old.sink new.sink result
       → (why ≡ unready.FetchFault → HasRisen old.shelf.faults new.shelf.faults) → (why ≢ unready.FetchFault → new.shelf.faults ≡ old.shelf.faults)

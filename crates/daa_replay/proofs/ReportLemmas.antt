@@ -18,7 +18,7 @@ use Rattle.daa_replay.specs.declared.progress.Progress.{Progress}
 use Rattle.daa_replay.specs.Events.{events_of, is_refusal}
 use Rattle.daa_replay.specs.Follows.{Follows}
 use Rattle.daa_replay.specs.Report.{IsEventText, AreTexts}
-use Rattle.daa_replay.specs.Outside.{ToldBytes}
+use Rattle.daa_ahead.specs.Bytes.{ToldBytes}
 use Rattle.daa_replay.specs.Replaying.{TakesFront}
 use Rattle.daa_replay.specs.Reporting.{Reports, ReportsAll}
 use Rattle.daa_replay.proofs.EventLemmas.{events_begin}

@@ -12,9 +12,10 @@ use Rattle.daa_replay.specs.declared.status.Status.{Status}
 use Rattle.daa_replay.specs.declared.status.Status.TheVariants as status
 use Rattle.daa_replay.specs.Report.{AreTexts}
 use Rattle.daa_replay.specs.Reporting.{Reports, ReportsAll}
-use Rattle.daa_replay.specs.Outside.{ToldBytes, StreamState, IsCalm}
-use Rattle.daa_replay.specs.Replaying.{TakesFront, TakesReport, ReadsAll, WriteFails, Replays, IsSpent}
-use Rattle.daa_replay.specs.Judging.{source_of}
+use Rattle.daa_replay.specs.Outside.{Outside, IsCalm}
+use Rattle.daa_ahead.specs.Bytes.{ToldBytes, IsSpent}
+use Rattle.daa_replay.specs.Replaying.{TakesFront, TakesReport, ReadsAll, WriteFails}
+use Rattle.daa_replay.specs.Performing.{Replays}
 use Rattle.daa_replay.specs.Status.{Ends, code_of}
 use Rattle.daa_replay.proofs.FollowsLemmas.{given_now}
 use Rattle.daa_replay.proofs.ReportLemmas.{stops-more}
@@ -36,13 +37,13 @@ pub record IsOver (settings : Settings) (a d : ToldBytes) (taken : ℕ) (first :
   pub left : IsSpent a d
   pub reports : Reports settings first bytes p now
 
-module _ {settings : Settings} (places most taken : ℕ) (within : taken ≤ most) (so sn ko kn : StreamState) where
-  reads_all : (refused : Bool) (p : Progress) (now : ToldBytes) → IsOver settings so.bytes sn.bytes taken ko.bytes p now
-      → ((first : ToldBytes) (bytes : Bytes) → Reports settings first bytes p now → ReportsAll settings first bytes refused kn.bytes)
-      → IsCalm so sn → IsCalm ko kn
-      → ReadsAll settings most refused so sn ko kn
+module _ {settings : Settings} (places most taken : ℕ) (within : taken ≤ most) (old new : Outside) where
+  reads_all : (refused : Bool) (p : Progress) (now : ToldBytes) → IsOver settings old.source.bytes new.source.bytes taken old.sink.bytes p now
+      → ((first : ToldBytes) (bytes : Bytes) → Reports settings first bytes p now → ReportsAll settings first bytes refused new.sink.bytes)
+      → IsCalm old.source new.source → IsCalm old.sink new.sink
+      → ReadsAll settings most old new refused
   reads_all refused p now o whole calm quiet =
-      let all = whole ko.bytes o.bytes o.reports in
+      let all = whole old.sink.bytes o.bytes o.reports in
       record {
         bytes = o.bytes;
         handed = record { handed = o.handed; bound = omega (arith, o.size) };
@@ -53,10 +54,10 @@ module _ {settings : Settings} (places most taken : ℕ) (within : taken ≤ mos
         write_calm = quiet;
       }
 
-  stops_at_end : (p : Progress) (now : ToldBytes) → IsOver settings so.bytes sn.bytes taken ko.bytes p now
-      → ((first : ToldBytes) (bytes : Bytes) → Reports settings first bytes p now → TakesFront settings first kn.bytes bytes true)
-      → HasRisen ko.faults kn.faults → IsCalm so sn
-      → WriteFails settings places most so sn ko kn
+  stops_at_end : (p : Progress) (now : ToldBytes) → IsOver settings old.source.bytes new.source.bytes taken old.sink.bytes p now
+      → ((first : ToldBytes) (bytes : Bytes) → Reports settings first bytes p now → TakesFront settings first new.sink.bytes bytes true)
+      → HasRisen old.sink.faults new.sink.faults → IsCalm old.source new.source
+      → WriteFails settings most old new places
   stops_at_end p now o stops risen calm = record {
     risen = risen;
     bytes = o.bytes;
@@ -65,17 +66,17 @@ module _ {settings : Settings} (places most taken : ℕ) (within : taken ≤ mos
     read_calm = λ e. calm;
     ended = true;
     over = λ e. o.left;
-    written = stops ko.bytes o.bytes o.reports;
+    written = stops old.sink.bytes o.bytes o.reports;
   }
 
   -- how a run ends whose input was read to its end
-  pub replays_over : (end : Status) (p : Progress) (now : ToldBytes) → Ends end → IsOver settings so.bytes sn.bytes taken ko.bytes p now
-      → (end ≡ status.Accepted → (first : ToldBytes) (bytes : Bytes) → Reports settings first bytes p now → ReportsAll settings first bytes false kn.bytes)
-      → (end ≡ status.Refused → (first : ToldBytes) (bytes : Bytes) → Reports settings first bytes p now → ReportsAll settings first bytes true kn.bytes)
-      → (end ≡ status.WriteFault → (first : ToldBytes) (bytes : Bytes) → Reports settings first bytes p now → TakesFront settings first kn.bytes bytes true)
-      → (end ≡ status.WriteFault → HasRisen ko.faults kn.faults)
-      → IsCalm so sn → ko.faults ≤ kn.faults → (end ≢ status.WriteFault → IsCalm ko kn)
-      → Replays settings places most (code_of end) so sn ko kn
+  pub replays_over : (end : Status) (p : Progress) (now : ToldBytes) → Ends end → IsOver settings old.source.bytes new.source.bytes taken old.sink.bytes p now
+      → (end ≡ status.Accepted → (first : ToldBytes) (bytes : Bytes) → Reports settings first bytes p now → ReportsAll settings first bytes false new.sink.bytes)
+      → (end ≡ status.Refused → (first : ToldBytes) (bytes : Bytes) → Reports settings first bytes p now → ReportsAll settings first bytes true new.sink.bytes)
+      → (end ≡ status.WriteFault → (first : ToldBytes) (bytes : Bytes) → Reports settings first bytes p now → TakesFront settings first new.sink.bytes bytes true)
+      → (end ≡ status.WriteFault → HasRisen old.sink.faults new.sink.faults)
+      → IsCalm old.source new.source → old.sink.faults ≤ new.sink.faults → (end ≢ status.WriteFault → IsCalm old.sink new.sink)
+      → Replays settings most (code_of end) old new places
   replays_over status.Accepted p now ends o whole refused stops risen calm k quiet = record {
     named = inl refl;
     accepted = λ e. reads_all false p now o (whole refl) calm (quiet (λ w. cc));
@@ -114,9 +115,9 @@ module _ {settings : Settings} (places most taken : ℕ) (within : taken ≤ mos
   replays_over status.Limit p now ends o whole refused stops risen calm k quiet = absurd ends
   replays_over status.StatesLong p now ends o whole refused stops risen calm k quiet = absurd ends
 
-  pub read_fails : HasRisen so.faults sn.faults → so.faults ≤ sn.faults → IsCalm ko kn
-      → (bytes : Bytes) → length bytes ≡ taken → Consumes so.bytes sn.bytes bytes → TakesReport settings ko.bytes kn.bytes bytes false
-      → Replays settings places most 4 so sn ko kn
+  pub read_fails : HasRisen old.source.faults new.source.faults → old.source.faults ≤ new.source.faults → IsCalm old.sink new.sink
+      → (bytes : Bytes) → length bytes ≡ taken → Consumes old.source.bytes new.source.bytes bytes → TakesReport settings old.sink.bytes new.sink.bytes bytes false
+      → Replays settings most 4 old new places
   read_fails risen f quiet bytes size handed written = record {
     named = inr (inr (inl refl));
     accepted = λ e. absurd (omega (arith, e));
@@ -131,10 +132,10 @@ module _ {settings : Settings} (places most taken : ℕ) (within : taken ≤ mos
 -- ---- the end of a replay, by how reading ended
 
 -- the sink failed
-pub write_fails : {settings : Settings} (places most : ℕ) (so sn ko kn : StreamState) (bytes : Bytes) → length bytes ≤ most → ahead.TakesFront places most (source_of so) (source_of sn) bytes
-    → TakesFront settings ko.bytes kn.bytes bytes false → HasRisen ko.faults kn.faults → so.faults ≤ sn.faults → ko.faults ≤ kn.faults
-    → Replays settings places most 5 so sn ko kn
-write_fails places most so sn ko kn bytes within front written risen f k =
+pub write_fails : {settings : Settings} (places most : ℕ) (old new : Outside) (bytes : Bytes) → length bytes ≤ most → ahead.TakesFront places most old.source new.source bytes
+    → TakesFront settings old.sink.bytes new.sink.bytes bytes false → HasRisen old.sink.faults new.sink.faults → old.source.faults ≤ new.source.faults → old.sink.faults ≤ new.sink.faults
+    → Replays settings most 5 old new places
+write_fails places most old new bytes within front written risen f k =
     let handed = front.handed in
     record {
       named = inr (inr (inr (inl refl)));
@@ -149,7 +150,7 @@ write_fails places most so sn ko kn bytes within front written risen f k =
         read_calm = λ t. front.calm t;
         ended = false;
         over = λ t. absurd (no t);
-        written = stops-more ko.bytes kn.bytes bytes front.untaken written;
+        written = stops-more old.sink.bytes new.sink.bytes bytes front.untaken written;
       };
       limit = λ e. absurd (omega (arith, e));
       reads = f;
@@ -160,9 +161,9 @@ write_fails places most so sn ko kn bytes within front written risen f k =
     no t = cc
 
 -- one byte more was read than may be
-pub passes_limit : {settings : Settings} (places most : ℕ) (so sn ko kn : StreamState) (bytes : Bytes) (next : ℕ) → length bytes ≡ most → Consumes so.bytes sn.bytes (bytes ++ next ∷ [])
-    → TakesReport settings ko.bytes kn.bytes bytes false → IsCalm so sn → IsCalm ko kn → Replays settings places most 8 so sn ko kn
-passes_limit places most so sn ko kn bytes next size handed written f k = record {
+pub passes_limit : {settings : Settings} (places most : ℕ) (old new : Outside) (bytes : Bytes) (next : ℕ) → length bytes ≡ most → Consumes old.source.bytes new.source.bytes (bytes ++ next ∷ [])
+    → TakesReport settings old.sink.bytes new.sink.bytes bytes false → IsCalm old.source new.source → IsCalm old.sink new.sink → Replays settings most 8 old new places
+passes_limit places most old new bytes next size handed written f k = record {
   named = inr (inr (inr (inr refl)));
   accepted = λ e. absurd (omega (arith, e));
   refused = λ e. absurd (omega (arith, e));

@@ -1,6 +1,6 @@
 -- How far the report of states was compared with what a source hands out.
 use Rattle.std.specs.Prelude.{ℕ, ◌++◌, Bool, true, [], Some, Result, Ok, Err}
-use Rattle.daa_ahead.specs.Bytes.{SourceState}
+use Rattle.daa_ahead.specs.Bytes.{StreamState}
 use Rattle.daa_config.specs.Settings.{Settings}
 use Rattle.daa_judge.specs.Finding.{Finds}
 use Rattle.daa_judge.specs.Matched.{IsMatched, Compares}
@@ -15,19 +15,19 @@ use Rattle.daa_replay.specs.Report.{IsReportOf}
 use Rattle.daa_replay.specs.Reporting.{Reports}
 
 -- these bytes were fed, and the texts of the events given so far were compared, and matched
-pub record IsJudged (settings : Settings) (most : ℕ) (first : SourceState) (bytes : Bytes) (progress : Progress) (m : Matching) (now : SourceState) : Type 0 where
+pub record IsJudged (settings : Settings) (most : ℕ) (first : StreamState) (bytes : Bytes) (progress : Progress) (m : Matching) (now : StreamState) : Type 0 where
   pub text : Text
   pub reports : Reports settings (Some []) bytes progress (Some text)
   pub matched : IsMatched most first text m now
 
 -- the whole report of these bytes was compared, and matched
-pub record IsWhole (settings : Settings) (most : ℕ) (first : SourceState) (bytes : Bytes) (m : Matching) (now : SourceState) : Type 0 where
+pub record IsWhole (settings : Settings) (most : ℕ) (first : StreamState) (bytes : Bytes) (m : Matching) (now : StreamState) : Type 0 where
   pub report : Text
   pub is : IsReportOf settings bytes true report
   pub matched : IsMatched most first report m now
 
 -- comparing is over, and found this of every report that begins as the one of these bytes does
-pub record StopsIn (settings : Settings) (most : ℕ) (first : SourceState) (bytes : Bytes) (ended : Bool) (result : Found) (now : SourceState) : Type 0 where
+pub record StopsIn (settings : Settings) (most : ℕ) (first : StreamState) (bytes : Bytes) (ended : Bool) (result : Found) (now : StreamState) : Type 0 where
   pub front : Text
   pub begins : TakesFront settings (Some []) (Some front) bytes ended
   pub finds : (rest : Text) → Finds (front ++ rest) most result first now
@@ -37,7 +37,7 @@ found_in (Ok x) = found.Alike
 found_in (Err result) = result
 
 -- some text of which P holds was compared
-pub record ComparesSome (P : Text → Type 0) (result : Found) (old new : Matching) (source_old source_new : SourceState) : Type 0 where
+pub record ComparesSome (P : Text → Type 0) (result : Found) (old new : Matching) (source_old source_new : StreamState) : Type 0 where
   pub text : Text
   pub is : P text
-  pub compares : (most : ℕ) (first : SourceState) (before : Text) → IsMatched most first before old source_old → Compares result most first before text new source_new
+  pub compares : (most : ℕ) (first : StreamState) (before : Text) → IsMatched most first before old source_old → Compares result most first before text new source_new

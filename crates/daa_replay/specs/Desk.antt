@@ -5,7 +5,7 @@ use Rattle.daa_lines.specs.LinesOf.{Bytes}
 use Rattle.daa_lines.specs.Cutting.{is_standing}
 use Rattle.daa_outside.specs.Faults.{HasRisen}
 use Rattle.daa_replay.specs.declared.progress.Progress.{Progress}
-use Rattle.daa_replay.specs.Outside.{ToldBytes}
+use Rattle.daa_ahead.specs.Bytes.{ToldBytes}
 use Rattle.daa_replay.specs.Replaying.{TakesFront}
 use Rattle.daa_replay.specs.Reporting.{Reports}
 

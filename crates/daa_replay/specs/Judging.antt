@@ -1,7 +1,7 @@
--- What a comparison of a report with that of given states leaves at its source and its sink, by the status that it answers.
+-- What a comparison of a report with that of given states leaves, by how it ends.
 use Rattle.std.specs.Prelude.{ℕ, ◌≡◌, ◌≤◌, ◌⊎◌, true}
 use Rattle.daa_outside.specs.Faults.{HasRisen}
-use Rattle.daa_ahead.specs.Bytes.{SourceState}
+use Rattle.daa_ahead.specs.Bytes.{StreamState}
 use Rattle.daa_config.specs.One.{HasOne}
 use Rattle.daa_config.specs.Settings.{Settings}
 use Rattle.daa_judge.specs.Finding.{Finds}
@@ -10,48 +10,42 @@ use Rattle.daa_judge.specs.declared.found.Found.TheVariants as found
 use Rattle.daa_lines.specs.LinesOf.{Bytes}
 use Rattle.daa_report.specs.Lines.{same_line, differs_line}
 use Rattle.daa_report.specs.Says.{AppendsFront}
-use Rattle.daa_replay.specs.Outside.{StreamState, Takes}
+use Rattle.daa_replay.specs.Outside.{Outside, Takes}
 use Rattle.daa_replay.specs.Report.{IsReportOf}
 
-abbrev pub source_of : StreamState → SourceState
-source_of stream = record { left = stream.bytes; faults = stream.faults }
+-- comparing the one report of the states with what the source handed out found this
+pub record Judged (settings : Settings) (states : Bytes) (most : ℕ) (result : Found) (old new : StreamState) : Type 0 where
+  pub report : HasOne (IsReportOf settings states true)
+  pub finds : Finds report.one most result old new
 
-module _ (settings : Settings) (states : Bytes) where
-  -- comparing the one report of the states with what the source handed out found this
-  pub record Judged (most : ℕ) (result : Found) (source_old source_new : StreamState) : Type 0 where
-    pub report : HasOne (IsReportOf settings states true)
-    pub finds : Finds report.one most result (source_of source_old) (source_of source_new)
+-- a comparison with the report of the states that reads at most so many bytes
+module _ (settings : Settings) (states : Bytes) (most : ℕ) (old new : Outside) where
+  -- comparing found this
+  abbrev pub IsFound : Found → Type 0
+  IsFound result = Judged settings states most result old.source new.source
 
   -- the bytes are the report, and `same` was written
-  pub record TellsSame (most : ℕ) (source_old source_new sink_old sink_new : StreamState) : Type 0 where
-    pub judged : Judged most found.Alike source_old source_new
-    pub written : Takes sink_old sink_new same_line
+  pub record TellsSame : Type 0 where
+    pub judged : IsFound found.Alike
+    pub written : Takes old.sink new.sink same_line
 
   -- they are not, and the number of the first line that differs was written
-  pub record TellsDifference (most : ℕ) (source_old source_new sink_old sink_new : StreamState) : Type 0 where
+  pub record TellsDifference : Type 0 where
     pub number : ℕ
-    pub judged : Judged most (found.Differs number) source_old source_new
-    pub written : Takes sink_old sink_new (differs_line number)
+    pub judged : IsFound (found.Differs number)
+    pub written : Takes old.sink new.sink (differs_line number)
 
-  -- comparing ended before this could be told, and nothing was written
-  pub record TellsNothing (most : ℕ) (result : Found) (source_old source_new sink_old sink_new : StreamState) : Type 0 where
-    pub judged : Judged most result source_old source_new
-    pub sink : sink_new ≡ sink_old
+  -- comparing ended before this was known, and nothing was written
+  pub record TellsNothing (result : Found) : Type 0 where
+    pub judged : IsFound result
+    pub sink : new.sink ≡ old.sink
+
+  -- a beginning of the line was written
+  abbrev pub BeginsLine : Text → Type 0
+  BeginsLine line = AppendsFront old.sink.bytes new.sink.bytes line
 
   -- the sink failed, and a beginning of the line was written
-  pub record BreaksJudgement (most : ℕ) (source_old source_new sink_old sink_new : StreamState) : Type 0 where
-    pub risen : HasRisen sink_old.faults sink_new.faults
-    pub so : (Judged most found.Alike source_old source_new × AppendsFront sink_old.bytes sink_new.bytes same_line)
-        ⊎ ((number : ℕ) × Judged most (found.Differs number) source_old source_new × AppendsFront sink_old.bytes sink_new.bytes (differs_line number))
-
-  -- what a comparison that reads at most so many bytes leaves, by its status
-  pub record Judges (most status : ℕ) (source_old source_new sink_old sink_new : StreamState) : Type 0 where
-    pub named : (status ≡ 0) ⊎ ((status ≡ 1) ⊎ ((status ≡ 4) ⊎ ((status ≡ 5) ⊎ (status ≡ 8))))
-    pub same : status ≡ 0 → TellsSame most source_old source_new sink_old sink_new
-    pub differs : status ≡ 1 → TellsDifference most source_old source_new sink_old sink_new
-    pub read_fault : status ≡ 4 → TellsNothing most found.Fault source_old source_new sink_old sink_new
-    pub write_fault : status ≡ 5 → BreaksJudgement most source_old source_new sink_old sink_new
-    pub limit : status ≡ 8 → TellsNothing most found.Limit source_old source_new sink_old sink_new
-    -- no count of faults falls
-    pub reads : source_old.faults ≤ source_new.faults
-    pub writes : sink_old.faults ≤ sink_new.faults
+  pub record BreaksJudgement : Type 0 where
+    pub risen : HasRisen old.sink.faults new.sink.faults
+    pub so : (IsFound found.Alike × BeginsLine same_line)
+        ⊎ ((number : ℕ) × IsFound (found.Differs number) × BeginsLine (differs_line number))

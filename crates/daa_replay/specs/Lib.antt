@@ -8,7 +8,6 @@ pub mod Telling
 pub mod Replaying
 pub mod Judging
 pub mod Comparing
-pub mod Exercising
 pub mod Performing
 pub mod Tasks
 pub mod Run

@@ -1,4 +1,4 @@
--- What a replay under a configuration leaves at its source and its sink, by the status that it answers.
+-- What a replay under a configuration leaves at its source and its sink, by how it ends.
 use Rattle.std.specs.Prelude.{ℕ, ◌≡◌, ◌≤◌, ◌+◌, ◌++◌, ◌⊎◌, Bool, true, false, List, [], ◌∷◌, Option, Some, IfSome, length}
 use Rattle.std.specs.List.{list_any}
 use Rattle.std.specs.Io.KnownBytes.{Consumes, Appends}
@@ -7,12 +7,9 @@ use Rattle.daa_outside.specs.Faults.{HasRisen}
 use Rattle.daa_lines.specs.LinesOf.{Bytes}
 use Rattle.daa_report.specs.Lines.{Text}
 use Rattle.daa_replay.specs.Events.{events_of, is_refusal}
-use Rattle.daa_replay.specs.Outside.{StreamState, ToldBytes, IsCalm}
+use Rattle.daa_ahead.specs.Bytes.{ToldBytes, StreamState, IsSpent}
+use Rattle.daa_replay.specs.Outside.{Outside, IsCalm}
 use Rattle.daa_replay.specs.Report.{IsReportOf, IsReportFront}
-
--- where the source tells its bytes, none is left
-abbrev pub IsSpent : Option (List ℕ) → Option (List ℕ) → Type 0
-IsSpent old new = IfSome old (λ all. new ≡ Some [])
 
 -- the source handed out these bytes, at most so many
 pub record HandsOut (most : ℕ) (old new : StreamState) (bytes : Bytes) : Type 0 where
@@ -32,54 +29,46 @@ module _ (settings : Settings) where
     pub front : IsReportFront settings bytes ended text
     pub taken : Appends old new text
 
-  -- the input was read to its end, and its report was written; whether a line of it was refused is as given
-  pub record ReadsAll (most : ℕ) (refused : Bool) (source_old source_new sink_old sink_new : StreamState) : Type 0 where
+-- a replay that reads at most so many bytes
+module _ (settings : Settings) (most : ℕ) (old new : Outside) where
+  -- the input was read to its end, and its report was written; a line of it was refused, or none
+  pub record ReadsAll (refused : Bool) : Type 0 where
     pub bytes : Bytes
-    pub handed : HandsOut most source_old source_new bytes
-    pub over : IsSpent source_old.bytes source_new.bytes
-    pub written : TakesReport sink_old.bytes sink_new.bytes bytes true
+    pub handed : HandsOut most old.source new.source bytes
+    pub over : IsSpent old.source.bytes new.source.bytes
+    pub written : TakesReport settings old.sink.bytes new.sink.bytes bytes true
     pub refusals : list_any is_refusal (events_of bytes true) ≡ refused
-    pub read_calm : IsCalm source_old source_new
-    pub write_calm : IsCalm sink_old sink_new
+    pub read_calm : IsCalm old.source new.source
+    pub write_calm : IsCalm old.sink new.sink
 
   -- the source failed, and the report of the lines that were read by then was written
-  pub record ReadFails (most : ℕ) (source_old source_new sink_old sink_new : StreamState) : Type 0 where
-    pub risen : HasRisen source_old.faults source_new.faults
+  pub record ReadFails : Type 0 where
+    pub risen : HasRisen old.source.faults new.source.faults
     pub bytes : Bytes
-    pub handed : HandsOut most source_old source_new bytes
-    pub written : TakesReport sink_old.bytes sink_new.bytes bytes false
-    pub write_calm : IsCalm sink_old sink_new
+    pub handed : HandsOut most old.source new.source bytes
+    pub written : TakesReport settings old.sink.bytes new.sink.bytes bytes false
+    pub write_calm : IsCalm old.sink new.sink
 
-  -- the sink failed, and a beginning of the report was written; with its end only where nothing is left. A source that is read ahead
-  -- may have handed out one byte past the limit by then, and may have failed; one that is read by turns has done neither
-  pub record WriteFails (ahead most : ℕ) (source_old source_new sink_old sink_new : StreamState) : Type 0 where
-    pub risen : HasRisen sink_old.faults sink_new.faults
+  -- the sink failed, and a beginning of the report was written; with its end only where nothing is
+  -- left. A source that is read ahead may have handed out one byte past the limit by then, and may
+  -- have failed; one that is read by turns has done neither
+  pub record WriteFails (ahead : ℕ) : Type 0 where
+    pub risen : HasRisen old.sink.faults new.sink.faults
     pub bytes : Bytes
-    pub handed : HandsOut (most + 1) source_old source_new bytes
-    pub in_turn : ahead ≡ 0 → HandsOut most source_old source_new bytes
-    pub read_calm : ahead ≡ 0 → IsCalm source_old source_new
+    pub handed : HandsOut (most + 1) old.source new.source bytes
+    pub in_turn : ahead ≡ 0 → HandsOut most old.source new.source bytes
+    pub read_calm : ahead ≡ 0 → IsCalm old.source new.source
     pub ended : Bool
-    pub over : ended ≡ true → IsSpent source_old.bytes source_new.bytes
-    pub written : TakesFront sink_old.bytes sink_new.bytes bytes ended
+    pub over : ended ≡ true → IsSpent old.source.bytes new.source.bytes
+    pub written : TakesFront settings old.sink.bytes new.sink.bytes bytes ended
 
-  -- as many bytes as may be read were read, and then one more; the report of those before it was written
-  pub record PassesLimit (most : ℕ) (source_old source_new sink_old sink_new : StreamState) : Type 0 where
+  -- as many bytes as may be read were read, and then one more; the report of those before it was
+  -- written
+  pub record PassesLimit : Type 0 where
     pub bytes : Bytes
     pub next : ℕ
     pub size : length bytes ≡ most
-    pub handed : Consumes source_old.bytes source_new.bytes (bytes ++ next ∷ [])
-    pub written : TakesReport sink_old.bytes sink_new.bytes bytes false
-    pub read_calm : IsCalm source_old source_new
-    pub write_calm : IsCalm sink_old sink_new
-
-  -- what a run that reads at most so many bytes leaves, by its status
-  pub record Replays (ahead most status : ℕ) (source_old source_new sink_old sink_new : StreamState) : Type 0 where
-    pub named : (status ≡ 0) ⊎ ((status ≡ 1) ⊎ ((status ≡ 4) ⊎ ((status ≡ 5) ⊎ (status ≡ 8))))
-    pub accepted : status ≡ 0 → ReadsAll most false source_old source_new sink_old sink_new
-    pub refused : status ≡ 1 → ReadsAll most true source_old source_new sink_old sink_new
-    pub read_fault : status ≡ 4 → ReadFails most source_old source_new sink_old sink_new
-    pub write_fault : status ≡ 5 → WriteFails ahead most source_old source_new sink_old sink_new
-    pub limit : status ≡ 8 → PassesLimit most source_old source_new sink_old sink_new
-    -- no count of faults falls
-    pub reads : source_old.faults ≤ source_new.faults
-    pub writes : sink_old.faults ≤ sink_new.faults
+    pub handed : Consumes old.source.bytes new.source.bytes (bytes ++ next ∷ [])
+    pub written : TakesReport settings old.sink.bytes new.sink.bytes bytes false
+    pub read_calm : IsCalm old.source new.source
+    pub write_calm : IsCalm old.sink new.sink

@@ -10,7 +10,7 @@ use Rattle.daa_replay.specs.declared.progress.Progress.{Progress}
 use Rattle.daa_replay.specs.Events.{is_refusal, events_of}
 use Rattle.daa_replay.specs.Report.{AreTexts}
 use Rattle.daa_replay.specs.Follows.{Follows}
-use Rattle.daa_replay.specs.Outside.{ToldBytes}
+use Rattle.daa_ahead.specs.Bytes.{ToldBytes}
 use Rattle.daa_replay.specs.Replaying.{TakesReport}
 
 -- these bytes were fed; the sink, which had taken `first`, took the texts of the events given so far

@@ -8,7 +8,8 @@ use Rattle.daa_replay.specs.declared.opening.Unready.TheVariants as unready
 use Rattle.daa_replay.specs.declared.status.Status.{Status}
 use Rattle.daa_replay.specs.declared.status.Status.TheVariants as status
 use Rattle.daa_replay.specs.Opening.{usage_line, long_line}
-use Rattle.daa_replay.specs.Outside.{StreamState, Takes}
+use Rattle.daa_replay.specs.Outside.{Takes}
+use Rattle.daa_ahead.specs.Bytes.{StreamState}
 
 -- the line was not written whole, since the sink failed
 pub record FailsWithin (old new : StreamState) (text : Text) : Type 0 where

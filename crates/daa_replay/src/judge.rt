@@ -1,8 +1,9 @@
 //! A comparison: of a report with that of given states.
 
 ghost use Rattle.std.specs.Prelude.{◌≡◌, ◌≤◌, ◌<◌, ◌^◌, length};
-ghost use Rattle.daa_replay.specs.Judging.{Judges};
-ghost use Rattle.daa_replay.specs.Outside.{stream_state};
+ghost use Rattle.daa_replay.specs.Outside.{ShelfState, outside};
+ghost use Rattle.daa_replay.specs.Performing.{Judges};
+ghost use Rattle.daa_ahead.specs.Bytes.{stream_state};
 ghost use Rattle.daa_replay.specs.Status.{code_of};
 
 use crate::judging::judge_all;
@@ -27,8 +28,11 @@ pub(crate) fn judge_within<R: Threads + Sync, S: Source, K: Sink, G: Gate>(
 ) -> Status
     requires bound { most ≤ 2 ^ 40 }
     requires few { length states.now < 2 ^ 63 }
-    ensures { Judges engine.old.settings states.now most (code_of result) (stream_state (S.left source.old) (S.faults source.old)) (stream_state (S.left source.new) (S.faults source.new))
-        (stream_state (K.taken sink.old) (K.faults sink.old)) (stream_state (K.taken sink.new) (K.faults sink.new)) }
+    ensures { (before after : ShelfState) → Judges engine.old.settings most (code_of result)
+        (outside before (stream_state (S.left source.old) (S.faults source.old))
+        (stream_state (K.taken sink.old) (K.faults sink.old)))
+        (outside after (stream_state (S.left source.new) (S.faults source.new))
+        (stream_state (K.taken sink.new) (K.faults sink.new))) states.now }
 {
     match judge_all(tools, engine, sheet, source, states, most) {
         Found::Alike => status_of(same(sink), Status::Accepted),

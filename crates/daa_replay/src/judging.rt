@@ -1,7 +1,7 @@
 //! Compares the report of given states, event by event, with what a source hands out.
 
 ghost use Rattle.std.specs.Prelude.{◌≡◌, ◌≢◌, ◌<◌, ◌≤◌, ◌+◌, ◌^◌, ◌++◌, ℕ, [], IfErr, OnOk, false, true, length};
-ghost use Rattle.daa_ahead.specs.Bytes.{SourceState, source_state};
+ghost use Rattle.daa_ahead.specs.Bytes.{StreamState, stream_state};
 ghost use Rattle.daa_config.specs.Settings.{Settings};
 ghost use Rattle.daa_judge.specs.Matched.{HasRoom, IsMatched};
 ghost use Rattle.daa_lines.specs.LinesOf.{Bytes};
@@ -9,7 +9,6 @@ ghost use Rattle.daa_lines.specs.Cutting.{is_standing};
 ghost use Rattle.daa_replay.specs.Comparing.{ComparesSome, IsJudged, IsWhole, StopsIn, found_in};
 ghost use Rattle.daa_replay.specs.Events.{IsEventInRange};
 ghost use Rattle.daa_replay.specs.Judging.{Judged};
-ghost use Rattle.daa_replay.specs.Outside.{stream_state};
 ghost use Rattle.daa_replay.specs.Report.{IsEventText};
 
 use crate::event::Event;
@@ -67,7 +66,7 @@ fn judge_event<R: Threads + Sync, S: Source, G: Gate>(
     ensures room { HasRoom matching.new }
     ensures never_falls { S.faults source.old ≤ S.faults source.new }
     ensures compares { ComparesSome (IsEventText engine.old.settings event.now) (found_in result) matching.old matching.new
-        (source_state (S.left source.old) (S.faults source.old)) (source_state (S.left source.new) (S.faults source.new)) }
+        (stream_state (S.left source.old) (S.faults source.old)) (stream_state (S.left source.new) (S.faults source.new)) }
     ensures stops { IfErr result (λ found. found ≢ Found.Alike) }
 {
     sheet_event(tools, engine, sheet, event);
@@ -90,16 +89,16 @@ fn judge_line<R: Threads + Sync, S: Source, G: Gate>(
     ensures same { engine.new.settings ≡ engine.old.settings }
     ensures room { HasRoom matching.new }
     ensures never_falls { S.faults source.old ≤ S.faults source.new }
-    ensures ok { OnOk result ((settings : Settings) (most : ℕ) (first : SourceState) (bytes : Bytes) → engine.old.settings ≡ settings
+    ensures ok { OnOk result ((settings : Settings) (most : ℕ) (first : StreamState) (bytes : Bytes) → engine.old.settings ≡ settings
         → IsJudged settings most first bytes progress.old matching.old
-        (source_state (S.left source.old) (S.faults source.old))
+        (stream_state (S.left source.old) (S.faults source.old))
         → IsJudged settings most first bytes progress.new matching.new
-        (source_state (S.left source.new) (S.faults source.new))) }
-    ensures err { IfErr result (λ found. (settings : Settings) (most : ℕ) (first : SourceState) (bytes : Bytes) → engine.old.settings ≡ settings
+        (stream_state (S.left source.new) (S.faults source.new))) }
+    ensures err { IfErr result (λ found. (settings : Settings) (most : ℕ) (first : StreamState) (bytes : Bytes) → engine.old.settings ≡ settings
         → IsJudged settings most first bytes progress.old matching.old
-        (source_state (S.left source.old) (S.faults source.old))
+        (stream_state (S.left source.old) (S.faults source.old))
         → StopsIn settings most first bytes progress.old.lines.ended found
-        (source_state (S.left source.new) (S.faults source.new))) }
+        (stream_state (S.left source.new) (S.faults source.new))) }
 {
     match take_event(&mut progress.lines, &mut progress.moments) {
         None => Ok(()),
@@ -130,16 +129,16 @@ fn judge_piece<R: Threads + Sync, S: Source, G: Gate>(
     ensures same { engine.new.settings ≡ engine.old.settings }
     ensures room { HasRoom matching.new }
     ensures never_falls { S.faults source.old ≤ S.faults source.new }
-    ensures ok { OnOk result ((settings : Settings) (most : ℕ) (first : SourceState) (bytes : Bytes) → engine.old.settings ≡ settings
+    ensures ok { OnOk result ((settings : Settings) (most : ℕ) (first : StreamState) (bytes : Bytes) → engine.old.settings ≡ settings
         → IsJudged settings most first bytes progress.old matching.old
-        (source_state (S.left source.old) (S.faults source.old))
+        (stream_state (S.left source.old) (S.faults source.old))
         → IsJudged settings most first (bytes ++ piece.now) progress.new matching.new
-        (source_state (S.left source.new) (S.faults source.new))) }
-    ensures err { IfErr result (λ found. (settings : Settings) (most : ℕ) (first : SourceState) (bytes : Bytes) → engine.old.settings ≡ settings
+        (stream_state (S.left source.new) (S.faults source.new))) }
+    ensures err { IfErr result (λ found. (settings : Settings) (most : ℕ) (first : StreamState) (bytes : Bytes) → engine.old.settings ≡ settings
         → IsJudged settings most first bytes progress.old matching.old
-        (source_state (S.left source.old) (S.faults source.old))
+        (stream_state (S.left source.old) (S.faults source.old))
         → StopsIn settings most first (bytes ++ piece.now) false found
-        (source_state (S.left source.new) (S.faults source.new))) }
+        (stream_state (S.left source.new) (S.faults source.new))) }
 {
     let mut done = 0;
     while done < piece.len() {
@@ -168,16 +167,16 @@ fn judge_last<R: Threads + Sync, S: Source, G: Gate>(
     ensures same { engine.new.settings ≡ engine.old.settings }
     ensures room { HasRoom matching.new }
     ensures never_falls { S.faults source.old ≤ S.faults source.new }
-    ensures ok { OnOk result ((settings : Settings) (most : ℕ) (first : SourceState) (bytes : Bytes) → engine.old.settings ≡ settings
+    ensures ok { OnOk result ((settings : Settings) (most : ℕ) (first : StreamState) (bytes : Bytes) → engine.old.settings ≡ settings
         → IsJudged settings most first bytes progress.old matching.old
-        (source_state (S.left source.old) (S.faults source.old))
+        (stream_state (S.left source.old) (S.faults source.old))
         → IsWhole settings most first bytes matching.new
-        (source_state (S.left source.new) (S.faults source.new))) }
-    ensures err { IfErr result (λ found. (settings : Settings) (most : ℕ) (first : SourceState) (bytes : Bytes) → engine.old.settings ≡ settings
+        (stream_state (S.left source.new) (S.faults source.new))) }
+    ensures err { IfErr result (λ found. (settings : Settings) (most : ℕ) (first : StreamState) (bytes : Bytes) → engine.old.settings ≡ settings
         → IsJudged settings most first bytes progress.old matching.old
-        (source_state (S.left source.old) (S.faults source.old))
+        (stream_state (S.left source.old) (S.faults source.old))
         → StopsIn settings most first bytes true found
-        (source_state (S.left source.new) (S.faults source.new))) }
+        (stream_state (S.left source.new) (S.faults source.new))) }
 {
     match take_end(&progress.lines, &progress.moments) {
         None => Ok(()),
@@ -201,16 +200,16 @@ fn judge_end<R: Threads + Sync, S: Source, G: Gate>(
     ensures same { engine.new.settings ≡ engine.old.settings }
     ensures room { HasRoom matching.new }
     ensures never_falls { S.faults source.old ≤ S.faults source.new }
-    ensures ok { OnOk result ((settings : Settings) (most : ℕ) (first : SourceState) (bytes : Bytes) → engine.old.settings ≡ settings
+    ensures ok { OnOk result ((settings : Settings) (most : ℕ) (first : StreamState) (bytes : Bytes) → engine.old.settings ≡ settings
         → IsJudged settings most first bytes progress.old matching.old
-        (source_state (S.left source.old) (S.faults source.old))
+        (stream_state (S.left source.old) (S.faults source.old))
         → IsWhole settings most first bytes matching.new
-        (source_state (S.left source.new) (S.faults source.new))) }
-    ensures err { IfErr result (λ found. (settings : Settings) (most : ℕ) (first : SourceState) (bytes : Bytes) → engine.old.settings ≡ settings
+        (stream_state (S.left source.new) (S.faults source.new))) }
+    ensures err { IfErr result (λ found. (settings : Settings) (most : ℕ) (first : StreamState) (bytes : Bytes) → engine.old.settings ≡ settings
         → IsJudged settings most first bytes progress.old matching.old
-        (source_state (S.left source.old) (S.faults source.old))
+        (stream_state (S.left source.old) (S.faults source.old))
         → StopsIn settings most first bytes true found
-        (source_state (S.left source.new) (S.faults source.new))) }
+        (stream_state (S.left source.new) (S.faults source.new))) }
 {
     progress.lines.end();
     judge_line(tools, engine, sheet, source, matching, progress)?;
@@ -230,12 +229,12 @@ fn judge_states<R: Threads + Sync, S: Source, G: Gate>(
     requires few { length states.now < 2 ^ 63 }
     ensures room { HasRoom matching.new }
     ensures never_falls { S.faults source.old ≤ S.faults source.new }
-    ensures ok { OnOk result ((most : ℕ) (first : SourceState) → IsMatched most first [] matching.old (source_state (S.left source.old) (S.faults source.old))
+    ensures ok { OnOk result ((most : ℕ) (first : StreamState) → IsMatched most first [] matching.old (stream_state (S.left source.old) (S.faults source.old))
         → IsWhole engine.old.settings most first states.now matching.new
-        (source_state (S.left source.new) (S.faults source.new))) }
-    ensures err { IfErr result (λ found. (most : ℕ) (first : SourceState) → IsMatched most first [] matching.old (source_state (S.left source.old) (S.faults source.old))
+        (stream_state (S.left source.new) (S.faults source.new))) }
+    ensures err { IfErr result (λ found. (most : ℕ) (first : StreamState) → IsMatched most first [] matching.old (stream_state (S.left source.old) (S.faults source.old))
         → StopsIn engine.old.settings most first states.now true found
-        (source_state (S.left source.new) (S.faults source.new))) }
+        (stream_state (S.left source.new) (S.faults source.new))) }
 {
     let mut progress = begin();
     match judge_piece(

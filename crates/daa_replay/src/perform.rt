@@ -1,7 +1,8 @@
 //! What a run does once it is ready: a replay, an exercise or a comparison.
 
 ghost use Rattle.std.specs.Prelude.{◌≡◌, ◌≤◌, ◌^◌};
-ghost use Rattle.daa_replay.specs.Outside.{stream_state};
+ghost use Rattle.daa_ahead.specs.Bytes.{stream_state};
+ghost use Rattle.daa_replay.specs.Outside.{ShelfState, outside};
 ghost use Rattle.daa_replay.specs.Performing.{Performs};
 ghost use Rattle.daa_replay.specs.Ready.{WorkIsInRange};
 ghost use Rattle.daa_replay.specs.Status.{code_of};
@@ -26,9 +27,11 @@ pub(crate) fn perform<R: Threads + Sync, S: Source + Send, K: Sink + Send, G: Ga
     requires some { 1 ≤ most }
     requires most { most ≤ 2 ^ 40 }
     requires work { WorkIsInRange ready.work }
-    ensures { Performs most (code_of result) ready.engine.settings ready.work
-        (stream_state (S.left source.old) (S.faults source.old)) (stream_state (S.left source.new) (S.faults source.new))
-        (stream_state (K.taken sink.old) (K.faults sink.old)) (stream_state (K.taken sink.new) (K.faults sink.new)) }
+    ensures { (before after : ShelfState) → Performs ready.engine.settings most (code_of result)
+        (outside before (stream_state (S.left source.old) (S.faults source.old))
+        (stream_state (K.taken sink.old) (K.faults sink.old)))
+        (outside after (stream_state (S.left source.new) (S.faults source.new))
+        (stream_state (K.taken sink.new) (K.faults sink.new))) ready.work }
 {
     let Ready { mut engine, work } = ready;
     match work {

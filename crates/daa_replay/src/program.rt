@@ -1,7 +1,8 @@
 //! The top call: all that the program does.
 
 ghost use Rattle.std.specs.Prelude.{◌≡◌, ◌≤◌, ◌^◌, map, string_bytes};
-ghost use Rattle.daa_replay.specs.Outside.{outside, shelf_state, stream_state};
+ghost use Rattle.daa_replay.specs.Outside.{outside, shelf_state};
+ghost use Rattle.daa_ahead.specs.Bytes.{stream_state};
 ghost use Rattle.daa_replay.specs.Run.{Runs};
 ghost use Rattle.daa_replay.specs.Status.{code_of};
 

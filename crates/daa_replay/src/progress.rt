@@ -6,7 +6,7 @@ ghost use Rattle.daa_lines.specs.LinesOf.{Bytes};
 ghost use Rattle.daa_lines.specs.Cutting.{is_standing};
 ghost use Rattle.daa_report.specs.Says.{HasCause};
 ghost use Rattle.daa_replay.specs.Events.{is_refusal};
-ghost use Rattle.daa_replay.specs.Outside.{ToldBytes};
+ghost use Rattle.daa_ahead.specs.Bytes.{ToldBytes};
 ghost use Rattle.daa_replay.specs.Replaying.{TakesFront};
 ghost use Rattle.daa_replay.specs.Reporting.{Reports, ReportsAll};
 

@@ -5,8 +5,10 @@ ghost use Rattle.daa_config.specs.Settings.{Settings};
 ghost use Rattle.daa_lines.specs.LinesOf.{Bytes};
 ghost use Rattle.daa_lines.specs.Cutting.{is_standing};
 ghost use Rattle.daa_outside.specs.Faults.{HasRisen};
-ghost use Rattle.daa_replay.specs.Outside.{ToldBytes, stream_state};
-ghost use Rattle.daa_replay.specs.Replaying.{TakesFront, Replays};
+ghost use Rattle.daa_ahead.specs.Bytes.{ToldBytes, stream_state};
+ghost use Rattle.daa_replay.specs.Replaying.{TakesFront};
+ghost use Rattle.daa_replay.specs.Outside.{ShelfState, outside};
+ghost use Rattle.daa_replay.specs.Performing.{Replays};
 ghost use Rattle.daa_replay.specs.Reporting.{Reports, ReportsAll};
 ghost use Rattle.daa_replay.specs.Status.{Ends, code_of};
 
@@ -60,9 +62,11 @@ pub(crate) fn replay_within<R: Threads + Sync, S: Source + Send, K: Sink + Send,
     requires places { places ≤ 1024 }
     requires some { 1 ≤ most }
     requires bound { most ≤ 2 ^ 40 }
-    ensures { Replays engine.old.settings places most (code_of result)
-        (stream_state (S.left source.old) (S.faults source.old)) (stream_state (S.left source.new) (S.faults source.new))
-        (stream_state (K.taken sink.old) (K.faults sink.old)) (stream_state (K.taken sink.new) (K.faults sink.new)) }
+    ensures { (before after : ShelfState) → Replays engine.old.settings most (code_of result)
+        (outside before (stream_state (S.left source.old) (S.faults source.old))
+        (stream_state (K.taken sink.old) (K.faults sink.old)))
+        (outside after (stream_state (S.left source.new) (S.faults source.new))
+        (stream_state (K.taken sink.new) (K.faults sink.new))) places }
 {
     let mut progress = begin();
     match report_all(tools, engine, source, sink, &mut progress, places, most) {

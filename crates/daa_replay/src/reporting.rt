@@ -1,7 +1,7 @@
 //! The report as a taker: it takes the bytes of an input piece by piece, and writes what they give.
 
 ghost use Rattle.std.specs.Prelude.{◌≡◌, ◌≤◌, ◌^◌, length};
-ghost use Rattle.daa_ahead.specs.Bytes.{source_state};
+ghost use Rattle.daa_ahead.specs.Bytes.{stream_state};
 ghost use Rattle.daa_ahead.specs.Moves.{Moves, wants_more};
 ghost use Rattle.daa_ahead.specs.Takes.{CanTake, TakesBytes};
 ghost use Rattle.daa_replay.specs.Desk.{CanReport, IsBetween, Steps, desk};
@@ -44,7 +44,7 @@ fn read_for<R: Threads + Sync, S: Source + Send, T: Taker + Send, G>(
     requires places { places ≤ 1024 }
     requires some { 1 ≤ most }
     requires can { CanTake T.takes T.ready most taker.old }
-    ensures { Moves places result most (source_state (S.left source.old) (S.faults source.old)) (source_state (S.left source.new) (S.faults source.new))
+    ensures { Moves places result most (stream_state (S.left source.old) (S.faults source.old)) (stream_state (S.left source.new) (S.faults source.new))
         (TakesBytes T.takes (wants_more result) taker.old taker.new) }
 {
     if places == 0 {
@@ -69,7 +69,7 @@ pub(crate) fn report_all<R: Threads + Sync, S: Source + Send, K: Sink + Send, G:
     requires between { IsBetween
         (desk engine.old.settings progress.old (K.taken sink.old) (K.faults sink.old)) }
     requires begun { progress.old.lines.fed ≡ 0 }
-    ensures moves { Moves places result most (source_state (S.left source.old) (S.faults source.old)) (source_state (S.left source.new) (S.faults source.new))
+    ensures moves { Moves places result most (stream_state (S.left source.old) (S.faults source.old)) (stream_state (S.left source.new) (S.faults source.new))
         (λ bytes. Steps (desk engine.old.settings progress.old (K.taken sink.old) (K.faults sink.old)) bytes (wants_more result) (desk engine.new.settings progress.new (K.taken sink.new) (K.faults sink.new))) }
 {
     let mut taker = Calls {

@@ -1,6 +1,6 @@
 //! Says why a run could not be made ready.
 
-ghost use Rattle.daa_replay.specs.Outside.{stream_state};
+ghost use Rattle.daa_ahead.specs.Bytes.{stream_state};
 ghost use Rattle.daa_replay.specs.Telling.{Tells};
 
 use crate::opening::Unready;

@@ -1,4 +1,4 @@
-use Rattle.daa_ahead.specs.Bytes.{SourceState, source_state}
+use Rattle.daa_ahead.specs.Bytes.{StreamState, stream_state}
 use Rattle.daa_judge.specs.declared.found.Found.{Found}
 use Rattle.daa_replay.specs.Comparing.{ComparesSome}
 use Rattle.daa_replay.specs.Report.{IsEventText}
@@ -7,8 +7,8 @@ use Rattle.daa_replay.proofs.judging.judge_line.Goals as goal
 
 pub returns-in-Some-clause-ok : goal.returns-in-Some-clause-ok
 returns-in-Some-clause-ok g c =
-    let old : SourceState = source_state (g.S.Source.left c.args.source.now) (g.S.Source.faults c.args.source.now) in
-    let new : SourceState = source_state (g.S.Source.left c.judge_event.new.source) (g.S.Source.faults c.judge_event.new.source) in
+    let old : StreamState = stream_state (g.S.Source.left c.args.source.now) (g.S.Source.faults c.args.source.now) in
+    let new : StreamState = stream_state (g.S.Source.left c.judge_event.new.source) (g.S.Source.faults c.judge_event.new.source) in
     on_ok c.judge_event.result
     (λ (f : Found). ComparesSome (IsEventText c.args.engine.now.settings c.in-Some.event) f c.args.matching.now c.judge_event.new.matching old new) _
     c.judge_event.ensures.compares
@@ -17,8 +17,8 @@ returns-in-Some-clause-ok g c =
 
 pub returns-in-Some-clause-err : goal.returns-in-Some-clause-err
 returns-in-Some-clause-err g c =
-    let old : SourceState = source_state (g.S.Source.left c.args.source.now) (g.S.Source.faults c.args.source.now) in
-    let new : SourceState = source_state (g.S.Source.left c.judge_event.new.source) (g.S.Source.faults c.judge_event.new.source) in
+    let old : StreamState = stream_state (g.S.Source.left c.args.source.now) (g.S.Source.faults c.args.source.now) in
+    let new : StreamState = stream_state (g.S.Source.left c.judge_event.new.source) (g.S.Source.faults c.judge_event.new.source) in
     if_err c.judge_event.result
     (λ (f : Found). ComparesSome (IsEventText c.args.engine.now.settings c.in-Some.event) f c.args.matching.now c.judge_event.new.matching old new) _
     c.judge_event.ensures.compares c.judge_event.ensures.stops

@@ -1,5 +1,5 @@
 use Rattle.std.proofs.Common.{◌≡◌, ◌∙◌, ◌≤◌, ◌+◌, ◌-◌, ◌++◌, arith, take, drop, length, length-drop, length-take}
-use Rattle.daa_ahead.specs.Bytes.{SourceState, source_state}
+use Rattle.daa_ahead.specs.Bytes.{StreamState, stream_state}
 use Rattle.daa_replay.proofs.JudgingLemmas.{judged-part, stopped-part}
 use Rattle.daa_replay.proofs.judging.judge_piece.Goals as goal
 
@@ -9,7 +9,7 @@ loop-done-preserved g c =
     let done = c.loop-done.done in
     let n = c.feed-done.result in
     let i = c.loop-done.invariant in
-    let now : SourceState = source_state (g.S.Source.left c.loop-done.source) (g.S.Source.faults c.loop-done.source) in
+    let now : StreamState = stream_state (g.S.Source.left c.loop-done.source) (g.S.Source.faults c.loop-done.source) in
     let within : n ≤ length piece - done = omega (arith, c.feed-done.ensures.within, length-take (length piece - done) (drop done piece), length-drop done piece) in
     record {
       within = omega (arith, i.within);
@@ -30,8 +30,8 @@ returns-in-Err-clause-err g c =
     let done = c.loop-done.done in
     let n = c.feed-done.result in
     let i = c.loop-done.invariant in
-    let now : SourceState = source_state (g.S.Source.left c.loop-done.source) (g.S.Source.faults c.loop-done.source) in
-    let new : SourceState = source_state (g.S.Source.left c.judge_line.new.source) (g.S.Source.faults c.judge_line.new.source) in
+    let now : StreamState = stream_state (g.S.Source.left c.loop-done.source) (g.S.Source.faults c.loop-done.source) in
+    let new : StreamState = stream_state (g.S.Source.left c.judge_line.new.source) (g.S.Source.faults c.judge_line.new.source) in
     let within : n ≤ length piece - done = omega (arith, c.feed-done.ensures.within, length-take (length piece - done) (drop done piece), length-drop done piece) in
     λ settings most first bytes e j. stopped-part most first bytes piece c.feed-done.new.self.ended (done + n) c.in-Err.found new c.feed-done.ensures.going
     (c.in-Err.ensures.err settings most first (bytes ++ take (done + n) piece) (i.same ∙ e)

@@ -1,5 +1,5 @@
 use Rattle.std.proofs.Common.{◌≡◌, ◌≤◌, ◌+◌, ◌-◌, ◌++◌, ℕ, length, take, false}
-use Rattle.daa_ahead.specs.Bytes.{SourceState, source_state}
+use Rattle.daa_ahead.specs.Bytes.{StreamState, stream_state}
 use Rattle.daa_config.specs.Settings.{Settings}
 use Rattle.daa_judge.specs.Matched.{HasRoom}
 use Rattle.daa_lines.specs.LinesOf.{Bytes}
@@ -16,9 +16,9 @@ invariant-loop-done g l = record {
   same : l.engine.settings ≡ l.fn.engine.settings;
   room : HasRoom l.matching;
   never_falls : g.S.Source.faults l.fn.source ≤ g.S.Source.faults l.source;
-  kept : (settings : Settings) (most : ℕ) (first : SourceState) (bytes : Bytes) → l.fn.engine.settings ≡ settings
-      → IsJudged settings most first bytes l.fn.progress l.fn.matching (source_state (g.S.Source.left l.fn.source) (g.S.Source.faults l.fn.source))
-      → IsJudged settings most first (bytes ++ take l.done l.piece) l.progress l.matching (source_state (g.S.Source.left l.source) (g.S.Source.faults l.source));
+  kept : (settings : Settings) (most : ℕ) (first : StreamState) (bytes : Bytes) → l.fn.engine.settings ≡ settings
+      → IsJudged settings most first bytes l.fn.progress l.fn.matching (stream_state (g.S.Source.left l.fn.source) (g.S.Source.faults l.fn.source))
+      → IsJudged settings most first (bytes ++ take l.done l.piece) l.progress l.matching (stream_state (g.S.Source.left l.source) (g.S.Source.faults l.source));
 }
 
 abbrev pub decreases-loop-done : goal.decreases-loop-done

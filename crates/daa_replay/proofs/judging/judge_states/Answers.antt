@@ -1,13 +1,13 @@
 use Rattle.std.proofs.Common.{Some, [], refl}
 use Rattle.std.proofs.lemmas.Result.{IfOk-weaker, IfErr-weaker}
-use Rattle.daa_ahead.specs.Bytes.{SourceState, source_state}
+use Rattle.daa_ahead.specs.Bytes.{StreamState, stream_state}
 use Rattle.daa_replay.proofs.JudgingLemmas.{begun, stopped-early}
 use Rattle.daa_replay.proofs.judging.judge_states.Goals as goal
 
 pub returns-in-Err-clause-err : goal.returns-in-Err-clause-err
 returns-in-Err-clause-err g c =
     let settings = c.args.engine.now.settings in
-    let new : SourceState = source_state (g.S.Source.left c.judge_piece.new.source) (g.S.Source.faults c.judge_piece.new.source) in
+    let new : StreamState = stream_state (g.S.Source.left c.judge_piece.new.source) (g.S.Source.faults c.judge_piece.new.source) in
     λ most first h. stopped-early most first c.args.states.now c.in-Err.found new
     (c.in-Err.ensures.err settings most first [] refl (begun most first [] c.begin-progress.result c.args.matching.now _ (c.begin-progress.ensures.reports settings (Some [])) h))
 

@@ -1,7 +1,8 @@
 use Rattle.std.proofs.Common.{◌≡◌, Err, Result, ap, map, refl, string_bytes}
 use Rattle.daa_replay.specs.declared.opening.Ready.{Ready}
 use Rattle.daa_replay.specs.declared.opening.Unready.{Unready}
-use Rattle.daa_replay.specs.Outside.{Outside, outside, shelf_state, stream_state}
+use Rattle.daa_replay.specs.Outside.{Outside, outside, shelf_state}
+use Rattle.daa_ahead.specs.Bytes.{stream_state}
 use Rattle.daa_replay.specs.Status.{code_of}
 use Rattle.daa_replay.proofs.PerformLemmas.{performs_runs, tells_runs}
 use Rattle.daa_replay.proofs.program.conduct.Goals as goal
@@ -17,7 +18,7 @@ returns-in-Ok g c =
     let made = c.in-Ok.ensures in
     let ready = c.in-Ok.ready in
     performs_runs c.args.most (code_of c.perform.result) (map string_bytes c.args.words.now) old new ready.engine.settings
-    made.kept (made.no_fault (λ e. cc e)) made.opened.0 ready.work made.opened.1 made.opened.2 c.perform.ensures
+    made.kept (made.no_fault (λ e. cc e)) made.opened.0 ready.work made.opened.1 made.opened.2 (c.perform.ensures old.shelf new.shelf)
 
 pub returns-in-Err : goal.returns-in-Err
 returns-in-Err g c =

@@ -2,7 +2,7 @@ use Rattle.std.proofs.Common.{◌≡◌, ◌∙◌, subst, true}
 use Rattle.daa_config.specs.Settings.{Settings}
 use Rattle.daa_lines.specs.LinesOf.{Bytes}
 use Rattle.daa_replay.specs.Report.{IsEventText}
-use Rattle.daa_replay.specs.Outside.{ToldBytes}
+use Rattle.daa_ahead.specs.Bytes.{ToldBytes}
 use Rattle.daa_replay.specs.Replaying.{TakesFront}
 use Rattle.daa_replay.specs.Reporting.{Reports}
 use Rattle.daa_replay.proofs.ReportLemmas.{reports-lines, whole-none, whole-event, stops-end, on_err}

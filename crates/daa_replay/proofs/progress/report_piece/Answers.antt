@@ -1,7 +1,7 @@
 use Rattle.std.proofs.Common.{◌≡◌, ◌∙◌, ◌≤◌, ◌+◌, ◌-◌, ◌++◌, false, arith, take, drop, length, length-drop, length-take}
 use Rattle.daa_config.specs.Settings.{Settings}
 use Rattle.daa_lines.specs.LinesOf.{Bytes}
-use Rattle.daa_replay.specs.Outside.{ToldBytes}
+use Rattle.daa_ahead.specs.Bytes.{ToldBytes}
 use Rattle.daa_replay.specs.Replaying.{TakesFront}
 use Rattle.daa_replay.specs.Reporting.{Reports}
 use Rattle.daa_replay.proofs.ReportLemmas.{reports-part, stops-part, on_err}

@@ -2,7 +2,7 @@ use Rattle.std.proofs.Common.{◌≡◌, ◌≤◌, ◌+◌, ◌-◌, ◌++◌, 
 use Rattle.daa_config.specs.Settings.{Settings}
 use Rattle.daa_lines.specs.LinesOf.{Bytes}
 use Rattle.daa_lines.specs.Cutting.{is_standing}
-use Rattle.daa_replay.specs.Outside.{ToldBytes}
+use Rattle.daa_ahead.specs.Bytes.{ToldBytes}
 use Rattle.daa_replay.specs.Reporting.{Reports}
 use Rattle.daa_replay.proofs.progress.report_piece.Given as goal
 

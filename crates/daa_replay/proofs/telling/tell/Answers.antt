@@ -1,6 +1,6 @@
 use Rattle.std.proofs.Common.{sym, subst}
 use Rattle.daa_replay.specs.declared.opening.Unready.{Unready}
-use Rattle.daa_replay.specs.Outside.{StreamState, stream_state}
+use Rattle.daa_ahead.specs.Bytes.{StreamState, stream_state}
 use Rattle.daa_replay.specs.Telling.{Tells}
 use Rattle.daa_replay.proofs.OpeningLemmas.{writes}
 use Rattle.daa_replay.proofs.telling.tell.Goals as goal
