@@ -7,10 +7,10 @@ ghost use Rattle.daa_ahead.specs.Next.{NextIs, ReadsLast};
 use crate::ended::Ended;
 use daa_outside::{Failed, Source};
 
-/// What a read gives: so many bytes, or the end of reading.
+/// What a read gives: a number of bytes, or the end of reading.
 #[derive(Clone, Copy, Debug, PartialEq, Eq)]
 pub enum Next {
-    /// So many bytes.
+    /// This number of bytes, at least 1.
     Piece(usize),
     /// No more.
     Over(Ended),

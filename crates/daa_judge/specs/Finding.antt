@@ -7,7 +7,8 @@ use Rattle.daa_judge.specs.Judged.{Same, Differs, Begins, BeginsButLast}
 use Rattle.daa_judge.specs.declared.found.Found.{Found}
 use Rattle.daa_judge.specs.declared.found.Found.TheVariants as found
 
--- P holds of all that the source had, as far as the bytes tell that it handed out, and whether these were all
+-- P holds of all that the source had, as far as the bytes that it handed out tell; where they were
+-- all, of them
 abbrev pub Shows : (P : Bytes → Type 0) → (ended : Bool) → Bytes → Type 0
 Shows P ended bytes = (more : Bytes) → (ended ≡ true → more ≡ []) → P (bytes ++ more)
 
@@ -21,8 +22,8 @@ module _ (report : Bytes) (most : ℕ) where
     pub same : Same report bytes
     pub calm : new.faults ≡ old.faults
 
-  -- what was read, and whether it was all, shows that it differs from the report, and in which line first; nothing was read after the
-  -- read that showed it
+  -- what was read, and whether it was all, shows that it differs from the report, and in which line
+  -- first; nothing was read after the read that showed it
   pub record ShowsDifference (number : ℕ) (old new : StreamState) : Type 0 where
     pub bytes : Bytes
     pub handed : Consumes old.bytes new.bytes bytes
@@ -41,7 +42,8 @@ module _ (report : Bytes) (most : ℕ) where
     pub begins : Begins bytes report
     pub risen : HasRisen old.faults new.faults
 
-  -- as many bytes as may be read were read, the report begins with them, and a further read gave one more
+  -- as many bytes as may be read were read, the report begins with them, and a further read gave
+  -- one more
   pub record PassesWithin (old new : StreamState) : Type 0 where
     pub bytes : Bytes
     pub next : ℕ

@@ -10,11 +10,8 @@ ghost use Rattle.daa_judge.specs.Stepping.{Steps, found_at};
 
 use crate::found::Found;
 use crate::pieces::{common, line_feeds};
-use daa_ahead::{Ended, Next, read_next};
+use daa_ahead::{BUFFER, Ended, Next, read_next};
 use daa_outside::Source;
-
-/// How many bytes are read at once.
-const BUFFER: usize = 4096;
 
 /// How many bytes may still be read, and the number of the line, from 1 on, that the next byte is
 /// in.
@@ -24,7 +21,7 @@ pub struct Matching {
     pub(crate) line: u64,
 }
 
-/// What one read gives: so many bytes matched, or comparing is over.
+/// What one read gives: a number of bytes matched, or comparing is over.
 #[derive(Clone, Copy, Debug, PartialEq, Eq)]
 enum Step {
     Took(usize),
@@ -70,7 +67,8 @@ impl Matching {
         requires one_read { length piece.now ≤ longest_read }
         requires bound { length piece.now ≤ self.old.left }
         requires room { HasRoom self.old }
-        ensures steps { (source_old source_new : StreamState) (buf : Bytes) → ReadsMore (length piece.now) self.old.left piece.now source_old source_new
+        ensures steps { (source_old source_new : StreamState) (buf : Bytes)
+            → ReadsMore (length piece.now) self.old.left piece.now source_old source_new
             → Steps result text.now self.old self.new source_old source_new }
         ensures room { HasRoom self.new }
     {
@@ -108,7 +106,9 @@ impl Matching {
     /// that begins with what was compared before and goes on with this text.
     pub fn compare<S: Source>(&mut self, source: &mut S, text: &[u8]) -> Found
         requires room { HasRoom self.old }
-        ensures compares { (most : ℕ) (first : StreamState) (before : Bytes) → IsMatched most first before self.old (stream_state (S.left source.old) (S.faults source.old))
+        ensures compares { (most : ℕ) (first : StreamState) (before : Bytes)
+            → IsMatched most first before self.old
+            (stream_state (S.left source.old) (S.faults source.old))
             → Compares result most first before text.now self.new
             (stream_state (S.left source.new) (S.faults source.new)) }
         ensures room { HasRoom self.new }
@@ -127,7 +127,9 @@ impl Matching {
 
     /// The report is over: whether the source hands out anything further.
     pub fn end<S: Source>(&self, source: &mut S) -> Found
-        ensures finds { (most : ℕ) (first : StreamState) (report : Bytes) → IsMatched most first report self.now (stream_state (S.left source.old) (S.faults source.old))
+        ensures finds { (most : ℕ) (first : StreamState) (report : Bytes)
+            → IsMatched most first report self.now
+            (stream_state (S.left source.old) (S.faults source.old))
             → Finds report most result first
             (stream_state (S.left source.new) (S.faults source.new)) }
         ensures never_falls { S.faults source.old ≤ S.faults source.new }

@@ -13,10 +13,10 @@ use Rattle.daa_report.specs.Lines.{Text}
 use Rattle.daa_words.specs.Order.{Asked, order_of}
 use Rattle.daa_words.specs.Task.{Task, Replay, Exercise, Judge}
 use Rattle.daa_replay.specs.Outside.{Outside, OnlyBegins}
-use Rattle.daa_replay.specs.Judging.{TellsSame, TellsDifference, TellsNothing}
+use Rattle.daa_replay.specs.Judge.{WritesSame, WritesDifference, WritesNothing}
 use Rattle.daa_replay.specs.Opening.{IsHeld, IsHeldLong, Opens, OpensLong, IsRefused, HoldsNone, HoldsNoStates}
-use Rattle.daa_replay.specs.Report.{IsReportOf}
-use Rattle.daa_replay.specs.Replaying.{ReadsAll, PassesLimit}
+use Rattle.daa_replay.specs.Moment.{IsReportOf}
+use Rattle.daa_replay.specs.Replay.{ReadsAll, PassesLimit}
 use Rattle.daa_replay.specs.Run.{Under, IsLine, Runs, Breaks}
 use Rattle.daa_replay.specs.Tasks.{OfStates, Accepts, Refuses, FailsToRead, FailsToWrite, Exceeds}
 use Rattle.daa_replay.specs.Complete.{RunsAreComplete, EndsAsGiven, Decides, IsQuiet, IsQuietReplay, HoldsAccepted, HoldsStates, HoldsLong, BeginsReport}
@@ -252,22 +252,22 @@ module _ (most status : ℕ) (words : List Text) (old new : Outside) (r : Runs m
         let held = held_same words old.shelf.texts o.held o.opens.name o.opens.name t.states states o.told refl t.held o.opens.held in
         subst (λ (x : Text). P settings x) held (subst (λ (x : Settings). P x t.states) same t.so)
 
-    same_here : status ≡ 0 → TellsSame settings states most old new
+    same_here : status ≡ 0 → WritesSame settings most old new states
     same_here e =
         let u = r.accepted e in
-        here (λ s t. TellsSame s t most old new) (Accepts most old new) u
+        here (λ s t. WritesSame s most old new t) (Accepts most old new) u
         (of_task (Judge o.opens.name) settings o.opens.opens (Accepts most old new) u)
 
-    other_here : status ≡ 1 → TellsDifference settings states most old new
+    other_here : status ≡ 1 → WritesDifference settings most old new states
     other_here e =
         let u = r.refused e in
-        here (λ s t. TellsDifference s t most old new) (Refuses most old new) u
+        here (λ s t. WritesDifference s most old new t) (Refuses most old new) u
         (of_task (Judge o.opens.name) settings o.opens.opens (Refuses most old new) u)
 
-    limit_here : status ≡ 8 → TellsNothing settings states most old new Limit
+    limit_here : status ≡ 8 → WritesNothing settings most old new Limit states
     limit_here e =
         let u = r.limit e in
-        here (λ s t. TellsNothing s t most old new Limit) (Exceeds most old new) u
+        here (λ s t. WritesNothing s most old new Limit t) (Exceeds most old new) u
         (of_task (Judge o.opens.name) settings o.opens.opens (Exceeds most old new) u)
 
     by_finding : (G : Type 0) → IsQuiet old new → (status ≡ 0 → G) → (status ≡ 1 → G) → (status ≡ 6 → G) → (status ≡ 8 → G) → G

@@ -12,11 +12,10 @@ use Rattle.daa_config.specs.Settings.{Settings}
 use Rattle.daa_engine.specs.declared.engine.Engine.{Engine}
 use Rattle.daa_lines.specs.LinesOf.{Bytes}
 use Rattle.daa_outside.specs.Faults.{HasRisen}
-use Rattle.daa_replay.specs.declared.progress.Progress.{Progress}
-use Rattle.daa_replay.specs.declared.tools.Tools.{Tools}
-use Rattle.daa_replay.specs.Desk.{Desk, desk, IsBetween, CanReport, Writes, Breaks, Steps}
-use Rattle.daa_replay.specs.Replaying.{TakesFront}
-use Rattle.daa_replay.specs.Reporting.{Reports}
+use Rattle.daa_replay.specs.declared.replay.Progress.{Progress}
+use Rattle.daa_replay.specs.declared.moment.Tools.{Tools}
+use Rattle.daa_replay.specs.Inside.Replay.{Desk, desk, IsBetween, CanReport, Writes, Breaks, Steps, Reports}
+use Rattle.daa_replay.specs.Replay.{TakesFront}
 
 -- ---- pieces put together
 

@@ -4,10 +4,10 @@ use Rattle.daa_config.specs.Settings.{Settings, IsAccepted}
 use Rattle.daa_lines.specs.LinesOf.{Bytes}
 use Rattle.daa_report.specs.Lines.{Text}
 use Rattle.daa_engine.proofs.OnlyLemmas.{text_only}
-use Rattle.daa_replay.specs.declared.event.Event.{Event}
-use Rattle.daa_replay.specs.declared.event.Event.TheVariants as event
-use Rattle.daa_replay.specs.Events.{events_of}
-use Rattle.daa_replay.specs.Report.{IsEventText, AreTexts, BeginsText, IsReportFront, IsReportOf}
+use Rattle.daa_replay.specs.declared.lines.Event.{Event}
+use Rattle.daa_replay.specs.declared.lines.Event.TheVariants as event
+use Rattle.daa_replay.specs.Lines.{events_of}
+use Rattle.daa_replay.specs.Moment.{IsEventText, AreTexts, BeginsText, IsReportFront, IsReportOf}
 
 module _ (settings : Settings) (accepted : IsAccepted settings) where
   event_once : (e : Event) (t u : Text) → IsEventText settings e t → IsEventText settings e u → t ≡ u

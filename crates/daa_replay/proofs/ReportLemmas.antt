@@ -13,14 +13,14 @@ use Rattle.daa_lines.specs.Stands.{Stands}
 use Rattle.daa_state.specs.MomentStep.{State}
 use Rattle.daa_report.specs.Lines.{Text}
 use Rattle.daa_report.specs.Says.{AppendsFront}
-use Rattle.daa_replay.specs.declared.event.Event.{Event}
-use Rattle.daa_replay.specs.declared.progress.Progress.{Progress}
-use Rattle.daa_replay.specs.Events.{events_of, is_refusal}
-use Rattle.daa_replay.specs.Follows.{Follows}
-use Rattle.daa_replay.specs.Report.{IsEventText, AreTexts}
+use Rattle.daa_replay.specs.declared.lines.Event.{Event}
+use Rattle.daa_replay.specs.declared.replay.Progress.{Progress}
+use Rattle.daa_replay.specs.Lines.{events_of, is_refusal}
+use Rattle.daa_replay.specs.Inside.Lines.{Follows}
+use Rattle.daa_replay.specs.Moment.{IsEventText, AreTexts}
 use Rattle.daa_ahead.specs.Bytes.{ToldBytes}
-use Rattle.daa_replay.specs.Replaying.{TakesFront}
-use Rattle.daa_replay.specs.Reporting.{Reports, ReportsAll}
+use Rattle.daa_replay.specs.Replay.{TakesFront}
+use Rattle.daa_replay.specs.Inside.Replay.{Reports, ReportsAll}
 use Rattle.daa_replay.proofs.EventLemmas.{events_begin}
 use Rattle.daa_replay.proofs.FollowsLemmas.{given_begins, follows-fed, follows-as}
 use Rattle.daa_replay.proofs.TextLemmas.{texts-push, begins-more}

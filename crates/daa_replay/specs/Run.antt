@@ -10,8 +10,10 @@ use Rattle.daa_replay.specs.Outside.{Outside, OnlyWrites, OnlyBegins}
 use Rattle.daa_replay.specs.Opening.{usage_line, long_line, Opens, OpensLong, IsRefused}
 use Rattle.daa_replay.specs.Tasks.{Accepts, Refuses, FailsToRead, FailsToWrite, Exceeds}
 
--- the words are taken, and P holds of their task under the configuration that they and the shelf give
-pub record Under (words : List Text) (texts : Option Texts) (P : Task → Settings → Type 0) : Type 0 where
+-- the words are taken, and P holds of their task under the configuration that they and the shelf
+-- give
+pub record Under (words : List Text) (texts : Option Texts)
+    (P : Task → Settings → Type 0) : Type 0 where
   pub task : Task
   pub settings : Settings
   pub opens : Opens words texts task settings
@@ -54,15 +56,16 @@ pub record FetchFails (words : List Text) (old new : Outside) : Type 0 where
 -- what a run that reads at most so many bytes leaves, by its status
 pub record Runs (most : ℕ) (words : List Text) (status : ℕ) (old new : Outside) : Type 0 where
   pub named : status ≤ 9
-  -- 0 and 1: the input was read to its end, and no line of it was refused, or some; an exercise ended, at 0; or a report is that of
-  -- the states, or is not
+  -- 0 and 1: the input was read to its end, and no line of it was refused, or some; an exercise
+  -- ended, at 0; or a report is that of the states, or is not
   pub accepted : status ≡ 0 → Under words old.shelf.texts (Accepts most old new)
   pub refused : status ≡ 1 → Under words old.shelf.texts (Refuses most old new)
   pub not_taken : status ≡ 2 → OnlyWrites (IsUsage words) old new
   pub bad_configuration : status ≡ 3 → OnlyWrites (IsCode words old.shelf.texts) old new
   pub read_fault : status ≡ 4 → Under words old.shelf.texts (FailsToRead most old new)
   pub write_fault : status ≡ 5 → Breaks most words old new
-  -- there was no memory for the words, the shelf's texts, the configuration, the engine or the sheet
+  -- there was no memory for the words, the shelf's texts, the configuration, the engine or the
+  -- sheet
   pub no_memory : status ≡ 6 → IsUntouched old new
   pub fetch_fault : status ≡ 7 → FetchFails words old new
   pub limit : status ≡ 8 → Under words old.shelf.texts (Exceeds most old new)

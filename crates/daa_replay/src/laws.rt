@@ -5,14 +5,14 @@ ghost use Rattle.daa_config.specs.One.{HasOne};
 ghost use Rattle.daa_config.specs.Settings.{IsAccepted, Settings};
 ghost use Rattle.daa_lines.specs.LinesOf.{Bytes};
 ghost use Rattle.daa_report.specs.Lines.{Text};
-ghost use Rattle.daa_replay.specs.declared.event.Event.{Event};
-ghost use Rattle.daa_replay.specs.Events.{events_of, IsEventInRange};
-ghost use Rattle.daa_replay.specs.FourWordEvents.{HasNoAges, ReadsAsFourWords};
-ghost use Rattle.daa_replay.specs.Report.{IsReportFront, IsReportOf};
+ghost use Rattle.daa_replay.specs.declared.lines.Event.{Event};
+ghost use Rattle.daa_replay.specs.Lines.{events_of, IsEventInRange};
+ghost use Rattle.daa_replay.specs.FourWordLines.{HasNoAges, ReadsAsFourWords};
+ghost use Rattle.daa_replay.specs.Moment.{IsReportFront, IsReportOf};
 ghost use Rattle.daa_replay.specs.Complete.{RunsAreComplete};
 ghost use Rattle.daa_replay.specs.Opening.{ConfigurationsAreUnique};
 
-use crate::event::Event;
+use crate::lines::Event;
 use daa_state::LineFault;
 
 /// Under an accepted configuration exactly one text is the report of an input: every run of bytes
@@ -29,7 +29,8 @@ pub fn ended_moments_are_in_range()
 
 /// A beginning of a report, as it is said event by event, is a beginning of the whole text.
 pub fn fronts_begin_reports()
-    ensures { (settings : Settings) (bytes : Bytes) (ended : Bool) (front text : Text) → IsAccepted settings
+    ensures { (settings : Settings) (bytes : Bytes) (ended : Bool) (front text : Text)
+        → IsAccepted settings
         → IsReportFront settings bytes ended front → IsReportOf settings bytes ended text
         → (rest : Text) × (text ≡ front ++ rest) }
 {}
