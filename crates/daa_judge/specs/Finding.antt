@@ -52,6 +52,7 @@ module _ (report : Bytes) (most : ℕ) where
     pub begins : Begins bytes report
     pub calm : new.faults ≡ old.faults
 
+  -- what reading shows of the report, by what was found
   abbrev pub Finds : Found → (old new : StreamState) → Type 0
   Finds found.Alike old new = IsSame old new
   Finds (found.Differs number) old new = ShowsDifference number old new

@@ -27,6 +27,7 @@ pub record Took (count : ℕ) (text : Bytes) (old new : Matching)
       → IsMatched most first before old source_old
       → IsMatched most first (before ++ take count text) new source_new
 
+-- what one read makes of a comparison
 abbrev pub Steps : Step → Bytes → (old new : Matching) → (source_old source_new : StreamState)
     → Type 0
 Steps (step.Took count) text old new source_old source_new =

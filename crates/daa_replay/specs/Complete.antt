@@ -65,7 +65,7 @@ pub record IsComparison (words : List Text) (old : Outside) (settings : Settings
   pub held : HoldsStates words old.shelf.texts settings states
   pub told : old.source.bytes ≡ Some all
 
--- what the status of a comparison of these bytes says, of which at most so many are read
+-- what the status of a comparison says of these bytes, of which at most `most` are read
 pub record Decides (most status : ℕ) (old new : Outside) (settings : Settings)
     (states all : Bytes) : Type 0 where
   -- whatever failed: at 0 they are the report of the states, and at 1 they are not
@@ -79,8 +79,8 @@ pub record Decides (most status : ℕ) (old new : Outside) (settings : Settings)
   pub begins : status ≡ 8 → BeginsReport settings states (take most all)
   pub parts : status ≡ 1 → most < length all → BeginsReport settings states (take most all) → ⊥
 
--- how a run ends, as far as the words, the shelf and the number of bytes say it; want of memory is
--- free
+-- how a run ends, as far as the words, the shelf and the number of bytes say it; memory may run out
+-- in each case
 pub record EndsAsGiven (most : ℕ) (words : List Text) (status : ℕ)
     (old new : Outside) : Type 0 where
   -- a replay with an accepted configuration, where no count rose: by the number of bytes
@@ -107,6 +107,7 @@ pub record EndsAsGiven (most : ℕ) (words : List Text) (status : ℕ)
   pub no_write_fault : ¬ HasRisen old.sink.faults new.sink.faults → status ≢ 5
   pub no_fetch_fault : ¬ HasRisen old.shelf.faults new.shelf.faults → status ≢ 7
 
+-- every run ends so
 abbrev pub RunsAreComplete : Type 0
 RunsAreComplete = (most status : ℕ) (words : List Text) (old new : Outside)
     → Runs most words status old new → EndsAsGiven most words status old new

@@ -9,9 +9,11 @@ use Rattle.daa_state.specs.MomentStep.{State, Stepped, start, finished}
 use Rattle.daa_replay.specs.declared.lines.Event.{Event}
 use Rattle.daa_replay.specs.Lines.{word_step, next_state, line_event, end_event, events_of, OfPicture}
 
+-- a line is read as one of the four words alone, and its word steps the state
 abbrev pub four_line_step : State → Bytes → Checked Stepped
 four_line_step state line = word_step state (four_word_of line)
 
+-- the events of lines that are read so, the first of which has the number
 abbrev pub four_events_from : State → ℕ → Bool → List Bytes → List Event
 four_events_from state number false [] = []
 four_events_from state number true [] = end_event number (finished state)
@@ -19,6 +21,7 @@ four_events_from state number ended (line ∷ lines) =
     line_event number (four_line_step state line)
     ++ four_events_from (next_state state (four_line_step state line)) (number + 1) ended lines
 
+-- the events of bytes whose lines are read so
 unfoldable pub four_events_of : Bytes → Bool → List Event
 four_events_of bytes ended = four_events_from start 1 ended (lines_of bytes ended)
 

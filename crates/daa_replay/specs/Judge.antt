@@ -19,7 +19,7 @@ pub record Judged (settings : Settings) (states : Bytes) (most : ℕ) (result : 
   pub report : HasOne (IsReportOf settings states true)
   pub finds : Finds report.one most result old new
 
--- a comparison with the report of states that reads at most so many bytes
+-- a comparison with the report of states that reads at most `most` bytes
 module _ (settings : Settings) (most : ℕ) (old new : Outside) where
   -- comparing found this
   abbrev pub IsFound : Bytes → Found → Type 0

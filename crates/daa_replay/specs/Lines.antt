@@ -25,6 +25,7 @@ abbrev pub next_state : State → Checked Stepped → State
 next_state state (Ok next) = next.state
 next_state state (Err fault) = state
 
+-- the event of an ended moment, if one ended
 abbrev pub picture_event : Option Picture → List Event
 picture_event None = []
 picture_event (Some picture) = event.Ended picture ∷ []

@@ -20,7 +20,7 @@ module _ (settings : Settings) where
   AreTexts [] text = text ≡ []
   AreTexts (event ∷ events) text =
       (first : Text) × (rest : Text) × IsEventText event first × AreTexts events rest
-          × (text ≡ first ++ rest)
+      × (text ≡ first ++ rest)
 
   -- the report of the bytes, which are the whole input where it has ended, and else its beginning
   abbrev pub IsReportOf : Bytes → Bool → Text → Type 0

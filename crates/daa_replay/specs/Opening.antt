@@ -83,7 +83,7 @@ pub record HoldsNoStates (words : List Text) (texts : Option Texts) : Type 0 whe
   pub told : texts ≡ Some held
   pub missing : held name ≡ None
 
--- a shelf that tells its texts gives words one task and one configuration at most
+-- where the shelf tells its texts, a command line selects at most one task and one configuration
 abbrev pub ConfigurationsAreUnique : Type 0
 ConfigurationsAreUnique = (words : List Text) (held : Texts) (task other_task : Task)
     (settings other : Settings)

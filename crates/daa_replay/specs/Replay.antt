@@ -11,7 +11,7 @@ use Rattle.daa_ahead.specs.Bytes.{ToldBytes, StreamState, IsSpent}
 use Rattle.daa_replay.specs.Outside.{Outside, IsCalm}
 use Rattle.daa_replay.specs.Moment.{IsReportOf, IsReportFront}
 
--- the source handed out these bytes, at most so many
+-- the source handed out these bytes, at most `most`
 pub record HandsOut (most : ℕ) (old new : StreamState) (bytes : Bytes) : Type 0 where
   pub handed : Consumes old.bytes new.bytes bytes
   pub bound : length bytes ≤ most
@@ -29,7 +29,7 @@ module _ (settings : Settings) where
     pub front : IsReportFront settings bytes ended text
     pub taken : Appends old new text
 
--- a replay that reads at most so many bytes
+-- a replay that reads at most `most` bytes
 module _ (settings : Settings) (most : ℕ) (old new : Outside) where
   -- the input was read to its end, and its report was written; a line of it was refused, or none
   pub record ReadsAll (refused : Bool) : Type 0 where

@@ -53,7 +53,7 @@ pub record FetchFails (words : List Text) (old new : Outside) : Type 0 where
   pub risen : HasRisen old.shelf.faults new.shelf.faults
   pub untouched : IsUntouched old new
 
--- what a run that reads at most so many bytes leaves, by its status
+-- what a run that reads at most `most` bytes leaves, by its status
 pub record Runs (most : ℕ) (words : List Text) (status : ℕ) (old new : Outside) : Type 0 where
   pub named : status ≤ 9
   -- 0 and 1: the input was read to its end, and no line of it was refused, or some; an exercise

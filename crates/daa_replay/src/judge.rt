@@ -15,12 +15,12 @@ ghost use Rattle.daa_replay.specs.Inside.Run.{Judges};
 ghost use Rattle.daa_replay.specs.Inside.Status.{code_of};
 
 use crate::lines::{Event, take_end, take_event};
-use crate::moment::{write_event, Tools};
+use crate::moment::{Tools, write_event};
 use crate::replay::{Progress, any_refusal, begin};
 use crate::status::{Status, status_of};
 use daa_engine::Engine;
 use daa_judge::{Found, Matching, Sheet};
-use daa_outside::{Gate, Source, Sink};
+use daa_outside::{Gate, Sink, Source};
 use daa_report::{differs, same};
 use std::thread::Threads;
 
@@ -37,7 +37,7 @@ fn sheet_event<R: Threads + Sync, G: Gate>(
 {
     sheet.clear();
     let _said = write_event(tools, engine, sheet, event);
-    // tells that a write to it failed only where it is full
+    // its clause says that a write to it failed only where it is full
     let _text = sheet.text();
 }
 
@@ -77,7 +77,7 @@ fn judge_event<R: Threads + Sync, S: Source, G: Gate>(
     stop_of(matching.compare(source, sheet.text()))
 }
 
-/// Takes the line that stands, if one does, and compares what it gives.
+/// Takes the line that waits, if one does, and compares what it gives.
 fn judge_line<R: Threads + Sync, S: Source, G: Gate>(
     tools: &Tools<'_, R, G>,
     engine: &mut Engine,
@@ -268,7 +268,7 @@ pub(crate) fn judge_all<R: Threads + Sync, S: Source, G: Gate>(
         (stream_state (S.left source.new) (S.faults source.new)) }
     ensures never_falls { S.faults source.old ≤ S.faults source.new }
 {
-    // tells that the configuration is accepted
+    // its clause says that the configuration is accepted
     let _config = engine.config();
     let mut matching = Matching::new(most);
     match judge_states(tools, engine, sheet, source, &mut matching, states) {

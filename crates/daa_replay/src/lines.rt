@@ -12,7 +12,7 @@ ghost use Rattle.daa_replay.specs.Inside.Lines.{Follows, given_with};
 ghost use Rattle.daa_replay.specs.Lines.{IsEventInRange, events_of, line_event, next_state, word_step};
 
 use daa_lines::{Line, Lines};
-use daa_state::{LineFault, Picture, Moments, Word, read_line};
+use daa_state::{LineFault, Moments, Picture, Word, read_line};
 
 /// A line was refused, under its number, or a moment was ended.
 #[derive(Debug, Drop)]
@@ -21,7 +21,7 @@ pub enum Event {
     Ended(Picture),
 }
 
-/// The word of the line that stands, in this format; the line is taken.
+/// The word of the line that waits, read in this format; the line is taken.
 fn take_word(lines: &mut Lines, format: u32) -> Option<Result<Word, LineFault>>
     requires { IsFormat format }
     ensures stood { IsSome result ↔ (is_standing lines.old.stage ≡ true) }
@@ -55,7 +55,7 @@ fn step(moments: &mut Moments, number: u64, word: Result<Word, LineFault>) -> Op
     }
 }
 
-/// Takes the line that stands, if one does, and gives its event, if it has one.
+/// Takes the line that waits, if one does, and gives its event, if it has one.
 pub(crate) fn take_event(lines: &mut Lines, moments: &mut Moments) -> Option<Event>
     ensures free { is_standing lines.new.stage ≡ false }
     ensures ended { lines.new.ended ≡ lines.old.ended }

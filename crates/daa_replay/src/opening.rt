@@ -18,9 +18,9 @@ use std::alloc::Global;
 /// What a run is to do.
 #[derive(Drop)]
 pub(crate) enum Work {
-    /// Moments are read, by up to so many pieces ahead, and each is decided.
+    /// Moments are read, by up to `ahead` pieces ahead, and each is decided.
     Replay { ahead: u32 },
-    /// So many moments are drawn, and each is decided.
+    /// `moments` moments are drawn, and each is decided.
     Exercise { seed: u32, moments: u32 },
     /// A report is compared with that of these states, each text of which is written on the sheet
     /// first.
@@ -39,7 +39,7 @@ pub(crate) struct Ready {
 pub(crate) enum Unready {
     /// The command words are not taken.
     NotTaken,
-    /// The configuration is refused. A fault without a code counts as want of memory.
+    /// The configuration is refused.
     Refused(ConfigFault),
     /// The states are too long.
     StatesLong,
@@ -95,7 +95,7 @@ fn fetch<F: Shelf>(alloc: Global, shelf: &mut F, name: &str) -> Result<Config, U
     }
 }
 
-/// The engine of the configuration that the shelf holds under the name, with so many workers.
+/// The engine of the configuration that the shelf holds under the name, with `workers` workers.
 fn fetch_engine<F: Shelf>(
     alloc: Global,
     shelf: &mut F,

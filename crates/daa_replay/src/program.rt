@@ -10,7 +10,7 @@ ghost use Rattle.daa_replay.specs.Inside.Opening.{WorkIsInRange};
 
 use crate::judge::run_judge;
 use crate::moment::Tools;
-use crate::opening::{open, Ready, Work};
+use crate::opening::{Ready, Work, open};
 use crate::replay::run_replay;
 use crate::status::{Status, status_of, write_reason};
 use daa_exercise::exercise;
@@ -21,7 +21,7 @@ use std::thread::Threads;
 /// The most bytes that a run reads.
 const MOST_BYTES: u64 = 1 << 40;
 
-/// Makes ready, and performs what the words ask for.
+/// Runs what the words ask for.
 fn run_words<R: Threads + Sync, F: Shelf, S: Source + Send, K: Sink + Send, G: Gate>(
     tools: &Tools<'_, R, G>,
     words: &[String],
@@ -64,11 +64,10 @@ fn run_words<R: Threads + Sync, F: Shelf, S: Source + Send, K: Sink + Send, G: G
 /// - 6 where there was no memory for words, texts, configuration, engine or sheet; nothing is read
 ///   or written;
 /// - 8 exactly where `most` bytes were read and there was one more, and the sink did not fail
-///   before
-///   they were reported; of a comparison only where the report begins with those bytes;
+///   before they were reported; of a comparison only where the report begins with those bytes;
 /// - 9 where the states have more than 65536 bytes; `states long` is written.
 ///
-/// Once the source is read, want of memory is answered no more.
+/// Memory can run out only before the source is read.
 pub fn run_within<R: Threads + Sync, F: Shelf, S: Source + Send, K: Sink + Send, G: Gate>(
     rt: &R,
     alloc: Global,
@@ -114,7 +113,7 @@ pub fn run<R: Threads + Sync, F: Shelf, S: Source + Send, K: Sink + Send, G: Gat
     run_within(rt, alloc, words, shelf, source, sink, gate, MOST_BYTES)
 }
 
-/// Replays or compares, reading at most `most` bytes, or exercises.
+/// Runs a replay or a comparison, which reads at most `most` bytes, or an exercise.
 pub(crate) fn run_work<R: Threads + Sync, S: Source + Send, K: Sink + Send, G: Gate>(
     tools: &Tools<'_, R, G>,
     ready: Ready,

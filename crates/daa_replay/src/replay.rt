@@ -17,7 +17,7 @@ ghost use Rattle.daa_replay.specs.Inside.Run.{Replays};
 ghost use Rattle.daa_replay.specs.Inside.Status.{Ends, code_of};
 
 use crate::lines::{Event, take_end, take_event};
-use crate::moment::{write_event, Tools};
+use crate::moment::{Tools, write_event};
 use crate::status::Status;
 use daa_ahead::{Calls, Ended, Taker, ahead, in_turn};
 use daa_engine::Engine;
@@ -57,7 +57,7 @@ pub(crate) fn any_refusal(before: bool, event: &Event) -> bool
     before || matches!(event, Event::Refused(_, _))
 }
 
-/// Takes the line that stands, if one does, and writes what it gives.
+/// Takes the line that waits, if one does, and writes what it gives.
 fn write_line<R: Threads + Sync, K: Sink, G: Gate>(
     tools: &Tools<'_, R, G>,
     engine: &mut Engine,
@@ -165,7 +165,7 @@ fn take_piece<R: Threads + Sync, K: Sink, G: Gate>(
     }
 }
 
-/// Reads for the taker: by turns where `places` is 0, and else ahead of it by up to so many pieces.
+/// Reads for the taker: by turns where `places` is 0, else ahead of it by up to `places` pieces.
 fn read_for<R: Threads + Sync, S: Source + Send, T: Taker + Send, G>(
     tools: &Tools<'_, R, G>,
     source: &mut S,
@@ -254,7 +254,7 @@ fn write_rest<R: Threads + Sync, K: Sink, G: Gate>(
 }
 
 /// Writes the report of what the source gives, of at most `most` bytes, under this configuration;
-/// read by turns where `places` is 0, and else ahead by up to so many pieces.
+/// read by turns where `places` is 0, and else ahead by up to `places` pieces.
 pub(crate) fn run_replay<R: Threads + Sync, S: Source + Send, K: Sink + Send, G: Gate>(
     tools: &Tools<'_, R, G>,
     engine: &mut Engine,

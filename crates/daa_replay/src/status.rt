@@ -74,7 +74,8 @@ const USAGE: &[u8] =
 /// What is written where the states are too long.
 const LONG: &[u8] = b"states long\n";
 
-/// Writes the code of a refused configuration. A fault without one is want of memory.
+/// Writes the code of a refused configuration. The one fault without a code says that memory ran
+/// out.
 fn write_code<K: Sink>(fault: ConfigFault, sink: &mut K) -> Status
     ensures { WritesCode (config_fault.code_of fault)
         (stream_state (K.taken sink.old) (K.faults sink.old))

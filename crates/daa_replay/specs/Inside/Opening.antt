@@ -19,7 +19,7 @@ use Rattle.daa_replay.specs.declared.opening.Work.{Work}
 use Rattle.daa_replay.specs.declared.opening.Work.TheVariants as work
 use Rattle.daa_replay.specs.Opening.{IsHeld, IsHeldLong, Opens, OpensLong, IsRefused}
 
--- a fault that has a code refuses the configuration; the one without is want of memory
+-- a fault that has a code refuses the configuration; the one without says that memory ran out
 abbrev pub unready_of : ConfigFault → Unready
 unready_of fault = option_map_or (λ code. Refused fault) (code_of fault) NoMemory
 
@@ -57,7 +57,7 @@ IsWork texts task (work.Replay ahead) = task ≡ Replay ahead
 IsWork texts task (work.Exercise seed moments) = task ≡ Exercise seed moments
 IsWork texts task (work.Judge states sheet) =
     (name : Text) × (task ≡ Judge name) × IsHeld texts name states.items
-        × (length states.items ≤ longest_text)
+    × (length states.items ≤ longest_text)
 
 -- the work of a task was made ready, or why it was not
 abbrev pub PreparesAs : Option Texts → Task → Result Work Unready → Type 0
@@ -87,7 +87,7 @@ MakesReady texts asked (Err NotTaken) = ⊥
 MakesReady texts asked (Err (Refused fault)) = FetchesAs texts asked.config (Err (Refused fault))
 MakesReady texts asked (Err StatesLong) =
     (settings : Settings) × FetchesAs texts asked.config (Ok settings)
-        × PreparesAs texts asked.task (Err StatesLong)
+    × PreparesAs texts asked.task (Err StatesLong)
 MakesReady texts asked (Err FetchFault) = Unit {0}
 MakesReady texts asked (Err NoMemory) = Unit {0}
 

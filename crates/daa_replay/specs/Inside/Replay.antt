@@ -46,16 +46,17 @@ pub record Desk : Type 0 where
   pub taken : ToldBytes
   pub faults : ℕ
 
+-- a desk of these parts
 abbrev pub desk : Settings → Progress → ToldBytes → ℕ → Desk
 desk settings progress taken faults =
     record { settings = settings; progress = progress; taken = taken; faults = faults }
 
--- no line stands and the input is not over
+-- no line waits to be taken, and the input is not over
 pub record IsBetween (d : Desk) : Type 0 where
   pub free : is_standing d.progress.lines.stage ≡ false
   pub going : d.progress.lines.ended ≡ false
 
--- it may be given so many bytes
+-- it may be given a piece of this size
 pub record CanReport (d : Desk) (size : ℕ) : Type 0 where
   pub between : IsBetween d
   pub room : d.progress.lines.fed + size < 2 ^ 63
@@ -77,6 +78,7 @@ pub record Breaks (d : Desk) (piece : Bytes) (e : Desk) : Type 0 where
   pub front : AfterReport d.settings d.progress d.taken
       (λ settings first bytes. TakesFront settings first e.taken (bytes ++ piece) false)
 
+-- whether the sink took all that the piece gives
 abbrev pub Steps : Desk → Bytes → Bool → Desk → Type 0
 Steps d piece true e = Writes d piece e
 Steps d piece false e = Breaks d piece e

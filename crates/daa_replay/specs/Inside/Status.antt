@@ -49,7 +49,7 @@ pub record BreaksLine (old new : StreamState) (text : Text) : Type 0 where
 abbrev pub WritesLine : Status → StreamState → StreamState → Text → Status → Type 0
 WritesLine said old new text result =
     ((result ≡ said) × Takes old new text)
-        ⊎ ((result ≡ status.WriteFault) × BreaksLine old new text)
+    ⊎ ((result ≡ status.WriteFault) × BreaksLine old new text)
 
 -- the code of the configuration was written; where there is none, there was no memory
 abbrev pub WritesCode : Option ℕ → StreamState → StreamState → Status → Type 0
@@ -60,7 +60,8 @@ WritesCode (Some code) old new result =
 -- what is written where a run could not be made ready, and its status
 abbrev pub WritesReason : Unready → StreamState → StreamState → Status → Type 0
 WritesReason unready.NotTaken old new result = WritesLine status.NotTaken old new usage_line result
-WritesReason (unready.Refused fault) old new result = WritesCode (config.code_of fault) old new result
+WritesReason (unready.Refused fault) old new result =
+    WritesCode (config.code_of fault) old new result
 WritesReason unready.StatesLong old new result =
     WritesLine status.StatesLong old new long_line result
 WritesReason unready.FetchFault old new result = (result ≡ status.FetchFault) × (new ≡ old)

@@ -1,12 +1,13 @@
 //! Reading ahead of the report changes no byte and no status.
 
+use super::{ONE, ONE_LEVEL, ONE_TEXT, ONES, Outside, PLAIN, SEVENS, gives, shelf_with, strings};
 use crate::run;
-use daa_outside::{Failed, Gate, Meeting, MemSink, MemSource, Open, Sink, Source};
+use daa_ahead::examples::HoldingSource;
+use daa_outside::{Failed, Gate, Meeting, MemSink, MemSource, Open, Sink};
 use std::process::Abort;
 use std::test::Fail;
 use std::thread::Threads;
 use std::time::Clock;
-use super::{ONE, ONE_LEVEL, ONE_TEXT, ONES, Outside, PLAIN, SEVENS, gives, shelf_with, strings};
 
 /// The words that ask for a replay by turns, and for reading ahead by one piece and by four.
 pub(super) static READINGS: [&[&str]; 3] = [

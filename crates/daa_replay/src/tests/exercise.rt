@@ -1,13 +1,13 @@
 //! Exercises: the summaries of seeds, which another program found from the definitions.
 
+use super::opening::USAGE;
+use super::{ONE_LEVEL, Outside, PLAIN, gives, replayed, shelf_with, strings};
 use crate::run;
 use daa_config::examples::THREE_LEVELS;
 use daa_outside::{MemSource, Open, Void};
 use std::process::Abort;
 use std::test::Fail;
 use std::thread::Threads;
-use super::opening::USAGE;
-use super::{ONE_LEVEL, Outside, PLAIN, gives, replayed, shelf_with, strings};
 
 /// Three levels, a hundred moments.
 const HUNDRED: &[u8] = b"exercise 7 100

@@ -1,7 +1,7 @@
 //! Limits and faults of the source and the sink.
 
-use std::test::Fail;
 use super::{ONE, ONE_TEXT, ONES, Outside, PLAIN, gives};
+use std::test::Fail;
 
 #[test]
 fn the_limit_counts_bytes(rt: HostRuntime) -> Result<(), Fail> {

@@ -1,11 +1,11 @@
 //! Reports that are compared with that of states on the shelf.
 
+use super::{ONE, ONE_TEXT, ONES, Outside, PLAIN, SEVENS, strings, whole};
 use crate::run_within;
 use daa_outside::{MemShelf, MemSink, MemSource, Open};
 use std::process::Abort;
 use std::test::Fail;
 use std::thread::Threads;
-use super::{ONE, ONE_TEXT, ONES, Outside, PLAIN, SEVENS, strings, whole};
 
 /// A name under which the shelf holds nothing.
 static MISSING: &[&str] = &["daidalus", "judge", "--config", "c", "--states", "t"];

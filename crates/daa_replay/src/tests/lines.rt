@@ -1,9 +1,9 @@
 //! Lines, their refusals, and the pieces in which they come.
 
-use std::alloc::AllocError;
-use std::test::Fail;
 use super::ahead::READINGS;
 use super::{COVERED, ONE, ONE_TEXT, ONES, Outside, PLAIN, SEVENS, gives, whole};
+use std::alloc::AllocError;
+use std::test::Fail;
 
 /// The words that ask for one worker.
 static ALONE: [&str; 6] = ["daidalus", "replay", "--config", "c", "--workers", "1"];

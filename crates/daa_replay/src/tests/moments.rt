@@ -1,9 +1,9 @@
 //! Moments and their reports.
 
+use super::{ONE_TEXT, Outside, PLAIN, gives, replayed, whole};
 use daa_config::examples::LARGEST_VALUES;
 use std::alloc::AllocError;
 use std::test::Fail;
-use super::{ONE_TEXT, Outside, PLAIN, gives, replayed, whole};
 
 /// The candidates of a configuration whose levels follow.
 const CANDIDATES: &str = "turn_rate = 3

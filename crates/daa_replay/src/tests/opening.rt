@@ -1,8 +1,8 @@
 //! Command words and configurations.
 
+use super::{ONE, ONE_TEXT, Outside, PLAIN, gives, replayed};
 use daa_config::examples::{ONE_LEVEL, THREE_LEVELS};
 use std::test::Fail;
-use super::{ONE, ONE_TEXT, Outside, PLAIN, gives, replayed};
 
 /// What is written where the words are not taken.
 pub(super) const USAGE: &[u8] =

@@ -1,8 +1,8 @@
 //! Reports of moments in which nothing is open, under a configuration that asks for recoveries.
 
+use super::{ONE_TEXT, Outside, PLAIN, gives, whole};
 use daa_config::examples::ONE_LEVEL;
 use std::test::Fail;
-use super::{ONE_TEXT, Outside, PLAIN, gives, whole};
 
 /// A recovery's table, an aircraft, and the lines of the recoveries, worked out apart from the program.
 static RECOVERIES: [(&str, &str, &str); 2] = [

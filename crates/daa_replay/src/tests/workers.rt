@@ -1,5 +1,6 @@
 //! Several workers: whether they really work side by side, and that they change no byte.
 
+use super::{ONE_LEVEL, shelf_with, strings, whole};
 use crate::run;
 use daa_outside::{Gate, Meeting, MemSink, MemSource, Open};
 use std::process::Abort;
@@ -8,7 +9,6 @@ use std::sync::atomic::Ordering::SeqCst;
 use std::test::Fail;
 use std::thread::Threads;
 use std::time::Clock;
-use super::{ONE_LEVEL, shelf_with, strings, whole};
 
 /// A gate that counts who passes for each of the first four units, and for all others, and at which
 /// two workers meet.
