@@ -3,7 +3,7 @@ use Rattle.std.specs.Prelude.{ℕ, ◌≡◌, ◌≤◌, ◌++◌, Bool, true, [
 use Rattle.std.specs.Io.KnownBytes.{Consumes}
 use Rattle.daa_outside.specs.Faults.{HasRisen}
 use Rattle.daa_ahead.specs.Bytes.{Bytes, StreamState, IsSpent}
-use Rattle.daa_judge.specs.Judged.{Same, Differs, Begins, BeginsButLast}
+use Rattle.daa_judge.specs.Judged.{Differs, Begins, BeginsButLast}
 use Rattle.daa_judge.specs.declared.found.Found.{Found}
 use Rattle.daa_judge.specs.declared.found.Found.TheVariants as found
 
@@ -19,7 +19,7 @@ module _ (report : Bytes) (most : ℕ) where
     pub handed : Consumes old.bytes new.bytes bytes
     pub bound : length bytes ≤ most
     pub over : IsSpent old.bytes new.bytes
-    pub same : Same report bytes
+    pub same : bytes ≡ report
     pub calm : new.faults ≡ old.faults
 
   -- what was read, and whether it was all, shows that it differs from the report, and in which line

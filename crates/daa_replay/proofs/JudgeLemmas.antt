@@ -110,9 +110,9 @@ module _ {settings : Settings} (most : ℕ) (first : StreamState) (bytes : Bytes
         begins = record {
           text = s.begins.text;
           front = record {
-            told = f.told;
+            written = f.written;
             later = f.later ++ whole.0;
-            events = whole.1 ∙ ap (λ (e : List Event). e ++ whole.0) f.events ∙ append_assoc f.told f.later whole.0;
+            events = whole.1 ∙ ap (λ (e : List Event). e ++ whole.0) f.events ∙ append_assoc f.written f.later whole.0;
             whole = f.whole;
             texts = f.texts;
             begun = f.begun;

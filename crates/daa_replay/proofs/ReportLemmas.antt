@@ -70,7 +70,7 @@ module _ {settings : Settings} where
   stops-event first before now bytes ended given more event whole text events texts taken is front = record {
     text = whole ++ front.0;
     front = record {
-      told = given;
+      written = given;
       later = event ∷ more;
       events = events ∙ append_assoc given (event ∷ []) more;
       whole = whole;
@@ -99,9 +99,9 @@ module _ {settings : Settings} where
       let longer = events_begin bytes more in record {
         text = s.text;
         front = record {
-          told = s.front.told;
+          written = s.front.written;
           later = s.front.later ++ longer.0;
-          events = longer.1 ∙ ap (λ (e : List Event). e ++ longer.0) s.front.events ∙ append_assoc s.front.told s.front.later longer.0;
+          events = longer.1 ∙ ap (λ (e : List Event). e ++ longer.0) s.front.events ∙ append_assoc s.front.written s.front.later longer.0;
           whole = s.front.whole;
           texts = s.front.texts;
           begun = s.front.begun;

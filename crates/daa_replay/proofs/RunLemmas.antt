@@ -35,10 +35,10 @@ pub by_work : (most status : ℕ) (settings : Settings) (work known : Work) (old
 by_work most status settings work known old new e h = subst (λ (t : Work). Performs settings most status old new t) (sym e) h
 
 -- `same` was written, or the sink failed within it
-pub same_told : {E : Type 0} (settings : Settings) (states : Bytes) (most : ℕ) (old new : Outside) (r : Result (Unit {0}) E) (result : Status)
+pub same_written : {E : Type 0} (settings : Settings) (states : Bytes) (most : ℕ) (old new : Outside) (r : Result (Unit {0}) E) (result : Status)
     → Judged settings states most found.Alike old.source new.source → old.source.faults ≤ new.source.faults → Says old.sink.bytes new.sink.bytes old.sink.faults new.sink.faults same_line r
     → OnOk r (result ≡ Accepted) → OnErr r (result ≡ WriteFault) → Judges settings most (code_of result) old new states
-same_told settings states most old new (Ok x) result j f s whole broken =
+same_written settings states most old new (Ok x) result j f s whole broken =
     let steady = s.cause.steady in
     subst (λ (st : Status). Judges settings most (code_of st) old new states) (sym whole) (record {
       named = inl refl;
@@ -50,7 +50,7 @@ same_told settings states most old new (Ok x) result j f s whole broken =
       reads = f;
       writes = omega (arith, steady);
     })
-same_told settings states most old new (Err x) result j f s whole broken =
+same_written settings states most old new (Err x) result j f s whole broken =
     subst (λ (st : Status). Judges settings most (code_of st) old new states) (sym broken) (record {
       named = inr (inr (inr (inl refl)));
       same = λ e. absurd (omega (arith, e));
@@ -63,10 +63,10 @@ same_told settings states most old new (Err x) result j f s whole broken =
     })
 
 -- the number of the first line that differs was written, or the sink failed within it
-pub difference_told : {E : Type 0} (settings : Settings) (states : Bytes) (most number : ℕ) (old new : Outside) (r : Result (Unit {0}) E) (result : Status)
+pub difference_written : {E : Type 0} (settings : Settings) (states : Bytes) (most number : ℕ) (old new : Outside) (r : Result (Unit {0}) E) (result : Status)
     → Judged settings states most (found.Differs number) old.source new.source → old.source.faults ≤ new.source.faults → Says old.sink.bytes new.sink.bytes old.sink.faults new.sink.faults (differs_line number) r
     → OnOk r (result ≡ status.Refused) → OnErr r (result ≡ WriteFault) → Judges settings most (code_of result) old new states
-difference_told settings states most number old new (Ok x) result j f s whole broken =
+difference_written settings states most number old new (Ok x) result j f s whole broken =
     let steady = s.cause.steady in
     subst (λ (st : Status). Judges settings most (code_of st) old new states) (sym whole) (record {
       named = inr (inl refl);
@@ -78,7 +78,7 @@ difference_told settings states most number old new (Ok x) result j f s whole br
       reads = f;
       writes = omega (arith, steady);
     })
-difference_told settings states most number old new (Err x) result j f s whole broken =
+difference_written settings states most number old new (Err x) result j f s whole broken =
     subst (λ (st : Status). Judges settings most (code_of st) old new states) (sym broken) (record {
       named = inr (inr (inr (inl refl)));
       same = λ e. absurd (omega (arith, e));
@@ -91,9 +91,9 @@ difference_told settings states most number old new (Err x) result j f s whole b
     })
 
 -- comparing ended before it could be told
-pub fault_told : (settings : Settings) (states : Bytes) (most : ℕ) (before after : ShelfState) (so sn k : StreamState) → Judged settings states most found.Fault so sn → so.faults ≤ sn.faults
+pub fault_written : (settings : Settings) (states : Bytes) (most : ℕ) (before after : ShelfState) (so sn k : StreamState) → Judged settings states most found.Fault so sn → so.faults ≤ sn.faults
     → Judges settings most 4 (outside before so k) (outside after sn k) states
-fault_told settings states most before after so sn k j f = record {
+fault_written settings states most before after so sn k j f = record {
   named = inr (inr (inl refl));
   same = λ e. absurd (omega (arith, e));
   differs = λ e. absurd (omega (arith, e));
@@ -104,9 +104,9 @@ fault_told settings states most before after so sn k j f = record {
   writes = omega arith;
 }
 
-pub limit_told : (settings : Settings) (states : Bytes) (most : ℕ) (before after : ShelfState) (so sn k : StreamState) → Judged settings states most found.Limit so sn → so.faults ≤ sn.faults
+pub limit_written : (settings : Settings) (states : Bytes) (most : ℕ) (before after : ShelfState) (so sn k : StreamState) → Judged settings states most found.Limit so sn → so.faults ≤ sn.faults
     → Judges settings most 8 (outside before so k) (outside after sn k) states
-limit_told settings states most before after so sn k j f = record {
+limit_written settings states most before after so sn k j f = record {
   named = inr (inr (inr (inr refl)));
   same = λ e. absurd (omega (arith, e));
   differs = λ e. absurd (omega (arith, e));
@@ -266,8 +266,8 @@ module _ (most : ℕ) (words : List Text) (old new : Outside) (source : new.sour
   stood : (a b : ℕ) → b ≡ a → a ≤ b
   stood a b e = omega (arith, e)
 
-  usage_told : order_of words ≡ None → new.shelf.faults ≡ old.shelf.faults → Takes old.sink new.sink usage_line → Runs most words 2 old new
-  usage_told none calm taken = record {
+  usage_written : order_of words ≡ None → new.shelf.faults ≡ old.shelf.faults → Takes old.sink new.sink usage_line → Runs most words 2 old new
+  usage_written none calm taken = record {
     named = omega arith;
     accepted = λ e. absurd (omega (arith, e));
     refused = λ e. absurd (omega (arith, e));
@@ -286,8 +286,8 @@ module _ (most : ℕ) (words : List Text) (old new : Outside) (source : new.sour
     writes = stood _ _ taken.calm;
   }
 
-  code_told : (code : ℕ) → IsRefused words old.shelf.texts code → new.shelf.faults ≡ old.shelf.faults → Takes old.sink new.sink (config_line code) → Runs most words 3 old new
-  code_told code refused calm taken = record {
+  code_written : (code : ℕ) → IsRefused words old.shelf.texts code → new.shelf.faults ≡ old.shelf.faults → Takes old.sink new.sink (config_line code) → Runs most words 3 old new
+  code_written code refused calm taken = record {
     named = omega arith;
     accepted = λ e. absurd (omega (arith, e));
     refused = λ e. absurd (omega (arith, e));
@@ -306,8 +306,8 @@ module _ (most : ℕ) (words : List Text) (old new : Outside) (source : new.sour
     writes = stood _ _ taken.calm;
   }
 
-  long_told : OpensLong words old.shelf.texts → new.shelf.faults ≡ old.shelf.faults → Takes old.sink new.sink long_line → Runs most words 9 old new
-  long_told opens calm taken = record {
+  long_written : OpensLong words old.shelf.texts → new.shelf.faults ≡ old.shelf.faults → Takes old.sink new.sink long_line → Runs most words 9 old new
+  long_written opens calm taken = record {
     named = omega arith;
     accepted = λ e. absurd (omega (arith, e));
     refused = λ e. absurd (omega (arith, e));
@@ -326,8 +326,8 @@ module _ (most : ℕ) (words : List Text) (old new : Outside) (source : new.sour
     writes = stood _ _ taken.calm;
   }
 
-  not_told : Breaks most words old new → new.shelf.faults ≡ old.shelf.faults → old.sink.faults ≤ new.sink.faults → Runs most words 5 old new
-  not_told breaks calm later = record {
+  not_written : Breaks most words old new → new.shelf.faults ≡ old.shelf.faults → old.sink.faults ≤ new.sink.faults → Runs most words 5 old new
+  not_written breaks calm later = record {
     named = omega arith;
     accepted = λ e. absurd (omega (arith, e));
     refused = λ e. absurd (omega (arith, e));
@@ -346,8 +346,8 @@ module _ (most : ℕ) (words : List Text) (old new : Outside) (source : new.sour
     writes = later;
   }
 
-  no_memory_told : new.shelf.faults ≡ old.shelf.faults → new.sink ≡ old.sink → Runs most words 6 old new
-  no_memory_told calm sink = record {
+  no_memory_written : new.shelf.faults ≡ old.shelf.faults → new.sink ≡ old.sink → Runs most words 6 old new
+  no_memory_written calm sink = record {
     named = omega arith;
     accepted = λ e. absurd (omega (arith, e));
     refused = λ e. absurd (omega (arith, e));
@@ -366,8 +366,8 @@ module _ (most : ℕ) (words : List Text) (old new : Outside) (source : new.sour
     writes = stood _ _ (ap (λ (x : StreamState). x.faults) sink);
   }
 
-  fetch_told : (asked : Asked) → order_of words ≡ Some asked → HasRisen old.shelf.faults new.shelf.faults → new.sink ≡ old.sink → Runs most words 7 old new
-  fetch_told asked taken risen sink = record {
+  fetch_written : (asked : Asked) → order_of words ≡ Some asked → HasRisen old.shelf.faults new.shelf.faults → new.sink ≡ old.sink → Runs most words 7 old new
+  fetch_written asked taken risen sink = record {
     named = omega arith;
     accepted = λ e. absurd (omega (arith, e));
     refused = λ e. absurd (omega (arith, e));
@@ -390,29 +390,29 @@ module _ (most : ℕ) (words : List Text) (old new : Outside) (source : new.sour
   by_code result known e r = subst (λ (s : Status). Runs most words (code_of s) old new) (sym e) r
 
   usage_runs : (result : Status) → order_of words ≡ None → new.shelf.faults ≡ old.shelf.faults → WritesLine status.NotTaken old.sink new.sink usage_line result → Runs most words (code_of result) old new
-  usage_runs result none calm (inl w) = by_code result status.NotTaken w.0 (usage_told none calm w.1)
-  usage_runs result none calm (inr w) = by_code result WriteFault w.0 (not_told
+  usage_runs result none calm (inl w) = by_code result status.NotTaken w.0 (usage_written none calm w.1)
+  usage_runs result none calm (inr w) = by_code result WriteFault w.0 (not_written
       (record { risen = w.1.risen; so = inl (record { source = source; text = usage_line; is = inl (none, refl); begun = w.1.front }) }) calm w.1.later)
 
   code_runs : (result : Status) (code : ℕ) → IsRefused words old.shelf.texts code → new.shelf.faults ≡ old.shelf.faults → WritesLine status.BadConfiguration old.sink new.sink (config_line code) result
       → Runs most words (code_of result) old new
-  code_runs result code refused calm (inl w) = by_code result status.BadConfiguration w.0 (code_told code refused calm w.1)
-  code_runs result code refused calm (inr w) = by_code result WriteFault w.0 (not_told
+  code_runs result code refused calm (inl w) = by_code result status.BadConfiguration w.0 (code_written code refused calm w.1)
+  code_runs result code refused calm (inr w) = by_code result WriteFault w.0 (not_written
       (record { risen = w.1.risen; so = inl (record { source = source; text = config_line code; is = inr (inl (code, refused, refl)); begun = w.1.front }) }) calm w.1.later)
 
   long_runs : (result : Status) → OpensLong words old.shelf.texts → new.shelf.faults ≡ old.shelf.faults → WritesLine status.StatesLong old.sink new.sink long_line result
       → Runs most words (code_of result) old new
-  long_runs result opens calm (inl w) = by_code result status.StatesLong w.0 (long_told opens calm w.1)
-  long_runs result opens calm (inr w) = by_code result WriteFault w.0 (not_told
+  long_runs result opens calm (inl w) = by_code result status.StatesLong w.0 (long_written opens calm w.1)
+  long_runs result opens calm (inr w) = by_code result WriteFault w.0 (not_written
       (record { risen = w.1.risen; so = inl (record { source = source; text = long_line; is = inr (inr (opens, refl)); begun = w.1.front }) }) calm w.1.later)
 
-  pub tells_runs : (why : Unready) (result : Status) → OpensAs words old.shelf.texts (Err why) → WritesReason why old.sink new.sink result
+  pub reason_runs : (why : Unready) (result : Status) → OpensAs words old.shelf.texts (Err why) → WritesReason why old.sink new.sink result
       → (why ≡ unready.FetchFault → HasRisen old.shelf.faults new.shelf.faults) → (why ≢ unready.FetchFault → new.shelf.faults ≡ old.shelf.faults)
       → Runs most words (code_of result) old new
-  tells_runs unready.NotTaken result opens tells risen calm = usage_runs result opens (calm (λ e. cc)) tells
-  tells_runs (unready.Refused fault) result (code, refused, is) tells risen calm =
+  reason_runs unready.NotTaken result opens tells risen calm = usage_runs result opens (calm (λ e. cc)) tells
+  reason_runs (unready.Refused fault) result (code, refused, is) tells risen calm =
       code_runs result code refused (calm (λ e. cc))
       (subst (λ (o : Option ℕ). WritesCode o old.sink new.sink result) is tells)
-  tells_runs unready.StatesLong result opens tells risen calm = long_runs result opens (calm (λ e. cc)) tells
-  tells_runs unready.FetchFault result opens tells risen calm = by_code result status.FetchFault tells.0 (fetch_told opens.0 opens.1 (risen refl) tells.1)
-  tells_runs unready.NoMemory result opens tells risen calm = by_code result status.NoMemory tells.0 (no_memory_told (calm (λ e. cc)) tells.1)
+  reason_runs unready.StatesLong result opens tells risen calm = long_runs result opens (calm (λ e. cc)) tells
+  reason_runs unready.FetchFault result opens tells risen calm = by_code result status.FetchFault tells.0 (fetch_written opens.0 opens.1 (risen refl) tells.1)
+  reason_runs unready.NoMemory result opens tells risen calm = by_code result status.NoMemory tells.0 (no_memory_written (calm (λ e. cc)) tells.1)

@@ -34,11 +34,11 @@ module _ (settings : Settings) where
 
   -- a beginning of the report: the texts of its first events, and a beginning of the next one's
   pub record IsReportFront (bytes : Bytes) (ended : Bool) (front : Text) : Type 0 where
-    pub told : List Event
+    pub written : List Event
     pub later : List Event
-    pub events : events_of bytes ended ≡ told ++ later
+    pub events : events_of bytes ended ≡ written ++ later
     pub whole : Text
-    pub texts : AreTexts told whole
+    pub texts : AreTexts written whole
     pub begun : Text
     pub begins : BeginsText later begun
     pub together : front ≡ whole ++ begun

@@ -4,7 +4,7 @@ use Rattle.daa_replay.specs.declared.opening.Unready.{Unready}
 use Rattle.daa_replay.specs.Outside.{Outside, outside, shelf_state}
 use Rattle.daa_ahead.specs.Bytes.{stream_state}
 use Rattle.daa_replay.specs.Inside.Status.{code_of}
-use Rattle.daa_replay.proofs.RunLemmas.{performs_runs, tells_runs}
+use Rattle.daa_replay.proofs.RunLemmas.{performs_runs, reason_runs}
 use Rattle.daa_replay.proofs.program.run_words.Goals as goal
 
 pub returns-in-Ok : goal.returns-in-Ok
@@ -23,7 +23,7 @@ returns-in-Ok g c =
 pub returns-in-Err : goal.returns-in-Err
 returns-in-Err g c =
     let made = c.in-Err.ensures in
-    tells_runs c.args.most _ _ _ refl made.kept made.never_falls c.in-Err.why c.write_reason.result made.opened c.write_reason.ensures
+    reason_runs c.args.most _ _ _ refl made.kept made.never_falls c.in-Err.why c.write_reason.result made.opened c.write_reason.ensures
     (λ e. made.risen (ap Err e)) (λ n. made.no_fault (λ e. n (err_is _ _ e)))
   where
     err_is : (a b : Unready) → ◌≡◌ {A = Result Ready Unready} (Err a) (Err b) → a ≡ b
