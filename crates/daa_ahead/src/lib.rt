@@ -3,6 +3,7 @@
 #![tactic(auto)]
 
 mod ended;
+pub mod examples;
 mod next;
 mod piece;
 mod reader;
@@ -20,4 +21,4 @@ pub use ended::Ended;
 pub use next::{Next, read_next};
 pub use taker::{Calls, Taker};
 pub use threads::ahead;
-pub use turns::in_turn;
+pub use turns::{BUFFER, in_turn};

@@ -1,16 +1,16 @@
 //! One read of a source, under a limit.
 
 ghost use Rattle.std.specs.Prelude.{◌<◌, ◌≤◌, ◌≡◌, [], length};
-ghost use Rattle.daa_ahead.specs.Bytes.{source_state};
+ghost use Rattle.daa_ahead.specs.Bytes.{stream_state};
 ghost use Rattle.daa_ahead.specs.Next.{NextIs, ReadsLast};
 
 use crate::ended::Ended;
 use daa_outside::{Failed, Source};
 
-/// What a read gives: so many bytes, or the end of reading.
+/// What a read gives: a number of bytes, or the end of reading.
 #[derive(Clone, Copy, Debug, PartialEq, Eq)]
 pub enum Next {
-    /// So many bytes.
+    /// This number of bytes, at least 1.
     Piece(usize),
     /// No more.
     Over(Ended),
@@ -19,8 +19,8 @@ pub enum Next {
 /// Reads into the buffer at most `most` bytes; where `most` is 0, whether there is one byte more.
 pub fn read_next<S: Source>(source: &mut S, buf: &mut [u8], most: u64) -> Next
     requires { 0 < length buf.old }
-    ensures is { NextIs result most buf.new (source_state (S.left source.old) (S.faults source.old))
-        (source_state (S.left source.new) (S.faults source.new)) }
+    ensures is { NextIs result most buf.new (stream_state (S.left source.old) (S.faults source.old))
+        (stream_state (S.left source.new) (S.faults source.new)) }
     ensures never_falls { S.faults source.old ≤ S.faults source.new }
 {
     if most == 0 {
@@ -37,8 +37,8 @@ pub fn read_next<S: Source>(source: &mut S, buf: &mut [u8], most: u64) -> Next
 /// Whether there is one byte more.
 fn read_past<S: Source>(source: &mut S, buf: &mut [u8]) -> Ended
     requires { length buf.old ≡ 1 }
-    ensures is { ReadsLast result 0 (source_state (S.left source.old) (S.faults source.old))
-        (source_state (S.left source.new) (S.faults source.new)) [] }
+    ensures is { ReadsLast result 0 (stream_state (S.left source.old) (S.faults source.old))
+        (stream_state (S.left source.new) (S.faults source.new)) [] }
     ensures never_falls { S.faults source.old ≤ S.faults source.new }
 {
     match source.read(buf) {

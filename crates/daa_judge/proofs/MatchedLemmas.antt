@@ -3,7 +3,7 @@ use Rattle.std.proofs.Common.{◌≡◌, ◌≢◌, ◌<◌, ◌≤◌, ◌+◌,
 use Rattle.std.specs.Prelude.{slice_index}
 use Rattle.std.specs.Io.KnownBytes.{Consumes}
 use Rattle.std.proofs.KnownBytes.{Consumes-trans, Consumes-nil}
-use Rattle.daa_ahead.specs.Bytes.{Bytes, SourceState}
+use Rattle.daa_ahead.specs.Bytes.{Bytes, StreamState}
 use Rattle.daa_ahead.specs.Next.{ReadsMore, ReadsLast}
 use Rattle.daa_ahead.specs.declared.ended.Ended.{Ended}
 use Rattle.daa_ahead.specs.declared.ended.Ended.TheVariants.{End, Fault, Limit, Stopped}
@@ -33,12 +33,12 @@ drop_at (x ∷ xs) (suc n) h = drop_at xs n (omega arith)
 abbrev matching : ℕ → ℕ → Matching
 matching left line = record { left = left; line = line }
 
-module _ (most : ℕ) (first m now : SourceState) (before : Bytes) (old : Matching) (h : IsMatched most first before old m) where
+module _ (most : ℕ) (first m now : StreamState) (before : Bytes) (old : Matching) (h : IsMatched most first before old m) where
   -- so many bytes more were read, and they match
   pub more : (count : ℕ) (buf piece : Bytes) → take count buf ≡ piece → length piece ≡ count → ReadsMore count old.left buf m now
       → IsMatched most first (before ++ piece) (matching (old.left - count) (old.line + line_feeds piece)) now
   more count buf piece e n r = record {
-    handed = Consumes-trans first.left m.left now.left before piece h.handed (subst (Consumes m.left now.left) e r.handed);
+    handed = Consumes-trans first.bytes m.bytes now.bytes before piece h.handed (subst (Consumes m.bytes now.bytes) e r.handed);
     size = omega (arith, h.size, r.bound, length-append before piece);
     line = omega (arith, h.line, feeds-append before piece);
     calm = r.calm ∙ h.calm;
@@ -52,7 +52,7 @@ module _ (most : ℕ) (first m now : SourceState) (before : Bytes) (old : Matchi
       let front = before ++ take n piece in
       record {
         bytes = before ++ piece;
-        handed = Consumes-trans first.left m.left now.left before piece h.handed (subst (Consumes m.left now.left) all r.handed);
+        handed = Consumes-trans first.bytes m.bytes now.bytes before piece h.handed (subst (Consumes m.bytes now.bytes) all r.handed);
         bound = omega (arith, h.size, r.bound, length-append before piece);
         ended = false;
         over = λ e. absurd (false≢true e);
@@ -105,7 +105,7 @@ module _ (most : ℕ) (first m now : SourceState) (before : Bytes) (old : Matchi
   pub beyond : (count : ℕ) (buf : Bytes) → count ≤ length buf → length buf ≤ longest_read → ReadsMore count old.left buf m now → ShowsDifference before most old.line first now
   beyond count buf in' few r = record {
     bytes = before ++ take count buf;
-    handed = Consumes-trans first.left m.left now.left before (take count buf) h.handed r.handed;
+    handed = Consumes-trans first.bytes m.bytes now.bytes before (take count buf) h.handed r.handed;
     bound = omega (arith, h.size, r.bound, length-append before (take count buf), length-take count buf);
     ended = false;
     over = λ e. absurd (false≢true e);
@@ -179,7 +179,7 @@ stops_at Limit line f e = no_match f (subst IsStop (sym e) tt)
 stops_at Stopped line f e = no_match f (subst IsStop (sym e) tt)
 
 -- all bytes of a piece matched the front of a text
-pub all_matched : (piece text : Bytes) (n feeds : ℕ) (old : Matching) (s t : SourceState) → n ≤ length piece → n ≤ length text → length piece ≤ n → 0 < length piece
+pub all_matched : (piece text : Bytes) (n feeds : ℕ) (old : Matching) (s t : StreamState) → n ≤ length piece → n ≤ length text → length piece ≤ n → 0 < length piece
     → take n piece ≡ take n text → feeds ≡ line_feeds (take n piece) → ReadsMore (length piece) old.left piece s t
     → Took n text old (matching (old.left - length piece) (old.line + feeds)) s t
 all_matched piece text n feeds old s t in' other not some same counted r =
@@ -193,7 +193,7 @@ all_matched piece text n feeds old s t in' other not some same counted r =
           (more most first s t before old h (length piece) piece (take n text) all (ap length (sym all) ∙ ap length (take_all piece)) r);
     }
 
-pub parted_there : (most : ℕ) (first m now : SourceState) (before : Bytes) (old : Matching) (h : IsMatched most first before old m) (piece text rest : Bytes) (n feeds : ℕ)
+pub parted_there : (most : ℕ) (first m now : StreamState) (before : Bytes) (old : Matching) (h : IsMatched most first before old m) (piece text rest : Bytes) (n feeds : ℕ)
     → length piece ≤ longest_read → ReadsMore (length piece) old.left piece m now → n < length piece → length piece ≤ length text → take n piece ≡ take n text
     → (n < length piece → n < length text → slice_index piece n ≢ slice_index text n) → feeds ≡ line_feeds (take n piece)
     → ShowsDifference (before ++ (text ++ rest)) most (old.line + feeds) first now
@@ -201,23 +201,23 @@ parted_there most first m now before old h piece text rest n feeds few r lt in' 
     subst (λ (k : ℕ). ShowsDifference (before ++ (text ++ rest)) most (old.line + k) first now) (sym counted)
     (parted most first m now before old h piece text rest n few r (take_all piece) lt (omega arith) same (apart lt (omega arith)))
 
-pub over_there : (most : ℕ) (first m now : SourceState) (before : Bytes) (old : Matching) (h : IsMatched most first before old m) (ended : Ended) (text rest : Bytes) (f : Found)
+pub over_there : (most : ℕ) (first m now : StreamState) (before : Bytes) (old : Matching) (h : IsMatched most first before old m) (ended : Ended) (text rest : Bytes) (f : Found)
     → f ≡ found_at ended old.line → 0 < length text → ReadsLast ended old.left m now [] → Finds (before ++ (text ++ rest)) most f first now
 over_there most first m now before old h ended text rest f e some r =
     subst (λ (x : Found). Finds (before ++ (text ++ rest)) most x first now) (sym e) (over most first m now before old h ended text rest some r)
 
 -- a step more
-pub next_matched : (most : ℕ) (first now : SourceState) (before text tail : Bytes) (done count : ℕ) (m : Matching) → tail ≡ drop done text
+pub next_matched : (most : ℕ) (first now : StreamState) (before text tail : Bytes) (done count : ℕ) (m : Matching) → tail ≡ drop done text
     → IsMatched most first ((before ++ take done text) ++ take count tail) m now → IsMatched most first (before ++ take (done + count) text) m now
 next_matched most first now before text tail done count m e h =
     subst (λ (l : Bytes). IsMatched most first l m now)
     (ap (λ (l : Bytes). (before ++ take done text) ++ take count l) e ∙ append_assoc before (take done text) (take count (drop done text)) ∙ ap (λ (l : Bytes). before ++ l) (sym (take-add done count text))) h
 
-pub whole_matched : (most : ℕ) (first now : SourceState) (before text : Bytes) (done : ℕ) (m : Matching) → length text ≤ done
+pub whole_matched : (most : ℕ) (first now : StreamState) (before text : Bytes) (done : ℕ) (m : Matching) → length text ≤ done
     → IsMatched most first (before ++ take done text) m now → IsMatched most first (before ++ text) m now
 whole_matched most first now before text done m past h = subst (λ (l : Bytes). IsMatched most first (before ++ l) m now) (take_past done text past) h
 
-pub compares_to : (most : ℕ) (first now : SourceState) (before text : Bytes) (done : ℕ) (m : Matching) (f : Found) → f ≢ found.Alike → (tail : Bytes) → tail ≡ drop done text
+pub compares_to : (most : ℕ) (first now : StreamState) (before text : Bytes) (done : ℕ) (m : Matching) (f : Found) → f ≢ found.Alike → (tail : Bytes) → tail ≡ drop done text
     → ((rest : Bytes) → Finds ((before ++ take done text) ++ (tail ++ rest)) most f first now) → Compares f most first before text m now
 compares_to most first now before text done m found.Alike other tail e h = absurd (other refl)
 compares_to most first now before text done m (found.Differs number) other tail e h = λ rest. subst (λ (l : Bytes). Finds l most (found.Differs number) first now) (put_tail before text rest tail done e) (h rest)

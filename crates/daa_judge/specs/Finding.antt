@@ -2,55 +2,58 @@
 use Rattle.std.specs.Prelude.{ℕ, ◌≡◌, ◌≤◌, ◌++◌, Bool, true, [], ◌∷◌, length}
 use Rattle.std.specs.Io.KnownBytes.{Consumes}
 use Rattle.daa_outside.specs.Faults.{HasRisen}
-use Rattle.daa_ahead.specs.Bytes.{Bytes, SourceState, IsSpent}
-use Rattle.daa_judge.specs.Judged.{Same, Differs, Begins, BeginsButLast}
+use Rattle.daa_ahead.specs.Bytes.{Bytes, StreamState, IsSpent}
+use Rattle.daa_judge.specs.Judged.{Differs, Begins, BeginsButLast}
 use Rattle.daa_judge.specs.declared.found.Found.{Found}
 use Rattle.daa_judge.specs.declared.found.Found.TheVariants as found
 
--- P holds of all that the source had, as far as the bytes tell that it handed out, and whether these were all
+-- P holds of all that the source had, as far as the bytes that it handed out tell; where they were
+-- all, of them
 abbrev pub Shows : (P : Bytes → Type 0) → (ended : Bool) → Bytes → Type 0
 Shows P ended bytes = (more : Bytes) → (ended ≡ true → more ≡ []) → P (bytes ++ more)
 
 module _ (report : Bytes) (most : ℕ) where
   -- it was read to its end, and is the report
-  pub record IsSame (old new : SourceState) : Type 0 where
+  pub record IsSame (old new : StreamState) : Type 0 where
     pub bytes : Bytes
-    pub handed : Consumes old.left new.left bytes
+    pub handed : Consumes old.bytes new.bytes bytes
     pub bound : length bytes ≤ most
-    pub over : IsSpent old.left new.left
-    pub same : Same report bytes
+    pub over : IsSpent old.bytes new.bytes
+    pub same : bytes ≡ report
     pub calm : new.faults ≡ old.faults
 
-  -- what was read, and whether it was all, shows that it differs from the report, and in which line first; nothing was read after the
-  -- read that showed it
-  pub record ShowsDifference (number : ℕ) (old new : SourceState) : Type 0 where
+  -- what was read, and whether it was all, shows that it differs from the report, and in which line
+  -- first; nothing was read after the read that showed it
+  pub record ShowsDifference (number : ℕ) (old new : StreamState) : Type 0 where
     pub bytes : Bytes
-    pub handed : Consumes old.left new.left bytes
+    pub handed : Consumes old.bytes new.bytes bytes
     pub bound : length bytes ≤ most
     pub ended : Bool
-    pub over : ended ≡ true → IsSpent old.left new.left
+    pub over : ended ≡ true → IsSpent old.bytes new.bytes
     pub differs : Shows (Differs report number) ended bytes
     pub stops : BeginsButLast bytes report
     pub calm : new.faults ≡ old.faults
 
   -- a read failed, and the report begins with what was read by then
-  pub record FailsWithin (old new : SourceState) : Type 0 where
+  pub record FailsWithin (old new : StreamState) : Type 0 where
     pub bytes : Bytes
-    pub handed : Consumes old.left new.left bytes
+    pub handed : Consumes old.bytes new.bytes bytes
     pub bound : length bytes ≤ most
     pub begins : Begins bytes report
     pub risen : HasRisen old.faults new.faults
 
-  -- as many bytes as may be read were read, the report begins with them, and a further read gave one more
-  pub record PassesWithin (old new : SourceState) : Type 0 where
+  -- as many bytes as may be read were read, the report begins with them, and a further read gave
+  -- one more
+  pub record PassesWithin (old new : StreamState) : Type 0 where
     pub bytes : Bytes
     pub next : ℕ
     pub size : length bytes ≡ most
-    pub handed : Consumes old.left new.left (bytes ++ next ∷ [])
+    pub handed : Consumes old.bytes new.bytes (bytes ++ next ∷ [])
     pub begins : Begins bytes report
     pub calm : new.faults ≡ old.faults
 
-  abbrev pub Finds : Found → (old new : SourceState) → Type 0
+  -- what reading shows of the report, by what was found
+  abbrev pub Finds : Found → (old new : StreamState) → Type 0
   Finds found.Alike old new = IsSame old new
   Finds (found.Differs number) old new = ShowsDifference number old new
   Finds found.Fault old new = FailsWithin old new

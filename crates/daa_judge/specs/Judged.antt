@@ -13,11 +13,7 @@ abbrev pub line_feeds : Bytes → ℕ
 line_feeds [] = 0
 line_feeds (x ∷ xs) = if x == 10 then 1 + line_feeds xs else line_feeds xs
 
--- the bytes are the report
-abbrev pub Same : (report bytes : Bytes) → Type 0
-Same report bytes = bytes ≡ report
-
--- they are not, and the line of this number, from 1 on, is the first that is not the report's
+-- the bytes are not the report, and the line of this number, from 1 on, is the first that is not the report's
 pub record Differs (report : Bytes) (number : ℕ) (bytes : Bytes) : Type 0 where
   pub other : bytes ≢ report
   pub number_is : number ≡ 1 + line_feeds (common_front bytes report)

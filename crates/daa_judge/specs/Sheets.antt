@@ -1,12 +1,12 @@
 -- What contracts see of a sheet.
 use Rattle.std.specs.Prelude.{ℕ, ◌≡◌, ◌<◌, ◌≤◌, List, length}
 
--- what stands on it, and how many writes to it failed
+-- its text, and how many writes to it failed
 pub record SheetState : Type 0 where
   pub text : List ℕ
   pub faults : ℕ
 
--- so many bytes have room on every sheet
+-- the number of bytes that every sheet has room for
 abbrev pub sheet_room : ℕ
 sheet_room = 130177
 

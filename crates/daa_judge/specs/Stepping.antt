@@ -1,6 +1,6 @@
 -- What one read gives of a comparison.
 use Rattle.std.specs.Prelude.{ℕ, ◌≡◌, ◌≢◌, ◌<◌, ◌≤◌, ◌++◌, length, take}
-use Rattle.daa_ahead.specs.Bytes.{Bytes, SourceState}
+use Rattle.daa_ahead.specs.Bytes.{Bytes, StreamState}
 use Rattle.daa_judge.specs.Finding.{Finds}
 use Rattle.daa_judge.specs.Matched.{IsMatched}
 use Rattle.daa_ahead.specs.declared.ended.Ended.{Ended}
@@ -11,22 +11,28 @@ use Rattle.daa_judge.specs.declared.matching.Matching.{Matching}
 use Rattle.daa_judge.specs.declared.matching.Step.{Step}
 use Rattle.daa_judge.specs.declared.matching.Step.TheVariants as step
 
--- what the end of reading says of a report of which more was wanted, where the next byte is in this line
+-- what the end of reading says of a report of which more was wanted; the next byte is in this line
 abbrev pub found_at : Ended → ℕ → Found
 found_at End line = found.Differs line
 found_at Fault line = found.Fault
 found_at Limit line = found.Limit
 found_at Stopped line = found.Fault
 
--- so many bytes of the text matched
-pub record Took (count : ℕ) (text : Bytes) (old new : Matching) (source_old source_new : SourceState) : Type 0 where
+-- the first `count` bytes of the text matched
+pub record Took (count : ℕ) (text : Bytes) (old new : Matching)
+    (source_old source_new : StreamState) : Type 0 where
   pub some : 0 < count
   pub within : count ≤ length text
-  pub matched : (most : ℕ) (first : SourceState) (before : Bytes) → IsMatched most first before old source_old
+  pub matched : (most : ℕ) (first : StreamState) (before : Bytes)
+      → IsMatched most first before old source_old
       → IsMatched most first (before ++ take count text) new source_new
 
-abbrev pub Steps : Step → Bytes → (old new : Matching) → (source_old source_new : SourceState) → Type 0
-Steps (step.Took count) text old new source_old source_new = Took count text old new source_old source_new
+-- what one read makes of a comparison
+abbrev pub Steps : Step → Bytes → (old new : Matching) → (source_old source_new : StreamState)
+    → Type 0
+Steps (step.Took count) text old new source_old source_new =
+    Took count text old new source_old source_new
 Steps (step.Stop result) text old new source_old source_new =
-    (result ≢ found.Alike) × ((most : ℕ) (first : SourceState) (before rest : Bytes) → IsMatched most first before old source_old
+    (result ≢ found.Alike) × ((most : ℕ) (first : StreamState) (before rest : Bytes)
+    → IsMatched most first before old source_old
     → Finds (before ++ (text ++ rest)) most result first source_new)

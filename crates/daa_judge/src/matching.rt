@@ -1,7 +1,7 @@
 //! Compares texts, one after the other, with what a source hands out.
 
 ghost use Rattle.std.specs.Prelude.{◌≡◌, ◌≤◌, ◌<◌, ◌^◌, [], ℕ, drop, length};
-ghost use Rattle.daa_ahead.specs.Bytes.{Bytes, SourceState, source_state};
+ghost use Rattle.daa_ahead.specs.Bytes.{Bytes, StreamState, stream_state};
 ghost use Rattle.daa_ahead.specs.Next.{ReadsMore};
 ghost use Rattle.daa_judge.specs.Finding.{Finds};
 ghost use Rattle.daa_judge.specs.Judged.{longest_read};
@@ -10,11 +10,8 @@ ghost use Rattle.daa_judge.specs.Stepping.{Steps, found_at};
 
 use crate::found::Found;
 use crate::pieces::{common, line_feeds};
-use daa_ahead::{Ended, Next, read_next};
+use daa_ahead::{BUFFER, Ended, Next, read_next};
 use daa_outside::Source;
-
-/// How many bytes are read at once.
-const BUFFER: usize = 4096;
 
 /// How many bytes may still be read, and the number of the line, from 1 on, that the next byte is
 /// in.
@@ -24,7 +21,7 @@ pub struct Matching {
     pub(crate) line: u64,
 }
 
-/// What one read gives: so many bytes matched, or comparing is over.
+/// What one read gives: a number of bytes matched, or comparing is over.
 #[derive(Clone, Copy, Debug, PartialEq, Eq)]
 enum Step {
     Took(usize),
@@ -55,7 +52,7 @@ impl Matching {
     pub fn new(most: u64) -> Matching
         requires { most < 2 ^ 62 }
         ensures room { HasRoom result }
-        ensures matched { (first : SourceState) → IsMatched most first [] result first }
+        ensures matched { (first : StreamState) → IsMatched most first [] result first }
     {
         Matching {
             left: most,
@@ -70,7 +67,8 @@ impl Matching {
         requires one_read { length piece.now ≤ longest_read }
         requires bound { length piece.now ≤ self.old.left }
         requires room { HasRoom self.old }
-        ensures steps { (source_old source_new : SourceState) (buf : Bytes) → ReadsMore (length piece.now) self.old.left piece.now source_old source_new
+        ensures steps { (source_old source_new : StreamState) (buf : Bytes)
+            → ReadsMore (length piece.now) self.old.left piece.now source_old source_new
             → Steps result text.now self.old self.new source_old source_new }
         ensures room { HasRoom self.new }
     {
@@ -90,8 +88,8 @@ impl Matching {
         requires buffer { (0 < length buf.old) × (length buf.old ≤ longest_read) }
         requires room { HasRoom self.old }
         ensures steps { Steps result text.now self.old self.new
-            (source_state (S.left source.old) (S.faults source.old))
-            (source_state (S.left source.new) (S.faults source.new)) }
+            (stream_state (S.left source.old) (S.faults source.old))
+            (stream_state (S.left source.new) (S.faults source.new)) }
         ensures room { HasRoom self.new }
         ensures never_falls { S.faults source.old ≤ S.faults source.new }
         ensures same_size { length buf.new ≡ length buf.old }
@@ -108,9 +106,11 @@ impl Matching {
     /// that begins with what was compared before and goes on with this text.
     pub fn compare<S: Source>(&mut self, source: &mut S, text: &[u8]) -> Found
         requires room { HasRoom self.old }
-        ensures compares { (most : ℕ) (first : SourceState) (before : Bytes) → IsMatched most first before self.old (source_state (S.left source.old) (S.faults source.old))
+        ensures compares { (most : ℕ) (first : StreamState) (before : Bytes)
+            → IsMatched most first before self.old
+            (stream_state (S.left source.old) (S.faults source.old))
             → Compares result most first before text.now self.new
-            (source_state (S.left source.new) (S.faults source.new)) }
+            (stream_state (S.left source.new) (S.faults source.new)) }
         ensures room { HasRoom self.new }
         ensures never_falls { S.faults source.old ≤ S.faults source.new }
     {
@@ -127,9 +127,11 @@ impl Matching {
 
     /// The report is over: whether the source hands out anything further.
     pub fn end<S: Source>(&self, source: &mut S) -> Found
-        ensures finds { (most : ℕ) (first : SourceState) (report : Bytes) → IsMatched most first report self.now (source_state (S.left source.old) (S.faults source.old))
+        ensures finds { (most : ℕ) (first : StreamState) (report : Bytes)
+            → IsMatched most first report self.now
+            (stream_state (S.left source.old) (S.faults source.old))
             → Finds report most result first
-            (source_state (S.left source.new) (S.faults source.new)) }
+            (stream_state (S.left source.new) (S.faults source.new)) }
         ensures never_falls { S.faults source.old ≤ S.faults source.new }
     {
         let mut buf = [0u8; 1];

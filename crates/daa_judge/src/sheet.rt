@@ -32,7 +32,8 @@ impl Model for Sheet {
 
     ghost view = { λ s. record { text = take s.used s.space.items; faults = s.faults } };
 
-    ghost invariant = { λ s. (vec_len s.space ≡ sheet_room) × (s.used ≤ sheet_room) × (0 < s.faults → s.used ≡ sheet_room) };
+    ghost invariant = { λ s. (vec_len s.space ≡ sheet_room) × (s.used ≤ sheet_room)
+        × (0 < s.faults → s.used ≡ sheet_room) };
 }
 
 impl Sheet {
@@ -50,7 +51,7 @@ impl Sheet {
         }
     }
 
-    /// What stands on it. A write to it has failed only where it is full.
+    /// Its text. A write to it has failed only where it is full.
     pub fn text(&self) -> &[u8]
         ensures value { result.now ≡ self.now.text }
         ensures sheet { IsSheet self.now }
@@ -58,7 +59,7 @@ impl Sheet {
         &self.space[..self.used]
     }
 
-    /// Takes off what stands on it.
+    /// Empties it.
     pub fn clear(&mut self)
         ensures { self.new ≡ record { text = []; faults = 0 } }
     {
@@ -89,7 +90,7 @@ impl Sink for Sheet {
     }
 }
 
-/// Writes the piece over what stands at an index.
+/// Writes the piece over the bytes from an index on.
 fn write_at(space: &mut [u8], at: usize, piece: &[u8])
     requires { at + length piece.now ≤ length space.old }
     ensures written { take (at + length piece.now) space.new ≡ take at space.old ++ piece.now }

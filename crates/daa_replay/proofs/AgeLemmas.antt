@@ -11,8 +11,8 @@ use Rattle.daa_state.specs.WordOf.{word_of}
 use Rattle.daa_state.specs.declared.word.Word.{Word}
 use Rattle.daa_state.proofs.AgeLaws.{word_of-current, step-current}
 use Rattle.daa_state.proofs.FormatLaws.{only_format_lines_say_formats, step-format}
-use Rattle.daa_replay.specs.Events.{word_step, line_step, events_of}
-use Rattle.daa_replay.specs.FourWordEvents.{HasNoAges}
+use Rattle.daa_replay.specs.Lines.{word_step, line_step, events_of}
+use Rattle.daa_replay.specs.FourWordLines.{HasNoAges}
 use Rattle.daa_replay.proofs.PictureLemmas.{Leaves, each_picture}
 
 -- the format is 1, and the aircraft of the open moment are so

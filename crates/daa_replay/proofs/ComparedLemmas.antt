@@ -1,7 +1,7 @@
 -- What a comparison tells of all bytes of a source.
 use Rattle.std.proofs.Common.{◌≡◌, ◌≢◌, ◌∙◌, ◌<◌, ◌≤◌, ◌+◌, ◌-◌, ℕ, zero, suc, Bool, true, false, List, [], ◌∷◌, ◌++◌, Option, None, Some, refl, sym, ap, subst, arith, append_assoc, append-nil, length, length-append, take}
 use Rattle.std.specs.Io.KnownBytes.{Consumes}
-use Rattle.daa_ahead.specs.Bytes.{SourceState, IsSpent}
+use Rattle.daa_ahead.specs.Bytes.{StreamState, IsSpent}
 use Rattle.daa_judge.specs.Finding.{IsSame, ShowsDifference, PassesWithin}
 use Rattle.daa_judge.specs.Judged.{Begins}
 use Rattle.daa_lines.specs.LinesOf.{Bytes}
@@ -37,10 +37,10 @@ take_front [] ys (suc n) e = absurd (omega (arith, e))
 take_front (x ∷ xs) ys zero e = absurd (omega (arith, e))
 take_front (x ∷ xs) ys (suc n) e = ap (λ (l : Bytes). x ∷ l) (take_front xs ys n (omega (arith, e)))
 
-module _ (report : Bytes) (most : ℕ) (old new : SourceState) (all : Bytes) (told : old.left ≡ Some all) where
+module _ (report : Bytes) (most : ℕ) (old new : StreamState) (all : Bytes) (told : old.bytes ≡ Some all) where
   pub same_all : IsSame report most old new → all ≡ report
   same_all s =
-      let h = handed_all old.left new.left all s.bytes told s.handed in
+      let h = handed_all old.bytes new.bytes all s.bytes told s.handed in
       h.all_are ∙ ap (λ (l : Bytes). s.bytes ++ l) (h.none s.over) ∙ append-nil s.bytes ∙ s.same
 
   pub same_short : IsSame report most old new → length all ≤ most
@@ -48,14 +48,14 @@ module _ (report : Bytes) (most : ℕ) (old new : SourceState) (all : Bytes) (to
 
   pub other_all : (number : ℕ) → ShowsDifference report most number old new → all ≢ report
   other_all number d e =
-      let h = handed_all old.left new.left all d.bytes told d.handed in
+      let h = handed_all old.bytes new.bytes all d.bytes told d.handed in
       (d.differs h.more (λ t. h.none (d.over t))).other (sym h.all_are ∙ e)
 
   pub other_long : (number : ℕ) → ShowsDifference report most number old new → most < length all → Begins (take most all) report → ⊥
   other_long number d long (rest, begins) = go d.ended refl
     where
-      h : HasLeft old.left new.left all d.bytes
-      h = handed_all old.left new.left all d.bytes told d.handed
+      h : HasLeft old.bytes new.bytes all d.bytes
+      h = handed_all old.bytes new.bytes all d.bytes told d.handed
 
       go : (b : Bool) → d.ended ≡ b → ⊥
       go true e =
@@ -70,12 +70,12 @@ module _ (report : Bytes) (most : ℕ) (old new : SourceState) (all : Bytes) (to
 
   pub passes_long : PassesWithin report most old new → most < length all
   passes_long p =
-      let h = handed_all old.left new.left all (p.bytes ++ p.next ∷ []) told p.handed in
+      let h = handed_all old.bytes new.bytes all (p.bytes ++ p.next ∷ []) told p.handed in
       omega (arith, p.size, ap length h.all_are, length-append (p.bytes ++ p.next ∷ []) h.more, length-append p.bytes (p.next ∷ []))
 
   pub passes_begins : PassesWithin report most old new → Begins (take most all) report
   passes_begins p =
-      let h = handed_all old.left new.left all (p.bytes ++ p.next ∷ []) told p.handed in
+      let h = handed_all old.bytes new.bytes all (p.bytes ++ p.next ∷ []) told p.handed in
       let e : take most all ≡ p.bytes =
       ap (take most) (h.all_are ∙ append_assoc p.bytes (p.next ∷ []) h.more) ∙ take_front p.bytes ((p.next ∷ []) ++ h.more) most p.size in
       (p.begins.0, p.begins.1 ∙ ap (λ (l : Bytes). l ++ p.begins.0) (sym e))

@@ -5,19 +5,19 @@ use Rattle.std.specs.Prelude.{IsSomeAnd, take}
 use Rattle.daa_outside.specs.Shelf.{Texts, longest_text}
 use Rattle.daa_judge.specs.declared.found.Found.TheVariants.{Limit}
 use Rattle.daa_outside.specs.Faults.{HasRisen}
-use Rattle.daa_ahead.specs.Bytes.{SourceState}
+use Rattle.daa_ahead.specs.Bytes.{StreamState, IsSpent}
 use Rattle.daa_config.specs.ConfigOf.{config_of}
 use Rattle.daa_config.specs.Settings.{Settings}
 use Rattle.daa_lines.specs.LinesOf.{Bytes}
 use Rattle.daa_report.specs.Lines.{Text}
 use Rattle.daa_words.specs.Order.{Asked, order_of}
 use Rattle.daa_words.specs.Task.{Task, Replay, Exercise, Judge}
-use Rattle.daa_replay.specs.Outside.{Outside, StreamState}
-use Rattle.daa_replay.specs.Judging.{TellsSame, TellsDifference, TellsNothing, source_of}
+use Rattle.daa_replay.specs.Outside.{Outside, OnlyBegins}
+use Rattle.daa_replay.specs.Judge.{WritesSame, WritesDifference, WritesNothing}
 use Rattle.daa_replay.specs.Opening.{IsHeld, IsHeldLong, Opens, OpensLong, IsRefused, HoldsNone, HoldsNoStates}
-use Rattle.daa_replay.specs.Report.{IsReportOf}
-use Rattle.daa_replay.specs.Replaying.{ReadsAll, PassesLimit, IsSpent}
-use Rattle.daa_replay.specs.Run.{Under, BreaksUsage, BreaksCode, BreaksLong, Runs, Breaks}
+use Rattle.daa_replay.specs.Moment.{IsReportOf}
+use Rattle.daa_replay.specs.Replay.{ReadsAll, PassesLimit}
+use Rattle.daa_replay.specs.Run.{Under, IsLine, Runs, Breaks}
 use Rattle.daa_replay.specs.Tasks.{OfStates, Accepts, Refuses, FailsToRead, FailsToWrite, Exceeds}
 use Rattle.daa_replay.specs.Complete.{RunsAreComplete, EndsAsGiven, Decides, IsQuiet, IsQuietReplay, HoldsAccepted, HoldsStates, HoldsLong, BeginsReport}
 use Rattle.daa_replay.proofs.ComparedLemmas.{same_all, same_short, other_all, other_long, passes_long, passes_begins}
@@ -41,15 +41,15 @@ spent_size (Some xs) (Some ys) all bytes e h s =
     let none : ys ≡ [] = cc in
     omega (arith, ap length h, ap length same, ap length none, length-append bytes ys)
 
-module _ (settings : Settings) (most : ℕ) (so sn ko kn : StreamState) (all : Bytes) (told : so.bytes ≡ Some all) where
-  pub short : (refused : Bool) → ReadsAll settings most refused so sn ko kn → length all ≤ most
+module _ (settings : Settings) (most : ℕ) (old new : Outside) (all : Bytes) (told : old.source.bytes ≡ Some all) where
+  pub short : (refused : Bool) → ReadsAll settings most old new refused → length all ≤ most
   short refused r =
-      let size = spent_size so.bytes sn.bytes all r.bytes told r.handed.handed r.over in
+      let size = spent_size old.source.bytes new.source.bytes all r.bytes told r.handed.handed r.over in
       omega (arith, r.handed.bound)
 
-  pub long : PassesLimit settings most so sn ko kn → most < length all
+  pub long : PassesLimit settings most old new → most < length all
   long p =
-      let size = handed_size so.bytes sn.bytes all (p.bytes ++ p.next ∷ []) told p.handed in
+      let size = handed_size old.source.bytes new.source.bytes all (p.bytes ++ p.next ∷ []) told p.handed in
       omega (arith, p.size, length-append p.bytes (p.next ∷ []))
 
 -- ---- words are taken or not, a text is held or not, and it is accepted or refused
@@ -196,11 +196,14 @@ module _ (most status : ℕ) (words : List Text) (old new : Outside) (r : Runs m
       → (OpensLong words old.shelf.texts → G) → (Left (FailsToWrite most old new) → G) → G
   broken G b usage code long under = go b.so
     where
-      go : BreaksUsage words old new ⊎ (BreaksCode words old new ⊎ (BreaksLong words old new ⊎ Left (FailsToWrite most old new))) → G
-      go (inl u) = usage u.not_taken
-      go (inr (inl c)) = code c.code c.refused
-      go (inr (inr (inl l))) = long l.opens
-      go (inr (inr (inr u))) = under u
+      of_line : (line : Text) → IsLine words old.shelf.texts line → G
+      of_line line (inl u) = usage u.0
+      of_line line (inr (inl c)) = code c.0 c.1
+      of_line line (inr (inr l)) = long l.0
+
+      go : OnlyBegins (IsLine words old.shelf.texts) old new ⊎ Left (FailsToWrite most old new) → G
+      go (inl l) = of_line l.text l.is
+      go (inr u) = under u
 
   -- the words ask for this task
   module _ (task : Task) (settings : Settings) (opens : Opens words old.shelf.texts task settings) where
@@ -209,21 +212,21 @@ module _ (most status : ℕ) (words : List Text) (old new : Outside) (r : Runs m
 
   -- a replay with an accepted configuration
   module _ (ahead : ℕ) (o : HoldsAccepted words old.shelf.texts (Replay ahead)) (q : IsQuiet old new) where
-    by_bytes : (G : Type 0) → ((s : Settings) → ReadsAll s most false old.source new.source old.sink new.sink → status ≡ 0 → G)
-        → ((s : Settings) → ReadsAll s most true old.source new.source old.sink new.sink → status ≡ 1 → G)
+    by_bytes : (G : Type 0) → ((s : Settings) → ReadsAll s most old new false → status ≡ 0 → G)
+        → ((s : Settings) → ReadsAll s most old new true → status ≡ 1 → G)
         → (status ≡ 6 → G)
-        → ((s : Settings) → PassesLimit s most old.source new.source old.sink new.sink → status ≡ 8 → G) → G
+        → ((s : Settings) → PassesLimit s most old new → status ≡ 8 → G) → G
     by_bytes G s0 s1 s6 s8 = by_status status G r.named
         (λ e. let u = r.accepted e in s0 u.settings (of_task (Replay ahead) o.settings o.opens (Accepts most old new) u) e)
         (λ e. let u = r.refused e in s1 u.settings (of_task (Replay ahead) o.settings o.opens (Refuses most old new) u) e)
-        (λ e. absurd (not_taken_now words o.opens.asked (r.not_taken e).not_taken o.opens.taken))
-        (λ e. let u = r.bad_configuration e in absurd (open_or_refused words _ o.held _ o.settings u.code o.told o.opens u.refused))
+        (λ e. absurd (not_taken_now words o.opens.asked (r.not_taken e).is.0 o.opens.taken))
+        (λ e. let u = (r.bad_configuration e).is in absurd (open_or_refused words _ o.held _ o.settings u.0 o.told o.opens u.1))
         (λ e. absurd (q.source (read_risen e)))
         (λ e. absurd (q.sink (r.write_fault e).risen))
         s6
         (λ e. absurd (q.shelf (r.fetch_fault e).risen))
         (λ e. let u = r.limit e in s8 u.settings (of_task (Replay ahead) o.settings o.opens (Exceeds most old new) u) e)
-        (λ e. let u = (r.states_long e).opens in absurd (no_judge_replay words old.shelf.texts ahead u.name o.settings u.settings o.opens u.opens))
+        (λ e. let u = (r.states_long e).is.0 in absurd (no_judge_replay words old.shelf.texts ahead u.name o.settings u.settings o.opens u.opens))
 
   -- an exercise with an accepted configuration
   module _ (seed moments : ℕ) (o : HoldsAccepted words old.shelf.texts (Exercise seed moments)) (q : IsQuiet old new) where
@@ -231,14 +234,14 @@ module _ (most status : ℕ) (words : List Text) (old new : Outside) (r : Runs m
     ended = by_status status _ r.named
         (λ e. inl e)
         (λ e. absurd (of_task (Exercise seed moments) o.settings o.opens (Refuses most old new) (r.refused e)))
-        (λ e. absurd (not_taken_now words o.opens.asked (r.not_taken e).not_taken o.opens.taken))
-        (λ e. let u = r.bad_configuration e in absurd (open_or_refused words _ o.held _ o.settings u.code o.told o.opens u.refused))
+        (λ e. absurd (not_taken_now words o.opens.asked (r.not_taken e).is.0 o.opens.taken))
+        (λ e. let u = (r.bad_configuration e).is in absurd (open_or_refused words _ o.held _ o.settings u.0 o.told o.opens u.1))
         (λ e. absurd (of_task (Exercise seed moments) o.settings o.opens (FailsToRead most old new) (r.read_fault e)))
         (λ e. absurd (q.sink (r.write_fault e).risen))
         (λ e. inr e)
         (λ e. absurd (q.shelf (r.fetch_fault e).risen))
         (λ e. absurd (of_task (Exercise seed moments) o.settings o.opens (Exceeds most old new) (r.limit e)))
-        (λ e. let u = (r.states_long e).opens in absurd (no_judge_exercise words old.shelf.texts seed moments u.name o.settings u.settings o.opens u.opens))
+        (λ e. let u = (r.states_long e).is.0 in absurd (no_judge_exercise words old.shelf.texts seed moments u.name o.settings u.settings o.opens u.opens))
 
   -- a comparison with states that the shelf holds
   module _ (settings : Settings) (states : Text) (o : HoldsStates words old.shelf.texts settings states) where
@@ -249,45 +252,45 @@ module _ (most status : ℕ) (words : List Text) (old new : Outside) (r : Runs m
         let held = held_same words old.shelf.texts o.held o.opens.name o.opens.name t.states states o.told refl t.held o.opens.held in
         subst (λ (x : Text). P settings x) held (subst (λ (x : Settings). P x t.states) same t.so)
 
-    same_here : status ≡ 0 → TellsSame settings states most old.source new.source old.sink new.sink
+    same_here : status ≡ 0 → WritesSame settings most old new states
     same_here e =
         let u = r.accepted e in
-        here (λ s t. TellsSame s t most old.source new.source old.sink new.sink) (Accepts most old new) u
+        here (λ s t. WritesSame s most old new t) (Accepts most old new) u
         (of_task (Judge o.opens.name) settings o.opens.opens (Accepts most old new) u)
 
-    other_here : status ≡ 1 → TellsDifference settings states most old.source new.source old.sink new.sink
+    other_here : status ≡ 1 → WritesDifference settings most old new states
     other_here e =
         let u = r.refused e in
-        here (λ s t. TellsDifference s t most old.source new.source old.sink new.sink) (Refuses most old new) u
+        here (λ s t. WritesDifference s most old new t) (Refuses most old new) u
         (of_task (Judge o.opens.name) settings o.opens.opens (Refuses most old new) u)
 
-    limit_here : status ≡ 8 → TellsNothing settings states most Limit old.source new.source old.sink new.sink
+    limit_here : status ≡ 8 → WritesNothing settings most old new Limit states
     limit_here e =
         let u = r.limit e in
-        here (λ s t. TellsNothing s t most Limit old.source new.source old.sink new.sink) (Exceeds most old new) u
+        here (λ s t. WritesNothing s most old new Limit t) (Exceeds most old new) u
         (of_task (Judge o.opens.name) settings o.opens.opens (Exceeds most old new) u)
 
     by_finding : (G : Type 0) → IsQuiet old new → (status ≡ 0 → G) → (status ≡ 1 → G) → (status ≡ 6 → G) → (status ≡ 8 → G) → G
     by_finding G q s0 s1 s6 s8 = by_status status G r.named
         s0
         s1
-        (λ e. absurd (not_taken_now words o.opens.opens.asked (r.not_taken e).not_taken o.opens.opens.taken))
-        (λ e. let u = r.bad_configuration e in absurd (open_or_refused words _ o.held _ settings u.code o.told o.opens.opens u.refused))
+        (λ e. absurd (not_taken_now words o.opens.opens.asked (r.not_taken e).is.0 o.opens.opens.taken))
+        (λ e. let u = (r.bad_configuration e).is in absurd (open_or_refused words _ o.held _ settings u.0 o.told o.opens.opens u.1))
         (λ e. absurd (q.source (read_risen e)))
         (λ e. absurd (q.sink (r.write_fault e).risen))
         s6
         (λ e. absurd (q.shelf (r.fetch_fault e).risen))
         s8
-        (λ e. let u = (r.states_long e).opens in
+        (λ e. let u = (r.states_long e).is.0 in
         absurd (held_or_long words old.shelf.texts o.held o.opens.name u.name states o.told
         (one_name words old.shelf.texts o.opens.name u.name settings u.settings o.opens.opens u.opens) o.opens.held o.opens.short u.long))
 
     module _ (all : Bytes) (told : old.source.bytes ≡ Some all) where
-      abbrev so : SourceState
-      so = source_of old.source
+      abbrev so : StreamState
+      so = old.source
 
-      abbrev sn : SourceState
-      sn = source_of new.source
+      abbrev sn : StreamState
+      sn = new.source
 
       decides : Decides most status old new settings states all
       decides = record {
@@ -314,8 +317,8 @@ module _ (most status : ℕ) (words : List Text) (old new : Outside) (r : Runs m
     long_ends = by_status status _ r.named
         (λ e. absurd (long_here _ (of_task (Judge o.opens.name) o.opens.settings o.opens.opens (Accepts most old new) (r.accepted e))))
         (λ e. absurd (long_here _ (of_task (Judge o.opens.name) o.opens.settings o.opens.opens (Refuses most old new) (r.refused e))))
-        (λ e. absurd (not_taken_now words o.opens.opens.asked (r.not_taken e).not_taken o.opens.opens.taken))
-        (λ e. let u = r.bad_configuration e in absurd (open_or_refused words _ o.held _ o.opens.settings u.code o.told o.opens.opens u.refused))
+        (λ e. absurd (not_taken_now words o.opens.opens.asked (r.not_taken e).is.0 o.opens.opens.taken))
+        (λ e. let u = (r.bad_configuration e).is in absurd (open_or_refused words _ o.held _ o.opens.settings u.0 o.told o.opens.opens u.1))
         (λ e. absurd (long_here _ (of_task (Judge o.opens.name) o.opens.settings o.opens.opens (FailsToRead most old new) (r.read_fault e))))
         (λ e. inl e)
         (λ e. inr (inl e))
@@ -339,23 +342,23 @@ module _ (most status : ℕ) (words : List Text) (old new : Outside) (r : Runs m
     none_ends = by_status status _ r.named
         (λ e. absurd (none_here _ (of_task (Judge o.name) o.settings o.opens (Accepts most old new) (r.accepted e))))
         (λ e. absurd (none_here _ (of_task (Judge o.name) o.settings o.opens (Refuses most old new) (r.refused e))))
-        (λ e. absurd (not_taken_now words o.opens.asked (r.not_taken e).not_taken o.opens.taken))
-        (λ e. absurd (none_refused (r.bad_configuration e).code (r.bad_configuration e).refused))
+        (λ e. absurd (not_taken_now words o.opens.asked (r.not_taken e).is.0 o.opens.taken))
+        (λ e. absurd (none_refused (r.bad_configuration e).is.0 (r.bad_configuration e).is.1))
         (λ e. absurd (none_here _ (of_task (Judge o.name) o.settings o.opens (FailsToRead most old new) (r.read_fault e))))
         (λ e. absurd (broken ⊥ (r.write_fault e) (λ n. not_taken_now words o.opens.asked n o.opens.taken) none_refused none_long
         (λ u. none_here _ (of_task (Judge o.name) o.settings o.opens (FailsToWrite most old new) u))))
         (λ e. inl e)
         (λ e. inr e)
         (λ e. absurd (none_here _ (of_task (Judge o.name) o.settings o.opens (Exceeds most old new) (r.limit e))))
-        (λ e. absurd (none_long (r.states_long e).opens))
+        (λ e. absurd (none_long (r.states_long e).is.0))
 
   pub ends_as_given : EndsAsGiven most words status old new
   ends_as_given = record {
     short = λ all o le. by_bytes o.ahead o.accepted o.quiet _ (λ s u e. inl e) (λ s u e. inr (inl e)) (λ e. inr (inr e))
-        (λ s u e. let l = long s most _ _ _ _ all o.told u in absurd (omega (arith, le)));
+        (λ s u e. let l = long s most old new all o.told u in absurd (omega (arith, le)));
     long = λ all o lt. by_bytes o.ahead o.accepted o.quiet _
-        (λ s u e. let l = short s most _ _ _ _ all o.told _ u in absurd (omega (arith, lt)))
-        (λ s u e. let l = short s most _ _ _ _ all o.told _ u in absurd (omega (arith, lt)))
+        (λ s u e. let l = short s most old new all o.told _ u in absurd (omega (arith, lt)))
+        (λ s u e. let l = short s most old new all o.told _ u in absurd (omega (arith, lt)))
         (λ e. inr e) (λ s u e. inl e);
     exercise = ended;
     compared = λ settings states all o. decides settings states o.held all o.told;
@@ -365,29 +368,29 @@ module _ (most status : ℕ) (words : List Text) (old new : Outside) (r : Runs m
         (λ e. absurd (not_taken_here _ n (r.accepted e)))
         (λ e. absurd (not_taken_here _ n (r.refused e)))
         (λ e. inl e)
-        (λ e. let u = r.bad_configuration e in absurd (not_taken_now words u.refused.asked n u.refused.taken))
+        (λ e. let u = (r.bad_configuration e).is in absurd (not_taken_now words u.1.asked n u.1.taken))
         (λ e. absurd (not_taken_here _ n (r.read_fault e)))
         (λ e. inr (inl e))
         (λ e. inr (inr e))
         (λ e. let u = r.fetch_fault e in absurd (not_taken_now words u.asked n u.taken))
         (λ e. absurd (not_taken_here _ n (r.limit e)))
-        (λ e. let u = (r.states_long e).opens in absurd (not_taken_now words u.opens.asked n u.opens.taken));
+        (λ e. let u = (r.states_long e).is.0 in absurd (not_taken_now words u.opens.asked n u.opens.taken));
     rejected = λ k. by_status status _ r.named
         (λ e. absurd (opened_refused _ k.held k.code k.told (r.accepted e) k.refused))
         (λ e. absurd (opened_refused _ k.held k.code k.told (r.refused e) k.refused))
-        (λ e. absurd (not_taken_now words k.refused.asked (r.not_taken e).not_taken k.refused.taken))
+        (λ e. absurd (not_taken_now words k.refused.asked (r.not_taken e).is.0 k.refused.taken))
         (λ e. inl e)
         (λ e. absurd (opened_refused _ k.held k.code k.told (r.read_fault e) k.refused))
         (λ e. inr (inl e))
         (λ e. inr (inr (inl e)))
         (λ e. inr (inr (inr e)))
         (λ e. absurd (opened_refused _ k.held k.code k.told (r.limit e) k.refused))
-        (λ e. let u = (r.states_long e).opens in absurd (open_or_refused words _ k.held (Judge u.name) u.settings k.code k.told u.opens k.refused));
+        (λ e. let u = (r.states_long e).is.0 in absurd (open_or_refused words _ k.held (Judge u.name) u.settings k.code k.told u.opens k.refused));
     missing = λ m. by_status status _ r.named
         (λ e. absurd (opened_missing _ (r.accepted e) m))
         (λ e. absurd (opened_missing _ (r.refused e) m))
-        (λ e. absurd (not_taken_now words m.asked (r.not_taken e).not_taken m.taken))
-        (λ e. let u = r.bad_configuration e in absurd (refused_or_missing words _ u.code u.refused m))
+        (λ e. absurd (not_taken_now words m.asked (r.not_taken e).is.0 m.taken))
+        (λ e. let u = (r.bad_configuration e).is in absurd (refused_or_missing words _ u.0 u.1 m))
         (λ e. absurd (opened_missing _ (r.read_fault e) m))
         (λ e. absurd (broken ⊥ (r.write_fault e)
         (λ n. not_taken_now words m.asked n m.taken)
@@ -397,7 +400,7 @@ module _ (most status : ℕ) (words : List Text) (old new : Outside) (r : Runs m
         (λ e. inl e)
         (λ e. inr e)
         (λ e. absurd (opened_missing _ (r.limit e) m))
-        (λ e. let u = (r.states_long e).opens in absurd (open_or_missing words _ (Judge u.name) u.settings u.opens m));
+        (λ e. let u = (r.states_long e).is.0 in absurd (open_or_missing words _ (Judge u.name) u.settings u.opens m));
     no_read_fault = λ calm e. calm (read_risen e);
     no_write_fault = λ calm e. calm (r.write_fault e).risen;
     no_fetch_fault = λ calm e. calm (r.fetch_fault e).risen;

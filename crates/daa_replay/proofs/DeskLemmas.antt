@@ -3,7 +3,7 @@ use Rattle.std.proofs.Common.{◌≡◌, ◌≤◌, ◌<◌, ◌+◌, ◌^◌, �
 use Rattle.std.specs.List.{concat}
 use Rattle.std.specs.Borrow.{Bor, MutBor}
 use Rattle.std.proofs.lemmas.List.Folds.{concat-append}
-use Rattle.daa_ahead.specs.Bytes.{SourceState}
+use Rattle.daa_ahead.specs.Bytes.{StreamState, ToldBytes}
 use Rattle.daa_ahead.specs.Moves.{Moves, wants_more}
 use Rattle.daa_ahead.specs.Takes.{CanTake, StopsAfter, Takes, TakesAll, TakesBytes}
 use Rattle.daa_ahead.specs.declared.taker.Calls.{Calls}
@@ -12,12 +12,10 @@ use Rattle.daa_config.specs.Settings.{Settings}
 use Rattle.daa_engine.specs.declared.engine.Engine.{Engine}
 use Rattle.daa_lines.specs.LinesOf.{Bytes}
 use Rattle.daa_outside.specs.Faults.{HasRisen}
-use Rattle.daa_replay.specs.declared.progress.Progress.{Progress}
-use Rattle.daa_replay.specs.declared.tools.Tools.{Tools}
-use Rattle.daa_replay.specs.Desk.{Desk, desk, IsBetween, CanReport, Writes, Breaks, Steps}
-use Rattle.daa_replay.specs.Outside.{ToldBytes}
-use Rattle.daa_replay.specs.Replaying.{TakesFront}
-use Rattle.daa_replay.specs.Reporting.{Reports}
+use Rattle.daa_replay.specs.declared.replay.Progress.{Progress}
+use Rattle.daa_replay.specs.declared.moment.Tools.{Tools}
+use Rattle.daa_replay.specs.Inside.Replay.{Desk, desk, IsBetween, CanReport, Writes, Breaks, Steps, Reports}
+use Rattle.daa_replay.specs.Replay.{TakesFront}
 
 -- ---- pieces put together
 
@@ -97,5 +95,5 @@ abbrev pub held_desk : {R K G : Type 0} → (K → ToldBytes) → (K → ℕ) �
 held_desk taken faults t = desk t.call.1.now.settings t.call.3.now (taken t.call.2.now) (faults t.call.2.now)
 
 -- the same of a part of what moved
-pub moves_of : (places : ℕ) (ended : Ended) (most : ℕ) (old new : SourceState) (P Q : Bytes → Type 0) → ((bytes : Bytes) → P bytes → Q bytes) → Moves places ended most old new P → Moves places ended most old new Q
+pub moves_of : (places : ℕ) (ended : Ended) (most : ℕ) (old new : StreamState) (P Q : Bytes → Type 0) → ((bytes : Bytes) → P bytes → Q bytes) → Moves places ended most old new P → Moves places ended most old new Q
 moves_of places ended most old new P Q f m = record { taken = m.taken; bound = m.bound; read = m.read; given = f m.taken m.given; never_falls = m.never_falls }

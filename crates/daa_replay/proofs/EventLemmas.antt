@@ -5,9 +5,9 @@ use Rattle.daa_lines.proofs.GrowsLemmas.{Begins, lines_begin, lines_end}
 use Rattle.daa_state.specs.Fault.{Checked}
 use Rattle.daa_state.specs.MomentStep.{State, Stepped, start, finished}
 use Rattle.daa_state.proofs.WordLaws.{word_of-take}
-use Rattle.daa_replay.specs.declared.event.Event.{Event}
-use Rattle.daa_replay.specs.Follows.{state_after}
-use Rattle.daa_replay.specs.Events.{word_step, line_step, next_state, line_event, end_event, events_from, events_of}
+use Rattle.daa_replay.specs.declared.lines.Event.{Event}
+use Rattle.daa_replay.specs.Inside.Lines.{state_after}
+use Rattle.daa_replay.specs.Lines.{word_step, line_step, next_state, line_event, end_event, events_from, events_of}
 
 -- the events of lines are those of the first ones, and then those of the others
 pub events_from-append : (state : State) (number : ℕ) (ended : Bool) (xs ys : List Bytes) →

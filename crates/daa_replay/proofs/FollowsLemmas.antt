@@ -1,6 +1,5 @@
 -- One line more, and the events so far.
-use Rattle.std.proofs.Common.{ℕ, ◌+◌, ◌≡◌, List, [], ◌∷◌, ◌++◌, length, Option, None, Some, arith, refl, sym, ap, ap₂, ◌∙◌, Bool, true, false, append-nil, subst}
-use Rattle.std.proofs.Common.{take, drop, ◌≤◌, append_assoc}
+use Rattle.std.proofs.Common.{ℕ, ◌+◌, ◌≡◌, List, [], ◌∷◌, ◌++◌, length, Option, None, Some, arith, refl, sym, ap, ap₂, ◌∙◌, Bool, true, false, append-nil, subst, take, drop, ◌≤◌, append_assoc}
 use Rattle.std.proofs.lemmas.List.{take-append-le, take-append-drop}
 use Rattle.daa_lines.specs.LinesOf.{Bytes, lines_of, shown}
 use Rattle.daa_lines.specs.Cutting.{Cutting, is_standing}
@@ -9,13 +8,13 @@ use Rattle.daa_lines.specs.Taking.{after_taking}
 use Rattle.daa_lines.specs.declared.lines.Stage.{Stage}
 use Rattle.daa_lines.specs.declared.lines.Stage.TheVariants.{Open, Whole, Long, Skipping}
 use Rattle.daa_state.specs.MomentStep.{State, start, finished}
-use Rattle.daa_replay.specs.declared.event.Event.{Event}
+use Rattle.daa_replay.specs.declared.lines.Event.{Event}
 use Rattle.daa_state.specs.Fault.{Checked}
 use Rattle.daa_state.specs.WordOf.{word_of}
 use Rattle.daa_state.specs.declared.word.Word.{Word}
 use Rattle.daa_lines.proofs.TakingLemmas.{standing_none, standing_one}
-use Rattle.daa_replay.specs.Events.{word_step, line_step, next_state, line_event, end_event, events_from, events_of}
-use Rattle.daa_replay.specs.Follows.{Follows, state_after, given_with}
+use Rattle.daa_replay.specs.Lines.{word_step, line_step, next_state, line_event, end_event, events_from, events_of}
+use Rattle.daa_replay.specs.Inside.Lines.{Follows, state_after, given_with}
 use Rattle.daa_replay.proofs.EventLemmas.{events_from-append, events_begin, events_from-push, events_from-end, events_from-shown, state_after-append}
 
 -- the line that stands is taken, and its event is given

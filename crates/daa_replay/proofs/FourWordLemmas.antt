@@ -9,9 +9,9 @@ use Rattle.daa_state.specs.Laws.{is_format_word}
 use Rattle.daa_state.specs.MomentStep.{State, Stepped, start, step}
 use Rattle.daa_state.specs.declared.word.Word.{Word}
 use Rattle.daa_state.proofs.FormatLaws.{only_format_lines_say_formats, word_of-four, step-format}
-use Rattle.daa_replay.specs.declared.event.Event.{Event}
-use Rattle.daa_replay.specs.Events.{word_step, line_step, next_state, line_event, events_from, events_of}
-use Rattle.daa_replay.specs.FourWordEvents.{four_line_step, four_events_from, four_events_of, ReadsAsFourWords}
+use Rattle.daa_replay.specs.declared.lines.Event.{Event}
+use Rattle.daa_replay.specs.Lines.{word_step, line_step, next_state, line_event, events_from, events_of}
+use Rattle.daa_replay.specs.FourWordLines.{four_line_step, four_events_from, four_events_of, ReadsAsFourWords}
 
 format_kept : (state : State) (word : Checked Word) → IfOk word (λ w. is_format_word w ≡ false)
     → (next_state state (word_step state word)).format ≡ state.format

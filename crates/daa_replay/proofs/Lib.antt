@@ -3,7 +3,7 @@ pub mod FollowsLemmas
 pub mod TextLemmas
 pub mod ReportLemmas
 pub mod DeskLemmas
-pub mod RunLemmas
+pub mod ReplayLemmas
 pub mod FourWordLemmas
 pub mod OneText
 pub mod CompleteLemmas
@@ -11,6 +11,6 @@ pub mod OpeningLemmas
 pub mod PictureLemmas
 pub mod SomeReport
 pub mod AgeLemmas
-pub mod PerformLemmas
-pub mod JudgingLemmas
+pub mod RunLemmas
+pub mod JudgeLemmas
 pub mod ComparedLemmas

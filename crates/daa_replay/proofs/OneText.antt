@@ -4,10 +4,10 @@ use Rattle.daa_config.specs.Settings.{Settings, IsAccepted}
 use Rattle.daa_lines.specs.LinesOf.{Bytes}
 use Rattle.daa_report.specs.Lines.{Text}
 use Rattle.daa_engine.proofs.OnlyLemmas.{text_only}
-use Rattle.daa_replay.specs.declared.event.Event.{Event}
-use Rattle.daa_replay.specs.declared.event.Event.TheVariants as event
-use Rattle.daa_replay.specs.Events.{events_of}
-use Rattle.daa_replay.specs.Report.{IsEventText, AreTexts, BeginsText, IsReportFront, IsReportOf}
+use Rattle.daa_replay.specs.declared.lines.Event.{Event}
+use Rattle.daa_replay.specs.declared.lines.Event.TheVariants as event
+use Rattle.daa_replay.specs.Lines.{events_of}
+use Rattle.daa_replay.specs.Moment.{IsEventText, AreTexts, BeginsText, IsReportFront, IsReportOf}
 
 module _ (settings : Settings) (accepted : IsAccepted settings) where
   event_once : (e : Event) (t u : Text) → IsEventText settings e t → IsEventText settings e u → t ≡ u
@@ -40,9 +40,9 @@ module _ (settings : Settings) (accepted : IsAccepted settings) where
   pub front_begins : (bytes : Bytes) (ended : Bool) (front text : Text) → IsReportFront settings bytes ended front → IsReportOf settings bytes ended text
       → (rest : Text) × (text ≡ front ++ rest)
   front_begins bytes ended front text f h =
-      let s = texts_split f.told f.later text (subst (λ (es : List Event). AreTexts settings es text) f.events h) in
+      let s = texts_split f.written f.later text (subst (λ (es : List Event). AreTexts settings es text) f.events h) in
       let b = begins_whole f.later f.begun s.1 f.begins s.3 in (
         b.0,
-        s.4 ∙ ap₂ (λ (x y : Text). x ++ y) (texts_once f.told s.0 f.whole s.2 f.texts) b.1 ∙ sym (append_assoc f.whole f.begun b.0)
+        s.4 ∙ ap₂ (λ (x y : Text). x ++ y) (texts_once f.written s.0 f.whole s.2 f.texts) b.1 ∙ sym (append_assoc f.whole f.begun b.0)
             ∙ ap (λ (x : Text). x ++ b.0) (sym f.together),
       )

@@ -6,8 +6,8 @@ use Rattle.daa_lines.specs.LinesOf.{Bytes}
 use Rattle.daa_state.specs.Fault.{Checked}
 use Rattle.daa_state.specs.MomentStep.{State, Stepped, finished}
 use Rattle.daa_state.specs.declared.word.Picture.{Picture}
-use Rattle.daa_replay.specs.declared.event.Event.TheVariants as event
-use Rattle.daa_replay.specs.Events.{line_step, next_state, picture_event, line_event, end_event, events_from, OfPicture}
+use Rattle.daa_replay.specs.declared.lines.Event.TheVariants as event
+use Rattle.daa_replay.specs.Lines.{line_step, next_state, picture_event, line_event, end_event, events_from, OfPicture}
 
 -- what a line leaves: a state that is so, and, where it ends a moment, a picture of which P holds
 pub record Leaves (IsSo : State → Type 0) (P : Picture → Type 0) (next : Stepped) : Type 0 where

@@ -13,14 +13,14 @@ use Rattle.daa_lines.specs.Stands.{Stands}
 use Rattle.daa_state.specs.MomentStep.{State}
 use Rattle.daa_report.specs.Lines.{Text}
 use Rattle.daa_report.specs.Says.{AppendsFront}
-use Rattle.daa_replay.specs.declared.event.Event.{Event}
-use Rattle.daa_replay.specs.declared.progress.Progress.{Progress}
-use Rattle.daa_replay.specs.Events.{events_of, is_refusal}
-use Rattle.daa_replay.specs.Follows.{Follows}
-use Rattle.daa_replay.specs.Report.{IsEventText, AreTexts}
-use Rattle.daa_replay.specs.Outside.{ToldBytes}
-use Rattle.daa_replay.specs.Replaying.{TakesFront}
-use Rattle.daa_replay.specs.Reporting.{Reports, ReportsAll}
+use Rattle.daa_replay.specs.declared.lines.Event.{Event}
+use Rattle.daa_replay.specs.declared.replay.Progress.{Progress}
+use Rattle.daa_replay.specs.Lines.{events_of, is_refusal}
+use Rattle.daa_replay.specs.Inside.Lines.{Follows}
+use Rattle.daa_replay.specs.Moment.{IsEventText, AreTexts}
+use Rattle.daa_ahead.specs.Bytes.{ToldBytes}
+use Rattle.daa_replay.specs.Replay.{TakesFront}
+use Rattle.daa_replay.specs.Inside.Replay.{Reports, ReportsAll}
 use Rattle.daa_replay.proofs.EventLemmas.{events_begin}
 use Rattle.daa_replay.proofs.FollowsLemmas.{given_begins, follows-fed, follows-as}
 use Rattle.daa_replay.proofs.TextLemmas.{texts-push, begins-more}
@@ -70,7 +70,7 @@ module _ {settings : Settings} where
   stops-event first before now bytes ended given more event whole text events texts taken is front = record {
     text = whole ++ front.0;
     front = record {
-      told = given;
+      written = given;
       later = event ∷ more;
       events = events ∙ append_assoc given (event ∷ []) more;
       whole = whole;
@@ -99,9 +99,9 @@ module _ {settings : Settings} where
       let longer = events_begin bytes more in record {
         text = s.text;
         front = record {
-          told = s.front.told;
+          written = s.front.written;
           later = s.front.later ++ longer.0;
-          events = longer.1 ∙ ap (λ (e : List Event). e ++ longer.0) s.front.events ∙ append_assoc s.front.told s.front.later longer.0;
+          events = longer.1 ∙ ap (λ (e : List Event). e ++ longer.0) s.front.events ∙ append_assoc s.front.written s.front.later longer.0;
           whole = s.front.whole;
           texts = s.front.texts;
           begun = s.front.begun;

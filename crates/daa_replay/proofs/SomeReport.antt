@@ -15,10 +15,10 @@ use Rattle.daa_state.proofs.WordRanges.{word_of-range}
 use Rattle.daa_state.proofs.StepRanges.{IsStateInRange, IsSteppedInRange, step-range}
 use Rattle.daa_report.specs.Lines.{Text, refused_line}
 use Rattle.daa_engine.proofs.SomeText.{one_text}
-use Rattle.daa_replay.specs.declared.event.Event.{Event}
-use Rattle.daa_replay.specs.declared.event.Event.TheVariants as event
-use Rattle.daa_replay.specs.Events.{line_step, next_state, picture_event, line_event, end_event, events_from, events_of, IsEventInRange}
-use Rattle.daa_replay.specs.Report.{IsEventText, AreTexts, IsReportOf}
+use Rattle.daa_replay.specs.declared.lines.Event.{Event}
+use Rattle.daa_replay.specs.declared.lines.Event.TheVariants as event
+use Rattle.daa_replay.specs.Lines.{line_step, next_state, picture_event, line_event, end_event, events_from, events_of, IsEventInRange}
+use Rattle.daa_replay.specs.Moment.{IsEventText, AreTexts, IsReportOf}
 use Rattle.daa_replay.proofs.PictureLemmas.{Leaves, each_picture}
 use Rattle.daa_replay.proofs.OneText.{report_once}
 

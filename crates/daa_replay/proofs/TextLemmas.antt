@@ -2,8 +2,8 @@
 use Rattle.std.proofs.Common.{List, [], ◌∷◌, ◌++◌, refl, sym, append_assoc, append-nil, inl}
 use Rattle.daa_config.specs.Settings.{Settings}
 use Rattle.daa_report.specs.Lines.{Text}
-use Rattle.daa_replay.specs.declared.event.Event.{Event}
-use Rattle.daa_replay.specs.Report.{IsEventText, AreTexts, BeginsText}
+use Rattle.daa_replay.specs.declared.lines.Event.{Event}
+use Rattle.daa_replay.specs.Moment.{IsEventText, AreTexts, BeginsText}
 
 module _ (settings : Settings) where
   pub texts-append : (es fs : List Event) (t u : Text) → AreTexts settings es t → AreTexts settings fs u → AreTexts settings (es ++ fs) (t ++ u)

@@ -9,7 +9,7 @@ use Rattle.daa_words.specs.Order.{order_of}
 use Rattle.daa_words.specs.Task.{Task, Replay, Exercise}
 use Rattle.daa_replay.specs.Outside.{Outside}
 use Rattle.daa_replay.specs.Opening.{Opens, OpensStates, OpensLong, IsRefused, HoldsNone, HoldsNoStates}
-use Rattle.daa_replay.specs.Report.{IsReportOf}
+use Rattle.daa_replay.specs.Moment.{IsReportOf}
 use Rattle.daa_replay.specs.Run.{Runs}
 
 -- no count of faults rose
@@ -18,7 +18,8 @@ pub record IsQuiet (old new : Outside) : Type 0 where
   pub source : ¬ HasRisen old.source.faults new.source.faults
   pub sink : ¬ HasRisen old.sink.faults new.sink.faults
 
--- the words are taken and ask for the task, and the shelf, which tells its texts, holds an accepted configuration under the name
+-- the words are taken and ask for the task, and the shelf, which tells its texts, holds an accepted
+-- configuration under the name
 -- that they give
 pub record HoldsAccepted (words : List Text) (texts : Option Texts) (task : Task) : Type 0 where
   pub held : Texts
@@ -33,8 +34,10 @@ pub record HoldsRefused (words : List Text) (texts : Option Texts) : Type 0 wher
   pub code : ℕ
   pub refused : IsRefused words texts code
 
--- the words are taken and ask for a comparison, and the shelf, which tells its texts, holds an accepted configuration and these states
-pub record HoldsStates (words : List Text) (texts : Option Texts) (settings : Settings) (states : Text) : Type 0 where
+-- the words are taken and ask for a comparison, and the shelf, which tells its texts, holds an
+-- accepted configuration and these states
+pub record HoldsStates (words : List Text) (texts : Option Texts) (settings : Settings)
+    (states : Text) : Type 0 where
   pub held : Texts
   pub told : texts ≡ Some held
   pub opens : OpensStates words texts settings states
@@ -57,24 +60,29 @@ pub record IsQuietReplay (words : List Text) (old new : Outside) (all : Bytes) :
   pub quiet : IsQuiet old new
 
 -- a comparison of these bytes with the report of states that the shelf holds
-pub record IsComparison (words : List Text) (old : Outside) (settings : Settings) (states all : Bytes) : Type 0 where
+pub record IsComparison (words : List Text) (old : Outside) (settings : Settings)
+    (states all : Bytes) : Type 0 where
   pub held : HoldsStates words old.shelf.texts settings states
   pub told : old.source.bytes ≡ Some all
 
--- what the status of a comparison of these bytes says, of which at most so many are read
-pub record Decides (most status : ℕ) (old new : Outside) (settings : Settings) (states all : Bytes) : Type 0 where
+-- what the status of a comparison says of these bytes, of which at most `most` are read
+pub record Decides (most status : ℕ) (old new : Outside) (settings : Settings)
+    (states all : Bytes) : Type 0 where
   -- whatever failed: at 0 they are the report of the states, and at 1 they are not
   pub same : status ≡ 0 → IsReportOf settings states true all
   pub other : status ≡ 1 → IsReportOf settings states true all → ⊥
   -- where no count rose, it says so, or
   pub short : IsQuiet old new → length all ≤ most → (status ≡ 0) ⊎ ((status ≡ 1) ⊎ (status ≡ 6))
-  -- of more bytes than may be read whether the report begins with those that may be: it does at 8, and does not at 1
+  -- of more bytes than may be read whether the report begins with those that may be: it does at 8,
+  -- and does not at 1
   pub long : IsQuiet old new → most < length all → (status ≡ 8) ⊎ ((status ≡ 1) ⊎ (status ≡ 6))
   pub begins : status ≡ 8 → BeginsReport settings states (take most all)
   pub parts : status ≡ 1 → most < length all → BeginsReport settings states (take most all) → ⊥
 
--- how a run ends, as far as the words, the shelf and the number of bytes say it; want of memory is free
-pub record EndsAsGiven (most : ℕ) (words : List Text) (status : ℕ) (old new : Outside) : Type 0 where
+-- how a run ends, as far as the words, the shelf and the number of bytes say it; memory may run out
+-- in each case
+pub record EndsAsGiven (most : ℕ) (words : List Text) (status : ℕ)
+    (old new : Outside) : Type 0 where
   -- a replay with an accepted configuration, where no count rose: by the number of bytes
   pub short : (all : Bytes) → IsQuietReplay words old new all → length all ≤ most
       → (status ≡ 0) ⊎ ((status ≡ 1) ⊎ (status ≡ 6))
@@ -99,6 +107,7 @@ pub record EndsAsGiven (most : ℕ) (words : List Text) (status : ℕ) (old new 
   pub no_write_fault : ¬ HasRisen old.sink.faults new.sink.faults → status ≢ 5
   pub no_fetch_fault : ¬ HasRisen old.shelf.faults new.shelf.faults → status ≢ 7
 
+-- every run ends so
 abbrev pub RunsAreComplete : Type 0
 RunsAreComplete = (most status : ℕ) (words : List Text) (old new : Outside)
     → Runs most words status old new → EndsAsGiven most words status old new

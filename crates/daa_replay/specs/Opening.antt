@@ -21,8 +21,10 @@ long_line = codes "states long\n"
 abbrev pub IsHeld : Option Texts → Text → Text → Type 0
 IsHeld texts name text = IfSome texts (λ held. held name ≡ Some text)
 
--- the words are taken and ask for the task, and the text that the shelf holds under the name that they give is this configuration
-pub record Opens (words : List Text) (texts : Option Texts) (task : Task) (settings : Settings) : Type 0 where
+-- the words are taken and ask for the task, and the text that the shelf holds under the name that
+-- they give is this configuration
+pub record Opens (words : List Text) (texts : Option Texts) (task : Task)
+    (settings : Settings) : Type 0 where
   pub asked : Asked
   pub taken : order_of words ≡ Some asked
   pub wanted : asked.task ≡ task
@@ -32,10 +34,13 @@ pub record Opens (words : List Text) (texts : Option Texts) (task : Task) (setti
 
 -- the shelf holds a text under the name that is too long to be fetched, where it tells its texts
 abbrev pub IsHeldLong : Option Texts → Text → Type 0
-IsHeldLong texts name = IfSome texts (λ held. IsSomeAnd (held name) (λ text. longest_text < length text))
+IsHeldLong texts name =
+    IfSome texts (λ held. IsSomeAnd (held name) (λ text. longest_text < length text))
 
--- the words ask for a comparison with the report of the states under a name, which the shelf holds there
-pub record OpensStates (words : List Text) (texts : Option Texts) (settings : Settings) (states : Text) : Type 0 where
+-- the words ask for a comparison with the report of the states under a name, which the shelf holds
+-- there
+pub record OpensStates (words : List Text) (texts : Option Texts) (settings : Settings)
+    (states : Text) : Type 0 where
   pub name : Text
   pub opens : Opens words texts (Judge name) settings
   pub held : IsHeld texts name states
@@ -48,7 +53,8 @@ pub record OpensLong (words : List Text) (texts : Option Texts) : Type 0 where
   pub opens : Opens words texts (Judge name) settings
   pub long : IsHeldLong texts name
 
--- the words are taken, and the text that the shelf holds under the name that they give is refused with this code
+-- the words are taken, and the text that the shelf holds under the name that they give is refused
+-- with this code
 pub record IsRefused (words : List Text) (texts : Option Texts) (code : ℕ) : Type 0 where
   pub asked : Asked
   pub taken : order_of words ≡ Some asked
@@ -58,7 +64,8 @@ pub record IsRefused (words : List Text) (texts : Option Texts) (code : ℕ) : T
   pub refused : config_of text ≡ Err fault
   pub numbered : code_of fault ≡ Some code
 
--- the words are taken, and the shelf, which tells its texts, holds none under the name that they give
+-- the words are taken, and the shelf, which tells its texts, holds none under the name that they
+-- give
 pub record HoldsNone (words : List Text) (texts : Option Texts) : Type 0 where
   pub asked : Asked
   pub taken : order_of words ≡ Some asked
@@ -66,8 +73,8 @@ pub record HoldsNone (words : List Text) (texts : Option Texts) : Type 0 where
   pub told : texts ≡ Some held
   pub missing : held asked.config ≡ None
 
--- the words ask for a comparison with the report of states, the configuration is accepted, and the shelf, which tells its texts, holds
--- no states under the name that they give
+-- the words ask for a comparison with the report of states, the configuration is accepted, and the
+-- shelf, which tells its texts, holds no states under the name that they give
 pub record HoldsNoStates (words : List Text) (texts : Option Texts) : Type 0 where
   pub name : Text
   pub settings : Settings
@@ -76,7 +83,9 @@ pub record HoldsNoStates (words : List Text) (texts : Option Texts) : Type 0 whe
   pub told : texts ≡ Some held
   pub missing : held name ≡ None
 
--- a shelf that tells its texts gives words one task and one configuration at most
+-- where the shelf tells its texts, a command line selects at most one task and one configuration
 abbrev pub ConfigurationsAreUnique : Type 0
-ConfigurationsAreUnique = (words : List Text) (held : Texts) (task other_task : Task) (settings other : Settings)
-    → Opens words (Some held) task settings → Opens words (Some held) other_task other → (task ≡ other_task) × (settings ≡ other)
+ConfigurationsAreUnique = (words : List Text) (held : Texts) (task other_task : Task)
+    (settings other : Settings)
+    → Opens words (Some held) task settings → Opens words (Some held) other_task other
+    → (task ≡ other_task) × (settings ≡ other)

@@ -1,33 +1,27 @@
--- What shows of the shelf, the source and the sink that a run is given.
+-- What contracts see of the shelf, the source and the sink of a run.
 use Rattle.std.specs.Prelude.{ℕ, ◌≡◌, List, Option}
 use Rattle.std.specs.Io.KnownBytes.{Appends}
+use Rattle.daa_ahead.specs.Bytes.{StreamState}
 use Rattle.daa_outside.specs.Shelf.{Texts}
-
--- the bytes that a source has left or that a sink took, where it tells them
-abbrev pub ToldBytes : Type 0
-ToldBytes = Option (List ℕ)
-
--- of a source or of a sink: its bytes and its count of faults
-pub record StreamState : Type 0 where
-  pub bytes : ToldBytes
-  pub faults : ℕ
-
-abbrev pub stream_state : ToldBytes → ℕ → StreamState
-stream_state bytes faults = record { bytes = bytes; faults = faults }
+use Rattle.daa_report.specs.Lines.{Text}
+use Rattle.daa_report.specs.Says.{AppendsFront}
 
 -- of a shelf: the texts that it holds, where it tells them, and its count of faults
 pub record ShelfState : Type 0 where
   pub texts : Option Texts
   pub faults : ℕ
 
+-- the state of these texts and this count
 abbrev pub shelf_state : Option Texts → ℕ → ShelfState
 shelf_state texts faults = record { texts = texts; faults = faults }
 
+-- the three objects that a run is given
 pub record Outside : Type 0 where
   pub shelf : ShelfState
   pub source : StreamState
   pub sink : StreamState
 
+-- the three together
 abbrev pub outside : ShelfState → StreamState → StreamState → Outside
 outside shelf source sink = record { shelf = shelf; source = source; sink = sink }
 
@@ -39,3 +33,18 @@ IsCalm old new = new.faults ≡ old.faults
 pub record Takes (old new : StreamState) (text : List ℕ) : Type 0 where
   pub taken : Appends old.bytes new.bytes text
   pub calm : IsCalm old new
+
+module _ (P : Text → Type 0) (old new : Outside) where
+  -- nothing was read, and a text of which P holds was written
+  pub record OnlyWrites : Type 0 where
+    pub source : new.source ≡ old.source
+    pub text : Text
+    pub is : P text
+    pub written : Takes old.sink new.sink text
+
+  -- nothing was read, and a beginning of such a text was written
+  pub record OnlyBegins : Type 0 where
+    pub source : new.source ≡ old.source
+    pub text : Text
+    pub is : P text
+    pub begun : AppendsFront old.sink.bytes new.sink.bytes text

@@ -5,14 +5,14 @@ ghost use Rattle.daa_config.specs.One.{HasOne};
 ghost use Rattle.daa_config.specs.Settings.{IsAccepted, Settings};
 ghost use Rattle.daa_lines.specs.LinesOf.{Bytes};
 ghost use Rattle.daa_report.specs.Lines.{Text};
-ghost use Rattle.daa_replay.specs.declared.event.Event.{Event};
-ghost use Rattle.daa_replay.specs.Events.{events_of, IsEventInRange};
-ghost use Rattle.daa_replay.specs.FourWordEvents.{HasNoAges, ReadsAsFourWords};
-ghost use Rattle.daa_replay.specs.Report.{IsReportFront, IsReportOf};
+ghost use Rattle.daa_replay.specs.declared.lines.Event.{Event};
+ghost use Rattle.daa_replay.specs.Lines.{events_of, IsEventInRange};
+ghost use Rattle.daa_replay.specs.FourWordLines.{HasNoAges, ReadsAsFourWords};
+ghost use Rattle.daa_replay.specs.Moment.{IsReportFront, IsReportOf};
 ghost use Rattle.daa_replay.specs.Complete.{RunsAreComplete};
 ghost use Rattle.daa_replay.specs.Opening.{ConfigurationsAreUnique};
 
-use crate::event::Event;
+use crate::lines::Event;
 use daa_state::LineFault;
 
 /// Under an accepted configuration exactly one text is the report of an input: every run of bytes
@@ -29,7 +29,8 @@ pub fn ended_moments_are_in_range()
 
 /// A beginning of a report, as it is said event by event, is a beginning of the whole text.
 pub fn fronts_begin_reports()
-    ensures { (settings : Settings) (bytes : Bytes) (ended : Bool) (front text : Text) → IsAccepted settings
+    ensures { (settings : Settings) (bytes : Bytes) (ended : Bool) (front text : Text)
+        → IsAccepted settings
         → IsReportFront settings bytes ended front → IsReportOf settings bytes ended text
         → (rest : Text) × (text ≡ front ++ rest) }
 {}
@@ -57,13 +58,13 @@ pub fn format_lines_alone_matter()
 /// begins with those that may be; whatever failed, at 0 the bytes are the report and at 1 they are
 /// not. With longer states it ends with 5, 7 or 9, with none under the name with 7. With words that
 /// are not taken a run ends with 2 or 5, with a refused configuration with 3, 5 or 7, with none
-/// under the name with 7. Want of memory, 6, may come in each. Where the count of faults of the
+/// under the name with 7. Memory may run out in each: 6. Where the count of faults of the
 /// source, the sink or the shelf did not rise, 4, 5 or 7 does not come.
 pub fn runs_are_complete()
     ensures { RunsAreComplete }
 {}
 
-/// A shelf that tells its texts gives words one task and one configuration at most.
+/// Where the shelf tells its texts, a command line selects at most one task and one configuration.
 pub fn configurations_are_unique()
     ensures { ConfigurationsAreUnique }
 {}
@@ -76,7 +77,14 @@ pub fn worked_examples()
         ≡ Event.Refused 2 LineFault.NoOwn
         ∷ Event.Ended (record {
           time = 0;
-          own = record { x = pos 0; y = pos 0; alt = pos 1000; trk = pos 0; gs = pos 3600; vs = pos 0 };
+          own = record {
+            x = pos 0;
+            y = pos 0;
+            alt = pos 1000;
+            trk = pos 0;
+            gs = pos 3600;
+            vs = pos 0;
+          };
           traffic = record { items = [] };
         }) ∷ [] }
     ensures unfinished { events_of

@@ -1,32 +1,25 @@
 //! The program: reads its command words and the configuration that they name. A replay then reads
 //! state lines from a source and writes their report to a sink: each ended moment gives its lines,
 //! which the engine writes; each refused line gives its number and the code of its fault. An
-//! exercise writes the summary of moments that are drawn. A comparison tells whether a report is
+//! exercise writes the summary of moments that are drawn. A comparison says whether a report is
 //! that of given states.
 #![tactic(auto)]
 
-mod event;
-mod event_text;
 mod judge;
-mod judging;
 mod laws;
+mod lines;
+mod moment;
 mod opening;
-mod perform;
 mod program;
-mod progress;
-mod reading;
 mod replay;
-mod reporting;
 mod status;
-mod telling;
-mod tools;
 
-pub use event::Event;
 pub use laws::{
     configurations_are_unique, ended_moments_are_in_range, events_only_grow,
     every_input_has_one_report, format_lines_alone_matter, fronts_begin_reports, runs_are_complete,
     worked_examples,
 };
+pub use lines::Event;
 pub use program::{run, run_within};
 
 #[cfg(test)]

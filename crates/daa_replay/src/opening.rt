@@ -5,8 +5,8 @@ ghost use Rattle.daa_outside.specs.Faults.{HasRisen};
 ghost use Rattle.daa_words.specs.Order.{IsInRange, TaskIsInRange, meaning, task_of};
 ghost use Rattle.daa_words.specs.Task.{Judge};
 ghost use Rattle.daa_engine.specs.EngineState.{IsWorkerCount};
-ghost use Rattle.daa_replay.specs.Ready.{FetchesAs, MakesReady, OpensAs, PreparesAs, ReadsAs, WorkIsInRange, settings_in, unready_of};
-ghost use Rattle.daa_replay.specs.Ready as spec;
+ghost use Rattle.daa_replay.specs.Inside.Opening.{FetchesAs, MakesReady, OpensAs, PreparesAs, ReadsAs, WorkIsInRange, settings_in, unready_of};
+ghost use Rattle.daa_replay.specs.Inside.Opening as spec;
 
 use daa_config::{Config, ConfigFault, read};
 use daa_engine::{Engine, NoMemory};
@@ -18,9 +18,9 @@ use std::alloc::Global;
 /// What a run is to do.
 #[derive(Drop)]
 pub(crate) enum Work {
-    /// Moments are read, by up to so many pieces ahead, and each is decided.
+    /// Moments are read, by up to `ahead` pieces ahead, and each is decided.
     Replay { ahead: u32 },
-    /// So many moments are drawn, and each is decided.
+    /// `moments` moments are drawn, and each is decided.
     Exercise { seed: u32, moments: u32 },
     /// A report is compared with that of these states, each text of which is written on the sheet
     /// first.
@@ -39,8 +39,8 @@ pub(crate) struct Ready {
 pub(crate) enum Unready {
     /// The command words are not taken.
     NotTaken,
-    /// The configuration is refused with this code.
-    Refused(u8),
+    /// The configuration is refused.
+    Refused(ConfigFault),
     /// The states are too long.
     StatesLong,
     /// The shelf failed, or holds nothing under a name.
@@ -54,7 +54,7 @@ fn cause_of(fault: ConfigFault) -> Unready
     ensures { result ≡ unready_of fault }
 {
     match fault.code() {
-        Some(code) => Unready::Refused(code),
+        Some(_) => Unready::Refused(fault),
         None => Unready::NoMemory,
     }
 }
@@ -70,8 +70,8 @@ fn read_text(alloc: Global, text: &[u8]) -> Result<Config, Unready>
 }
 
 /// Why there is no text, where one that is too long makes the run `long`.
-fn unfetched(fault: FetchFault, long: Unready) -> Unready
-    ensures { result ≡ spec.unfetched long fault }
+fn cause_of_fetch(fault: FetchFault, long: Unready) -> Unready
+    ensures { result ≡ spec.cause_of_fetch long fault }
 {
     match fault {
         FetchFault::TooLong => long,
@@ -91,11 +91,11 @@ fn fetch<F: Shelf>(alloc: Global, shelf: &mut F, name: &str) -> Result<Config, U
 {
     match shelf.fetch(alloc, name) {
         Ok(text) => read_text(alloc, text.as_slice()),
-        Err(fault) => Err(unfetched(fault, cause_of(ConfigFault::TooLong))),
+        Err(fault) => Err(cause_of_fetch(fault, cause_of(ConfigFault::TooLong))),
     }
 }
 
-/// The engine of the configuration that the shelf holds under the name, with so many workers.
+/// The engine of the configuration that the shelf holds under the name, with `workers` workers.
 fn fetch_engine<F: Shelf>(
     alloc: Global,
     shelf: &mut F,
@@ -134,7 +134,7 @@ fn fetch_states<F: Shelf>(alloc: Global, shelf: &mut F, name: &str) -> Result<Wo
             Ok(sheet) => Ok(Work::Judge { states, sheet }),
             Err(_) => Err(Unready::NoMemory),
         },
-        Err(fault) => Err(unfetched(fault, Unready::StatesLong)),
+        Err(fault) => Err(cause_of_fetch(fault, Unready::StatesLong)),
     }
 }
 

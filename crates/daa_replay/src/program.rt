@@ -1,15 +1,19 @@
 //! The top call: all that the program does.
 
 ghost use Rattle.std.specs.Prelude.{◌≡◌, ◌≤◌, ◌^◌, map, string_bytes};
-ghost use Rattle.daa_replay.specs.Outside.{outside, shelf_state, stream_state};
+ghost use Rattle.daa_replay.specs.Outside.{outside, shelf_state, ShelfState};
+ghost use Rattle.daa_ahead.specs.Bytes.{stream_state};
 ghost use Rattle.daa_replay.specs.Run.{Runs};
-ghost use Rattle.daa_replay.specs.Status.{code_of};
+ghost use Rattle.daa_replay.specs.Inside.Status.{code_of};
+ghost use Rattle.daa_replay.specs.Inside.Run.{Performs};
+ghost use Rattle.daa_replay.specs.Inside.Opening.{WorkIsInRange};
 
-use crate::opening::open;
-use crate::perform::perform;
-use crate::status::Status;
-use crate::telling::tell;
-use crate::tools::Tools;
+use crate::judge::run_judge;
+use crate::moment::Tools;
+use crate::opening::{Ready, Work, open};
+use crate::replay::run_replay;
+use crate::status::{Status, status_of, write_reason};
+use daa_exercise::exercise;
 use daa_outside::{Gate, Shelf, Sink, Source};
 use std::alloc::Global;
 use std::thread::Threads;
@@ -17,8 +21,8 @@ use std::thread::Threads;
 /// The most bytes that a run reads.
 const MOST_BYTES: u64 = 1 << 40;
 
-/// Makes ready, and performs what the words ask for.
-fn conduct<R: Threads + Sync, F: Shelf, S: Source + Send, K: Sink + Send, G: Gate>(
+/// Runs what the words ask for.
+fn run_words<R: Threads + Sync, F: Shelf, S: Source + Send, K: Sink + Send, G: Gate>(
     tools: &Tools<'_, R, G>,
     words: &[String],
     shelf: &mut F,
@@ -37,8 +41,8 @@ fn conduct<R: Threads + Sync, F: Shelf, S: Source + Send, K: Sink + Send, G: Gat
         (stream_state (K.taken sink.new) (K.faults sink.new))) }
 {
     match open(tools.alloc, words, shelf) {
-        Ok(ready) => perform(tools, ready, source, sink, most),
-        Err(why) => tell(why, sink),
+        Ok(ready) => run_work(tools, ready, source, sink, most),
+        Err(why) => write_reason(why, sink),
     }
 }
 
@@ -60,11 +64,10 @@ fn conduct<R: Threads + Sync, F: Shelf, S: Source + Send, K: Sink + Send, G: Gat
 /// - 6 where there was no memory for words, texts, configuration, engine or sheet; nothing is read
 ///   or written;
 /// - 8 exactly where `most` bytes were read and there was one more, and the sink did not fail
-///   before
-///   they were reported; of a comparison only where the report begins with those bytes;
+///   before they were reported; of a comparison only where the report begins with those bytes;
 /// - 9 where the states have more than 65536 bytes; `states long` is written.
 ///
-/// Once the source is read, want of memory is answered no more.
+/// Memory can run out only before the source is read.
 pub fn run_within<R: Threads + Sync, F: Shelf, S: Source + Send, K: Sink + Send, G: Gate>(
     rt: &R,
     alloc: Global,
@@ -86,7 +89,7 @@ pub fn run_within<R: Threads + Sync, F: Shelf, S: Source + Send, K: Sink + Send,
         (stream_state (K.taken sink.new) (K.faults sink.new))) }
 {
     let tools = Tools { rt, alloc, gate };
-    conduct(&tools, words, shelf, source, sink, most).code()
+    run_words(&tools, words, shelf, source, sink, most).code()
 }
 
 /// As [`run_within`] with 2^40 bytes.
@@ -108,4 +111,48 @@ pub fn run<R: Threads + Sync, F: Shelf, S: Source + Send, K: Sink + Send, G: Gat
         (stream_state (K.taken sink.new) (K.faults sink.new))) }
 {
     run_within(rt, alloc, words, shelf, source, sink, gate, MOST_BYTES)
+}
+
+/// Runs a replay or a comparison, which reads at most `most` bytes, or an exercise.
+pub(crate) fn run_work<R: Threads + Sync, S: Source + Send, K: Sink + Send, G: Gate>(
+    tools: &Tools<'_, R, G>,
+    ready: Ready,
+    source: &mut S,
+    sink: &mut K,
+    most: u64,
+) -> Status
+    requires some { 1 ≤ most }
+    requires most { most ≤ 2 ^ 40 }
+    requires work { WorkIsInRange ready.work }
+    ensures { (before after : ShelfState) → Performs ready.engine.settings most (code_of result)
+        (outside before (stream_state (S.left source.old) (S.faults source.old))
+        (stream_state (K.taken sink.old) (K.faults sink.old)))
+        (outside after (stream_state (S.left source.new) (S.faults source.new))
+        (stream_state (K.taken sink.new) (K.faults sink.new))) ready.work }
+{
+    let Ready { mut engine, work } = ready;
+    match work {
+        Work::Replay { ahead } => run_replay(tools, &mut engine, source, sink, ahead, most),
+        Work::Exercise { seed, moments } => {
+            let said = exercise(
+                &mut engine,
+                tools.rt,
+                tools.alloc,
+                seed,
+                moments,
+                sink,
+                tools.gate,
+            );
+            status_of(said, Status::Accepted)
+        }
+        Work::Judge { states, mut sheet } => run_judge(
+            tools,
+            &mut engine,
+            &mut sheet,
+            source,
+            sink,
+            states.as_slice(),
+            most,
+        ),
+    }
 }

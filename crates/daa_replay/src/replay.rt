@@ -1,26 +1,229 @@
-//! A replay: reads state lines to their end and writes their report.
+//! A replay: feeds the bytes of the source to the lines, and writes the text of each event.
 
-ghost use Rattle.std.specs.Prelude.{◌≡◌, ◌≢◌, ◌<◌, ◌≤◌, ◌^◌, false, true};
+ghost use Rattle.std.specs.Prelude.{◌≡◌, ◌<◌, ◌+◌, ◌^◌, ◌++◌, ◌||◌, [], IfOk, length, false, true, OnOk, OnErr, ◌≤◌, ◌≢◌};
 ghost use Rattle.daa_config.specs.Settings.{Settings};
 ghost use Rattle.daa_lines.specs.LinesOf.{Bytes};
 ghost use Rattle.daa_lines.specs.Cutting.{is_standing};
+ghost use Rattle.daa_report.specs.Says.{HasCause};
+ghost use Rattle.daa_replay.specs.Lines.{is_refusal};
+ghost use Rattle.daa_ahead.specs.Bytes.{ToldBytes, stream_state};
+ghost use Rattle.daa_replay.specs.Replay.{TakesFront};
+ghost use Rattle.daa_replay.specs.Inside.Replay.{AfterReport, Reports, ReportsAll, CanReport, IsBetween, Steps, desk};
+ghost use Rattle.daa_ahead.specs.Moves.{Moves, wants_more};
+ghost use Rattle.daa_ahead.specs.Takes.{CanTake, TakesBytes};
 ghost use Rattle.daa_outside.specs.Faults.{HasRisen};
-ghost use Rattle.daa_replay.specs.Outside.{ToldBytes, stream_state};
-ghost use Rattle.daa_replay.specs.Replaying.{TakesFront, Replays};
-ghost use Rattle.daa_replay.specs.Reporting.{Reports, ReportsAll};
-ghost use Rattle.daa_replay.specs.Status.{Ends, code_of};
+ghost use Rattle.daa_replay.specs.Outside.{ShelfState, outside};
+ghost use Rattle.daa_replay.specs.Inside.Run.{Replays};
+ghost use Rattle.daa_replay.specs.Inside.Status.{Ends, code_of};
 
-use crate::progress::{Progress, begin, report_end};
-use crate::reporting::report_all;
+use crate::lines::{Event, take_end, take_event};
+use crate::moment::{Tools, write_event};
 use crate::status::Status;
-use crate::tools::Tools;
-use daa_ahead::Ended;
+use daa_ahead::{Calls, Ended, Taker, ahead, in_turn};
 use daa_engine::Engine;
+use daa_lines::Lines;
 use daa_outside::{Gate, Sink, Source};
+use daa_report::SinkFault;
+use daa_state::Moments;
 use std::thread::Threads;
 
+/// How far a run has come: the line in hand, the moments, and whether some line was refused.
+#[derive(Drop)]
+pub(crate) struct Progress {
+    pub(crate) lines: Lines,
+    pub(crate) moments: Moments,
+    pub(crate) any_refused: bool,
+}
+
+/// Nothing was read.
+pub(crate) fn begin() -> Progress
+    ensures free { is_standing result.lines.stage ≡ false }
+    ensures going { result.lines.ended ≡ false }
+    ensures fed { result.lines.fed ≡ 0 }
+    ensures reports { (settings : Settings) (first : ToldBytes)
+        → Reports settings first [] result first }
+{
+    Progress {
+        lines: Lines::new(),
+        moments: Moments::new(),
+        any_refused: false,
+    }
+}
+
+/// Whether some event was a refusal, with this one more.
+pub(crate) fn any_refusal(before: bool, event: &Event) -> bool
+    ensures { result ≡ (before || is_refusal event.now) }
+{
+    before || matches!(event, Event::Refused(_, _))
+}
+
+/// Takes the line that waits, if one does, and writes what it gives.
+fn write_line<R: Threads + Sync, K: Sink, G: Gate>(
+    tools: &Tools<'_, R, G>,
+    engine: &mut Engine,
+    progress: &mut Progress,
+    sink: &mut K,
+) -> Result<(), SinkFault>
+    ensures free { is_standing progress.new.lines.stage ≡ false }
+    ensures ended { progress.new.lines.ended ≡ progress.old.lines.ended }
+    ensures fed { progress.new.lines.fed ≡ progress.old.lines.fed }
+    ensures ok { OnOk result (AfterReport engine.old.settings progress.old (K.taken sink.old)
+        (λ settings first bytes. Reports settings first bytes progress.new (K.taken sink.new))) }
+    ensures err { OnErr result (AfterReport engine.old.settings progress.old (K.taken sink.old)
+        (λ settings first bytes. TakesFront settings first
+        (K.taken sink.new) bytes progress.old.lines.ended)) }
+    ensures same { engine.new.settings ≡ engine.old.settings }
+    ensures cause { HasCause (K.faults sink.old) (K.faults sink.new) result }
+{
+    match take_event(&mut progress.lines, &mut progress.moments) {
+        None => Ok(()),
+        Some(event) => {
+            progress.any_refused = any_refusal(progress.any_refused, &event);
+            write_event(tools, engine, sink, &event)
+        }
+    }
+}
+
+/// Feeds a piece, and writes what the lines that it ends give.
+pub(crate) fn write_piece<R: Threads + Sync, K: Sink, G: Gate>(
+    tools: &Tools<'_, R, G>,
+    engine: &mut Engine,
+    progress: &mut Progress,
+    sink: &mut K,
+    piece: &[u8],
+) -> Result<(), SinkFault>
+    requires free { is_standing progress.old.lines.stage ≡ false }
+    requires going { progress.old.lines.ended ≡ false }
+    requires room { progress.old.lines.fed + length piece.now < 2 ^ 63 }
+    ensures free { is_standing progress.new.lines.stage ≡ false }
+    ensures going { progress.new.lines.ended ≡ false }
+    ensures fed { OnOk result (progress.new.lines.fed ≡ progress.old.lines.fed + length piece.now) }
+    ensures ok { OnOk result (AfterReport engine.old.settings progress.old (K.taken sink.old)
+        (λ settings first bytes. Reports settings first (bytes ++ piece.now) progress.new
+        (K.taken sink.new))) }
+    ensures err { OnErr result (AfterReport engine.old.settings progress.old (K.taken sink.old)
+        (λ settings first bytes. TakesFront settings first (K.taken sink.new)
+        (bytes ++ piece.now) false)) }
+    ensures same { engine.new.settings ≡ engine.old.settings }
+    ensures cause { HasCause (K.faults sink.old) (K.faults sink.new) result }
+{
+    let mut done = 0;
+    while done < piece.len() {
+        done += progress.lines.feed(&piece[done..]);
+        write_line(tools, engine, progress, sink)?;
+    }
+    Ok(())
+}
+
+/// The input is over: writes what its last line gives, and what its end gives. Says whether some
+/// line was refused.
+pub(crate) fn write_end<R: Threads + Sync, K: Sink, G: Gate>(
+    tools: &Tools<'_, R, G>,
+    engine: &mut Engine,
+    progress: &mut Progress,
+    sink: &mut K,
+) -> Result<bool, SinkFault>
+    requires free { is_standing progress.old.lines.stage ≡ false }
+    requires going { progress.old.lines.ended ≡ false }
+    requires room { progress.old.lines.fed < 2 ^ 63 }
+    ensures ok { IfOk result (λ refused. AfterReport engine.old.settings progress.old
+        (K.taken sink.old)
+        (λ settings first bytes. ReportsAll settings first bytes refused (K.taken sink.new))) }
+    ensures err { OnErr result (AfterReport engine.old.settings progress.old (K.taken sink.old)
+        (λ settings first bytes. TakesFront settings first (K.taken sink.new) bytes true)) }
+    ensures same { engine.new.settings ≡ engine.old.settings }
+    ensures cause { HasCause (K.faults sink.old) (K.faults sink.new) result }
+{
+    progress.lines.end();
+    write_line(tools, engine, progress, sink)?;
+    match take_end(&progress.lines, &progress.moments) {
+        None => Ok(progress.any_refused),
+        Some(event) => {
+            write_event(tools, engine, sink, &event)?;
+            Ok(any_refusal(progress.any_refused, &event))
+        }
+    }
+}
+
+/// Takes a piece, and answers whether what it gives was written.
+fn take_piece<R: Threads + Sync, K: Sink, G: Gate>(
+    tools: &Tools<'_, R, G>,
+    engine: &mut Engine,
+    sink: &mut K,
+    progress: &mut Progress,
+    piece: &[u8],
+) -> bool
+    requires { CanReport (desk engine.old.settings progress.old (K.taken sink.old)
+        (K.faults sink.old)) (length piece.now) }
+    ensures { Steps (desk engine.old.settings progress.old (K.taken sink.old)
+        (K.faults sink.old)) piece.now result
+        (desk engine.new.settings progress.new (K.taken sink.new) (K.faults sink.new)) }
+{
+    match write_piece(tools, engine, progress, sink, piece) {
+        Ok(()) => true,
+        Err(_) => false,
+    }
+}
+
+/// Reads for the taker: by turns where `places` is 0, else ahead of it by up to `places` pieces.
+fn read_for<R: Threads + Sync, S: Source + Send, T: Taker + Send, G>(
+    tools: &Tools<'_, R, G>,
+    source: &mut S,
+    places: u32,
+    most: u64,
+    taker: &mut T,
+) -> Ended
+    requires places { places ≤ 1024 }
+    requires some { 1 ≤ most }
+    requires can { CanTake T.takes T.ready most taker.old }
+    ensures { Moves places result most (stream_state (S.left source.old) (S.faults source.old))
+        (stream_state (S.left source.new) (S.faults source.new))
+        (TakesBytes T.takes (wants_more result) taker.old taker.new) }
+{
+    if places == 0 {
+        return in_turn(source, most, taker);
+    }
+    ahead(tools.rt, tools.alloc, source, places, most, taker)
+}
+
+/// Reads at most `most` bytes, and reports them as they are taken.
+pub(crate) fn write_all<R: Threads + Sync, S: Source + Send, K: Sink + Send, G: Gate>(
+    tools: &Tools<'_, R, G>,
+    engine: &mut Engine,
+    source: &mut S,
+    sink: &mut K,
+    progress: &mut Progress,
+    places: u32,
+    most: u64,
+) -> Ended
+    requires places { places ≤ 1024 }
+    requires some { 1 ≤ most }
+    requires bound { most ≤ 2 ^ 40 }
+    requires between { IsBetween
+        (desk engine.old.settings progress.old (K.taken sink.old) (K.faults sink.old)) }
+    requires begun { progress.old.lines.fed ≡ 0 }
+    ensures moves { Moves places result most
+        (stream_state (S.left source.old) (S.faults source.old))
+        (stream_state (S.left source.new) (S.faults source.new))
+        (λ bytes. Steps (desk engine.old.settings progress.old (K.taken sink.old)
+        (K.faults sink.old)) bytes (wants_more result)
+        (desk engine.new.settings progress.new (K.taken sink.new) (K.faults sink.new))) }
+{
+    let mut taker = Calls {
+        call: |piece: &[u8]| -> bool
+            requires { CanReport (desk engine.now.settings progress.now (K.taken sink.now)
+                (K.faults sink.now)) (length piece.now) }
+            ensures { Steps (desk engine.entry.now.settings progress.entry.now
+                (K.taken sink.entry.now) (K.faults sink.entry.now)) piece.entry.now result
+                (desk engine.exit.now.settings progress.exit.now (K.taken sink.exit.now)
+                (K.faults sink.exit.now)) }
+        { take_piece(tools, engine, sink, progress, piece) },
+    };
+    read_for(tools, source, places, most, &mut taker)
+}
+
 /// The input is over: writes the rest of the report.
-fn over<R: Threads + Sync, K: Sink, G: Gate>(
+fn write_rest<R: Threads + Sync, K: Sink, G: Gate>(
     tools: &Tools<'_, R, G>,
     engine: &mut Engine,
     progress: &mut Progress,
@@ -30,17 +233,20 @@ fn over<R: Threads + Sync, K: Sink, G: Gate>(
     requires going { progress.old.lines.ended ≡ false }
     requires room { progress.old.lines.fed < 2 ^ 63 }
     ensures ended { Ends result }
-    ensures accepted { result ≡ Status.Accepted → (settings : Settings) (first : ToldBytes) (bytes : Bytes) → engine.old.settings ≡ settings → Reports settings first bytes progress.old (K.taken sink.old)
-        → ReportsAll settings first bytes false (K.taken sink.new) }
-    ensures refused { result ≡ Status.Refused → (settings : Settings) (first : ToldBytes) (bytes : Bytes) → engine.old.settings ≡ settings → Reports settings first bytes progress.old (K.taken sink.old)
-        → ReportsAll settings first bytes true (K.taken sink.new) }
-    ensures stopped { result ≡ Status.WriteFault → (settings : Settings) (first : ToldBytes) (bytes : Bytes) → engine.old.settings ≡ settings → Reports settings first bytes progress.old (K.taken sink.old)
-        → TakesFront settings first (K.taken sink.new) bytes true }
+    ensures accepted { result ≡ Status.Accepted
+        → AfterReport engine.old.settings progress.old (K.taken sink.old)
+        (λ settings first bytes. ReportsAll settings first bytes false (K.taken sink.new)) }
+    ensures refused { result ≡ Status.Refused
+        → AfterReport engine.old.settings progress.old (K.taken sink.old)
+        (λ settings first bytes. ReportsAll settings first bytes true (K.taken sink.new)) }
+    ensures stopped { result ≡ Status.WriteFault
+        → AfterReport engine.old.settings progress.old (K.taken sink.old)
+        (λ settings first bytes. TakesFront settings first (K.taken sink.new) bytes true) }
     ensures write { result ≡ Status.WriteFault → HasRisen (K.faults sink.old) (K.faults sink.new) }
     ensures writes { K.faults sink.old ≤ K.faults sink.new }
     ensures write_steady { result ≢ Status.WriteFault → K.faults sink.new ≡ K.faults sink.old }
 {
-    match report_end(tools, engine, progress, sink) {
+    match write_end(tools, engine, progress, sink) {
         Ok(false) => Status::Accepted,
         Ok(true) => Status::Refused,
         Err(_) => Status::WriteFault,
@@ -48,8 +254,8 @@ fn over<R: Threads + Sync, K: Sink, G: Gate>(
 }
 
 /// Writes the report of what the source gives, of at most `most` bytes, under this configuration;
-/// read by turns where `places` is 0, and else ahead by up to so many pieces.
-pub(crate) fn replay_within<R: Threads + Sync, S: Source + Send, K: Sink + Send, G: Gate>(
+/// read by turns where `places` is 0, and else ahead by up to `places` pieces.
+pub(crate) fn run_replay<R: Threads + Sync, S: Source + Send, K: Sink + Send, G: Gate>(
     tools: &Tools<'_, R, G>,
     engine: &mut Engine,
     source: &mut S,
@@ -60,13 +266,15 @@ pub(crate) fn replay_within<R: Threads + Sync, S: Source + Send, K: Sink + Send,
     requires places { places ≤ 1024 }
     requires some { 1 ≤ most }
     requires bound { most ≤ 2 ^ 40 }
-    ensures { Replays engine.old.settings places most (code_of result)
-        (stream_state (S.left source.old) (S.faults source.old)) (stream_state (S.left source.new) (S.faults source.new))
-        (stream_state (K.taken sink.old) (K.faults sink.old)) (stream_state (K.taken sink.new) (K.faults sink.new)) }
+    ensures { (before after : ShelfState) → Replays engine.old.settings most (code_of result)
+        (outside before (stream_state (S.left source.old) (S.faults source.old))
+        (stream_state (K.taken sink.old) (K.faults sink.old)))
+        (outside after (stream_state (S.left source.new) (S.faults source.new))
+        (stream_state (K.taken sink.new) (K.faults sink.new))) places }
 {
     let mut progress = begin();
-    match report_all(tools, engine, source, sink, &mut progress, places, most) {
-        Ended::End => over(tools, engine, &mut progress, sink),
+    match write_all(tools, engine, source, sink, &mut progress, places, most) {
+        Ended::End => write_rest(tools, engine, &mut progress, sink),
         Ended::Fault => Status::ReadFault,
         Ended::Limit => Status::Limit,
         Ended::Stopped => Status::WriteFault,

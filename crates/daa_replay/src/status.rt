@@ -1,9 +1,14 @@
-//! How a run ends.
+//! How a run ends, and the line that says why it could not begin.
 
 ghost use Rattle.std.specs.Prelude.{◌≡◌, OnErr, OnOk};
-ghost use Rattle.daa_replay.specs.Status.{code_of};
+ghost use Rattle.daa_replay.specs.Inside.Status.{WritesCode, WritesReason, code_of};
+ghost use Rattle.daa_config.specs.Fault as config_fault;
+ghost use Rattle.daa_ahead.specs.Bytes.{stream_state};
 
-use daa_report::SinkFault;
+use crate::opening::Unready;
+use daa_config::ConfigFault;
+use daa_outside::Sink;
+use daa_report::{SinkFault, config, put};
 
 /// How a run ended.
 #[derive(Clone, Copy, Debug, PartialEq, Eq)]
@@ -59,5 +64,40 @@ pub(crate) fn status_of(written: Result<(), SinkFault>, status: Status) -> Statu
     match written {
         Ok(()) => status,
         Err(SinkFault) => Status::WriteFault,
+    }
+}
+
+/// What is written where the command words are not taken.
+const USAGE: &[u8] =
+    b"usage: daidalus replay --config FILE [--workers N] [--ahead N] | exercise --config FILE --seed N --moments M [--workers N] | judge --config FILE --states FILE [--workers N]\n";
+
+/// What is written where the states are too long.
+const LONG: &[u8] = b"states long\n";
+
+/// Writes the code of a refused configuration. The one fault without a code says that memory ran
+/// out.
+fn write_code<K: Sink>(fault: ConfigFault, sink: &mut K) -> Status
+    ensures { WritesCode (config_fault.code_of fault)
+        (stream_state (K.taken sink.old) (K.faults sink.old))
+        (stream_state (K.taken sink.new) (K.faults sink.new)) result }
+{
+    match fault.code() {
+        Some(code) => status_of(config(sink, code), Status::BadConfiguration),
+        None => Status::NoMemory,
+    }
+}
+
+/// Writes the usage line, that the states are too long, or the code of a refused configuration, and
+/// answers the status.
+pub(crate) fn write_reason<K: Sink>(why: Unready, sink: &mut K) -> Status
+    ensures { WritesReason why (stream_state (K.taken sink.old) (K.faults sink.old))
+        (stream_state (K.taken sink.new) (K.faults sink.new)) result }
+{
+    match why {
+        Unready::NotTaken => status_of(put(sink, USAGE), Status::NotTaken),
+        Unready::Refused(fault) => write_code(fault, sink),
+        Unready::StatesLong => status_of(put(sink, LONG), Status::StatesLong),
+        Unready::FetchFault => Status::FetchFault,
+        Unready::NoMemory => Status::NoMemory,
     }
 }

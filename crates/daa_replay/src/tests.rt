@@ -125,7 +125,7 @@ fn shelf_with<R: AllocGlobal>(rt: &R, config: &str, fails: &[u64]) -> Result<Mem
 }
 
 /// The status of a run over this input, and what the sink took.
-fn replayed<R: Threads + Sync + AllocGlobal>(
+fn status_and_text<R: Threads + Sync + AllocGlobal>(
     rt: &R,
     input: &[u8],
     outside: Outside<'_>,
@@ -167,7 +167,7 @@ fn gives<R: Abort + Threads + Sync + AllocGlobal>(
     status: u8,
     text: &[u8],
 ) -> Result<(), Fail> {
-    let (ended, taken) = replayed(rt, input, outside)?;
+    let (ended, taken) = status_and_text(rt, input, outside)?;
     assert_eq!(rt; ended, status);
     assert_eq!(rt; taken.as_slice(), text);
     Ok(())

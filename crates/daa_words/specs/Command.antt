@@ -11,7 +11,8 @@ option name = record (new_rule name) { long = Some name; action = Some Set }
 
 -- an option with one value, a whole number from `least` to `most`
 abbrev pub number_option : Text → ℕ → ℕ → Rule
-number_option name least most = record (option name) { parser = Some (Signed (pos least) (pos most)) }
+number_option name least most =
+    record (option name) { parser = Some (Signed (pos least) (pos most)) }
 
 -- the option has to be given
 abbrev pub wanted : Rule → Rule
@@ -47,7 +48,9 @@ replay = with_rule (with_rule (with_rule (new_app (codes "replay")) config) work
 
 -- `exercise --config FILE --seed N --moments M [--workers N]`
 abbrev pub exercise : App
-exercise = with_rule (with_rule (with_rule (with_rule (new_app (codes "exercise")) config) seed) moments) workers
+exercise =
+    with_rule (with_rule (with_rule (with_rule (new_app (codes "exercise")) config) seed) moments)
+    workers
 
 -- `judge --config FILE --states FILE [--workers N]`
 abbrev pub judge : App
@@ -57,6 +60,7 @@ judge = with_rule (with_rule (with_rule (new_app (codes "judge")) config) states
 abbrev pub base : App
 base = on_top (λ s. record s { subcommand_required = true }) (new_app (codes "daidalus"))
 
--- the command line: `daidalus` and one of the three subcommands, and nothing else but clap's own help
+-- the command line: `daidalus` and one of the three subcommands, and nothing else but clap's help
 unfoldable pub daidalus : App
-daidalus = with_subcommand (with_subcommand (with_subcommand base replay.top) exercise.top) judge.top
+daidalus =
+    with_subcommand (with_subcommand (with_subcommand base replay.top) exercise.top) judge.top

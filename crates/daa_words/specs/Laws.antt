@@ -28,13 +28,16 @@ is_given_in id words = option_map_or (λ p. is_given id p.1) (subcommand_of daid
 -- the words ask for this task
 abbrev pub AsksForTask : List Text → Task → Type 0
 AsksForTask words (Replay ahead) = (subcommand_in words ≡ Some (codes "replay"))
-    × (number_in (codes "ahead") words ≡ Some ahead) × (is_given_in (codes "ahead") words ≡ false → ahead ≡ 0)
+    × (number_in (codes "ahead") words ≡ Some ahead)
+    × (is_given_in (codes "ahead") words ≡ false → ahead ≡ 0)
 AsksForTask words (Exercise seed moments) = (subcommand_in words ≡ Some (codes "exercise"))
-    × (number_in (codes "seed") words ≡ Some seed) × (number_in (codes "moments") words ≡ Some moments)
-AsksForTask words (Judge states) = (subcommand_in words ≡ Some (codes "judge")) × (text_in (codes "states") words ≡ Some states)
+    × (number_in (codes "seed") words ≡ Some seed)
+    × (number_in (codes "moments") words ≡ Some moments)
+AsksForTask words (Judge states) = (subcommand_in words ≡ Some (codes "judge"))
+    × (text_in (codes "states") words ≡ Some states)
 
--- the words ask for this: for the task, with the configuration that stands at `--config`, and with as many workers as
--- stand at `--workers`, which are 4 where that is not given
+-- the words ask for this task, with the configuration at `--config` and the number of workers at
+-- `--workers`, which is 4 where that is not given
 pub record AsksFor (words : List Text) (asked : Asked) : Type 0 where
   pub order : order_of words ≡ Some asked
   pub task : AsksForTask words asked.task
@@ -45,8 +48,10 @@ pub record AsksFor (words : List Text) (asked : Asked) : Type 0 where
 
 -- an order is read wherever clap's definition finds no fault
 abbrev pub EachTakenOrders : Type 0
-EachTakenOrders = (words : List Text) → fault_of daidalus words ≡ [] → (asked : Asked) × AsksFor words asked
+EachTakenOrders =
+    (words : List Text) → fault_of daidalus words ≡ [] → (asked : Asked) × AsksFor words asked
 
 -- and nowhere else
 abbrev pub EachOrderIsTaken : Type 0
-EachOrderIsTaken = (words : List Text) (asked : Asked) → order_of words ≡ Some asked → fault_of daidalus words ≡ []
+EachOrderIsTaken =
+    (words : List Text) (asked : Asked) → order_of words ≡ Some asked → fault_of daidalus words ≡ []

@@ -2,7 +2,9 @@
 use Rattle.std.specs.Prelude.{ℕ}
 use Rattle.clap.specs.Walk.{Text}
 
--- moments are read, by so many pieces ahead; or drawn from a seed, so many; or a report is compared with that of the states under a name
+-- a replay reads `ahead` pieces ahead; an exercise draws `moments` moments from a seed; a
+-- comparison
+-- compares a report with that of the states under a name
 pub data Task : Type 0 where
   Replay : (ahead : ℕ) → Task
   Exercise : (seed moments : ℕ) → Task

@@ -11,7 +11,7 @@ use clap::error::ErrorKind;
 use clap::{ArgMatches, Error};
 use std::alloc::Global;
 
-/// What an error of the parse says: only want of memory is no fault of the words.
+/// What an error of the parse says: every error but one of memory is a fault of the words.
 fn fault_by(error: &Error) -> WordsFault
     ensures { result ≡ WordsFault.NotTaken → ¬ (kind_of error.now ≡ ErrorKind.OutOfMemory) }
 {

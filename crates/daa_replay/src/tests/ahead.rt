@@ -2,7 +2,8 @@
 
 use super::{ONE, ONE_LEVEL, ONE_TEXT, ONES, Outside, PLAIN, SEVENS, gives, shelf_with, strings};
 use crate::run;
-use daa_outside::{Failed, Gate, Meeting, MemSink, MemSource, Open, Sink, Source};
+use daa_ahead::examples::HoldingSource;
+use daa_outside::{Failed, Gate, Meeting, MemSink, MemSource, Open, Sink};
 use std::process::Abort;
 use std::test::Fail;
 use std::thread::Threads;
@@ -85,36 +86,10 @@ fn a_fault_is_met_in_its_place(rt: HostRuntime) -> Result<(), Fail> {
     Ok(())
 }
 
-/// The two that are to meet: the read behind a moment's end and the first write of its report.
-const READ: u32 = 0;
-
+/// The number under which the sink comes to the meeting; the source comes as 0.
 const WRITE: u32 = 1;
 
-/// A source whose eighth read waits at a gate.
-#[derive(Drop)]
-struct HoldingSource<'a, G> {
-    inner: MemSource,
-    calls: u8,
-    meeting: &'a G,
-}
-
-impl<G: Gate> Source for HoldingSource<'_, G> {
-    ghost use Rattle.std.specs.Prelude.{Some};
-
-    ghost left = { λ s. Some s.inner.left };
-
-    ghost faults = { λ s. s.inner.faults };
-
-    fn read(&mut self, buf: &mut [u8]) -> Result<usize, Failed> {
-        if self.calls == 7 {
-            self.meeting.pass(READ, 0);
-        }
-        self.calls = self.calls.saturating_add(1);
-        self.inner.read(buf)
-    }
-}
-
-/// A sink whose first write waits there too.
+/// A sink whose first write waits at a gate.
 #[derive(Drop)]
 struct HoldingSink<'a, G> {
     inner: MemSink,
@@ -149,7 +124,8 @@ fn reads_on<R: Abort + Threads + Sync + AllocGlobal, C: Clock + Sync + Drop>(
     let mut source = HoldingSource {
         inner: MemSource::new(LONGER.to_vec(alloc)?, NINES.to_vec(alloc)?, Vec::new(alloc)),
         calls: 0,
-        meeting: &meeting,
+        waits: 7,
+        gate: &meeting,
     };
     let mut sink = HoldingSink {
         inner: MemSink::over(vec![in alloc; 0; 1024]?, Vec::new(alloc), Vec::new(alloc)),

@@ -1,7 +1,7 @@
 //! Exercises: the summaries of seeds, which another program found from the definitions.
 
 use super::opening::USAGE;
-use super::{ONE_LEVEL, Outside, PLAIN, gives, replayed, shelf_with, strings};
+use super::{ONE_LEVEL, Outside, PLAIN, gives, shelf_with, status_and_text, strings};
 use crate::run;
 use daa_config::examples::THREE_LEVELS;
 use daa_outside::{MemSource, Open, Void};
@@ -235,7 +235,7 @@ fn an_exercise_may_fail(rt: HostRuntime) -> Result<(), Fail> {
         ..PLAIN
     };
     for room in [0, 1, 70] {
-        let (status, taken) = replayed(&rt, b"", Outside { room, ..exercise })?;
+        let (status, taken) = status_and_text(&rt, b"", Outside { room, ..exercise })?;
         assert_eq!(rt; status, 5);
         assert_eq!(rt; Some(taken.as_slice()), THREE.get(..room));
     }

@@ -1,6 +1,6 @@
 //! Moments and their reports.
 
-use super::{ONE_TEXT, Outside, PLAIN, gives, replayed, whole};
+use super::{ONE_TEXT, Outside, PLAIN, gives, status_and_text, whole};
 use daa_config::examples::LARGEST_VALUES;
 use std::alloc::AllocError;
 use std::test::Fail;
@@ -222,7 +222,7 @@ fn reports_begin_with_their_aircraft(rt: HostRuntime) -> Result<(), Fail> {
             config: config.as_str(),
             ..PLAIN
         };
-        let (status, text) = replayed(&rt, input.as_bytes(), outside)?;
+        let (status, text) = status_and_text(&rt, input.as_bytes(), outside)?;
         assert_eq!(rt; status, 0);
         assert!(rt; text.starts_with(begins.as_bytes()));
     }
@@ -237,7 +237,7 @@ fn the_largest_values_are_decided(rt: HostRuntime) -> Result<(), Fail> {
         config: LARGEST_VALUES,
         ..PLAIN
     };
-    let (status, text) = replayed(&rt, input, outside)?;
+    let (status, text) = status_and_text(&rt, input, outside)?;
     assert_eq!(rt; status, 0);
     assert!(rt; text.starts_with(b"moment 4294967295\nnow A 0\nalert A 0 -\ntrack 0 "));
     assert!(rt; text.ends_with(b"done 4294967295\n"));

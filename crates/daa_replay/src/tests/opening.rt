@@ -1,6 +1,6 @@
 //! Command words and configurations.
 
-use super::{ONE, ONE_TEXT, Outside, PLAIN, gives, replayed};
+use super::{ONE, ONE_TEXT, Outside, PLAIN, gives, status_and_text};
 use daa_config::examples::{ONE_LEVEL, THREE_LEVELS};
 use std::test::Fail;
 
@@ -207,7 +207,7 @@ fn a_line_before_the_report_may_fail_too(rt: HostRuntime) -> Result<(), Fail> {
             room,
             ..PLAIN
         };
-        let (status, taken) = replayed(&rt, ONE, outside)?;
+        let (status, taken) = status_and_text(&rt, ONE, outside)?;
         assert_eq!(rt; status, 5);
         assert_eq!(rt; Some(taken.as_slice()), USAGE.get(..room));
     }

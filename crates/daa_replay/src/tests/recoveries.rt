@@ -20,7 +20,7 @@ static RECOVERIES: [(&str, &str, &str); 2] = [
 ];
 
 #[test]
-fn what_leads_out_soonest_is_told(rt: HostRuntime) -> Result<(), Fail> {
+fn what_leads_out_soonest_is_written(rt: HostRuntime) -> Result<(), Fail> {
     let alloc = rt.alloc();
     for (table, traffic, lines) in &RECOVERIES {
         let asked = format!(in alloc; "recovery = {table}\nturn_rate")?;
@@ -45,7 +45,7 @@ fn what_leads_out_soonest_is_told(rt: HostRuntime) -> Result<(), Fail> {
 
 /// Without the table the same moment has no such line.
 #[test]
-fn no_recovery_is_told_unasked(rt: HostRuntime) -> Result<(), Fail> {
+fn no_recovery_is_written_unasked(rt: HostRuntime) -> Result<(), Fail> {
     let input = b"moment 0\nown 0 0 1000 0 3600 0\ntraffic A 400 100 1000 0 0 0\nend\n";
     gives(&rt, input, PLAIN, 0, ONE_TEXT)
 }

@@ -3,7 +3,7 @@ use Rattle.daa_lines.specs.LinesOf.{lines_of, cut}
 use Rattle.daa_state.specs.Number.{number, number_in, count_in}
 use Rattle.daa_state.specs.WordOf.{word_of, word_of_fields, word_of_name, moment_of, own_of, ownship, format_of, end_of}
 use Rattle.daa_state.specs.MomentStep.{step, begun_moment, with_own, ended_picture}
-use Rattle.daa_replay.specs.Events.{events_of}
+use Rattle.daa_replay.specs.Lines.{events_of}
 use Rattle.daa_replay.proofs.laws.worked_examples.Goals as goal
 
 pub returns-clause-long_line_once : goal.returns-clause-long_line_once

@@ -1,0 +1,40 @@
+-- The events of an input where there is no word `format` and no age: each line says one of the four
+-- words alone.
+use Rattle.std.specs.Prelude.{ℕ, ◌≡◌, ◌+◌, ◌++◌, Bool, true, false, List, [], ◌∷◌, All}
+use Rattle.daa_lines.specs.LinesOf.{Bytes, lines_of}
+use Rattle.daa_state.specs.Current.{IsCurrentPicture}
+use Rattle.daa_state.specs.Fault.{Checked}
+use Rattle.daa_state.specs.FourWords.{four_word_of, is_format_line}
+use Rattle.daa_state.specs.MomentStep.{State, Stepped, start, finished}
+use Rattle.daa_replay.specs.declared.lines.Event.{Event}
+use Rattle.daa_replay.specs.Lines.{word_step, next_state, line_event, end_event, events_of, OfPicture}
+
+-- a line is read as one of the four words alone, and its word steps the state
+abbrev pub four_line_step : State → Bytes → Checked Stepped
+four_line_step state line = word_step state (four_word_of line)
+
+-- the events of lines that are read so, the first of which has the number
+abbrev pub four_events_from : State → ℕ → Bool → List Bytes → List Event
+four_events_from state number false [] = []
+four_events_from state number true [] = end_event number (finished state)
+four_events_from state number ended (line ∷ lines) =
+    line_event number (four_line_step state line)
+    ++ four_events_from (next_state state (four_line_step state line)) (number + 1) ended lines
+
+-- the events of bytes whose lines are read so
+unfoldable pub four_events_of : Bytes → Bool → List Event
+four_events_of bytes ended = four_events_from start 1 ended (lines_of bytes ended)
+
+-- no line's first field is `format`
+abbrev pub HasNoFormatLine : Bytes → Bool → Type 0
+HasNoFormatLine bytes ended = All (λ line. is_format_line line ≡ false) (lines_of bytes ended)
+
+-- an input without such a line reads as it did without that word
+abbrev pub ReadsAsFourWords : Type 0
+ReadsAsFourWords = (bytes : Bytes) (ended : Bool) → HasNoFormatLine bytes ended
+    → events_of bytes ended ≡ four_events_of bytes ended
+
+-- and the reports of its aircraft are of the moment itself
+abbrev pub HasNoAges : Type 0
+HasNoAges = (bytes : Bytes) (ended : Bool) → HasNoFormatLine bytes ended
+    → All (OfPicture IsCurrentPicture) (events_of bytes ended)

@@ -1,0 +1,7 @@
+-- What private functions alone cite.
+pub mod Lines
+pub mod Status
+pub mod Opening
+pub mod Replay
+pub mod Judge
+pub mod Run

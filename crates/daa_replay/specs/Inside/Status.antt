@@ -1,0 +1,68 @@
+-- The status of a run, and what is left where a run without a configuration says why.
+use Rattle.std.specs.Prelude.{ℕ, Option, None, Some, ◌≡◌, ◌≤◌, ◌⊎◌}
+use Rattle.daa_replay.specs.declared.status.Status.{Status}
+use Rattle.daa_replay.specs.declared.status.Status.TheVariants.{Accepted, Refused, NotTaken, BadConfiguration, ReadFault, WriteFault, NoMemory, FetchFault, Limit, StatesLong}
+use Rattle.daa_config.specs.Fault as config
+use Rattle.daa_outside.specs.Faults.{HasRisen}
+use Rattle.daa_report.specs.Lines.{Text, config_line}
+use Rattle.daa_report.specs.Says.{AppendsFront}
+use Rattle.daa_replay.specs.declared.opening.Unready.{Unready}
+use Rattle.daa_replay.specs.declared.opening.Unready.TheVariants as unready
+use Rattle.daa_replay.specs.declared.status.Status.TheVariants as status
+use Rattle.daa_replay.specs.Opening.{usage_line, long_line}
+use Rattle.daa_replay.specs.Outside.{Takes}
+use Rattle.daa_ahead.specs.Bytes.{StreamState}
+
+-- the number that the process ends with
+abbrev pub code_of : Status → ℕ
+code_of Accepted = 0
+code_of Refused = 1
+code_of NotTaken = 2
+code_of BadConfiguration = 3
+code_of ReadFault = 4
+code_of WriteFault = 5
+code_of NoMemory = 6
+code_of FetchFault = 7
+code_of Limit = 8
+code_of StatesLong = 9
+
+-- the statuses that the end of the input can give
+abbrev pub Ends : Status → Type 0
+Ends Accepted = Unit {0}
+Ends Refused = Unit {0}
+Ends NotTaken = ⊥
+Ends BadConfiguration = ⊥
+Ends ReadFault = ⊥
+Ends WriteFault = Unit {0}
+Ends NoMemory = ⊥
+Ends FetchFault = ⊥
+Ends Limit = ⊥
+Ends StatesLong = ⊥
+
+-- the line was not written whole, since the sink failed
+pub record BreaksLine (old new : StreamState) (text : Text) : Type 0 where
+  pub risen : HasRisen old.faults new.faults
+  pub later : old.faults ≤ new.faults
+  pub front : AppendsFront old.bytes new.bytes text
+
+-- the line was written, with this status, or the sink failed within it
+abbrev pub WritesLine : Status → StreamState → StreamState → Text → Status → Type 0
+WritesLine said old new text result =
+    ((result ≡ said) × Takes old new text)
+    ⊎ ((result ≡ status.WriteFault) × BreaksLine old new text)
+
+-- the code of the configuration was written; where there is none, there was no memory
+abbrev pub WritesCode : Option ℕ → StreamState → StreamState → Status → Type 0
+WritesCode None old new result = (result ≡ status.NoMemory) × (new ≡ old)
+WritesCode (Some code) old new result =
+    WritesLine status.BadConfiguration old new (config_line code) result
+
+-- what is written where a run could not be made ready, and its status
+abbrev pub WritesReason : Unready → StreamState → StreamState → Status → Type 0
+WritesReason unready.NotTaken old new result = WritesLine status.NotTaken old new usage_line result
+WritesReason (unready.Refused fault) old new result =
+    WritesCode (config.code_of fault) old new result
+WritesReason unready.StatesLong old new result =
+    WritesLine status.StatesLong old new long_line result
+WritesReason unready.FetchFault old new result = (result ≡ status.FetchFault) × (new ≡ old)
+WritesReason unready.NoMemory old new result = WritesCode None old new result

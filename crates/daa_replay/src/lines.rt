@@ -1,0 +1,84 @@
+//! The events of lines: each line that is taken gives a refusal, an ended moment, or nothing.
+
+ghost use Rattle.std.specs.Prelude.{◌≡◌, ◌<◌, ◌^◌, ◌↔◌, ◌++◌, ◌+◌, List, true, false, IsSome, IfSome, IfOk, ◌∷◌, []};
+ghost use Rattle.daa_lines.specs.LinesOf.{Bytes};
+ghost use Rattle.daa_lines.specs.Cutting.{is_standing};
+ghost use Rattle.daa_lines.specs.Stands.{Stands, standing};
+ghost use Rattle.daa_lines.specs.Taking.{after_taking};
+ghost use Rattle.daa_state.specs.WordOf.{word_of};
+ghost use Rattle.daa_state.specs.InRange.{IsFormat, IsWordInRange};
+ghost use Rattle.daa_replay.specs.declared.lines.Event.{Event};
+ghost use Rattle.daa_replay.specs.Inside.Lines.{Follows, given_with};
+ghost use Rattle.daa_replay.specs.Lines.{IsEventInRange, events_of, line_event, next_state, word_step};
+
+use daa_lines::{Line, Lines};
+use daa_state::{LineFault, Moments, Picture, Word, read_line};
+
+/// A line was refused, under its number, or a moment was ended.
+#[derive(Debug, Drop)]
+pub enum Event {
+    Refused(u64, LineFault),
+    Ended(Picture),
+}
+
+/// The word of the line that waits, read in this format; the line is taken.
+fn take_word(lines: &mut Lines, format: u32) -> Option<Result<Word, LineFault>>
+    requires { IsFormat format }
+    ensures stood { IsSome result ↔ (is_standing lines.old.stage ≡ true) }
+    ensures word { IfSome result (λ word. word ≡ word_of lines.old.line format) }
+    ensures range { IfSome result (λ word. IfOk word IsWordInRange) }
+    ensures after { lines.new ≡ after_taking lines.old }
+    ensures kept { (bytes : Bytes) (taken : List Bytes) → Stands bytes taken lines.old
+        → Stands bytes (taken ++ standing lines.old.stage lines.old.line) lines.new }
+{
+    match lines.take_line() {
+        Line::Whole(bytes) => Some(read_line(bytes, format)),
+        Line::Long => Some(Err(LineFault::LongLine)),
+        Line::NotYet => None,
+    }
+}
+
+/// The event of a word, if it has one; the word steps the moments.
+fn step(moments: &mut Moments, number: u64, word: Result<Word, LineFault>) -> Option<Event>
+    requires range { IfOk word IsWordInRange }
+    ensures given { given_with [] result ≡ line_event number (word_step moments.old word) }
+    ensures moments { moments.new ≡ next_state moments.old (word_step moments.old word) }
+    ensures range { IfSome result IsEventInRange }
+{
+    match word {
+        Err(fault) => Some(Event::Refused(number, fault)),
+        Ok(word) => match moments.take(word) {
+            Ok(None) => None,
+            Ok(Some(picture)) => Some(Event::Ended(picture)),
+            Err(fault) => Some(Event::Refused(number, fault)),
+        },
+    }
+}
+
+/// Takes the line that waits, if one does, and gives its event, if it has one.
+pub(crate) fn take_event(lines: &mut Lines, moments: &mut Moments) -> Option<Event>
+    ensures free { is_standing lines.new.stage ≡ false }
+    ensures ended { lines.new.ended ≡ lines.old.ended }
+    ensures fed { lines.new.fed ≡ lines.old.fed }
+    ensures kept { (bytes : Bytes) (given : List Event) → Follows bytes given lines.old moments.old
+        → Follows bytes (given_with given result) lines.new moments.new }
+    ensures range { IfSome result IsEventInRange }
+{
+    let word = take_word(lines, moments.format())?;
+    step(moments, lines.number(), word)
+}
+
+/// The event of the end of the input, if it has one.
+pub(crate) fn take_end(lines: &Lines, moments: &Moments) -> Option<Event>
+    requires ended { lines.now.ended ≡ true }
+    requires free { is_standing lines.now.stage ≡ false }
+    requires room { lines.now.fed < 2 ^ 63 }
+    ensures whole { (bytes : Bytes) (given : List Event) → Follows bytes given lines.now moments.now
+        → given_with given result ≡ events_of bytes true }
+    ensures range { IfSome result IsEventInRange }
+{
+    match moments.finish() {
+        Err(fault) => Some(Event::Refused(lines.number() + 1, fault)),
+        Ok(()) => None,
+    }
+}
