@@ -6,6 +6,7 @@ use Rattle.daa_state.specs.declared.word.Picture.{Picture}
 use Rattle.daa_c.specs.declared.states.DaaOwn.{DaaOwn}
 use Rattle.daa_c.specs.declared.states.DaaTraffic.{DaaTraffic}
 
+-- the ownship of a caller's numbers
 abbrev pub own_of : DaaOwn → Own
 own_of own = record { x = own.x; y = own.y; alt = own.alt; trk = own.trk; gs = own.gs; vs = own.vs }
 
