@@ -2,6 +2,5 @@
 use Rattle.daa_config.specs.declared.reading.Found.{Found}
 use Rattle.daa_config.specs.ConfigOf.{Written}
 
--- the numbers, the cylinder of recoveries and the levels that the reader found
 abbrev pub written_in : Found → Written
 written_in found = record { numbers = found.numbers; recovery = found.recovery; levels = found.levels.items }

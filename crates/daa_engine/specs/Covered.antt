@@ -4,7 +4,6 @@ use Rattle.daa_config.specs.Settings.{Settings}
 use Rattle.daa_state.specs.declared.word.Picture.{Picture}
 use Rattle.daa_scan.specs.Situation.{Situation, MeetsAt}
 
--- the scene of a configuration and a picture
 abbrev pub scene_of : Settings → Picture → Situation
 scene_of settings picture = record { settings = settings; picture = picture }
 

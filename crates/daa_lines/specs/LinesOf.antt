@@ -1,7 +1,6 @@
 -- The lines of an input. A line ends at a line feed, or with the input, and keeps a carriage return at its end.
 use Rattle.std.specs.Prelude.{ℕ, Bool, true, false, List, [], ◌∷◌, ◌++◌, ◌==◌, length, nat_le, nat_lt, map, take, if◌then◌else◌}
 
--- the bytes of an input or of a line
 abbrev pub Bytes : Type 0
 Bytes = List ℕ
 
