@@ -22,7 +22,7 @@ def read(name):
 def defined():
     """All names that the definitions of our crates define."""
     names = set()
-    for path in glob.glob(os.path.join(TOP, "crates", "*", "specs", "*.antt")):
+    for path in glob.glob(os.path.join(TOP, "crates", "*", "specs", "**", "*.antt"), recursive=True):
         with open(path, encoding="utf-8") as file:
             names.update(re.findall(r"\bpub (?:record )?([A-Za-z_][A-Za-z_0-9]*)", file.read()))
     return names
@@ -41,14 +41,14 @@ class Formulas(unittest.TestCase):
         self.assertGreater(found, 40)
 
     def test_names_files_that_are_there(self):
-        paths = re.findall(r"(daa_\w+/specs/\w+\.antt)", self.text)
+        paths = re.findall(r"(daa_\w+/specs/(?:Inside/)?\w+\.antt)", self.text)
         self.assertGreater(len(paths), 20)
         for path in paths:
             self.assertTrue(os.path.exists(os.path.join(TOP, "crates", path)), path)
 
     def test_each_named_definition_stands_in_its_file(self):
         """Those that are told as `name`, file."""
-        for name, path in re.findall(r"`([A-Za-z_]+)`, (daa_\w+/specs/\w+\.antt)", self.text):
+        for name, path in re.findall(r"`([A-Za-z_]+)`, (daa_\w+/specs/(?:Inside/)?\w+\.antt)", self.text):
             self.assertRegex(read(f"crates/{path}"), rf"\bpub (?:record )?{name}\b", path)
 
     def test_the_table_of_sines(self):

@@ -9,7 +9,7 @@ import unittest
 from common import TOP
 
 DOCUMENTS = [f"docs/{name}.md" for name in ("ARCHITECTURE", "CONTRIBUTING", "DECISIONS", "PROOFS", "DETECTOR")]
-PARTS = ("src", "src/tests", "specs", "proofs")
+PARTS = ("src", "src/tests", "specs", "specs/Inside", "proofs")
 # A file or folder of a crate: with its path, or a file's name alone in backquotes.
 PATH = re.compile(r"`((?:src|specs|proofs|must-fail|include|data)/[\w/.-]*[\w]|[\w]+\.(?:rt|antt))`")
 CRATE = re.compile(r"\b(daa_\w+|one_moment)\b")

@@ -25,10 +25,11 @@ rising low step (suc n) = low ∷ rising (low +ℤ step) step n
 unfoldable pub values_of : Kind → Settings → List ℤ
 values_of kind s = rising (grid_of kind s).min (grid_of kind s).step (count_of (grid_of kind s))
 
--- the first and the last of them
+-- the least value of a kind, which is the first
 unfoldable pub least_of : Kind → Settings → ℤ
 least_of kind s = (grid_of kind s).min
 
+-- the greatest value of a kind, which is the last
 unfoldable pub greatest_of : Kind → Settings → ℤ
 greatest_of kind s = (grid_of kind s).min +ℤ pos (count_of (grid_of kind s) - 1) *ℤ (grid_of kind s).step
 

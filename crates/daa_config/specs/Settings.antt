@@ -40,6 +40,7 @@ rates_of s = record {
 
 -- ---- ranges
 
+-- the number is between the bounds; both belong to them
 abbrev pub IsInBounds : Bounds → ℤ → Type 0
 IsInBounds bounds z = IsFrom bounds.0 bounds.1 z
 
@@ -58,12 +59,14 @@ IsCandidateInRange (ToSpeed g) = IsInBounds (value_bounds Speed) g
 IsCandidateInRange (ToClimb w) = IsInBounds (value_bounds Climb) w
 IsCandidateInRange (ToHeight a) = IsInBounds (value_bounds Height) a
 
+-- each rate of change is within its bounds
 pub record AreRatesInRange (r : Rates) : Type 0 where
   pub turn : IsInBounds turn_rate_bounds r.turn
   pub gs : IsInBounds gs_limits.rate r.gs
   pub vs : IsInBounds vs_limits.rate r.vs
   pub alt : IsInBounds alt_limits.rate r.alt
 
+-- min, max and step of a kind are within its limits, in order, and give not too many values
 pub record IsGridInRange (limits : GridLimits) (g : Grid) : Type 0 where
   pub least : limits.value.0 ≤ℤ g.min
   pub ordered : g.min ≤ℤ g.max

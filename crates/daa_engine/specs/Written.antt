@@ -21,6 +21,7 @@ use Rattle.daa_engine.specs.declared.rescue.Rescues.{Rescues}
 unfoldable pub aircraft_text : Traffic × AircraftAlert → Text
 aircraft_text pair = now_line pair.0.id pair.1.level_now ++ alert_line pair.0.id pair.1.level pair.1.first
 
+-- the two lines of each aircraft, in the order of the input
 unfoldable pub alerts_text : List Traffic → List AircraftAlert → Text
 alerts_text traffic alerts = flat_map aircraft_text (zip traffic alerts)
 
@@ -28,18 +29,22 @@ alerts_text traffic alerts = flat_map aircraft_text (zip traffic alerts)
 unfoldable pub bands_text : Settings → List ℕ → Kind → Text
 bands_text settings board kind = flat_map (line_of kind) (bands_left board settings kind 0)
 
+-- the lines of the bands of all kinds
 unfoldable pub bands_texts : Settings → List ℕ → Text
 bands_texts settings board = of_each (bands_text settings board)
 
+-- the resolutions of a kind on its two sides
 abbrev pub sides_of : Advice → Kind → Sides
 sides_of advice Track = advice.track
 sides_of advice Speed = advice.speed
 sides_of advice Climb = advice.climb
 sides_of advice Height = advice.height
 
+-- the line of a kind's resolutions
 abbrev pub sides_text : Kind → Sides → Text
 sides_text kind sides = resolve_line kind sides.lower sides.upper
 
+-- the lines of the resolutions of all kinds
 unfoldable pub advice_text : Advice → Text
 advice_text advice = of_each (λ kind. sides_text kind (sides_of advice kind))
 
@@ -48,15 +53,18 @@ abbrev pub rescue_text : Kind → Rescue → Text
 rescue_text kind Silent = []
 rescue_text kind (Said found) = recover_line kind found
 
+-- what was found of a kind's recovery
 abbrev pub rescue_of : Rescues → Kind → Rescue
 rescue_of rescues Track = rescues.track
 rescue_of rescues Speed = rescues.speed
 rescue_of rescues Climb = rescues.climb
 rescue_of rescues Height = rescues.height
 
+-- the lines of the recoveries of all kinds
 unfoldable pub rescues_text : Rescues → Text
 rescues_text rescues = of_each (λ kind. rescue_text kind (rescue_of rescues kind))
 
+-- the text of a moment, line by line
 unfoldable pub written : Settings → Picture → List ℕ → List AircraftAlert → Advice → Rescues → Text
 written settings picture board alerts advice rescues =
     moment_line picture.time

@@ -65,12 +65,14 @@ pub record AreCounted (settings : Settings) (output : Outputs) (count : ℕ) (co
 
 -- ---- what is written of it
 
+-- the counts of a kind, by band level
 abbrev pub tally_of : Counts → Kind → List ℕ
 tally_of counts Track = counts.track
 tally_of counts Speed = counts.speed
 tally_of counts Climb = counts.climb
 tally_of counts Height = counts.height
 
+-- the summary that these counts give, up to the greatest level
 abbrev pub written : (seed moments top : ℕ) → Counts → Text
 written seed moments top counts =
     summary_text seed moments counts.aircraft (take (top + 1) counts.alerts) (λ kind. take (top + 1) (tally_of counts kind))

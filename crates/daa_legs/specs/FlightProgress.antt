@@ -10,6 +10,7 @@ use Rattle.daa_state.specs.declared.word.Own.{Own}
 use Rattle.daa_state.specs.InRange.{IsOwnInRange}
 use Rattle.daa_legs.specs.OwnLegs.{place_on}
 
+-- the ownship, its rates of change, the candidate that is flown, and how many legs were taken
 pub record FlightProgress : Type 0 where
   pub own : Own
   pub rates : Rates

@@ -3,6 +3,7 @@
 use Rattle.std.specs.Prelude.{pos}
 use Rattle.daa_fixed.specs.declared.Leg.{Leg}
 
+-- the heights of the leg alone
 abbrev pub in_height : Leg → Leg
 in_height leg = record {
   place = record { flat = record { east = pos 0; north = pos 0 }; up = leg.place.up };
@@ -10,6 +11,7 @@ in_height leg = record {
   secs = leg.secs;
 }
 
+-- the way over ground of the leg alone
 abbrev pub in_plane : Leg → Leg
 in_plane leg = record {
   place = record { flat = leg.place.flat; up = pos 0 };

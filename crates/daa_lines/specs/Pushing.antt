@@ -18,6 +18,7 @@ at_stage Skipping line byte = ([], if byte == line_feed then Open else Skipping)
 at_stage Whole line byte = (line, Whole)
 at_stage Long line byte = (line, Long)
 
+-- a `Lines` after one byte more was fed
 unfoldable pub after_byte : Cutting → ℕ → Cutting
 after_byte c byte = record c {
   line = (at_stage c.stage c.line byte).0;

@@ -15,28 +15,35 @@ use Rattle.daa_legs.specs.Meeting.{relative_leg}
 
 -- ---- the volume at n/d
 
+-- modified tau, or the time to the closest approach, is at most tthr
 abbrev pub is_soon : Model → Leg → Volume → ℤ → ℤ → Bool
 is_soon Taumod leg vol n d =
     int_le (dot_of (place_at leg n d) (place_at leg n d) +ℤ pos vol.tthr *ℤ d *ℤ dot_of (place_at leg n d) leg.velocity.flat) (square_of (pos vol.dthr *ℤ d))
 is_soon Tcpa leg vol n d =
     int_le (neg_ℤ (dot_of (place_at leg n d) leg.velocity.flat)) (pos vol.tthr *ℤ d *ℤ dot_of leg.velocity.flat leg.velocity.flat)
 
+-- the horizontal distance is at most dthr
 abbrev pub is_near : Leg → Volume → ℤ → ℤ → Bool
 is_near leg vol n d = int_le (dot_of (place_at leg n d) (place_at leg n d)) (square_of (pos vol.dthr *ℤ d))
 
+-- the horizontal distance at the closest approach is at most dthr
 abbrev pub passes_near : Leg → Volume → ℤ → ℤ → Bool
 passes_near leg vol n d = int_le (square_of (cross_of (place_at leg n d) leg.velocity.flat)) (square_of (pos vol.dthr *ℤ d) *ℤ dot_of leg.velocity.flat leg.velocity.flat)
 
+-- the horizontal distance falls, soon enough and to a close enough approach
 abbrev pub is_closing : Leg → Volume → ℤ → ℤ → Bool
 is_closing leg vol n d = int_lt (dot_of (place_at leg n d) leg.velocity.flat) (pos 0) && (is_soon vol.model leg vol n d && passes_near leg vol n d)
 
+-- the height difference is at most zthr
 abbrev pub is_near_in_height : Leg → Volume → ℤ → ℤ → Bool
 is_near_in_height leg vol n d = int_le (pos (unsigned_abs (height_at leg n d))) (pos vol.zthr *ℤ d)
 
+-- the height difference falls, and reaches 0 in at most tcoa seconds
 abbrev pub is_co_altitude_soon : Leg → Volume → ℤ → ℤ → Bool
 is_co_altitude_soon leg vol n d =
     int_lt (height_at leg n d *ℤ leg.velocity.up) (pos 0) && int_le (pos (unsigned_abs (height_at leg n d))) (pos vol.tcoa *ℤ d *ℤ pos (unsigned_abs leg.velocity.up))
 
+-- the volume is violated: in its horizontal and in its vertical part
 unfoldable pub is_violated : Leg → Volume → ℤ → ℤ → Bool
 is_violated leg vol n d = (is_near leg vol n d || is_closing leg vol n d) && (is_near_in_height leg vol n d || is_co_altitude_soon leg vol n d)
 
@@ -51,6 +58,7 @@ some_below f (suc n) = f n || some_below f n
 abbrev pub is_violated_at : Leg → Volume → (d n : ℕ) → Bool
 is_violated_at leg vol d n = int_le (pos n) (pos leg.secs *ℤ pos (suc d)) && is_violated leg vol (pos n) (pos (suc d))
 
+-- the volume is violated at some time of the leg
 unfoldable pub is_violated_sometime : Leg → Volume → Bool
 is_violated_sometime leg vol = some_below (λ d. some_below (is_violated_at leg vol d) (suc (2 ^ 41))) (2 ^ 33)
 

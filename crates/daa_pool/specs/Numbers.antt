@@ -9,6 +9,7 @@ use Rattle.daa_schedule.specs.Answers.{AreAnswers}
 abbrev pub numbers : ℕ → List ℕ
 numbers units = range_with_len 11 units
 
+-- none of these answers is 0
 pub AreAnswers-numbers : (units : ℕ) → AreAnswers (numbers units)
 AreAnswers-numbers units = λ unit default low zero.
     let long = length-range_with_len 11 units in let word = get_or-range_with_len 11 units unit default (omega arith) in absurd (omega arith)

@@ -19,6 +19,7 @@ use Rattle.daa_pool.specs.History.{IsPartOf}
 abbrev pub Pools : Type 0
 Pools = State (Unit {0}) View
 
+-- the word at a place of the table
 abbrev pub word_at : List ℕ → ℕ → ℕ
 word_at words place = slice_index words place
 
@@ -89,5 +90,6 @@ pub record IsBlank (workers units : ℕ) (table : Pools) : Type 0 where
   pub words : table.words ≡ opening_words workers units
   pub views : table.views ≡ blank ∷ []
 
+-- the rule: the first seat has not begun, or words and views show a core that is whole
 abbrev pub Holds : Size → Pools → Type 0
 Holds size table = IsBlank size.workers size.units table ⊎ Ruled size.workers table

@@ -10,9 +10,11 @@ use Rattle.daa_pool.specs.declared.pool.Pool.{Pool}
 abbrev pub view : Seat → View
 view seat = seat.seat.me.0
 
+-- how many workers the pool has
 abbrev pub workers_of : Pool → ℕ
 workers_of pool = pool.workers
 
+-- how many units of work the pool has
 abbrev pub units_of : Pool → ℕ
 units_of pool = pool.table.shared.key.units
 

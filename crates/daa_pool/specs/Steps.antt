@@ -12,6 +12,7 @@ use Rattle.daa_pool.specs.History.{IsOneHistory}
 abbrev pub Sat : Type 0
 Sat = Me (Unit {0}) View
 
+-- the step gives the seat this view, and leaves its slots
 abbrev pub Becomes : Sat → View → Sat → Type 0
 Becomes before view after = (after.0 ≡ view) × (after.1 ≡ before.1)
 
@@ -25,28 +26,35 @@ pub record IsHome (view : View) (word : ℕ) : Type 0 where
 abbrev pub begins : ℕ → List ℕ → Step (Unit {0}) → Sat → ℕ → Sat → Type 0
 begins workers answers step before found after = Becomes before (opener workers answers) after
 
+-- a look at the own range
 abbrev pub looks_home : Step (Unit {0}) → Sat → ℕ → Sat → Type 0
 looks_home step before found after = Becomes before (looked_home before.0 found) after × IsHome before.0 found
 
+-- a claim from the own range, or a look at it where its word has changed
 abbrev pub claims : Step (Unit {0}) → Sat → ℕ → Sat → Type 0
 claims step before found after =
     (found ≡ step.first → Becomes before (claimed before.0) after × (before.0.bound.first < length before.0.answers))
     × (found ≢ step.first → Becomes before (looked_home before.0 found) after × IsHome before.0 found)
 
+-- a look at another worker's range
 abbrev pub looks_away : Step (Unit {0}) → Sat → ℕ → Sat → Type 0
 looks_away step before found after = Becomes before (looked before.0 step.word found) after × IsInOrder found
 
+-- a steal from another worker's range, or a look at it where its word has changed
 abbrev pub steals : Step (Unit {0}) → Sat → ℕ → Sat → Type 0
 steals step before found after =
     (found ≡ step.first → Becomes before (stolen before.0 step.word (unpacked found)) after × ((unpacked found).upto ≤ length before.0.answers))
     × (found ≢ step.first → Becomes before (looked before.0 step.word found) after × IsInOrder found)
 
+-- the seat keeps what it stole, and has its first unit in hand
 abbrev pub keeps : Step (Unit {0}) → Sat → ℕ → Sat → Type 0
 keeps step before found after = Becomes before (kept before.0) after
 
+-- the answer of the unit in hand goes onto the board
 abbrev pub settles : Step (Unit {0}) → Sat → ℕ → Sat → Type 0
 settles step before found after = Becomes before (settled before.0 step.first) after × (length (settled before.0 step.first).settled ≤ length before.0.answers)
 
+-- the worker ends; its own range is empty
 abbrev pub ends : Step (Unit {0}) → Sat → ℕ → Sat → Type 0
 ends step before found after = Becomes before (ended before.0 found) after × (span_len (unpacked found) ≡ 0) × (length before.0.settled ≤ length before.0.answers)
 

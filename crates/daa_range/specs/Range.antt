@@ -6,9 +6,11 @@ pub record Span : Type 0 where
   pub first : ℕ
   pub upto : ℕ
 
+-- the range of the units from one number on, below another
 abbrev pub span : ℕ → ℕ → Span
 span first upto = record { first = first; upto = upto }
 
+-- the range does not end before it begins
 abbrev pub IsOrdered : Span → Type 0
 IsOrdered range = range.first ≤ range.upto
 
@@ -29,9 +31,11 @@ times_below (suc unit) range = times_below unit range + times_in unit range
 abbrev pub middle_of : Span → ℕ
 middle_of range = range.upto - span_len range / 2
 
+-- the lower half of a range
 abbrev pub lower_of : Span → Span
 lower_of range = span range.first (middle_of range)
 
+-- the upper half of a range
 abbrev pub upper_of : Span → Span
 upper_of range = span (middle_of range) range.upto
 

@@ -14,6 +14,7 @@ first_part word = word / 2 ^ 32
 abbrev pub upto_part : ℕ → ℕ
 upto_part word = word % 2 ^ 32
 
+-- the range in the word does not end before it begins
 abbrev pub IsInOrder : ℕ → Type 0
 IsInOrder word = first_part word ≤ upto_part word
 

@@ -31,6 +31,7 @@ module _ (p : Prospect) (kind : Kind) where
     pub recovers : RecoversAt p kind place r.after r.value
     pub none_earlier : (i : ℕ) (value : ℤ) → i < place → ¬ RecoversAt p kind i r.after value
 
+  -- what was found, if anything, is the first value that recovers at its time
   abbrev pub IsFirstFound : (count : ℕ) → Option Recovery → Type 0
   IsFirstFound count (Some r) = IsFirst count r
   IsFirstFound count None = Unit {0}
@@ -42,12 +43,14 @@ module _ (p : Prospect) (kind : Kind) where
 
 -- the least time from 1 on below a bound at which the candidate recovers, or that there is none
 module _ (p : Prospect) (candidate : Candidate) (bound : ℕ) where
+  -- the candidate recovers at this time, below the bound, and at no earlier one
   pub record IsLeastAt (after : ℕ) : Type 0 where
     pub some : 1 ≤ after
     pub below : after < bound
     pub recovers : Recovers p candidate after
     pub none_sooner : (m : ℕ) → 1 ≤ m → m < after → ¬ Recovers p candidate m
 
+  -- it is the least such time, or there is none below the bound
   abbrev pub IsLeastTime : Option ℕ → Type 0
   IsLeastTime (Some after) = IsLeastAt after
   IsLeastTime None = (m : ℕ) → 1 ≤ m → m < bound → ¬ Recovers p candidate m

@@ -27,12 +27,14 @@ module _ (settings : Settings) (own : Own) where
 
   -- ---- reach
 
+  -- east, north and up, the aircraft is near enough to be met at the level
   abbrev pub enters : Traffic → Level → Bool
   enters aircraft level =
       int_le (size_of (place_now own aircraft).flat.east) (pos level.volume.dthr +ℤ pos (level.volume.tthr + level.lookahead) *ℤ horizontal_speed settings own aircraft)
       && (int_le (size_of (place_now own aircraft).flat.north) (pos level.volume.dthr +ℤ pos (level.volume.tthr + level.lookahead) *ℤ horizontal_speed settings own aircraft)
       && int_le (size_of (place_now own aircraft).up) (pos level.volume.zthr +ℤ pos (level.volume.tcoa + level.lookahead) *ℤ vertical_speed settings own aircraft))
 
+  -- the aircraft is near enough to be met at some level
   unfoldable pub is_reached : Option Traffic → Bool
   is_reached (Some aircraft) = list_any (enters aircraft) settings.levels
   is_reached None = false
@@ -57,6 +59,7 @@ abbrev pub entry_for : Situation → Option Candidate → Option Traffic → ℕ
 entry_for s (Some candidate) (Some aircraft) = 1 + 2 * mask_of s.settings s.picture.own candidate aircraft s.settings.levels
 entry_for s _ _ = 0
 
+-- the entry of the candidate at an index, for the aircraft at a place
 unfoldable pub entry_at : Situation → (at index : ℕ) → ℕ
 entry_at s at index = entry_for s (slice_get (candidates_of s.settings) index) (slice_get (aircraft_of s.picture) at)
 
@@ -65,6 +68,7 @@ unfoldable pub packed_from : (ℕ → ℕ) → (j n : ℕ) → ℕ
 packed_from f j zero = 0
 packed_from f j (suc n) = f j + 32 * packed_from f (suc j) n
 
+-- the entries of a group's candidates, for the aircraft at a place
 unfoldable pub packed_word : Situation → (at group : ℕ) → ℕ
 packed_word s at group = packed_from (λ j. entry_at s at (index_in group j)) 0 group_size
 
@@ -73,6 +77,7 @@ abbrev pub at_least_one : ℕ → ℕ
 at_least_one zero = 1
 at_least_one (suc n) = suc n
 
+-- the word of a unit
 unfoldable pub word_of : Situation → ℕ → ℕ
 word_of s unit = at_least_one (packed_word s (slice_index (places_in_reach s) (unit / group_count s.settings)) (unit % group_count s.settings))
 
@@ -90,12 +95,14 @@ pub one_at_least : (n : ℕ) → at_least_one n ≢ 0
 one_at_least zero = λ e. cc e
 one_at_least (suc n) = λ e. cc e
 
+-- no word from a unit on is 0
 pub values_real : (s : Situation) (i n : ℕ) → AreAnswers (values_from (word_of s) i n)
 unfolding values_from word_of
 values_real s i zero k d h = absurd (omega (arith, h))
 values_real s i (suc n) zero d h = one_at_least _
 values_real s i (suc n) (suc k) d h = values_real s (suc i) n k d (omega (arith, h))
 
+-- no word is 0
 pub words_real : (s : Situation) → AreAnswers (words_of s)
 unfolding words_of
 words_real s = values_real s 0 (group_count s.settings * length (places_in_reach s))

@@ -2,6 +2,7 @@
 use Rattle.daa_schedule.specs.declared.core_state.Core.TheInside.{Inside}
 use Rattle.daa_schedule.specs.CoreState.{CoreState, IsShaped, IsWhole}
 
+-- the fields of a core, as lists
 abbrev pub state_of : Inside → CoreState
 state_of core = record {
   answers = core.answers.items;

@@ -12,9 +12,11 @@ pub record CoreState : Type 0 where
   pub ended : List Bool
   pub board : List ℕ
 
+-- how many workers there are
 abbrev pub worker_count : CoreState → ℕ
 worker_count core = length core.ranges
 
+-- how many units of work there are
 abbrev pub unit_count : CoreState → ℕ
 unit_count core = length core.answers
 
@@ -22,15 +24,19 @@ unit_count core = length core.answers
 abbrev pub no_units : Span
 no_units = span 0 0
 
+-- the range of a worker
 abbrev pub range_at : CoreState → ℕ → Span
 range_at core worker = slice_index_or core.ranges worker no_units
 
+-- what a worker has in hand
 abbrev pub hand_at : CoreState → ℕ → Span
 hand_at core worker = slice_index_or core.hands worker no_units
 
+-- whether a worker has ended
 abbrev pub has_ended : CoreState → ℕ → Bool
 has_ended core worker = slice_index_or core.ended worker false
 
+-- the word of a unit on the board, or 0
 abbrev pub word_on : CoreState → ℕ → ℕ
 word_on core unit = slice_index core.board unit
 

@@ -11,9 +11,11 @@ abbrev pub run : CoreState → List Step → CoreState
 run core [] = core
 run core (step ∷ steps) = run (stepped core step) steps
 
+-- every worker has ended
 abbrev pub AllEnded : CoreState → Type 0
 AllEnded core = (worker : ℕ) → worker < worker_count core → has_ended core worker ≡ true
 
+-- whether a step is an End
 abbrev pub is_end : Step → Bool
 is_end (End by) = true
 is_end (Claim by) = false

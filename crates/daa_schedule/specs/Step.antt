@@ -20,6 +20,7 @@ code_of Ended = 8
 code_of Stolen = 9
 code_of RangeLeft = 10
 
+-- whether no worker has this number
 abbrev pub is_stranger : CoreState → ℕ → Bool
 is_stranger core worker = nat_le (worker_count core) worker
 
@@ -64,6 +65,7 @@ abbrev pub first_fault : List (Bool × StepFault) → Option StepFault
 first_fault [] = None
 first_fault (check ∷ others) = if check.0 then Some check.1 else first_fault others
 
+-- why a step is refused, if it is
 abbrev pub fault_of : CoreState → Step → Option StepFault
 fault_of core step = first_fault (checks core step)
 
@@ -96,6 +98,7 @@ unless (Some fault) after before = before
 abbrev pub stepped : CoreState → Step → CoreState
 stepped core step = unless (fault_of core step) (moved core step) core
 
+-- what a step answers
 abbrev pub verdict : Option StepFault → Result (Unit {0}) StepFault
 verdict None = Ok tt
 verdict (Some fault) = Err fault

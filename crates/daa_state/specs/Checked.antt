@@ -24,6 +24,7 @@ range_of SpeedEast = speeds
 range_of SpeedNorth = speeds
 range_of Age = ages
 
+-- whether a number is in a range
 abbrev pub is_within : Range → ℤ → Bool
 is_within range n = int_le range.low n && int_le n range.high
 
@@ -40,10 +41,12 @@ unfoldable pub first_outside : List Number → Option OutOfRange
 first_outside [] = None
 first_outside (n ∷ others) = if is_within (range_of n.field) n.number then first_outside others else Some (outside n.field)
 
+-- the numbers of an ownship, in the order of its fields
 abbrev pub own_numbers : Own → List Number
 own_numbers own = number_of East own.x ∷ number_of North own.y ∷ number_of Altitude own.alt ∷ number_of Track own.trk
     ∷ number_of GroundSpeed own.gs ∷ number_of VerticalSpeed own.vs ∷ []
 
+-- the numbers of an aircraft, in the order of its fields
 abbrev pub traffic_numbers : Traffic → List Number
 traffic_numbers t = number_of East t.x ∷ number_of North t.y ∷ number_of Altitude t.alt ∷ number_of SpeedEast t.vx
     ∷ number_of SpeedNorth t.vy ∷ number_of VerticalSpeed t.vs ∷ number_of Age (pos t.age) ∷ []

@@ -25,6 +25,7 @@ IsCurrentPicture picture = All IsCurrent (aircraft_of picture)
 abbrev pub IsCurrentMoment : Moment → Type 0
 IsCurrentMoment moment = All IsCurrent moment.traffic.items
 
+-- each aircraft of the open moment is so, if a moment is open
 abbrev pub IsCurrentState : State → Type 0
 IsCurrentState state = IfSome state.moment IsCurrentMoment
 

@@ -9,6 +9,7 @@ use Rattle.daa_state.specs.declared.word.Word.{Word}
 use Rattle.daa_state.specs.declared.word.Word.TheVariants as says
 use Rattle.daa_state.specs.declared.fault.LineFault.TheVariants.{LongLine, BadWord}
 
+-- whether the first field is `format`
 abbrev pub begins_with_format : List Bytes → Bool
 begins_with_format [] = false
 begins_with_format (name ∷ fields) = bytes_eq name (codes "format")
@@ -17,6 +18,7 @@ begins_with_format (name ∷ fields) = bytes_eq name (codes "format")
 abbrev pub is_format_line : Bytes → Bool
 is_format_line line = begins_with_format (fields_of (strip_carriage_return line))
 
+-- the word that the first field names, read from the others
 unfoldable pub four_word_of_name : Bytes → List Bytes → Checked Word
 four_word_of_name name fields =
     if is_comment name then Ok says.Skip
@@ -26,6 +28,7 @@ four_word_of_name name fields =
     else if bytes_eq name (codes "end") then end_of fields
     else Err BadWord
 
+-- the word of a line's fields; without any it says nothing
 unfoldable pub four_word_of_fields : List Bytes → Checked Word
 four_word_of_fields [] = Ok says.Skip
 four_word_of_fields (name ∷ fields) = four_word_of_name name fields

@@ -10,35 +10,43 @@ use Rattle.daa_state.specs.declared.word.Word.{Word}
 use Rattle.daa_state.specs.declared.word.Word.TheVariants as says
 use Rattle.daa_state.specs.declared.moments.Moment.{Moment}
 
+-- the number is in the range; both ends belong to it
 abbrev pub IsWithin : Range → ℤ → Type 0
 IsWithin range n = (range.low ≤ℤ n) × (n ≤ℤ range.high)
 
+-- a place east or north is in its range
 abbrev pub IsPosition : ℤ → Type 0
 IsPosition = IsWithin positions
 
+-- an altitude is in its range
 abbrev pub IsAltitude : ℤ → Type 0
 IsAltitude = IsWithin altitudes
 
+-- a track is in its range
 abbrev pub IsTrack : ℤ → Type 0
 IsTrack = IsWithin tracks
 
+-- a ground speed is in its range
 abbrev pub IsGroundSpeed : ℤ → Type 0
 IsGroundSpeed = IsWithin ground_speeds
 
+-- an aircraft's speed east or north is in its range
 abbrev pub IsSpeed : ℤ → Type 0
 IsSpeed = IsWithin speeds
 
+-- a vertical speed is in its range
 abbrev pub IsVerticalSpeed : ℤ → Type 0
 IsVerticalSpeed = IsWithin vertical_speeds
 
--- how many seconds old a report is
+-- the age of a report is in its range
 abbrev pub IsAge : ℕ → Type 0
 IsAge n = n ≤ unsigned_abs ages.high
 
--- the format of the lines
+-- the format of the lines is 1 or 2
 abbrev pub IsFormat : ℕ → Type 0
 IsFormat n = (unsigned_abs formats.low ≤ n) × (n ≤ unsigned_abs formats.high)
 
+-- each number of the ownship is in its range
 pub record IsOwnInRange (own : Own) : Type 0 where
   pub x : IsPosition own.x
   pub y : IsPosition own.y
@@ -47,6 +55,7 @@ pub record IsOwnInRange (own : Own) : Type 0 where
   pub gs : IsGroundSpeed own.gs
   pub vs : IsVerticalSpeed own.vs
 
+-- the identifier is well formed, and each number of the aircraft is in its range
 pub record IsTrafficInRange (traffic : Traffic) : Type 0 where
   pub id : is_id traffic.id ≡ true
   pub x : IsPosition traffic.x
@@ -57,6 +66,7 @@ pub record IsTrafficInRange (traffic : Traffic) : Type 0 where
   pub vs : IsVerticalSpeed traffic.vs
   pub age : IsAge traffic.age
 
+-- the numbers of a word are in their ranges
 abbrev pub IsWordInRange : Word → Type 0
 IsWordInRange (says.Moment time) = Unit {0}
 IsWordInRange (says.Own own) = IsOwnInRange own
@@ -65,11 +75,13 @@ IsWordInRange (says.Format format) = IsFormat format
 IsWordInRange says.End = Unit {0}
 IsWordInRange says.Skip = Unit {0}
 
+-- the ownship and the aircraft, at most 64, are in their ranges
 pub record IsPictureInRange (picture : Picture) : Type 0 where
   pub own : IsOwnInRange picture.own
   pub traffic : All IsTrafficInRange (aircraft_of picture)
   pub count : length (aircraft_of picture) ≤ 64
 
+-- what the open moment has so far is in its ranges
 pub record IsMomentInRange (moment : Moment) : Type 0 where
   pub own : IfSome moment.own IsOwnInRange
   pub traffic : All IsTrafficInRange moment.traffic.items

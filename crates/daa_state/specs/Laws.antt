@@ -9,6 +9,7 @@ use Rattle.daa_state.specs.declared.word.Word.{Word}
 use Rattle.daa_state.specs.declared.word.Word.TheVariants as says
 use Rattle.daa_state.specs.declared.fault.LineFault.TheVariants.{LongLine}
 
+-- whether a word names the format
 abbrev pub is_format_word : Word → Bool
 is_format_word (says.Format format) = true
 is_format_word _ = false

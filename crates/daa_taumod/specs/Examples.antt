@@ -5,6 +5,7 @@ use Rattle.daa_fixed.specs.declared.Leg.{Leg}
 use Rattle.daa_taumod.specs.declared.Model.{Model}
 use Rattle.daa_taumod.specs.declared.Volume.{Volume}
 
+-- north at 360 knots for two seconds, from a place and with a rate of climb
 abbrev pub northward : (east north up rise : ℤ) → Leg
 northward east north up rise = record {
   place = record { flat = record { east = east; north = north }; up = up };
@@ -12,6 +13,7 @@ northward east north up rise = record {
   secs = 2;
 }
 
+-- a volume of these thresholds, by one of the two models
 abbrev pub volume_of : (dthr zthr tthr tcoa : ℕ) → Model → Volume
 volume_of dthr zthr tthr tcoa model = record { dthr = dthr; zthr = zthr; tthr = tthr; tcoa = tcoa; model = model }
 
