@@ -1,31 +1,98 @@
-/* One moment of the encounter in README.md, from C: the alerts, and the bands of track. */
+/* One moment of the encounter in README.md, from C: its alerts, bands and resolutions, in the lines of the report.
+ *
+ *     one_moment CONFIGURATION           asks for each answer by itself
+ *     one_moment CONFIGURATION report    asks for the whole text
+ *
+ * Where a call answers anything but DAA_OK, that is the program's status. */
 #include "daidalus.h"
 
 #include <stdio.h>
+#include <stdlib.h>
+#include <string.h>
 
-int main(int count, char **words) {
-    static uint8_t config[65537], levels[1897];
-    FILE *file = count == 2 ? fopen(words[1], "rb") : NULL;
-    if (!file) return 1;
-    size_t size = fread(config, 1, sizeof config, file);
+static const struct daa_own own = {0, 0, 10000, 0, 3600, 0};
+
+static const struct daa_traffic traffic[] = {
+    {"AMBER", 3000, 8000, 10000, -1350, 0, 0, 0},
+    {"BRAVO", -1200, -300, 10600, 0, 3600, -600, 0},
+};
+
+enum { AIRCRAFT = sizeof traffic / sizeof *traffic };
+
+static void check(const char *call, int32_t answer) {
+    if (answer == DAA_OK) return;
+    fprintf(stderr, "%s answers %d\n", call, (int)answer);
+    exit(answer);
+}
+
+static struct daa_config config_in(const char *name) {
+    static uint8_t text[65537]; /* one byte more than a configuration may have */
+    FILE *file = fopen(name, "rb");
+    if (!file) {
+        perror(name);
+        exit(1);
+    }
+    size_t size = fread(text, 1, sizeof text, file);
     fclose(file);
-    struct daa_own own = {0, 0, 10000, 0, 3600, 0};
-    struct daa_traffic traffic[2] = {{3000, 8000, 10000, -1350, 0, 0, 0}, {-1200, -300, 10600, 0, 3600, -600, 0}};
-    for (int place = 0; place < 2; place++) {
-        struct daa_alert alert;
-        int32_t answer = daa_alert(config, size, &own, &traffic[place], &alert);
-        if (answer) return answer;
-        printf("aircraft %d now %u alert %u\n", place, alert.now, alert.level);
-        if (alert.level) printf("aircraft %d alerts in second %d\n", place, (int)alert.first);
+    struct daa_config config;
+    check("daa_read", daa_read(text, size, &config));
+    return config;
+}
+
+static void print_alert(const struct daa_config *config, const struct daa_traffic *aircraft) {
+    struct daa_alert alert;
+    check("daa_alert", daa_alert(config, &own, aircraft, &alert));
+    printf("now %.8s %u\n", aircraft->id, (unsigned)alert.now);
+    printf("alert %.8s %u ", aircraft->id, (unsigned)alert.level);
+    if (alert.level) printf("%d\n", (int)alert.first);
+    else printf("-\n");
+}
+
+static void print_bands(const struct daa_config *config, const struct daa_board *board, int32_t kind, const char *name) {
+    struct daa_band bands[512];
+    size_t count;
+    check("daa_bands", daa_bands(config, board, kind, bands, 512, &count));
+    for (size_t i = 0; i < count; i++)
+        printf("%s %d %d %u\n", name, (int)bands[i].from, (int)bands[i].upto, (unsigned)bands[i].level);
+}
+
+static void print_side(const struct daa_config *config, const struct daa_board *board, int32_t kind, int32_t side) {
+    struct daa_resolution to;
+    check("daa_resolution", daa_resolution(config, &own, board, kind, side, &to));
+    if (to.what == 0) printf("keep");
+    else if (to.what == 1) printf("%d", (int)to.value);
+    else printf("none");
+}
+
+static void print_answers(const struct daa_config *config) {
+    static const char *const names[] = {[DAA_TRACK] = "track", [DAA_SPEED] = "gs", [DAA_CLIMB] = "vs", [DAA_HEIGHT] = "alt"};
+    struct daa_board board;
+    check("daa_decide", daa_decide(config, &own, traffic, AIRCRAFT, &board));
+    printf("moment 0\n");
+    for (int i = 0; i < AIRCRAFT; i++) print_alert(config, &traffic[i]);
+    for (int kind = DAA_TRACK; kind <= DAA_HEIGHT; kind++) print_bands(config, &board, kind, names[kind]);
+    for (int kind = DAA_TRACK; kind <= DAA_HEIGHT; kind++) {
+        printf("resolve %s %s ", names[kind], kind == DAA_TRACK ? "left" : "down");
+        print_side(config, &board, kind, DAA_LOWER);
+        printf(" %s ", kind == DAA_TRACK ? "right" : "up");
+        print_side(config, &board, kind, DAA_UPPER);
+        printf("\n");
     }
-    int32_t answer = daa_levels(config, size, &own, traffic, 2, levels, sizeof levels);
-    if (answer) return answer;
-    /* the tracks 0, 5 .. 355 are the candidates 1 to 72 */
-    for (int from = 0; from < 72;) {
-        int upto = from;
-        while (upto + 1 < 72 && levels[1 + upto + 1] == levels[1 + from]) upto++;
-        printf("track %d %d %d\n", 5 * from, 5 * upto, levels[1 + from]);
-        from = upto + 1;
+    printf("done 0\n");
+}
+
+static void print_report(const struct daa_config *config) {
+    static uint8_t text[130176];
+    size_t length;
+    check("daa_report", daa_report(config, 0, &own, traffic, AIRCRAFT, text, sizeof text, &length));
+    fwrite(text, 1, length, stdout);
+}
+
+int main(int words, char **word) {
+    if (words != 2 && !(words == 3 && strcmp(word[2], "report") == 0)) {
+        fprintf(stderr, "usage: one_moment CONFIGURATION [report]\n");
+        return 2;
     }
-    return 0;
+    struct daa_config config = config_in(word[1]);
+    words == 2 ? print_answers(&config) : print_report(&config);
 }

@@ -1,0 +1,92 @@
+"""bench/worst: what it draws is accepted, its search keeps what takes longer, and the least stack is found."""
+import random
+import unittest
+from types import SimpleNamespace
+
+from common import module
+from daidalus_files import Moment, Reader, config_of, examine_config
+
+worst = module("bench/worst")
+
+
+def drawn_moments(recovery, count=150):
+    """A drawn moment, changed again and again, and drawn anew at times."""
+    drawn = random.Random(5)
+    for number in range(count):
+        moment = worst.changed(drawn, moment) if number % 40 else worst.draw_moment(drawn, recovery)
+        yield moment
+
+
+class Moments(unittest.TestCase):
+    def test_each_configuration_is_accepted_and_has_all_candidates(self):
+        for recovery in (False, True):
+            for moment in drawn_moments(recovery):
+                document, faults = examine_config(worst.config_text(moment["config"]).encode())
+                self.assertEqual(faults, [])
+                config = config_of(document)
+                self.assertEqual(1 + sum(map(len, config.values.values())), 1897)
+                self.assertEqual((config.recovery is not None, len(config.levels)), (recovery, 4))
+
+    def test_each_picture_is_accepted_and_has_all_aircraft(self):
+        for moment in drawn_moments(False):
+            events = Reader().read(f"format 2\nmoment 0\n{worst.moment_lines(moment)}".encode())
+            self.assertEqual([type(it) for it in events], [Moment], events)
+            self.assertEqual(len(events[0].traffic), 64)
+
+    def test_a_change_changes_its_moment_and_no_other(self):
+        drawn = random.Random(6)
+        moment = worst.draw_moment(drawn, True)
+        text = worst.config_text(moment["config"]) + worst.moment_lines(moment)
+        others = [worst.changed(drawn, moment) for _ in range(200)]
+        texts = {worst.config_text(other["config"]) + worst.moment_lines(other) for other in others}
+        self.assertEqual(worst.config_text(moment["config"]) + worst.moment_lines(moment), text)
+        self.assertGreater(len(texts), 150)
+
+
+class Search(unittest.TestCase):
+    """Over times that are made up: a moment takes longer, the nearer the ownship's altitude is to 12345 feet."""
+
+    def seconds(self, config, lines, guess):
+        self.asked.append(config + lines)
+        return 1 / (1 + abs(int(lines.split()[3]) - 12345))
+
+    def search(self, seed, tries):
+        self.asked = []
+        given = SimpleNamespace(seed=seed, tries=tries, minutes=1, recovery=False)
+        return worst.Search(given, self.seconds, str).search()
+
+    def test_finds_what_takes_longest(self):
+        took, moment = self.search(1, 800)
+        self.assertLess(abs(moment["own"][2] - 12345), 100)
+        self.assertEqual(took, 1 / (1 + abs(moment["own"][2] - 12345)))
+        self.assertGreaterEqual(took, max(map(lambda text: 1 / (1 + abs(int(text.split("own ")[1].split()[2]) - 12345)), self.asked)) / 1.03)
+
+    def test_the_same_seed_and_times_give_the_same_search(self):
+        first, asked = self.search(2, 300), self.asked
+        self.assertEqual((self.search(2, 300), self.asked), (first, asked))
+        self.assertNotEqual(self.search(3, 300), first)
+
+    def test_ends_after_its_tries(self):
+        for tries in (1, 50):
+            self.search(1, tries)
+            self.assertLessEqual(tries, len(self.asked))
+            self.assertLessEqual(len(self.asked), tries + 2)
+
+
+class Stack(unittest.TestCase):
+    def test_the_least_that_ends_well(self):
+        for least in (5, 100, 8192):
+            self.assertEqual(worst.least_stack(lambda size: size >= least, 4, 8192), least)
+
+
+class Calls(unittest.TestCase):
+    def test_the_program_has_the_moments_numbers(self):
+        moment = next(iter(Reader().read(b"moment 0\nown 1 2 3 4 5 6\ntraffic AB -7 8 9 10 11 12\nend\n")))
+        text = worst.source_of_calls(b"gs", moment)
+        for part in ("text[] = { 103, 115 };", "own = { 1, 2, 3, 4, 5, 6 };", 'traffic[] = { {"AB", -7, 8, 9, 10, 11, 12, 0} };'):
+            self.assertIn(part, text)
+        self.assertNotIn("@", text)
+
+
+if __name__ == "__main__":
+    unittest.main()
