@@ -47,17 +47,6 @@ impl Branch {
     }
 }
 
-impl Branch {
-    /// Room for a branch in a table.
-    pub fn new() -> Branch {
-        Branch {
-            upper: true,
-            leaves: 0,
-            settles: 0,
-        }
-    }
-}
-
 /// A way to a value: to the right or up or the other way, and how many whole seconds at the rate
 /// fit into it.
 #[derive(Clone, Copy)]
