@@ -1,15 +1,14 @@
 -- What the present flight tells of a kind's candidates: the seconds in which they may violate a volume.
-use Rattle.std.proofs.Common.{◌≡◌, ◌∙◌, ℕ, ◌+◌, ◌-◌, ◌*◌, ◌/◌, ◌<◌, ◌≤◌, inl, inr, ap, sym, subst, arith, nat_abs, le-div_iff_mul-le, ℤ, pos, negsuc, ◌+ℤ◌, ◌-ℤ◌, ◌*ℤ◌, ◌≤ℤ◌, ◌∷◌, []}
+use Rattle.std.proofs.Common.{◌≡◌, ℕ, ◌+◌, ◌-◌, ◌*◌, ◌/◌, ◌<◌, ◌≤◌, inl, inr, sym, subst, arith, nat_abs, le-div_iff_mul-le, ℤ, pos, negsuc, ◌+ℤ◌, ◌-ℤ◌, ◌*ℤ◌, ◌≤ℤ◌, ◌∷◌, []}
 use Rattle.std.proofs.lemmas.Int.{ints}
 use Rattle.daa_fixed.proofs.Integers.{mul_le, le_trans_ℤ, cancel_le}
-use Rattle.daa_fixed.proofs.Ring.{ring, #, ◌⊕◌, ◌⊖◌, ◌⊗◌}
+use Rattle.daa_fixed.proofs.Ring.{ring, #, ◌⊖◌, ◌⊗◌}
 use Rattle.daa_fixed.specs.declared.Leg.{Leg}
 use Rattle.daa_fixed.specs.declared.Point.{Point}
 use Rattle.daa_fixed.specs.Time.{IsTime, HoldsSometime}
 use Rattle.daa_taumod.specs.declared.Volume.{Volume}
 use Rattle.daa_taumod.specs.Volume.{Violates, ViolatesVertically}
 use Rattle.daa_vwindow.specs.Window.{IsWindow}
-use Rattle.daa_config.specs.declared.candidate.Candidate.{Candidate}
 use Rattle.daa_config.specs.declared.candidate.Candidate.TheVariants.{Hold}
 use Rattle.daa_config.specs.declared.kind.Kind.{Kind}
 use Rattle.daa_config.specs.Candidates.{candidate_to}
@@ -17,7 +16,7 @@ use Rattle.daa_config.specs.declared.level.Level.{Level}
 use Rattle.daa_config.specs.Settings.{Settings, IsLevelAt, rates_of}
 use Rattle.daa_state.specs.declared.word.Own.{Own}
 use Rattle.daa_state.specs.declared.word.Traffic.{Traffic}
-use Rattle.daa_legs.specs.Meeting.{ViolatesOn, MeetsWithin}
+use Rattle.daa_legs.specs.Meeting.{ViolatesOn}
 use Rattle.daa_legs.specs.OwnLegs.{own_leg}
 use Rattle.daa_legs.specs.Relative.{relative_for}
 use Rattle.daa_legs.specs.Shared.{in_height, in_plane}

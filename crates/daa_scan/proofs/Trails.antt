@@ -1,5 +1,5 @@
 -- A test of a kept leg, and what a trail says.
-use Rattle.std.proofs.Common.{◌≡◌, ◌↔◌, min, max, inl, inr, ⊎_elim, ℕ, ◌+◌, ◌<◌, ◌≤◌, Bool, List, ap, sym, subst, ◌∙◌, arith}
+use Rattle.std.proofs.Common.{◌≡◌, ◌↔◌, min, inl, inr, ⊎_elim, ℕ, ◌+◌, ◌<◌, ◌≤◌, Bool, List, ap, sym, subst, ◌∙◌, arith}
 use Rattle.std.proofs.lemmas.Bool.{cases_lt}
 use Rattle.std.specs.Prelude.{IsTrue, slice_index_or}
 use Rattle.daa_fixed.specs.declared.Leg.{Leg}
@@ -84,11 +84,11 @@ pub fewer_legs : (own : Own) (rates : Rates) (candidate : Candidate) (n m : ℕ)
 fewer_legs own rates candidate n m legs le h = record { room = h.room; each = λ k d b. h.each k d (omega (arith, b, le)) }
 
 -- a leg that is not walked lies past the trail's end
-pub walked_upto : (settings : Settings) (own : Own) (lead : Candidate) (aircraft : Traffic) (volume : Volume) (trail : Trail) (last walked upto all : ℕ) → IsTrailOf settings own lead aircraft volume trail → upto ≤ 180
-    → last ≡ min upto trail.end → last ≤ walked → all ≡ max walked upto → ((j : ℕ) → j < walked → ¬ ViolatesOn settings own lead aircraft volume j) → (j : ℕ) → j < all → ¬ ViolatesOn settings own lead aircraft volume j
-walked_upto settings own lead aircraft volume trail last walked upto all t short ends over most none j b v = ⊎_elim
+pub walked_upto : (settings : Settings) (own : Own) (lead : Candidate) (aircraft : Traffic) (volume : Volume) (trail : Trail) (last walked upto : ℕ) → IsTrailOf settings own lead aircraft volume trail → upto ≤ 180
+    → last ≡ min upto trail.end → last ≤ walked → ((j : ℕ) → j < walked → ¬ ViolatesOn settings own lead aircraft volume j) → (j : ℕ) → j < upto → ¬ ViolatesOn settings own lead aircraft volume j
+walked_upto settings own lead aircraft volume trail last walked upto t short ends over none j b v = ⊎_elim
     (λ l. none j l v)
-    (λ g. t.later j (omega (arith, most, b, g, short)) (omega (arith, ends, over, most, b, g)) v)
+    (λ g. t.later j (omega (arith, b, short)) (omega (arith, ends, over, b, g)) v)
     (cases_lt j walked)
 
 module _ (settings : Settings) (own : Own) (candidate lead : Candidate) (aircraft : Traffic) (volume : Volume) (n m : ℕ) (alike : FliesAs own (rates_of settings) candidate lead n) (trail : Trail) (t : IsTrailOf settings own lead aircraft volume trail) where

@@ -404,7 +404,7 @@ fn meets_along(
     ensures trail { IsTrailOf config.now own.now lead aircraft.now level.now.volume trail.new }
 {
     let upto = branch.leaves.min(level.lookahead);
-    *trail = walk_on(
+    walk_on(
         trail,
         config,
         own,

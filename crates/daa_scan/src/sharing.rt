@@ -22,9 +22,9 @@ use daa_legs::{Branch, OwnLeg, OwnRun, Trunk, end_of, relative, relative_run};
 use daa_state::{Own, Traffic};
 use daa_taumod::Volume;
 
-/// The trail walked on to leg `upto`, or to a hit.
+/// Walks the trail on to leg `upto`, or to a hit.
 pub(crate) fn walk_on(
-    trail: &Trail,
+    trail: &mut Trail,
     config: &Config,
     own: &Own,
     lead: Candidate,
@@ -32,37 +32,31 @@ pub(crate) fn walk_on(
     upto: u32,
     aircraft: &Traffic,
     volume: &Volume,
-) -> Trail
+)
     requires own { IsOwnInRange own.now }
     requires lead { IsCandidateInRange lead }
     requires upto { upto ≤ 180 }
     requires trunk { AreLegsOf own.now (rates_of config.now) lead upto trunk.now }
     requires aircraft { IsTrafficInRange aircraft.now }
     requires volume { IsVolumeInRange volume.now }
-    requires trail { IsTrailOf config.now own.now lead aircraft.now volume.now trail.now }
-    ensures trail { IsTrailOf config.now own.now lead aircraft.now volume.now result }
-    ensures done { result.hit ≡ false → upto ≤ result.walked }
+    requires trail { IsTrailOf config.now own.now lead aircraft.now volume.now trail.old }
+    ensures trail { IsTrailOf config.now own.now lead aircraft.now volume.now trail.new }
+    ensures done { trail.new.hit ≡ false → upto ≤ trail.new.walked }
 {
-    if trail.hit {
-        return *trail;
+    if trail.hit || upto <= trail.walked {
+        return;
     }
     let last = upto.min(trail.end);
     let mut walked = trail.walked;
     while walked < last {
         if violates_on(config, own, lead, trunk, upto, walked, aircraft, volume) {
-            return Trail {
-                walked,
-                hit: true,
-                ..*trail
-            };
+            trail.walked = walked;
+            trail.hit = true;
+            return;
         }
         walked += 1;
     }
-    Trail {
-        walked: walked.max(upto),
-        hit: false,
-        ..*trail
-    }
+    trail.walked = upto;
 }
 
 /// Whether a leg of the trunk violates the volume.

@@ -1,20 +1,25 @@
-use Rattle.std.proofs.Common.{below_more, inl, inr, arith}
+use Rattle.std.proofs.Common.{below_more, ◌∙◌, sym, arith, true≢false}
 use Rattle.daa_scan.proofs.Trails.{walked_upto}
 use Rattle.daa_scan.proofs.sharing.walk_on.Goals as goal
 
 pub loop-walked-init : goal.loop-walked-init
-loop-walked-init c = c.requires.trail.none
+loop-walked-init c = record { none = c.requires.trail.none; trail = c.requires.trail; clear = c.if-trail.false; last = c.min-last.ensures }
 
 pub returns-then-violates_on-clause-trail : goal.returns-then-violates_on-clause-trail
-returns-then-violates_on-clause-trail c = record { none = c.loop-walked.invariant; hit = λ _. c.violates_on.ensures.0 c.if-violates_on.true; later = c.requires.trail.later }
+returns-then-violates_on-clause-trail c = record { none = c.loop-walked.invariant.none; hit = λ _. c.violates_on.ensures.0 c.if-violates_on.true; later = c.loop-walked.invariant.trail.later }
 
 pub loop-walked-preserved : goal.loop-walked-preserved
-loop-walked-preserved c = below_more _ _ c.loop-walked.invariant (λ v. let t = c.violates_on.ensures.1 v in cc (t, c.if-violates_on.false))
+loop-walked-preserved c = record {
+  none = below_more _ _ c.loop-walked.invariant.none (λ v. let t = c.violates_on.ensures.1 v in cc (t, c.if-violates_on.false));
+  trail = c.loop-walked.invariant.trail;
+  clear = c.loop-walked.invariant.clear;
+  last = c.loop-walked.invariant.last;
+}
 
 pub returns-clause-trail : goal.returns-clause-trail
 returns-clause-trail c = record {
-  none = walked_upto c.args.config.now c.args.own.now c.args.lead c.args.aircraft.now c.args.volume.now c.args.trail.now c.min-last.result c.loop-walked.walked c.args.upto c.max.result c.requires.trail c.requires.upto
-      c.min-last.ensures (omega (arith, c.loop-walked-test.false)) c.max.ensures c.loop-walked.invariant;
-  hit = λ t. absurd (cc t);
-  later = c.requires.trail.later;
+  none = walked_upto c.args.config.now c.args.own.now c.args.lead c.args.aircraft.now c.args.volume.now c.loop-walked.trail c.min-last.result c.loop-walked.walked c.args.upto c.loop-walked.invariant.trail c.requires.upto
+      c.loop-walked.invariant.last (omega (arith, c.loop-walked-test.false)) c.loop-walked.invariant.none;
+  hit = λ t. absurd (true≢false (sym t ∙ c.loop-walked.invariant.clear));
+  later = c.loop-walked.invariant.trail.later;
 }

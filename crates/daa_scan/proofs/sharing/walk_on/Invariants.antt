@@ -1,10 +1,16 @@
-use Rattle.std.proofs.Common.{ℕ, ◌<◌, ◌-◌}
+use Rattle.std.proofs.Common.{◌≡◌, ℕ, ◌<◌, ◌-◌, min, false}
 use Rattle.daa_legs.specs.Meeting.{ViolatesOn}
+use Rattle.daa_scan.specs.Sharing.{IsTrailOf}
 use Rattle.daa_scan.proofs.sharing.walk_on.Given as goal
 
--- no leg so far violates
+-- no leg so far violates, and the trail is as it was
 abbrev pub invariant-loop-walked : goal.invariant-loop-walked
-invariant-loop-walked l = (j : ℕ) → j < l.walked → ¬ ViolatesOn l.config l.own l.fn.lead l.aircraft l.volume j
+invariant-loop-walked l = record {
+  none : (j : ℕ) → j < l.walked → ¬ ViolatesOn l.config l.own l.fn.lead l.aircraft l.volume j;
+  trail : IsTrailOf l.config l.own l.fn.lead l.aircraft l.volume l.trail;
+  clear : l.trail.hit ≡ false;
+  last : l.last ≡ min l.fn.upto l.trail.end;
+}
 
 abbrev pub decreases-loop-walked : goal.decreases-loop-walked
 decreases-loop-walked l = l.last - l.walked
