@@ -1,0 +1,4 @@
+pub mod BandLemmas
+pub mod ShowLemmas
+pub mod TextLemmas
+pub mod TrafficLemmas
