@@ -8,6 +8,7 @@ mod bands;
 mod candidates;
 mod codes;
 mod deciding;
+mod faults;
 mod recovery;
 mod refusal;
 mod resolution;
