@@ -8,6 +8,7 @@ use Rattle.daa_config.specs.declared.candidate.Candidate.{Candidate}
 use Rattle.daa_config.specs.declared.candidate.Resolution.{Resolution}
 use Rattle.daa_config.specs.declared.kind.Kind.{Kind}
 use Rattle.daa_engine.specs.Covered.{CoveredAt}
+use Rattle.daa_engine.specs.MomentText.{IsMomentText}
 use Rattle.daa_recovery.specs.Recovery.{IsRecovery}
 use Rattle.daa_recovery.specs.declared.recovery.Recovery.{Recovery}
 use Rattle.daa_resolve.specs.Resolution.{IsResolution}
@@ -95,3 +96,10 @@ module _ (config : DaaConfig) where
     pub answer : Option Recovery
     pub is : IsRecovery settings picture kind answer
     pub told : out ≡ recovery_by answer
+
+  -- the text of a picture
+  pub record IsReported (picture : Picture) (text : List ℕ) : Type 0 where
+    pub settings : Settings
+    pub accepted : settings_by config ≡ Ok settings
+    pub taken : IsTaken picture
+    pub said : IsMomentText settings picture text

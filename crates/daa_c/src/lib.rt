@@ -11,6 +11,8 @@ mod deciding;
 mod faults;
 mod recovery;
 mod refusal;
+mod report;
 mod resolution;
 mod setting;
+mod sheet;
 mod states;
