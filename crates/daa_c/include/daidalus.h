@@ -4,7 +4,7 @@
  * (struct daa_config, filled in by hand or by daa_read) and a moment's board of levels (struct daa_board, filled in by
  * daa_decide). Each call answers from what it is handed alone, so calls may run side by side in threads of the caller.
  * No call starts a thread, waits, prints, or keeps a pointer after it returns. daa_read and daa_report alone take memory
- * (malloc), and give it back before they return. Of the stack a call takes up to 400 KB, daa_report more than the others.
+ * (malloc), and give it back before they return. Of the stack a call takes less than 256 KB (measured, not proved).
  *
  * Each call answers DAA_OK, or another number of the list below; then it has filled in nothing. Every number is looked at,
  * also those of a configuration, so no number that is handed in makes a call undefined.
