@@ -1,0 +1,5 @@
+pub mod BandLemmas
+pub mod SheetLemmas
+pub mod ShowLemmas
+pub mod TextLemmas
+pub mod TrafficLemmas

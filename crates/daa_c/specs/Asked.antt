@@ -8,6 +8,7 @@ use Rattle.daa_config.specs.declared.candidate.Candidate.{Candidate}
 use Rattle.daa_config.specs.declared.candidate.Resolution.{Resolution}
 use Rattle.daa_config.specs.declared.kind.Kind.{Kind}
 use Rattle.daa_engine.specs.Covered.{CoveredAt}
+use Rattle.daa_engine.specs.MomentText.{IsMomentText}
 use Rattle.daa_recovery.specs.Recovery.{IsRecovery}
 use Rattle.daa_recovery.specs.declared.recovery.Recovery.{Recovery}
 use Rattle.daa_resolve.specs.Resolution.{IsResolution}
@@ -24,7 +25,7 @@ use Rattle.daa_c.specs.declared.candidates.DaaCandidate.{DaaCandidate}
 use Rattle.daa_c.specs.declared.recovery.DaaRecovery.{DaaRecovery}
 use Rattle.daa_c.specs.declared.resolution.DaaResolution.{DaaResolution}
 use Rattle.daa_c.specs.declared.setting.DaaConfig.{DaaConfig}
-use Rattle.daa_c.specs.Codes.{candidate_by, kind_of, side_of}
+use Rattle.daa_c.specs.Codes.{candidate_by, kind_number, side_number}
 use Rattle.daa_c.specs.Filled.{IsTold, AreLevelsOn, band_of, resolution_by, recovery_by}
 use Rattle.daa_c.specs.Numbers.{settings_by}
 
@@ -69,18 +70,18 @@ module _ (config : DaaConfig) where
     pub settings : Settings
     pub accepted : settings_by config ≡ Ok settings
     pub kind : Kind
-    pub kind_is : kind_of number ≡ Some kind
+    pub kind_is : kind_number kind ≡ number
     pub are : AreKindBands (HasLevelOn board) mask_levels settings kind (map band_of (take count bands))
 
   -- what is answered on the side of the kind that numbers stand for
-  pub record IsResolutionUnder (own : Own) (board : List ℕ) (kind_number side_number : ℤ) (out : DaaResolution) : Type 0 where
+  pub record IsResolutionUnder (own : Own) (board : List ℕ) (kind_given side_given : ℤ) (out : DaaResolution) : Type 0 where
     pub settings : Settings
     pub accepted : settings_by config ≡ Ok settings
     pub own_range : IsOwnInRange own
     pub kind : Kind
-    pub kind_is : kind_of kind_number ≡ Some kind
+    pub kind_is : kind_number kind ≡ kind_given
     pub side : Side
-    pub side_is : side_of side_number ≡ Some side
+    pub side_is : side_number side ≡ side_given
     pub answer : Resolution
     pub is : IsResolution (HasLevelOn board) settings own kind side answer
     pub told : out ≡ resolution_by answer
@@ -91,7 +92,14 @@ module _ (config : DaaConfig) where
     pub accepted : settings_by config ≡ Ok settings
     pub taken : IsTaken picture
     pub kind : Kind
-    pub kind_is : kind_of number ≡ Some kind
+    pub kind_is : kind_number kind ≡ number
     pub answer : Option Recovery
     pub is : IsRecovery settings picture kind answer
     pub told : out ≡ recovery_by answer
+
+  -- the text of a picture
+  pub record IsReported (picture : Picture) (text : List ℕ) : Type 0 where
+    pub settings : Settings
+    pub accepted : settings_by config ≡ Ok settings
+    pub taken : IsTaken picture
+    pub said : IsMomentText settings picture text

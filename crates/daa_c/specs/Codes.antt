@@ -1,5 +1,5 @@
 -- The numbers that stand for kinds, sides, candidates and faults in C.
-use Rattle.std.specs.Prelude.{ℕ, ℤ, pos, negsuc, Option, Some, None, Result, Ok, Err}
+use Rattle.std.specs.Prelude.{ℤ, pos, Result, Ok, Err}
 use Rattle.daa_config.specs.declared.fault.ConfigFault.{ConfigFault}
 use Rattle.daa_config.specs.declared.fault.ConfigFault.TheVariants.{TooLong, NotToml, UnknownKey, MissingKey, NotNumber, OutOfRange, Levels, TooMany, NoMemory}
 use Rattle.daa_config.specs.declared.candidate.Candidate.{Candidate}
@@ -28,19 +28,17 @@ abbrev pub answer_of : Result Settings ConfigFault → ℤ
 answer_of (Ok settings) = pos 0
 answer_of (Err fault) = code_of fault
 
--- the kind that a number stands for
-abbrev pub kind_of : ℤ → Option Kind
-kind_of (pos 1) = Some Track
-kind_of (pos 2) = Some Speed
-kind_of (pos 3) = Some Climb
-kind_of (pos 4) = Some Height
-kind_of _ = None
+-- the number that stands for a kind
+abbrev pub kind_number : Kind → ℤ
+kind_number Track = pos 1
+kind_number Speed = pos 2
+kind_number Climb = pos 3
+kind_number Height = pos 4
 
--- the side that a number stands for
-abbrev pub side_of : ℤ → Option Side
-side_of (pos 0) = Some Lower
-side_of (pos 1) = Some Upper
-side_of _ = None
+-- the number that stands for a side
+abbrev pub side_number : Side → ℤ
+side_number Lower = pos 0
+side_number Upper = pos 1
 
 -- the numbers of a candidate
 abbrev pub candidate_by : Candidate → DaaCandidate

@@ -1,5 +1,5 @@
 -- Why numbers are refused.
-use Rattle.std.specs.Prelude.{◌≡◌, ◌<◌, ◌×◌, ℕ, ℤ, pos, false, true, List, length, map, take, slice_get, Some, Err}
+use Rattle.std.specs.Prelude.{◌≡◌, ◌<◌, ℕ, ℤ, pos, false, true, List, length, map, take, slice_get, Some, Err}
 use Rattle.daa_config.specs.declared.fault.ConfigFault.{ConfigFault}
 use Rattle.daa_state.specs.Checked.{IsPictureFault}
 use Rattle.daa_state.specs.Id.{is_id}

@@ -4,3 +4,4 @@ pub mod Faults
 pub mod Filled
 pub mod Numbers
 pub mod States
+pub mod Told

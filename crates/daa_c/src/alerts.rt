@@ -56,8 +56,14 @@ fn alert_of(config: &DaaConfig, own: &DaaOwn, traffic: &DaaTraffic) -> Result<Da
         Ok(config) => config,
         Err(fault) => return Err(Refusal::Config(fault)),
     };
-    let own = checked_own(own)?;
-    let traffic = checked_traffic(traffic)?;
+    let own = match checked_own(own) {
+        Ok(own) => own,
+        Err(refusal) => return Err(refusal),
+    };
+    let traffic = match checked_traffic(traffic) {
+        Ok(traffic) => traffic,
+        Err(refusal) => return Err(refusal),
+    };
     Ok(told(&config, &own, &traffic))
 }
 

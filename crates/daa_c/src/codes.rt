@@ -1,6 +1,6 @@
 //! The numbers that stand for kinds, sides and faults in C.
-ghost use Rattle.std.specs.Prelude.{◌≡◌, ◌≢◌, pos};
-ghost use Rattle.daa_c.specs.Codes.{code_of, kind_of, side_of};
+ghost use Rattle.std.specs.Prelude.{◌≡◌, ◌≢◌, pos, IfSome};
+ghost use Rattle.daa_c.specs.Codes.{code_of, kind_number, side_number};
 
 use daa_config::{ConfigFault, Kind};
 use daa_resolve::Side;
@@ -38,7 +38,7 @@ pub(crate) fn fault_code(fault: ConfigFault) -> i32
 
 /// The kind that a number stands for.
 pub(crate) fn kind_in(number: i32) -> Option<Kind>
-    ensures { result ≡ kind_of number }
+    ensures { IfSome result (λ kind. kind_number kind ≡ number) }
 {
     match number {
         1 => Some(Kind::Track),
@@ -51,7 +51,7 @@ pub(crate) fn kind_in(number: i32) -> Option<Kind>
 
 /// The side that a number stands for.
 pub(crate) fn side_in(number: i32) -> Option<Side>
-    ensures { result ≡ side_of number }
+    ensures { IfSome result (λ side. side_number side ≡ number) }
 {
     match number {
         0 => Some(Side::Lower),

@@ -67,7 +67,10 @@ fn board_of(config: &DaaConfig, own: &DaaOwn, traffic: &[DaaTraffic]) -> Result<
         Ok(config) => config,
         Err(fault) => return Err(Refusal::Config(fault)),
     };
-    let picture = picture(0, own, traffic)?;
+    let picture = match picture(0, own, traffic) {
+        Ok(picture) => picture,
+        Err(refusal) => return Err(refusal),
+    };
     Ok(DaaBoard {
         masks: *decided(&config, &picture).masks(),
     })

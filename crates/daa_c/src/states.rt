@@ -138,7 +138,10 @@ pub(crate) fn picture(time: u32, own: &DaaOwn, traffic: &[DaaTraffic]) -> Result
     if traffic.len() > 64 {
         return Err(Refusal::Picture(PictureFault::TooMany));
     }
-    let all = all_aircraft(traffic)?;
+    let all = match all_aircraft(traffic) {
+        Ok(all) => all,
+        Err(refusal) => return Err(refusal),
+    };
     match Picture::checked(time, ownship(own), all.as_slice()) {
         Ok(picture) => Ok(picture),
         Err(fault) => Err(Refusal::Picture(fault)),

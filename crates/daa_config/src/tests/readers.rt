@@ -3,7 +3,7 @@
 use crate::examples::{FOUR_LEVELS, LARGEST_VALUES, ONE_LEVEL, THREE_LEVELS};
 use crate::{
     Candidate, Config, ConfigFault, Kind, Rates, Resolution, accepted_is_in_range, read,
-    values_are_all_steps,
+    read_numbers, values_are_all_steps,
 };
 use daa_taumod::Model;
 use std::process::Abort;
@@ -119,6 +119,21 @@ fn numbers_and_levels(rt: HostRuntime) -> Result<(), Fail> {
         assert_eq!(rt; third.lookahead, 55);
         assert_eq!(rt; third.alert, 25);
     }
+    Ok(())
+}
+
+/// The numbers of a text, kept by a caller, are the text's configuration again.
+#[test]
+fn numbers_that_are_kept(rt: HostRuntime) -> Result<(), Fail> {
+    let mut kept = read_numbers(rt.alloc(), THREE_LEVELS.as_bytes())?;
+    assert_eq!(rt; kept.numbers.resolve, 2);
+    assert_eq!(rt; kept.levels.as_slice().len(), 3);
+    let config = Config::of(&kept.numbers, &kept.recovery, kept.levels.as_slice())?;
+    assert_eq!(rt; config.total(), 341);
+    assert_eq!(rt; config.levels(), 3);
+    kept.numbers.turn_rate = 31;
+    let refused = Config::of(&kept.numbers, &kept.recovery, kept.levels.as_slice());
+    assert!(rt; refused.is_err());
     Ok(())
 }
 
