@@ -13,7 +13,8 @@ def drawn_moments(recovery, count=150):
     """A drawn moment, changed again and again, and drawn anew at times."""
     drawn = random.Random(5)
     for number in range(count):
-        moment = worst.changed(drawn, moment) if number % 40 else worst.draw_moment(drawn, recovery)
+        draw = (worst.draw_moment, worst.draw_grazing, worst.draw_closed)[number // 10 % 3]
+        moment = worst.changed(drawn, moment) if number % 10 else draw(drawn, recovery)
         yield moment
 
 
@@ -50,10 +51,10 @@ class Search(unittest.TestCase):
         self.asked.append(config + lines)
         return 1 / (1 + abs(int(lines.split()[3]) - 12345))
 
-    def search(self, seed, tries):
+    def search(self, seed, tries, exact=True):
         self.asked = []
         given = SimpleNamespace(seed=seed, tries=tries, minutes=1, recovery=False)
-        return worst.Search(given, self.seconds, str).search()
+        return worst.Search(given, self.seconds, exact, str).search()
 
     def test_finds_what_takes_longest(self):
         took, moment = self.search(1, 800)
@@ -67,10 +68,25 @@ class Search(unittest.TestCase):
         self.assertNotEqual(self.search(3, 300), first)
 
     def test_ends_after_its_tries(self):
-        for tries in (1, 50):
-            self.search(1, tries)
+        for tries, exact in ((1, True), (50, True), (50, False)):
+            self.search(1, tries, exact)
             self.assertLessEqual(tries, len(self.asked))
-            self.assertLessEqual(len(self.asked), tries + 2)
+            self.assertLessEqual(len(self.asked), tries if exact else tries + 11)
+
+    def test_a_time_is_taken_again_before_it_is_kept(self):
+        """Here each first look at a moment is too long by far, as on a machine with other work."""
+        seconds = self.seconds
+        seen = set()
+
+        def slow_at_first(config, lines, guess):
+            first = config + lines not in seen
+            seen.add(config + lines)
+            return seconds(config, lines, guess) * (1000 if first else 1)
+
+        self.seconds = slow_at_first
+        took, moment = self.search(1, 800, exact=False)
+        self.assertLess(took, 1.1)
+        self.assertLess(abs(moment["own"][2] - 12345), 100)
 
 
 class Stack(unittest.TestCase):
