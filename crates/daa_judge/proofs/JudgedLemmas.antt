@@ -1,9 +1,9 @@
 -- Fronts that two runs of bytes have in common, and lines.
-use Rattle.std.proofs.Common.{◌≡◌, ◌≢◌, ◌<◌, ◌≤◌, ◌+◌, ◌++◌, ◌==◌, ◌∙◌, ℕ, zero, suc, Bool, true, false, List, [], ◌∷◌, length, take, drop, refl, sym, ap, subst, arith, eq-eqb, length-append, append-nil, append_assoc}
+use Rattle.std.proofs.Common.{◌≡◌, ◌≢◌, ◌≤◌, ◌+◌, ◌++◌, ◌==◌, ◌∙◌, ℕ, Bool, true, false, [], ◌∷◌, length, drop, refl, sym, ap, arith, eq-eqb, append-nil}
 use Rattle.std.specs.Prelude.{slice_index}
 use Rattle.std.proofs.lemmas.Bool.Decides.{nat_tests}
 use Rattle.daa_ahead.specs.Bytes.{Bytes}
-use Rattle.daa_judge.specs.Judged.{common_front, line_feeds, Differs, Begins}
+use Rattle.daa_judge.specs.Judged.{common_front, line_feeds, Differs}
 
 -- ---- line ends
 

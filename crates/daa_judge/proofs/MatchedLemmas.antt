@@ -1,8 +1,8 @@
 -- One read more of a comparison.
-use Rattle.std.proofs.Common.{◌≡◌, ◌≢◌, ◌<◌, ◌≤◌, ◌+◌, ◌-◌, ◌++◌, ◌∙◌, ℕ, zero, suc, Bool, true, false, List, [], ◌∷◌, length, take, drop, refl, sym, ap, subst, arith, length-append, length-take, append-nil, append_assoc}
+use Rattle.std.proofs.Common.{◌≡◌, ◌≢◌, ◌<◌, ◌≤◌, ◌+◌, ◌-◌, ◌++◌, ◌∙◌, ℕ, zero, suc, true, false, [], ◌∷◌, length, take, drop, refl, sym, ap, subst, arith, length-append, length-take, append-nil, append_assoc}
 use Rattle.std.specs.Prelude.{slice_index}
 use Rattle.std.specs.Io.KnownBytes.{Consumes}
-use Rattle.std.proofs.KnownBytes.{Consumes-trans, Consumes-nil}
+use Rattle.std.proofs.KnownBytes.{Consumes-trans}
 use Rattle.daa_ahead.specs.Bytes.{Bytes, StreamState}
 use Rattle.daa_ahead.specs.Next.{ReadsMore, ReadsLast}
 use Rattle.daa_ahead.specs.declared.ended.Ended.{Ended}

@@ -1,5 +1,5 @@
 -- Whether bytes are a report, and where they differ from it.
-use Rattle.std.specs.Prelude.{ℕ, ◌≡◌, ◌≢◌, ◌≤◌, ◌+◌, ◌++◌, ◌==◌, List, [], ◌∷◌, if◌then◌else◌, length}
+use Rattle.std.specs.Prelude.{ℕ, ◌≡◌, ◌≢◌, ◌≤◌, ◌+◌, ◌++◌, ◌==◌, [], ◌∷◌, if◌then◌else◌, length}
 use Rattle.daa_ahead.specs.Bytes.{Bytes}
 
 -- the longest front that two runs of bytes have in common

@@ -1,5 +1,5 @@
 -- What one read gives of a comparison.
-use Rattle.std.specs.Prelude.{ℕ, ◌≡◌, ◌≢◌, ◌<◌, ◌≤◌, ◌++◌, length, take}
+use Rattle.std.specs.Prelude.{ℕ, ◌≢◌, ◌<◌, ◌≤◌, ◌++◌, length, take}
 use Rattle.daa_ahead.specs.Bytes.{Bytes, StreamState}
 use Rattle.daa_judge.specs.Finding.{Finds}
 use Rattle.daa_judge.specs.Matched.{IsMatched}

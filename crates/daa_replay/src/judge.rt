@@ -253,7 +253,7 @@ fn judge_states<R: Threads + Sync, S: Source, G: Gate>(
 
 /// What the bytes of the source are, of which at most `most` are read, compared with the report of
 /// the states.
-pub(crate) fn judge_all<R: Threads + Sync, S: Source, G: Gate>(
+fn judge_all<R: Threads + Sync, S: Source, G: Gate>(
     tools: &Tools<'_, R, G>,
     engine: &mut Engine,
     sheet: &mut Sheet,

@@ -85,7 +85,7 @@ fn write_line<R: Threads + Sync, K: Sink, G: Gate>(
 }
 
 /// Feeds a piece, and writes what the lines that it ends give.
-pub(crate) fn write_piece<R: Threads + Sync, K: Sink, G: Gate>(
+fn write_piece<R: Threads + Sync, K: Sink, G: Gate>(
     tools: &Tools<'_, R, G>,
     engine: &mut Engine,
     progress: &mut Progress,
@@ -117,7 +117,7 @@ pub(crate) fn write_piece<R: Threads + Sync, K: Sink, G: Gate>(
 
 /// The input is over: writes what its last line gives, and what its end gives. Says whether some
 /// line was refused.
-pub(crate) fn write_end<R: Threads + Sync, K: Sink, G: Gate>(
+fn write_end<R: Threads + Sync, K: Sink, G: Gate>(
     tools: &Tools<'_, R, G>,
     engine: &mut Engine,
     progress: &mut Progress,
@@ -187,7 +187,7 @@ fn read_for<R: Threads + Sync, S: Source + Send, T: Taker + Send, G>(
 }
 
 /// Reads at most `most` bytes, and reports them as they are taken.
-pub(crate) fn write_all<R: Threads + Sync, S: Source + Send, K: Sink + Send, G: Gate>(
+fn write_all<R: Threads + Sync, S: Source + Send, K: Sink + Send, G: Gate>(
     tools: &Tools<'_, R, G>,
     engine: &mut Engine,
     source: &mut S,

@@ -1,5 +1,4 @@
-use Rattle.std.proofs.Common.{◌∙◌, ap, arith, length, length-drop, take, drop, ◌++◌}
-use Rattle.daa_ahead.specs.Bytes.{Bytes}
+use Rattle.std.proofs.Common.{ap, arith, length, length-drop, take, ◌++◌}
 use Rattle.daa_judge.proofs.MatchedLemmas.{next_matched, whole_matched, compares_to}
 use Rattle.daa_judge.proofs.matching.Matching.compare.Goals as goal
 
