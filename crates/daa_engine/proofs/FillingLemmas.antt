@@ -1,5 +1,5 @@
 -- A board that is filled aircraft by aircraft.
-use Rattle.std.proofs.Common.{◌≡◌, ◌≢◌, ◌<◌, ◌≤◌, ◌+◌, ◌-◌, ◌⊎◌, ◌∙◌, ℕ, List, length, bit_or, replicate, refl, sym, ap, subst, arith, inl, inr, below_more}
+use Rattle.std.proofs.Common.{◌≡◌, ◌≢◌, ◌<◌, ◌≤◌, ◌+◌, ◌-◌, ◌⊎◌, ◌∙◌, ℕ, List, length, bit_or, replicate, refl, sym, ap, arith, inl, inr, below_more}
 use Rattle.std.specs.Prelude.{slice_index}
 use Rattle.std.specs.Int.Bits.{or_zero_r}
 use Rattle.std.proofs.lemmas.Nat.Bits.{bit_at-zero}

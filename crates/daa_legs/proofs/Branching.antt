@@ -58,7 +58,7 @@ unfolding velocity_on velocity_there ground_speed_on track_on
 rises own rates candidate a n velocity up e v u =
     let flat : velocity.flat ≡ velocity_of own.gs own.trk = ap (λ (s : Solid). s.flat) (v ∙ ap (velocity_there own) e) in
     let over : velocity_on own rates candidate n ≡ record { flat = velocity_of own.gs own.trk; up = vertical_speed_on own rates candidate n } =
-        subst (λ (x : Candidate). velocity_on own rates x n ≡ record { flat = velocity_of own.gs own.trk; up = vertical_speed_on own rates x n }) (sym e) refl in
+    subst (λ (x : Candidate). velocity_on own rates x n ≡ record { flat = velocity_of own.gs own.trk; up = vertical_speed_on own rates x n }) (sym e) refl in
     over ∙ (λ i. record { flat = sym flat i; up = sym u i })
 
 -- the straight rest, from any leg that is not before

@@ -157,8 +157,10 @@ fn meets_from_own_leg(
 
 /// The leg of the candidate's own, which begins at this place.
 fn own_leg_of(branch: &Branch, place: &Solid) -> OwnLeg
-    ensures { result ≡ record { place = place.now;
-        velocity = record { flat = branch.now.velocity.flat; up = branch.now.rise } } }
+    ensures { result ≡ record {
+      place = place.now;
+      velocity = record { flat = branch.now.velocity.flat; up = branch.now.rise };
+    } }
 {
     OwnLeg {
         place: *place,

@@ -1,5 +1,4 @@
-use Rattle.std.proofs.Common.{◌+◌, ◌≡◌, ◌<◌, ℕ, length, sym, subst, ◌∙◌, arith}
-use Rattle.std.specs.Prelude.{slice_index_or}
+use Rattle.std.proofs.Common.{◌+◌, subst, arith}
 use Rattle.std.proofs.lemmas.Option.{slice_get_within}
 use Rattle.daa_config.specs.Candidates.{candidates_of}
 use Rattle.daa_config.specs.Settings.{rates_of}

@@ -1,4 +1,4 @@
-use Rattle.std.proofs.Common.{◌∙◌, Some, ℤ, rules, sym, ap, w32, to_z, of_z, FitsSigned}
+use Rattle.std.proofs.Common.{◌∙◌, Some, ℤ, rules, sym, ap, w32, FitsSigned}
 use Rattle.std.proofs.lemmas.Int.{to_z-of_z}
 use Rattle.daa_config.specs.Candidates.{candidate_to}
 use Rattle.daa_config.specs.declared.kind.Kind.{Kind}

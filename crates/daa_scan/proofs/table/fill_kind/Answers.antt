@@ -1,8 +1,7 @@
-use Rattle.std.proofs.Common.{◌≡◌, ◌+◌, ◌≤◌, ◌∙◌, ℕ, refl, sym, ap, subst, arith, length, slice_set, Some}
+use Rattle.std.proofs.Common.{◌≡◌, ◌+◌, ◌∙◌, ℕ, refl, ap, subst, arith, length, slice_set, Some}
 use Rattle.std.specs.Prelude.{slice_get}
 use Rattle.daa_config.specs.Candidates.{candidates_of, start_of, values_of}
 use Rattle.daa_config.specs.declared.config.Rates.{Rates}
-use Rattle.daa_config.specs.Settings.{rates_of}
 use Rattle.daa_legs.specs.Table.{IsBranchOf}
 use Rattle.daa_scan.specs.Trunks.{AreBranchesBelow}
 use Rattle.daa_scan.proofs.Tables.{next_filled, next_length}
@@ -20,7 +19,7 @@ pub loop-place-preserved : goal.loop-place-preserved
 loop-place-preserved c =
     let more : c.start-start.result + c.loop-place.place + 1 ≡ c.start-start.result + (c.loop-place.place + 1) = omega arith in
     let listed : slice_get (candidates_of c.args.config.now) (c.start-start.result + c.loop-place.place) ≡ Some c.candidate_in-candidate.result =
-        ap (λ (n : ℕ). slice_get (candidates_of c.args.config.now) (n + c.loop-place.place)) c.start-start.ensures.value ∙ c.candidate_in-candidate.ensures.value in
+    ap (λ (n : ℕ). slice_get (candidates_of c.args.config.now) (n + c.loop-place.place)) c.start-start.ensures.value ∙ c.candidate_in-candidate.ensures.value in
     let is = subst (λ (r : Rates). IsBranchOf c.args.own.now r c.candidate_in-candidate.result c.branch_of.result) c.rates-rates.ensures.value c.branch_of.ensures in
     record {
       filled = subst (λ (n : ℕ). AreBranchesBelow c.args.config.now c.args.own.now n (slice_set c.loop-place.branches (c.start-start.result + c.loop-place.place) c.branch_of.result)) more

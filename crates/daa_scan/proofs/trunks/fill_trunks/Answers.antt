@@ -1,5 +1,4 @@
-use Rattle.std.proofs.Common.{ℕ, ◌≤◌, ◌≡◌, List, subst, arith}
-use Rattle.daa_scan.specs.Trunks.{AreLeadsBelow}
+use Rattle.std.proofs.Common.{arith}
 use Rattle.daa_scan.proofs.Sides.{none_led, next_led, all_led}
 use Rattle.daa_scan.proofs.trunks.fill_trunks.Goals as goal
 

@@ -1,5 +1,4 @@
-use Rattle.std.proofs.Common.{rules, ◌≡◌, ◌<◌, ◌≤◌, ◌+◌, ◌∙◌, ℕ, ap, subst, arith, FitsSigned, w32, to_z-of_z}
-use Rattle.daa_heading.specs.Heading.{velocity_of}
+use Rattle.std.proofs.Common.{rules, ◌≡◌, ◌≤◌, ℕ, ap, subst, arith, FitsSigned, w32, to_z-of_z}
 use Rattle.daa_config.specs.declared.config.Rates.{Rates}
 use Rattle.daa_config.specs.Settings.{AreRatesInRange, rates_of}
 use Rattle.daa_legs.specs.Kept.{AreLegsOf}

@@ -1,7 +1,4 @@
 use Rattle.std.proofs.Common.{◌≡◌, ◌<◌, ◌/◌, ◌%◌, ℕ, sym, ap, subst, ◌∙◌, arith, length}
-use Rattle.std.specs.Prelude.{slice_index}
-use Rattle.daa_config.specs.Settings.{IsAccepted}
-use Rattle.daa_state.specs.InRange.{IsPictureInRange}
 use Rattle.daa_scan.specs.Situation.{Situation}
 use Rattle.daa_scan.specs.Units.{group_count}
 use Rattle.daa_scan.specs.Packed.{places_in_reach}
