@@ -1,4 +1,6 @@
--- A test of a kept leg, and what a trail says.
+-- What a trail says, and a test of the straight rest; those of kept legs are daa_meet's.
+pub use Rattle.daa_meet.proofs.Keeping.{kept_is, own_leg-in_range, leg_tested, fewer_legs}
+use Rattle.daa_meet.proofs.Keeping.{rest_tested as kept_rest}
 use Rattle.std.proofs.Common.{◌≡◌, ◌↔◌, min, inl, inr, ⊎_elim, ℕ, ◌+◌, ◌<◌, ◌≤◌, Bool, List, ap, sym, subst, ◌∙◌, arith}
 use Rattle.std.proofs.lemmas.Bool.{cases_lt}
 use Rattle.std.specs.Prelude.{IsTrue, slice_index_or}
@@ -19,25 +21,13 @@ use Rattle.daa_legs.specs.declared.branch.Branch.{Branch}
 use Rattle.daa_legs.specs.Branch.{lead_of, velocity_there, FliesAs, FliesOn}
 use Rattle.daa_legs.specs.Table.{IsBranchOf}
 use Rattle.daa_legs.specs.Kept.{AreLegsOf}
-use Rattle.daa_legs.specs.OwnLegs.{place_on, own_leg, IsOwnLegInRange}
-use Rattle.daa_legs.specs.Relative.{relative_for}
+use Rattle.daa_legs.specs.OwnLegs.{place_on}
 use Rattle.daa_legs.specs.Runs.{IsRunOf, IsOwnRunInRange, MeetsBetween}
 use Rattle.daa_legs.specs.Meeting.{ViolatesOn, MeetsWithin}
-use Rattle.daa_legs.proofs.Branching.{place_alike, straight_run, by_branch}
-use Rattle.daa_legs.proofs.Places.{place_on-below, velocity_on-below}
+use Rattle.daa_legs.proofs.Branching.{place_alike, by_branch}
+use Rattle.daa_legs.proofs.Places.{place_on-below}
 use Rattle.daa_scan.specs.declared.trail.Trail.{Trail}
 use Rattle.daa_scan.specs.Sharing.{IsTrailOf}
-
-pub kept_is : (own : Own) (rates : Rates) (candidate : Candidate) (n k : ℕ) (legs : List OwnLeg) (leg : OwnLeg) → AreLegsOf own rates candidate n legs → k < n → ((d : OwnLeg) → slice_index_or legs k d ≡ leg) → leg ≡ own_leg own rates candidate k
-kept_is own rates candidate n k legs leg h b e = sym (e leg) ∙ h.each k leg b
-
-pub own_leg-in_range : (own : Own) (rates : Rates) (candidate : Candidate) (k : ℕ) → IsOwnInRange own → AreRatesInRange rates → IsCandidateInRange candidate → k ≤ 180 → IsOwnLegInRange (own_leg own rates candidate k)
-own_leg-in_range own rates candidate k o r h b = record { place = place_on-below own rates candidate o r h k b; velocity = velocity_on-below own rates candidate o r h k }
-
-pub leg_tested : (settings : Settings) (own : Own) (candidate : Candidate) (aircraft : Traffic) (volume : Volume) (k : ℕ) (leg : OwnLeg) (rel : Leg) (hit : Bool)
-    → leg ≡ own_leg own (rates_of settings) candidate k → rel ≡ relative_for 1 leg aircraft k → IsTrue hit ↔ HoldsSometime rel.secs (Violates rel volume) → IsTrue hit ↔ ViolatesOn settings own candidate aircraft volume k
-unfolding relative_for
-leg_tested settings own candidate aircraft volume k leg rel hit e r h = subst (λ (l : Leg). IsTrue hit ↔ HoldsSometime l.secs (Violates l volume)) (r ∙ ap (λ (l : OwnLeg). relative_for 1 l aircraft k) e) h
 
 -- the candidate leaves the trunk where the trunk is
 pub leaves_there : (own : Own) (rates : Rates) (candidate lead : Candidate) (n m : ℕ) (legs : List OwnLeg) (leg : OwnLeg) → FliesAs own rates candidate lead n → AreLegsOf own rates lead m legs → n < m
@@ -65,11 +55,8 @@ pub rest_tested : (settings : Settings) (own : Own) (candidate : Candidate) (air
     → (IsRunOf own (rates_of settings) candidate k (record { place = rest.place; velocity = rest.velocity; secs = secs }) → HoldsSometime rel.secs (Violates rel volume) ↔ MeetsBetween settings own candidate aircraft volume k (k + secs))
     → IsTrue hit ↔ HoldsSometime rel.secs (Violates rel volume) → IsTrue hit ↔ MeetsBetween settings own candidate aircraft volume k m
 rest_tested settings own candidate aircraft volume k secs m rest rel hit p v on s seconds tests =
-    let there : OwnLeg = record { place = place_on own (rates_of settings) candidate k; velocity = velocity_there own candidate } in
-    let e : rest ≡ there = λ i. record { place = p i; velocity = v i } in
-    let run = subst (λ (l : OwnLeg). IsRunOf own (rates_of settings) candidate k (record { place = l.place; velocity = l.velocity; secs = secs })) (sym e) (straight_run own (rates_of settings) candidate k secs on) in
-    let o = seconds run in
-    subst (λ (n : ℕ). IsTrue hit ↔ MeetsBetween settings own candidate aircraft volume k n) s ((λ t. o.0 (tests.0 t)), (λ v. tests.1 (o.1 v)))
+    let there = on.there k (omega arith) in
+    kept_rest settings own candidate aircraft volume k secs m rest rel hit (λ i. record { place = p i; velocity = (v ∙ sym there) i }) on s seconds tests
 
 -- where the straight rest begins is in range
 pub rest_in_range : (own : Own) (rates : Rates) (candidate : Candidate) (k secs : ℕ) (rest : OwnLeg) → IsOwnInRange own → AreRatesInRange rates → IsCandidateInRange candidate → k ≤ 180
@@ -78,10 +65,6 @@ rest_in_range own rates candidate k secs rest o r h b p v some = record {
   leg = record { place = subst (λ (x : Solid). IsSolidBelow 20000000 x) (sym p) (place_on-below own rates candidate o r h k b); velocity = v };
   some = some;
 }
-
--- fewer legs
-pub fewer_legs : (own : Own) (rates : Rates) (candidate : Candidate) (n m : ℕ) (legs : List OwnLeg) → m ≤ n → AreLegsOf own rates candidate n legs → AreLegsOf own rates candidate m legs
-fewer_legs own rates candidate n m legs le h = record { room = h.room; each = λ k d b. h.each k d (omega (arith, b, le)) }
 
 -- a leg that is not walked lies past the trail's end
 pub walked_upto : (settings : Settings) (own : Own) (lead : Candidate) (aircraft : Traffic) (volume : Volume) (trail : Trail) (last walked upto : ℕ) → IsTrailOf settings own lead aircraft volume trail → upto ≤ 180
