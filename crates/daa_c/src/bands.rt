@@ -4,7 +4,9 @@ ghost use Rattle.daa_bands.specs.Board.{HasLevelOn, mask_levels};
 ghost use Rattle.daa_bands.specs.KindBands.{AreKindBands};
 ghost use Rattle.daa_config.specs.Candidates.{values_of};
 ghost use Rattle.daa_c.specs.Asked.{AreBandsUnder};
+ghost use Rattle.daa_c.specs.Codes.{answer_of};
 ghost use Rattle.daa_c.specs.Filled.{band_of};
+ghost use Rattle.daa_c.specs.Numbers.{settings_by};
 
 use crate::codes::{BAD_KIND, SHORT, fault_code, kind_in};
 use crate::deciding::DaaBoard;
@@ -59,6 +61,8 @@ pub extern "C" fn daa_bands(
         → AreBandsUnder config.now board.now.masks kind bands.new count.new }
     ensures bands_kept { result ≢ pos 0 → bands.new ≡ bands.old }
     ensures count_kept { result ≢ pos 0 → count.new ≡ count.old }
+    ensures refused { result ≢ pos 0 → result ≢ pos 19 → result ≢ pos 23
+        → answer_of (settings_by config.now) ≡ result }
 {
     let config = match accept(config) {
         Ok(config) => config,

@@ -2,10 +2,11 @@
 ghost use Rattle.std.specs.Prelude.{◌≡◌, ◌≢◌, pos};
 ghost use Rattle.daa_c.specs.Asked.{IsRecoveryUnder};
 ghost use Rattle.daa_c.specs.Filled.{recovery_by};
+ghost use Rattle.daa_c.specs.Faults.{IsRefusal, IsCodeOf};
 ghost use Rattle.daa_c.specs.States.{picture_of};
 
-use crate::codes::{BAD_KIND, NOT_ASKED, fault_code, kind_in};
-use crate::refusal::code;
+use crate::codes::{BAD_KIND, NOT_ASKED, kind_in};
+use crate::refusal::{Refusal, code};
 use crate::setting::{DaaConfig, accept};
 use crate::states::{DaaOwn, DaaTraffic, picture};
 use daa_recovery::{Recovery, least};
@@ -49,10 +50,12 @@ pub extern "C" fn daa_recovery(
     ensures told { result ≡ pos 0
         → IsRecoveryUnder config.now (picture_of 0 own.now traffic.now) kind out.new }
     ensures kept { result ≢ pos 0 → out.new ≡ out.old }
+    ensures refused { result ≢ pos 0 → result ≢ pos 23 → result ≢ pos 26
+        → IsCodeOf (IsRefusal config.now own.now traffic.now) result }
 {
     let config = match accept(config) {
         Ok(config) => config,
-        Err(fault) => return fault_code(fault),
+        Err(fault) => return code(Refusal::Config(fault)),
     };
     let picture = match picture(0, own, traffic) {
         Ok(picture) => picture,

@@ -3,10 +3,11 @@ ghost use Rattle.std.specs.Prelude.{◌≡◌, ◌≢◌, [], pos, take, true};
 ghost use Rattle.daa_engine.specs.MomentText.{IsMomentText};
 ghost use Rattle.daa_state.specs.InRange.{IsPictureInRange};
 ghost use Rattle.daa_c.specs.Asked.{IsReported};
+ghost use Rattle.daa_c.specs.Faults.{IsRefusal, IsCodeOf};
 ghost use Rattle.daa_c.specs.States.{picture_of};
 
-use crate::codes::{NO_MEMORY, SHORT, fault_code};
-use crate::refusal::code;
+use crate::codes::{NO_MEMORY, SHORT};
+use crate::refusal::{Refusal, code};
 use crate::setting::{DaaConfig, accept};
 use crate::sheet::Sheet;
 use crate::states::{DaaOwn, DaaTraffic, picture};
@@ -47,10 +48,12 @@ pub extern "C" fn daa_report(
         config.now (picture_of time own.now traffic.now) (take count.new text.new) }
     ensures text_kept { result ≢ pos 0 → text.new ≡ text.old }
     ensures count_kept { result ≢ pos 0 → count.new ≡ count.old }
+    ensures refused { result ≢ pos 0 → result ≢ pos 19 → result ≢ pos 20
+        → IsCodeOf (IsRefusal config.now own.now traffic.now) result }
 {
     let config = match accept(config) {
         Ok(config) => config,
-        Err(fault) => return fault_code(fault),
+        Err(fault) => return code(Refusal::Config(fault)),
     };
     let picture = match picture(time, own, traffic) {
         Ok(picture) => picture,
