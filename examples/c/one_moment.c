@@ -10,11 +10,11 @@
 #include <stdlib.h>
 #include <string.h>
 
-static const struct daa_own own = {0, 0, 10000, 0, 3600, 0};
+static const struct daa_own own = {.x = 0, .y = 0, .alt = 10000, .trk = 0, .gs = 3600, .vs = 0};
 
 static const struct daa_traffic traffic[] = {
-    {"AMBER", 3000, 8000, 10000, -1350, 0, 0, 0},
-    {"BRAVO", -1200, -300, 10600, 0, 3600, -600, 0},
+    {.id = "AMBER", .x = 3000, .y = 8000, .alt = 10000, .vx = -1350, .vy = 0, .vs = 0, .age = 0},
+    {.id = "BRAVO", .x = -1200, .y = -300, .alt = 10600, .vx = 0, .vy = 3600, .vs = -600, .age = 0},
 };
 
 enum { AIRCRAFT = sizeof traffic / sizeof *traffic };

@@ -19,7 +19,7 @@ use std::process::ExitCode;
 #[repr(C)] #[derive(Clone, Default)] struct Band { from: i32, upto: i32, level: u32 }
 #[repr(C)] #[derive(Default)] struct Resolution { what: i32, value: i32 }
 
-unsafe extern "C" {
+extern "C" {
     fn daa_read(text: *const u8, size: usize, config: &mut Config) -> i32;
     fn daa_alert(config: &Config, own: &Own, traffic: &Traffic, out: &mut Alert) -> i32;
     fn daa_decide(config: &Config, own: &Own, traffic: *const Traffic, count: usize, board: &mut Board) -> i32;
