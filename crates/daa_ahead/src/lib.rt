@@ -12,8 +12,6 @@ mod ring;
 mod rounds;
 mod taker;
 mod taking;
-#[cfg(test)]
-mod tests;
 mod threads;
 mod turns;
 
@@ -22,3 +20,6 @@ pub use next::{Next, read_next};
 pub use taker::{Calls, Taker};
 pub use threads::ahead;
 pub use turns::{BUFFER, in_turn};
+
+#[cfg(test)]
+mod tests;

@@ -1,7 +1,7 @@
 -- Levels tried from the greatest on.
 use Rattle.std.proofs.Common.{◌≡◌, ℕ, ◌-◌, ◌<◌, ◌≤◌, ⊎_elim, subst, sym, arith}
 use Rattle.std.proofs.lemmas.Bool.{cases_eq, cases_lt}
-use Rattle.daa_config.specs.Mask.{IsGreatestLevel}
+use Rattle.daa_fixed.specs.Mask.{IsGreatestLevel}
 
 -- it holds at no level above l, up to top
 pub record IsNoneAbove (Holds : ℕ → Type 0) (top l : ℕ) : Type 0 where

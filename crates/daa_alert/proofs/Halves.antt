@@ -7,7 +7,7 @@ use Rattle.daa_config.specs.Settings.{Settings}
 use Rattle.daa_state.specs.declared.word.Own.{Own}
 use Rattle.daa_state.specs.declared.word.Traffic.{Traffic}
 use Rattle.daa_legs.specs.Meeting.{ViolatesOn, MeetsWithin}
-use Rattle.daa_alert.specs.Least.{IsLeastLeg}
+use Rattle.daa_alert.specs.Inside.Least.{IsLeastLeg}
 
 -- within high, and not within low
 pub record IsHalved (settings : Settings) (own : Own) (aircraft : Traffic) (volume : Volume) (low high m : ℕ) : Type 0 where

@@ -1,2 +1,2 @@
 pub mod Alert
-pub mod Least
+pub mod Inside

@@ -7,11 +7,12 @@ mod alerting;
 mod halving;
 mod laws;
 mod now;
-#[cfg(test)]
-mod tests;
 
 pub use aircraft_alert::Alert;
 pub use alerting::alert;
 pub use halving::first_leg;
 pub use laws::alerts_are_unique;
 pub use now::now_level;
+
+#[cfg(test)]
+mod tests;

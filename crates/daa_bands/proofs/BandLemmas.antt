@@ -4,7 +4,7 @@ use Rattle.std.specs.List.{All, AllByRecursion}
 use Rattle.std.proofs.lemmas.List.Elements.{recursion_from_All, All-from_recursion}
 use Rattle.std.proofs.lemmas.Bool.Decides.{nat_tests}
 use Rattle.daa_bands.specs.declared.band.Band.{Band}
-use Rattle.daa_config.specs.One.{HasOne}
+use Rattle.daa_fixed.specs.One.{HasOne}
 use Rattle.daa_bands.specs.Band.{Mark, IsStretch, DiffersFromFirst, AreBands}
 use Rattle.daa_bands.specs.Walk.{with_mark, bands_of}
 

@@ -9,7 +9,7 @@ use Rattle.daa_config.specs.Candidates.{values_of, start_of, candidates_of}
 use Rattle.daa_config.proofs.CandidateLemmas.{kind_within}
 use Rattle.daa_config.proofs.GreatestLemmas.{greatest_once}
 use Rattle.daa_bands.specs.Board.{HasLevelOn, IsBoardOf, mask_levels}
-use Rattle.daa_config.specs.Mask.{IsGreatestLevel}
+use Rattle.daa_fixed.specs.Mask.{IsGreatestLevel}
 use Rattle.daa_config.specs.declared.kind.Kind.{Kind}
 use Rattle.daa_bands.specs.declared.band.Band.{Band}
 use Rattle.daa_bands.specs.Band.{AreBands}

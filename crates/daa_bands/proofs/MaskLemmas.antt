@@ -4,7 +4,7 @@ use Rattle.std.specs.Int.{bit_at}
 use Rattle.std.proofs.lemmas.Nat.{leading_top}
 use lib.Count.{count_leading_zeros, leading_of_zero}
 use Rattle.std.proofs.lemmas.Nat.Bits.{bit_at_cat_low, bit_at_cat_high, bit_at_above, bit_at-zero}
-use Rattle.daa_config.specs.Mask.{HasLevel, IsGreatestLevel}
+use Rattle.daa_fixed.specs.Mask.{HasLevel, IsGreatestLevel}
 use Rattle.daa_bands.specs.Board.{mask_levels}
 use Rattle.daa_bands.specs.Walk.{shown_of}
 

@@ -3,10 +3,10 @@ use Rattle.std.proofs.Common.{◌≡◌, ◌<◌, ◌+◌, ℕ, zero, suc, List,
 use Rattle.std.specs.Prelude.{slice_index}
 use Rattle.std.specs.List.{zip}
 use Rattle.daa_config.specs.Candidates.{values_of, start_of}
-use Rattle.daa_config.specs.Mask.{IsGreatestLevel}
+use Rattle.daa_fixed.specs.Mask.{IsGreatestLevel}
 use Rattle.daa_config.specs.Settings.{Settings}
 use Rattle.daa_config.specs.declared.kind.Kind.{Kind}
-use Rattle.daa_config.specs.One.{HasOne}
+use Rattle.daa_fixed.specs.One.{HasOne}
 use Rattle.daa_bands.specs.KindBands.{AreKindBands}
 use Rattle.daa_bands.specs.Walk.{bands_of}
 use Rattle.daa_bands.proofs.BandLemmas.{found}

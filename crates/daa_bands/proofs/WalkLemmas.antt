@@ -11,12 +11,11 @@ use Rattle.daa_config.specs.Settings.{Settings}
 use Rattle.daa_config.specs.Candidates.{values_of, start_of}
 use Rattle.daa_config.specs.declared.kind.Kind.{Kind}
 use Rattle.daa_bands.specs.declared.band.Band.{Band}
-use Rattle.daa_bands.specs.Walk.{shown_of}
-use Rattle.daa_config.specs.Mask.{HasLevel, IsGreatestLevel}
+use Rattle.daa_bands.specs.Walk.{shown_of, with_mark, bands_of, marks_from, bands_left}
+use Rattle.daa_fixed.specs.Mask.{HasLevel, IsGreatestLevel}
 use Rattle.daa_bands.specs.Band.{Mark, DiffersFromFirst, AreBands}
-use Rattle.daa_bands.specs.Walk.{with_mark, bands_of, marks_from, bands_left}
 use Rattle.daa_bands.specs.Board.{HasLevelOn, mask_levels}
-use Rattle.daa_config.specs.One.{HasOne}
+use Rattle.daa_fixed.specs.One.{HasOne}
 use Rattle.daa_bands.specs.KindBands.{AreKindBands}
 use Rattle.daa_bands.proofs.BandLemmas.{with_mark_same, with_mark_new, found}
 use Rattle.daa_bands.proofs.KindLemmas.{kind_bands_only}

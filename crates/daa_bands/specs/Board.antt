@@ -1,7 +1,7 @@
 -- The masks of a board, and what is added to them.
 use Rattle.std.specs.Prelude.{◌≡◌, ◌≢◌, ◌⊎◌, ◌<◌, ◌≤◌, ◌+◌, ◌*◌, ◌↔◌, ℕ, List, length, slice_index, bit_or}
 use Rattle.daa_config.specs.Candidates.{candidates_of}
-use Rattle.daa_config.specs.Mask.{HasLevel}
+use Rattle.daa_fixed.specs.Mask.{HasLevel}
 use Rattle.daa_config.specs.Packing.{group_size, mask_in}
 use Rattle.daa_config.specs.Settings.{Settings}
 

@@ -2,7 +2,7 @@
 use Rattle.std.specs.Prelude.{◌≡◌, ◌+◌, ◌<◌, ℕ, List, length, slice_index}
 use Rattle.std.specs.List.{zip}
 use Rattle.daa_config.specs.Candidates.{values_of, start_of}
-use Rattle.daa_config.specs.Mask.{IsGreatestLevel}
+use Rattle.daa_fixed.specs.Mask.{IsGreatestLevel}
 use Rattle.daa_config.specs.Settings.{Settings}
 use Rattle.daa_config.specs.declared.kind.Kind.{Kind}
 use Rattle.daa_bands.specs.Band.{AreBands}

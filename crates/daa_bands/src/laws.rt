@@ -1,10 +1,11 @@
 //! Laws of the definitions, each the contract of a function that does nothing.
+
 ghost use Rattle.std.specs.Prelude.{◌≡◌, Bool, List, [], ◌∷◌, ℕ, pos, length, IsTrue};
-ghost use Rattle.daa_config.specs.Mask.{HasLevel, IsGreatestLevel};
+ghost use Rattle.daa_fixed.specs.Mask.{HasLevel, IsGreatestLevel};
 ghost use Rattle.daa_config.specs.Packing.{mask_in};
 ghost use Rattle.daa_config.specs.Settings.{Settings, IsAccepted};
 ghost use Rattle.daa_config.specs.declared.kind.Kind.{Kind};
-ghost use Rattle.daa_config.specs.One.{HasOne};
+ghost use Rattle.daa_fixed.specs.One.{HasOne};
 ghost use Rattle.daa_bands.specs.Band.{Mark, AreBands, band_of};
 ghost use Rattle.daa_bands.specs.Board.{HasLevelOn, IsBoardOf, mask_levels};
 ghost use Rattle.daa_bands.specs.declared.band.Band.{Band};
@@ -19,7 +20,8 @@ pub fn has_one_list_of_bands()
 
 /// Where a board stands for what is covered, the bands that it shows are those of what is covered.
 pub fn board_shows_what_is_covered()
-    ensures { (covered : ℕ → ℕ → Bool) (board : List ℕ) (s : Settings) (kind : Kind) (bands : List Band) → IsAccepted s
+    ensures { (covered : ℕ → ℕ → Bool) (board : List ℕ) (s : Settings) (kind : Kind)
+        (bands : List Band) → IsAccepted s
         → IsBoardOf (λ index l. IsTrue (covered index l)) s board
         → AreKindBands (HasLevelOn board) mask_levels s kind bands
         → AreKindBands (λ index l. IsTrue (covered index l)) (length s.levels) s kind bands }
@@ -31,7 +33,8 @@ pub fn board_shows_what_is_covered()
 /// word 0xa8023 has levels 2 and 4.
 pub fn worked_examples()
     ensures joined { AreBands ((pos 0, 1) ∷ (pos 90, 2) ∷ (pos 180, 2) ∷ (pos 270, 1) ∷ [])
-        (band_of (pos 0) (pos 0) 1 ∷ band_of (pos 90) (pos 180) 2 ∷ band_of (pos 270) (pos 270) 1 ∷ []) }
+        (band_of (pos 0) (pos 0) 1 ∷ band_of (pos 90) (pos 180) 2
+        ∷ band_of (pos 270) (pos 270) 1 ∷ []) }
     ensures one_value { AreBands ((pos 1000, 0) ∷ []) (band_of (pos 1000) (pos 1000) 0 ∷ []) }
     ensures split { AreBands ((pos 0, 1) ∷ (pos 90, 1) ∷ [])
         (band_of (pos 0) (pos 0) 1 ∷ band_of (pos 90) (pos 90) 1 ∷ []) → ⊥ }

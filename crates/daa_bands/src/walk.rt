@@ -1,4 +1,5 @@
 //! The bands of a kind, one after the other.
+
 ghost use Rattle.std.specs.Prelude.{◌≡◌, ◌≢◌, ◌<◌, ◌≤◌, ◌+◌, ℕ, slice_index};
 ghost use Rattle.daa_bands.specs.Board.{HasLevelOn, board_size, mask_levels};
 ghost use Rattle.daa_bands.specs.KindBands.{AreKindBands};

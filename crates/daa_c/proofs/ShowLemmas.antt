@@ -3,7 +3,7 @@ use Rattle.std.proofs.Common.{◌≡◌, ◌<◌, ◌+◌, ℕ, List, length, sl
 use Rattle.std.specs.Prelude.{slice_index}
 use Rattle.std.proofs.lemmas.List.{get_or-set_same, get_or-set_other}
 use Rattle.daa_bands.specs.Board.{HasLevelOn, mask_levels}
-use Rattle.daa_config.specs.Mask.{IsGreatestLevel}
+use Rattle.daa_fixed.specs.Mask.{IsGreatestLevel}
 use Rattle.daa_c.specs.Filled.{AreLevelsOn}
 
 pub one_more : (board levels : List ℕ) (index level : ℕ) → index < length levels → AreLevelsOn board index levels

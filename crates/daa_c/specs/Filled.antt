@@ -3,7 +3,7 @@ use Rattle.std.specs.Prelude.{◌≡◌, ◌<◌, ℕ, ℤ, pos, negsuc, List, m
 use Rattle.daa_alert.specs.Alert.{IsAlertOf}
 use Rattle.daa_bands.specs.Board.{HasLevelOn, mask_levels}
 use Rattle.daa_bands.specs.declared.band.Band.{Band}
-use Rattle.daa_config.specs.Mask.{IsGreatestLevel}
+use Rattle.daa_fixed.specs.Mask.{IsGreatestLevel}
 use Rattle.daa_config.specs.Settings.{Settings}
 use Rattle.daa_config.specs.declared.candidate.Resolution.{Resolution}
 use Rattle.daa_config.specs.declared.candidate.Resolution.TheVariants.{Keep, To, Nothing}

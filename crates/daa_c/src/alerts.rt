@@ -1,4 +1,5 @@
 //! The alert of an aircraft.
+
 ghost use Rattle.std.specs.Prelude.{◌≡◌, ◌≢◌, ◌∷◌, [], pos, IfOk, IfErr};
 ghost use Rattle.daa_state.specs.InRange.{IsOwnInRange, IsTrafficInRange};
 ghost use Rattle.daa_c.specs.Asked.{IsToldUnder};

@@ -1,4 +1,5 @@
 //! The bands of a kind.
+
 ghost use Rattle.std.specs.Prelude.{◌≡◌, ◌≢◌, ◌≤◌, pos, length, map, take};
 ghost use Rattle.daa_bands.specs.Board.{HasLevelOn, mask_levels};
 ghost use Rattle.daa_bands.specs.KindBands.{AreKindBands};

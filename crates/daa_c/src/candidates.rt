@@ -1,4 +1,5 @@
 //! The candidates of a configuration.
+
 ghost use Rattle.std.specs.Prelude.{◌≡◌, ◌≢◌, ◌≤◌, pos, length, Ok};
 ghost use Rattle.daa_c.specs.Asked.{IsCandidateAt};
 ghost use Rattle.daa_config.specs.Candidates.{candidates_of};

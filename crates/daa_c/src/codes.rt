@@ -1,4 +1,5 @@
 //! The numbers that stand for kinds, sides and faults in C.
+
 ghost use Rattle.std.specs.Prelude.{◌≡◌, ◌≢◌, pos, IfSome};
 ghost use Rattle.daa_c.specs.Codes.{code_of, kind_number, side_number};
 

@@ -1,4 +1,5 @@
 //! A moment decided, and the levels that its board shows.
+
 ghost use Rattle.std.specs.Prelude.{◌≡◌, ◌≢◌, ◌<◌, ◌≤◌, pos, length, Ok, IfOk, IfErr};
 ghost use Rattle.daa_bands.specs.Board.{IsBoardOf};
 ghost use Rattle.daa_config.specs.Candidates.{candidates_of};

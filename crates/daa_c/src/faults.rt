@@ -1,4 +1,5 @@
 //! What is wrong with states.
+
 ghost use Rattle.std.specs.Prelude.{◌≡◌, pos};
 ghost use Rattle.daa_c.specs.Told.{plain_fault, ranged_fault, told_by, number_of_field, IsFaultOf};
 

@@ -1,4 +1,5 @@
 //! The recovery of a kind.
+
 ghost use Rattle.std.specs.Prelude.{◌≡◌, ◌≢◌, pos};
 ghost use Rattle.daa_c.specs.Asked.{IsRecoveryUnder};
 ghost use Rattle.daa_c.specs.Filled.{recovery_by};

@@ -1,4 +1,5 @@
 //! Why a caller's numbers are refused.
+
 ghost use Rattle.std.specs.Prelude.{◌≡◌, ◌≢◌, pos};
 ghost use Rattle.daa_c.specs.Faults.{refusal_code};
 

@@ -1,4 +1,5 @@
 //! The text of a moment.
+
 ghost use Rattle.std.specs.Prelude.{◌≡◌, ◌≢◌, [], pos, take, true};
 ghost use Rattle.daa_engine.specs.MomentText.{IsMomentText};
 ghost use Rattle.daa_state.specs.InRange.{IsPictureInRange};

@@ -1,4 +1,5 @@
 //! What is answered on a side of a kind.
+
 ghost use Rattle.std.specs.Prelude.{◌≡◌, ◌≢◌, pos};
 ghost use Rattle.daa_c.specs.Asked.{IsResolutionUnder};
 ghost use Rattle.daa_c.specs.Filled.{resolution_by};

@@ -1,4 +1,5 @@
 //! A configuration as C has it.
+
 ghost use Rattle.std.specs.Prelude.{◌≡◌, ◌≢◌, ◌≤◌, pos, Ok, Err, IfOk, IfErr};
 ghost use Rattle.daa_config.specs.ConfigOf.{config_of};
 ghost use Rattle.daa_config.specs.Written;

@@ -1,4 +1,5 @@
 //! Room for the text of a moment.
+
 ghost use Rattle.std.specs.Prelude.{◌≡◌, Some};
 
 use arrayvec::ArrayVec;

@@ -1,4 +1,5 @@
 //! States as C has them.
+
 ghost use Rattle.std.specs.Prelude.{◌≡◌, ◌≤◌, ◌∷◌, [], List, length, map, take, IsTrue, IfOk, IfErr};
 ghost use Rattle.std.specs.Option.{SomeIff};
 ghost use Rattle.daa_state.specs.Id.{is_id};

@@ -1,7 +1,8 @@
 //! A display: a screen, an engine that writes for it, and what was drawn last.
+
 ghost use Rattle.std.specs.Prelude.{◌≡◌, ◌≤◌, [], IsTrue, IfOk};
 ghost use Rattle.daa_screen.specs.Story.{GoesOn};
-ghost use Rattle.daa_cockpit.specs.Shows.{IsDrawn, ShowsAll};
+ghost use Rattle.daa_cockpit.specs.Inside.Shows.{IsDrawn, ShowsAll};
 
 use anyhow::{Result, bail};
 use daa_engine::Engine;

@@ -1,4 +1,5 @@
 //! Publishing the moments of a text.
+
 ghost use Rattle.std.specs.Prelude.{◌≡◌, ◌+◌, ◌^◌, ◌<◌, length, IfOk, IfSome};
 ghost use Rattle.daa_state.specs.InRange.{IsPictureInRange};
 

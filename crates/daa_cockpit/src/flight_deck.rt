@@ -1,6 +1,7 @@
 //! The displays together.
+
 ghost use Rattle.std.specs.Prelude.{◌≡◌, IfOk};
-ghost use Rattle.daa_cockpit.specs.Shows.{ShowsAll};
+ghost use Rattle.daa_cockpit.specs.Inside.Shows.{ShowsAll};
 
 use crate::display::Display;
 use crate::feeding::publish_moments;

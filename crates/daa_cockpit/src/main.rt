@@ -21,6 +21,7 @@ fn print_drawing(rt: &impl Print, name: &str, display: &Display) -> io::Result<(
     io::writer(rt).write_all(display.drawing.taken())
 }
 
+/// Shows the moments of standard input on three displays.
 fn main(rt: HostRuntime) -> Result<()> {
     let config = start::config_text(&rt)?;
     let engines = start::new_engines(rt.alloc(), config.as_str())?;

@@ -1,4 +1,5 @@
 //! Making the feed and the displays.
+
 ghost use Rattle.std.specs.Prelude.{◌≡◌, [], IfOk};
 
 use crate::display::{Display, blank};

@@ -1,7 +1,7 @@
 -- The greatest level at which something holds.
 use Rattle.std.proofs.Common.{◌≡◌, ℕ, ⊎_elim, arith}
 use Rattle.std.proofs.lemmas.Bool.{cases_lt}
-use Rattle.daa_config.specs.Mask.{IsGreatestLevel}
+use Rattle.daa_fixed.specs.Mask.{IsGreatestLevel}
 
 -- there is one
 pub greatest_once : (Holds : ℕ → Type 0) (top l m : ℕ) → IsGreatestLevel Holds top l → IsGreatestLevel Holds top m → l ≡ m

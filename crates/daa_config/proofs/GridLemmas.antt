@@ -9,7 +9,7 @@ use lib.IntN.{suc_ℤ-*ℤ, pos-*ℤ-pos, zero-*ℤ, +ℤ_idr, +ℤ_assoc, +ℤ_
 use Rattle.daa_fixed.specs.Size.{IsFrom}
 use Rattle.daa_config.specs.Limits.{gs_limits, vs_limits, alt_limits}
 use Rattle.daa_config.specs.Numbers.{count_of}
-use Rattle.daa_config.specs.Stepped.{IsStepped}
+use Rattle.daa_config.specs.Inside.Stepped.{IsStepped}
 use Rattle.daa_config.specs.Settings.{Settings, IsAccepted, IsInBounds, value_bounds}
 use Rattle.daa_config.specs.Candidates.{rising, grid_of, values_of, least_of, greatest_of, AreStepsUpTo}
 use Rattle.daa_config.specs.declared.numbers.Grid.{Grid}

@@ -5,4 +5,3 @@ pub mod GridLemmas
 pub mod CandidateLemmas
 pub mod LevelLemmas
 pub mod GreatestLemmas
-pub mod Telling

@@ -17,7 +17,7 @@ use Rattle.daa_config.specs.declared.numbers.RecoveryNumbers.{RecoveryNumbers}
 use Rattle.daa_taumod.specs.declared.Volume.{Volume}
 use Rattle.daa_config.specs.Limits.{full_turn, resolve_bounds, turn_rate_bounds, track_step_bounds, gs_limits, vs_limits, alt_limits, level_limits, recovery_limits, most_levels, most_values}
 use Rattle.daa_config.specs.Numbers.{is_in, grid_fits, track_step_fits, numbers_fit, recovery_fits, level_fits, levels_are_wrong, count_of, has_too_many}
-use Rattle.daa_config.specs.Stepped.{IsStepped}
+use Rattle.daa_config.specs.Inside.Stepped.{IsStepped}
 use Rattle.daa_config.specs.Settings.{IsInBounds, IsGridInRange, IsLevelInRange, IsAccepted, IsCylinder}
 use Rattle.daa_config.specs.ConfigOf.{Written}
 use Rattle.daa_config.specs.Level.{level_of, cylinder_of}

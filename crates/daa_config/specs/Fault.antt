@@ -1,5 +1,5 @@
 -- Why a configuration is refused.
-use Rattle.std.specs.Prelude.{◌≡◌, ℕ, Option, Some, None, Result, Ok, Err}
+use Rattle.std.specs.Prelude.{ℕ, Option, Some, None, Result, Ok, Err}
 use Rattle.daa_config.specs.declared.fault.ConfigFault.{ConfigFault}
 use Rattle.daa_config.specs.declared.fault.ConfigFault.TheVariants.{TooLong, NotToml, UnknownKey, MissingKey, NotNumber, OutOfRange, Levels, TooMany, NoMemory}
 
@@ -20,13 +20,3 @@ infixl 10 ◌>>=◌
 abbrev pub ◌>>=◌ : {A B : Type 0} → Result A ConfigFault → (A → Result B ConfigFault) → Result B ConfigFault
 (Ok x) >>= f = f x
 (Err e) >>= f = Err e
-
--- the call failed as the definition says, unless memory ran out
-abbrev pub Fails : {Y : Type 0} → ConfigFault → Result Y ConfigFault → Type 0
-Fails NoMemory said = Unit {0}
-Fails fault said = said ≡ Err fault
-
--- the call gave what the definition says, unless memory ran out
-abbrev pub Gives : {X Y : Type 0} → (X → Y) → Result X ConfigFault → Result Y ConfigFault → Type 0
-Gives view (Ok x) said = said ≡ Ok (view x)
-Gives view (Err fault) said = Fails fault said

@@ -1,8 +1,6 @@
 pub mod Limits
 pub mod Numbers
-pub mod Stepped
 pub mod Keys
-pub mod KeyLists
 pub mod Document
 pub mod Settings
 pub mod Fault
@@ -10,6 +8,5 @@ pub mod Level
 pub mod ConfigOf
 pub mod Written
 pub mod Candidates
-pub mod Mask
 pub mod Packing
-pub mod One
+pub mod Inside

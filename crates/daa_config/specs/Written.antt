@@ -1,11 +1,6 @@
 -- What numbers of a configuration stand for.
 use Rattle.daa_config.specs.declared.numbers.ConfigNumbers.{ConfigNumbers}
-use Rattle.daa_config.specs.declared.reading.Found.{Found}
 use Rattle.daa_config.specs.ConfigOf.{Written}
-
--- those that the reader found
-abbrev pub written_in : Found → Written
-written_in found = record { numbers = found.numbers; recovery = found.recovery; levels = found.levels.items }
 
 -- those that a caller keeps
 abbrev pub written_by : ConfigNumbers → Written

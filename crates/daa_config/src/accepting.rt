@@ -1,4 +1,5 @@
 //! Accepts the numbers of a configuration, or says which fault they have.
+
 ghost use Rattle.std.specs.Prelude.{◌≡◌, ◌&&◌, true, false, Ok, Err, OnOk, IfOk, IfErr};
 ghost use Rattle.std.specs.List.{list_all};
 ghost use Rattle.daa_config.specs.ConfigOf.{settings_of};

@@ -1,7 +1,8 @@
 //! A configuration that was accepted, and its readers.
+
 ghost use Rattle.std.specs.Prelude.{◌≡◌, ◌<◌, ◌+◌, ◌≤◌, length, slice_get, option_map, Some, pos, ℕ, ◌≤ℤ◌, ◌+ℤ◌, ◌*ℤ◌, All, Contains};
 ghost use Rattle.daa_fixed.specs.Size.{IsFrom};
-ghost use Rattle.daa_config.specs.Stepped.{IsStepped};
+ghost use Rattle.daa_config.specs.Inside.Stepped.{IsStepped};
 ghost use Rattle.daa_config.specs.Numbers.{count_of};
 
 use crate::candidate::Candidate;
@@ -52,9 +53,17 @@ impl Model for Config {
 
     ghost Value = { Settings };
 
-    ghost view = { λ c. record { numbers = c.numbers; recovery = c.recovery; levels = c.levels.items } };
+    ghost view = { λ c. record {
+      numbers = c.numbers;
+      recovery = c.recovery;
+      levels = c.levels.items;
+    } };
 
-    ghost invariant = { λ c. IsAccepted (record { numbers = c.numbers; recovery = c.recovery; levels = c.levels.items }) };
+    ghost invariant = { λ c. IsAccepted (record {
+      numbers = c.numbers;
+      recovery = c.recovery;
+      levels = c.levels.items;
+    }) };
 }
 
 impl Config {
@@ -70,7 +79,11 @@ impl Config {
     ) -> Config
         requires { IsAccepted
             (record { numbers = numbers; recovery = recovery; levels = levels.items }) }
-        ensures { result ≡ record { numbers = numbers; recovery = recovery; levels = levels.items } }
+        ensures { result ≡ record {
+          numbers = numbers;
+          recovery = recovery;
+          levels = levels.items;
+        } }
     {
         Config {
             numbers,

@@ -1,4 +1,5 @@
 //! What stands at the keys of a document's tables.
+
 ghost use Rattle.std.specs.Prelude.{◌≡◌, option_map, IfOk};
 ghost use Rattle.toml.specs.Data.{get_member};
 ghost use Rattle.toml.specs.View.{table_view, view, array_view, items_view};
@@ -11,14 +12,14 @@ use toml::value::Array;
 use toml::{Table, Value};
 
 /// The value at a key.
-pub fn member_at<'a>(table: &'a Table, key: &str) -> Option<&'a Value>
+pub(crate) fn member_at<'a>(table: &'a Table, key: &str) -> Option<&'a Value>
     ensures { option_map (λ v. view v.now) result ≡ get_member key.now (table_view table.now) }
 {
     table.get(key)
 }
 
 /// The table at a key, where there is one.
-pub fn table_at<'a>(table: &'a Table, key: &str) -> Option<&'a Table>
+pub(crate) fn table_at<'a>(table: &'a Table, key: &str) -> Option<&'a Table>
     ensures { option_map (λ t. table_view t.now) result ≡ table_in key.now (table_view table.now) }
 {
     match member_at(table, key) {
@@ -28,7 +29,7 @@ pub fn table_at<'a>(table: &'a Table, key: &str) -> Option<&'a Table>
 }
 
 /// The list at a key, where there is one.
-pub fn list_at<'a>(table: &'a Table, key: &str) -> Option<&'a Array>
+pub(crate) fn list_at<'a>(table: &'a Table, key: &str) -> Option<&'a Array>
     ensures { option_map (λ v. array_view v.now) result ≡ list_in key.now (table_view table.now) }
 {
     match member_at(table, key) {
@@ -86,7 +87,7 @@ fn cylinder_of(table: &Table) -> Option<RecoveryNumbers>
 /// The numbers of the recovery where the document has a table for it; a document without one asks
 /// for none.
 #[tactic(auto, unfolding(crate::specs::Document::recovery_in))]
-pub fn recovery_of(document: &Table) -> Option<Option<RecoveryNumbers>>
+pub(crate) fn recovery_of(document: &Table) -> Option<Option<RecoveryNumbers>>
     ensures { result ≡ recovery_in (table_view document.now) }
 {
     let Some(found) = member_at(document, "recovery") else {
@@ -129,7 +130,10 @@ fn each_level_of(alloc: Global, items: &[Value]) -> Result<Option<Vec<LevelNumbe
 }
 
 /// The numbers of the levels, where `level` is a list of tables that hold them.
-pub fn levels_of(alloc: Global, table: &Table) -> Result<Option<Vec<LevelNumbers>>, AllocError>
+pub(crate) fn levels_of(
+    alloc: Global,
+    table: &Table,
+) -> Result<Option<Vec<LevelNumbers>>, AllocError>
     ensures { IfOk result (λ o. option_map (λ v. v.items) o ≡ levels_in (table_view table.now)) }
 {
     match list_at(table, "level") {
@@ -140,7 +144,7 @@ pub fn levels_of(alloc: Global, table: &Table) -> Result<Option<Vec<LevelNumbers
 
 /// The numbers of the document, those of the levels apart.
 #[tactic(auto, unfolding(crate::specs::Document::numbers_in))]
-pub fn numbers_of(table: &Table) -> Option<Numbers>
+pub(crate) fn numbers_of(table: &Table) -> Option<Numbers>
     ensures { result ≡ numbers_in (table_view table.now) }
 {
     Some(Numbers {

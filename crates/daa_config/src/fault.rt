@@ -1,4 +1,5 @@
 //! Why a configuration is refused.
+
 ghost use Rattle.std.specs.Prelude.{◌≡◌};
 ghost use Rattle.daa_config.specs.declared.fault.ConfigFault.TheVariants.{NoMemory};
 

@@ -1,8 +1,9 @@
 //! Whether the tables of a document have the keys that are listed for them.
+
 ghost use Rattle.std.specs.Prelude.{◌≡◌, map, option_map};
 ghost use Rattle.toml.specs.View.{table_view, items_view};
 ghost use Rattle.daa_config.specs.Keys.{has_other_key, lacks_key, is_among, is_listed, any_item, any_level, any_table, passes, level_keys};
-ghost use Rattle.daa_config.specs.KeyLists.{listed_by, differs_by};
+ghost use Rattle.daa_config.specs.Inside.KeyLists.{listed_by, differs_by};
 
 use crate::document::{list_at, member_at, table_at};
 use toml::{Table, Value};
@@ -133,7 +134,7 @@ fn levels_differ(difference: Difference, document: &Table) -> bool
 
 /// Whether the document, or one of its tables, differs from what is listed for it.
 #[tactic(auto, unfolding(crate::specs::Keys::any_table))]
-pub fn any_table_differs(difference: Difference, document: &Table) -> bool
+pub(crate) fn any_table_differs(difference: Difference, document: &Table) -> bool
     ensures { result ≡ any_table (differs_by difference) (table_view document.now) }
 {
     differs(difference, &DOCUMENT, Some(document))

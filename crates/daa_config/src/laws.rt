@@ -1,4 +1,5 @@
 //! Laws of the definitions, each the contract of a function that does nothing.
+
 ghost use Rattle.std.specs.Prelude.{◌≡◌, Ok};
 ghost use Rattle.daa_config.specs.declared.kind.Kind.{Kind};
 ghost use Rattle.daa_config.specs.Keys.{Text};

@@ -1,4 +1,5 @@
 //! Alert levels, in units.
+
 ghost use Rattle.std.specs.Prelude.{◌≡◌, ◌≤◌, ◌*◌, ℕ, pos, nat_abs, true, length, map, option_map};
 ghost use Rattle.std.specs.List.{list_all};
 ghost use Rattle.daa_fixed.specs.Size.{IsFrom};
@@ -74,7 +75,7 @@ fn in_units(numbers: &LevelNumbers) -> Level
 }
 
 /// The cylinder of these numbers, which are in their ranges, where there are any.
-pub fn cylinder_in_units(recovery: &Option<RecoveryNumbers>) -> Option<Volume>
+pub(crate) fn cylinder_in_units(recovery: &Option<RecoveryNumbers>) -> Option<Volume>
     requires { recovery_fits recovery.now ≡ true }
     ensures { result ≡ option_map cylinder_of recovery.now }
 {
@@ -100,7 +101,7 @@ fn in_cylinder(numbers: &RecoveryNumbers) -> Volume
 }
 
 /// The levels of these numbers, in order.
-pub fn all_in_units(numbers: &[LevelNumbers]) -> ArrayVec<Level, 4>
+pub(crate) fn all_in_units(numbers: &[LevelNumbers]) -> ArrayVec<Level, 4>
     requires fit { list_all level_fits numbers.now ≡ true }
     requires few { length numbers.now ≤ 4 }
     ensures { result.items ≡ map level_of numbers.now }

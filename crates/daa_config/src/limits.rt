@@ -1,4 +1,5 @@
 //! The table of ranges that a configuration's numbers are checked against.
+
 ghost use Rattle.std.specs.Prelude.{◌≡◌};
 ghost use Rattle.daa_config.specs.Numbers.{is_in};
 
@@ -9,7 +10,7 @@ pub struct Bounds(pub i64, pub i64);
 impl Bounds {
     /// Whether the number is one of them.
     #[tactic(auto, unfolding(crate::specs::Numbers::is_in))]
-    pub fn contains(&self, number: i64) -> bool
+    pub(crate) fn contains(&self, number: i64) -> bool
         ensures { result ≡ is_in self.now number }
     {
         self.0 <= number && number <= self.1

@@ -1,7 +1,8 @@
 //! The numbers of a configuration as its text has them, and whether they may stand there.
+
 ghost use Rattle.std.specs.Prelude.{◌≡◌, true};
 ghost use Rattle.std.specs.List.{list_all};
-ghost use Rattle.daa_config.specs.Stepped.{IsStepped};
+ghost use Rattle.daa_config.specs.Inside.Stepped.{IsStepped};
 ghost use Rattle.daa_config.specs.Numbers.{grid_fits, track_step_fits, numbers_fit, recovery_fits, level_fits, levels_are_wrong, count_of, has_too_many};
 
 use crate::limits::{
@@ -89,7 +90,7 @@ fn track_step_is_in_range(step: i64) -> bool
 
 /// Whether the numbers, those of the levels apart, are in their ranges.
 #[tactic(auto, unfolding(crate::specs::Numbers::numbers_fit))]
-pub fn are_in_range(numbers: &Numbers) -> bool
+pub(crate) fn are_in_range(numbers: &Numbers) -> bool
     ensures { result ≡ numbers_fit numbers.now }
 {
     RESOLVE.contains(numbers.resolve)
@@ -102,7 +103,7 @@ pub fn are_in_range(numbers: &Numbers) -> bool
 
 /// Whether the numbers of the recovery are in their ranges, where there are any.
 #[tactic(auto, unfolding(crate::specs::Numbers::recovery_fits))]
-pub fn recovery_is_in_range(recovery: &Option<RecoveryNumbers>) -> bool
+pub(crate) fn recovery_is_in_range(recovery: &Option<RecoveryNumbers>) -> bool
     ensures { result ≡ recovery_fits recovery.now }
 {
     match recovery {
@@ -115,7 +116,7 @@ pub fn recovery_is_in_range(recovery: &Option<RecoveryNumbers>) -> bool
 
 /// Whether the numbers of the level are in their ranges.
 #[tactic(auto, unfolding(crate::specs::Numbers::level_fits))]
-pub fn level_is_in_range(level: &LevelNumbers) -> bool
+pub(crate) fn level_is_in_range(level: &LevelNumbers) -> bool
     ensures { result ≡ level_fits level.now }
 {
     LEVEL.dthr.contains(level.dthr)
@@ -128,7 +129,7 @@ pub fn level_is_in_range(level: &LevelNumbers) -> bool
 }
 
 /// Whether the numbers of every level are in their ranges.
-pub fn levels_are_in_range(levels: &[LevelNumbers]) -> bool
+pub(crate) fn levels_are_in_range(levels: &[LevelNumbers]) -> bool
     ensures { result ≡ list_all level_fits levels.now }
 {
     levels.iter().all(level_is_in_range)
@@ -136,7 +137,7 @@ pub fn levels_are_in_range(levels: &[LevelNumbers]) -> bool
 
 /// Whether there is no level, there are more than may be, or `resolve` is above their number.
 #[tactic(auto, unfolding(crate::specs::Numbers::levels_are_wrong))]
-pub fn have_wrong_count(numbers: &Numbers, levels: &[LevelNumbers]) -> bool
+pub(crate) fn have_wrong_count(numbers: &Numbers, levels: &[LevelNumbers]) -> bool
     ensures { result ≡ levels_are_wrong numbers.now.resolve levels.now }
 {
     let count = levels.len();
@@ -145,7 +146,7 @@ pub fn have_wrong_count(numbers: &Numbers, levels: &[LevelNumbers]) -> bool
 
 /// How many values the grid has.
 #[tactic(auto, unfolding(crate::specs::Numbers::count_of))]
-pub fn count(grid: &Grid) -> u64
+pub(crate) fn count(grid: &Grid) -> u64
     requires { IsStepped grid.now }
     ensures { result ≡ count_of grid.now }
 {
@@ -154,7 +155,7 @@ pub fn count(grid: &Grid) -> u64
 
 /// Whether the ground speeds, the vertical speeds or the altitudes are more than may be.
 #[tactic(auto, unfolding(crate::specs::Numbers::has_too_many))]
-pub fn are_too_many(numbers: &Numbers) -> bool
+pub(crate) fn are_too_many(numbers: &Numbers) -> bool
     requires { numbers_fit numbers.now ≡ true }
     ensures { result ≡ has_too_many numbers.now }
 {

@@ -1,9 +1,11 @@
 //! Reads a configuration's text.
+
 ghost use Rattle.std.specs.Prelude.{◌≡◌, ◌≢◌, ◌≤◌, length, Ok, Err, IsOk, IfOk, IfErr};
 ghost use Rattle.toml.specs.View.{table_view};
 ghost use Rattle.daa_config.specs.declared.fault.ConfigFault.TheVariants.{NoMemory};
-ghost use Rattle.daa_config.specs.Fault.{Gives};
-ghost use Rattle.daa_config.specs.Written.{written_by, written_in};
+ghost use Rattle.daa_config.specs.Inside.Fault.{Gives};
+ghost use Rattle.daa_config.specs.Written.{written_by};
+ghost use Rattle.daa_config.specs.Inside.Written.{written_in};
 ghost use Rattle.daa_config.specs.ConfigOf.{config_of, document_of, written_of, settings_of};
 
 use crate::accepting::test;

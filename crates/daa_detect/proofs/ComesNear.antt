@@ -12,7 +12,7 @@ use Rattle.daa_taumod.specs.declared.Model.TheVariants.{Taumod, Tcpa}
 use Rattle.daa_taumod.specs.declared.Volume.{Volume}
 use Rattle.daa_taumod.specs.Volume.{place_at, IsNear, IsClosing, IsSoon, ViolatesHorizontally, Violates}
 use Rattle.daa_fixed.proofs.Lengths.{nearing_moves}
-use Rattle.daa_detect.specs.Far.{StaysBeyond, IsFar}
+use Rattle.daa_detect.specs.Inside.Far.{StaysBeyond, IsFar}
 
 -- ---- at the closest approach, and after tthr seconds
 -- the square of a s - (s.v) v, where a is v.v: a times that of s x v

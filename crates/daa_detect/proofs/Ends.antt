@@ -16,7 +16,7 @@ use Rattle.daa_fixed.proofs.PointSizes.{IsPointInRange}
 use Rattle.daa_fixed.proofs.Ring.{mul_nonneg, ring, #, lit, ⊝, ◌⊕◌, ◌⊗◌}
 use Rattle.daa_quad.specs.declared.Quad.{Quad}
 use Rattle.daa_quad.specs.Quad.{IsLeast}
-use Rattle.daa_quad.specs.Slope.{slope_of}
+use Rattle.daa_quad.specs.Inside.Slope.{slope_of}
 use Rattle.daa_quad.proofs.Sizes.{IsQuadInRange}
 use Rattle.daa_quad.proofs.Parabolas.{start-least, end-least}
 use Rattle.daa_taumod.specs.declared.Volume.{Volume}
@@ -25,7 +25,7 @@ use Rattle.daa_fixed.proofs.Lengths.{nearing_moves}
 use Rattle.daa_vwindow.specs.Window.{IsWindow}
 use Rattle.daa_detect.specs.declared.motion.Motion.{Motion}
 use Rattle.daa_detect.specs.Hit.{IsHit}
-use Rattle.daa_detect.specs.Motion.{IsMotion, IsAhead, rate_of}
+use Rattle.daa_detect.specs.Inside.Motion.{IsMotion, IsAhead, rate_of}
 use Rattle.daa_detect.proofs.Distance.{IsDistance, HasDistance, distance}
 use Rattle.daa_detect.proofs.Margin.{near_is, rate_is, violating_passes}
 use Rattle.daa_detect.proofs.Nearest.{vv, sv, time_between, none_elsewhere}

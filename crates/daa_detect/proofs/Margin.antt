@@ -13,7 +13,7 @@ use Rattle.daa_taumod.specs.Volume.{place_at, IsNear, IsClosing, IsSoon, Violate
 use Rattle.daa_fixed.proofs.Lengths.{lagrange, nearing_moves}
 use Rattle.daa_taumod.proofs.ClosestApproach.{passes_near-always}
 use Rattle.daa_detect.specs.declared.motion.Motion.{Motion}
-use Rattle.daa_detect.specs.Motion.{IsMotion, IsTauWithin, rate_of}
+use Rattle.daa_detect.specs.Inside.Motion.{IsMotion, IsTauWithin, rate_of}
 use Rattle.daa_detect.proofs.Nearest.{E, N, VE, VN, R, K, D, SE, SN, VV, SV, CC, pp, pv, vv, sv, cc, dot_at}
 
 abbrev S : Poly

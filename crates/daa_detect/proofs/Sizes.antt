@@ -11,7 +11,7 @@ use Rattle.daa_fixed.proofs.LegSizes as size
 use Rattle.daa_fixed.proofs.PointSizes.{IsPointInRange}
 use Rattle.daa_vwindow.specs.Window.{HasSmallNumbers}
 use Rattle.daa_detect.specs.declared.motion.Motion.{Motion}
-use Rattle.daa_detect.specs.Motion.{rate_of}
+use Rattle.daa_detect.specs.Inside.Motion.{rate_of}
 
 -- ---- of a leg
 module _ {leg : Leg} (r : IsLegInRange leg) where

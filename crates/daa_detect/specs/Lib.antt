@@ -1,3 +1,2 @@
 pub mod Hit
-pub mod Far
-pub mod Motion
+pub mod Inside

@@ -7,7 +7,7 @@ ghost use Rattle.daa_fixed.specs.Time.{HoldsNever, HoldsSometime};
 ghost use Rattle.daa_taumod.specs.Volume.{IsVolumeInRange, Violates, ViolatesHorizontally};
 ghost use Rattle.daa_vwindow.specs.Window.{HasSmallNumbers};
 ghost use Rattle.daa_detect.specs.Hit.{IsHit};
-ghost use Rattle.daa_detect.specs.Motion.{IsMotion};
+ghost use Rattle.daa_detect.specs.Inside.Motion.{IsMotion};
 
 use crate::far::is_far;
 use crate::horizontal::{closest_approach, holds_at, rate_at};

@@ -6,7 +6,7 @@ ghost use Rattle.std.specs.Prelude.{◌↔◌, ◌≤◌, IsTrue};
 ghost use Rattle.daa_fixed.specs.Leg.{IsLegInRange};
 ghost use Rattle.daa_fixed.specs.Size.{IsWithin};
 ghost use Rattle.daa_taumod.specs.Volume.{IsVolumeInRange};
-ghost use Rattle.daa_detect.specs.Far.{IsBeyond, StaysBeyond, IsFar};
+ghost use Rattle.daa_detect.specs.Inside.Far.{IsBeyond, StaysBeyond, IsFar};
 
 use daa_fixed::Leg;
 use daa_taumod::Volume;

@@ -5,7 +5,7 @@ ghost use Rattle.daa_fixed.specs.Flat.{dot_of, square_of};
 ghost use Rattle.daa_fixed.specs.Leg.{IsLegInRange};
 ghost use Rattle.daa_taumod.specs.Volume.{IsVolumeInRange, IsNear, ViolatesHorizontally};
 ghost use Rattle.daa_vwindow.specs.Window.{HasSmallNumbers};
-ghost use Rattle.daa_detect.specs.Motion.{IsMotion, IsAhead, IsTauWithin, rate_of};
+ghost use Rattle.daa_detect.specs.Inside.Motion.{IsMotion, IsAhead, IsTauWithin, rate_of};
 
 use crate::motion::Motion;
 use daa_fixed::{Leg, Point};

@@ -8,7 +8,8 @@ mod far;
 mod horizontal;
 mod motion;
 mod products;
-#[cfg(test)]
-mod tests;
 
 pub use detection::{hits, is_hit};
+
+#[cfg(test)]
+mod tests;

@@ -5,7 +5,7 @@ ghost use Rattle.daa_fixed.specs.Flat.{dot_of, cross_of, square_of};
 ghost use Rattle.daa_fixed.specs.Leg.{IsLegInRange};
 ghost use Rattle.daa_fixed.specs.Size.{IsWithin};
 ghost use Rattle.daa_taumod.specs.Volume.{IsVolumeInRange};
-ghost use Rattle.daa_detect.specs.Motion.{IsMotion};
+ghost use Rattle.daa_detect.specs.Inside.Motion.{IsMotion};
 
 use crate::motion::Motion;
 use daa_fixed::Leg;

@@ -6,7 +6,7 @@ use Rattle.daa_config.specs.Settings.{Settings}
 use Rattle.daa_state.specs.declared.word.Own.{Own}
 use Rattle.daa_state.specs.declared.word.Traffic.{Traffic}
 use Rattle.daa_engine.specs.declared.alerts.AircraftAlert.{AircraftAlert}
-use Rattle.daa_engine.specs.Findings.{IsAircraftAlert, AreAircraftAlerts}
+use Rattle.daa_engine.specs.Inside.Findings.{IsAircraftAlert, AreAircraftAlerts}
 
 module _ (s : Settings) (own : Own) (traffic : List Traffic) (n : ℕ) (alerts : List AircraftAlert) where
   pub alerts_more : (t : Traffic) (f : AircraftAlert) → AreAircraftAlerts s own traffic n alerts → n < length traffic → t ≡ slice_index_or traffic n t → IsAircraftAlert s own t f

@@ -7,13 +7,14 @@ use Rattle.std.proofs.lemmas.Bool.{cases_lt}
 use Rattle.std.proofs.lemmas.Option.{slice_get_within}
 use Rattle.daa_config.specs.Settings.{Settings}
 use Rattle.daa_config.specs.Candidates.{candidates_of}
-use Rattle.daa_config.specs.Mask.{HasLevel, IsMaskOf}
+use Rattle.daa_fixed.specs.Mask.{HasLevel, IsMaskOf}
 use Rattle.daa_bands.specs.Board.{HasLevelOn, IsBoardOf}
 use Rattle.daa_state.specs.Picture.{aircraft_of}
 use Rattle.daa_state.specs.declared.word.Picture.{Picture}
 use Rattle.daa_scan.specs.Situation.{Situation, MeetsAt}
 use Rattle.daa_engine.specs.Covered.{CoveredAt, scene_of}
-use Rattle.daa_engine.specs.Filling.{CoveredBelow, AddsAircraft}
+use Rattle.daa_engine.proofs.Covered.{CoveredBelow}
+use Rattle.daa_engine.specs.Inside.Filling.{AddsAircraft}
 use Rattle.daa_engine.proofs.LevelLemmas.{either, left, right, along, nothing_set}
 
 -- ---- one candidate more

@@ -5,7 +5,7 @@ use Rattle.std.specs.Int.{bit_at}
 use Rattle.std.proofs.lemmas.Nat.Bits.{bit_at_or, bit_at-lt, bit_at-zero}
 use Rattle.std.proofs.lemmas.List.{get_or-replicate, get_or_past, length-replicate}
 use Rattle.std.proofs.lemmas.Bool.{cases_lt}
-use Rattle.daa_config.specs.Mask.{HasLevel}
+use Rattle.daa_fixed.specs.Mask.{HasLevel}
 use Rattle.daa_bands.specs.Board.{HasLevelOn}
 
 max_one : (a b c : ℕ) → c ≡ max a b → a < 2 → b < 2 → c ≡ 1 → (a ≡ 1) ⊎ (b ≡ 1)

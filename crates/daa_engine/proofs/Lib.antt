@@ -1,3 +1,4 @@
+pub mod Covered
 pub mod FillingLemmas
 pub mod AlertLemmas
 pub mod LoopLemmas

@@ -6,14 +6,14 @@ use Rattle.std.proofs.lemmas.List.{get_or_default}
 use Rattle.std.proofs.lemmas.Nat.{div-mul-add, mod-mul-add}
 use Rattle.std.proofs.lemmas.Option.{slice_get_within}
 use Rattle.daa_config.specs.Candidates.{candidates_of}
-use Rattle.daa_config.specs.Mask.{HasLevel, IsMaskOf}
+use Rattle.daa_fixed.specs.Mask.{HasLevel, IsMaskOf}
 use Rattle.daa_config.specs.Packing.{group_size, mask_in}
 use Rattle.daa_bands.specs.Board.{HasLevelOn, IsBoardOf, AddsWord}
 use Rattle.daa_scan.specs.Situation.{Situation, MeetsAt}
 use Rattle.daa_scan.specs.Reach.{NoneIsMetOutOfReach}
 use Rattle.daa_scan.specs.Units.{group_count, AreWordsOf}
 use Rattle.daa_engine.specs.Covered.{CoveredAt}
-use Rattle.daa_engine.specs.Merging.{SaysLevel, IsMerged}
+use Rattle.daa_engine.specs.Inside.Merging.{SaysLevel, IsMerged}
 use Rattle.daa_engine.proofs.LevelLemmas.{either, left, right, along, nothing_set}
 
 -- ---- one word more

@@ -12,10 +12,10 @@ use Rattle.daa_state.specs.Picture.{aircraft_of}
 use Rattle.daa_state.specs.declared.word.Picture.{Picture}
 use Rattle.daa_state.specs.declared.word.Traffic.{Traffic}
 use Rattle.daa_scan.specs.Situation.{MeetsAt}
-use Rattle.daa_config.proofs.Telling.{IsTold}
+use Rattle.daa_fixed.proofs.Telling.{IsTold}
 use Rattle.daa_scan.proofs.Telling.{on_told, alerts_told, now_told, met_at_told}
 use Rattle.daa_alert.proofs.SomeAlert.{some_greatest, some_now, some_alert}
-use Rattle.daa_config.specs.One.{HasOne}
+use Rattle.daa_fixed.specs.One.{HasOne}
 use Rattle.daa_bands.specs.KindBands.{AreKindBands}
 use Rattle.daa_bands.proofs.SomeBands.{one_kind_list}
 use Rattle.daa_resolve.specs.Resolution.{IsResolution}
@@ -26,7 +26,7 @@ use Rattle.daa_config.specs.declared.candidate.Resolution.{Resolution}
 use Rattle.daa_recovery.proofs.Some.{one_recovery}
 use Rattle.daa_report.specs.Lines.{Text, now_line, alert_line, resolve_line, recover_line, moment_line, done_line}
 use Rattle.daa_engine.specs.Covered.{CoveredAt, scene_of}
-use Rattle.daa_engine.specs.Filling.{CoveredBelow}
+use Rattle.daa_engine.proofs.Covered.{CoveredBelow}
 use Rattle.daa_engine.specs.MomentText.{AreAircraftLines, AreAlertLines, IsRecoveryText, IsMomentText, line_of, of_each, are_nothing, wants_recovery, told_of}
 use Rattle.daa_engine.proofs.OnlyLemmas.{text_only}
 

@@ -23,9 +23,9 @@ use Rattle.daa_engine.specs.declared.advice.Advice.{Advice}
 use Rattle.daa_engine.specs.declared.rescue.Rescue.{Rescue}
 use Rattle.daa_engine.specs.declared.rescue.Rescue.TheVariants.{Silent, Said}
 use Rattle.daa_engine.specs.declared.rescue.Rescues.{Rescues}
-use Rattle.daa_engine.specs.Findings.{IsAircraftAlert, AreAircraftAlerts, AreSides, IsAdvice, IsRescue, AreRescues, alert_of}
+use Rattle.daa_engine.specs.Inside.Findings.{IsAircraftAlert, AreAircraftAlerts, AreSides, IsAdvice, IsRescue, AreRescues, alert_of}
 use Rattle.daa_engine.specs.MomentText.{AreAlertLines, AreBandLines, AreAnswers, IsRecoveryText, IsMomentText}
-use Rattle.daa_engine.specs.Written.{aircraft_text, alerts_text, bands_text, bands_texts, sides_of, advice_text, rescue_text, rescue_of, rescues_text, written}
+use Rattle.daa_engine.specs.Inside.Written.{aircraft_text, alerts_text, bands_text, bands_texts, sides_of, advice_text, rescue_text, rescue_of, rescues_text, written}
 
 -- ---- aircraft
 

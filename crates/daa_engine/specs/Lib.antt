@@ -3,7 +3,4 @@ pub mod EngineState
 pub mod MomentText
 pub mod PlainText
 pub mod Longest
-pub mod Filling
-pub mod Merging
-pub mod Findings
-pub mod Written
+pub mod Inside

@@ -1,6 +1,7 @@
 //! What is answered on the sides of all kinds.
+
 ghost use Rattle.daa_bands.specs.Board.{HasLevelOn};
-ghost use Rattle.daa_engine.specs.Findings.{AreSides, IsAdvice};
+ghost use Rattle.daa_engine.specs.Inside.Findings.{AreSides, IsAdvice};
 
 use daa_bands::Board;
 use daa_config::{Config, Kind, Resolution};

@@ -1,8 +1,9 @@
 //! What is found of the aircraft of a moment before it is written.
+
 ghost use Rattle.std.specs.Prelude.{◌≡◌, length};
 ghost use Rattle.daa_state.specs.InRange.{IsOwnInRange, IsPictureInRange, IsTrafficInRange};
 ghost use Rattle.daa_state.specs.Picture.{aircraft_of};
-ghost use Rattle.daa_engine.specs.Findings.{IsAircraftAlert, AreAircraftAlerts};
+ghost use Rattle.daa_engine.specs.Inside.Findings.{IsAircraftAlert, AreAircraftAlerts};
 
 use arrayvec::ArrayVec;
 use daa_alert::{alert, now_level};

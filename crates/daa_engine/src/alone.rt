@@ -1,10 +1,11 @@
 //! A moment decided in the caller's own thread, and what is asked after it. Nothing here starts a
 //! thread or takes memory.
+
 ghost use Rattle.std.specs.Prelude.{◌≡◌, ◌≢◌, ◌<◌, ◌≤◌, None, length, slice_index_or};
 ghost use Rattle.daa_bands.specs.Board.{HasLevelOn, IsBoardOf, mask_levels};
 ghost use Rattle.daa_bands.specs.KindBands.{AreKindBands};
 ghost use Rattle.daa_config.specs.Candidates.{candidates_of};
-ghost use Rattle.daa_config.specs.Mask.{IsGreatestLevel};
+ghost use Rattle.daa_fixed.specs.Mask.{IsGreatestLevel};
 ghost use Rattle.daa_legs.specs.Alerts.{IsNowLevel};
 ghost use Rattle.daa_recovery.specs.Recovery.{IsRecovery};
 ghost use Rattle.daa_report.specs.Lines.{Text};

@@ -1,4 +1,5 @@
 //! The engine: a configuration, a number of workers, and the board of the latest moment.
+
 ghost use Rattle.std.specs.Prelude.{◌≡◌, ◌<◌, ◌≤◌, ◌^◌, IfOk, length, replicate, slice_index_or};
 ghost use Rattle.daa_bands.specs.Board.{IsBoardOf, board_size};
 ghost use Rattle.daa_config.specs.Settings.{IsAccepted};
@@ -55,13 +56,18 @@ pub struct Engine {
 
 impl Model for Engine {
     ghost use Rattle.std.specs.Prelude.{◌≡◌, length};
-    ghost use Rattle.daa_engine.specs.EngineState.{EngineState, IsEngine, HasRoom, HasFlights};
+    ghost use Rattle.daa_engine.specs.EngineState.{EngineState};
+    ghost use Rattle.daa_engine.specs.Inside.EngineState.{IsEngine, HasRoom, HasFlights};
 
     ghost Value = { EngineState };
 
     ghost view = { λ e. record { settings = e.config; workers = e.workers; board = e.board } };
 
-    ghost invariant = { λ e. IsEngine (record { settings = e.config; workers = e.workers; board = e.board }) × HasRoom e.words.items × HasFlights e.trunks.items e.branches.items };
+    ghost invariant = { λ e. IsEngine (record {
+      settings = e.config;
+      workers = e.workers;
+      board = e.board;
+    }) × HasRoom e.words.items × HasFlights e.trunks.items e.branches.items };
 }
 
 /// The time of a picture, in seconds.
@@ -91,7 +97,11 @@ impl Engine {
     pub fn new(alloc: Global, config: Config, workers: u32) -> Result<Engine, NoMemory>
         requires { IsWorkerCount workers }
         ensures { IfOk result
-            (λ engine. engine ≡ record { settings = config; workers = workers; board = replicate board_size 0 }) }
+            (λ engine. engine ≡ record {
+              settings = config;
+              workers = workers;
+              board = replicate board_size 0;
+            }) }
     {
         // tells that its numbers are in range
         let _levels = config.levels();

@@ -1,4 +1,5 @@
 //! Fills a board with what the candidates of a moment meet, aircraft by aircraft.
+
 ghost use Rattle.std.specs.Prelude.{◌<◌, ◌≡◌, length};
 ghost use Rattle.daa_bands.specs.Board.{IsBoardOf};
 ghost use Rattle.daa_config.specs.Candidates.{candidates_of};
@@ -7,7 +8,7 @@ ghost use Rattle.daa_state.specs.Picture.{aircraft_of};
 ghost use Rattle.daa_legs.specs.Table.{AreBranchesOf};
 ghost use Rattle.daa_scan.specs.Trunks.{AreLeads};
 ghost use Rattle.daa_engine.specs.Covered.{CoveredAt, scene_of};
-ghost use Rattle.daa_engine.specs.Filling.{AddsAircraft};
+ghost use Rattle.daa_engine.specs.Inside.Filling.{AddsAircraft};
 
 use daa_bands::Board;
 use daa_config::Config;

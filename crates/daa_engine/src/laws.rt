@@ -1,11 +1,12 @@
 //! Laws of the definitions, each the contract of a function that does nothing.
+
 ghost use Rattle.std.specs.Prelude.{◌≡◌, ◌<◌, ◌≤◌, ◌^◌, ◌↔◌, ℕ, List, length, None};
 ghost use Rattle.daa_bands.specs.Board.{HasLevelOn, IsBoardOf, mask_levels};
 ghost use Rattle.daa_bands.specs.KindBands.{AreKindBands};
 ghost use Rattle.daa_bands.specs.declared.band.Band.{Band};
 ghost use Rattle.daa_config.specs.declared.candidate.Resolution.{Resolution};
 ghost use Rattle.daa_config.specs.declared.kind.Kind.{Kind};
-ghost use Rattle.daa_config.specs.One.{HasOne};
+ghost use Rattle.daa_fixed.specs.One.{HasOne};
 ghost use Rattle.daa_config.specs.Settings.{Settings, IsAccepted};
 ghost use Rattle.daa_state.specs.declared.word.Picture.{Picture};
 ghost use Rattle.daa_state.specs.InRange.{IsPictureInRange};
@@ -33,18 +34,21 @@ pub fn has_one_text()
 /// A picture has one board at most: two boards that stand for what is covered have the same levels.
 /// So the workers' board is that of one thread.
 pub fn has_one_board()
-    ensures { (s : Settings) (p : Picture) (a b : List ℕ) (index l : ℕ) → IsBoardOf (CoveredAt s p) s a → IsBoardOf (CoveredAt s p) s b → 1 ≤ l
+    ensures { (s : Settings) (p : Picture) (a b : List ℕ) (index l : ℕ)
+        → IsBoardOf (CoveredAt s p) s a → IsBoardOf (CoveredAt s p) s b → 1 ≤ l
         → HasLevelOn a index l → HasLevelOn b index l }
 {}
 
 /// What a board shows is what aircraft do: over a board that stands for what is covered, the bands
 /// of a kind and the answer on a side are those over what is covered.
 pub fn boards_tell_what_is_covered()
-    ensures bands { (s : Settings) (p : Picture) (board : List ℕ) (kind : Kind) (bands : List Band) → IsAccepted s
+    ensures bands { (s : Settings) (p : Picture) (board : List ℕ) (kind : Kind) (bands : List Band)
+        → IsAccepted s
         → IsBoardOf (CoveredAt s p) s board
         → AreKindBands (HasLevelOn board) mask_levels s kind bands
         → AreKindBands (CoveredAt s p) (length s.levels) s kind bands }
-    ensures answers { (s : Settings) (p : Picture) (board : List ℕ) (kind : Kind) (side : Side) (answer : Resolution) → IsAccepted s
+    ensures answers { (s : Settings) (p : Picture) (board : List ℕ) (kind : Kind) (side : Side)
+        (answer : Resolution) → IsAccepted s
         → IsBoardOf (CoveredAt s p) s board
         → IsResolution (HasLevelOn board) s p.own kind side answer
         → IsResolution (CoveredAt s p) s p.own kind side answer }
@@ -60,6 +64,7 @@ pub fn texts_without_a_recovery_are_as_before()
 /// The text of a picture in range, whose time is a `u32`, has at most 130176 bytes: at most 64 for
 /// each of its lines. So a sheet of one byte more is never full.
 pub fn texts_are_short()
-    ensures { (s : Settings) (p : Picture) (text : Text) → IsAccepted s → IsPictureInRange p → p.time < 2 ^ 32 → IsMomentText s p text
+    ensures { (s : Settings) (p : Picture) (text : Text) → IsAccepted s → IsPictureInRange p
+        → p.time < 2 ^ 32 → IsMomentText s p text
         → length text ≤ longest_moment }
 {}

@@ -11,8 +11,6 @@ mod filling;
 mod laws;
 mod rescue;
 mod say;
-#[cfg(test)]
-mod tests;
 mod together;
 
 pub use alone::decide_in;
@@ -22,3 +20,6 @@ pub use laws::{
     boards_tell_what_is_covered, every_picture_has_one_text, has_one_board, has_one_text,
     texts_are_short, texts_without_a_recovery_are_as_before,
 };
+
+#[cfg(test)]
+mod tests;

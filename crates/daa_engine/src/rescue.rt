@@ -1,7 +1,8 @@
 //! What the lines of the recoveries say, for the kinds that have one.
+
 ghost use Rattle.std.specs.Prelude.{◌≡◌, ◌≢◌, ◌&&◌, option_map, None};
 ghost use Rattle.daa_state.specs.InRange.{IsPictureInRange};
-ghost use Rattle.daa_engine.specs.Findings.{IsRescue, AreRescues};
+ghost use Rattle.daa_engine.specs.Inside.Findings.{IsRescue, AreRescues};
 ghost use Rattle.daa_engine.specs.MomentText.{are_nothing, told_of};
 
 use crate::advice::{Advice, Sides};

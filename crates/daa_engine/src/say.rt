@@ -1,11 +1,12 @@
 //! Writes what was found of a moment.
+
 ghost use Rattle.std.specs.Prelude.{◌≡◌, length};
 ghost use Rattle.daa_state.specs.Picture.{aircraft_of};
 ghost use Rattle.daa_report.specs.Says.{Says};
 ghost use Rattle.daa_report.specs.PageSays.{PageSays};
 ghost use Rattle.daa_report.specs.Lines.{moment_line, now_line, alert_line, done_line};
 ghost use Rattle.daa_engine.specs.MomentText.{line_of};
-ghost use Rattle.daa_engine.specs.Written.{aircraft_text, alerts_text, bands_text, bands_texts, sides_text, advice_text, rescue_text, rescues_text, written};
+ghost use Rattle.daa_engine.specs.Inside.Written.{aircraft_text, alerts_text, bands_text, bands_texts, sides_text, advice_text, rescue_text, rescues_text, written};
 
 use crate::advice::{Advice, Sides};
 use crate::alerts::AircraftAlert;
@@ -213,7 +214,8 @@ fn say_parts<K: Sink>(
 ) -> Result<(), SinkFault>
     requires { length alerts.now ≡ length (aircraft_of picture.now) }
     ensures { PageSays (K.taken sink.old) (K.taken sink.new) page.old page.new (K.faults sink.old)
-        (K.faults sink.new) (written config.now picture.now board.now alerts.now advice.now rescues.now) result }
+        (K.faults sink.new) (written config.now picture.now board.now alerts.now advice.now
+        rescues.now) result }
 {
     say_head(page, sink, picture)?;
     say_traffic(page, sink, picture, alerts)?;

@@ -1,5 +1,6 @@
 //! Fills a board by all workers together: each unit of work is answered by one of them with a
 //! packed word.
+
 ghost use Rattle.std.specs.Prelude.{◌≡◌, ◌<◌, ◌≤◌, OnErr, OnOk, length, replicate};
 ghost use Rattle.daa_bands.specs.Board.{IsBoardOf, board_size};
 ghost use Rattle.daa_scan.specs.Reach.{NoneIsMetOutOfReach};
@@ -7,8 +8,9 @@ ghost use Rattle.daa_scan.specs.Units.{most_groups, most_units, AreWordsOf};
 ghost use Rattle.daa_config.specs.Candidates.{candidates_of};
 ghost use Rattle.daa_state.specs.InRange.{IsPictureInRange};
 ghost use Rattle.daa_engine.specs.Covered.{CoveredAt};
-ghost use Rattle.daa_engine.specs.EngineState.{IsWorkerCount, HasRoom};
-ghost use Rattle.daa_engine.specs.Merging.{IsMerged};
+ghost use Rattle.daa_engine.specs.EngineState.{IsWorkerCount};
+ghost use Rattle.daa_engine.specs.Inside.EngineState.{HasRoom};
+ghost use Rattle.daa_engine.specs.Inside.Merging.{IsMerged};
 
 use daa_bands::Board;
 use daa_config::Config;
@@ -68,7 +70,8 @@ fn merge(board: &mut Board, scene: &Scene, words: &[u64])
     requires few { length words.now ≤ most_units }
     requires words { AreWordsOf scene.now words.now }
     requires reach { NoneIsMetOutOfReach scene.now }
-    ensures { IsBoardOf (CoveredAt scene.now.settings scene.now.picture) scene.now.settings board.new }
+    ensures { IsBoardOf (CoveredAt scene.now.settings scene.now.picture)
+        scene.now.settings board.new }
 {
     board.clear();
     merge_words(board, words, scene.groups());

@@ -22,7 +22,7 @@ use Rattle.daa_state.specs.Picture.{aircraft_of}
 use Rattle.daa_state.specs.declared.word.Picture.{Picture}
 use Rattle.daa_report.specs.Says.{Says, SaysSome}
 use Rattle.daa_engine.specs.Covered.{CoveredAt}
-use Rattle.daa_exercise.specs.Counting.{Adds, AreCounted, CountsPicture, HasCounted, HasRoomFor, IsRoomy, tally_of, written}
+use Rattle.daa_exercise.specs.Inside.Counting.{Adds, AreCounted, CountsPicture, HasCounted, HasRoomFor, IsRoomy, tally_of, written}
 use Rattle.daa_exercise.specs.Levels.{HasAlerts, HasShown, AreLevels, aircraft_in, counts_of, how_often}
 use Rattle.daa_exercise.specs.Moments.{moment_of}
 use Rattle.daa_exercise.specs.Summary.{IsSummaryOf, summary_text}

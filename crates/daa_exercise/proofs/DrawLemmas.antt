@@ -6,7 +6,7 @@ use Rattle.rand_pcg.specs.Lcg.{Lcg, next_state, state_after}
 use Rattle.rand_pcg.specs.Pcg.{multiplier_64, pcg32}
 use Rattle.daa_state.specs.Ranges.{Range}
 use Rattle.daa_exercise.specs.Outputs.{outputs_from, picked}
-use Rattle.daa_exercise.specs.Drawing.{after}
+use Rattle.daa_exercise.specs.Inside.Drawing.{after}
 use Rattle.daa_exercise.specs.Moments.{own_altitudes, own_tracks, own_ground_speeds, drawn_vertical_speeds, drawn_positions, heights_above, drawn_speeds, own_at, aircraft_at, name_of}
 use Rattle.daa_state.specs.declared.word.Own.{Own}
 use Rattle.daa_state.specs.declared.word.Traffic.{Traffic}

@@ -6,7 +6,7 @@ use Rattle.rand_pcg.specs.Lcg.{Lcg}
 use Rattle.daa_state.specs.declared.word.Own.{Own}
 use Rattle.daa_state.specs.declared.word.Traffic.{Traffic}
 use Rattle.daa_state.specs.declared.word.Picture.{Picture}
-use Rattle.daa_exercise.specs.Drawing.{after}
+use Rattle.daa_exercise.specs.Inside.Drawing.{after}
 use Rattle.daa_exercise.specs.Moments.{aircraft_counts, own_tracks, own_ground_speeds, own_altitudes, drawn_vertical_speeds, drawn_positions, heights_above, drawn_speeds, name_of, own_at, count_at, aircraft_at, traffic_at, moment_at, draws_at, begin_of, moment_of}
 use Rattle.daa_exercise.specs.Outputs.{Outputs, outputs_from, picked}
 use Rattle.daa_exercise.proofs.DrawLemmas.{own_of, aircraft_of, outputs_after, none_after, after_after, next_after}

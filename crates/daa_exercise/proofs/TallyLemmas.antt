@@ -7,10 +7,10 @@ use Rattle.daa_state.specs.declared.word.Traffic.{Traffic}
 use Rattle.daa_bands.specs.Board.{HasLevelOn, mask_levels}
 use Rattle.daa_bands.specs.KindBands.{AreShown}
 use Rattle.daa_config.specs.Candidates.{start_of, values_of}
-use Rattle.daa_config.specs.Mask.{IsGreatestLevel}
+use Rattle.daa_fixed.specs.Mask.{IsGreatestLevel}
 use Rattle.daa_config.specs.Settings.{Settings}
 use Rattle.daa_config.specs.declared.kind.Kind.{Kind}
-use Rattle.daa_exercise.specs.Counting.{Adds, CountsMore, HasRoomFor}
+use Rattle.daa_exercise.specs.Inside.Counting.{Adds, CountsMore, HasRoomFor}
 use Rattle.daa_exercise.specs.Levels.{counts_of}
 
 -- ---- levels counted one after another

@@ -3,5 +3,4 @@ pub mod Moments
 pub mod Taken
 pub mod Levels
 pub mod Summary
-pub mod Drawing
-pub mod Counting
+pub mod Inside

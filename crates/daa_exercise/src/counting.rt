@@ -1,10 +1,11 @@
 //! Counts the levels of one moment after another.
+
 ghost use Rattle.std.specs.Prelude.{◌≡◌};
 ghost use Rattle.daa_bands.specs.Board.{HasLevelOn, IsBoardOf, mask_levels};
 ghost use Rattle.daa_bands.specs.KindBands.{AreShown};
 ghost use Rattle.daa_engine.specs.Covered.{CoveredAt};
 ghost use Rattle.daa_state.specs.InRange.{IsPictureInRange};
-ghost use Rattle.daa_exercise.specs.Counting.{Adds, AreCounted, CountsPicture, HasRoomFor, IsRoomy};
+ghost use Rattle.daa_exercise.specs.Inside.Counting.{Adds, AreCounted, CountsPicture, HasRoomFor, IsRoomy};
 ghost use Rattle.daa_exercise.specs.Levels.{HasAlerts};
 ghost use Rattle.daa_exercise.specs.Outputs.{Outputs};
 ghost use Rattle.daa_config.specs.Settings.{IsAccepted, Settings};

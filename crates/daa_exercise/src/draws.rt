@@ -1,8 +1,9 @@
 //! What is drawn: the outputs of a generator, the numbers that they pick, and the moments of these
 //! numbers.
+
 ghost use Rattle.std.specs.Prelude.{◌≡◌, ◌≤◌, ◌+◌, ◌*◌, ◌≤ℤ◌, nat_abs, pos};
 ghost use Rattle.daa_state.specs.InRange.{IsPictureInRange};
-ghost use Rattle.daa_exercise.specs.Drawing.{after, range_of, IsSpan};
+ghost use Rattle.daa_exercise.specs.Inside.Drawing.{after, range_of, IsSpan};
 ghost use Rattle.daa_exercise.specs.Moments.{aircraft_counts, name_of, own_at, aircraft_at, traffic_at, draws_at, moment_at};
 ghost use Rattle.daa_exercise.specs.Outputs.{generator_of, picked, outputs_from};
 

@@ -1,4 +1,5 @@
 //! An exercise of an engine.
+
 ghost use Rattle.std.specs.Prelude.{◌≡◌, ◌≤◌};
 ghost use Rattle.daa_report.specs.Says.{SaysSome};
 ghost use Rattle.daa_exercise.specs.Summary.{IsSummaryOf};

@@ -1,9 +1,10 @@
 //! Laws of the definitions, each the contract of a function that does nothing.
+
 ghost use Rattle.std.specs.Prelude.{◌≡◌, ◌<◌, ◌*◌, ◌^◌, ◌∷◌, [], ℕ, IfSome, List, None, codes, length, neg_ℤ, pos, sum};
 ghost use Rattle.rand_core.specs.Steps.{first_words};
 ghost use Rattle.rand_pcg.specs.Pcg.{pcg32};
 ghost use Rattle.daa_config.specs.Candidates.{values_of};
-ghost use Rattle.daa_config.specs.One.{HasOne};
+ghost use Rattle.daa_fixed.specs.One.{HasOne};
 ghost use Rattle.daa_config.specs.Settings.{IsAccepted, Settings};
 ghost use Rattle.daa_config.specs.declared.kind.Kind.{Kind};
 ghost use Rattle.daa_state.specs.InRange.{IsPictureInRange};
@@ -30,16 +31,19 @@ pub fn drawn_moments_are_in_range()
 /// there is one, is earlier, each word that says the moment is accepted, and its end gives the
 /// moment. So the moments of the times 0, 1, .. are accepted one after the other.
 pub fn drawn_moments_are_taken()
-    ensures { (output : Outputs) (time : ℕ) (state : State) → time < 2 ^ 32 → state.moment ≡ None → IfSome state.last (λ last. last < time)
+    ensures { (output : Outputs) (time : ℕ) (state : State) → time < 2 ^ 32 → state.moment ≡ None
+        → IfSome state.last (λ last. last < time)
         → IsTaken state (moment_of output time) }
 {}
 
 /// How often each level was an alert level adds up to the number of aircraft, and how often each
 /// was shown for a kind to the number of moments times that of the kind's candidates.
 pub fn counts_add_up()
-    ensures alerts { (s : Settings) (output : Outputs) (moments : ℕ) (levels : List ℕ) → AreLevels (HasAlerts s) output moments levels
+    ensures alerts { (s : Settings) (output : Outputs) (moments : ℕ) (levels : List ℕ)
+        → AreLevels (HasAlerts s) output moments levels
         → sum (counts_of (length s.levels) levels) ≡ aircraft_in output moments }
-    ensures shown { (s : Settings) (kind : Kind) (output : Outputs) (moments : ℕ) (levels : List ℕ) → AreLevels (λ picture. HasShown s picture kind) output moments levels
+    ensures shown { (s : Settings) (kind : Kind) (output : Outputs) (moments : ℕ) (levels : List ℕ)
+        → AreLevels (λ picture. HasShown s picture kind) output moments levels
         → sum (counts_of (length s.levels) levels) ≡ moments * length (values_of kind s) }
 {}
 
@@ -49,9 +53,25 @@ pub fn worked_examples()
     ensures outputs { first_words pcg32 3
         (generator_of 7) ≡ 2442223337 ∷ 414063806 ∷ 2743600285 ∷ [] }
     ensures third { outputs_of 7 2 ≡ 2743600285 }
-    ensures own { own_at (outputs_of 7) 0 ≡ record { x = pos 0; y = pos 0; alt = pos 1232; trk = pos 86; gs = pos 2732; vs = pos 1808 } }
+    ensures own { own_at (outputs_of 7) 0 ≡ record {
+      x = pos 0;
+      y = pos 0;
+      alt = pos 1232;
+      trk = pos 86;
+      gs = pos 2732;
+      vs = pos 1808;
+    } }
     ensures aircraft { aircraft_at (outputs_of 7)
-        (pos 1232) 1 5 ≡ record { id = codes "A1"; x = pos 4580; y = pos 474; alt = pos 1225; vx = neg_ℤ (pos 2328); vy = neg_ℤ (pos 127); vs = neg_ℤ (pos 1150); age = 0 } }
+        (pos 1232) 1 5 ≡ record {
+          id = codes "A1";
+          x = pos 4580;
+          y = pos 474;
+          alt = pos 1225;
+          vx = neg_ℤ (pos 2328);
+          vy = neg_ℤ (pos 127);
+          vs = neg_ℤ (pos 1150);
+          age = 0;
+        } }
     ensures second { begin_of (outputs_of 7) 1 ≡ 23 }
     ensures counts { counts_of 3 (0 ∷ 3 ∷ 0 ∷ 1 ∷ []) ≡ 2 ∷ 1 ∷ 0 ∷ 1 ∷ [] }
 {}

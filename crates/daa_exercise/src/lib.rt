@@ -8,11 +8,12 @@ mod exercising;
 mod laws;
 mod summary;
 mod tally;
-#[cfg(test)]
-mod tests;
 
 pub use exercising::exercise;
 pub use laws::{
     counts_add_up, drawn_moments_are_in_range, drawn_moments_are_taken,
     every_exercise_has_one_summary, worked_examples,
 };
+
+#[cfg(test)]
+mod tests;

@@ -1,8 +1,9 @@
 //! The text of a summary. All of it is at hand before the first byte is written.
+
 ghost use Rattle.std.specs.Prelude.{◌≡◌, ◌≤◌, ◌+◌, ◌++◌, take, length};
 ghost use Rattle.arrayvec.specs.ArrayVec.{array_vec_len};
 ghost use Rattle.daa_report.specs.Lines.{kind_word, numbers_line};
-ghost use Rattle.daa_exercise.specs.Counting.{written};
+ghost use Rattle.daa_exercise.specs.Inside.Counting.{written};
 
 use crate::counting::Counts;
 use crate::tally::Tally;

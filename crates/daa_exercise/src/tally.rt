@@ -1,7 +1,8 @@
 //! How often each level came.
+
 ghost use Rattle.std.specs.Prelude.{◌≡◌, ◌≤◌, ◌+◌, ℕ, [], ◌∷◌, take};
 ghost use Rattle.daa_bands.specs.Board.{mask_levels};
-ghost use Rattle.daa_exercise.specs.Counting.{CountsMore, HasRoomFor};
+ghost use Rattle.daa_exercise.specs.Inside.Counting.{CountsMore, HasRoomFor};
 ghost use Rattle.daa_exercise.specs.Levels.{counts_of};
 
 use std::marker::Model;

@@ -43,8 +43,6 @@ pub struct Point {
 
 mod moves;
 mod order;
-#[cfg(test)]
-mod tests;
 mod units;
 mod vectors;
 
@@ -52,3 +50,6 @@ pub use moves::{toward, toward_is_nearest};
 pub use order::{before, earlier, later};
 pub use units::{feet, mils};
 pub use vectors::{cross, dot, square};
+
+#[cfg(test)]
+mod tests;

@@ -3,7 +3,8 @@
 #![tactic(auto)]
 
 mod heading;
-#[cfg(test)]
-mod tests;
 
 pub use heading::{sines_are_near_circle, unit, velocity};
+
+#[cfg(test)]
+mod tests;

@@ -14,7 +14,7 @@ use Rattle.daa_judge.specs.declared.found.Found.TheVariants as found
 use Rattle.daa_judge.specs.Judged.{line_feeds, longest_read, Differs}
 use Rattle.daa_judge.specs.Finding.{Finds, ShowsDifference}
 use Rattle.daa_judge.specs.Matched.{IsMatched, Compares}
-use Rattle.daa_judge.specs.Stepping.{found_at, Took}
+use Rattle.daa_judge.specs.Inside.Stepping.{found_at, Took}
 use Rattle.daa_judge.specs.declared.found.Found.{Found}
 use Rattle.daa_judge.specs.declared.matching.Matching.{Matching}
 use Rattle.daa_judge.proofs.JudgedLemmas.{Parted, parts, feeds-append}

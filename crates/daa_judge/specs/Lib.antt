@@ -1,5 +1,5 @@
 pub mod Judged
 pub mod Finding
 pub mod Matched
-pub mod Stepping
 pub mod Sheets
+pub mod Inside

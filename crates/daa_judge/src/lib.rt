@@ -6,9 +6,10 @@ mod found;
 mod matching;
 mod pieces;
 mod sheet;
-#[cfg(test)]
-mod tests;
 
 pub use found::Found;
 pub use matching::Matching;
 pub use sheet::{NoMemory, Sheet};
+
+#[cfg(test)]
+mod tests;

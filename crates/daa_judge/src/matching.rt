@@ -6,7 +6,7 @@ ghost use Rattle.daa_ahead.specs.Next.{ReadsMore};
 ghost use Rattle.daa_judge.specs.Finding.{Finds};
 ghost use Rattle.daa_judge.specs.Judged.{longest_read};
 ghost use Rattle.daa_judge.specs.Matched.{Compares, HasRoom, IsMatched};
-ghost use Rattle.daa_judge.specs.Stepping.{Steps, found_at};
+ghost use Rattle.daa_judge.specs.Inside.Stepping.{Steps, found_at};
 
 use crate::found::Found;
 use crate::pieces::{common, line_feeds};

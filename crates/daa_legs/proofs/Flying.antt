@@ -3,7 +3,8 @@ use Rattle.std.proofs.Common.{◌≡◌, ◌+◌, ◌<◌, arith, subst, sym, �
 use Rattle.daa_fixed.specs.declared.Flat.{Flat}
 use Rattle.daa_fixed.specs.declared.Solid.{Solid}
 use Rattle.daa_fixed.specs.Leg.{IsSolidBelow, plus}
-use Rattle.daa_legs.specs.FlightProgress.{FlightProgress, IsFlown}
+use Rattle.daa_legs.specs.FlightProgress.{FlightProgress}
+use Rattle.daa_legs.specs.Inside.FlightProgress.{IsFlown}
 use Rattle.daa_legs.specs.Motion.{velocity_on}
 use Rattle.daa_legs.proofs.Places.{place-next, place_on-below, velocity_on-below}
 

@@ -13,7 +13,8 @@ use Rattle.daa_config.specs.declared.candidate.Candidate.TheVariants.{Hold, Trac
 use Rattle.daa_state.specs.declared.word.Own.{Own}
 use Rattle.daa_legs.specs.Turn.{turned}
 use Rattle.daa_legs.specs.Motion.{track_on, ground_speed_on, vertical_speed_on, height_after, velocity_on}
-use Rattle.daa_legs.specs.Branch.{lead_of, velocity_there, FliesAs, FliesOn, IsWholeLegs}
+use Rattle.daa_legs.specs.Branch.{lead_of, velocity_there, FliesAs, FliesOn}
+use Rattle.daa_legs.specs.Inside.Branch.{IsWholeLegs}
 use Rattle.daa_legs.proofs.Cases.{product_nonneg}
 
 -- ---- of numbers

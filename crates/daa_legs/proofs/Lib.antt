@@ -1,3 +1,4 @@
+pub mod SharedWords
 pub mod StateRanges
 pub mod Turns
 pub mod Cases

@@ -25,7 +25,8 @@ use Rattle.daa_legs.specs.OwnLegs.{own_leg, place_on}
 use Rattle.daa_legs.specs.Relative.{relative_for, traffic_place, traffic_velocity}
 use Rattle.daa_legs.specs.Runs.{IsRunOf}
 use Rattle.daa_legs.specs.Meeting.{relative_leg, MeetsWithin}
-use Rattle.daa_legs.specs.Shared.{in_height, in_plane}
+use Rattle.daa_legs.proofs.SharedWords.{in_height}
+use Rattle.daa_legs.specs.Inside.Shared.{in_plane}
 use Rattle.daa_legs.proofs.Holds.{hold_run}
 use Rattle.daa_legs.proofs.Stretches.{violates_moved, out_second, short_place, short_height, short_velocity}
 

@@ -9,7 +9,8 @@ use Rattle.daa_config.specs.declared.config.Rates.{Rates}
 use Rattle.daa_config.specs.declared.candidate.Candidate.TheVariants.{Track}
 use Rattle.daa_state.specs.declared.word.Own.{Own}
 use Rattle.daa_legs.specs.Turn.{right_angle, turned}
-use Rattle.daa_legs.specs.Branch.{lead_of, FliesAs, FliesOn, IsWholeLegs}
+use Rattle.daa_legs.specs.Branch.{lead_of, FliesAs, FliesOn}
+use Rattle.daa_legs.specs.Inside.Branch.{IsWholeLegs}
 use Rattle.daa_legs.proofs.Arriving.{rem_back, rem_on, turned-arrives}
 use Rattle.daa_legs.proofs.Leading.{within, track_same, track_settled}
 use Rattle.daa_legs.proofs.Steady.{rem_range, rem_small}

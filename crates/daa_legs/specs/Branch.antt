@@ -1,6 +1,6 @@
 -- How a candidate's flight leaves the one that leads on its side: before some leg both fly alike, and from that leg or the next on
 -- the candidate flies straight on.
-use Rattle.std.specs.Prelude.{◌≡◌, ℕ, ◌+◌, ◌<◌, ◌≤◌, ℤ, pos, negsuc, ◌+ℤ◌, ◌*ℤ◌, ◌≤ℤ◌, Bool, if◌then◌else◌}
+use Rattle.std.specs.Prelude.{◌≡◌, ℕ, ◌<◌, ◌≤◌, pos, negsuc, ◌+ℤ◌, Bool, if◌then◌else◌}
 use Rattle.std.specs.Int.{int_rem_euclid}
 use Rattle.daa_fixed.specs.declared.Solid.{Solid}
 use Rattle.daa_heading.specs.Heading.{velocity_of}
@@ -34,8 +34,3 @@ module _ (own : Own) (rates : Rates) where
   -- from leg n on its value is reached
   pub record FliesOn (candidate : Candidate) (n : ℕ) : Type 0 where
     pub there : (k : ℕ) → n ≤ k → velocity_on own rates candidate k ≡ velocity_there own candidate
-
--- so many whole seconds at the rate fit into the way
-pub record IsWholeLegs (way rate : ℤ) (n : ℕ) : Type 0 where
-  pub before : (k : ℕ) → k < n → (pos (k + 1) *ℤ rate) ≤ℤ way
-  pub after : (k : ℕ) → n < k → way ≤ℤ (pos k *ℤ rate)

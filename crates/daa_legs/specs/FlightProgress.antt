@@ -1,14 +1,8 @@
 -- A flight as contracts see it: whose it is, and how many legs were taken.
-use Rattle.std.specs.Prelude.{ℕ, ◌≡◌, ◌≤◌}
-use Rattle.daa_fixed.specs.declared.Flat.{Flat}
-use Rattle.daa_fixed.specs.declared.Solid.{Solid}
-use Rattle.daa_heading.specs.Heading.{velocity_of}
+use Rattle.std.specs.Prelude.{ℕ}
 use Rattle.daa_config.specs.declared.config.Rates.{Rates}
 use Rattle.daa_config.specs.declared.candidate.Candidate.{Candidate}
-use Rattle.daa_config.specs.Settings.{AreRatesInRange, IsCandidateInRange}
 use Rattle.daa_state.specs.declared.word.Own.{Own}
-use Rattle.daa_state.specs.InRange.{IsOwnInRange}
-use Rattle.daa_legs.specs.OwnLegs.{place_on}
 
 -- the ownship, its rates of change, the candidate that is flown, and how many legs were taken
 pub record FlightProgress : Type 0 where
@@ -16,16 +10,3 @@ pub record FlightProgress : Type 0 where
   pub rates : Rates
   pub candidate : Candidate
   pub taken : ℕ
-
--- its values are in their ranges, and no more than 180 legs were taken
-pub record IsFlightInRange (flight : FlightProgress) : Type 0 where
-  pub own : IsOwnInRange flight.own
-  pub rates : AreRatesInRange flight.rates
-  pub candidate : IsCandidateInRange flight.candidate
-  pub taken : flight.taken ≤ 180
-
--- what a running flight keeps: its place is that of the next leg, and the present way over ground
-pub record IsFlown (flight : FlightProgress) (place : Solid) (present : Flat) : Type 0 where
-  pub in_range : IsFlightInRange flight
-  pub at : place ≡ place_on flight.own flight.rates flight.candidate flight.taken
-  pub keeps : present ≡ velocity_of flight.own.gs flight.own.trk

@@ -6,7 +6,7 @@ pub mod Relative
 pub mod Meeting
 pub mod Runs
 pub mod Alerts
-pub mod Shared
 pub mod Branch
 pub mod Kept
 pub mod Table
+pub mod Inside

@@ -57,6 +57,7 @@ pub fn relative_run(run: &OwnRun, aircraft: &Traffic, k: u32) -> Leg
     }
 }
 
+/// The difference of two vectors, each axis by itself.
 fn difference(x: &Solid, y: &Solid) -> Solid
     requires x { IsSolidBelow 20000000 x.now }
     requires y { IsSolidBelow 20000000 y.now }

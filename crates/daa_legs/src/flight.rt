@@ -29,13 +29,24 @@ pub struct Flight {
 }
 
 impl Model for Flight {
-    ghost use Rattle.daa_legs.specs.FlightProgress.{FlightProgress, IsFlown};
+    ghost use Rattle.daa_legs.specs.FlightProgress.{FlightProgress};
+    ghost use Rattle.daa_legs.specs.Inside.FlightProgress.{IsFlown};
 
     ghost Value = { FlightProgress };
 
-    ghost view = { λ f. record { own = f.own; rates = f.rates; candidate = f.candidate; taken = f.taken } };
+    ghost view = { λ f. record {
+      own = f.own;
+      rates = f.rates;
+      candidate = f.candidate;
+      taken = f.taken;
+    } };
 
-    ghost invariant = { λ f. IsFlown (record { own = f.own; rates = f.rates; candidate = f.candidate; taken = f.taken }) f.place f.present };
+    ghost invariant = { λ f. IsFlown (record {
+      own = f.own;
+      rates = f.rates;
+      candidate = f.candidate;
+      taken = f.taken;
+    }) f.place f.present };
 }
 
 impl Flight {
@@ -44,7 +55,12 @@ impl Flight {
     pub fn begin(own: &Own, config: &Config, candidate: Candidate) -> Flight
         requires own { IsOwnInRange own.now }
         requires candidate { IsCandidateInRange candidate }
-        ensures { result ≡ record { own = own.now; rates = rates_of config.now; candidate = candidate; taken = 0 } }
+        ensures { result ≡ record {
+          own = own.now;
+          rates = rates_of config.now;
+          candidate = candidate;
+          taken = 0;
+        } }
     {
         Flight {
             own: *own,
@@ -65,7 +81,8 @@ impl Flight {
     /// The next second: leg `k` after `k` legs were taken. A flight has 180 of them.
     pub fn next_leg(&mut self) -> OwnLeg
         requires { self.old.taken < 180 }
-        ensures leg { result ≡ own_leg self.old.own self.old.rates self.old.candidate self.old.taken }
+        ensures leg { result ≡ own_leg self.old.own self.old.rates
+            self.old.candidate self.old.taken }
         ensures in_range { IsOwnLegInRange result }
         ensures taken { self.new ≡ record self.old { taken = self.old.taken + 1 } }
     {
@@ -83,7 +100,8 @@ impl Flight {
         requires some { 1 ≤ most }
         requires left { self.old.taken + most ≤ 180 }
         ensures run { IsRunOf self.old.own self.old.rates self.old.candidate self.old.taken result }
-        ensures longest { IsLongest self.old.own self.old.rates self.old.candidate self.old.taken most result }
+        ensures longest { IsLongest self.old.own self.old.rates self.old.candidate
+            self.old.taken most result }
         ensures in_range { IsOwnRunInRange result }
         ensures taken { self.new ≡ record self.old { taken = self.old.taken + result.secs } }
     {
@@ -100,7 +118,8 @@ impl Flight {
     /// The velocity of the next second.
     fn velocity_ahead(&self) -> Solid
         requires { self.now.taken < 180 }
-        ensures value { result ≡ velocity_on self.now.own self.now.rates self.now.candidate self.now.taken }
+        ensures value { result ≡ velocity_on self.now.own self.now.rates
+            self.now.candidate self.now.taken }
         ensures size { IsSolidBelow 20000 result }
     {
         velocity_from(
@@ -115,7 +134,8 @@ impl Flight {
     /// Takes the next second, which has this velocity.
     fn advance(&mut self, velocity: &Solid)
         requires left { self.old.taken < 180 }
-        requires velocity { velocity.now ≡ velocity_on self.old.own self.old.rates self.old.candidate self.old.taken }
+        requires velocity { velocity.now ≡ velocity_on self.old.own self.old.rates
+            self.old.candidate self.old.taken }
         ensures { self.new ≡ record self.old { taken = self.old.taken + 1 } }
     {
         self.place = sum(&self.place, velocity);
@@ -123,6 +143,7 @@ impl Flight {
     }
 }
 
+/// Whether two vectors are equal on each axis.
 fn are_same(x: &Solid, y: &Solid) -> bool
     ensures { IsTrue result ↔ (x.now ≡ y.now) }
 {
@@ -131,7 +152,11 @@ fn are_same(x: &Solid, y: &Solid) -> bool
 
 /// So many seconds that begin as a leg does.
 fn run_of(first: &OwnLeg, secs: u32) -> OwnRun
-    ensures { result ≡ record { place = first.now.place; velocity = first.now.velocity; secs = secs } }
+    ensures { result ≡ record {
+      place = first.now.place;
+      velocity = first.now.velocity;
+      secs = secs;
+    } }
 {
     OwnRun {
         place: first.place,
@@ -140,6 +165,7 @@ fn run_of(first: &OwnLeg, secs: u32) -> OwnRun
     }
 }
 
+/// The sum of two vectors, each axis by itself.
 pub(crate) fn sum(x: &Solid, y: &Solid) -> Solid
     requires x { IsSolidBelow 20000000 x.now }
     requires y { IsSolidBelow 20000 y.now }

@@ -34,7 +34,8 @@ pub fn flights_begin_as_now()
 /// Where one leg ends the next begins.
 pub fn legs_join()
     ensures { (own : Own) (rates : Rates) (candidate : Candidate) (k : ℕ) →
-        place_on own rates candidate (k + 1) ≡ plus (place_on own rates candidate k) (velocity_on own rates candidate k) }
+        place_on own rates candidate (k + 1)
+        ≡ plus (place_on own rates candidate k) (velocity_on own rates candidate k) }
 {}
 
 /// From leg to leg a speed moves toward the candidate's by at most its rate, and each leg to an
@@ -42,17 +43,21 @@ pub fn legs_join()
 /// they are there.
 pub fn legs_move_by_the_rates()
     ensures ground_speed { (own : Own) (rates : Rates) (g : ℤ) (k : ℕ) → AreRatesInRange rates →
-        ground_speed_on own rates (Candidate.Speed g) (k + 1) ≡ toward_of (ground_speed_on own rates (Candidate.Speed g) k) g rates.gs }
+        ground_speed_on own rates (Candidate.Speed g) (k + 1)
+        ≡ toward_of (ground_speed_on own rates (Candidate.Speed g) k) g rates.gs }
     ensures vertical_speed { (own : Own) (rates : Rates) (w : ℤ) (k : ℕ) → AreRatesInRange rates →
-        vertical_speed_on own rates (Candidate.Climb w) (k + 1) ≡ toward_of (vertical_speed_on own rates (Candidate.Climb w) k) w rates.vs }
+        vertical_speed_on own rates (Candidate.Climb w) (k + 1)
+        ≡ toward_of (vertical_speed_on own rates (Candidate.Climb w) k) w rates.vs }
     ensures height { (own : Own) (rates : Rates) (a : ℤ) (k : ℕ) → AreRatesInRange rates →
-        (place_on own rates (Candidate.Height a) (k + 1)).up ≡ toward_of (place_on own rates (Candidate.Height a) k).up (pos 60 *ℤ a) rates.alt }
+        (place_on own rates (Candidate.Height a) (k + 1)).up
+        ≡ toward_of (place_on own rates (Candidate.Height a) k).up (pos 60 *ℤ a) rates.alt }
 {}
 
 /// A turn arrives: once half a turn could have been flown, the track is that of the candidate, and
 /// stays.
 pub fn turns_arrive()
-    ensures { (own : Own) (rates : Rates) (c : ℤ) (k : ℕ) → IsOwnInRange own → IsCandidateInRange (Candidate.Track c)
+    ensures { (own : Own) (rates : Rates) (c : ℤ) (k : ℕ) → IsOwnInRange own
+        → IsCandidateInRange (Candidate.Track c)
         → pos 180 ≤ℤ (pos k *ℤ rates.turn) → track_on own rates (Candidate.Track c) k ≡ c }
 {}
 

@@ -10,8 +10,6 @@ mod joint;
 mod laws;
 mod motion;
 mod own_leg;
-#[cfg(test)]
-mod tests;
 mod traffic;
 mod trunk;
 mod turn;
@@ -26,3 +24,6 @@ pub use laws::{
 };
 pub use own_leg::{OwnLeg, OwnRun};
 pub use trunk::Trunk;
+
+#[cfg(test)]
+mod tests;

@@ -3,7 +3,8 @@ use Rattle.std.proofs.Common.{◌≡◌, ◌≤◌, ℕ, Bool, true, false, List
 use Rattle.std.proofs.lemmas.Bool.{false≢true}
 use Rattle.std.proofs.lemmas.Bool.Decides.{nat_tests}
 use Rattle.daa_lines.specs.LinesOf.{Bytes, cut, last_line, lines_of, long_length, shown}
-use Rattle.daa_lines.specs.Cutting.{Cutting, IsSized}
+use Rattle.daa_lines.specs.Cutting.{Cutting}
+use Rattle.daa_lines.specs.Inside.Cutting.{IsSized}
 use Rattle.daa_lines.specs.Ending.{after_end, stage_at_end}
 use Rattle.daa_lines.specs.Stands.{Stands, standing}
 use Rattle.daa_lines.specs.declared.lines.Stage.{Stage}

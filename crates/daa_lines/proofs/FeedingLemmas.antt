@@ -4,9 +4,10 @@ use Rattle.std.proofs.lemmas.List.{drop_more}
 use Rattle.std.proofs.lemmas.Bool.Decides.{nat_tests}
 use Rattle.std.proofs.lemmas.Bool.{or_parts}
 use Rattle.daa_lines.specs.LinesOf.{Bytes, line_feed, long_length}
-use Rattle.daa_lines.specs.Cutting.{Cutting, is_standing, IsSized}
+use Rattle.daa_lines.specs.Cutting.{Cutting, is_standing}
+use Rattle.daa_lines.specs.Inside.Cutting.{IsSized}
 use Rattle.daa_lines.specs.Feeding.{bytes_taken}
-use Rattle.daa_lines.specs.Pushing.{after_byte, at_open, at_stage, is_last}
+use Rattle.daa_lines.specs.Inside.Pushing.{after_byte, at_open, at_stage, is_last}
 use Rattle.daa_lines.specs.declared.lines.Stage.{Stage}
 use Rattle.daa_lines.specs.declared.lines.Stage.TheVariants.{Open, Whole, Long, Skipping}
 

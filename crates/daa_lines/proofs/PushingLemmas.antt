@@ -3,8 +3,9 @@ use Rattle.std.proofs.Common.{◌≡◌, ◌≤◌, ◌<◌, ◌+◌, ◌==◌, 
 use Rattle.std.proofs.lemmas.List.{take-append-le, take_more}
 use Rattle.std.proofs.lemmas.Bool.Decides.{nat_tests}
 use Rattle.daa_lines.specs.LinesOf.{Bytes, Cut, cut, last_line, line_feed, lines_of, long_length, shown}
-use Rattle.daa_lines.specs.Cutting.{Cutting, is_standing, IsSized}
-use Rattle.daa_lines.specs.Pushing.{after_byte, at_open, at_stage}
+use Rattle.daa_lines.specs.Cutting.{Cutting, is_standing}
+use Rattle.daa_lines.specs.Inside.Cutting.{IsSized}
+use Rattle.daa_lines.specs.Inside.Pushing.{after_byte, at_open, at_stage}
 use Rattle.daa_lines.specs.Stands.{Stands, IsRest, standing}
 use Rattle.daa_lines.specs.declared.lines.Stage.{Stage}
 use Rattle.daa_lines.specs.declared.lines.Stage.TheVariants.{Open, Whole, Long, Skipping}

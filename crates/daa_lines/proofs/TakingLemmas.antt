@@ -3,7 +3,8 @@ use Rattle.std.proofs.Common.{◌≡◌, ◌<◌, ℕ, Bool, true, false, List, 
 use Rattle.std.proofs.lemmas.List.{take_all}
 use Rattle.std.proofs.lemmas.Option.{slice_get-map}
 use Rattle.daa_lines.specs.LinesOf.{Bytes, lines_of, long_length}
-use Rattle.daa_lines.specs.Cutting.{Cutting, IsSized, is_standing}
+use Rattle.daa_lines.specs.Cutting.{Cutting, is_standing}
+use Rattle.daa_lines.specs.Inside.Cutting.{IsSized}
 use Rattle.daa_lines.specs.Taking.{IsLineOf, after_taking}
 use Rattle.daa_lines.specs.Stands.{Stands, standing}
 use Rattle.daa_lines.specs.declared.lines.Stage.{Stage}

@@ -5,4 +5,4 @@ pub mod Stands
 pub mod Feeding
 pub mod Taking
 pub mod Ending
-pub mod Pushing
+pub mod Inside

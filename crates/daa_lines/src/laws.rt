@@ -30,7 +30,8 @@ pub fn lines_only_grow()
 /// Where the same bytes were fed, in whatever pieces, the same lines were taken, the one that
 /// stands counted.
 pub fn pieces_do_not_matter()
-    ensures { (bytes : Bytes) (taken taken' : List Bytes) (lines lines' : Cutting) → lines.ended ≡ lines'.ended
+    ensures { (bytes : Bytes) (taken taken' : List Bytes) (lines lines' : Cutting)
+        → lines.ended ≡ lines'.ended
         → Stands bytes taken lines → Stands bytes taken' lines'
         → taken ++ standing lines.stage lines.line ≡ taken' ++ standing lines'.stage lines'.line }
 {}

@@ -4,8 +4,9 @@
 
 mod laws;
 mod lines;
-#[cfg(test)]
-mod tests;
 
 pub use laws::{lines_only_grow, pieces_do_not_matter, stretches_are_the_bytes, worked_examples};
 pub use lines::{Line, Lines, Stage};
+
+#[cfg(test)]
+mod tests;

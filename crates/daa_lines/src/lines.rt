@@ -4,11 +4,12 @@
 
 ghost use Rattle.std.specs.Prelude.{◌≡◌, ◌<◌, ◌≤◌, ◌+◌, ◌^◌, ◌↔◌, ◌⊎◌, ◌++◌, [], ◌∷◌, List, ℕ, length, take, false, true, slice_get};
 ghost use Rattle.daa_lines.specs.LinesOf.{lines_of};
-ghost use Rattle.daa_lines.specs.Cutting.{is_standing, IsSized};
+ghost use Rattle.daa_lines.specs.Cutting.{is_standing};
+ghost use Rattle.daa_lines.specs.Inside.Cutting.{IsSized};
 ghost use Rattle.daa_lines.specs.Stands.{Stands, standing};
 ghost use Rattle.daa_lines.specs.Feeding.{bytes_taken};
 ghost use Rattle.daa_lines.specs.Ending.{after_end};
-ghost use Rattle.daa_lines.specs.Pushing.{after_byte, is_last};
+ghost use Rattle.daa_lines.specs.Inside.Pushing.{after_byte, is_last};
 
 use arrayvec::ArrayVec;
 use std::marker::Model;
@@ -52,13 +53,22 @@ pub struct Lines {
 
 impl Model for Lines {
     ghost use Rattle.std.specs.Prelude.{◌≤◌, ◌≡◌, ◌+◌, true, false};
-    ghost use Rattle.daa_lines.specs.Cutting.{Cutting, IsSized, held, owed, is_standing};
+    ghost use Rattle.daa_lines.specs.Cutting.{Cutting, held, is_standing};
+    ghost use Rattle.daa_lines.specs.Inside.Cutting.{IsSized, owed};
 
     ghost Value = { Cutting };
 
-    ghost view = { λ s. record { line = held s.stale s.line.items; stage = s.stage; ended = s.ended; fed = s.fed; number = s.number } };
+    ghost view = { λ s. record {
+      line = held s.stale s.line.items;
+      stage = s.stage;
+      ended = s.ended;
+      fed = s.fed;
+      number = s.number;
+    } };
 
-    ghost invariant = { λ s. IsSized s.stage (held s.stale s.line.items) × (is_standing s.stage ≡ true → s.stale ≡ false) × (s.number + owed s.stage (held s.stale s.line.items) ≤ s.fed) };
+    ghost invariant = { λ s. IsSized s.stage (held s.stale s.line.items)
+        × (is_standing s.stage ≡ true → s.stale ≡ false)
+        × (s.number + owed s.stage (held s.stale s.line.items) ≤ s.fed) };
 }
 
 impl Lines {
@@ -82,7 +92,7 @@ impl Lines {
     }
 
     /// Takes one byte, and answers whether no other may be taken for now.
-    #[tactic(auto, unfolding(crate::specs::Pushing::after_byte))]
+    #[tactic(auto, unfolding(crate::specs::Inside::Pushing::after_byte))]
     fn push(&mut self, byte: u8) -> bool
         requires free { is_standing self.old.stage ≡ false }
         requires going { self.old.ended ≡ false }
@@ -122,7 +132,7 @@ impl Lines {
     /// feed, but of a line no more than its first 256, and none while a line stands that is not
     /// taken yet. The rest of a long line is taken up to and with its line feed. `end` must not
     /// have been called, and fewer than 2^63 bytes be fed in all.
-    #[tactic(auto, unfolding(crate::specs::Pushing::after_byte))]
+    #[tactic(auto, unfolding(crate::specs::Inside::Pushing::after_byte))]
     pub fn feed(&mut self, piece: &[u8]) -> usize
         requires going { self.old.ended ≡ false }
         requires room { self.old.fed + length piece.now < 2 ^ 63 }

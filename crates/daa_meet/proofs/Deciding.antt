@@ -12,14 +12,14 @@ use Rattle.daa_fixed.specs.Time.{IsTime, HoldsSometime, HoldsNever}
 use Rattle.daa_fixed.proofs.PointSizes.{IsPointInRange}
 use Rattle.daa_quad.specs.declared.Quad.{Quad}
 use Rattle.daa_quad.specs.Quad.{IsLeast}
-use Rattle.daa_quad.specs.Slope.{slope_of}
+use Rattle.daa_quad.specs.Inside.Slope.{slope_of}
 use Rattle.daa_quad.proofs.Sizes.{IsQuadInRange}
 use Rattle.daa_quad.proofs.Parabolas.{start-least, end-least, vertex-least, vertex-between, vertex-bends, vertex-not_negative}
 use Rattle.daa_taumod.specs.declared.Model.{Model}
 use Rattle.daa_taumod.specs.declared.Model.TheVariants.{Taumod, Tcpa}
 use Rattle.daa_taumod.specs.declared.Volume.{Volume}
 use Rattle.daa_taumod.specs.Volume.{IsVolumeInRange, IsSoon, IsClosing, IsCoAltitudeSoon, ViolatesVertically, Violates}
-use Rattle.daa_vwindow.specs.Band.{IsInBand}
+use Rattle.daa_vwindow.specs.Inside.Band.{IsInBand}
 use Rattle.daa_vwindow.specs.Window.{IsWindow}
 use Rattle.daa_vwindow.proofs.Bands.{IsMax, IsMin, max_is, min_is, ends_are, window, never, level_window, level_never, abs_within, abs_beyond}
 use Rattle.daa_vwindow.proofs.Heights.{retarget, rising, falling, standing}

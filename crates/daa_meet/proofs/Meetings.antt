@@ -7,7 +7,7 @@ use Rattle.daa_taumod.specs.declared.Volume.{Volume}
 use Rattle.daa_taumod.specs.Volume.{IsVolumeInRange}
 use Rattle.daa_config.specs.declared.candidate.Candidate.{Candidate}
 use Rattle.daa_config.specs.Settings.{Settings, IsAccepted, IsCandidateInRange, rates_of}
-use Rattle.daa_config.proofs.Telling.{IsTold, by_test, as_told, some_told}
+use Rattle.daa_fixed.proofs.Telling.{IsTold, by_test, as_told, some_told}
 use Rattle.daa_state.specs.declared.word.Own.{Own}
 use Rattle.daa_state.specs.declared.word.Traffic.{Traffic}
 use Rattle.daa_state.specs.InRange.{IsOwnInRange, IsTrafficInRange}

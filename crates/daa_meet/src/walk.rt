@@ -53,7 +53,12 @@ fn flown_to(config: &Config, own: &Own, candidate: Candidate, legs: u32) -> Flig
     requires own { IsOwnInRange own.now }
     requires candidate { IsCandidateInRange candidate }
     requires legs { legs ≤ 180 }
-    ensures { result ≡ record { own = own.now; rates = rates_of config.now; candidate = candidate; taken = legs } }
+    ensures { result ≡ record {
+      own = own.now;
+      rates = rates_of config.now;
+      candidate = candidate;
+      taken = legs;
+    } }
 {
     let mut flight = Flight::begin(own, config, candidate);
     for _ in 0..legs {

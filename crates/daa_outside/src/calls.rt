@@ -14,6 +14,7 @@ pub(crate) struct Calls {
 }
 
 impl Calls {
+    /// No call was made yet. The calls of these numbers will fail.
     pub(crate) fn new(fails: Vec<u64>) -> Self
         ensures fails { result.fails ≡ fails }
         ensures made { result.made ≡ 0 }

@@ -18,8 +18,6 @@ mod sink;
 mod source;
 mod std_sink;
 mod std_source;
-#[cfg(test)]
-mod tests;
 mod void;
 
 pub use calm_shelf::CalmShelf;
@@ -37,3 +35,6 @@ pub use source::Source;
 pub use std_sink::StdSink;
 pub use std_source::StdSource;
 pub use void::Void;
+
+#[cfg(test)]
+mod tests;

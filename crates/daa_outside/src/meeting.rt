@@ -39,6 +39,7 @@ impl<C: Clock> Meeting<C> {
         self.is_full() && self.in_vain.load(SeqCst) == 0
     }
 
+    /// Whether as many workers as were wanted have come.
     fn is_full(&self) -> bool {
         self.came.load(SeqCst) >= self.wanted
     }

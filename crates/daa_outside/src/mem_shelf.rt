@@ -68,8 +68,10 @@ impl Shelf for MemShelf {
         ensures short { IfOk result (λ text. length text.items ≤ longest_text) }
 
         ensures too_long { result ≡ Err FetchFault.TooLong →
-            IsSomeAnd (text_under self.old.names self.old.texts name.now) (λ text. longest_text < length text) }
-        ensures long { IfSome (text_under self.old.names self.old.texts name.now) (λ text. longest_text < length text →
+            IsSomeAnd (text_under self.old.names self.old.texts name.now)
+            (λ text. longest_text < length text) }
+        ensures long { IfSome (text_under self.old.names self.old.texts name.now)
+            (λ text. longest_text < length text →
             (result ≡ Err FetchFault.TooLong) ⊎ (result ≡ Err FetchFault.Failed)) }
         ensures absent { IfNone (text_under self.old.names self.old.texts name.now)
             (result ≡ Err FetchFault.Failed) }
@@ -102,7 +104,8 @@ impl Shelf for MemShelf {
 
 /// The text at the first place of the name, where there is one.
 fn find_text<'a>(names: &[String], texts: &'a [Vec<u8>], name: &str) -> Option<&'a Vec<u8>>
-    ensures { let held = text_under (map string_bytes names.now) (map vec_items texts.now) name.now in
+    ensures { let held = text_under (map string_bytes names.now)
+        (map vec_items texts.now) name.now in
         MatchOption result (held ≡ None) (λ text. held ≡ Some text.now.items) }
 {
     match find_place(names, name) {
@@ -111,6 +114,7 @@ fn find_text<'a>(names: &[String], texts: &'a [Vec<u8>], name: &str) -> Option<&
     }
 }
 
+/// The first place at which a list has the name.
 fn find_place(names: &[String], name: &str) -> Option<usize>
     ensures { result ≡ position (λ held. bytes_eq (string_bytes held) name.now) names.now }
 {

@@ -42,7 +42,8 @@ pub trait Shelf {
 
         ensures too_long { result ≡ Err FetchFault.TooLong → IfSome (texts self.old) (λ held.
             IsSomeAnd (held name.now) (λ text. longest_text < length text)) }
-        ensures long { IfSome (texts self.old) (λ held. IfSome (held name.now) (λ text. longest_text < length text →
+        ensures long { IfSome (texts self.old)
+            (λ held. IfSome (held name.now) (λ text. longest_text < length text →
             (result ≡ Err FetchFault.TooLong) ⊎ (result ≡ Err FetchFault.Failed))) }
         ensures absent { IfSome (texts self.old)
             (λ held. IfNone (held name.now) (result ≡ Err FetchFault.Failed)) }

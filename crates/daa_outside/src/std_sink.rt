@@ -66,6 +66,7 @@ impl<W: Write> Sink for StdSink<W> {
     }
 }
 
+/// Writes a beginning of the piece and flushes it; says how many bytes were written.
 fn write_and_flush<W: Write>(writer: &mut W, piece: &[u8]) -> io::Result<usize>
     ensures within { IfOk result (λ n. n ≤ length piece.now) }
     ensures appended { IfOk result

@@ -19,9 +19,9 @@ use Rattle.daa_schedule.proofs.Steps.{steal_whole, steal_shaped, keep_whole, kee
 use Rattle.daa_range.proofs.Ranges.{times_in_inside}
 use Rattle.daa_pool.specs.declared.view.View.{View}
 use Rattle.daa_pool.specs.declared.pool.Size.{Size}
-use Rattle.daa_pool.specs.View.{looked, stolen, kept}
-use Rattle.daa_pool.specs.Rule.{Pools, word_at, Ruled, Holds}
-use Rattle.daa_pool.specs.Steps as play
+use Rattle.daa_pool.specs.Inside.View.{looked, stolen, kept}
+use Rattle.daa_pool.specs.Inside.Rule.{Pools, word_at, Ruled, Holds}
+use Rattle.daa_pool.specs.Inside.Steps as play
 use Rattle.daa_pool.specs.Seat.{IsFree}
 use Rattle.daa_pool.proofs.Views.{not_blank}
 use Rattle.daa_pool.proofs.History.{sees_nothing}

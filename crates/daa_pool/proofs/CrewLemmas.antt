@@ -7,7 +7,8 @@ use Rattle.std.proofs.lemmas.List.{take_at, get_or_default}
 use Rattle.daa_pool.specs.declared.seat.Seat.{Seat}
 use Rattle.daa_pool.specs.declared.pool.Pool.{Pool}
 use Rattle.daa_pool.specs.Seat.{view, workers_of, IsSeatOf, IsOpening, IsDone}
-use Rattle.daa_pool.specs.Pool.{AreOpening, AreAll, HaveAnswers, AllReady, AllWorked}
+use Rattle.daa_pool.specs.Pool.{AreOpening, AreAll, HaveAnswers}
+use Rattle.daa_pool.specs.Inside.Pool.{AllReady, AllWorked}
 
 -- seats that can be gathered, whose pool has these answers
 pub record AreGatherable (p : Pool) (answers : List ℕ) (seats : List Seat) : Type 0 where

@@ -8,10 +8,10 @@ use Rattle.daa_schedule.proofs.Runs.{same_at}
 use Rattle.daa_pool.specs.declared.view.View.{View}
 use Rattle.daa_pool.specs.declared.seat.Seat.{Seat}
 use Rattle.daa_pool.specs.declared.pool.Pool.{Pool}
-use Rattle.daa_pool.specs.View.{left_behind, next_seat}
+use Rattle.daa_pool.specs.Inside.View.{left_behind, next_seat}
 use Rattle.daa_pool.specs.Seat.{view, workers_of, IsSeatOf, IsOpening}
 use Rattle.daa_pool.specs.Pool.{AreOpening}
-use Rattle.daa_pool.specs.Dealing.{IsLast}
+use Rattle.daa_pool.specs.Inside.Dealing.{IsLast}
 
 -- one seat more is dealt
 pub dealt_more : (p : Pool) (seats : List Seat) (s : Seat) (count : ℕ) (answers : List ℕ) → AreOpening p seats count answers → IsSeatOf p s → IsOpening (view s) count (workers_of p) answers

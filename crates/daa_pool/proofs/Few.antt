@@ -8,7 +8,7 @@ use Rattle.std.proofs.lemmas.Bool.Decides.{nat_tests}
 use Rattle.daa_schedule.specs.CoreState.{times_on}
 use Rattle.daa_pool.specs.declared.view.View.{View}
 use Rattle.daa_pool.specs.View.{times}
-use Rattle.daa_pool.specs.Rule.{Pools, Ruled}
+use Rattle.daa_pool.specs.Inside.Rule.{Pools, Ruled}
 use Rattle.daa_pool.proofs.Lists.{found_at}
 use Rattle.daa_pool.proofs.Words.{times-cons}
 

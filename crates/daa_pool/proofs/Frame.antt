@@ -6,7 +6,8 @@ use native.Mathlib.Decide.{ℕ_discrete}
 use lib.ListN.{get_elem?}
 use Rattle.std.specs.List.{Contains}
 use Rattle.atomic_table.proofs.Lists.{at_set, set_here, set_else}
-use Rattle.daa_schedule.specs.CoreState.{CoreState, range_at, hand_at, has_ended, opened, times_on, IsShaped, IsWhole}
+use Rattle.daa_schedule.specs.CoreState.{CoreState, range_at, hand_at, has_ended, opened, times_on, IsWhole}
+use Rattle.daa_schedule.specs.Inside.CoreState.{IsShaped}
 use Rattle.daa_schedule.specs.Runs.{steps_of, IsHistory}
 use Rattle.daa_schedule.specs.declared.step.Step.{Step}
 use Rattle.daa_schedule.proofs.Histories.{steps_of-append}
@@ -14,10 +15,11 @@ use Rattle.std.proofs.lemmas.Bool.{true≢false}
 use Rattle.std.proofs.lemmas.List.{append-nil}
 use Rattle.daa_pool.specs.declared.view.View.{View}
 use Rattle.daa_pool.specs.declared.view.Part.{Part}
-use Rattle.daa_pool.specs.View.{times, part_of, HasNumber}
+use Rattle.daa_pool.specs.View.{times, part_of}
+use Rattle.daa_pool.specs.Inside.View.{HasNumber}
 use Rattle.daa_pool.specs.History.{IsPartOf}
 use Rattle.daa_pool.specs.Seat.{IsSamePlace}
-use Rattle.daa_pool.specs.Rule.{Pools, word_at, Shows, IsSeated, IsHeld, Ruled}
+use Rattle.daa_pool.specs.Inside.Rule.{Pools, word_at, Shows, IsSeated, IsHeld, Ruled}
 use Rattle.daa_pool.proofs.Lists.{found_at, total_set}
 use Rattle.daa_pool.proofs.History.{Sees, part_still, part_more}
 

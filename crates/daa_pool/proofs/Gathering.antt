@@ -10,7 +10,8 @@ use Rattle.daa_pool.specs.declared.view.View.{View}
 use Rattle.daa_pool.specs.declared.view.Part.{Part}
 use Rattle.daa_pool.specs.declared.seat.Seat.{Seat}
 use Rattle.daa_pool.specs.declared.pool.Pool.{Pool}
-use Rattle.daa_pool.specs.View.{part_of, HasPart, HasNumber, times, gathered}
+use Rattle.daa_pool.specs.View.{part_of, times}
+use Rattle.daa_pool.specs.Inside.View.{HasPart, HasNumber, gathered}
 use Rattle.daa_pool.specs.History.{IsPartOf, IsOneHistory}
 use Rattle.daa_pool.specs.Seat.{view, workers_of, units_of, IsDone}
 use Rattle.daa_pool.specs.Pool.{AreAll, HaveAnswers, HasPartOf}

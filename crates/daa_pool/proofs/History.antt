@@ -11,7 +11,8 @@ use Rattle.daa_schedule.proofs.Histories.{steps_of-append}
 use Rattle.daa_pool.specs.declared.view.View.{View}
 use Rattle.daa_pool.specs.declared.view.Look.{Look}
 use Rattle.daa_pool.specs.declared.view.Part.{Part}
-use Rattle.daa_pool.specs.View.{look, part_of}
+use Rattle.daa_pool.specs.View.{part_of}
+use Rattle.daa_pool.specs.Inside.View.{look}
 use Rattle.daa_pool.specs.History.{WasSo, IsPartOf}
 use Rattle.daa_pool.proofs.Lists.{Contains-nil}
 

@@ -23,9 +23,10 @@ use Rattle.daa_pool.proofs.Few.{few_settled}
 use Rattle.daa_pool.specs.declared.view.View.{View}
 use Rattle.daa_pool.specs.declared.view.Look.{Look}
 use Rattle.daa_pool.specs.declared.pool.Size.{Size}
-use Rattle.daa_pool.specs.View.{look, looked_home, claimed, settled, ended, times}
-use Rattle.daa_pool.specs.Rule.{Pools, word_at, Shows, IsSeated, Ruled, Holds}
-use Rattle.daa_pool.specs.Steps.{Sat, IsHome, looks_home, claims, settles, ends}
+use Rattle.daa_pool.specs.View.{settled, times}
+use Rattle.daa_pool.specs.Inside.View.{look, looked_home, claimed, ended}
+use Rattle.daa_pool.specs.Inside.Rule.{Pools, word_at, Shows, IsSeated, Ruled, Holds}
+use Rattle.daa_pool.specs.Inside.Steps.{Sat, IsHome, looks_home, claims, settles, ends}
 use Rattle.daa_pool.specs.Seat.{IsFree, HasPiece}
 use Rattle.daa_pool.proofs.Lists.{found_at}
 use Rattle.daa_pool.proofs.Views.{not_blank}

@@ -19,9 +19,10 @@ use Rattle.daa_schedule.proofs.Runs.{all_answered}
 use Rattle.daa_pool.specs.declared.view.View.{View}
 use Rattle.daa_pool.specs.declared.view.Part.{Part}
 use Rattle.daa_pool.specs.declared.pool.Size.{Size}
-use Rattle.daa_pool.specs.View.{part_of, HasPart, HasNumber, times, spent, gathered}
-use Rattle.daa_pool.specs.Rule.{Pools, word_at, IsSeated, IsHeld, Ruled, Holds}
-use Rattle.daa_pool.specs.Steps.{Sat, reads}
+use Rattle.daa_pool.specs.View.{part_of, times}
+use Rattle.daa_pool.specs.Inside.View.{HasPart, HasNumber, spent, gathered}
+use Rattle.daa_pool.specs.Inside.Rule.{Pools, word_at, IsSeated, IsHeld, Ruled, Holds}
+use Rattle.daa_pool.specs.Inside.Steps.{Sat, reads}
 use Rattle.daa_pool.specs.History.{IsPartOf, IsOneHistory}
 use Rattle.daa_pool.specs.Seat.{IsOver}
 use Rattle.daa_pool.proofs.Lists.{Contains-cons_cases, found_at, total_set, sum_alone}

@@ -13,10 +13,10 @@ use Rattle.daa_schedule.specs.declared.step.Step.{Step}
 use Rattle.daa_schedule.specs.declared.step.Step.TheVariants as by
 use Rattle.daa_pool.specs.declared.view.View.{View}
 use Rattle.daa_pool.specs.declared.view.Look.{Look}
-use Rattle.daa_pool.specs.View.{look, looked, looked_home, claimed, ended}
+use Rattle.daa_pool.specs.Inside.View.{look, looked, looked_home, claimed, ended}
 use Rattle.daa_pool.specs.Seat.{IsFree, HasPiece}
 use Rattle.daa_pool.specs.Claim.{IsLater, AreFresh, SawEmpty, IsBare, looks_at, IsBrief, GoesRound, IsTaking, EndsShort, GetsShorter, Claims, FindsNothing}
-use Rattle.daa_pool.specs.Tour.{IsSeeking, TakesFrom, Toured, AreElsewhere, SeeksWell, SeeksInVain}
+use Rattle.daa_pool.specs.Inside.Tour.{IsSeeking, TakesFrom, Toured, AreElsewhere, SeeksWell, SeeksInVain}
 use Rattle.daa_pool.proofs.Lists.{Contains-nil}
 use Rattle.daa_pool.proofs.Shorter.{IsAtMost, at_most_one, at_most_more, shorter_one, shorter_more, shorter_after, shorter_away, both_away}
 use Rattle.daa_pool.proofs.Rounds.{AtHome, turn_none, turn_one, turn_again, turn_more, home_one, home_more, round_up, round_both, round_home, round_after, round_before}

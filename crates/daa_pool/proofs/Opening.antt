@@ -15,9 +15,9 @@ use Rattle.daa_pool.proofs.Lists.{Contains-nil}
 use Rattle.daa_pool.proofs.History.{never_looked}
 use Rattle.daa_pool.proofs.Words.{packed_in_order, word_is}
 use Rattle.daa_pool.specs.declared.pool.Size.{Size}
-use Rattle.daa_pool.specs.View.{blank, opener}
-use Rattle.daa_pool.specs.Rule.{word_at, Shows, IsSeated, Ruled, Holds, opening_words}
-use Rattle.daa_pool.specs.Steps.{Sat, begins}
+use Rattle.daa_pool.specs.Inside.View.{blank, opener}
+use Rattle.daa_pool.specs.Inside.Rule.{word_at, Shows, IsSeated, Ruled, Holds, opening_words}
+use Rattle.daa_pool.specs.Inside.Steps.{Sat, begins}
 
 module _ (workers units : ℕ) (answers : List ℕ) (some_workers : 0 < workers) (long : length answers ≡ units) (small : units < 2 ^ 32) (real : AreAnswers answers) where
   abbrev c : CoreState

@@ -6,9 +6,9 @@ use Rattle.std.proofs.lemmas.List.Kept.{AllPairs-cons}
 use Rattle.std.proofs.lemmas.List.Elements.{Contains-get_or, Contains-append_left, Contains-append_right, Contains-append_cases, Contains-push, Contains-push_cases}
 use Rattle.daa_pool.specs.declared.view.View.{View}
 use Rattle.daa_pool.specs.declared.view.Look.{Look}
-use Rattle.daa_pool.specs.View.{look}
+use Rattle.daa_pool.specs.Inside.View.{look}
 use Rattle.daa_pool.specs.Claim.{way_to, GoesRound}
-use Rattle.daa_pool.specs.Tour.{InTurn}
+use Rattle.daa_pool.specs.Inside.Tour.{InTurn}
 use Rattle.daa_pool.proofs.Lists.{Contains-nil}
 
 pub pairs_append : {A : Type 0} (R : A → A → Type 0) (xs ys : List A) → AllPairs R xs → AllPairs R ys → ((x y : A) → Contains xs x → Contains ys y → R x y) → AllPairs R (xs ++ ys)

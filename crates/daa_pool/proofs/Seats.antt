@@ -14,8 +14,9 @@ use Rattle.daa_schedule.specs.CoreState.{range_at, hand_at, has_ended, opened}
 use Rattle.daa_schedule.specs.Runs.{steps_of}
 use Rattle.daa_pool.specs.declared.view.View.{View}
 use Rattle.daa_pool.specs.declared.pool.Size.{Size}
-use Rattle.daa_pool.specs.View.{left_behind, next_seat, times, HasNumber}
-use Rattle.daa_pool.specs.Rule.{Pools, IsSeated, IsHeld, Ruled, Holds}
+use Rattle.daa_pool.specs.View.{times}
+use Rattle.daa_pool.specs.Inside.View.{left_behind, next_seat, HasNumber}
+use Rattle.daa_pool.specs.Inside.Rule.{Pools, IsSeated, IsHeld, Ruled, Holds}
 use Rattle.daa_pool.proofs.Lists.{Contains-nil, at_end, found_at, total_set}
 use Rattle.daa_pool.proofs.Views.{not_blank}
 use Rattle.daa_pool.proofs.Frame.{seated_anew}

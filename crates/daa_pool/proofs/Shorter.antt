@@ -8,10 +8,10 @@ use Rattle.daa_range.specs.Word.{packed, unpacked, upto_part}
 use Rattle.daa_range.proofs.Words.{packed-unpacked, unpacked-in_order}
 use Rattle.daa_pool.specs.declared.view.View.{View}
 use Rattle.daa_pool.specs.declared.view.Look.{Look}
-use Rattle.daa_pool.specs.View.{look}
-use Rattle.daa_pool.specs.Steps.{IsHome}
+use Rattle.daa_pool.specs.Inside.View.{look}
+use Rattle.daa_pool.specs.Inside.Steps.{IsHome}
 use Rattle.daa_pool.specs.Claim.{GetsShorter}
-use Rattle.daa_pool.specs.Tour.{InTurn, AreElsewhere}
+use Rattle.daa_pool.specs.Inside.Tour.{InTurn, AreElsewhere}
 use Rattle.daa_pool.proofs.Lists.{Contains-nil}
 use Rattle.daa_pool.proofs.Rounds.{pairs_append}
 

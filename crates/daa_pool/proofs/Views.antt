@@ -4,8 +4,8 @@ use Rattle.std.proofs.lemmas.Bool.{true≢false}
 use mathlib.Core.Option.{some, some-injective, some-ne-none}
 use lib.ListN.{get_elem?}
 use Rattle.daa_pool.specs.declared.view.View.{View}
-use Rattle.daa_pool.specs.View.{blank}
-use Rattle.daa_pool.specs.Rule.{Pools, IsBlank}
+use Rattle.daa_pool.specs.Inside.View.{blank}
+use Rattle.daa_pool.specs.Inside.Rule.{Pools, IsBlank}
 
 -- before the first seat is told, there is no live view
 pub not_blank : (workers units : ℕ) (s : Pools) (id : ℕ) (v : View) → IsBlank workers units s → get_elem? s.views id ≡ some v → v.live ≡ true → ⊥

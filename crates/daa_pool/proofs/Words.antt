@@ -9,7 +9,7 @@ use Rattle.daa_range.specs.Word.{packed, unpacked, IsInOrder}
 use Rattle.daa_range.proofs.Words.{first_part-packed, upto_part-packed, unpacked-packed}
 use Rattle.daa_schedule.specs.CoreState.{CoreState, no_units, times_on}
 use Rattle.daa_pool.specs.View.{times}
-use Rattle.daa_pool.specs.Rule.{word_at, Shows}
+use Rattle.daa_pool.specs.Inside.Rule.{word_at, Shows}
 
 pub packed_in_order : (r : Span) → r.first ≤ r.upto → r.upto < 2 ^ 32 → IsInOrder (packed r)
 packed_in_order r le lt = let a = first_part-packed r lt in let b = upto_part-packed r lt in omega arith

@@ -1,11 +1,7 @@
 pub mod View
-pub mod Rule
-pub mod Steps
 pub mod Seat
 pub mod Claim
-pub mod Tour
 pub mod Work
 pub mod History
 pub mod Pool
-pub mod Dealing
-pub mod Numbers
+pub mod Inside

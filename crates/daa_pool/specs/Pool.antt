@@ -5,8 +5,7 @@ use Rattle.daa_pool.specs.declared.view.Part.{Part}
 use Rattle.daa_pool.specs.declared.seat.Seat.{Seat}
 use Rattle.daa_pool.specs.declared.pool.Pool.{Pool}
 use Rattle.daa_pool.specs.View.{part_of}
-use Rattle.daa_pool.specs.Seat.{view, workers_of, IsSeatOf, IsSamePlace, IsOpening, IsReady, IsDone}
-use Rattle.daa_pool.specs.Work.{SettlesMore, GivesUp}
+use Rattle.daa_pool.specs.Seat.{view, workers_of, IsSeatOf, IsOpening}
 
 -- the first `count` seats of a pool that has just been opened, numbered from 0
 pub record AreOpening (pool : Pool) (seats : List Seat) (count : ℕ) (answers : List ℕ) : Type 0 where
@@ -24,18 +23,3 @@ HaveAnswers answers seats = All (λ seat. (view seat).answers ≡ answers) seats
 -- the part is that of one of the seats
 abbrev pub HasPartOf : List Seat → Part → Type 0
 HasPartOf seats part = (seat : Seat) × Contains seats seat × (part_of (view seat) ≡ part)
-
--- the seat worked until a claim found nothing, and is over
-pub record IsWorked (pool : Pool) (before after : Seat) : Type 0 where
-  pub done : IsDone pool after
-  pub place : IsSamePlace (view before) (view after)
-  pub settles : SettlesMore (view before) (view after)
-  pub gives_up : GivesUp (view before) (view after)
-
--- all seats can work on these answers
-abbrev pub AllReady : Pool → List Seat → List ℕ → Type 0
-AllReady pool seats answers = All (λ seat. IsReady pool seat answers) seats
-
--- each seat worked until it was over
-abbrev pub AllWorked : Pool → List Seat → List Seat → Type 0
-AllWorked pool before after = (place : ℕ) (default : Seat) → place < length before → IsWorked pool (slice_index_or before place default) (slice_index_or after place default)

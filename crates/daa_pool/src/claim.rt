@@ -1,8 +1,9 @@
 //! Claiming a unit: from the own range, or from the upper half of another.
+
 ghost use Rattle.std.specs.Prelude.{◌≡◌, ◌≢◌, ℕ, ◌+◌, ◌<◌, ◌≤◌, IfSome, IfNone, MatchOption};
 ghost use Rattle.daa_pool.specs.Seat.{view, workers_of, IsSeatOf, IsFree};
 ghost use Rattle.daa_pool.specs.Claim.{Claims, FindsNothing};
-ghost use Rattle.daa_pool.specs.Tour.{IsSeeking, SeeksInVain, SeeksWell, TakesFrom, Toured};
+ghost use Rattle.daa_pool.specs.Inside.Tour.{IsSeeking, SeeksInVain, SeeksWell, TakesFrom, Toured};
 
 use crate::pool::Pool;
 use crate::seat::{Piece, Seat};

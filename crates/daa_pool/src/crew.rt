@@ -1,8 +1,9 @@
 //! All workers of a pool, each on a thread of its own, from its opening to the gathering.
+
 ghost use Rattle.std.specs.Prelude.{◌≡◌, ◌<◌, ◌≤◌, OnErr, OnOk, length};
 ghost use Rattle.std.specs.Thread.{IsSync};
 ghost use Rattle.daa_pool.specs.Seat.{IsReady};
-ghost use Rattle.daa_pool.specs.Pool.{AllReady, AllWorked, IsWorked};
+ghost use Rattle.daa_pool.specs.Inside.Pool.{AllReady, AllWorked, IsWorked};
 
 use crate::pool::Pool;
 use crate::seat::Seat;
@@ -36,7 +37,7 @@ pub fn answer_all<R: Threads + Sync, A: Answers + Sync, G: Gate>(
     Ok(())
 }
 
-// Each seat works on a thread of its own.
+/// Each seat works on a thread of its own.
 fn work_all<R: Threads + Sync, A: Answers + Sync, G: Gate>(
     rt: &R,
     pool: &Pool,

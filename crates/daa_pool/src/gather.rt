@@ -1,8 +1,10 @@
 //! Gathering the answers, once all seats are over.
+
 ghost use Rattle.std.specs.Prelude.{◌≡◌, ℕ, List, length};
 ghost use Rattle.std.specs.List.{All, sum_by};
 ghost use Rattle.daa_schedule.specs.CoreState.{once_below};
-ghost use Rattle.daa_pool.specs.View.{gathered, times};
+ghost use Rattle.daa_pool.specs.View.{times};
+ghost use Rattle.daa_pool.specs.Inside.View.{gathered};
 ghost use Rattle.daa_pool.specs.History.{IsOneHistory};
 ghost use Rattle.daa_pool.specs.Seat.{view, workers_of, units_of, IsDone};
 ghost use Rattle.daa_pool.specs.Pool.{AreAll, HaveAnswers, HasPartOf};
@@ -39,6 +41,7 @@ impl Pool {
         }
     }
 
+    /// Joins another worker's seat, which is over, to this one.
     fn join(&self, seat: &mut Seat, other: Seat)
         requires seat { IsDone self.now seat.old }
         requires other { IsDone self.now other }

@@ -1,9 +1,10 @@
 //! Opening a pool: its words, and a seat for each worker.
+
 ghost use Rattle.std.specs.Prelude.{◌≡◌, ◌<◌, ◌≤◌, ◌^◌, IfOk, [], true, length};
-ghost use Rattle.daa_pool.specs.View.{blank, opener, left_behind, next_seat};
+ghost use Rattle.daa_pool.specs.Inside.View.{blank, opener, left_behind, next_seat};
 ghost use Rattle.daa_pool.specs.Seat.{view, workers_of, units_of, IsSeatOf};
 ghost use Rattle.daa_pool.specs.Pool.{AreOpening};
-ghost use Rattle.daa_pool.specs.Dealing.{IsLast};
+ghost use Rattle.daa_pool.specs.Inside.Dealing.{IsLast};
 
 use crate::pool::{Pool, Size};
 use crate::rule::{Begin, PoolRule, SplitSeat, Telling};
@@ -83,7 +84,7 @@ impl Pool {
     }
 }
 
-// The first seat is told the answers and the number of workers.
+/// The first seat is told the answers and the number of workers.
 fn told<A: Answers>(
     shared: &Shared<(), View, Size, PoolRule>,
     seat: &mut atomic_table::Seat<(), View>,
@@ -101,7 +102,7 @@ fn told<A: Answers>(
     begin::<Brand, A>(shared, seat, answers, workers);
 }
 
-// The same, where `J` names what is told.
+/// The same, where `J` names what is told.
 fn begin<J: Telling, A: Answers>(
     shared: &Shared<(), View, Size, PoolRule>,
     seat: &mut atomic_table::Seat<(), View>,

@@ -1,4 +1,5 @@
 //! The pool.
+
 ghost use Rattle.std.specs.Prelude.{◌≡◌, ◌+◌, ◌<◌, ◌≤◌, ◌^◌};
 
 use crate::rule::PoolRule;

@@ -1,7 +1,8 @@
 //! The rule of the table, and what each kind of step tells.
+
 ghost use Rattle.std.specs.Prelude.{ℕ, List, []};
-ghost use Rattle.daa_pool.specs.View.{left_behind, next_seat, gathered, spent};
-ghost use Rattle.daa_pool.specs.Steps.{begins, looks_home, claims, looks_away, steals, keeps, settles, ends, reads};
+ghost use Rattle.daa_pool.specs.Inside.View.{left_behind, next_seat, gathered, spent};
+ghost use Rattle.daa_pool.specs.Inside.Steps.{begins, looks_home, claims, looks_away, steals, keeps, settles, ends, reads};
 
 use crate::pool::Size;
 use crate::view::View;
@@ -12,8 +13,8 @@ use std::marker::{Brand, PhantomData};
 pub(crate) struct PoolRule;
 
 impl TableRule<(), View, Size> for PoolRule {
-    ghost use Rattle.daa_pool.specs.Rule.{Holds};
-    ghost use Rattle.daa_pool.specs.View.{blank};
+    ghost use Rattle.daa_pool.specs.Inside.Rule.{Holds};
+    ghost use Rattle.daa_pool.specs.Inside.View.{blank};
 
     ghost holds = { Holds };
 

@@ -1,4 +1,5 @@
 //! A seat, and a piece of work.
+
 ghost use Rattle.std.specs.Prelude.{◌≡◌, true, []};
 
 use crate::view::View;

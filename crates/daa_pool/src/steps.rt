@@ -1,11 +1,13 @@
 //! The atomic steps, each on one word by one seat. Each that succeeds in changing a range or a
 //! unit's word, and the one that ends a worker, is one step of the core; the others change nothing.
+
 ghost use Rattle.std.specs.Prelude.{◌≡◌, ◌≢◌, ℕ, ◌<◌, ◌≤◌, ◌^◌, false, length, slice_index};
 ghost use Rattle.daa_range.specs.Range.{span_len};
 ghost use Rattle.daa_range.specs.Word.{packed, unpacked, IsInOrder};
 ghost use Rattle.daa_schedule.specs.CoreState.{once_below};
-ghost use Rattle.daa_pool.specs.View.{HasNumber, HasPart, looked, looked_home, claimed, stolen, kept, settled, ended, times};
-ghost use Rattle.daa_pool.specs.Steps.{IsHome};
+ghost use Rattle.daa_pool.specs.View.{settled, times};
+ghost use Rattle.daa_pool.specs.Inside.View.{HasNumber, HasPart, looked, looked_home, claimed, stolen, kept, ended};
+ghost use Rattle.daa_pool.specs.Inside.Steps.{IsHome};
 ghost use Rattle.daa_pool.specs.History.{IsOneHistory};
 ghost use Rattle.daa_pool.specs.Seat.{view, workers_of, IsSeatOf, IsFree, HasPiece, IsDone};
 
@@ -15,7 +17,7 @@ use crate::seat::Seat;
 use daa_range::{Range, pack};
 
 impl Pool {
-    // Looks at the own range.
+    /// Looks at the own range.
     pub(crate) fn look_home(&self, seat: &mut Seat) -> u64
         requires pool { IsSeatOf self.now seat.old }
         requires going { (view seat.old).over ≡ false }
@@ -28,8 +30,8 @@ impl Pool {
             .load::<LookHome>(&mut seat.seat, seat.number as usize)
     }
 
-    // Exchanges the own range, as it was last seen, for all but its first unit. It answers what it
-    // found, which is that range where the unit is claimed.
+    /// Exchanges the own range, as it was last seen, for all but its first unit. It answers what it
+    /// found, which is that range where the unit is claimed.
     pub(crate) fn try_claim(&self, seat: &mut Seat, own: Range) -> u64
         requires pool { IsSeatOf self.now seat.old }
         requires free { IsFree (view seat.old) }
@@ -48,7 +50,7 @@ impl Pool {
         )
     }
 
-    // Looks at another range.
+    /// Looks at another range.
     pub(crate) fn look_away(&self, seat: &mut Seat, other: u32) -> u64
         requires pool { IsSeatOf self.now seat.old }
         requires going { (view seat.old).over ≡ false }
@@ -62,8 +64,8 @@ impl Pool {
             .load::<LookAway>(&mut seat.seat, other as usize)
     }
 
-    // Exchanges another range, as it was last seen, for its lower half. It answers what it found,
-    // which is that range where the upper half is stolen.
+    /// Exchanges another range, as it was last seen, for its lower half. It answers what it found,
+    /// which is that range where the upper half is stolen.
     pub(crate) fn try_steal(&self, seat: &mut Seat, other: u32, range: Range) -> u64
         requires pool { IsSeatOf self.now seat.old }
         requires free { IsFree (view seat.old) × (span_len (view seat.old).bound ≡ 0) }
@@ -84,7 +86,7 @@ impl Pool {
         )
     }
 
-    // Stores all but the first unit of the hand into the own range, which is empty.
+    /// Stores all but the first unit of the hand into the own range, which is empty.
     pub(crate) fn keep(&self, seat: &mut Seat, hand: Range)
         requires pool { IsSeatOf self.now seat.old }
         requires hand { ((view seat.old).hand ≡ hand) × (2 ≤ span_len hand) × (hand.upto < 2 ^ 32) }
@@ -97,7 +99,7 @@ impl Pool {
             .store::<Keep>(&mut seat.seat, seat.number as usize, pack(hand.rest()))
     }
 
-    // Stores an answer into its unit's word, which is 0.
+    /// Stores an answer into its unit's word, which is 0.
     pub(crate) fn put(&self, seat: &mut Seat, unit: u32, word: u64)
         requires pool { IsSeatOf self.now seat.old }
         requires piece { HasPiece (view seat.old) unit }
@@ -112,7 +114,7 @@ impl Pool {
             .store::<Settle>(&mut seat.seat, place, word)
     }
 
-    // Looks at the own range, which is empty, and marks the seat over.
+    /// Looks at the own range, which is empty, and marks the seat over.
     pub(crate) fn end(&self, seat: &mut Seat) -> u64
         requires pool { IsSeatOf self.now seat.old }
         requires free { IsFree (view seat.old) × (span_len (view seat.old).bound ≡ 0) }
@@ -129,7 +131,7 @@ impl Pool {
         found
     }
 
-    // Reads a unit's word, once all workers have ended.
+    /// Reads a unit's word, once all workers have ended.
     pub(crate) fn read(&self, seat: &mut Seat, unit: usize) -> u64
         requires done { IsDone self.now seat.old }
         requires all { (number : ℕ) → number < workers_of self.now

@@ -1,8 +1,8 @@
 ghost use Rattle.std.specs.Prelude.{◌≡◌, ℕ, ◌<◌, ◌≤◌, IfOk, OnOk, length};
 ghost use Rattle.std.specs.Thread.{IsSync};
-ghost use Rattle.daa_pool.specs.Numbers.{numbers};
+ghost use Rattle.daa_pool.specs.Inside.Numbers.{numbers};
 ghost use Rattle.daa_pool.specs.Seat.{view, workers_of, units_of, IsSeatOf, IsSamePlace, IsFree, HasPiece, IsReady, IsDone};
-ghost use Rattle.daa_pool.specs.Pool.{AllReady, AllWorked, IsWorked};
+ghost use Rattle.daa_pool.specs.Inside.Pool.{AllReady, AllWorked, IsWorked};
 
 use crate::{Look, NoMemory, Part, Piece, Pool, Seat, View, answer_all, unit};
 use daa_outside::{Gate, Meeting, Open};
@@ -38,7 +38,7 @@ impl Numbers {
 }
 
 impl Answers for Numbers {
-    ghost use Rattle.daa_pool.specs.Numbers.{numbers, AreAnswers-numbers};
+    ghost use Rattle.daa_pool.specs.Inside.Numbers.{numbers, AreAnswers-numbers};
 
     ghost answers = { λ given. numbers given.units };
 
@@ -90,7 +90,7 @@ impl Watch {
 }
 
 impl Answers for Watch {
-    ghost use Rattle.daa_pool.specs.Numbers.{numbers, AreAnswers-numbers};
+    ghost use Rattle.daa_pool.specs.Inside.Numbers.{numbers, AreAnswers-numbers};
 
     ghost answers = { λ given. numbers 5 };
 

@@ -1,4 +1,5 @@
 //! What a seat knows of its pool. No value of these types is made: they exist in the proofs.
+
 use daa_range::Range;
 use daa_schedule::Step;
 use std::collections::LinkedList;

@@ -1,4 +1,5 @@
 //! Settling units, and working until nothing is left.
+
 ghost use Rattle.std.specs.Prelude.{◌≡◌, ◌≤◌, length, slice_index};
 ghost use Rattle.daa_pool.specs.View.{settled};
 ghost use Rattle.daa_pool.specs.Seat.{view, IsSeatOf, IsSamePlace, HasPiece, IsReady, IsDone};

@@ -10,6 +10,7 @@ use std::process::ExitCode;
 /// The status where there is no memory for the command words.
 const NO_MEMORY: u8 = 6;
 
+/// Hands the command words and the real objects to `run`, and ends with its status.
 fn main(rt: HostRuntime) -> ExitCode {
     let alloc = rt.alloc();
     let mut words = Vec::new(alloc);

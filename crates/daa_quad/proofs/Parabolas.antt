@@ -6,7 +6,7 @@ use Rattle.daa_fixed.proofs.Ring.{mul_nonneg, square_nonneg, ring, #, lit, ⊝, 
 use Rattle.daa_fixed.proofs.Integers.{by_sum, rest, mul_neg_neg, mul_pos, cancel_lt}
 use Rattle.daa_quad.specs.declared.Quad.{Quad}
 use Rattle.daa_quad.specs.Quad.{value_of, IsLeast, IsSignOf, IsAboveBetween}
-use Rattle.daa_quad.specs.Slope.{slope_of}
+use Rattle.daa_quad.specs.Inside.Slope.{slope_of}
 use Rattle.daa_quad.specs.declared.Sign.{Sign}
 use Rattle.daa_quad.specs.declared.Sign.TheVariants.{Below, Zero, Above}
 use Rattle.std.proofs.Math.IntN.{*ℤ_comm}

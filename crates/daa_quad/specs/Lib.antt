@@ -1,2 +1,2 @@
 pub mod Quad
-pub mod Slope
+pub mod Inside

@@ -3,7 +3,7 @@
 ghost use Rattle.std.specs.Prelude.{◌≡◌, ℤ, pos, neg_ℤ, ◌^◌, ◌*ℤ◌, ◌≤ℤ◌, MatchOption};
 ghost use Rattle.daa_fixed.specs.Point.{IsInOrder, IsBetween};
 ghost use Rattle.daa_quad.specs.Quad.{IsLeast, IsAboveBetween, IsDip, HasVertexInRange};
-ghost use Rattle.daa_quad.specs.Slope.{slope_of};
+ghost use Rattle.daa_quad.specs.Inside.Slope.{slope_of};
 
 use crate::{Quad, Sign, sign_at};
 use daa_fixed::Point;

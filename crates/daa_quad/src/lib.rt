@@ -27,8 +27,9 @@ pub enum Sign {
 
 mod least;
 mod signs;
-#[cfg(test)]
-mod tests;
 
 pub use least::{dips, least_point};
 pub use signs::sign_at;
+
+#[cfg(test)]
+mod tests;

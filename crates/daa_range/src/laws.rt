@@ -1,4 +1,5 @@
 //! What holds of all ranges and words.
+
 ghost use Rattle.std.specs.Prelude.{◌≡◌, ℕ, ◌+◌, ◌/◌, ◌^◌, ◌<◌, ◌≤◌};
 ghost use Rattle.daa_range.specs.Range.{Span, span, span_len, IsOrdered, times_in, times_below, lower_of, upper_of, first_unit_of, rest_of};
 ghost use Rattle.daa_range.specs.Word.{packed, first_part, upto_part, IsInOrder, unpacked};

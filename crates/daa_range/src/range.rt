@@ -1,4 +1,5 @@
 //! A range of units, and how it is cut.
+
 ghost use Rattle.std.specs.Prelude.{◌≡◌, ◌+◌, ◌-◌, ◌/◌, ◌<◌, ◌≤◌, ◌==◌};
 
 use std::marker::Model;
@@ -93,7 +94,7 @@ impl Range {
         }
     }
 
-    // Where the upper half begins.
+    /// Where the upper half begins.
     fn middle(self) -> u32
         ensures middle { result ≡ middle_of self }
         ensures within { (self.first ≤ result) × (result ≤ self.upto) }

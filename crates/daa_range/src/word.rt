@@ -1,4 +1,5 @@
 //! A range in one word: `first` in its upper 32 bits, `upto` in its lower 32.
+
 ghost use Rattle.std.specs.Prelude.{◌≡◌};
 ghost use Rattle.daa_range.specs.Word.{packed, unpacked};
 

@@ -8,7 +8,7 @@ use Rattle.daa_config.specs.declared.kind.Kind.{Kind}
 use Rattle.daa_config.specs.Candidates.{values_of, candidate_to}
 use Rattle.daa_recovery.specs.Prospect.{Prospect}
 use Rattle.daa_recovery.specs.Recovery.{Recovers, RecoversAt, IsLeast, IsFound}
-use Rattle.daa_recovery.specs.Search.{bound_of, IsFirst, IsFirstFound, IsFoundBelow, IsLeastAt, IsLeastTime}
+use Rattle.daa_recovery.specs.Inside.Search.{bound_of, IsFirst, IsFirstFound, IsFoundBelow, IsLeastAt, IsLeastTime}
 use Rattle.daa_recovery.specs.declared.recovery.Recovery.{Recovery}
 use Rattle.daa_recovery.proofs.Lasting.{lasts}
 

@@ -11,9 +11,9 @@ use Rattle.daa_config.specs.declared.candidate.Candidate.{Candidate}
 use Rattle.daa_config.specs.declared.kind.Kind.{Kind}
 use Rattle.daa_config.specs.declared.level.Level.{Level}
 use Rattle.daa_config.specs.Candidates.{grid_of, values_of, candidate_to}
-use Rattle.daa_config.specs.One.{HasOne}
+use Rattle.daa_fixed.specs.One.{HasOne}
 use Rattle.daa_config.specs.Settings.{Settings, IsAccepted, IsCandidateInRange, IsLevelAt}
-use Rattle.daa_config.proofs.Telling.{IsTold, by_test, as_told, some_told}
+use Rattle.daa_fixed.proofs.Telling.{IsTold, by_test, as_told, some_told}
 use Rattle.daa_config.proofs.RangeLemmas.{size_is}
 use Rattle.daa_config.proofs.GridLemmas.{value_there}
 use Rattle.daa_config.proofs.CandidateLemmas.{in_range-to}
@@ -25,9 +25,10 @@ use Rattle.daa_legs.specs.Runs.{MeetsBetween}
 use Rattle.daa_legs.proofs.AtLevel.{one_level}
 use Rattle.daa_meet.proofs.Trying.{le_is}
 use Rattle.daa_meet.proofs.Meetings.{within_told, between_told}
-use Rattle.daa_recovery.specs.Prospect.{Closes, IsHorizon, Prospect, IsProspect}
+use Rattle.daa_recovery.specs.Prospect.{Closes, IsHorizon, Prospect}
+use Rattle.daa_recovery.specs.Inside.Prospect.{IsProspect}
 use Rattle.daa_recovery.specs.Recovery.{IsClosedFrom, IsInCylinder, IsClear, Recovers, IsFound, IsRecovery}
-use Rattle.daa_recovery.specs.Search.{bound_of, IsFoundBelow, IsLeastTime}
+use Rattle.daa_recovery.specs.Inside.Search.{bound_of, IsFoundBelow, IsLeastTime}
 use Rattle.daa_recovery.specs.declared.recovery.Recovery.{Recovery}
 use Rattle.daa_recovery.proofs.Horizons.{IsHorizonUpTo, horizon_first, horizon_more, horizon_all, horizon_short, level_within}
 use Rattle.daa_recovery.proofs.Searching.{found_first, found_kept, found_sooner, found_all}

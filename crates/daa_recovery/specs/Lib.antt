@@ -1,3 +1,3 @@
 pub mod Prospect
 pub mod Recovery
-pub mod Search
+pub mod Inside

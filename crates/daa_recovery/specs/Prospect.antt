@@ -1,11 +1,9 @@
 -- A moment in which a recovery is looked for.
-use Rattle.std.specs.Prelude.{ℕ, ◌≡◌, ◌≤◌, pos, ◌≤ℤ◌, Some}
+use Rattle.std.specs.Prelude.{ℕ, ◌≡◌, ◌≤◌, pos, ◌≤ℤ◌}
 use Rattle.daa_taumod.specs.declared.Volume.{Volume}
-use Rattle.daa_taumod.specs.Volume.{IsVolumeInRange}
 use Rattle.daa_config.specs.declared.level.Level.{Level}
-use Rattle.daa_config.specs.Settings.{Settings, IsAccepted, IsLevelAt}
+use Rattle.daa_config.specs.Settings.{Settings, IsLevelAt}
 use Rattle.daa_state.specs.declared.word.Picture.{Picture}
-use Rattle.daa_state.specs.InRange.{IsPictureInRange}
 
 -- level l closes what violates it: it is one of the levels from `resolve` up
 pub record Closes (settings : Settings) (l : ℕ) (level : Level) : Type 0 where
@@ -26,10 +24,3 @@ pub record Prospect : Type 0 where
   pub picture : Picture
   pub cylinder : Volume
   pub horizon : ℕ
-
--- the configuration was accepted, the moment and the cylinder are in range, and the seconds are the greatest lookahead
-pub record IsProspect (p : Prospect) : Type 0 where
-  pub accepted : IsAccepted p.settings
-  pub picture : IsPictureInRange p.picture
-  pub cylinder : IsVolumeInRange p.cylinder
-  pub horizon : IsHorizon p.settings p.horizon

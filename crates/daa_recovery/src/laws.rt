@@ -8,7 +8,7 @@ ghost use Rattle.daa_taumod.specs.declared.Volume.{Volume};
 ghost use Rattle.daa_taumod.specs.Volume.{place_at, height_at, Violates};
 ghost use Rattle.daa_config.specs.declared.candidate.Candidate.{Candidate};
 ghost use Rattle.daa_config.specs.declared.kind.Kind.{Kind};
-ghost use Rattle.daa_config.specs.One.{HasOne};
+ghost use Rattle.daa_fixed.specs.One.{HasOne};
 ghost use Rattle.daa_config.specs.Settings.{Settings, IsAccepted};
 ghost use Rattle.daa_state.specs.declared.word.Picture.{Picture};
 ghost use Rattle.daa_state.specs.InRange.{IsPictureInRange};
@@ -17,7 +17,8 @@ ghost use Rattle.daa_recovery.specs.Recovery.{Recovers, IsRecovery};
 
 /// Under an accepted configuration that asks for it, a kind has exactly one recovery.
 pub fn has_one_recovery()
-    ensures { (s : Settings) (p : Picture) (kind : Kind) → IsAccepted s → IsPictureInRange p → s.recovery ≢ None
+    ensures { (s : Settings) (p : Picture) (kind : Kind) → IsAccepted s → IsPictureInRange p
+        → s.recovery ≢ None
         → HasOne (IsRecovery s p kind) }
 {}
 
@@ -31,7 +32,13 @@ pub fn recovering_lasts()
 /// or below.
 pub fn the_cylinder_is_what_is_near()
     ensures { (leg : Leg) (dthr zthr : ℕ) (n d : ℤ) → pos 1 ≤ℤ d
-        → Violates leg (record { dthr = dthr; zthr = zthr; tthr = 0; tcoa = 0; model = Model.Taumod }) n d
+        → Violates leg (record {
+          dthr = dthr;
+          zthr = zthr;
+          tthr = 0;
+          tcoa = 0;
+          model = Model.Taumod;
+        }) n d
         ↔ ((dot_of (place_at leg n d) (place_at leg n d) ≤ℤ square_of (pos dthr *ℤ d))
         × (pos (unsigned_abs (height_at leg n d)) ≤ℤ (pos zthr *ℤ d))) }
 {}

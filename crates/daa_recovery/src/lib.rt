@@ -6,8 +6,9 @@ mod course;
 mod laws;
 mod outlook;
 mod recovery;
-#[cfg(test)]
-mod tests;
 
 pub use laws::{has_one_recovery, recovering_lasts, the_cylinder_is_what_is_near};
 pub use recovery::{Recovery, least};
+
+#[cfg(test)]
+mod tests;

@@ -7,9 +7,10 @@ ghost use Rattle.daa_taumod.specs.Volume.{IsVolumeInRange};
 ghost use Rattle.daa_legs.specs.Runs.{MeetsBetween};
 ghost use Rattle.daa_state.specs.InRange.{IsPictureInRange, IsTrafficInRange};
 ghost use Rattle.daa_state.specs.Picture.{aircraft_of};
-ghost use Rattle.daa_recovery.specs.Prospect.{IsHorizon, IsProspect};
+ghost use Rattle.daa_recovery.specs.Prospect.{IsHorizon};
+ghost use Rattle.daa_recovery.specs.Inside.Prospect.{IsProspect};
 ghost use Rattle.daa_recovery.specs.Recovery.{IsClosedFrom, IsInCylinder, IsClear, Recovers, IsFound};
-ghost use Rattle.daa_recovery.specs.Search.{IsCourse, IsFoundBelow, bound_of, IsLeastTime};
+ghost use Rattle.daa_recovery.specs.Inside.Search.{IsCourse, IsFoundBelow, bound_of, IsLeastTime};
 
 use crate::course::Course;
 use crate::recovery::Recovery;
@@ -31,13 +32,24 @@ pub(crate) struct Outlook<'a> {
 }
 
 impl<'a> Model for Outlook<'a> {
-    ghost use Rattle.daa_recovery.specs.Prospect.{Prospect, IsProspect};
+    ghost use Rattle.daa_recovery.specs.Prospect.{Prospect};
+    ghost use Rattle.daa_recovery.specs.Inside.Prospect.{IsProspect};
 
     ghost Value = { Prospect };
 
-    ghost view = { λ o. record { settings = o.config.now; picture = o.picture.now; cylinder = o.cylinder.now; horizon = o.horizon } };
+    ghost view = { λ o. record {
+      settings = o.config.now;
+      picture = o.picture.now;
+      cylinder = o.cylinder.now;
+      horizon = o.horizon;
+    } };
 
-    ghost invariant = { λ o. IsProspect (record { settings = o.config.now; picture = o.picture.now; cylinder = o.cylinder.now; horizon = o.horizon }) };
+    ghost invariant = { λ o. IsProspect (record {
+      settings = o.config.now;
+      picture = o.picture.now;
+      cylinder = o.cylinder.now;
+      horizon = o.horizon;
+    }) };
 }
 
 impl<'a> Outlook<'a> {
@@ -45,7 +57,12 @@ impl<'a> Outlook<'a> {
     pub(crate) fn of(config: &'a Config, picture: &'a Picture, cylinder: &'a Volume) -> Outlook<'a>
         requires picture { IsPictureInRange picture.now }
         requires cylinder { config.now.recovery ≡ Some cylinder.now }
-        ensures parts { result ≡ record { settings = config.now; picture = picture.now; cylinder = cylinder.now; horizon = result.horizon } }
+        ensures parts { result ≡ record {
+          settings = config.now;
+          picture = picture.now;
+          cylinder = cylinder.now;
+          horizon = result.horizon;
+        } }
         ensures horizon { IsHorizon config.now result.horizon }
     {
         let horizon = horizon_of(config);

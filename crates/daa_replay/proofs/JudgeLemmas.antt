@@ -2,7 +2,7 @@
 use Rattle.std.proofs.Common.{◌≡◌, ◌≢◌, ◌∙◌, ◌||◌, ◌<◌, ◌≤◌, ◌+◌, ◌-◌, ℕ, Bool, true, false, List, [], ◌∷◌, ◌++◌, Some, Ok, Err, Result, refl, sym, ap, subst, arith, append_assoc, append-nil, length, take, drop}
 use Rattle.std.specs.Prelude.{IfErr, OnOk}
 use Rattle.daa_ahead.specs.Bytes.{StreamState}
-use Rattle.daa_config.specs.One.{HasOne}
+use Rattle.daa_fixed.specs.One.{HasOne}
 use Rattle.daa_config.specs.Settings.{Settings, IsAccepted}
 use Rattle.daa_judge.specs.Finding.{Finds}
 use Rattle.daa_judge.specs.Matched.{IsMatched, Compares}

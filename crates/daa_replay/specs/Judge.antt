@@ -2,7 +2,7 @@
 use Rattle.std.specs.Prelude.{ℕ, ◌≡◌, ◌≤◌, ◌⊎◌, true}
 use Rattle.daa_outside.specs.Faults.{HasRisen}
 use Rattle.daa_ahead.specs.Bytes.{StreamState}
-use Rattle.daa_config.specs.One.{HasOne}
+use Rattle.daa_fixed.specs.One.{HasOne}
 use Rattle.daa_config.specs.Settings.{Settings}
 use Rattle.daa_judge.specs.Finding.{Finds}
 use Rattle.daa_judge.specs.declared.found.Found.{Found}

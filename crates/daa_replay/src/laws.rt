@@ -1,7 +1,7 @@
 //! What holds of the events and the report of every input, and inputs whose events are known.
 
 ghost use Rattle.std.specs.Prelude.{◌≡◌, ◌++◌, ◌∷◌, [], All, Bool, List, codes, replicate, pos, true, false};
-ghost use Rattle.daa_config.specs.One.{HasOne};
+ghost use Rattle.daa_fixed.specs.One.{HasOne};
 ghost use Rattle.daa_config.specs.Settings.{IsAccepted, Settings};
 ghost use Rattle.daa_lines.specs.LinesOf.{Bytes};
 ghost use Rattle.daa_report.specs.Lines.{Text};

@@ -1,4 +1,5 @@
 //! A line in hand, of at most 64 bytes.
+
 ghost use Rattle.std.specs.Prelude.{◌≡◌, ◌≤◌, ◌+◌, ◌*◌, ◌++◌, length, codes, decimal};
 ghost use Rattle.std.specs.Fmt.{signed_decimal};
 ghost use Rattle.arrayvec.specs.ArrayVec.{array_vec_len};
@@ -10,7 +11,7 @@ use daa_config::Resolution;
 use itoa::Buffer;
 
 /// Adds bytes at the end.
-pub fn add_bytes(line: &mut ArrayVec<u8, 64>, bytes: &[u8])
+pub(crate) fn add_bytes(line: &mut ArrayVec<u8, 64>, bytes: &[u8])
     requires { array_vec_len line.old + length bytes.now ≤ 64 }
     ensures items { line.new.items ≡ line.old.items ++ bytes.now }
     ensures len { array_vec_len line.new ≡ array_vec_len line.old + length bytes.now }
@@ -19,7 +20,7 @@ pub fn add_bytes(line: &mut ArrayVec<u8, 64>, bytes: &[u8])
 }
 
 /// Adds a text at the end.
-pub fn add(line: &mut ArrayVec<u8, 64>, text: &str)
+pub(crate) fn add(line: &mut ArrayVec<u8, 64>, text: &str)
     requires { array_vec_len line.old + length text.now ≤ 64 }
     ensures items { line.new.items ≡ line.old.items ++ text.now }
     ensures len { array_vec_len line.new ≡ array_vec_len line.old + length text.now }
@@ -28,7 +29,7 @@ pub fn add(line: &mut ArrayVec<u8, 64>, text: &str)
 }
 
 /// Adds a number at the end, in decimal digits.
-pub fn add_number(line: &mut ArrayVec<u8, 64>, number: u64)
+pub(crate) fn add_number(line: &mut ArrayVec<u8, 64>, number: u64)
     requires { array_vec_len line.old + 20 ≤ 64 }
     ensures items { line.new.items ≡ line.old.items ++ decimal number }
     ensures len { array_vec_len line.new ≤ array_vec_len line.old + 20 }
@@ -38,7 +39,7 @@ pub fn add_number(line: &mut ArrayVec<u8, 64>, number: u64)
 }
 
 /// Adds a number at the end, in decimal digits, with a sign where it is negative.
-pub fn add_signed(line: &mut ArrayVec<u8, 64>, number: &i32)
+pub(crate) fn add_signed(line: &mut ArrayVec<u8, 64>, number: &i32)
     requires { array_vec_len line.old + 11 ≤ 64 }
     ensures items { line.new.items ≡ line.old.items ++ signed_decimal number.now }
     ensures len { array_vec_len line.new ≤ array_vec_len line.old + 11 }
@@ -48,7 +49,7 @@ pub fn add_signed(line: &mut ArrayVec<u8, 64>, number: &i32)
 }
 
 /// Adds the number of a leg, or a dash.
-pub fn add_first(line: &mut ArrayVec<u8, 64>, first: Option<u32>)
+pub(crate) fn add_first(line: &mut ArrayVec<u8, 64>, first: Option<u32>)
     requires { array_vec_len line.old + 20 ≤ 64 }
     ensures items { line.new.items ≡ line.old.items ++ first_text first }
     ensures len { array_vec_len line.new ≤ array_vec_len line.old + 20 }
@@ -60,7 +61,7 @@ pub fn add_first(line: &mut ArrayVec<u8, 64>, first: Option<u32>)
 }
 
 /// Adds what is answered on a side.
-pub fn add_answer(line: &mut ArrayVec<u8, 64>, answer: &Resolution)
+pub(crate) fn add_answer(line: &mut ArrayVec<u8, 64>, answer: &Resolution)
     requires { array_vec_len line.old + 11 ≤ 64 }
     ensures items { line.new.items ≡ line.old.items ++ answer_text answer.now }
     ensures len { array_vec_len line.new ≤ array_vec_len line.old + 11 }
@@ -73,7 +74,7 @@ pub fn add_answer(line: &mut ArrayVec<u8, 64>, answer: &Resolution)
 }
 
 /// Adds a blank and a text.
-pub fn add_field(line: &mut ArrayVec<u8, 64>, text: &str)
+pub(crate) fn add_field(line: &mut ArrayVec<u8, 64>, text: &str)
     requires { array_vec_len line.old + length text.now + 1 ≤ 64 }
     ensures items { line.new.items ≡ line.old.items ++ codes " " ++ text.now }
     ensures len { array_vec_len line.new ≡ array_vec_len line.old + length text.now + 1 }
@@ -83,7 +84,7 @@ pub fn add_field(line: &mut ArrayVec<u8, 64>, text: &str)
 }
 
 /// Adds a blank and a number with its sign.
-pub fn add_signed_field(line: &mut ArrayVec<u8, 64>, number: &i32)
+pub(crate) fn add_signed_field(line: &mut ArrayVec<u8, 64>, number: &i32)
     requires { array_vec_len line.old + 12 ≤ 64 }
     ensures items { line.new.items ≡ line.old.items ++ codes " " ++ signed_decimal number.now }
     ensures len { array_vec_len line.new ≤ array_vec_len line.old + 12 }
@@ -93,7 +94,7 @@ pub fn add_signed_field(line: &mut ArrayVec<u8, 64>, number: &i32)
 }
 
 /// Adds a blank and what is answered on a side.
-pub fn add_answer_field(line: &mut ArrayVec<u8, 64>, answer: &Resolution)
+pub(crate) fn add_answer_field(line: &mut ArrayVec<u8, 64>, answer: &Resolution)
     requires { array_vec_len line.old + 12 ≤ 64 }
     ensures items { line.new.items ≡ line.old.items ++ codes " " ++ answer_text answer.now }
     ensures len { array_vec_len line.new ≤ array_vec_len line.old + 12 }
@@ -103,7 +104,7 @@ pub fn add_answer_field(line: &mut ArrayVec<u8, 64>, answer: &Resolution)
 }
 
 /// Adds a blank and a number of at most ten digits.
-pub fn add_number_field(line: &mut ArrayVec<u8, 64>, number: u32)
+pub(crate) fn add_number_field(line: &mut ArrayVec<u8, 64>, number: u32)
     requires { array_vec_len line.old + 11 ≤ 64 }
     ensures items { line.new.items ≡ line.old.items ++ number_field number }
     ensures len { array_vec_len line.new ≤ array_vec_len line.old + 11 }
@@ -114,7 +115,7 @@ pub fn add_number_field(line: &mut ArrayVec<u8, 64>, number: u32)
 }
 
 /// Adds a blank and each of the numbers.
-pub fn add_number_fields(line: &mut ArrayVec<u8, 64>, numbers: &[u32])
+pub(crate) fn add_number_fields(line: &mut ArrayVec<u8, 64>, numbers: &[u32])
     requires { array_vec_len line.old + 11 * length numbers.now ≤ 64 }
     ensures items { line.new.items ≡ line.old.items ++ flat_map number_field numbers.now }
     ensures len { array_vec_len line.new ≤ array_vec_len line.old + 11 * length numbers.now }
@@ -125,7 +126,7 @@ pub fn add_number_fields(line: &mut ArrayVec<u8, 64>, numbers: &[u32])
 }
 
 /// Adds a number of seconds and a value, or that there are none.
-pub fn add_found(line: &mut ArrayVec<u8, 64>, found: &Option<(u32, i32)>)
+pub(crate) fn add_found(line: &mut ArrayVec<u8, 64>, found: &Option<(u32, i32)>)
     requires { array_vec_len line.old + 23 ≤ 64 }
     ensures items { line.new.items ≡ line.old.items ++ found_text found.now }
     ensures len { array_vec_len line.new ≤ array_vec_len line.old + 23 }

@@ -1,4 +1,5 @@
 //! What a kind and its two sides are called.
+
 ghost use Rattle.std.specs.Prelude.{◌≡◌, ◌≤◌, length};
 ghost use Rattle.daa_report.specs.Lines as lines;
 

@@ -1,4 +1,5 @@
 //! The lines of a report, as values.
+
 ghost use Rattle.std.specs.Prelude.{◌≡◌, ◌≤◌, ◌+◌, ◌*◌, length};
 ghost use Rattle.daa_report.specs.Lines.{alert_line, band_line, config_line, differs_line, done_line, moment_line, now_line, numbers_line, recover_line, refused_line, resolve_line, same_line};
 

@@ -1,4 +1,5 @@
 //! Writes pieces and lines to a sink.
+
 ghost use Rattle.std.specs.Prelude.{◌≤◌, ◌≡◌, length, drop};
 ghost use Rattle.daa_report.specs.Lines.{alert_line, band_line, config_line, differs_line, done_line, moment_line, now_line, recover_line, refused_line, resolve_line, same_line};
 ghost use Rattle.daa_report.specs.Says.{Says};
@@ -30,6 +31,7 @@ pub fn put<K: Sink>(sink: &mut K, piece: &[u8]) -> Result<(), SinkFault>
     Ok(())
 }
 
+/// The bytes from a place on.
 fn rest_from(bytes: &[u8], at: usize) -> &[u8]
     requires { at ≤ length bytes.now }
     ensures { result.now ≡ drop at bytes.now }

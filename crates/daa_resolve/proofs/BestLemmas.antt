@@ -11,7 +11,7 @@ use Rattle.daa_state.specs.declared.word.Own.{Own}
 use Rattle.daa_resolve.specs.declared.side.Side.{Side}
 use Rattle.daa_resolve.specs.Open.{IsOpen}
 use Rattle.daa_resolve.specs.Resolution.{IsOpenOnSide, IsNearest, IsResolution, distance_to}
-use Rattle.daa_resolve.specs.Best.{IsBest}
+use Rattle.daa_resolve.specs.Inside.Best.{IsBest}
 
 module _ (Covered : ℕ → ℕ → Type 0) (s : Settings) (own : Own) (kind : Kind) (side : Side) (n : ℕ) where
   abbrev Open : ℕ → ℤ → Type 0

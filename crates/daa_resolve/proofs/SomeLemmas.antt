@@ -10,12 +10,12 @@ use Rattle.daa_config.specs.declared.candidate.Resolution.TheVariants.{Keep, To,
 use Rattle.daa_config.specs.declared.kind.Kind.{Kind}
 use Rattle.daa_config.specs.declared.kind.Kind.TheVariants.{Track, Speed, Climb, Height}
 use Rattle.daa_config.proofs.GridLemmas.{get-values}
-use Rattle.daa_config.proofs.Telling.{IsTold, both_told, some_told}
+use Rattle.daa_fixed.proofs.Telling.{IsTold, both_told, some_told}
 use Rattle.daa_state.specs.declared.word.Own.{Own}
 use Rattle.daa_bands.specs.Board.{HasLevelOn}
-use Rattle.daa_resolve.specs.Best.{IsBest}
+use Rattle.daa_resolve.specs.Inside.Best.{IsBest}
 use Rattle.daa_resolve.specs.Open.{IsOpen}
-use Rattle.daa_config.specs.One.{HasOne}
+use Rattle.daa_fixed.specs.One.{HasOne}
 use Rattle.daa_resolve.specs.Resolution.{IsOpenOnSide, IsResolution, distance_to}
 use Rattle.daa_resolve.specs.Side.{present_of, distance_of, IsTurn, IsBeyond, IsOnSide}
 use Rattle.daa_resolve.specs.declared.side.Side.{Side}

@@ -1,4 +1,4 @@
 pub mod Side
 pub mod Open
 pub mod Resolution
-pub mod Best
+pub mod Inside

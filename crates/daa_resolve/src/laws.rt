@@ -1,4 +1,5 @@
 //! Laws of the definitions, each the contract of a function that does nothing.
+
 ghost use Rattle.std.specs.Prelude.{◌≡◌, Bool, List, ℕ, pos, IsTrue};
 ghost use Rattle.daa_config.specs.Settings.{Settings, IsAccepted};
 ghost use Rattle.daa_config.specs.declared.candidate.Resolution.{Resolution};
@@ -8,7 +9,7 @@ ghost use Rattle.daa_state.specs.declared.word.Own.{Own};
 ghost use Rattle.daa_bands.specs.Board.{HasLevelOn, IsBoardOf};
 ghost use Rattle.daa_resolve.specs.declared.side.Side.{Side};
 ghost use Rattle.daa_resolve.specs.declared.side.Side.TheVariants.{Lower, Upper};
-ghost use Rattle.daa_config.specs.One.{HasOne};
+ghost use Rattle.daa_fixed.specs.One.{HasOne};
 ghost use Rattle.daa_resolve.specs.Resolution.{IsResolution};
 ghost use Rattle.daa_resolve.specs.Side.{distance_of, IsOnSide};
 
@@ -22,7 +23,8 @@ pub fn has_one_answer()
 /// Where a board stands for what is covered, the answers over the board are those over what is
 /// covered.
 pub fn board_answers_for_what_is_covered()
-    ensures { (covered : ℕ → ℕ → Bool) (board : List ℕ) (s : Settings) (own : Own) (kind : Kind) (side : Side) (answer : Resolution)
+    ensures { (covered : ℕ → ℕ → Bool) (board : List ℕ) (s : Settings) (own : Own) (kind : Kind)
+        (side : Side) (answer : Resolution)
         → IsAccepted s → IsBoardOf (λ index l. IsTrue (covered index l)) s board
         → IsResolution (HasLevelOn board) s own kind side answer
         → IsResolution (λ index l. IsTrue (covered index l)) s own kind side answer }

@@ -1,4 +1,5 @@
 //! Which candidates are open.
+
 ghost use Rattle.std.specs.Prelude.{◌<◌, ◌↔◌, IsTrue};
 ghost use Rattle.daa_bands.specs.Board.{HasLevelOn, board_size};
 ghost use Rattle.daa_resolve.specs.Open.{IsOpen};

@@ -1,10 +1,11 @@
 //! The nearest open candidate on a side.
+
 ghost use Rattle.std.specs.Prelude.{◌≡◌, ◌<◌, ◌+◌, ◌↔◌, ℤ, Some, IsTrue, length, slice_get};
 ghost use Rattle.daa_config.specs.Candidates.{values_of};
 ghost use Rattle.daa_bands.specs.Board.{HasLevelOn};
 ghost use Rattle.daa_resolve.specs.Side.{present_of, distance_of};
 ghost use Rattle.daa_resolve.specs.Resolution.{IsResolution, IsOpenOnSide};
-ghost use Rattle.daa_resolve.specs.Best.{IsBest};
+ghost use Rattle.daa_resolve.specs.Inside.Best.{IsBest};
 
 use crate::open::is_open;
 use crate::side::{Side, distance, is_on_side, present};

@@ -1,3 +1,4 @@
+pub mod TrunksWords
 pub mod Masks
 pub mod Speeds
 pub mod Nearing

@@ -12,7 +12,7 @@ use Rattle.daa_config.specs.declared.kind.Kind.{Kind}
 use Rattle.daa_config.specs.declared.kind.Kind.TheVariants.{Track}
 use Rattle.daa_config.specs.declared.level.Level.{Level}
 use Rattle.daa_config.specs.Candidates.{values_of, candidates_of, candidate_to, start_of}
-use Rattle.daa_config.specs.Mask.{IsMaskOf}
+use Rattle.daa_fixed.specs.Mask.{IsMaskOf}
 use Rattle.daa_config.specs.Settings.{Settings, IsAccepted, IsCandidateInRange, IsLevelAt}
 use Rattle.daa_config.proofs.GridLemmas.{value_there}
 use Rattle.daa_config.proofs.CandidateLemmas.{candidate_at, hold_first, in_range-to}
@@ -20,8 +20,8 @@ use Rattle.daa_state.specs.declared.word.Own.{Own}
 use Rattle.daa_state.specs.declared.word.Traffic.{Traffic}
 use Rattle.daa_legs.specs.Meeting.{MeetsWithin, Meets}
 use Rattle.daa_legs.proofs.AtLevel.{meets_at}
-use Rattle.daa_scan.specs.Marking.{AreMarked, AreMasks}
-use Rattle.daa_scan.specs.Nesting.{LiesWithin}
+use Rattle.daa_scan.specs.Inside.Marking.{AreMarked, AreMasks}
+use Rattle.daa_scan.specs.Inside.Nesting.{LiesWithin}
 use Rattle.daa_scan.proofs.Masks.{mask_start, mask_set, mask_keep}
 use Rattle.daa_scan.proofs.Nested.{meets_outer}
 

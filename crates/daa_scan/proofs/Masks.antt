@@ -4,7 +4,7 @@ use Rattle.std.specs.Prelude.{bit_or}
 use Rattle.std.specs.Int.{bit_at}
 use Rattle.std.proofs.lemmas.Bool.{cases_eq, cases_lt}
 use Rattle.std.proofs.lemmas.Nat.Bits.{bit_at_or, bit_at-pow_same, bit_at-pow_other, bit_at-zero, bit_at-lt}
-use Rattle.daa_config.specs.Mask.{IsMaskOf}
+use Rattle.daa_fixed.specs.Mask.{IsMaskOf}
 
 set_same : (a l : ℕ) → bit_at (bit_or a (2 ^ l)) l ≡ 1
 set_same a l = omega (arith, bit_at_or a (2 ^ l) l, bit_at-pow_same l, bit_at-lt a l)

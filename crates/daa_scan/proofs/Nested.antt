@@ -17,7 +17,7 @@ use Rattle.daa_config.specs.Settings.{Settings}
 use Rattle.daa_state.specs.declared.word.Own.{Own}
 use Rattle.daa_state.specs.declared.word.Traffic.{Traffic}
 use Rattle.daa_legs.specs.Meeting.{MeetsWithin}
-use Rattle.daa_scan.specs.Nesting.{LiesWithin}
+use Rattle.daa_scan.specs.Inside.Nesting.{LiesWithin}
 
 -- ---- of numbers
 natural_le : (x y : ℕ) → x ≤ y → pos x ≤ℤ pos y

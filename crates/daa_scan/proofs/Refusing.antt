@@ -19,12 +19,13 @@ use Rattle.daa_state.specs.declared.word.Traffic.{Traffic}
 use Rattle.daa_legs.specs.Meeting.{ViolatesOn}
 use Rattle.daa_legs.specs.OwnLegs.{own_leg}
 use Rattle.daa_legs.specs.Relative.{relative_for}
-use Rattle.daa_legs.specs.Shared.{in_height, in_plane}
+use Rattle.daa_legs.proofs.SharedWords.{in_height}
+use Rattle.daa_legs.specs.Inside.Shared.{in_plane}
 use Rattle.daa_legs.proofs.AtLevel.{one_level}
 use Rattle.daa_legs.proofs.Shares.{KeepsHeights, KeepsWay, held_in_height, met_in_plane}
 use Rattle.daa_legs.proofs.Stretches.{out_second}
 use Rattle.daa_scan.specs.declared.refusal.Seconds.{Seconds}
-use Rattle.daa_scan.specs.Refusal.{IsSecondOf, AreSecondsInHeight, AreSecondsOf, AreSecondsAt}
+use Rattle.daa_scan.specs.Inside.Refusal.{IsSecondOf, AreSecondsInHeight, AreSecondsOf, AreSecondsAt}
 
 -- ---- the seconds of the vertical window
 -- the first second that ends at n/d or after it, and the last that begins at n/d or before it

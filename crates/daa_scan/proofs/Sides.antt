@@ -22,10 +22,12 @@ use Rattle.daa_legs.proofs.AtLevel.{one_level}
 use Rattle.daa_scan.specs.declared.refusal.Seconds.{Seconds}
 use Rattle.daa_scan.specs.declared.trail.Trail.{Trail}
 use Rattle.daa_scan.specs.declared.marking.Trails.{Trails}
-use Rattle.daa_scan.specs.Marking.{AreTrailsOf}
-use Rattle.daa_scan.specs.Refusal.{AreSecondsOf}
-use Rattle.daa_scan.specs.Sharing.{IsTrailOf}
-use Rattle.daa_scan.specs.Trunks.{place_of, trunk_in, AreLeads, AreLeadsBelow, IsAhead}
+use Rattle.daa_scan.specs.Inside.Marking.{AreTrailsOf}
+use Rattle.daa_scan.specs.Inside.Refusal.{AreSecondsOf}
+use Rattle.daa_scan.specs.Inside.Sharing.{IsTrailOf}
+use Rattle.daa_scan.specs.Trunks.{place_of, trunk_in, AreLeads}
+use Rattle.daa_scan.proofs.TrunksWords.{AreLeadsBelow}
+use Rattle.daa_scan.specs.Inside.Trunks.{IsAhead}
 use Rattle.daa_scan.proofs.Trails.{fewer_legs}
 
 pub ahead_more : (settings : Settings) (l most new : ℕ) (next : Level) → IsAhead settings l most → IsLevelAt settings (l + 1) next → next.lookahead ≤ new → most ≤ new → IsAhead settings (l + 1) new

@@ -11,7 +11,7 @@ use Rattle.daa_config.specs.Settings.{Settings, rates_of}
 use Rattle.daa_state.specs.declared.word.Own.{Own}
 use Rattle.daa_legs.specs.declared.branch.Branch.{Branch}
 use Rattle.daa_legs.specs.Table.{IsBranchOf, AreBranchesOf}
-use Rattle.daa_scan.specs.Trunks.{AreBranchesBelow}
+use Rattle.daa_scan.specs.Inside.Trunks.{AreBranchesBelow}
 
 pub next_length : (i : ℕ) (branches : List Branch) (branch : Branch) → length (set branches i branch) ≡ length branches
 next_length i branches branch = length-set branches i branch

@@ -27,7 +27,7 @@ use Rattle.daa_legs.specs.Meeting.{ViolatesOn, MeetsWithin}
 use Rattle.daa_legs.proofs.Branching.{place_alike, by_branch}
 use Rattle.daa_legs.proofs.Places.{place_on-below}
 use Rattle.daa_scan.specs.declared.trail.Trail.{Trail}
-use Rattle.daa_scan.specs.Sharing.{IsTrailOf}
+use Rattle.daa_scan.specs.Inside.Sharing.{IsTrailOf}
 
 -- the candidate leaves the trunk where the trunk is
 pub leaves_there : (own : Own) (rates : Rates) (candidate lead : Candidate) (n m : ℕ) (legs : List OwnLeg) (leg : OwnLeg) → FliesAs own rates candidate lead n → AreLegsOf own rates lead m legs → n < m

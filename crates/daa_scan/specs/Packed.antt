@@ -1,8 +1,7 @@
 -- The words of the units in a form that can be computed. They are told in the field's terms by the units' numbering; here each
 -- question is answered by trying.
-use Rattle.std.specs.Prelude.{◌≢◌, ℕ, zero, suc, ◌+◌, ◌*◌, ◌/◌, ◌%◌, pos, ◌+ℤ◌, ◌*ℤ◌, Bool, false, ◌&&◌, if◌then◌else◌, int_le, List, [], ◌∷◌, ◌++◌, length, slice_get, slice_index, Option, Some, None}
+use Rattle.std.specs.Prelude.{ℕ, zero, suc, ◌+◌, ◌*◌, ◌/◌, ◌%◌, pos, ◌+ℤ◌, ◌*ℤ◌, Bool, false, ◌&&◌, if◌then◌else◌, int_le, List, [], ◌∷◌, ◌++◌, length, slice_get, slice_index, Option, Some, None}
 use Rattle.std.specs.List.{list_any}
-use Rattle.std.proofs.Common.{arith}
 use Rattle.daa_config.specs.declared.candidate.Candidate.{Candidate}
 use Rattle.daa_config.specs.declared.level.Level.{Level}
 use Rattle.daa_config.specs.Candidates.{candidates_of}
@@ -14,7 +13,6 @@ use Rattle.daa_state.specs.Picture.{aircraft_of}
 use Rattle.daa_meet.specs.Trying.{is_met_within}
 use Rattle.daa_scan.specs.Reach.{size_of, place_now, horizontal_speed, vertical_speed}
 use Rattle.daa_scan.specs.Situation.{Situation}
-use Rattle.daa_schedule.specs.Answers.{AreAnswers}
 use Rattle.daa_scan.specs.Units.{group_count, index_in}
 
 -- ---- masks
@@ -89,20 +87,3 @@ values_from f i (suc n) = f i ∷ values_from f (suc i) n
 -- the words in order of units
 unfoldable pub words_of : Situation → List ℕ
 words_of s = values_from (word_of s) 0 (group_count s.settings * length (places_in_reach s))
-
--- no word is 0
-pub one_at_least : (n : ℕ) → at_least_one n ≢ 0
-one_at_least zero = λ e. cc e
-one_at_least (suc n) = λ e. cc e
-
--- no word from a unit on is 0
-pub values_real : (s : Situation) (i n : ℕ) → AreAnswers (values_from (word_of s) i n)
-unfolding values_from word_of
-values_real s i zero k d h = absurd (omega (arith, h))
-values_real s i (suc n) zero d h = one_at_least _
-values_real s i (suc n) (suc k) d h = values_real s (suc i) n k d (omega (arith, h))
-
--- no word is 0
-pub words_real : (s : Situation) → AreAnswers (words_of s)
-unfolding words_of
-words_real s = values_real s 0 (group_count s.settings * length (places_in_reach s))

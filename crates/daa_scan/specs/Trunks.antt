@@ -1,17 +1,15 @@
 -- The flights that lead on the two sides of each kind, and the branches of the candidates, kept.
-use Rattle.std.specs.Prelude.{◌≡◌, ℕ, ℤ, ◌<◌, ◌≤◌, Bool, true, false, List, [], length, Some, slice_get, slice_index_or}
-use Rattle.daa_config.specs.declared.candidate.Candidate.{Candidate}
+use Rattle.std.specs.Prelude.{ℕ, ℤ, Bool, true, false, List, [], slice_index_or}
 use Rattle.daa_config.specs.declared.kind.Kind.{Kind}
 use Rattle.daa_config.specs.declared.kind.Kind.TheVariants.{Track, Speed, Climb, Height}
 use Rattle.daa_config.specs.declared.level.Level.{Level}
-use Rattle.daa_config.specs.Candidates.{candidate_to, candidates_of}
+use Rattle.daa_config.specs.Candidates.{candidate_to}
 use Rattle.daa_config.specs.Settings.{Settings, IsLevelAt, rates_of}
 use Rattle.daa_state.specs.declared.word.Own.{Own}
 use Rattle.daa_legs.specs.declared.branch.Branch.{Branch}
 use Rattle.daa_legs.specs.declared.own_leg.OwnLeg.{OwnLeg}
 use Rattle.daa_legs.specs.Branch.{lead_of}
 use Rattle.daa_legs.specs.Kept.{AreLegsOf}
-use Rattle.daa_legs.specs.Table.{IsBranchOf, AreBranchesOf}
 
 -- the legs of the flights that lead, and the candidates' branches
 pub record Shared : Type 0 where
@@ -33,28 +31,7 @@ place_of Height false = 7
 abbrev pub trunk_in : List (List OwnLeg) → Kind → (upper : Bool) → List OwnLeg
 trunk_in trunks kind upper = slice_index_or trunks (place_of kind upper) []
 
--- none of the first n levels looks farther ahead
-abbrev pub IsAhead : Settings → (n most : ℕ) → Type 0
-IsAhead settings n most = (l : ℕ) (level : Level) → l ≤ n → IsLevelAt settings l level → level.lookahead ≤ most
-
 -- they are the flights that lead, as far as any level looks ahead
 abbrev pub AreLeads : Settings → Own → (trunks : List (List OwnLeg)) → Type 0
 AreLeads settings own trunks = (l : ℕ) (level : Level) → IsLevelAt settings l level → (kind : Kind) (upper : Bool) (z : ℤ)
     → AreLegsOf own (rates_of settings) (lead_of own (candidate_to kind z) upper) level.lookahead (trunk_in trunks kind upper)
-
--- the flights that lead and the candidates' branches
-pub record AreTrunksOf (settings : Settings) (own : Own) (shared : Shared) : Type 0 where
-  pub leads : AreLeads settings own shared.trunks
-  pub branches : AreBranchesOf settings own shared.branches
-
--- those of the first places lead, for so many seconds
-pub record AreLeadsBelow (settings : Settings) (own : Own) (place most : ℕ) (trunks : List (List OwnLeg)) : Type 0 where
-  pub room : length trunks ≡ 8
-  pub each : (kind : Kind) (upper : Bool) (z : ℤ) → place_of kind upper < place
-      → AreLegsOf own (rates_of settings) (lead_of own (candidate_to kind z) upper) most (trunk_in trunks kind upper)
-
--- the first candidates have their branches
-pub record AreBranchesBelow (settings : Settings) (own : Own) (upto : ℕ) (branches : List Branch) : Type 0 where
-  pub room : length (candidates_of settings) ≤ length branches
-  pub each : (i : ℕ) (candidate : Candidate) (d : Branch) → i < upto → slice_get (candidates_of settings) i ≡ Some candidate
-      → IsBranchOf own (rates_of settings) candidate (slice_index_or branches i d)

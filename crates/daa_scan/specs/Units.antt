@@ -1,7 +1,7 @@
 -- How the scan is divided into units: which aircraft and which candidates a unit is of, and what its word says.
 use Rattle.std.specs.Prelude.{◌≡◌, ℕ, ◌+◌, ◌-◌, ◌*◌, ◌/◌, ◌%◌, ◌^◌, ◌<◌, ◌↔◌, List, length, slice_index, Contains}
 use Rattle.daa_config.specs.Candidates.{candidates_of}
-use Rattle.daa_config.specs.Mask.{IsMaskOf}
+use Rattle.daa_fixed.specs.Mask.{IsMaskOf}
 use Rattle.daa_config.specs.Packing.{group_size, place_width, presence_in, mask_in}
 use Rattle.daa_config.specs.Settings.{Settings}
 use Rattle.daa_scan.specs.Reach.{IsInReachAt}

@@ -10,8 +10,6 @@ mod refusal;
 mod scene;
 mod sharing;
 mod table;
-#[cfg(test)]
-mod tests;
 mod trail;
 mod trunks;
 
@@ -19,3 +17,6 @@ pub use laws::worked_examples;
 pub use scene::Scene;
 pub use table::fill_branches;
 pub use trunks::{Trunks, fill_trunks};
+
+#[cfg(test)]
+mod tests;

@@ -8,7 +8,7 @@ ghost use Rattle.daa_fixed.specs.Leg.{IsLegInRange};
 ghost use Rattle.daa_fixed.specs.Time.{HoldsSometime};
 ghost use Rattle.daa_taumod.specs.Volume.{IsVolumeInRange, Violates};
 ghost use Rattle.daa_config.specs.Candidates.{candidate_to, candidates_of, start_of, values_of};
-ghost use Rattle.daa_config.specs.Mask.{IsMaskOf};
+ghost use Rattle.daa_fixed.specs.Mask.{IsMaskOf};
 ghost use Rattle.daa_config.specs.Settings.{IsCandidateInRange, IsLevelAt, IsLevelInRange, IsInBounds, value_bounds, rates_of};
 ghost use Rattle.daa_config.specs.declared.candidate.Candidate.{Candidate};
 ghost use Rattle.daa_state.specs.declared.word.Own.{Own};
@@ -18,10 +18,11 @@ ghost use Rattle.daa_legs.specs.Branch.{lead_of};
 ghost use Rattle.daa_legs.specs.Table.{IsBranchOf};
 ghost use Rattle.daa_legs.specs.Kept.{AreLegsOf};
 ghost use Rattle.daa_legs.specs.Meeting.{MeetsWithin, Meets};
-ghost use Rattle.daa_scan.specs.Refusal.{AreSecondsAt};
-ghost use Rattle.daa_scan.specs.Sharing.{IsTrailOf};
-ghost use Rattle.daa_scan.specs.Trunks.{AreTrunksOf, trunk_in};
-ghost use Rattle.daa_scan.specs.Marking.{AreTrailsOf, AreMarked, AreMasks};
+ghost use Rattle.daa_scan.specs.Inside.Refusal.{AreSecondsAt};
+ghost use Rattle.daa_scan.specs.Inside.Sharing.{IsTrailOf};
+ghost use Rattle.daa_scan.specs.Trunks.{trunk_in};
+ghost use Rattle.daa_scan.specs.Inside.Trunks.{AreTrunksOf};
+ghost use Rattle.daa_scan.specs.Inside.Marking.{AreTrailsOf, AreMarked, AreMasks};
 
 use crate::nesting::lies_within;
 use crate::refusal::{Seconds, present_leg, seconds_in_height, seconds_in_plane};
@@ -347,7 +348,8 @@ fn meets_shared(
     requires branch { IsBranchOf own.now (rates_of config.now) candidate branch.now }
     requires trails { AreTrailsOf config.now own.now aircraft.now level.now.volume kind trails.old }
     ensures met { IsTrue result
-        ↔ MeetsWithin config.now own.now candidate aircraft.now level.now.volume level.now.lookahead }
+        ↔ MeetsWithin config.now own.now candidate aircraft.now level.now.volume
+        level.now.lookahead }
     ensures trails { AreTrailsOf config.now own.now aircraft.now level.now.volume kind trails.new }
 {
     let lead = lead_to(own, kind, branch.upper);
@@ -400,7 +402,8 @@ fn meets_along(
     requires branch { IsBranchOf own.now (rates_of config.now) candidate branch.now }
     requires trail { IsTrailOf config.now own.now lead aircraft.now level.now.volume trail.old }
     ensures met { IsTrue result
-        ↔ MeetsWithin config.now own.now candidate aircraft.now level.now.volume level.now.lookahead }
+        ↔ MeetsWithin config.now own.now candidate aircraft.now level.now.volume
+        level.now.lookahead }
     ensures trail { IsTrailOf config.now own.now lead aircraft.now level.now.volume trail.new }
 {
     let upto = branch.leaves.min(level.lookahead);

@@ -2,7 +2,7 @@
 
 ghost use Rattle.std.specs.Prelude.{◌≡◌, ◌↔◌, IsTrue};
 ghost use Rattle.daa_taumod.specs.declared.Model.{Model};
-ghost use Rattle.daa_scan.specs.Nesting.{LiesWithin};
+ghost use Rattle.daa_scan.specs.Inside.Nesting.{LiesWithin};
 
 use daa_config::Level;
 use daa_taumod::Model;

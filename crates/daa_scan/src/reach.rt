@@ -64,6 +64,7 @@ fn greatest_vertical_speed(config: &Config, own: &Own, aircraft: &Traffic) -> i6
     first.max(second) + size(aircraft.vs)
 }
 
+/// The number without its sign.
 fn size(x: i32) -> i64
     ensures { result ≡ size_of x }
 {

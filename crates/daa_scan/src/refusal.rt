@@ -14,8 +14,8 @@ ghost use Rattle.daa_state.specs.InRange.{IsOwnInRange, IsTrafficInRange};
 ghost use Rattle.daa_legs.specs.Meeting.{MeetsWithin};
 ghost use Rattle.daa_legs.specs.OwnLegs.{own_leg};
 ghost use Rattle.daa_legs.specs.Relative.{relative_for};
-ghost use Rattle.daa_legs.specs.Shared.{in_plane};
-ghost use Rattle.daa_scan.specs.Refusal.{AreSecondsInHeight};
+ghost use Rattle.daa_legs.specs.Inside.Shared.{in_plane};
+ghost use Rattle.daa_scan.specs.Inside.Refusal.{AreSecondsInHeight};
 
 use daa_config::{Candidate, Config};
 use daa_detect::is_hit;

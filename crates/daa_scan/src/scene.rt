@@ -2,7 +2,7 @@
 
 ghost use Rattle.std.specs.Prelude.{◌≡◌, ◌<◌, ◌≤◌, ◌↔◌, ◌+◌, ◌^◌, ℕ, IsTrue, length, replicate, slice_get, slice_index, Some};
 ghost use Rattle.daa_config.specs.Candidates.{candidates_of};
-ghost use Rattle.daa_config.specs.Mask.{IsMaskOf};
+ghost use Rattle.daa_fixed.specs.Mask.{IsMaskOf};
 ghost use Rattle.daa_config.specs.Settings.{IsAccepted};
 ghost use Rattle.daa_state.specs.InRange.{IsPictureInRange};
 ghost use Rattle.daa_state.specs.Picture.{aircraft_of};
@@ -40,13 +40,16 @@ pub struct Scene<'a> {
 
 impl<'a> Model for Scene<'a> {
     ghost use Rattle.daa_scan.specs.Situation.{Situation};
-    ghost use Rattle.daa_scan.specs.Scene.{IsScene};
+    ghost use Rattle.daa_scan.specs.Inside.Scene.{IsScene};
 
     ghost Value = { Situation };
 
     ghost view = { λ s. record { settings = s.config.now; picture = s.picture.now } };
 
-    ghost invariant = { λ s. IsScene (record { settings = s.config.now; picture = s.picture.now }) s.groups s.places.items s.trunks };
+    ghost invariant = { λ s. IsScene (record {
+      settings = s.config.now;
+      picture = s.picture.now;
+    }) s.groups s.places.items s.trunks };
 }
 
 impl<'a> Scene<'a> {
@@ -96,7 +99,8 @@ impl<'a> Scene<'a> {
         requires aircraft { aircraft < length (aircraft_of self.now.picture) }
         requires short { first + length masks.old < 2 ^ 32 }
         requires clear { masks.old ≡ replicate (length masks.old) 0 }
-        ensures masks { (j : ℕ) → j < length masks.new → first + j < length (candidates_of self.now.settings)
+        ensures masks { (j : ℕ) → j < length masks.new
+            → first + j < length (candidates_of self.now.settings)
             → IsMaskOf (MeetsAt self.now (first + j) aircraft) (length self.now.settings.levels)
             (slice_index masks.new j) }
         ensures length { length masks.new ≡ length masks.old }
@@ -197,7 +201,8 @@ impl<'a> Scene<'a> {
 impl<'a> Answers for Scene<'a> {
     ghost use Rattle.daa_scan.specs.Reach.{NoneIsMetOutOfReach};
     ghost use Rattle.daa_scan.specs.Units.{most_units, AreWordsOf, IsWordOfUnit};
-    ghost use Rattle.daa_scan.specs.Packed.{words_of, words_real};
+    ghost use Rattle.daa_scan.specs.Packed.{words_of};
+    ghost use Rattle.daa_scan.specs.Inside.Packed.{words_real};
 
     ghost answers = { words_of };
 

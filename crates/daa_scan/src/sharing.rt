@@ -12,7 +12,7 @@ ghost use Rattle.daa_legs.specs.Kept.{AreLegsOf};
 ghost use Rattle.daa_legs.specs.Meeting.{MeetsWithin, ViolatesOn};
 ghost use Rattle.daa_legs.specs.OwnLegs.{place_on};
 ghost use Rattle.daa_legs.specs.Runs.{MeetsBetween};
-ghost use Rattle.daa_scan.specs.Sharing.{IsTrailOf};
+ghost use Rattle.daa_scan.specs.Inside.Sharing.{IsTrailOf};
 
 use crate::trail::Trail;
 use daa_config::{Candidate, Config, Level};
@@ -104,7 +104,8 @@ fn meets_after(
     requires leads { lead ≡ lead_of own.now candidate branch.now.upper }
     requires branch { IsBranchOf own.now (rates_of config.now) candidate branch.now }
     ensures { IsTrue result
-        ↔ MeetsBetween config.now own.now candidate aircraft.now level.now.volume branch.now.leaves level.now.lookahead }
+        ↔ MeetsBetween config.now own.now candidate aircraft.now level.now.volume branch.now.leaves
+        level.now.lookahead }
 {
     let k = branch.leaves;
     let place = &trunk.leg(k).place;
@@ -131,11 +132,13 @@ fn meets_from_own_leg(
     requires aircraft { IsTrafficInRange aircraft.now }
     requires level { IsLevelInRange level.now }
     requires leaves { branch.now.leaves < level.now.lookahead }
-    requires place { place.now ≡ place_on own.now (rates_of config.now) candidate branch.now.leaves }
+    requires place { place.now ≡ place_on own.now (rates_of config.now) candidate
+        branch.now.leaves }
     requires branch { IsBranchOf own.now (rates_of config.now) candidate branch.now }
     requires later { branch.now.leaves < branch.now.settles }
     ensures { IsTrue result
-        ↔ MeetsBetween config.now own.now candidate aircraft.now level.now.volume branch.now.leaves level.now.lookahead }
+        ↔ MeetsBetween config.now own.now candidate aircraft.now level.now.volume branch.now.leaves
+        level.now.lookahead }
 {
     // tells that they are in range
     let _rates = config.rates();
@@ -191,7 +194,8 @@ fn meets_on_rest(
     requires place { place.now ≡ place_on own.now (rates_of config.now) candidate k }
     requires on { FliesOn own.now (rates_of config.now) candidate k }
     ensures { IsTrue result
-        ↔ MeetsBetween config.now own.now candidate aircraft.now level.now.volume k level.now.lookahead }
+        ↔ MeetsBetween config.now own.now candidate aircraft.now level.now.volume k
+        level.now.lookahead }
 {
     if k >= level.lookahead {
         return false;
@@ -229,7 +233,8 @@ pub(crate) fn meets_by_branch(
     requires walked { trail.now.hit ≡ false → (branch.now.leaves ≤ trail.now.walked)
         ⊎ (level.now.lookahead ≤ trail.now.walked) }
     ensures { IsTrue result
-        ↔ MeetsWithin config.now own.now candidate aircraft.now level.now.volume level.now.lookahead }
+        ↔ MeetsWithin config.now own.now candidate aircraft.now level.now.volume
+        level.now.lookahead }
 {
     if trail.hit && trail.walked < branch.leaves && trail.walked < level.lookahead {
         return true;

@@ -5,7 +5,7 @@ ghost use Rattle.daa_config.specs.Candidates.{candidate_to, candidates_of, start
 ghost use Rattle.daa_config.specs.Settings.{IsCandidateInRange};
 ghost use Rattle.daa_state.specs.InRange.{IsOwnInRange};
 ghost use Rattle.daa_legs.specs.Table.{AreBranchesOf};
-ghost use Rattle.daa_scan.specs.Trunks.{AreBranchesBelow};
+ghost use Rattle.daa_scan.specs.Inside.Trunks.{AreBranchesBelow};
 
 use daa_config::{Candidate, Config, Kind};
 use daa_legs::{Branch, branch_of};

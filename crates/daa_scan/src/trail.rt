@@ -1,7 +1,7 @@
 //! How far a leading flight was walked.
 
-/// The legs before `walked` violate nothing, and where there is a hit leg `walked` does. No leg from
-/// `end` on does.
+/// The legs before `walked` violate nothing, and where there is a hit leg `walked` does. No leg
+/// from `end` on does.
 #[derive(Clone, Copy, Debug)]
 pub(crate) struct Trail {
     pub(crate) walked: u32,

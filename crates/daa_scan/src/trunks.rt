@@ -11,7 +11,8 @@ ghost use Rattle.daa_legs.specs.Branch.{lead_of};
 ghost use Rattle.daa_legs.specs.Kept.{AreLegsOf};
 ghost use Rattle.daa_legs.specs.declared.branch.Branch.{Branch};
 ghost use Rattle.daa_legs.specs.declared.own_leg.OwnLeg.{OwnLeg};
-ghost use Rattle.daa_scan.specs.Trunks.{place_of, trunk_in, AreLeads, IsAhead};
+ghost use Rattle.daa_scan.specs.Trunks.{place_of, trunk_in, AreLeads};
+ghost use Rattle.daa_scan.specs.Inside.Trunks.{IsAhead};
 
 use daa_config::{Candidate, Config, Kind};
 use daa_legs::{Branch, Trunk};

@@ -7,7 +7,8 @@ use Rattle.std.proofs.lemmas.List.Folds.{sum_by-replicate}
 use Rattle.std.proofs.lemmas.Bool.Decides.{nat_tests}
 use Rattle.daa_range.specs.Range.{Span, span, span_len, times_in}
 use Rattle.daa_schedule.specs.Answers.{AreAnswers}
-use Rattle.daa_schedule.specs.CoreState.{CoreState, no_units, range_at, hand_at, has_ended, opened, times_on, times_held, once_below, IsSoundWorker, IsShaped, IsWhole, hand_left, left_of}
+use Rattle.daa_schedule.specs.CoreState.{CoreState, no_units, range_at, hand_at, has_ended, opened, times_on, times_held, once_below, IsSoundWorker, IsWhole, hand_left, left_of}
+use Rattle.daa_schedule.specs.Inside.CoreState.{IsShaped}
 use Rattle.daa_schedule.specs.Step.{fault_of, moved, stepped, unless}
 use Rattle.daa_schedule.specs.Runs.{run, is_end, counts, accepted, AllEnded}
 use Rattle.daa_schedule.specs.declared.step.Step.{Step}

@@ -7,7 +7,8 @@ use Rattle.std.proofs.lemmas.List.Sums.{sum_by-set, get_or-le-sum_by}
 use Rattle.std.proofs.lemmas.Bool.Decides.{nat_tests}
 use Rattle.daa_range.specs.Range.{Span, span_len, times_in, middle_of, lower_of, upper_of, first_unit_of, rest_of}
 use Rattle.daa_range.proofs.Ranges.{times_in_cut, times_in_none, times_in_first, times_in_inside}
-use Rattle.daa_schedule.specs.CoreState.{CoreState, no_units, range_at, hand_at, has_ended, times_on, times_held, once_below, IsSoundWorker, IsShaped, IsWhole, hand_left, left_of}
+use Rattle.daa_schedule.specs.CoreState.{CoreState, no_units, range_at, hand_at, has_ended, times_on, times_held, once_below, IsSoundWorker, IsWhole, hand_left, left_of}
+use Rattle.daa_schedule.specs.Inside.CoreState.{IsShaped}
 use Rattle.daa_schedule.specs.Step.{moved}
 use Rattle.daa_schedule.specs.declared.step.Step.TheVariants.{Claim, Steal, Keep, Settle, End}
 use Rattle.daa_schedule.proofs.Workers.{both_set, one_set}

@@ -1,6 +1,6 @@
 -- The fields of a core, as plain data.
 use Rattle.daa_schedule.specs.declared.core_state.Core.TheInside.{Inside}
-use Rattle.daa_schedule.specs.CoreState.{CoreState, IsShaped, IsWhole}
+use Rattle.daa_schedule.specs.CoreState.{CoreState}
 
 -- the fields of a core, as lists
 abbrev pub state_of : Inside → CoreState
@@ -11,7 +11,3 @@ state_of core = record {
   ended = core.ended.items;
   board = core.board.items;
 }
-
--- what holds of every core
-abbrev pub IsGood : Inside → Type 0
-IsGood core = IsShaped (state_of core) × IsWhole (state_of core)

@@ -2,7 +2,6 @@
 use Rattle.std.specs.Prelude.{◌≡◌, ◌≢◌, ℕ, ◌+◌, ◌-◌, ◌*◌, ◌<◌, Bool, true, false, ◌==◌, nat_lt, List, ◌∷◌, length, slice_index, slice_index_or, replicate, if◌then◌else◌}
 use Rattle.std.specs.List.{sum_by}
 use Rattle.daa_range.specs.Range.{Span, span, span_len, IsOrdered, times_in}
-use Rattle.daa_schedule.specs.Answers.{AreAnswers}
 
 -- for each worker a range, a hand, which is a range too, and whether it has ended; for each unit its answer, and the word on the board, 0 where none stands
 pub record CoreState : Type 0 where
@@ -49,13 +48,6 @@ opened answers workers = record {
   ended = replicate workers false;
   board = replicate (length answers) 0;
 }
-
--- the lists have an entry for each worker and for each unit
-pub record IsShaped (core : CoreState) : Type 0 where
-  pub hands : length core.hands ≡ worker_count core
-  pub ended : length core.ended ≡ worker_count core
-  pub board : length core.board ≡ unit_count core
-  pub answers : AreAnswers core.answers
 
 -- how often the unit stands on the board: once or not at all
 abbrev pub times_on : ℕ → List ℕ → ℕ

@@ -4,3 +4,4 @@ pub mod Core
 pub mod Step
 pub mod Runs
 pub mod Example
+pub mod Inside

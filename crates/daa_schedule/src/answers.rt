@@ -1,4 +1,5 @@
 //! What the workers find out.
+
 ghost use Rattle.std.specs.Prelude.{◌≡◌, ℕ, ◌<◌, List, length, slice_index};
 ghost use Rattle.daa_schedule.specs.Answers.{AreAnswers};
 

@@ -1,4 +1,5 @@
 //! One step of the core, or its refusal.
+
 ghost use Rattle.std.specs.Prelude.{◌≡◌, OnErr};
 ghost use Rattle.daa_schedule.specs.CoreState.{worker_count, unit_count};
 ghost use Rattle.daa_schedule.specs.Step.{fault_of, stepped, verdict};

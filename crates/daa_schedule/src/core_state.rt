@@ -1,5 +1,6 @@
 //! The core: for each worker a range, a hand and whether it has ended, and for each unit the word
 //! on the board.
+
 ghost use Rattle.std.specs.Prelude.{◌≡◌, ℕ, ◌+◌, ◌<◌, ◌≤◌, ◌^◌, IfOk, None, length, slice_index};
 ghost use Rattle.daa_range.specs.Range.{span_len};
 ghost use Rattle.daa_schedule.specs.Answers.{AreAnswers};
@@ -26,7 +27,8 @@ impl Model for Core {
 
     ghost Value = { CoreState };
 
-    ghost use Rattle.daa_schedule.specs.Core.{state_of, IsGood};
+    ghost use Rattle.daa_schedule.specs.Core.{state_of};
+    ghost use Rattle.daa_schedule.specs.Inside.Core.{IsGood};
 
     ghost view = { state_of };
 
@@ -89,6 +91,7 @@ impl Core {
         self.board[unit as usize]
     }
 
+    /// The answer of a unit.
     pub(crate) fn answer(&self, unit: u32) -> u64
         requires { unit < unit_count self.now }
         ensures { result ≡ slice_index self.now.answers unit }
@@ -96,6 +99,7 @@ impl Core {
         self.answers[unit as usize]
     }
 
+    /// Whether no worker has this number.
     pub(crate) fn is_stranger(&self, worker: u32) -> bool
         ensures { result ≡ is_stranger self.now worker }
     {
@@ -105,6 +109,7 @@ impl Core {
 
 // What each step does where nothing refuses it.
 impl Core {
+    /// The worker takes the first unit of its range into its hand.
     pub(crate) fn claim(&mut self, by: u32)
         requires { fault_of self.old (Step.Claim by) ≡ None }
         ensures { self.new ≡ moved self.old (Step.Claim by) }
@@ -115,6 +120,7 @@ impl Core {
         self.hands[worker] = range.first_unit();
     }
 
+    /// The worker takes the upper half of the other's range into its hand.
     pub(crate) fn steal(&mut self, by: u32, other: u32)
         requires { fault_of self.old (Step.Steal by other) ≡ None }
         ensures { self.new ≡ moved self.old (Step.Steal by other) }
@@ -124,6 +130,7 @@ impl Core {
         self.hands[by as usize] = range.upper_half();
     }
 
+    /// The worker keeps the first unit in hand, and the rest becomes its range.
     pub(crate) fn keep(&mut self, by: u32)
         requires { fault_of self.old (Step.Keep by) ≡ None }
         ensures { self.new ≡ moved self.old (Step.Keep by) }
@@ -134,6 +141,7 @@ impl Core {
         self.hands[worker] = hand.first_unit();
     }
 
+    /// The word goes onto the board for the unit in the worker's hand.
     pub(crate) fn settle(&mut self, by: u32, word: u64)
         requires { fault_of self.old (Step.Settle by word) ≡ None }
         ensures { self.new ≡ moved self.old (Step.Settle by word) }
@@ -143,6 +151,7 @@ impl Core {
         self.board[hand.first as usize] = word;
     }
 
+    /// The worker is marked as ended.
     pub(crate) fn end(&mut self, by: u32)
         requires { fault_of self.old (Step.End by) ≡ None }
         ensures { self.new ≡ moved self.old (Step.End by) }

@@ -1,5 +1,6 @@
 //! What holds over every list of steps, refused ones among them. A clause of `Core::apply` says
 //! that the core steps as these laws' `stepped`.
+
 ghost use Rattle.std.specs.Prelude.{◌≡◌, ℕ, ◌+◌, ◌*◌, ◌<◌, ◌≤◌, List, [], ◌∷◌, false, None, length};
 ghost use Rattle.daa_range.specs.Range.{span};
 ghost use Rattle.daa_schedule.specs.Answers.{AreAnswers};

@@ -1,4 +1,5 @@
 //! Want of memory.
+
 use std::alloc::AllocError;
 use thiserror::Error;
 

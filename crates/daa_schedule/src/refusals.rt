@@ -1,10 +1,12 @@
 //! What refuses each step: the first rule of its list that applies.
+
 ghost use Rattle.std.specs.Prelude.{◌≡◌};
 ghost use Rattle.daa_schedule.specs.Step.{fault_of, verdict};
 
 use crate::{Core, Step, StepFault};
 
 impl Core {
+    /// What refuses a Claim, if anything does.
     pub(crate) fn check_claim(&self, by: u32) -> Result<(), StepFault>
         ensures { result ≡ verdict (fault_of self.now (Step.Claim by)) }
     {
@@ -21,6 +23,7 @@ impl Core {
         }
     }
 
+    /// What refuses a Steal, if anything does.
     pub(crate) fn check_steal(&self, by: u32, other: u32) -> Result<(), StepFault>
         ensures { result ≡ verdict (fault_of self.now (Step.Steal by other)) }
     {
@@ -41,6 +44,7 @@ impl Core {
         }
     }
 
+    /// What refuses a Keep, if anything does.
     pub(crate) fn check_keep(&self, by: u32) -> Result<(), StepFault>
         ensures { result ≡ verdict (fault_of self.now (Step.Keep by)) }
     {
@@ -57,6 +61,7 @@ impl Core {
         }
     }
 
+    /// What refuses a Settle, if anything does.
     pub(crate) fn check_settle(&self, by: u32, word: u64) -> Result<(), StepFault>
         ensures { result ≡ verdict (fault_of self.now (Step.Settle by word)) }
     {
@@ -80,6 +85,7 @@ impl Core {
         Ok(())
     }
 
+    /// What refuses an End, if anything does.
     pub(crate) fn check_end(&self, by: u32) -> Result<(), StepFault>
         ensures { result ≡ verdict (fault_of self.now (Step.End by)) }
     {

@@ -1,4 +1,5 @@
 //! The steps of the schedule, and what may refuse one.
+
 ghost use Rattle.std.specs.Prelude.{◌≡◌};
 
 use thiserror::Error;

@@ -5,7 +5,7 @@ use lib.ListN.{get_elem?}
 use Rattle.left_right.specs.Register.{Admits, TurnsAt, Turns, Forks, Merges}
 use Rattle.atomic_table.proofs.Lists.{at_set, at_snoc}
 use Rattle.daa_screen.specs.Story.{Story, GoesOn}
-use Rattle.daa_screen.specs.Growing.{IsBehind, IsGrowing, Looks}
+use Rattle.daa_screen.specs.Inside.Growing.{IsBehind, IsGrowing, Looks}
 use Rattle.daa_screen.proofs.Kept.{goes_on_itself, goes_on_and_on}
 
 abbrev pub End : Type 0

@@ -1,4 +1,5 @@
 //! The shared value: what its ends know of it, and how the next takes the place of what is shown.
+
 use crate::latest::Latest;
 use atomic_table::{Join, Split};
 use crossbeam_utils::rule::{Outcome, Protocol};
@@ -13,7 +14,7 @@ pub struct OnlyGrows;
 
 impl Protocol<Latest, Option<Latest>> for OnlyGrows {
     ghost use Rattle.std.specs.Prelude.{None};
-    ghost use Rattle.daa_screen.specs.Growing.{IsGrowing};
+    ghost use Rattle.daa_screen.specs.Inside.Growing.{IsGrowing};
 
     ghost holds = { IsGrowing };
 
@@ -33,7 +34,7 @@ impl Outcome<Latest, Option<Latest>> for Publish {
 pub(crate) struct Look;
 
 impl Outcome<Latest, Option<Latest>> for Look {
-    ghost use Rattle.daa_screen.specs.Growing.{Looks};
+    ghost use Rattle.daa_screen.specs.Inside.Growing.{Looks};
 
     ghost then = { λ before old new after. Looks before new after };
 }

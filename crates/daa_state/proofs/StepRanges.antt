@@ -3,7 +3,8 @@ use Rattle.std.proofs.Common.{ℕ, ◌+◌, ◌≡◌, ◌≤◌, ◌≢◌, ◌
 use Rattle.std.proofs.lemmas.Bool.Decides.{nat_tests}
 use Rattle.std.proofs.lemmas.List.Elements.{All-push, All-from_recursion}
 use Rattle.std.specs.Prelude.{IfOk, IfSome, is_some, nat_le, if◌then◌else◌}
-use Rattle.daa_state.specs.InRange.{IsOwnInRange, IsTrafficInRange, IsWordInRange, IsMomentInRange, IsPictureInRange}
+use Rattle.daa_state.specs.InRange.{IsOwnInRange, IsTrafficInRange, IsWordInRange, IsPictureInRange}
+use Rattle.daa_state.specs.Inside.InRange.{IsMomentInRange}
 use Rattle.daa_state.specs.MomentStep.{State, Stepped, step, empty_moment, begun_moment, with_own, with_traffic, has_id, picture_with, ended_picture}
 use Rattle.daa_state.specs.declared.moments.Moment.{Moment}
 use Rattle.daa_state.specs.declared.word.Own.{Own}

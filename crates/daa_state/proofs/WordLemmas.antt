@@ -6,7 +6,7 @@ use Rattle.std.specs.Str.Lines.{strip_carriage_return}
 use Rattle.daa_state.specs.Fault.{◌>>=◌}
 use Rattle.daa_state.specs.declared.word.Word.TheVariants as says
 use Rattle.daa_state.specs.Fields.{Bytes, fields_of}
-use Rattle.daa_state.specs.Texts.{texts}
+use Rattle.daa_state.specs.Inside.Texts.{texts}
 use Rattle.daa_state.specs.Number.{count_in}
 use Rattle.daa_state.specs.Ranges.{ages}
 use Rattle.daa_state.specs.WordOf.{word_of, word_of_fields, word_of_name, moment_of, own_of, traffic_of, aged_traffic_of, format_of, aircraft, end_of}

@@ -1,5 +1,5 @@
 -- Words, moments and pictures whose numbers are in range.
-use Rattle.std.specs.Prelude.{ℕ, ◌≡◌, ◌≤◌, ℤ, ◌≤ℤ◌, unsigned_abs, true, length, All, IfSome}
+use Rattle.std.specs.Prelude.{ℕ, ◌≡◌, ◌≤◌, ℤ, ◌≤ℤ◌, unsigned_abs, true, length, All}
 use Rattle.daa_state.specs.Id.{is_id}
 use Rattle.daa_state.specs.Ranges.{Range, positions, altitudes, tracks, ground_speeds, speeds, vertical_speeds, ages, formats}
 use Rattle.daa_state.specs.Picture.{aircraft_of}
@@ -80,8 +80,3 @@ pub record IsPictureInRange (picture : Picture) : Type 0 where
   pub own : IsOwnInRange picture.own
   pub traffic : All IsTrafficInRange (aircraft_of picture)
   pub count : length (aircraft_of picture) ≤ 64
-
--- what the open moment has so far is in its ranges
-pub record IsMomentInRange (moment : Moment) : Type 0 where
-  pub own : IfSome moment.own IsOwnInRange
-  pub traffic : All IsTrafficInRange moment.traffic.items

@@ -1,9 +1,7 @@
 pub mod Fault
 pub mod Ranges
 pub mod Fields
-pub mod Texts
 pub mod Id
-pub mod IdCells
 pub mod Number
 pub mod WordOf
 pub mod Picture
@@ -13,3 +11,4 @@ pub mod FourWords
 pub mod Current
 pub mod Laws
 pub mod Checked
+pub mod Inside

@@ -1,4 +1,5 @@
 //! A picture once more.
+
 ghost use Rattle.std.specs.Prelude.{◌≡◌};
 
 use crate::word::Picture;

@@ -2,7 +2,7 @@
 
 ghost use Rattle.std.specs.Prelude.{◌≡◌, ◌||◌, ◌==◌, take, map};
 ghost use Rattle.daa_state.specs.Fields.{is_blank, fields_of};
-ghost use Rattle.daa_state.specs.Texts.{texts};
+ghost use Rattle.daa_state.specs.Inside.Texts.{texts};
 
 use arrayvec::ArrayVec;
 
@@ -22,6 +22,7 @@ pub(crate) fn fields(line: &[u8]) -> ArrayVec<&[u8], MOST_FIELDS>
     fields
 }
 
+/// Whether a byte is a space or a tab.
 fn is_blank(byte: u8) -> bool
     ensures { result ≡ is_blank byte }
 {

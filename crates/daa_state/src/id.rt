@@ -22,17 +22,24 @@ pub struct Id {
 impl Model for Id {
     ghost use Rattle.std.specs.Prelude.{ℕ, List, ◌≡◌, ◌≤◌, ◌-◌, ◌++◌, length, take, drop, replicate, true};
     ghost use Rattle.daa_state.specs.Id.{is_id};
-    ghost use Rattle.daa_state.specs.IdCells.{padded_is, length_is};
+    ghost use Rattle.daa_state.specs.Inside.IdCells.{padded_is, length_is};
 
     ghost Value = { List ℕ };
 
     ghost view = { λ s. take s.len s.cells };
 
-    ghost invariant = { λ s. (s.len ≤ 8) × (length s.cells ≡ 8) × (is_id (take s.len s.cells) ≡ true) × (drop s.len s.cells ≡ replicate (8 - s.len) 0) };
+    ghost invariant = { λ s. (s.len ≤ 8) × (length s.cells ≡ 8)
+        × (is_id (take s.len s.cells) ≡ true) × (drop s.len s.cells ≡ replicate (8 - s.len) 0) };
 
-    ghost inverse = { λ bytes. record { cells = bytes ++ replicate (8 - length bytes) 0; len = length bytes } };
+    ghost inverse = { λ bytes. record {
+      cells = bytes ++ replicate (8 - length bytes) 0;
+      len = length bytes;
+    } };
 
-    ghost inverse_ok = { λ s h i. record { cells = padded_is s.len s.cells h.0 h.1 h.3 i; len = length_is s.len s.cells h.0 h.1 i } };
+    ghost inverse_ok = { λ s h i. record {
+      cells = padded_is s.len s.cells h.0 h.1 h.3 i;
+      len = length_is s.len s.cells h.0 h.1 i;
+    } };
 }
 
 impl Id {
@@ -94,18 +101,21 @@ impl Default for Id {
     }
 }
 
+/// Whether these bytes are an identifier: 1 to 8 of its bytes.
 fn is_id(bytes: &[u8]) -> bool
     ensures { result ≡ is_id bytes.now }
 {
     !bytes.is_empty() && bytes.len() <= MOST_BYTES && are_id_bytes(bytes)
 }
 
+/// Whether each byte may stand in an identifier.
 fn are_id_bytes(bytes: &[u8]) -> bool
     ensures { result ≡ list_all is_id_byte bytes.now }
 {
     bytes.iter().all(|b| is_id_byte(*b))
 }
 
+/// Whether a byte is a letter, a digit, an underscore or a dash.
 fn is_id_byte(byte: u8) -> bool
     ensures { result ≡ is_id_byte byte }
 {

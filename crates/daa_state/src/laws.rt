@@ -37,7 +37,14 @@ pub fn format_1_has_no_ages()
 /// The words of lines, and steps, whose answers are known.
 pub fn worked_examples()
     ensures signs_and_zeros { word_of (codes "own +5 -0 0000001000 0 3600 0") 1
-        ≡ Ok (Word.Own (record { x = pos 5; y = pos 0; alt = pos 1000; trk = pos 0; gs = pos 3600; vs = pos 0 })) }
+        ≡ Ok (Word.Own (record {
+          x = pos 5;
+          y = pos 0;
+          alt = pos 1000;
+          trk = pos 0;
+          gs = pos 3600;
+          vs = pos 0;
+        })) }
     ensures blanks_and_age { word_of (codes " traffic\ta-1  0 -1000 1000 0 3600 0 10\r") 2
         ≡ Ok (Word.Traffic (record {
           id = codes "a-1";
@@ -57,7 +64,11 @@ pub fn worked_examples()
     ensures spelling_first { word_of (codes "own 0 0 1000 x 360 0") 1 ≡ Err LineFault.BadNumber }
     ensures nine_bytes { word_of (codes "traffic A_B-12345 0 0 0 0 0 0") 1 ≡ Err LineFault.BadId }
     ensures range_first { word_of (codes "own 0 0 1000 360 x 0") 1 ≡ Err LineFault.OutOfRange }
-    ensures open_first { step (record { moment = Some (empty_moment 5); last = Some 9; format = 1 }) (Word.Moment 3)
+    ensures open_first { step (record {
+      moment = Some (empty_moment 5);
+      last = Some 9;
+      format = 1;
+    }) (Word.Moment 3)
         ≡ Err LineFault.MomentOpen }
     ensures not_later { step (record { moment = None; last = Some 7; format = 1 }) (Word.Moment 7)
         ≡ Err (LineFault.NotLater 7) }

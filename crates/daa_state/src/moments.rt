@@ -2,7 +2,8 @@
 
 ghost use Rattle.std.specs.Prelude.{◌≡◌, ◌↔◌, None, IsSome, OnOk, IfSome, IsSomeAnd, OnErr, IfOk, IfErr, Ok, Err, Some, ◌<◌, ◌≤◌, length, ◌++◌, ◌∷◌, []};
 ghost use Rattle.std.specs.Str.{bytes_eq};
-ghost use Rattle.daa_state.specs.InRange.{IsFormat, IsWordInRange, IsOwnInRange, IsTrafficInRange, IsMomentInRange, IsPictureInRange};
+ghost use Rattle.daa_state.specs.InRange.{IsFormat, IsWordInRange, IsOwnInRange, IsTrafficInRange, IsPictureInRange};
+ghost use Rattle.daa_state.specs.Inside.InRange.{IsMomentInRange};
 ghost use Rattle.daa_state.specs.MomentStep.{step, stepped, finished, start, begun_moment, with_own, with_traffic, ended_picture, has_id};
 
 use crate::fault::LineFault;
@@ -35,7 +36,8 @@ pub struct Moments {
 impl Model for Moments {
     ghost use Rattle.std.specs.Prelude.{IfSome};
     ghost use Rattle.daa_state.specs.MomentStep.{State};
-    ghost use Rattle.daa_state.specs.InRange.{IsMomentInRange, IsFormat};
+    ghost use Rattle.daa_state.specs.InRange.{IsFormat};
+    ghost use Rattle.daa_state.specs.Inside.InRange.{IsMomentInRange};
 
     ghost Value = { State };
 
@@ -133,6 +135,7 @@ fn begin(moment: &Option<Moment>, last: Option<u32>, time: u32) -> Result<Moment
     }
 }
 
+/// Adds the ownship to the open moment, or says why it is refused.
 #[tactic(auto, unfolding(crate::specs::MomentStep::with_own))]
 fn add_own(moment: &mut Option<Moment>, own: Own) -> Result<(), LineFault>
     requires range { IsOwnInRange own }
@@ -151,6 +154,7 @@ fn add_own(moment: &mut Option<Moment>, own: Own) -> Result<(), LineFault>
     Ok(())
 }
 
+/// Adds an aircraft to the open moment, or says why it is refused.
 #[tactic(auto, unfolding(crate::specs::MomentStep::with_traffic))]
 fn add_traffic(moment: &mut Option<Moment>, traffic: Traffic) -> Result<(), LineFault>
     requires range { IsTrafficInRange traffic }
@@ -173,6 +177,7 @@ fn add_traffic(moment: &mut Option<Moment>, traffic: Traffic) -> Result<(), Line
     Ok(())
 }
 
+/// Whether an aircraft of the list has the identifier.
 fn has_id(traffic: &ArrayVec<Traffic, MOST_AIRCRAFT>, id: &Id) -> bool
     ensures { result ≡ has_id id.now traffic.now.items }
 {

@@ -25,6 +25,7 @@ fn number(field: &[u8]) -> Result<i64, LineFault>
     }
 }
 
+/// Whether the field begins with a minus.
 fn is_negative(field: &[u8]) -> bool
     ensures { result ≡ has_minus field.now }
 {
@@ -56,7 +57,8 @@ fn size(digits: &[u8]) -> Option<i64>
 fn digits_value(digits: &[u8]) -> Option<u64>
     requires { length digits.now ≤ 18 }
     ensures value { MatchOption result (list_all is_ascii_digit digits.now ≡ false)
-        (λ value. (list_all is_ascii_digit digits.now ≡ true) × (value ≡ size_of_digits digits.now)) }
+        (λ value. (list_all is_ascii_digit digits.now ≡ true)
+        × (value ≡ size_of_digits digits.now)) }
     ensures small { IfSome result (λ value. value < 10 ^ 18) }
 {
     let mut value = 0u64;

@@ -2,7 +2,7 @@
 
 ghost use Rattle.std.specs.Prelude.{◌≡◌, true, IfOk};
 ghost use Rattle.std.specs.Str.Lines.{strip_carriage_return};
-ghost use Rattle.daa_state.specs.Texts.{texts};
+ghost use Rattle.daa_state.specs.Inside.Texts.{texts};
 ghost use Rattle.daa_state.specs.Id.{is_id};
 ghost use Rattle.daa_state.specs.InRange.{IsFormat, IsWordInRange, IsOwnInRange, IsTrafficInRange};
 ghost use Rattle.daa_state.specs.WordOf.{word_of, word_of_fields, word_of_name, is_comment, moment_of, own_of, ownship, traffic_of, aged_traffic_of, aircraft, identifier, format_of, end_of};
@@ -95,6 +95,7 @@ fn word_of_name(format: u32, name: &[u8], fields: &[&[u8]]) -> Result<Word, Line
     }
 }
 
+/// Whether the first field begins a comment.
 fn is_comment(name: &[u8]) -> bool
     ensures { result ≡ is_comment name.now }
 {
@@ -125,6 +126,7 @@ fn own(fields: &[&[u8]]) -> Result<Word, LineFault>
     }
 }
 
+/// The ownship of six fields, or the fault of the first that is wrong.
 #[tactic(auto, unfolding(crate::specs::WordOf::ownship))]
 fn ownship(
     x: &[u8],
@@ -202,6 +204,7 @@ fn aircraft(
     })
 }
 
+/// The identifier that a field is.
 #[tactic(auto, unfolding(crate::specs::WordOf::identifier))]
 fn identifier(field: &[u8]) -> Result<Id, LineFault>
     ensures value { result ≡ identifier field.now }

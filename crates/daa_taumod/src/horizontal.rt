@@ -10,6 +10,7 @@ use crate::threshold::{scaled, scaled_square};
 use crate::{Model, Volume};
 use daa_fixed::{Leg, Point, cross, dot, square};
 
+/// Whether the horizontal part of the volume holds at a time.
 pub(crate) fn violates_horizontally(leg: &Leg, volume: &Volume, point: &Point) -> bool
     requires leg { IsLegInRange leg.now }
     requires volume { IsVolumeInRange volume.now }
@@ -58,6 +59,7 @@ fn is_soon(leg: &Leg, volume: &Volume, point: &Point) -> bool
     }
 }
 
+/// Whether modified tau is at most `tthr`.
 fn is_tau_soon(leg: &Leg, volume: &Volume, point: &Point) -> bool
     requires leg { IsLegInRange leg.now }
     requires volume { IsVolumeInRange volume.now }
@@ -68,6 +70,7 @@ fn is_tau_soon(leg: &Leg, volume: &Volume, point: &Point) -> bool
         <= scaled_square(volume.dthr, point)
 }
 
+/// Whether the time to the closest approach is at most `tthr`.
 fn is_closest_soon(leg: &Leg, volume: &Volume, point: &Point) -> bool
     requires leg { IsLegInRange leg.now }
     requires volume { IsVolumeInRange volume.now }

@@ -31,11 +31,12 @@ pub struct Volume {
 mod examples;
 mod horizontal;
 mod place;
-#[cfg(test)]
-mod tests;
 mod threshold;
 mod vertical;
 mod violation;
 
 pub use examples::worked_examples;
 pub use violation::{tcpa_implies_taumod, violates};
+
+#[cfg(test)]
+mod tests;

@@ -8,6 +8,7 @@ ghost use Rattle.daa_taumod.specs.Volume.{place_at, height_at};
 
 use daa_fixed::{Flat, Leg, Point};
 
+/// The horizontal place at a time, times the time's denominator.
 pub(crate) fn place_then(leg: &Leg, point: &Point) -> Flat
     requires { IsLegInRange leg.now }
     ensures value { result ≡ place_at leg.now point.now.num point.now.den }
@@ -19,6 +20,7 @@ pub(crate) fn place_then(leg: &Leg, point: &Point) -> Flat
     }
 }
 
+/// The height at a time, times the time's denominator.
 pub(crate) fn height_then(leg: &Leg, point: &Point) -> i64
     requires { IsLegInRange leg.now }
     ensures value { result ≡ height_at leg.now point.now.num point.now.den }

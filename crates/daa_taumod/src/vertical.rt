@@ -9,6 +9,7 @@ use crate::place::height_then;
 use crate::threshold::scaled;
 use daa_fixed::{Leg, Point};
 
+/// Whether the vertical part of the volume holds at a time.
 pub(crate) fn violates_vertically(leg: &Leg, volume: &Volume, point: &Point) -> bool
     requires leg { IsLegInRange leg.now }
     requires volume { IsVolumeInRange volume.now }
@@ -49,7 +50,8 @@ fn is_within_tcoa(leg: &Leg, volume: &Volume, point: &Point) -> bool
     requires leg { IsLegInRange leg.now }
     requires volume { IsVolumeInRange volume.now }
     ensures { let height = unsigned_abs (height_at leg.now point.now.num point.now.den) in
-        IsTrue result ↔ (pos height ≤ℤ (pos volume.now.tcoa *ℤ point.now.den *ℤ pos (unsigned_abs leg.now.velocity.up))) }
+        IsTrue result ↔ (pos height ≤ℤ (pos volume.now.tcoa *ℤ point.now.den
+        *ℤ pos (unsigned_abs leg.now.velocity.up))) }
 {
     let speed = leg.velocity.up.abs() as i128;
     height_then(leg, point).abs() as i128 <= scaled(volume.tcoa, point) * speed

@@ -25,5 +25,6 @@ pub fn violates(leg: &Leg, volume: &Volume, point: &Point) -> bool
 /// violated by modified tau too, all thresholds being equal.
 pub fn tcpa_implies_taumod()
     ensures { (leg : Leg) (volume : Volume) (n d : ℤ) → pos 1 ≤ℤ d →
-        Violates leg (with_model Model.Tcpa volume) n d → Violates leg (with_model Model.Taumod volume) n d }
+        Violates leg (with_model Model.Tcpa volume) n d
+        → Violates leg (with_model Model.Taumod volume) n d }
 {}

@@ -10,7 +10,7 @@ use Rattle.daa_fixed.specs.Size.{IsWithin}
 use Rattle.daa_fixed.proofs.Bounds.{times, within}
 use Rattle.daa_fixed.specs.declared.Point.{Point}
 use Rattle.daa_fixed.specs.Time.{IsTime, HoldsNever}
-use Rattle.daa_vwindow.specs.Band.{IsInBand}
+use Rattle.daa_vwindow.specs.Inside.Band.{IsInBand}
 use Rattle.daa_vwindow.specs.Window.{IsWindow}
 
 -- m is the greater, or the lesser, of x and y

@@ -13,7 +13,7 @@ use Rattle.daa_taumod.specs.declared.Volume.{Volume}
 use Rattle.daa_fixed.specs.declared.Point.{Point}
 use Rattle.daa_taumod.specs.Volume.{ViolatesVertically, height_at}
 use Rattle.daa_fixed.specs.Time.{IsTime, HoldsNever}
-use Rattle.daa_vwindow.specs.Band.{IsInBand}
+use Rattle.daa_vwindow.specs.Inside.Band.{IsInBand}
 use Rattle.daa_vwindow.specs.Window.{IsWindow}
 
 -- a clause about the same times, said otherwise

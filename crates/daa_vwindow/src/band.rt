@@ -4,7 +4,7 @@ ghost use Rattle.std.specs.Prelude.{◌≡◌, ◌≤◌, ◌≤ℤ◌, ◌*ℤ�
 ghost use Rattle.std.specs.Int.{int_max, int_min};
 ghost use Rattle.daa_fixed.specs.Size.{IsWithin};
 ghost use Rattle.daa_fixed.specs.Time.{HoldsNever};
-ghost use Rattle.daa_vwindow.specs.Band.{IsInBand};
+ghost use Rattle.daa_vwindow.specs.Inside.Band.{IsInBand};
 ghost use Rattle.daa_vwindow.specs.Window.{HasSmallNumbers, IsWindow};
 
 use daa_fixed::Point;

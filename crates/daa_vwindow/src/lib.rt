@@ -3,8 +3,9 @@
 #![tactic(auto)]
 
 mod band;
-#[cfg(test)]
-mod tests;
 mod windows;
 
 pub use windows::window;
+
+#[cfg(test)]
+mod tests;

@@ -7,7 +7,7 @@ ghost use Rattle.daa_fixed.specs.Leg.{IsLegInRange};
 ghost use Rattle.daa_fixed.specs.Size.{IsWithin};
 ghost use Rattle.daa_fixed.specs.Time.{HoldsNever};
 ghost use Rattle.daa_taumod.specs.Volume.{IsVolumeInRange, ViolatesVertically};
-ghost use Rattle.daa_vwindow.specs.Band.{IsInBand};
+ghost use Rattle.daa_vwindow.specs.Inside.Band.{IsInBand};
 ghost use Rattle.daa_vwindow.specs.Window.{HasSmallNumbers, IsWindow};
 
 use crate::band::{level_flight, passage};

@@ -1,4 +1,5 @@
 //! Why words give no order.
+
 ghost use Rattle.std.specs.Prelude.{◌≡◌};
 ghost use Rattle.daa_words.specs.declared.fault.WordsFault.TheVariants.{NoMemory};
 

@@ -1,4 +1,5 @@
 //! Laws of the definitions, for callers above, and words of which it is known what they ask for.
+
 ghost use Rattle.std.specs.Prelude.{◌≡◌, ◌∷◌, [], Some, None, codes};
 ghost use Rattle.daa_words.specs.Laws.{EachTakenOrders, EachOrderIsTaken};
 ghost use Rattle.daa_words.specs.Order.{order_of};

@@ -1,4 +1,5 @@
 //! What words ask for, read from the matches of a subcommand.
+
 ghost use Rattle.std.specs.Prelude.{◌≡◌, option_map};
 ghost use Rattle.clap.specs.Words.{found_of, rows_of};
 ghost use Rattle.daa_words.specs.Order as spec;

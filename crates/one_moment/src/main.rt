@@ -68,6 +68,7 @@ fn encounter(amber: Id, bravo: Id) -> Result<Picture, PictureFault>
     )
 }
 
+/// Decides one moment that is given by numbers, and prints its answers.
 fn main(rt: HostRuntime) -> io::Result<()> {
     let Ok(config) = read(rt.alloc(), THREE_LEVELS.as_bytes()) else {
         return rt.println("the configuration is refused");

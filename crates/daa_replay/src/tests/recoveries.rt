@@ -4,7 +4,8 @@ use super::{ONE_TEXT, Outside, PLAIN, gives, whole};
 use daa_config::examples::ONE_LEVEL;
 use std::test::Fail;
 
-/// A recovery's table, an aircraft, and the lines of the recoveries, worked out apart from the program.
+/// A recovery's table, an aircraft, and the lines of the recoveries, worked out apart from the
+/// program.
 static RECOVERIES: [(&str, &str, &str); 2] = [
     (
         "{ hdist = 300, vdist = 100 }",

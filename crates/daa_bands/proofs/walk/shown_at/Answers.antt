@@ -1,5 +1,5 @@
 use Rattle.std.specs.Prelude.{slice_index}
-use Rattle.daa_config.specs.Mask.{HasLevel}
+use Rattle.daa_fixed.specs.Mask.{HasLevel}
 use Rattle.daa_bands.specs.Board.{mask_levels}
 use Rattle.daa_config.proofs.GreatestLemmas.{greatest_once}
 use Rattle.daa_bands.proofs.MaskLemmas.{greatest_shown}

@@ -1,7 +1,7 @@
 use Rattle.std.proofs.Common.{◌≡◌, drop}
 use Rattle.toml.specs.View.{items_view}
 use Rattle.daa_config.specs.Keys.{any_item}
-use Rattle.daa_config.specs.KeyLists.{listed_by, differs_by}
+use Rattle.daa_config.specs.Inside.KeyLists.{listed_by, differs_by}
 use Rattle.daa_config.proofs.keys.any_differs.Given as goal
 
 -- what is left of the items decides

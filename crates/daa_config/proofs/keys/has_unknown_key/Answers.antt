@@ -1,7 +1,7 @@
 use Rattle.std.proofs.Common.{◌∙◌, ap, not, List, string_bytes, String, Global}
 use Rattle.std.specs.List.{list_any}
 use Rattle.daa_config.specs.Keys.{is_listed}
-use Rattle.daa_config.specs.KeyLists.{listed_by}
+use Rattle.daa_config.specs.Inside.KeyLists.{listed_by}
 use Rattle.daa_config.proofs.KeyLemmas.{other_keys}
 use Rattle.daa_config.proofs.keys.has_unknown_key.Goals as goal
 

@@ -2,7 +2,7 @@ use Rattle.std.proofs.Common.{pos, ◌≤ℤ◌, ◌<ℤ◌, arith, rules}
 use Rattle.std.proofs.lemmas.Int.{ints}
 use Rattle.daa_fixed.specs.Leg.{IsLegInRange}
 use Rattle.daa_taumod.specs.Volume.{IsVolumeInRange}
-use Rattle.daa_detect.specs.Motion.{rate_of}
+use Rattle.daa_detect.specs.Inside.Motion.{rate_of}
 use Rattle.daa_detect.proofs.Sizes.{IsMotionInRange, margin-kept}
 use Rattle.daa_detect.proofs.Ends.{missed, first_decides, last_decides, is_ahead, approach_hits}
 use Rattle.daa_detect.proofs.detection.nearest_hit.Goals as goal

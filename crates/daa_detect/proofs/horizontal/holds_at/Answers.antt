@@ -1,6 +1,6 @@
 use Rattle.std.proofs.Common.{inl, pos, ◌≤ℤ◌, ◌<ℤ◌, arith}
 use Rattle.std.proofs.lemmas.Int.{ints}
-use Rattle.daa_detect.specs.Motion.{rate_of}
+use Rattle.daa_detect.specs.Inside.Motion.{rate_of}
 use Rattle.daa_detect.proofs.Choices.{second}
 use Rattle.daa_detect.proofs.Margin.{opening_is, taumod_is, tcpa_is}
 use Rattle.daa_detect.proofs.horizontal.holds_at.Goals as goal

@@ -1,7 +1,7 @@
 use Rattle.std.proofs.Common.{◌≡◌, ◌<◌, ◌+◌, ℕ, List, length, slice_index_or, sym, subst, arith}
 use Rattle.daa_state.specs.declared.word.Traffic.{Traffic}
 use Rattle.daa_state.specs.Picture.{aircraft_of}
-use Rattle.daa_engine.specs.Findings.{AreAircraftAlerts}
+use Rattle.daa_engine.specs.Inside.Findings.{AreAircraftAlerts}
 use Rattle.daa_engine.proofs.AlertLemmas.{alerts_more}
 use Rattle.daa_engine.proofs.alerts.find_alerts.Goals as goal
 

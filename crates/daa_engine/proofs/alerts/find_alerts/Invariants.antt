@@ -1,5 +1,5 @@
 use Rattle.daa_state.specs.Picture.{aircraft_of}
-use Rattle.daa_engine.specs.Findings.{AreAircraftAlerts}
+use Rattle.daa_engine.specs.Inside.Findings.{AreAircraftAlerts}
 use Rattle.daa_engine.proofs.alerts.find_alerts.Given as goal
 
 -- the levels of the aircraft so far are found

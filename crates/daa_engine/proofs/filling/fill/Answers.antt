@@ -3,7 +3,8 @@ use Rattle.daa_bands.specs.Board.{IsBoardOf}
 use Rattle.daa_config.specs.Candidates.{candidates_of}
 use Rattle.daa_scan.specs.Situation.{Situation}
 use Rattle.daa_engine.specs.Covered.{scene_of}
-use Rattle.daa_engine.specs.Filling.{CoveredBelow, AddsAircraft}
+use Rattle.daa_engine.proofs.Covered.{CoveredBelow}
+use Rattle.daa_engine.specs.Inside.Filling.{AddsAircraft}
 use Rattle.daa_engine.proofs.FillingLemmas.{aircraft_none, aircraft_more, aircraft_all}
 use Rattle.daa_engine.proofs.filling.fill.Goals as goal
 

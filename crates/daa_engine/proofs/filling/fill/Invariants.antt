@@ -1,6 +1,6 @@
 use Rattle.daa_bands.specs.Board.{IsBoardOf}
 use Rattle.daa_engine.specs.Covered.{scene_of}
-use Rattle.daa_engine.specs.Filling.{CoveredBelow}
+use Rattle.daa_engine.proofs.Covered.{CoveredBelow}
 use Rattle.daa_engine.proofs.filling.fill.Given as goal
 
 -- the board has the levels at which some aircraft so far meets a candidate

@@ -1,7 +1,7 @@
 use Rattle.std.proofs.Common.{◌≡◌, ◌<◌, ◌+◌, ℕ, sym, subst, arith, length}
 use Rattle.std.specs.Prelude.{slice_index}
 use Rattle.daa_config.specs.Candidates.{candidates_of}
-use Rattle.daa_config.specs.Mask.{IsMaskOf}
+use Rattle.daa_fixed.specs.Mask.{IsMaskOf}
 use Rattle.daa_config.specs.Settings.{Settings}
 use Rattle.daa_scan.specs.Situation.{MeetsAt}
 use Rattle.daa_engine.proofs.FillingLemmas.{mark_more, mark_nothing}

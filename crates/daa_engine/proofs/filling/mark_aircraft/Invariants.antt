@@ -1,4 +1,4 @@
-use Rattle.daa_engine.specs.Filling.{AddsAircraft}
+use Rattle.daa_engine.specs.Inside.Filling.{AddsAircraft}
 use Rattle.daa_engine.proofs.filling.mark_aircraft.Given as goal
 
 -- the candidates so far have got their levels

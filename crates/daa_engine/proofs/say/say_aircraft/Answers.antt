@@ -1,4 +1,4 @@
-use Rattle.daa_engine.specs.Written.{aircraft_text}
+use Rattle.daa_engine.specs.Inside.Written.{aircraft_text}
 use Rattle.daa_report.proofs.PageLemmas.{after, cut}
 use Rattle.daa_engine.proofs.say.say_aircraft.Goals as goal
 

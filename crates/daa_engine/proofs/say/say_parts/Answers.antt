@@ -1,4 +1,4 @@
-use Rattle.daa_engine.specs.Written.{written}
+use Rattle.daa_engine.specs.Inside.Written.{written}
 use Rattle.daa_report.proofs.PageLemmas.{after, cut}
 use Rattle.daa_engine.proofs.say.say_parts.Goals as goal
 

@@ -1,4 +1,4 @@
-use Rattle.daa_engine.specs.Written.{rescues_text}
+use Rattle.daa_engine.specs.Inside.Written.{rescues_text}
 use Rattle.daa_report.proofs.PageLemmas.{after, cut}
 use Rattle.daa_engine.proofs.say.say_rescues.Goals as goal
 

@@ -1,5 +1,5 @@
 use Rattle.std.proofs.Common.{ℕ, length, subst}
-use Rattle.daa_engine.specs.Merging.{IsMerged}
+use Rattle.daa_engine.specs.Inside.Merging.{IsMerged}
 use Rattle.daa_engine.proofs.MergingLemmas.{merged_board}
 use Rattle.daa_engine.proofs.together.merge.Goals as goal
 

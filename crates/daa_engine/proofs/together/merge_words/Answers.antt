@@ -1,5 +1,5 @@
 use Rattle.std.proofs.Common.{sym, subst}
-use Rattle.daa_engine.specs.Merging.{IsMerged}
+use Rattle.daa_engine.specs.Inside.Merging.{IsMerged}
 use Rattle.daa_engine.proofs.MergingLemmas.{merged_none, merged_more}
 use Rattle.daa_engine.proofs.together.merge_words.Goals as goal
 

@@ -1,4 +1,4 @@
-use Rattle.daa_engine.specs.Merging.{IsMerged}
+use Rattle.daa_engine.specs.Inside.Merging.{IsMerged}
 use Rattle.daa_engine.proofs.together.merge_words.Given as goal
 
 -- the board has what the words so far say

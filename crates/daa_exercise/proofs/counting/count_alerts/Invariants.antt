@@ -2,7 +2,7 @@ use Rattle.std.proofs.Common.{◌+◌, ℕ, take}
 use Rattle.std.specs.List.{AllZip}
 use Rattle.daa_legs.specs.Alerts.{IsAlertLevel}
 use Rattle.daa_state.specs.Picture.{aircraft_of}
-use Rattle.daa_exercise.specs.Counting.{Adds, HasRoomFor}
+use Rattle.daa_exercise.specs.Inside.Counting.{Adds, HasRoomFor}
 use Rattle.daa_exercise.proofs.counting.count_alerts.Given as goal
 
 -- the levels of the aircraft so far are counted

@@ -1,6 +1,6 @@
 use Rattle.std.proofs.Common.{◌+◌, ℕ, List, subst, arith}
 use Rattle.daa_bands.specs.Board.{HasLevelOn, mask_levels}
-use Rattle.daa_config.specs.Mask.{IsGreatestLevel}
+use Rattle.daa_fixed.specs.Mask.{IsGreatestLevel}
 use Rattle.daa_exercise.proofs.TallyLemmas.{first_none, first_next, room_for, add_shown}
 use Rattle.daa_exercise.proofs.counting.count_shown.Goals as goal
 

@@ -1,7 +1,7 @@
 use Rattle.std.proofs.Common.{◌+◌, ℕ}
 use Rattle.daa_bands.specs.Board.{HasLevelOn, mask_levels}
-use Rattle.daa_config.specs.Mask.{IsGreatestLevel}
-use Rattle.daa_exercise.specs.Counting.{Adds, HasRoomFor}
+use Rattle.daa_fixed.specs.Mask.{IsGreatestLevel}
+use Rattle.daa_exercise.specs.Inside.Counting.{Adds, HasRoomFor}
 use Rattle.daa_exercise.proofs.TallyLemmas.{AreFirst}
 use Rattle.daa_exercise.proofs.counting.count_shown.Given as goal
 

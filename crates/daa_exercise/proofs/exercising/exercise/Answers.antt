@@ -3,7 +3,7 @@ use Rattle.daa_bands.specs.Board.{IsBoardOf}
 use Rattle.daa_config.specs.Settings.{Settings, IsAccepted}
 use Rattle.daa_engine.specs.Covered.{CoveredAt}
 use Rattle.daa_engine.specs.EngineState.{EngineState}
-use Rattle.daa_exercise.specs.Counting.{CountsPicture}
+use Rattle.daa_exercise.specs.Inside.Counting.{CountsPicture}
 use Rattle.daa_exercise.specs.Outputs.{generator_of, outputs_of}
 use Rattle.daa_exercise.proofs.CountLemmas.{all_next, roomy, said}
 use Rattle.daa_exercise.proofs.MoveLemmas.{first_is, next_is}

@@ -1,6 +1,6 @@
 use Rattle.std.proofs.Common.{◌≡◌}
-use Rattle.daa_exercise.specs.Counting.{AreCounted}
-use Rattle.daa_exercise.specs.Drawing.{after}
+use Rattle.daa_exercise.specs.Inside.Counting.{AreCounted}
+use Rattle.daa_exercise.specs.Inside.Drawing.{after}
 use Rattle.daa_exercise.specs.Moments.{begin_of}
 use Rattle.daa_exercise.specs.Outputs.{generator_of, outputs_of}
 use Rattle.daa_exercise.proofs.exercising.exercise.Given as goal

@@ -1,7 +1,7 @@
 use Rattle.std.proofs.Common.{rules, ◌≡◌, FitsSigned, w32, w64, to_z-of_z, arith, subst, ap, ◌∙◌, false, pos, ℤ, ◌-ℤ◌, ◌≤ℤ◌}
 use Rattle.std.proofs.lemmas.Int.{ints}
 use Rattle.std.specs.Prelude.{int_le}
-use Rattle.daa_legs.specs.Branch.{IsWholeLegs}
+use Rattle.daa_legs.specs.Inside.Branch.{IsWholeLegs}
 use Rattle.daa_legs.specs.Turn.{right_angle}
 use Rattle.daa_legs.proofs.Turning.{not_le}
 use Rattle.daa_legs.proofs.branch.turn_away.Goals as goal

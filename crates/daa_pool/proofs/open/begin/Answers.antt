@@ -2,8 +2,8 @@ use Rattle.std.proofs.Common.{ℕ, ◌∙◌, sym, ap, subst, arith, List}
 use Rattle.atomic_table.specs.Table.{Allows, step}
 use mathlib.Core.Option.{none}
 use Rattle.daa_schedule.specs.Answers.{AreAnswers}
-use Rattle.daa_pool.specs.Rule.{Holds}
-use Rattle.daa_pool.specs.Steps.{Sat, begins}
+use Rattle.daa_pool.specs.Inside.Rule.{Holds}
+use Rattle.daa_pool.specs.Inside.Steps.{Sat, begins}
 use Rattle.daa_pool.proofs.Opening.{begin_allowed}
 use Rattle.daa_pool.proofs.open.begin.Goals as goal
 

@@ -1,6 +1,6 @@
 use Rattle.std.proofs.Common.{pos, ◌<ℤ◌, arith, rules}
 use Rattle.std.proofs.lemmas.Int.{ints}
-use Rattle.daa_quad.specs.Slope.{slope_of}
+use Rattle.daa_quad.specs.Inside.Slope.{slope_of}
 use Rattle.daa_quad.proofs.Sizes.{IsQuadInRange}
 use Rattle.daa_fixed.proofs.PointSizes.{IsPointInRange}
 use Rattle.daa_quad.proofs.least.least_point.Goals as goal

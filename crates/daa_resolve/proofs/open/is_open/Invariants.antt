@@ -1,5 +1,5 @@
 use Rattle.std.proofs.Common.{◌<◌, ℕ, pos, ◌≤ℤ◌}
-use Rattle.daa_config.specs.Mask.{HasLevel}
+use Rattle.daa_fixed.specs.Mask.{HasLevel}
 use Rattle.daa_resolve.proofs.open.is_open.Given as goal
 
 -- none of the levels before is set

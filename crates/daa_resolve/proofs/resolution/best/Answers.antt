@@ -1,7 +1,7 @@
 use Rattle.std.proofs.Common.{◌≡◌, ℕ, length, subst, arith}
 use Rattle.daa_config.specs.Candidates.{values_of}
 use Rattle.daa_bands.specs.Board.{HasLevelOn}
-use Rattle.daa_resolve.specs.Best.{IsBest}
+use Rattle.daa_resolve.specs.Inside.Best.{IsBest}
 use Rattle.daa_resolve.proofs.resolution.best.Goals as goal
 
 pub returns : goal.returns

@@ -1,5 +1,5 @@
 use Rattle.daa_bands.specs.Board.{HasLevelOn}
-use Rattle.daa_resolve.specs.Best.{IsBest}
+use Rattle.daa_resolve.specs.Inside.Best.{IsBest}
 use Rattle.daa_resolve.proofs.resolution.best.Given as goal
 
 abbrev pub invariant-loop-place : goal.invariant-loop-place

@@ -1,6 +1,6 @@
 use Rattle.std.proofs.Common.{Some, subst, rules, IsTrue, refl, false, w64, FitsSigned}
 use Rattle.daa_bands.specs.Board.{HasLevelOn}
-use Rattle.daa_resolve.specs.Best.{IsBest}
+use Rattle.daa_resolve.specs.Inside.Best.{IsBest}
 use Rattle.daa_resolve.proofs.BestLemmas.{skip, first, keep, change, nearer, farther}
 use Rattle.daa_resolve.proofs.resolution.better.Goals as goal
 

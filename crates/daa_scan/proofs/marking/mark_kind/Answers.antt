@@ -3,7 +3,7 @@ use Rattle.std.specs.Prelude.{slice_get, slice_index_or}
 use Rattle.std.proofs.lemmas.Option.{slice_get-get_or}
 use Rattle.daa_config.specs.declared.candidate.Candidate.TheVariants.{Hold}
 use Rattle.daa_config.specs.Candidates.{candidates_of, start_of, values_of}
-use Rattle.daa_scan.specs.Marking.{AreMarked}
+use Rattle.daa_scan.specs.Inside.Marking.{AreMarked}
 use Rattle.daa_scan.proofs.Marks.{of_kind, of_kind_in_range, marked_past, marked_on, marked_next}
 use Rattle.daa_scan.proofs.Sides.{begun}
 use Rattle.daa_scan.proofs.marking.mark_kind.Goals as goal

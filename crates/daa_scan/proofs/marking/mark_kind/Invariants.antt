@@ -2,7 +2,7 @@ use Rattle.std.proofs.Common.{◌≡◌, ◌≤◌, ◌⊎◌}
 use Rattle.std.specs.Prelude.{slice_index_or}
 use Rattle.daa_config.specs.declared.candidate.Candidate.TheVariants.{Hold}
 use Rattle.daa_config.specs.Candidates.{candidates_of}
-use Rattle.daa_scan.specs.Marking.{AreTrailsOf, AreMarked}
+use Rattle.daa_scan.specs.Inside.Marking.{AreTrailsOf, AreMarked}
 use Rattle.daa_scan.proofs.marking.mark_kind.Given as goal
 
 -- the candidates so far have one level more, and the sides were walked so far

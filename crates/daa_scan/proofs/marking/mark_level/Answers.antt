@@ -4,7 +4,7 @@ use Rattle.daa_config.specs.Settings.{rates_of}
 use Rattle.daa_config.specs.Candidates.{start_of, values_of}
 use Rattle.daa_config.proofs.CandidateLemmas.{begins, whole_ends}
 use Rattle.daa_legs.proofs.Shares.{track-keeps, speed-keeps, climb-keeps, height-keeps}
-use Rattle.daa_scan.specs.Marking.{AreMarked}
+use Rattle.daa_scan.specs.Inside.Marking.{AreMarked}
 use Rattle.daa_scan.proofs.Marks.{track_first, marked_all}
 use Rattle.daa_scan.proofs.Refusing.{at_level, by_heights, by_way}
 use Rattle.daa_scan.proofs.marking.mark_level.Goals as goal

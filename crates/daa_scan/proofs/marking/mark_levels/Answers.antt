@@ -1,5 +1,5 @@
 use Rattle.std.proofs.Common.{◌≡◌, ℕ, subst, arith, length}
-use Rattle.daa_scan.specs.Marking.{AreMasks}
+use Rattle.daa_scan.specs.Inside.Marking.{AreMasks}
 use Rattle.daa_scan.proofs.Marks.{masks_clear}
 use Rattle.daa_scan.proofs.marking.mark_levels.Goals as goal
 

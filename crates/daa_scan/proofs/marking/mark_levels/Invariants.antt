@@ -1,4 +1,4 @@
-use Rattle.daa_scan.specs.Marking.{AreMasks}
+use Rattle.daa_scan.specs.Inside.Marking.{AreMasks}
 use Rattle.daa_scan.proofs.marking.mark_levels.Given as goal
 
 -- the masks have the levels so far

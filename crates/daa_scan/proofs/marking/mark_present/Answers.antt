@@ -1,6 +1,6 @@
 use Rattle.std.proofs.Common.{◌≡◌, ◌+◌, ℕ, sym, subst, arith, slice_set}
 use Rattle.daa_config.specs.declared.candidate.Candidate.TheVariants.{Hold}
-use Rattle.daa_scan.specs.Marking.{AreMarked}
+use Rattle.daa_scan.specs.Inside.Marking.{AreMarked}
 use Rattle.daa_scan.proofs.Marks.{hold_there, marked_none, marked_next}
 use Rattle.daa_scan.proofs.marking.mark_present.Goals as goal
 

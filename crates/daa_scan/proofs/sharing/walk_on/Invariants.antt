@@ -1,6 +1,6 @@
 use Rattle.std.proofs.Common.{◌≡◌, ℕ, ◌<◌, ◌-◌, min, false}
 use Rattle.daa_legs.specs.Meeting.{ViolatesOn}
-use Rattle.daa_scan.specs.Sharing.{IsTrailOf}
+use Rattle.daa_scan.specs.Inside.Sharing.{IsTrailOf}
 use Rattle.daa_scan.proofs.sharing.walk_on.Given as goal
 
 -- no leg so far violates, and the trail is as it was

@@ -2,7 +2,7 @@ use Rattle.std.proofs.Common.{ℕ, ◌+◌, sym, subst, arith, length}
 use Rattle.daa_config.specs.declared.kind.Kind.TheVariants.{Height}
 use Rattle.daa_config.specs.Candidates.{start_of, values_of}
 use Rattle.daa_config.proofs.CandidateLemmas.{begins, whole_ends}
-use Rattle.daa_scan.specs.Trunks.{AreBranchesBelow}
+use Rattle.daa_scan.specs.Inside.Trunks.{AreBranchesBelow}
 use Rattle.daa_scan.proofs.Tables.{all_filled}
 use Rattle.daa_scan.proofs.table.fill_branches.Goals as goal
 

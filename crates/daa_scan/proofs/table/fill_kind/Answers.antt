@@ -3,7 +3,7 @@ use Rattle.std.specs.Prelude.{slice_get}
 use Rattle.daa_config.specs.Candidates.{candidates_of, start_of, values_of}
 use Rattle.daa_config.specs.declared.config.Rates.{Rates}
 use Rattle.daa_legs.specs.Table.{IsBranchOf}
-use Rattle.daa_scan.specs.Trunks.{AreBranchesBelow}
+use Rattle.daa_scan.specs.Inside.Trunks.{AreBranchesBelow}
 use Rattle.daa_scan.proofs.Tables.{next_filled, next_length}
 use Rattle.daa_scan.proofs.table.fill_kind.Goals as goal
 

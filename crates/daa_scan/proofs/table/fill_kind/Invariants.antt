@@ -1,5 +1,5 @@
 use Rattle.std.proofs.Common.{◌≡◌, ◌+◌, length}
-use Rattle.daa_scan.specs.Trunks.{AreBranchesBelow}
+use Rattle.daa_scan.specs.Inside.Trunks.{AreBranchesBelow}
 use Rattle.daa_scan.proofs.table.fill_kind.Given as goal
 
 -- the candidates so far have their branches

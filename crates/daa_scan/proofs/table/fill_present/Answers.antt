@@ -2,7 +2,7 @@ use Rattle.std.proofs.Common.{ℕ, subst, arith, slice_set}
 use Rattle.daa_config.specs.declared.config.Rates.{Rates}
 use Rattle.daa_config.specs.declared.candidate.Candidate.TheVariants.{Hold}
 use Rattle.daa_legs.specs.Table.{IsBranchOf}
-use Rattle.daa_scan.specs.Trunks.{AreBranchesBelow}
+use Rattle.daa_scan.specs.Inside.Trunks.{AreBranchesBelow}
 use Rattle.daa_scan.proofs.Marks.{track_first, hold_there}
 use Rattle.daa_scan.proofs.Tables.{none_filled, next_filled}
 use Rattle.daa_scan.proofs.table.fill_present.Goals as goal

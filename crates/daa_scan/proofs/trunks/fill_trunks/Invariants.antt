@@ -1,4 +1,4 @@
-use Rattle.daa_scan.specs.Trunks.{AreLeadsBelow}
+use Rattle.daa_scan.proofs.TrunksWords.{AreLeadsBelow}
 use Rattle.daa_scan.proofs.trunks.fill_trunks.Given as goal
 
 -- the flights of the places so far are kept

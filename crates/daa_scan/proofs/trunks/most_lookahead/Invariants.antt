@@ -1,5 +1,5 @@
 use Rattle.std.proofs.Common.{◌≤◌}
-use Rattle.daa_scan.specs.Trunks.{IsAhead}
+use Rattle.daa_scan.specs.Inside.Trunks.{IsAhead}
 use Rattle.daa_scan.proofs.trunks.most_lookahead.Given as goal
 
 -- the greatest of the levels so far

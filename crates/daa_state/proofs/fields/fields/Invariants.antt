@@ -1,7 +1,7 @@
 use Rattle.std.proofs.Common.{◌≡◌, take}
 use Rattle.std.specs.Prelude.{filter}
 use Rattle.daa_state.specs.Fields.{is_filled}
-use Rattle.daa_state.specs.Texts.{texts}
+use Rattle.daa_state.specs.Inside.Texts.{texts}
 use Rattle.daa_state.proofs.fields.fields.Given as goal
 
 abbrev pub invariant-loop-field : goal.invariant-loop-field

@@ -1,6 +1,6 @@
 use Rattle.std.proofs.Common.{◌∙◌, ℕ, sym, ap, subst, arith}
 use Rattle.std.specs.Prelude.{slice_index}
-use Rattle.daa_config.specs.Mask.{HasLevel, IsGreatestLevel}
+use Rattle.daa_fixed.specs.Mask.{HasLevel, IsGreatestLevel}
 use Rattle.daa_bands.specs.Board.{mask_levels}
 use Rattle.daa_bands.specs.Walk.{shown_of}
 use Rattle.daa_bands.proofs.MaskLemmas.{greatest_shown, shown_is}

@@ -1,6 +1,6 @@
 use Rattle.std.proofs.Common.{sym, ap, subst, arith}
 use Rattle.daa_config.specs.Numbers.{count_of}
-use Rattle.daa_config.specs.Stepped.{IsStepped}
+use Rattle.daa_config.specs.Inside.Stepped.{IsStepped}
 use Rattle.daa_config.proofs.GridLemmas.{stepped_kind, few_of_kind, length-values, some_values}
 use Rattle.daa_config.proofs.config.Config.count.Goals as goal
 

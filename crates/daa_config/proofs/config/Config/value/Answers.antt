@@ -1,7 +1,7 @@
 use Rattle.std.proofs.Common.{◌≡◌, ◌∙◌, ℤ, pos, ◌+ℤ◌, ◌*ℤ◌, arith, rules, sym, ap, subst, w32, FitsSigned, to_z, of_z}
 use Rattle.std.proofs.lemmas.Int.{to_z-of_z}
 use Rattle.daa_config.specs.Numbers.{count_of}
-use Rattle.daa_config.specs.Stepped.{IsStepped}
+use Rattle.daa_config.specs.Inside.Stepped.{IsStepped}
 use Rattle.daa_config.specs.Candidates.{grid_of}
 use Rattle.daa_config.specs.declared.numbers.Grid.{Grid}
 use Rattle.daa_config.proofs.GridLemmas.{stepped_kind, length-values, value_there, IsValueAt}

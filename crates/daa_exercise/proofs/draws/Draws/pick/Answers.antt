@@ -1,6 +1,6 @@
 use Rattle.std.proofs.Common.{rules, ◌∙◌, ap}
 use Rattle.rand_pcg.specs.Lcg.{Lcg}
-use Rattle.daa_exercise.specs.Drawing.{after, range_of}
+use Rattle.daa_exercise.specs.Inside.Drawing.{after, range_of}
 use Rattle.daa_exercise.specs.Outputs.{picked, outputs_from}
 use Rattle.daa_exercise.proofs.DrawLemmas.{computed, first_is, rest_is}
 use Rattle.daa_exercise.proofs.draws.Draws.pick.Goals as goal

@@ -1,5 +1,5 @@
 use Rattle.std.proofs.Common.{◌<◌, length, sym, ◌∙◌, arith}
-use Rattle.daa_lines.specs.Pushing.{after_byte}
+use Rattle.daa_lines.specs.Inside.Pushing.{after_byte}
 use Rattle.daa_lines.proofs.FeedingLemmas.{taken_last, taken_more}
 use Rattle.daa_lines.proofs.PushingLemmas.{stands-fed}
 use Rattle.daa_lines.proofs.lines.Lines.feed.Goals as goal

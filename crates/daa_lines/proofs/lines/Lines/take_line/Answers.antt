@@ -1,6 +1,7 @@
 use Rattle.std.proofs.Common.{◌≡◌, false, arith, ap, refl, subst, ⊎_elim, ◌∙◌, ◌⊎◌, sym}
 use Rattle.std.proofs.lemmas.Grind.{common_steps}
-use Rattle.daa_lines.specs.Cutting.{Cutting, IsSized, is_standing}
+use Rattle.daa_lines.specs.Cutting.{Cutting, is_standing}
+use Rattle.daa_lines.specs.Inside.Cutting.{IsSized}
 use Rattle.daa_lines.specs.declared.lines.Stage.{Stage}
 use Rattle.daa_lines.specs.declared.lines.Stage.TheVariants.{Open, Whole, Long, Skipping}
 use Rattle.daa_lines.proofs.TakingLemmas.{long_line_of, no_line_of, stands-take, whole_line_of}

@@ -3,7 +3,7 @@ use Rattle.daa_pool.specs.declared.view.View.{View}
 use Rattle.daa_pool.specs.declared.seat.Seat.{Seat}
 use Rattle.daa_pool.specs.Seat.{view, IsOpening}
 use Rattle.daa_pool.specs.Pool.{AreOpening}
-use Rattle.daa_pool.specs.Dealing.{IsLast}
+use Rattle.daa_pool.specs.Inside.Dealing.{IsLast}
 use Rattle.daa_pool.proofs.Dealing.{dealt_more, left_opening, next_last}
 use Rattle.daa_pool.proofs.pool.Pool.deal.Goals as goal
 

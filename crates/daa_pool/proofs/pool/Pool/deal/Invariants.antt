@@ -1,7 +1,7 @@
 use Rattle.std.proofs.Common.{◌-◌}
 use Rattle.daa_pool.specs.Seat.{view, IsSeatOf}
 use Rattle.daa_pool.specs.Pool.{AreOpening}
-use Rattle.daa_pool.specs.Dealing.{IsLast}
+use Rattle.daa_pool.specs.Inside.Dealing.{IsLast}
 use Rattle.daa_pool.proofs.pool.Pool.deal.Given as goal
 
 abbrev pub invariant-loop-number : goal.invariant-loop-number

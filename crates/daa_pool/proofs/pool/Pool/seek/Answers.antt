@@ -1,7 +1,7 @@
 use Rattle.std.proofs.Common.{◌≤◌, length, sym, subst}
 use Rattle.daa_pool.specs.declared.view.View.{View}
 use Rattle.daa_pool.specs.Seat.{view}
-use Rattle.daa_pool.specs.Tour.{SeeksInVain}
+use Rattle.daa_pool.specs.Inside.Tour.{SeeksInVain}
 use Rattle.daa_pool.proofs.Looks.{seeks_first, seeks_second, seeks_nothing}
 use Rattle.daa_pool.proofs.pool.Pool.seek.Goals as goal
 

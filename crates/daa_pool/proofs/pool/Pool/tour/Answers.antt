@@ -1,6 +1,6 @@
 use Rattle.std.proofs.Common.{◌≡◌, ℕ, ◌+◌, subst, arith}
 use Rattle.daa_pool.specs.Seat.{view}
-use Rattle.daa_pool.specs.Tour.{Toured}
+use Rattle.daa_pool.specs.Inside.Tour.{Toured}
 use Rattle.daa_pool.proofs.Looks.{toured_more, takes_more}
 use Rattle.daa_pool.proofs.pool.Pool.tour.Goals as goal
 

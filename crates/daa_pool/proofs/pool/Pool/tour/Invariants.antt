@@ -1,5 +1,5 @@
 use Rattle.daa_pool.specs.Seat.{view, IsSeatOf}
-use Rattle.daa_pool.specs.Tour.{Toured}
+use Rattle.daa_pool.specs.Inside.Tour.{Toured}
 use Rattle.daa_pool.proofs.pool.Pool.tour.Given as goal
 
 abbrev pub invariant-loop-other : goal.invariant-loop-other

@@ -3,9 +3,9 @@ use Rattle.daa_range.specs.Range.{Span, span_len}
 use Rattle.daa_range.specs.Word.{packed}
 use Rattle.daa_range.proofs.Words.{packed-unpacked}
 use Rattle.daa_pool.specs.declared.view.View.{View}
-use Rattle.daa_pool.specs.View.{looked}
+use Rattle.daa_pool.specs.Inside.View.{looked}
 use Rattle.daa_pool.specs.Seat.{view}
-use Rattle.daa_pool.specs.Tour.{Toured}
+use Rattle.daa_pool.specs.Inside.Tour.{Toured}
 use Rattle.daa_pool.proofs.Looks.{changed, short}
 use Rattle.daa_pool.proofs.pool.Pool.visit.Goals as goal
 

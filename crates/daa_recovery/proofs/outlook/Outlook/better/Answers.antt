@@ -4,7 +4,7 @@ use Rattle.std.proofs.lemmas.Int.{to_z-of_z}
 use Rattle.daa_config.specs.declared.candidate.Candidate.{Candidate}
 use Rattle.daa_config.specs.Candidates.{values_of, candidate_to}
 use Rattle.daa_recovery.specs.Prospect.{Prospect}
-use Rattle.daa_recovery.specs.Search.{bound_of, IsFoundBelow, IsLeastTime}
+use Rattle.daa_recovery.specs.Inside.Search.{bound_of, IsFoundBelow, IsLeastTime}
 use Rattle.daa_recovery.specs.declared.recovery.Recovery.{Recovery}
 use Rattle.daa_recovery.proofs.Searching.{found_kept, found_sooner}
 use Rattle.daa_recovery.proofs.outlook.Outlook.better.Goals as goal

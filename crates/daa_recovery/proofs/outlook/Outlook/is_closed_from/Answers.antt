@@ -1,7 +1,8 @@
 use Rattle.std.proofs.Common.{pos, arith, length, ap, subst}
 use Rattle.std.proofs.lemmas.Int.{ints}
 use Rattle.daa_config.specs.Settings.{IsLevelAt}
-use Rattle.daa_recovery.specs.Prospect.{Prospect, IsProspect}
+use Rattle.daa_recovery.specs.Prospect.{Prospect}
+use Rattle.daa_recovery.specs.Inside.Prospect.{IsProspect}
 use Rattle.daa_recovery.proofs.Closing.{open_more, open_all}
 use Rattle.daa_recovery.proofs.outlook.Outlook.is_closed_from.Goals as goal
 

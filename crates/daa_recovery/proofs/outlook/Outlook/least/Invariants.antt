@@ -1,4 +1,4 @@
-use Rattle.daa_recovery.specs.Search.{IsFoundBelow}
+use Rattle.daa_recovery.specs.Inside.Search.{IsFoundBelow}
 use Rattle.daa_recovery.proofs.outlook.Outlook.least.Given as goal
 
 abbrev pub invariant-loop-place : goal.invariant-loop-place

@@ -5,7 +5,8 @@ use Rattle.daa_legs.specs.Branch.{FliesOn}
 use Rattle.daa_legs.specs.Kept.{AreLegsOf}
 use Rattle.daa_legs.specs.Runs.{MeetsBetween}
 use Rattle.daa_meet.proofs.Keeping.{fewer_legs}
-use Rattle.daa_recovery.specs.Prospect.{Prospect, IsProspect}
+use Rattle.daa_recovery.specs.Prospect.{Prospect}
+use Rattle.daa_recovery.specs.Inside.Prospect.{IsProspect}
 use Rattle.daa_recovery.proofs.Horizons.{horizon_short}
 use Rattle.daa_recovery.proofs.outlook.Outlook.meets.Goals as goal
 

@@ -1,7 +1,7 @@
 use Rattle.std.proofs.Common.{◌≡◌, ℕ, ◌+◌, ◌-◌, ◌≤◌, arith, sym, subst, None, Some}
 use Rattle.daa_config.specs.declared.candidate.Candidate.{Candidate}
 use Rattle.daa_recovery.specs.Recovery.{Recovers}
-use Rattle.daa_recovery.specs.Search.{IsLeastTime}
+use Rattle.daa_recovery.specs.Inside.Search.{IsLeastTime}
 use Rattle.daa_recovery.proofs.Searching.{none_below, none_at}
 use Rattle.daa_recovery.proofs.outlook.Outlook.sooner.Goals as goal
 

@@ -1,7 +1,7 @@
 use Rattle.std.proofs.Common.{◌≡◌, ◌<◌, ◌+◌, ℕ, sym, subst, Some, length}
 use Rattle.std.specs.Prelude.{slice_get, slice_index}
 use Rattle.daa_config.specs.Candidates.{candidates_of}
-use Rattle.daa_config.specs.Mask.{IsMaskOf}
+use Rattle.daa_fixed.specs.Mask.{IsMaskOf}
 use Rattle.daa_state.specs.Picture.{aircraft_of}
 use Rattle.daa_scan.specs.Situation.{Situation, MeetsAt}
 use Rattle.daa_scan.proofs.Shown.{masks_at}

@@ -10,11 +10,3 @@ in_height leg = record {
   velocity = record { flat = record { east = pos 0; north = pos 0 }; up = leg.velocity.up };
   secs = leg.secs;
 }
-
--- the way over ground of the leg alone
-abbrev pub in_plane : Leg → Leg
-in_plane leg = record {
-  place = record { flat = leg.place.flat; up = pos 0 };
-  velocity = record { flat = leg.velocity.flat; up = pos 0 };
-  secs = leg.secs;
-}

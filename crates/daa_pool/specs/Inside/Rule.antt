@@ -6,13 +6,15 @@ use lib.ListN.{get_elem?}
 use Rattle.atomic_table.specs.Table.{State}
 use Rattle.daa_range.specs.Range.{span}
 use Rattle.daa_range.specs.Word.{packed, unpacked, IsInOrder}
-use Rattle.daa_schedule.specs.CoreState.{CoreState, worker_count, unit_count, no_units, range_at, hand_at, has_ended, word_on, opened, times_on, IsShaped, IsWhole}
+use Rattle.daa_schedule.specs.CoreState.{CoreState, worker_count, unit_count, no_units, range_at, hand_at, has_ended, word_on, opened, times_on, IsWhole}
+use Rattle.daa_schedule.specs.Inside.CoreState.{IsShaped}
 use Rattle.daa_schedule.specs.Runs.{steps_of, IsHistory}
 use Rattle.daa_schedule.specs.declared.step.Step.{Step}
 use Rattle.daa_pool.specs.declared.view.View.{View}
 use Rattle.daa_pool.specs.declared.view.Part.{Part}
 use Rattle.daa_pool.specs.declared.pool.Size.{Size}
-use Rattle.daa_pool.specs.View.{blank, spent, part_of, times, HasNumber}
+use Rattle.daa_pool.specs.View.{part_of, times}
+use Rattle.daa_pool.specs.Inside.View.{blank, spent, HasNumber}
 use Rattle.daa_pool.specs.History.{IsPartOf}
 
 -- the table of a pool: its words, and the views of its seats

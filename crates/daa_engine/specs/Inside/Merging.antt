@@ -1,6 +1,6 @@
 -- What the words of all units say together.
 use Rattle.std.specs.Prelude.{◌≡◌, ℕ, ◌+◌, ◌*◌, ◌%◌, ◌<◌, ◌↔◌, List, slice_index}
-use Rattle.daa_config.specs.Mask.{HasLevel}
+use Rattle.daa_fixed.specs.Mask.{HasLevel}
 use Rattle.daa_config.specs.Packing.{group_size, mask_in}
 use Rattle.daa_bands.specs.Board.{HasLevelOn}
 

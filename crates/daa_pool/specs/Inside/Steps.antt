@@ -5,7 +5,8 @@ use Rattle.daa_range.specs.Range.{span_len}
 use Rattle.daa_range.specs.Word.{first_part, upto_part, unpacked, IsInOrder}
 use Rattle.daa_schedule.specs.CoreState.{once_below}
 use Rattle.daa_pool.specs.declared.view.View.{View}
-use Rattle.daa_pool.specs.View.{HasPart, looked, looked_home, claimed, stolen, kept, settled, ended, opener, times}
+use Rattle.daa_pool.specs.View.{settled, times}
+use Rattle.daa_pool.specs.Inside.View.{HasPart, looked, looked_home, claimed, stolen, kept, ended, opener}
 use Rattle.daa_pool.specs.History.{IsOneHistory}
 
 -- a seat as the table has it: its view, and the slots that it holds, which are none here

@@ -4,13 +4,13 @@ use Rattle.daa_taumod.specs.declared.Volume.{Volume}
 use Rattle.daa_config.specs.declared.candidate.Candidate.{Candidate}
 use Rattle.daa_config.specs.declared.kind.Kind.{Kind}
 use Rattle.daa_config.specs.Candidates.{candidate_to, candidates_of}
-use Rattle.daa_config.specs.Mask.{IsMaskOf}
+use Rattle.daa_fixed.specs.Mask.{IsMaskOf}
 use Rattle.daa_config.specs.Settings.{Settings}
 use Rattle.daa_state.specs.declared.word.Own.{Own}
 use Rattle.daa_state.specs.declared.word.Traffic.{Traffic}
 use Rattle.daa_legs.specs.Branch.{lead_of}
 use Rattle.daa_legs.specs.Meeting.{Meets}
-use Rattle.daa_scan.specs.Sharing.{IsTrailOf}
+use Rattle.daa_scan.specs.Inside.Sharing.{IsTrailOf}
 use Rattle.daa_scan.specs.declared.marking.Trails.{Trails}
 
 module _ (settings : Settings) (own : Own) (aircraft : Traffic) where

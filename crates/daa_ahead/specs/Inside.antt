@@ -1,0 +1,4 @@
+-- What private functions, tests and proofs alone cite: nothing here has to be believed.
+pub mod Read
+pub mod Ring
+pub mod Took

@@ -1,0 +1,3 @@
+-- What private functions, tests and proofs alone cite: nothing here has to be believed.
+pub mod CoreState
+pub mod Core

@@ -1,0 +1,4 @@
+-- What private functions, tests and proofs alone cite: nothing here has to be believed.
+pub mod Texts
+pub mod IdCells
+pub mod InRange
