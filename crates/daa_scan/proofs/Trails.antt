@@ -21,11 +21,11 @@ use Rattle.daa_legs.specs.declared.branch.Branch.{Branch}
 use Rattle.daa_legs.specs.Branch.{lead_of, velocity_there, FliesAs, FliesOn}
 use Rattle.daa_legs.specs.Table.{IsBranchOf}
 use Rattle.daa_legs.specs.Kept.{AreLegsOf}
-use Rattle.daa_legs.specs.OwnLegs.{place_on}
+use Rattle.daa_legs.specs.OwnLegs.{own_leg, place_on}
 use Rattle.daa_legs.specs.Runs.{IsRunOf, IsOwnRunInRange, MeetsBetween}
 use Rattle.daa_legs.specs.Meeting.{ViolatesOn, MeetsWithin}
 use Rattle.daa_legs.proofs.Branching.{place_alike, by_branch}
-use Rattle.daa_legs.proofs.Places.{place_on-below}
+use Rattle.daa_legs.proofs.Places.{velocity_on-below, place_on-below}
 use Rattle.daa_scan.specs.declared.trail.Trail.{Trail}
 use Rattle.daa_scan.specs.Inside.Sharing.{IsTrailOf}
 
