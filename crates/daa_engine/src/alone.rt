@@ -58,6 +58,57 @@ pub fn decide_in(
     fill(board, trunks, branches, config, picture);
 }
 
+/// Finds what is said of a moment whose board is handed in, and writes its lines. Everything is
+/// found before the first byte is written.
+pub(crate) fn say_moment<K: Sink>(
+    sink: &mut K,
+    config: &Config,
+    picture: &Picture,
+    board: &Board,
+) -> Result<(), SinkFault>
+    requires picture { IsPictureInRange picture.now }
+    requires board { IsBoardOf (CoveredAt config.now picture.now) config.now board.now }
+    ensures short { (text : Text) → IsMomentText config.now picture.now text
+        → length text ≤ longest_moment }
+    ensures says { SaysSome (IsMomentText config.now picture.now) (K.taken sink.old)
+        (K.taken sink.new) (K.faults sink.old) (K.faults sink.new) result }
+{
+    // tells that its numbers are in range
+    let _levels = config.levels();
+    // tells that it is a `u32`
+    let _time = time_of(picture);
+    let alerts = find_alerts(config, picture);
+    let advice = advise(board, config, &picture.own);
+    let rescues = find_rescues(config, picture, &advice);
+    say(sink, config, picture, board, &alerts, &advice, &rescues)
+}
+
+/// Decides a moment as `decide_in` does, on the same room, and writes its lines to the sink. There
+/// need be no engine. `SinkFault` comes only where the sink failed; then a beginning of the lines
+/// is written. The lines have at most 130176 bytes together.
+pub fn report_in<K: Sink>(
+    config: &Config,
+    picture: &Picture,
+    trunks: &mut [Trunk],
+    branches: &mut [Branch],
+    board: &mut Board,
+    sink: &mut K,
+) -> Result<(), SinkFault>
+    requires picture { IsPictureInRange picture.now }
+    requires trunks { length trunks.old ≡ 8 }
+    requires branches { length (candidates_of config.now) ≤ length branches.old }
+    ensures board { IsBoardOf (CoveredAt config.now picture.now) config.now board.new }
+    ensures trunks { length trunks.new ≡ 8 }
+    ensures branches { length branches.new ≡ length branches.old }
+    ensures short { (text : Text) → IsMomentText config.now picture.now text
+        → length text ≤ longest_moment }
+    ensures says { SaysSome (IsMomentText config.now picture.now) (K.taken sink.old)
+        (K.taken sink.new) (K.faults sink.old) (K.faults sink.new) result }
+{
+    decide_in(config, picture, trunks, branches, board);
+    say_moment(sink, config, picture, board)
+}
+
 impl Engine {
     /// Decides a moment as `decide` does, in the caller's thread alone and without memory, whatever
     /// the number of workers.
@@ -92,20 +143,13 @@ impl Engine {
         ensures says { SaysSome (IsMomentText self.old.settings picture.now) (K.taken sink.old)
             (K.taken sink.new) (K.faults sink.old) (K.faults sink.new) result }
     {
-        // tells that it is a `u32`
-        let _time = time_of(picture);
-        self.decide_alone(picture);
-        let alerts = find_alerts(&self.config, picture);
-        let advice = advise(&self.board, &self.config, &picture.own);
-        let rescues = find_rescues(&self.config, picture, &advice);
-        say(
-            sink,
+        report_in(
             &self.config,
             picture,
-            &self.board,
-            &alerts,
-            &advice,
-            &rescues,
+            self.trunks.as_mut_slice(),
+            self.branches.as_mut_slice(),
+            &mut self.board,
+            sink,
         )
     }
 

@@ -14,10 +14,7 @@ ghost use Rattle.daa_engine.specs.MomentText.{IsMomentText};
 ghost use Rattle.daa_report.specs.Lines.{Text};
 ghost use Rattle.daa_report.specs.Says.{SaysSome};
 
-use crate::advice::advise;
-use crate::alerts::find_alerts;
-use crate::rescue::find_rescues;
-use crate::say::say;
+use crate::alone::say_moment;
 use crate::together::fill_together;
 use daa_alert::{Alert, alert};
 use daa_bands::Board;
@@ -206,20 +203,7 @@ impl Engine {
         ensures says { SaysSome (IsMomentText self.old.settings picture.now) (K.taken sink.old)
             (K.taken sink.new) (K.faults sink.old) (K.faults sink.new) result }
     {
-        // tells that it is a `u32`
-        let _time = time_of(picture);
         self.decide(rt, alloc, picture, gate);
-        let alerts = find_alerts(&self.config, picture);
-        let advice = advise(&self.board, &self.config, &picture.own);
-        let rescues = find_rescues(&self.config, picture, &advice);
-        say(
-            sink,
-            &self.config,
-            picture,
-            &self.board,
-            &alerts,
-            &advice,
-            &rescues,
-        )
+        say_moment(sink, &self.config, picture, &self.board)
     }
 }
