@@ -3,8 +3,8 @@
  * There is no handle and no global state. What a caller keeps is plain numbers in structs of its own: a configuration
  * (struct daa_config, filled in by hand or by daa_read) and a moment's board of levels (struct daa_board, filled in by
  * daa_decide). Each call answers from what it is handed alone, so calls may run side by side in threads of the caller.
- * No call starts a thread, waits, prints, or keeps a pointer after it returns. daa_read and daa_report alone take memory
- * (malloc), and give it back before they return. Of the stack a call takes less than 256 KB (measured, not proved).
+ * No call starts a thread, waits, prints, or keeps a pointer after it returns. daa_read alone takes memory (malloc), and
+ * gives it back before it returns. Of the stack a call takes less than 256 KB (measured, not proved).
  *
  * Each call answers DAA_OK, or another number of the list below; then it has filled in nothing. Every number is looked at,
  * also those of a configuration, so no number that is handed in makes a call undefined.
@@ -37,7 +37,7 @@ enum {
     DAA_BAD_TRAFFIC = 17,        /* a number of an aircraft is out of its range */
     DAA_TOO_MANY = 18,           /* there are more than 64 aircraft */
     DAA_SHORT = 19,              /* the caller's room is too short */
-    DAA_NO_MEMORY = 20,          /* there is no memory; only daa_read and daa_report answer it */
+    DAA_NO_MEMORY = 20,          /* there is no memory; only daa_read answers it */
     DAA_BAD_ID = 21,             /* an aircraft's identifier is not allowed */
     DAA_SAME_ID = 22,            /* two aircraft have one identifier */
     DAA_BAD_KIND = 23,           /* the kind is none of daa_kind */
@@ -217,7 +217,7 @@ int32_t daa_recovery(const struct daa_config *config, const struct daa_own *own,
                      size_t count, int32_t kind, struct daa_recovery *out);
 
 /* Fills in the text of a moment as the program's report has it, and how many bytes it has; time is in seconds. DAA_SHORT where
- * room is less; 130176 bytes are always enough. */
+ * room is less, and only there; 130176 bytes are always enough. */
 int32_t daa_report(const struct daa_config *config, uint32_t time, const struct daa_own *own, const struct daa_traffic *traffic,
                    size_t count, uint8_t *text, size_t room, size_t *length);
 

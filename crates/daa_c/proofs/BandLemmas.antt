@@ -17,8 +17,8 @@ not_empty band stretch s = let e = ap length s.first.1 in omega arith
 
 bands_few : (marks : List Mark) (bands : List Band) → AreBands marks bands → length bands ≤ length marks
 bands_few marks [] are = omega arith
-bands_few marks (band ∷ bands) (stretch, rest, e, s, d, are) =
-    omega (arith, ap length e, length-append stretch rest, not_empty band stretch s, bands_few rest bands are)
+bands_few marks (band ∷ bands) (differs, are) =
+    omega (arith, ap length are.joined, length-append are.first are.second, not_empty band are.first are.first_is, bands_few are.second bands are.second_is)
 
 marks_few : (values : List ℤ) (levels : List ℕ) → length (zip values levels) ≤ length values
 marks_few [] levels = omega arith

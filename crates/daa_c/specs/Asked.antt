@@ -1,8 +1,8 @@
 -- What calls answer where they answer 0: under the configuration that the numbers are, which is accepted.
-use Rattle.std.specs.Prelude.{◌≡◌, ℕ, ℤ, List, length, map, take, slice_get, Option, Some, Ok}
+use Rattle.std.specs.Prelude.{◌≡◌, ◌<◌, ℕ, ℤ, List, length, map, take, slice_get, Option, Some, None, Ok}
 use Rattle.daa_bands.specs.Board.{HasLevelOn, IsBoardOf, mask_levels}
 use Rattle.daa_bands.specs.KindBands.{AreKindBands}
-use Rattle.daa_config.specs.Candidates.{candidates_of}
+use Rattle.daa_config.specs.Candidates.{candidates_of, values_of}
 use Rattle.daa_config.specs.Settings.{Settings}
 use Rattle.daa_config.specs.declared.candidate.Candidate.{Candidate}
 use Rattle.daa_config.specs.declared.candidate.Resolution.{Resolution}
@@ -73,6 +73,14 @@ module _ (config : DaaConfig) where
     pub kind_is : kind_number kind ≡ number
     pub are : AreKindBands (HasLevelOn board) mask_levels settings kind (map band_of (take count bands))
 
+  -- the kind that a number stands for has more values than there is room for
+  pub record HasMoreValues (number : ℤ) (room : ℕ) : Type 0 where
+    pub settings : Settings
+    pub accepted : settings_by config ≡ Ok settings
+    pub kind : Kind
+    pub kind_is : kind_number kind ≡ number
+    pub more : room < length (values_of kind settings)
+
   -- what is answered on the side of the kind that numbers stand for
   pub record IsResolutionUnder (own : Own) (board : List ℕ) (kind_given side_given : ℤ) (out : DaaResolution) : Type 0 where
     pub settings : Settings
@@ -97,9 +105,21 @@ module _ (config : DaaConfig) where
     pub is : IsRecovery settings picture kind answer
     pub told : out ≡ recovery_by answer
 
+  -- it asks for no recovery
+  pub record AsksForNone : Type 0 where
+    pub settings : Settings
+    pub accepted : settings_by config ≡ Ok settings
+    pub none : settings.recovery ≡ None
+
   -- the text of a picture
   pub record IsReported (picture : Picture) (text : List ℕ) : Type 0 where
     pub settings : Settings
     pub accepted : settings_by config ≡ Ok settings
     pub taken : IsTaken picture
     pub said : IsMomentText settings picture text
+
+  -- the picture has a text of more bytes than there is room for
+  pub record HasLongerText (picture : Picture) (room : ℕ) : Type 0 where
+    pub text : List ℕ
+    pub reported : IsReported picture text
+    pub longer : room < length text

@@ -1,5 +1,5 @@
 -- The numbers that stand for kinds, sides, candidates and faults in C.
-use Rattle.std.specs.Prelude.{ℤ, pos, Result, Ok, Err}
+use Rattle.std.specs.Prelude.{◌≢◌, ℤ, pos, Result, Ok, Err}
 use Rattle.daa_config.specs.declared.fault.ConfigFault.{ConfigFault}
 use Rattle.daa_config.specs.declared.fault.ConfigFault.TheVariants.{TooLong, NotToml, UnknownKey, MissingKey, NotNumber, OutOfRange, Levels, TooMany, NoMemory}
 use Rattle.daa_config.specs.declared.candidate.Candidate.{Candidate}
@@ -28,6 +28,13 @@ abbrev pub answer_of : Result Settings ConfigFault → ℤ
 answer_of (Ok settings) = pos 0
 answer_of (Err fault) = code_of fault
 
+-- the code is none of room that is too short, a kind, a side, or a recovery that is not asked for
+pub record IsOfStates (code : ℤ) : Type 0 where
+  pub long : code ≢ pos 19
+  pub kind : code ≢ pos 23
+  pub side : code ≢ pos 24
+  pub asked : code ≢ pos 26
+
 -- the number that stands for a kind
 abbrev pub kind_number : Kind → ℤ
 kind_number Track = pos 1
@@ -35,10 +42,18 @@ kind_number Speed = pos 2
 kind_number Climb = pos 3
 kind_number Height = pos 4
 
+-- the number stands for no kind
+abbrev pub IsNoKind : ℤ → Type 0
+IsNoKind number = (kind : Kind) → kind_number kind ≢ number
+
 -- the number that stands for a side
 abbrev pub side_number : Side → ℤ
 side_number Lower = pos 0
 side_number Upper = pos 1
+
+-- the number stands for no side
+abbrev pub IsNoSide : ℤ → Type 0
+IsNoSide number = (side : Side) → side_number side ≢ number
 
 -- the numbers of a candidate
 abbrev pub candidate_by : Candidate → DaaCandidate

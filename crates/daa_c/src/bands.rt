@@ -4,8 +4,8 @@ ghost use Rattle.std.specs.Prelude.{◌≡◌, ◌≢◌, ◌≤◌, pos, length
 ghost use Rattle.daa_bands.specs.Board.{HasLevelOn, mask_levels};
 ghost use Rattle.daa_bands.specs.KindBands.{AreKindBands};
 ghost use Rattle.daa_config.specs.Candidates.{values_of};
-ghost use Rattle.daa_c.specs.Asked.{AreBandsUnder};
-ghost use Rattle.daa_c.specs.Codes.{answer_of};
+ghost use Rattle.daa_c.specs.Asked.{AreBandsUnder, HasMoreValues};
+ghost use Rattle.daa_c.specs.Codes.{answer_of, IsNoKind};
 ghost use Rattle.daa_c.specs.Filled.{band_of};
 ghost use Rattle.daa_c.specs.Numbers.{settings_by};
 
@@ -62,6 +62,8 @@ pub extern "C" fn daa_bands(
         → AreBandsUnder config.now board.now.masks kind bands.new count.new }
     ensures bands_kept { result ≢ pos 0 → bands.new ≡ bands.old }
     ensures count_kept { result ≢ pos 0 → count.new ≡ count.old }
+    ensures no_kind { result ≡ pos 23 → IsNoKind kind }
+    ensures short { result ≡ pos 19 → HasMoreValues config.now kind (length bands.old) }
     ensures refused { result ≢ pos 0 → result ≢ pos 19 → result ≢ pos 23
         → answer_of (settings_by config.now) ≡ result }
 {

@@ -1,7 +1,7 @@
 //! The numbers that stand for kinds, sides and faults in C.
 
-ghost use Rattle.std.specs.Prelude.{◌≡◌, ◌≢◌, pos, IfSome};
-ghost use Rattle.daa_c.specs.Codes.{code_of, kind_number, side_number};
+ghost use Rattle.std.specs.Prelude.{◌≡◌, ◌≢◌, pos, IfSome, IfNone};
+ghost use Rattle.daa_c.specs.Codes.{code_of, IsNoKind, IsNoSide, IsOfStates, kind_number, side_number};
 
 use daa_config::{ConfigFault, Kind};
 use daa_resolve::Side;
@@ -9,7 +9,7 @@ use daa_resolve::Side;
 /// The caller's room is too short.
 pub(crate) const SHORT: i32 = 19;
 /// There is no memory.
-pub(crate) const NO_MEMORY: i32 = 20;
+const NO_MEMORY: i32 = 20;
 /// The number is none of a kind.
 pub(crate) const BAD_KIND: i32 = 23;
 /// The number is none of a side.
@@ -23,6 +23,7 @@ pub(crate) const NOT_ASKED: i32 = 26;
 pub(crate) fn fault_code(fault: ConfigFault) -> i32
     ensures value { result ≡ code_of fault }
     ensures some { result ≢ pos 0 }
+    ensures others { IsOfStates result }
 {
     match fault {
         ConfigFault::TooLong => 1,
@@ -39,7 +40,8 @@ pub(crate) fn fault_code(fault: ConfigFault) -> i32
 
 /// The kind that a number stands for.
 pub(crate) fn kind_in(number: i32) -> Option<Kind>
-    ensures { IfSome result (λ kind. kind_number kind ≡ number) }
+    ensures some { IfSome result (λ kind. kind_number kind ≡ number) }
+    ensures none { IfNone result (IsNoKind number) }
 {
     match number {
         1 => Some(Kind::Track),
@@ -52,7 +54,8 @@ pub(crate) fn kind_in(number: i32) -> Option<Kind>
 
 /// The side that a number stands for.
 pub(crate) fn side_in(number: i32) -> Option<Side>
-    ensures { IfSome result (λ side. side_number side ≡ number) }
+    ensures some { IfSome result (λ side. side_number side ≡ number) }
+    ensures none { IfNone result (IsNoSide number) }
 {
     match number {
         0 => Some(Side::Lower),

@@ -1,7 +1,8 @@
 //! The recovery of a kind.
 
 ghost use Rattle.std.specs.Prelude.{◌≡◌, ◌≢◌, pos};
-ghost use Rattle.daa_c.specs.Asked.{IsRecoveryUnder};
+ghost use Rattle.daa_c.specs.Asked.{AsksForNone, IsRecoveryUnder};
+ghost use Rattle.daa_c.specs.Codes.{IsNoKind};
 ghost use Rattle.daa_c.specs.Filled.{recovery_by};
 ghost use Rattle.daa_c.specs.Faults.{IsRefusal, IsCodeOf};
 ghost use Rattle.daa_c.specs.States.{picture_of};
@@ -51,6 +52,8 @@ pub extern "C" fn daa_recovery(
     ensures told { result ≡ pos 0
         → IsRecoveryUnder config.now (picture_of 0 own.now traffic.now) kind out.new }
     ensures kept { result ≢ pos 0 → out.new ≡ out.old }
+    ensures no_kind { result ≡ pos 23 → IsNoKind kind }
+    ensures not_asked { result ≡ pos 26 → AsksForNone config.now }
     ensures refused { result ≢ pos 0 → result ≢ pos 23 → result ≢ pos 26
         → IsCodeOf (IsRefusal config.now own.now traffic.now) result }
 {

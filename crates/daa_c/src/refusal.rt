@@ -1,6 +1,7 @@
 //! Why a caller's numbers are refused.
 
 ghost use Rattle.std.specs.Prelude.{◌≡◌, ◌≢◌, pos};
+ghost use Rattle.daa_c.specs.Codes.{IsOfStates};
 ghost use Rattle.daa_c.specs.Faults.{refusal_code};
 
 use crate::codes::fault_code;
@@ -20,6 +21,7 @@ pub(crate) enum Refusal {
 fn picture_code(fault: PictureFault) -> i32
     ensures value { result ≡ refusal_code (Refusal.Picture fault) }
     ensures some { result ≢ pos 0 }
+    ensures others { IsOfStates result }
 {
     match fault {
         PictureFault::Own(_) => 16,
@@ -33,6 +35,7 @@ fn picture_code(fault: PictureFault) -> i32
 pub(crate) fn code(refusal: Refusal) -> i32
     ensures value { result ≡ refusal_code refusal }
     ensures some { result ≢ pos 0 }
+    ensures others { IsOfStates result }
 {
     match refusal {
         Refusal::Config(fault) => fault_code(fault),

@@ -1,43 +1,49 @@
 //! The text of a moment.
 
-ghost use Rattle.std.specs.Prelude.{◌≡◌, ◌≢◌, [], pos, take, true};
+ghost use Rattle.std.specs.Prelude.{◌≡◌, ◌≢◌, ◌≤◌, [], pos, length, take};
 ghost use Rattle.daa_engine.specs.MomentText.{IsMomentText};
 ghost use Rattle.daa_state.specs.InRange.{IsPictureInRange};
-ghost use Rattle.daa_c.specs.Asked.{IsReported};
+ghost use Rattle.daa_c.specs.Asked.{IsReported, HasLongerText};
 ghost use Rattle.daa_c.specs.Faults.{IsRefusal, IsCodeOf};
 ghost use Rattle.daa_c.specs.States.{picture_of};
 
-use crate::codes::{NO_MEMORY, SHORT};
+use crate::codes::SHORT;
+use crate::deciding::{MOST_CANDIDATES, trunks};
 use crate::refusal::{Refusal, code};
 use crate::setting::{DaaConfig, accept};
 use crate::sheet::Sheet;
 use crate::states::{DaaOwn, DaaTraffic, picture};
-use arrayvec::ArrayVec;
+use daa_bands::Board;
 use daa_config::Config;
-use daa_engine::Engine;
+use daa_engine::report_in;
+use daa_legs::Branch;
 use daa_state::Picture;
-use std::alloc::Global;
 
-/// Writes the text of a moment on an empty sheet, unless there is no memory.
-fn write(alloc: Global, config: Config, picture: &Picture, sheet: &mut Sheet) -> bool
+/// Writes the text of a moment on an empty sheet, which has room for it.
+fn write(config: &Config, picture: &Picture, sheet: &mut Sheet)
     requires picture { IsPictureInRange picture.now }
     requires empty { sheet.old.text.items ≡ [] }
-    ensures { result ≡ true → IsMomentText config picture.now sheet.new.text.items }
+    ensures { IsMomentText config.now picture.now sheet.new.text.items }
 {
-    match Engine::new(alloc, config, 1) {
-        Ok(mut engine) => match engine.report_alone(picture, sheet) {
-            Ok(()) => true,
-            Err(_) => false,
-        },
-        Err(_) => false,
-    }
+    // tells how many there are
+    let _total = config.total();
+    let mut board = Board::new();
+    let mut trunks = trunks();
+    let mut branches = [Branch::new(); MOST_CANDIDATES];
+    let _fits = report_in(
+        config,
+        picture,
+        &mut trunks,
+        &mut branches,
+        &mut board,
+        sheet,
+    );
 }
 
 /// Fills in the text of a moment, and how many bytes it has. Answers 0, or why nothing was filled
 /// in.
 #[unsafe(no_mangle)]
 pub extern "C" fn daa_report(
-    alloc: Global,
     config: &DaaConfig,
     time: u32,
     own: &DaaOwn,
@@ -47,9 +53,12 @@ pub extern "C" fn daa_report(
 ) -> i32
     ensures said { result ≡ pos 0 → IsReported
         config.now (picture_of time own.now traffic.now) (take count.new text.new) }
+    ensures fits { result ≡ pos 0 → count.new ≤ length text.new }
     ensures text_kept { result ≢ pos 0 → text.new ≡ text.old }
     ensures count_kept { result ≢ pos 0 → count.new ≡ count.old }
-    ensures refused { result ≢ pos 0 → result ≢ pos 19 → result ≢ pos 20
+    ensures short { result ≡ pos 19 → HasLongerText
+        config.now (picture_of time own.now traffic.now) (length text.old) }
+    ensures refused { result ≢ pos 0 → result ≢ pos 19
         → IsCodeOf (IsRefusal config.now own.now traffic.now) result }
 {
     let config = match accept(config) {
@@ -60,13 +69,8 @@ pub extern "C" fn daa_report(
         Ok(picture) => picture,
         Err(refusal) => return code(refusal),
     };
-    let mut sheet = Sheet {
-        text: ArrayVec::new(),
-        faults: 0,
-    };
-    if !write(alloc, config, &picture, &mut sheet) {
-        return NO_MEMORY;
-    }
+    let mut sheet = Sheet::new();
+    write(&config, &picture, &mut sheet);
     let said = sheet.text.as_slice();
     if text.len() < said.len() {
         return SHORT;

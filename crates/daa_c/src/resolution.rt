@@ -1,13 +1,15 @@
 //! What is answered on a side of a kind.
 
-ghost use Rattle.std.specs.Prelude.{◌≡◌, ◌≢◌, pos};
+ghost use Rattle.std.specs.Prelude.{◌≡◌, ◌≢◌, [], pos};
 ghost use Rattle.daa_c.specs.Asked.{IsResolutionUnder};
+ghost use Rattle.daa_c.specs.Codes.{IsNoKind, IsNoSide};
+ghost use Rattle.daa_c.specs.Faults.{IsRefusal, IsCodeOf};
 ghost use Rattle.daa_c.specs.Filled.{resolution_by};
 ghost use Rattle.daa_c.specs.States.{own_of};
 
-use crate::codes::{BAD_KIND, BAD_SIDE, fault_code, kind_in, side_in};
+use crate::codes::{BAD_KIND, BAD_SIDE, kind_in, side_in};
 use crate::deciding::DaaBoard;
-use crate::refusal::code;
+use crate::refusal::{Refusal, code};
 use crate::setting::{DaaConfig, accept};
 use crate::states::{DaaOwn, checked_own};
 use daa_bands::Board;
@@ -46,10 +48,14 @@ pub extern "C" fn daa_resolution(
     ensures told { result ≡ pos 0
         → IsResolutionUnder config.now (own_of own.now) board.now.masks kind side out.new }
     ensures kept { result ≢ pos 0 → out.new ≡ out.old }
+    ensures no_kind { result ≡ pos 23 → IsNoKind kind }
+    ensures no_side { result ≡ pos 24 → IsNoSide side }
+    ensures refused { result ≢ pos 0 → result ≢ pos 23 → result ≢ pos 24
+        → IsCodeOf (IsRefusal config.now own.now []) result }
 {
     let config = match accept(config) {
         Ok(config) => config,
-        Err(fault) => return fault_code(fault),
+        Err(fault) => return code(Refusal::Config(fault)),
     };
     let own = match checked_own(own) {
         Ok(own) => own,

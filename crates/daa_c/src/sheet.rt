@@ -1,18 +1,31 @@
 //! Room for the text of a moment.
 
-ghost use Rattle.std.specs.Prelude.{◌≡◌, Some};
+ghost use Rattle.std.specs.Prelude.{◌≡◌, ◌<◌, [], Some, length};
 
 use arrayvec::ArrayVec;
 use daa_outside::{Failed, Sink};
 
-/// The most bytes that the text of a moment has.
-const LONGEST_MOMENT: usize = 130_176;
+/// One byte more than the text of a moment has at most.
+const ROOM: usize = 130_177;
 
-/// Room for the text of a moment, and how many writes did not fit.
+/// Room for the text of a moment, and how many writes to it failed: none before it is full.
 #[derive(Drop)]
 pub(crate) struct Sheet {
-    pub(crate) text: ArrayVec<u8, LONGEST_MOMENT>,
+    pub(crate) text: ArrayVec<u8, ROOM>,
     pub(crate) faults: u64,
+    ghost full: { 0 < faults → length text.items ≡ 130177 },
+}
+
+impl Sheet {
+    /// A sheet with nothing on it.
+    pub(crate) fn new() -> Sheet
+        ensures { result.text.items ≡ [] }
+    {
+        Sheet {
+            text: ArrayVec::new(),
+            faults: 0,
+        }
+    }
 }
 
 impl Sink for Sheet {
@@ -22,12 +35,15 @@ impl Sink for Sheet {
 
     ghost faults = { λ s. s.faults };
 
-    /// Takes the piece whole, where it fits.
+    /// Takes what there is room for.
     fn write(&mut self, piece: &[u8]) -> Result<usize, Failed> {
-        if self.text.try_extend_from_slice(piece).is_ok() {
-            return Ok(piece.len());
+        let room = self.text.remaining_capacity();
+        if room == 0 {
+            self.faults = self.faults.saturating_add(1);
+            return Err(Failed);
         }
-        self.faults = self.faults.saturating_add(1);
-        Err(Failed)
+        let count = piece.len().min(room);
+        let _fits = self.text.try_extend_from_slice(&piece[..count]);
+        Ok(count)
     }
 }

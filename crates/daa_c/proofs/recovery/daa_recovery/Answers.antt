@@ -12,3 +12,8 @@ pub returns-in-Err-picture-clause-refused : goal.returns-in-Err-picture-clause-r
 returns-in-Err-picture-clause-refused c = λ _ _ _.
     let fits : FitsSigned w32 c.code-in-Err-picture.result = search rules in
     (c.in-Err-picture.refusal, c.in-Err-picture.ensures.refused c.args.config.now, sym (to_z-of_z w32 _ fits ∙ c.code-in-Err-picture.ensures.value))
+
+pub returns-in_default-clause-no_kind : goal.returns-in_default-clause-no_kind
+returns-in_default-clause-no_kind c = λ _ kind is.
+    let fits : FitsSigned w32 c.args.kind = search rules in
+    c.in_default.ensures.none kind (is ∙ sym (to_z-of_z w32 _ fits))

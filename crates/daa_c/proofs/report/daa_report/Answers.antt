@@ -4,11 +4,21 @@ use Rattle.daa_c.specs.declared.refusal.Refusal.TheVariants as refuses
 use Rattle.daa_c.proofs.report.daa_report.Goals as goal
 
 pub returns-in-Err-clause-refused : goal.returns-in-Err-clause-refused
-returns-in-Err-clause-refused c = λ _ _ _.
+returns-in-Err-clause-refused c = λ _ _.
     let fits : FitsSigned w32 c.code.result = search rules in
     (refuses.Config c.in-Err.fault, c.in-Err.ensures.refused, sym (to_z-of_z w32 _ fits ∙ c.code.ensures.value))
 
 pub returns-in-Err-picture-clause-refused : goal.returns-in-Err-picture-clause-refused
-returns-in-Err-picture-clause-refused c = λ _ _ _.
+returns-in-Err-picture-clause-refused c = λ _ _.
     let fits : FitsSigned w32 c.code-in-Err-picture.result = search rules in
     (c.in-Err-picture.refusal, c.in-Err-picture.ensures.refused c.args.config.now, sym (to_z-of_z w32 _ fits ∙ c.code-in-Err-picture.ensures.value))
+
+pub returns-in-Err-clause-short : goal.returns-in-Err-clause-short
+returns-in-Err-clause-short c = λ short.
+    let fits : FitsSigned w32 c.code.result = search rules in
+    absurd (c.code.ensures.others.long (sym (to_z-of_z w32 _ fits) ∙ short))
+
+pub returns-in-Err-picture-clause-short : goal.returns-in-Err-picture-clause-short
+returns-in-Err-picture-clause-short c = λ short.
+    let fits : FitsSigned w32 c.code-in-Err-picture.result = search rules in
+    absurd (c.code-in-Err-picture.ensures.others.long (sym (to_z-of_z w32 _ fits) ∙ short))

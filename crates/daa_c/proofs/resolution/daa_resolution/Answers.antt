@@ -1,9 +1,10 @@
-use Rattle.std.proofs.Common.{◌≡◌, ◌∙◌, ℕ, List, subst, pos, rules, w32, FitsSigned}
+use Rattle.std.proofs.Common.{◌≡◌, ◌∙◌, sym, ℕ, List, [], subst, pos, rules, w32, FitsSigned}
 use Rattle.std.proofs.lemmas.Int.{to_z-of_z}
 use Rattle.daa_bands.specs.Board.{HasLevelOn}
 use Rattle.daa_resolve.specs.Resolution.{IsResolution}
 use Rattle.daa_state.specs.InRange.{IsOwnInRange}
 use Rattle.daa_state.specs.declared.word.Own.{Own}
+use Rattle.daa_c.specs.declared.refusal.Refusal.TheVariants as refuses
 use Rattle.daa_c.proofs.resolution.daa_resolution.Goals as goal
 
 pub returns-clause-told : goal.returns-clause-told
@@ -16,11 +17,29 @@ returns-clause-told c = λ (_ : pos 0 ≡ pos 0).
       accepted = c.in-Ok.ensures.accepted;
       own_range = subst IsOwnInRange same c.in-Ok-checked_own.ensures.range;
       kind = k;
-      kind_is = c.in-Some.ensures ∙ to_z-of_z w32 _ fits;
+      kind_is = c.in-Some.ensures.some ∙ to_z-of_z w32 _ fits;
       side = side;
-      side_is = c.in-Some-side_in.ensures ∙ to_z-of_z w32 _ side_fits;
+      side_is = c.in-Some-side_in.ensures.some ∙ to_z-of_z w32 _ side_fits;
       answer = answer;
       is = subst (λ (own : Own). IsResolution (HasLevelOn c.args.board.now.masks) s own k side answer) same
           (subst (λ (board : List ℕ). IsResolution (HasLevelOn board) s c.in-Ok-checked_own.own k side answer) c.of.ensures c.nearest.ensures);
       told = c.told.ensures;
     }
+
+pub returns-in-Err-clause-refused : goal.returns-in-Err-clause-refused
+returns-in-Err-clause-refused c = λ _ _ _.
+    let fits : FitsSigned w32 c.code.result = search rules in
+    (refuses.Config c.in-Err.fault, c.in-Err.ensures.refused, sym (to_z-of_z w32 _ fits ∙ c.code.ensures.value))
+
+pub returns-in-Err-checked_own-clause-refused : goal.returns-in-Err-checked_own-clause-refused
+returns-in-Err-checked_own-clause-refused c = λ _ _ _.
+    let fits : FitsSigned w32 c.code-in-Err-checked_own.result = search rules in (
+      c.in-Err-checked_own.refusal,
+      c.in-Err-checked_own.ensures.refused c.args.config.now [],
+      sym (to_z-of_z w32 _ fits ∙ c.code-in-Err-checked_own.ensures.value),
+    )
+
+pub returns-in_default-clause-no_kind : goal.returns-in_default-clause-no_kind
+returns-in_default-clause-no_kind c = λ _ kind is.
+    let fits : FitsSigned w32 c.args.kind = search rules in
+    c.in_default.ensures.none kind (is ∙ sym (to_z-of_z w32 _ fits))
