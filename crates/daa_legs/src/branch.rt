@@ -5,6 +5,7 @@ ghost use Rattle.daa_fixed.specs.Size.{IsFrom, IsWithin};
 ghost use Rattle.daa_config.specs.Settings.{IsCandidateInRange, AreRatesInRange};
 ghost use Rattle.daa_config.specs.declared.candidate.Candidate.{Candidate};
 ghost use Rattle.daa_state.specs.InRange.{IsOwnInRange};
+ghost use Rattle.daa_heading.specs.Heading.{velocity_of};
 ghost use Rattle.daa_legs.specs.Branch.{lead_of, FliesAs, FliesOn};
 ghost use Rattle.daa_legs.specs.Inside.Branch.{IsWholeLegs};
 ghost use Rattle.daa_legs.specs.Table.{IsBranchOf};
@@ -14,6 +15,7 @@ ghost use Rattle.daa_legs.specs.Turn.{right_angle};
 use crate::motion::{velocity_at_end, vertical_speed_at};
 use daa_config::{Candidate, Rates};
 use daa_fixed::{Flat, Solid, feet};
+use daa_heading::velocity;
 use daa_state::Own;
 
 /// A candidate flies before leg `leaves` as the flight does that leads on its side. From leg
@@ -72,9 +74,20 @@ pub fn branch_of(own: &Own, rates: &Rates, candidate: Candidate) -> Branch
     requires candidate { IsCandidateInRange candidate }
     ensures { IsBranchOf own.now rates.now candidate result }
 {
+    branch_from(own, rates, candidate, &velocity(own.gs, own.trk))
+}
+
+/// The same, where the present way over ground of a second is known.
+pub fn branch_from(own: &Own, rates: &Rates, candidate: Candidate, present: &Flat) -> Branch
+    requires own { IsOwnInRange own.now }
+    requires rates { AreRatesInRange rates.now }
+    requires candidate { IsCandidateInRange candidate }
+    requires present { present.now ≡ velocity_of own.now.gs own.now.trk }
+    ensures { IsBranchOf own.now rates.now candidate result }
+{
     let parting = parting_of(own, rates, candidate);
     Branch {
-        velocity: velocity_at_end(own, candidate),
+        velocity: velocity_at_end(own, candidate, present),
         rise: rise_on(own, rates, candidate, &parting),
         leaves: parting.leaves,
         settles: parting.settles,

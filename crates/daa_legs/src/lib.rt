@@ -14,7 +14,7 @@ mod traffic;
 mod trunk;
 mod turn;
 
-pub use branch::{Branch, branch_of};
+pub use branch::{Branch, branch_from, branch_of};
 pub use encounter::{relative, relative_run};
 pub use flight::Flight;
 pub use joint::end_of;

@@ -2,7 +2,6 @@
 
 ghost use Rattle.std.specs.Prelude.{◌≡◌, ◌<◌, ◌≤◌, ◌+◌, pos, ◌*ℤ◌, ◌-ℤ◌, negsuc};
 ghost use Rattle.daa_fixed.specs.Toward.{toward_of};
-ghost use Rattle.daa_fixed.specs.Leg.{IsSolidBelow};
 ghost use Rattle.daa_fixed.specs.Size.{IsFrom, IsWithin};
 ghost use Rattle.daa_config.specs.Settings.{IsCandidateInRange, AreRatesInRange};
 ghost use Rattle.daa_state.specs.InRange.{IsOwnInRange};
@@ -58,19 +57,30 @@ pub(crate) fn velocity_from(
     }
 }
 
-/// The velocity once the candidate's value is reached.
-pub(crate) fn velocity_at_end(own: &Own, candidate: Candidate) -> Solid
+/// The velocity once the candidate's value is reached, where the present way over ground of a
+/// second is known.
+pub(crate) fn velocity_at_end(own: &Own, candidate: Candidate, present: &Flat) -> Solid
     requires own { IsOwnInRange own.now }
     requires candidate { IsCandidateInRange candidate }
-    ensures value { result ≡ velocity_there own.now candidate }
-    ensures size { IsSolidBelow 20000 result }
+    requires present { present.now ≡ velocity_of own.now.gs own.now.trk }
+    ensures { result ≡ velocity_there own.now candidate }
 {
     match candidate {
-        Candidate::Hold => flown(own.gs, own.trk, own.vs),
+        Candidate::Hold => rising(present, own.vs),
         Candidate::Track(c) => flown(own.gs, c, own.vs),
         Candidate::Speed(g) => flown(g, own.trk, own.vs),
-        Candidate::Climb(w) => flown(own.gs, own.trk, w),
-        Candidate::Height(_) => flown(own.gs, own.trk, 0),
+        Candidate::Climb(w) => rising(present, w),
+        Candidate::Height(_) => rising(present, 0),
+    }
+}
+
+/// The velocity of a way over ground of a second and a vertical speed.
+fn rising(way: &Flat, up: i32) -> Solid
+    ensures { result ≡ record { flat = way.now; up = up } }
+{
+    Solid {
+        flat: *way,
+        up: i64::from(up),
     }
 }
 
@@ -78,14 +88,9 @@ pub(crate) fn velocity_at_end(own: &Own, candidate: Candidate) -> Solid
 fn flown(gs: i32, track: i32, up: i32) -> Solid
     requires gs { IsFrom (pos 0) (pos 10000) gs }
     requires track { IsFrom (pos 0) (pos 359) track }
-    requires up { IsFrom (negsuc 9999) (pos 10000) up }
-    ensures value { result ≡ record { flat = velocity_of gs track; up = up } }
-    ensures size { IsSolidBelow 20000 result }
+    ensures { result ≡ record { flat = velocity_of gs track; up = up } }
 {
-    Solid {
-        flat: velocity(gs, track),
-        up: i64::from(up),
-    }
+    rising(&velocity(gs, track), up)
 }
 
 /// The track in degrees on leg `k`.

@@ -1,15 +1,19 @@
 //! The legs of a flight, kept.
 
 ghost use Rattle.std.specs.Prelude.{◌≡◌, ◌≤◌, ◌<◌, length, slice_index_or};
-ghost use Rattle.daa_config.specs.Settings.{IsCandidateInRange, rates_of};
+ghost use Rattle.daa_config.specs.Settings.{IsCandidateInRange, AreRatesInRange, rates_of};
 ghost use Rattle.daa_state.specs.InRange.{IsOwnInRange};
+ghost use Rattle.daa_heading.specs.Heading.{velocity_of};
 ghost use Rattle.daa_legs.specs.Kept.{AreLegsOf};
+ghost use Rattle.daa_legs.specs.Motion.{velocity_on};
+ghost use Rattle.daa_legs.specs.Table.{IsBranchOf};
 ghost use Rattle.daa_legs.specs.declared.own_leg.OwnLeg.{OwnLeg};
 
+use crate::branch::{Branch, branch_from};
 use crate::flight::{Flight, sum};
 use crate::motion::velocity_from;
 use crate::own_leg::OwnLeg;
-use daa_config::{Candidate, Config};
+use daa_config::{Candidate, Config, Rates};
 use daa_fixed::{Flat, Solid};
 use daa_heading::velocity;
 use daa_state::Own;
@@ -64,11 +68,12 @@ impl Trunk {
     {
         let rates = config.rates();
         let present = velocity(own.gs, own.trk);
+        let branch = branch_from(own, &rates, candidate, &present);
         // the place is a local, since a read of what was just written in halves is slow
         let mut flight = Flight::begin(own, config, candidate);
         let mut place = flight.next_leg().place;
         for k in 0..most {
-            let velocity = velocity_from(own, &rates, candidate, k, &present);
+            let velocity = velocity_by(own, &rates, candidate, k, &present, &branch);
             self.legs[k as usize] = OwnLeg { place, velocity };
             place = sum(&place, &velocity);
         }
@@ -81,5 +86,30 @@ impl Trunk {
         ensures { (d : OwnLeg) → slice_index_or self.now k d ≡ result.now }
     {
         &self.legs[k as usize]
+    }
+}
+
+/// The velocity on leg `k` of the candidate that has this branch, where the present way over ground
+/// of a second is known.
+fn velocity_by(
+    own: &Own,
+    rates: &Rates,
+    candidate: Candidate,
+    k: u32,
+    present: &Flat,
+    branch: &Branch,
+) -> Solid
+    requires own { IsOwnInRange own.now }
+    requires rates { AreRatesInRange rates.now }
+    requires candidate { IsCandidateInRange candidate }
+    requires k { k < 180 }
+    requires present { present.now ≡ velocity_of own.now.gs own.now.trk }
+    requires branch { IsBranchOf own.now rates.now candidate branch.now }
+    ensures { result ≡ velocity_on own.now rates.now candidate k }
+{
+    if k < branch.settles {
+        velocity_from(own, rates, candidate, k, present)
+    } else {
+        branch.velocity
     }
 }

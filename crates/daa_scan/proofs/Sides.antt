@@ -18,6 +18,7 @@ use Rattle.daa_state.specs.declared.word.Traffic.{Traffic}
 use Rattle.daa_legs.specs.declared.own_leg.OwnLeg.{OwnLeg}
 use Rattle.daa_legs.specs.Branch.{lead_of}
 use Rattle.daa_legs.specs.Kept.{AreLegsOf}
+use Rattle.daa_legs.specs.Meeting.{ViolatesOn}
 use Rattle.daa_legs.proofs.AtLevel.{one_level}
 use Rattle.daa_scan.specs.declared.refusal.Seconds.{Seconds}
 use Rattle.daa_scan.specs.declared.trail.Trail.{Trail}
@@ -93,11 +94,28 @@ module _ (own : Own) (kind : Kind) (upper : Bool) (lead : Candidate) (is : (z : 
     pub lower_trail : upper ≡ false → IsTrailOf settings own lead aircraft volume trails.lower
     lower_trail e = subst (λ (c : Candidate). IsTrailOf settings own c aircraft volume trails.lower) (sym (along false e (pos 0))) (h.lower (pos 0))
 
-    pub upper_kept : (new : Trail) → upper ≡ true → IsTrailOf settings own lead aircraft volume new → AreTrailsOf settings own aircraft volume kind (record { upper = new; lower = trails.lower })
-    upper_kept new e t = record { upper = λ z. subst (λ (c : Candidate). IsTrailOf settings own c aircraft volume new) (along true e z) t; lower = h.lower }
+    pub upper_kept : (new : Trail) → upper ≡ true → new.end ≡ trails.upper.end → IsTrailOf settings own lead aircraft volume new → AreTrailsOf settings own aircraft volume kind (record { upper = new; lower = trails.lower })
+    upper_kept new e end t = record {
+      upper = λ z. subst (λ (c : Candidate). IsTrailOf settings own c aircraft volume new) (along true e z) t;
+      lower = h.lower;
+      past_upper = λ z k b past. h.past_upper z k b (omega (arith, past, end));
+      past_lower = h.past_lower;
+    }
 
-    pub lower_kept : (new : Trail) → upper ≡ false → IsTrailOf settings own lead aircraft volume new → AreTrailsOf settings own aircraft volume kind (record { upper = trails.upper; lower = new })
-    lower_kept new e t = record { upper = h.upper; lower = λ z. subst (λ (c : Candidate). IsTrailOf settings own c aircraft volume new) (along false e z) t }
+    pub lower_kept : (new : Trail) → upper ≡ false → new.end ≡ trails.lower.end → IsTrailOf settings own lead aircraft volume new → AreTrailsOf settings own aircraft volume kind (record { upper = trails.upper; lower = new })
+    lower_kept new e end t = record {
+      upper = h.upper;
+      lower = λ z. subst (λ (c : Candidate). IsTrailOf settings own c aircraft volume new) (along false e z) t;
+      past_upper = h.past_upper;
+      past_lower = λ z k b past. h.past_lower z k b (omega (arith, past, end));
+    }
+
+    -- a candidate of the kind violates nothing from the trail's end on
+    pub upper_past : (candidate : Candidate) (value : ℤ) → candidate ≡ candidate_to kind value → (k : ℕ) → k < 180 → trails.upper.end ≤ k → ¬ ViolatesOn settings own candidate aircraft volume k
+    upper_past candidate value c k b past v = h.past_upper value k b past (subst (λ (x : Candidate). ViolatesOn settings own x aircraft volume k) c v)
+
+    pub lower_past : (candidate : Candidate) (value : ℤ) → candidate ≡ candidate_to kind value → (k : ℕ) → k < 180 → trails.lower.end ≤ k → ¬ ViolatesOn settings own candidate aircraft volume k
+    lower_past candidate value c k b past v = h.past_lower value k b past (subst (λ (x : Candidate). ViolatesOn settings own x aircraft volume k) c v)
 
 -- what leads on a side is a candidate of the kind
 leads : (own : Own) (kind : Kind) (upper : Bool) (z : ℤ) → (w : ℤ) × (lead_of own (candidate_to kind z) upper ≡ candidate_to kind w)
@@ -110,7 +128,7 @@ leads own Height upper z = (_, refl)
 -- nothing was walked: a trail is at the first of the kind's seconds
 pub begun : (settings : Settings) (own : Own) (aircraft : Traffic) (volume : Volume) (kind : Kind) (m : ℕ) (seconds : Seconds) → AreSecondsOf settings own aircraft kind volume m seconds → seconds.first < m
     → AreTrailsOf settings own aircraft volume kind (record { upper = record { walked = seconds.first; end = seconds.end; hit = false }; lower = record { walked = seconds.first; end = seconds.end; hit = false } })
-begun settings own aircraft volume kind m seconds h b = record { upper = fresh true; lower = fresh false }
+begun settings own aircraft volume kind m seconds h b = record { upper = fresh true; lower = fresh false; past_upper = h.after; past_lower = h.after }
   where
     fresh : (upper : Bool) (z : ℤ) → IsTrailOf settings own (lead_of own (candidate_to kind z) upper) aircraft volume (record { walked = seconds.first; end = seconds.end; hit = false })
     fresh upper z = let w = leads own kind upper z in

@@ -17,7 +17,7 @@ ghost use Rattle.daa_state.specs.InRange.{IsOwnInRange, IsTrafficInRange};
 ghost use Rattle.daa_legs.specs.Branch.{lead_of};
 ghost use Rattle.daa_legs.specs.Table.{IsBranchOf};
 ghost use Rattle.daa_legs.specs.Kept.{AreLegsOf};
-ghost use Rattle.daa_legs.specs.Meeting.{MeetsWithin, Meets};
+ghost use Rattle.daa_legs.specs.Meeting.{MeetsWithin, Meets, ViolatesOn};
 ghost use Rattle.daa_scan.specs.Inside.Refusal.{AreSecondsAt};
 ghost use Rattle.daa_scan.specs.Inside.Sharing.{IsTrailOf};
 ghost use Rattle.daa_scan.specs.Trunks.{trunk_in};
@@ -379,8 +379,8 @@ fn meets_shared(
     }
 }
 
-/// Whether the candidate that has this branch meets the aircraft within the level's lookahead. The
-/// trail is walked on as far as is needed.
+/// Whether the candidate that has this branch, which violates nothing from the trail's end on,
+/// meets the aircraft within the level's lookahead. The trail is walked on as far as is needed.
 fn meets_along(
     config: &Config,
     own: &Own,
@@ -401,10 +401,13 @@ fn meets_along(
     requires leads { lead ≡ lead_of own.now candidate branch.now.upper }
     requires branch { IsBranchOf own.now (rates_of config.now) candidate branch.now }
     requires trail { IsTrailOf config.now own.now lead aircraft.now level.now.volume trail.old }
+    requires later { (k : ℕ) → k < 180 → trail.old.end ≤ k
+        → ¬ ViolatesOn config.now own.now candidate aircraft.now level.now.volume k }
     ensures met { IsTrue result
         ↔ MeetsWithin config.now own.now candidate aircraft.now level.now.volume
         level.now.lookahead }
     ensures trail { IsTrailOf config.now own.now lead aircraft.now level.now.volume trail.new }
+    ensures end { trail.new.end ≡ trail.old.end }
 {
     let upto = branch.leaves.min(level.lookahead);
     walk_on(

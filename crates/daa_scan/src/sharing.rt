@@ -1,7 +1,7 @@
 //! What the candidates of one side share against an aircraft: the walk along the flight that leads
 //! on their side.
 
-ghost use Rattle.std.specs.Prelude.{◌≡◌, ◌≤◌, ◌<◌, ◌+◌, ◌↔◌, ◌⊎◌, IsTrue, false};
+ghost use Rattle.std.specs.Prelude.{◌≡◌, ◌≤◌, ◌<◌, ◌+◌, ◌↔◌, ◌⊎◌, ℕ, IsTrue, false};
 ghost use Rattle.daa_taumod.specs.Volume.{IsVolumeInRange};
 ghost use Rattle.daa_config.specs.Settings.{IsCandidateInRange, IsLevelInRange, rates_of};
 ghost use Rattle.daa_state.specs.InRange.{IsOwnInRange, IsTrafficInRange};
@@ -42,6 +42,7 @@ pub(crate) fn walk_on(
     requires trail { IsTrailOf config.now own.now lead aircraft.now volume.now trail.old }
     ensures trail { IsTrailOf config.now own.now lead aircraft.now volume.now trail.new }
     ensures done { trail.new.hit ≡ false → upto ≤ trail.new.walked }
+    ensures end { trail.new.end ≡ trail.old.end }
 {
     if trail.hit || upto <= trail.walked {
         return;
@@ -210,7 +211,8 @@ fn meets_on_rest(
     is_hit(&relative_run(&run, aircraft, k), &level.volume)
 }
 
-/// Whether the candidate that has this branch meets the aircraft within the level's lookahead.
+/// Whether the candidate that has this branch, which violates nothing from the trail's end on,
+/// meets the aircraft within the level's lookahead.
 pub(crate) fn meets_by_branch(
     config: &Config,
     own: &Own,
@@ -232,6 +234,8 @@ pub(crate) fn meets_by_branch(
     requires trail { IsTrailOf config.now own.now lead aircraft.now level.now.volume trail.now }
     requires walked { trail.now.hit ≡ false → (branch.now.leaves ≤ trail.now.walked)
         ⊎ (level.now.lookahead ≤ trail.now.walked) }
+    requires later { (k : ℕ) → k < 180 → trail.now.end ≤ k
+        → ¬ ViolatesOn config.now own.now candidate aircraft.now level.now.volume k }
     ensures { IsTrue result
         ↔ MeetsWithin config.now own.now candidate aircraft.now level.now.volume
         level.now.lookahead }
@@ -239,7 +243,8 @@ pub(crate) fn meets_by_branch(
     if trail.hit && trail.walked < branch.leaves && trail.walked < level.lookahead {
         return true;
     }
-    if branch.leaves >= level.lookahead {
+    let last = level.lookahead.min(trail.end);
+    if branch.leaves >= last {
         return false;
     }
     meets_after(config, own, lead, trunk, branch, aircraft, level)

@@ -4,11 +4,14 @@ ghost use Rattle.std.specs.Prelude.{◌≡◌, ◌<◌, ◌≤◌, ◌+◌, ℤ,
 ghost use Rattle.daa_config.specs.Candidates.{candidate_to, candidates_of, start_of, values_of};
 ghost use Rattle.daa_config.specs.Settings.{IsCandidateInRange};
 ghost use Rattle.daa_state.specs.InRange.{IsOwnInRange};
+ghost use Rattle.daa_heading.specs.Heading.{velocity_of};
 ghost use Rattle.daa_legs.specs.Table.{AreBranchesOf};
 ghost use Rattle.daa_scan.specs.Inside.Trunks.{AreBranchesBelow};
 
 use daa_config::{Candidate, Config, Kind};
-use daa_legs::{Branch, branch_of};
+use daa_fixed::Flat;
+use daa_heading::velocity;
+use daa_legs::{Branch, branch_from};
 use daa_state::Own;
 
 /// Keeps the branch of each candidate of the whole list, by the candidate's number. Places past the
@@ -19,16 +22,19 @@ pub fn fill_branches(branches: &mut [Branch], own: &Own, config: &Config)
     ensures branches { AreBranchesOf config.now own.now branches.new }
     ensures length { length branches.new ≡ length branches.old }
 {
-    fill_present(branches, own, config);
-    fill_kind(branches, own, config, Kind::Track);
-    fill_kind(branches, own, config, Kind::Speed);
-    fill_kind(branches, own, config, Kind::Climb);
-    fill_kind(branches, own, config, Kind::Height);
+    let present = velocity(own.gs, own.trk);
+    fill_present(branches, own, config, &present);
+    fill_kind(branches, own, config, &present, Kind::Track);
+    fill_kind(branches, own, config, &present, Kind::Speed);
+    fill_kind(branches, own, config, &present, Kind::Climb);
+    fill_kind(branches, own, config, &present, Kind::Height);
 }
 
-/// Keeps that of the present flight, the first of the whole list.
-fn fill_present(branches: &mut [Branch], own: &Own, config: &Config)
+/// Keeps that of the present flight, the first of the whole list, where its way over ground of a
+/// second is known.
+fn fill_present(branches: &mut [Branch], own: &Own, config: &Config, present: &Flat)
     requires own { IsOwnInRange own.now }
+    requires present { present.now ≡ velocity_of own.now.gs own.now.trk }
     requires room { length (candidates_of config.now) ≤ length branches.old }
     ensures branches { AreBranchesBelow config.now own.now
         (start_of Kind.Track config.now) branches.new }
@@ -36,12 +42,13 @@ fn fill_present(branches: &mut [Branch], own: &Own, config: &Config)
 {
     // tells that there is a candidate
     let _total = config.total();
-    branches[0] = branch_of(own, &config.rates(), Candidate::Hold);
+    branches[0] = branch_from(own, &config.rates(), Candidate::Hold, present);
 }
 
 /// Keeps those of a kind, after those of the kinds before it.
-fn fill_kind(branches: &mut [Branch], own: &Own, config: &Config, kind: Kind)
+fn fill_kind(branches: &mut [Branch], own: &Own, config: &Config, present: &Flat, kind: Kind)
     requires own { IsOwnInRange own.now }
+    requires present { present.now ≡ velocity_of own.now.gs own.now.trk }
     requires before { AreBranchesBelow config.now own.now (start_of kind config.now) branches.old }
     ensures branches { AreBranchesBelow config.now own.now
         (start_of kind config.now + length (values_of kind config.now)) branches.new }
@@ -51,7 +58,7 @@ fn fill_kind(branches: &mut [Branch], own: &Own, config: &Config, kind: Kind)
     let start = config.start(kind);
     for place in 0..config.count(kind) {
         let candidate = candidate_in(config, kind, place);
-        branches[(start + place) as usize] = branch_of(own, &rates, candidate);
+        branches[(start + place) as usize] = branch_from(own, &rates, candidate, present);
     }
 }
 

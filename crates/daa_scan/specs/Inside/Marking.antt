@@ -9,15 +9,17 @@ use Rattle.daa_config.specs.Settings.{Settings}
 use Rattle.daa_state.specs.declared.word.Own.{Own}
 use Rattle.daa_state.specs.declared.word.Traffic.{Traffic}
 use Rattle.daa_legs.specs.Branch.{lead_of}
-use Rattle.daa_legs.specs.Meeting.{Meets}
+use Rattle.daa_legs.specs.Meeting.{Meets, ViolatesOn}
 use Rattle.daa_scan.specs.Inside.Sharing.{IsTrailOf}
 use Rattle.daa_scan.specs.declared.marking.Trails.{Trails}
 
 module _ (settings : Settings) (own : Own) (aircraft : Traffic) where
-  -- both sides of a kind
+  -- both sides of a kind; from a trail's end on no candidate of the kind violates the volume
   pub record AreTrailsOf (volume : Volume) (kind : Kind) (trails : Trails) : Type 0 where
     pub upper : (z : ℤ) → IsTrailOf settings own (lead_of own (candidate_to kind z) true) aircraft volume trails.upper
     pub lower : (z : ℤ) → IsTrailOf settings own (lead_of own (candidate_to kind z) false) aircraft volume trails.lower
+    pub past_upper : (z : ℤ) (k : ℕ) → k < 180 → trails.upper.end ≤ k → ¬ ViolatesOn settings own (candidate_to kind z) aircraft volume k
+    pub past_lower : (z : ℤ) (k : ℕ) → k < 180 → trails.lower.end ≤ k → ¬ ViolatesOn settings own (candidate_to kind z) aircraft volume k
 
   -- the masks are those of the candidates from number `first` on: those of the candidates before number `upto` have l + 1 levels,
   -- the others l

@@ -1,9 +1,9 @@
-use Rattle.std.proofs.Common.{below_more, ◌∙◌, sym, arith, true≢false}
+use Rattle.std.proofs.Common.{below_more, refl, ◌∙◌, sym, arith, true≢false}
 use Rattle.daa_scan.proofs.Trails.{walked_upto}
 use Rattle.daa_scan.proofs.sharing.walk_on.Goals as goal
 
 pub loop-walked-init : goal.loop-walked-init
-loop-walked-init c = record { none = c.requires.trail.none; trail = c.requires.trail; clear = c.if-trail.false; last = c.min-last.ensures }
+loop-walked-init c = record { none = c.requires.trail.none; trail = c.requires.trail; clear = c.if-trail.false; last = c.min-last.ensures; end = refl }
 
 pub returns-then-violates_on-clause-trail : goal.returns-then-violates_on-clause-trail
 returns-then-violates_on-clause-trail c = record { none = c.loop-walked.invariant.none; hit = λ _. c.violates_on.ensures.0 c.if-violates_on.true; later = c.loop-walked.invariant.trail.later }
@@ -14,6 +14,7 @@ loop-walked-preserved c = record {
   trail = c.loop-walked.invariant.trail;
   clear = c.loop-walked.invariant.clear;
   last = c.loop-walked.invariant.last;
+  end = c.loop-walked.invariant.end;
 }
 
 pub returns-clause-trail : goal.returns-clause-trail

@@ -10,6 +10,7 @@ invariant-loop-walked l = record {
   trail : IsTrailOf l.config l.own l.fn.lead l.aircraft l.volume l.trail;
   clear : l.trail.hit ≡ false;
   last : l.last ≡ min l.fn.upto l.trail.end;
+  end : l.trail.end ≡ l.fn.trail.end;
 }
 
 abbrev pub decreases-loop-walked : goal.decreases-loop-walked

@@ -1,10 +1,40 @@
-use Rattle.std.proofs.Common.{ℕ, ◌+◌, sym, subst, arith, length}
+use Rattle.std.proofs.Common.{rules, ℕ, ◌+◌, sym, subst, arith, length, FitsSigned, w32, to_z-of_z}
 use Rattle.daa_config.specs.declared.kind.Kind.TheVariants.{Height}
 use Rattle.daa_config.specs.Candidates.{start_of, values_of}
 use Rattle.daa_config.proofs.CandidateLemmas.{begins, whole_ends}
 use Rattle.daa_scan.specs.Inside.Trunks.{AreBranchesBelow}
 use Rattle.daa_scan.proofs.Tables.{all_filled}
 use Rattle.daa_scan.proofs.table.fill_branches.Goals as goal
+
+pub fill_present-requires-clause-present : goal.fill_present-requires-clause-present
+fill_present-requires-clause-present c =
+    let g : FitsSigned w32 c.args.own.now.gs = search rules in
+    let t : FitsSigned w32 c.args.own.now.trk = search rules in
+    simp to_z-of_z at c.velocity-present.ensures
+
+pub fill_kind-requires-clause-present : goal.fill_kind-requires-clause-present
+fill_kind-requires-clause-present c =
+    let g : FitsSigned w32 c.args.own.now.gs = search rules in
+    let t : FitsSigned w32 c.args.own.now.trk = search rules in
+    simp to_z-of_z at c.velocity-present.ensures
+
+pub fill_kind-requires-2-clause-present : goal.fill_kind-requires-2-clause-present
+fill_kind-requires-2-clause-present c =
+    let g : FitsSigned w32 c.args.own.now.gs = search rules in
+    let t : FitsSigned w32 c.args.own.now.trk = search rules in
+    simp to_z-of_z at c.velocity-present.ensures
+
+pub fill_kind-requires-3-clause-present : goal.fill_kind-requires-3-clause-present
+fill_kind-requires-3-clause-present c =
+    let g : FitsSigned w32 c.args.own.now.gs = search rules in
+    let t : FitsSigned w32 c.args.own.now.trk = search rules in
+    simp to_z-of_z at c.velocity-present.ensures
+
+pub fill_kind-requires-4-clause-present : goal.fill_kind-requires-4-clause-present
+fill_kind-requires-4-clause-present c =
+    let g : FitsSigned w32 c.args.own.now.gs = search rules in
+    let t : FitsSigned w32 c.args.own.now.trk = search rules in
+    simp to_z-of_z at c.velocity-present.ensures
 
 pub fill_kind-requires-2-clause-before : goal.fill_kind-requires-2-clause-before
 fill_kind-requires-2-clause-before c = subst (λ (n : ℕ). AreBranchesBelow c.args.config.now c.args.own.now n c.fill_kind.new.branches) (sym (begins c.args.config.now).speed) c.fill_kind.ensures.branches

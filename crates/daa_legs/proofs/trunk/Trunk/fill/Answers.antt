@@ -12,26 +12,32 @@ loop-k-init c = record {
   kept = kept_none _ _ _ _ c.self.invariant;
 }
 
-pub velocity_from-velocity-requires-clause-present : goal.velocity_from-velocity-requires-clause-present
-velocity_from-velocity-requires-clause-present c =
+pub branch_from-branch-requires-clause-present : goal.branch_from-branch-requires-clause-present
+branch_from-branch-requires-clause-present c =
+    let g : FitsSigned w32 c.args.own.now.gs = search rules in
+    let t : FitsSigned w32 c.args.own.now.trk = search rules in
+    simp to_z-of_z at c.velocity-present.ensures
+
+pub velocity_by-velocity-requires-clause-present : goal.velocity_by-velocity-requires-clause-present
+velocity_by-velocity-requires-clause-present c =
     let g : FitsSigned w32 c.args.own.now.gs = search rules in
     let t : FitsSigned w32 c.args.own.now.trk = search rules in
     simp to_z-of_z at c.velocity-present.ensures
 
 pub sum-place-requires-clause-x : goal.sum-place-requires-clause-x
-sum-place-requires-clause-x c = place_small c.args.own.now (rates_of c.args.config.now) c.args.candidate c.requires.own (subst (λ (r : Rates). AreRatesInRange r) c.rates-rates.ensures.value c.rates-rates.ensures.in_range) c.requires.candidate c.loop-k.k c.loop-k.place c.velocity_from-velocity.result
+sum-place-requires-clause-x c = place_small c.args.own.now (rates_of c.args.config.now) c.args.candidate c.requires.own (subst (λ (r : Rates). AreRatesInRange r) c.rates-rates.ensures.value c.rates-rates.ensures.in_range) c.requires.candidate c.loop-k.k c.loop-k.place c.velocity_by-velocity.result
     (omega (arith, c.loop-k-test.true, c.requires.most)) c.loop-k.invariant.at
 
 pub sum-place-requires-clause-y : goal.sum-place-requires-clause-y
-sum-place-requires-clause-y c = velocity_small c.args.own.now (rates_of c.args.config.now) c.args.candidate c.requires.own (subst (λ (r : Rates). AreRatesInRange r) c.rates-rates.ensures.value c.rates-rates.ensures.in_range) c.requires.candidate c.loop-k.k c.loop-k.place c.velocity_from-velocity.result
-    c.rates-rates.result c.rates-rates.ensures.value c.velocity_from-velocity.ensures
+sum-place-requires-clause-y c = velocity_small c.args.own.now (rates_of c.args.config.now) c.args.candidate c.requires.own (subst (λ (r : Rates). AreRatesInRange r) c.rates-rates.ensures.value c.rates-rates.ensures.in_range) c.requires.candidate c.loop-k.k c.loop-k.place c.velocity_by-velocity.result
+    c.rates-rates.result c.rates-rates.ensures.value c.velocity_by-velocity.ensures
 
 pub loop-k-preserved : goal.loop-k-preserved
 loop-k-preserved c =
-    let leg = leg_kept c.args.own.now (rates_of c.args.config.now) c.args.candidate c.rates-rates.result c.loop-k.k c.loop-k.place c.velocity_from-velocity.result c.rates-rates.ensures.value c.loop-k.invariant.at c.velocity_from-velocity.ensures in
+    let leg = leg_kept c.args.own.now (rates_of c.args.config.now) c.args.candidate c.rates-rates.result c.loop-k.k c.loop-k.place c.velocity_by-velocity.result c.rates-rates.ensures.value c.loop-k.invariant.at c.velocity_by-velocity.ensures in
     record {
-      at = place_after c.args.own.now (rates_of c.args.config.now) c.args.candidate c.loop-k.k c.loop-k.place c.velocity_from-velocity.result c.sum-place.result leg c.sum-place.ensures;
-      kept = kept_more c.args.own.now (rates_of c.args.config.now) c.args.candidate c.loop-k.k c.loop-k.self-inside.legs (record { place = c.loop-k.place; velocity = c.velocity_from-velocity.result }) (omega (arith, c.loop-k-test.true, c.requires.most)) c.loop-k.invariant.kept leg;
+      at = place_after c.args.own.now (rates_of c.args.config.now) c.args.candidate c.loop-k.k c.loop-k.place c.velocity_by-velocity.result c.sum-place.result leg c.sum-place.ensures;
+      kept = kept_more c.args.own.now (rates_of c.args.config.now) c.args.candidate c.loop-k.k c.loop-k.self-inside.legs (record { place = c.loop-k.place; velocity = c.velocity_by-velocity.result }) (omega (arith, c.loop-k-test.true, c.requires.most)) c.loop-k.invariant.kept leg;
     }
 
 all : (k most : ℕ) → k ≤ most → most ≤ k → k ≡ most
