@@ -5,3 +5,4 @@ pub mod Filled
 pub mod Numbers
 pub mod States
 pub mod Told
+pub mod Inside
