@@ -28,13 +28,6 @@ abbrev pub answer_of : Result Settings ConfigFault → ℤ
 answer_of (Ok settings) = pos 0
 answer_of (Err fault) = code_of fault
 
--- the code is none of room that is too short, a kind, a side, or a recovery that is not asked for
-pub record IsOfStates (code : ℤ) : Type 0 where
-  pub long : code ≢ pos 19
-  pub kind : code ≢ pos 23
-  pub side : code ≢ pos 24
-  pub asked : code ≢ pos 26
-
 -- the number that stands for a kind
 abbrev pub kind_number : Kind → ℤ
 kind_number Track = pos 1

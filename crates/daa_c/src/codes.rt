@@ -1,7 +1,8 @@
 //! The numbers that stand for kinds, sides and faults in C.
 
 ghost use Rattle.std.specs.Prelude.{◌≡◌, ◌≢◌, pos, IfSome, IfNone};
-ghost use Rattle.daa_c.specs.Codes.{code_of, IsNoKind, IsNoSide, IsOfStates, kind_number, side_number};
+ghost use Rattle.daa_c.specs.Codes.{code_of, IsNoKind, IsNoSide, kind_number, side_number};
+ghost use Rattle.daa_c.specs.Inside.Codes.{IsOfStates};
 
 use daa_config::{ConfigFault, Kind};
 use daa_resolve::Side;

@@ -1,0 +1,2 @@
+-- What private functions, tests and proofs alone cite: nothing here has to be believed.
+pub mod Codes
