@@ -1,5 +1,5 @@
 -- The text that an empty sheet takes.
-use Rattle.std.proofs.Common.{◌≡◌, ◌<◌, ◌≤◌, ◌+◌, ◌^◌, ◌++◌, ◌∙◌, ℕ, List, [], length, Some, Result, Ok, Err, sym, ap, subst, arith, inl, inr, length-append}
+use Rattle.std.proofs.Common.{◌≡◌, ◌<◌, ◌≤◌, ◌++◌, ◌∙◌, ℕ, List, [], length, Some, Result, Ok, Err, sym, ap, subst, arith, inl, inr, length-append}
 use Rattle.daa_config.specs.Settings.{Settings}
 use Rattle.daa_engine.specs.Longest.{longest_moment}
 use Rattle.daa_engine.specs.MomentText.{IsMomentText}

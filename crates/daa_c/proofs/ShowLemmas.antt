@@ -1,5 +1,5 @@
 -- Levels that are filled in one after the other.
-use Rattle.std.proofs.Common.{◌≡◌, ◌<◌, ◌+◌, ℕ, List, length, slice_set, below_more, subst, sym, arith}
+use Rattle.std.proofs.Common.{◌<◌, ◌+◌, ℕ, List, length, slice_set, below_more, subst, sym, arith}
 use Rattle.std.specs.Prelude.{slice_index}
 use Rattle.std.proofs.lemmas.List.{get_or-set_same, get_or-set_other}
 use Rattle.daa_bands.specs.Board.{HasLevelOn, mask_levels}

@@ -1,6 +1,6 @@
 -- The bytes before the first 0, read one after the other.
 use Rattle.std.proofs.Common.{◌≡◌, ◌≢◌, ◌<◌, ◌≤◌, ◌+◌, ◌++◌, ◌∷◌, [], ◌∙◌, ℕ, zero, suc, List, length, take, drop, slice_index_or, sym, ap, refl, append_assoc}
-use Rattle.std.proofs.lemmas.List.{take_more, drop_more, take_all, drop_all, append-nil}
+use Rattle.std.proofs.lemmas.List.{take_more, drop_more, drop_all, append-nil}
 use Rattle.daa_c.specs.States.{text_of}
 
 -- a byte that is not 0 is of the text

@@ -1,6 +1,5 @@
 -- Why numbers are refused.
-use Rattle.std.specs.Prelude.{◌≡◌, ◌<◌, ℕ, ℤ, pos, false, true, List, length, map, take, slice_get, Some, Err}
-use Rattle.daa_config.specs.declared.fault.ConfigFault.{ConfigFault}
+use Rattle.std.specs.Prelude.{◌≡◌, ℤ, pos, false, List, map, slice_get, Some, Err}
 use Rattle.daa_state.specs.Checked.{IsPictureFault}
 use Rattle.daa_state.specs.Id.{is_id}
 use Rattle.daa_state.specs.declared.checked.PictureFault.TheVariants as says

@@ -1,5 +1,5 @@
 -- What the numbers that are filled in say.
-use Rattle.std.specs.Prelude.{◌≡◌, ◌<◌, ℕ, ℤ, pos, negsuc, List, map, slice_index, Option, Some, None}
+use Rattle.std.specs.Prelude.{◌<◌, ℕ, ℤ, pos, negsuc, List, slice_index, Option, Some, None}
 use Rattle.daa_alert.specs.Alert.{IsAlertOf}
 use Rattle.daa_bands.specs.Board.{HasLevelOn, mask_levels}
 use Rattle.daa_bands.specs.declared.band.Band.{Band}

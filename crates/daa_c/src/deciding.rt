@@ -24,7 +24,7 @@ use daa_legs::{Branch, Trunk};
 use daa_state::Picture;
 
 /// The most candidates of a configuration.
-pub(crate) const MOST_CANDIDATES: usize = 1897;
+const MOST_CANDIDATES: usize = 1897;
 
 /// The levels at which each candidate is covered: bit l - 1 of a mask stands for level l.
 #[repr(C)]
@@ -34,7 +34,7 @@ pub struct DaaBoard {
 }
 
 /// Eight flights that lead.
-pub(crate) fn trunks() -> [Trunk; 8] {
+fn trunks() -> [Trunk; 8] {
     [
         Trunk::new(),
         Trunk::new(),
@@ -48,6 +48,7 @@ pub(crate) fn trunks() -> [Trunk; 8] {
 }
 
 /// The board of a picture.
+#[inline(never)]
 pub(crate) fn decided(config: &Config, picture: &Picture) -> Board
     requires { IsPictureInRange picture.now }
     ensures { IsBoardOf (CoveredAt config.now picture.now) config.now result }

@@ -1,8 +1,8 @@
 //! Why a caller's numbers are refused.
 
 ghost use Rattle.std.specs.Prelude.{◌≡◌, ◌≢◌, pos};
-ghost use Rattle.daa_c.specs.Inside.Codes.{IsOfStates};
 ghost use Rattle.daa_c.specs.Faults.{refusal_code};
+ghost use Rattle.daa_c.specs.Inside.Codes.{IsOfStates};
 
 use crate::codes::fault_code;
 use daa_config::ConfigFault;

@@ -1,6 +1,8 @@
 //! The text of a moment.
 
-ghost use Rattle.std.specs.Prelude.{◌≡◌, ◌≢◌, ◌≤◌, [], pos, length, take};
+ghost use Rattle.std.specs.Prelude.{◌≡◌, ◌≢◌, ◌<◌, ◌≤◌, [], ℕ, List, pos, length, take, IfSome, IfNone};
+ghost use Rattle.daa_bands.specs.Board.{IsBoardOf};
+ghost use Rattle.daa_engine.specs.Covered.{CoveredAt};
 ghost use Rattle.daa_engine.specs.MomentText.{IsMomentText};
 ghost use Rattle.daa_state.specs.InRange.{IsPictureInRange};
 ghost use Rattle.daa_c.specs.Asked.{IsReported, HasLongerText};
@@ -8,36 +10,47 @@ ghost use Rattle.daa_c.specs.Faults.{IsRefusal, IsCodeOf};
 ghost use Rattle.daa_c.specs.States.{picture_of};
 
 use crate::codes::SHORT;
-use crate::deciding::{MOST_CANDIDATES, trunks};
+use crate::deciding::decided;
 use crate::refusal::{Refusal, code};
 use crate::setting::{DaaConfig, accept};
 use crate::sheet::Sheet;
 use crate::states::{DaaOwn, DaaTraffic, picture};
 use daa_bands::Board;
 use daa_config::Config;
-use daa_engine::report_in;
-use daa_legs::Branch;
+use daa_engine::say_moment;
 use daa_state::Picture;
 
-/// Writes the text of a moment on an empty sheet, which has room for it.
-fn write(config: &Config, picture: &Picture, sheet: &mut Sheet)
+/// Writes the text of a decided moment on an empty sheet, which has room for it.
+fn write(config: &Config, picture: &Picture, board: &Board, sheet: &mut Sheet)
     requires picture { IsPictureInRange picture.now }
+    requires board { IsBoardOf (CoveredAt config.now picture.now) config.now board.now }
     requires empty { sheet.old.text.items ≡ [] }
     ensures { IsMomentText config.now picture.now sheet.new.text.items }
 {
-    // tells how many there are
-    let _total = config.total();
-    let mut board = Board::new();
-    let mut trunks = trunks();
-    let mut branches = [Branch::new(); MOST_CANDIDATES];
-    let _fits = report_in(
-        config,
-        picture,
-        &mut trunks,
-        &mut branches,
-        &mut board,
-        sheet,
-    );
+    let _fits = say_moment(config, picture, board, sheet);
+}
+
+/// Fills in the text of a decided moment, and answers how many bytes it has, unless it is longer
+/// than the room. The sheet is not on the stack while a moment is decided.
+#[inline(never)]
+fn fill(config: &Config, picture: &Picture, board: &Board, text: &mut [u8]) -> Option<usize>
+    requires picture { IsPictureInRange picture.now }
+    requires board { IsBoardOf (CoveredAt config.now picture.now) config.now board.now }
+    ensures said { IfSome result
+        (λ count. IsMomentText config.now picture.now (take count text.new)) }
+    ensures fits { IfSome result (λ count. count ≤ length text.new) }
+    ensures short { IfNone result ((said : List ℕ)
+        × IsMomentText config.now picture.now said × (length text.old < length said)) }
+    ensures kept { IfNone result (text.new ≡ text.old) }
+{
+    let mut sheet = Sheet::new();
+    write(config, picture, board, &mut sheet);
+    let said = sheet.text.as_slice();
+    if text.len() < said.len() {
+        return None;
+    }
+    text[..said.len()].copy_from_slice(said);
+    Some(said.len())
 }
 
 /// Fills in the text of a moment, and how many bytes it has. Answers 0, or why nothing was filled
@@ -69,13 +82,11 @@ pub extern "C" fn daa_report(
         Ok(picture) => picture,
         Err(refusal) => return code(refusal),
     };
-    let mut sheet = Sheet::new();
-    write(&config, &picture, &mut sheet);
-    let said = sheet.text.as_slice();
-    if text.len() < said.len() {
-        return SHORT;
+    match fill(&config, &picture, &decided(&config, &picture), text) {
+        Some(length) => {
+            *count = length;
+            0
+        }
+        None => SHORT,
     }
-    text[..said.len()].copy_from_slice(said);
-    *count = said.len();
-    0
 }

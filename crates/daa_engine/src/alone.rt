@@ -58,13 +58,13 @@ pub fn decide_in(
     fill(board, trunks, branches, config, picture);
 }
 
-/// Finds what is said of a moment whose board is handed in, and writes its lines. Everything is
-/// found before the first byte is written.
-pub(crate) fn say_moment<K: Sink>(
-    sink: &mut K,
+/// Writes the lines of a moment to the sink as `report` does, where the board of the moment was
+/// decided before: it is handed in.
+pub fn say_moment<K: Sink>(
     config: &Config,
     picture: &Picture,
     board: &Board,
+    sink: &mut K,
 ) -> Result<(), SinkFault>
     requires picture { IsPictureInRange picture.now }
     requires board { IsBoardOf (CoveredAt config.now picture.now) config.now board.now }
@@ -106,7 +106,7 @@ pub fn report_in<K: Sink>(
         (K.taken sink.new) (K.faults sink.old) (K.faults sink.new) result }
 {
     decide_in(config, picture, trunks, branches, board);
-    say_moment(sink, config, picture, board)
+    say_moment(config, picture, board, sink)
 }
 
 impl Engine {

@@ -204,6 +204,6 @@ impl Engine {
             (K.taken sink.new) (K.faults sink.old) (K.faults sink.new) result }
     {
         self.decide(rt, alloc, picture, gate);
-        say_moment(sink, &self.config, picture, &self.board)
+        say_moment(&self.config, picture, &self.board, sink)
     }
 }

@@ -13,7 +13,7 @@ mod rescue;
 mod say;
 mod together;
 
-pub use alone::{decide_in, report_in};
+pub use alone::{decide_in, report_in, say_moment};
 pub use daa_schedule::NoMemory;
 pub use engine::Engine;
 pub use laws::{

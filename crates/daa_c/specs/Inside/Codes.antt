@@ -1,4 +1,4 @@
--- The numbers that stand for kinds, sides, candidates and faults in C.
+-- What the codes of refused numbers are not.
 use Rattle.std.specs.Prelude.{◌≢◌, ℤ, pos}
 
 -- the code is none of room that is too short, a kind, a side, or a recovery that is not asked for

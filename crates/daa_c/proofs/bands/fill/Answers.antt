@@ -1,4 +1,4 @@
-use Rattle.std.proofs.Common.{◌≡◌, ◌<◌, ◌∙◌, ◌∷◌, [], sym, arith, length, subst, ℕ}
+use Rattle.std.proofs.Common.{◌<◌, ◌∙◌, ◌∷◌, [], arith, length}
 use Rattle.std.proofs.lemmas.List.{length-set, length-append}
 use Rattle.daa_c.proofs.BandLemmas.{fits, next_filled}
 use Rattle.daa_engine.proofs.LoopLemmas.{next_split}

@@ -1,5 +1,4 @@
 use Rattle.std.proofs.Common.{inr}
-use Rattle.daa_c.specs.declared.setting.DaaConfig.{DaaConfig}
 use Rattle.daa_c.proofs.faults.fault_of.Goals as goal
 
 pub returns-in-Err : goal.returns-in-Err
