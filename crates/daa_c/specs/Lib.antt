@@ -6,4 +6,3 @@ pub mod Inside
 pub mod Numbers
 pub mod States
 pub mod Told
-pub mod Inside
