@@ -63,7 +63,7 @@ class Map(unittest.TestCase):
 
     def test_the_map_has_the_crates_in_their_order(self):
         text = read("docs/ARCHITECTURE.md")
-        self.assertEqual(re.findall(r"^\| \[(\w+)\]\(\.\./crates/\1/README\.md\) \|", text, re.M), list(crates()))
+        self.assertEqual(re.findall(r"^\| \[(\w+)\]\(\.\./crates/\1\) \|", text, re.M), list(crates()))
         self.assertLessEqual(len(text.encode()), 9000)
 
     def test_each_readme_says_what_its_crate_stands_on(self):
@@ -95,10 +95,13 @@ class Map(unittest.TestCase):
                 if "NAME" not in path:
                     self.assertTrue(glob.glob(os.path.join(TOP, path)), f"{path} in {name}")
 
-    def test_crates_that_are_named_are_there(self):
+    def test_crates_and_calls_that_are_named_are_there(self):
+        calls = re.findall(r"^int32_t (daa_\w+)\(|^struct (daa_\w+) \{", read("crates/daa_c/include/daidalus.h"), re.M)
+        there = {*crates(), *(name for call in calls for name in call if name)}
+        self.assertGreater(len(there), len(crates()) + 10)
         for name in [*DOCUMENTS, *readmes()]:
             for crate in re.findall(r"\bdaa_\w+", read(name)):
-                self.assertIn(crate, {*crates(), "daa_alert", "daa_levels"}, name)
+                self.assertIn(crate, there, name)
 
     def test_each_public_item_is_named(self):
         found = 0
