@@ -1,9 +1,8 @@
 //! Which aircraft are in reach: the last place that is, and the first that is not.
 
-use super::{BRANCHES, Settings, config_of, eight, picture_in};
-use crate::{Scene, fill_branches, fill_trunks};
+use super::{Settings, branches_of, config_of, eight, picture_in};
+use crate::{Scene, fill_trunks};
 use daa_config::examples::ONE_LEVEL;
-use daa_legs::Branch;
 use std::test::Fail;
 
 /// What stands in the place of parts of the configuration, the lines of an ownship and of an
@@ -214,8 +213,7 @@ fn the_last_place_in_reach(rt: HostRuntime) -> Result<(), Fail> {
         assert!(rt; picture.traffic.len() == 1, "{}", row.shows);
         let mut trunks = eight();
         fill_trunks(&mut trunks, &picture.own, &config);
-        let mut branches = [Branch::new(); BRANCHES];
-        fill_branches(&mut branches, &picture.own, &config);
+        let branches = branches_of(&picture.own, &config);
         let scene = Scene::of(&config, &picture, &trunks, &branches);
         assert!(rt;
             scene.in_reach(0) == row.in_reach,

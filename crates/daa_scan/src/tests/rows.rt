@@ -3,11 +3,10 @@
 ghost use Rattle.daa_config.specs.Settings.{IsCandidateInRange};
 ghost use Rattle.daa_state.specs.InRange.{IsOwnInRange, IsPictureInRange, IsTrafficInRange};
 
-use super::{BRANCHES, Settings, config_of, eight, picture_in};
-use crate::{Scene, fill_branches, fill_trunks};
+use super::{Settings, branches_of, config_of, eight, picture_in};
+use crate::{Scene, fill_trunks};
 use daa_config::examples::{FOUR_LEVELS, ONE_LEVEL, THREE_LEVELS};
 use daa_config::{Candidate, Config};
-use daa_legs::Branch;
 use daa_meet::meets_between;
 use daa_state::{Own, Picture, Traffic};
 use std::process::Abort;
@@ -235,8 +234,7 @@ fn worked_rows(rt: HostRuntime) -> Result<(), Fail> {
         );
         let mut trunks = eight();
         fill_trunks(&mut trunks, &picture.own, &config);
-        let mut branches = [Branch::new(); BRANCHES];
-        fill_branches(&mut branches, &picture.own, &config);
+        let branches = branches_of(&picture.own, &config);
         let scene = Scene::of(&config, &picture, &trunks, &branches);
         assert!(rt; config.total() == 8, "{}", row.shows);
         assert!(rt; picture.traffic.len() == 1, "{}", row.shows);
@@ -266,8 +264,7 @@ pub(super) fn expect_same_levels(
 {
     let mut trunks = eight();
     fill_trunks(&mut trunks, &picture.own, config);
-    let mut branches = [Branch::new(); BRANCHES];
-    fill_branches(&mut branches, &picture.own, config);
+    let branches = branches_of(&picture.own, config);
     let scene = Scene::of(config, picture, &trunks, &branches);
     for place in 0..picture.traffic.len() {
         let mut masks = [0u8; MASKS];

@@ -3,11 +3,10 @@
 ghost use Rattle.std.specs.Prelude.{◌≡◌, ◌<◌, length};
 ghost use Rattle.daa_state.specs.Picture.{aircraft_of};
 
-use super::{BRANCHES, Settings, config_of, eight, picture_in};
-use crate::{Scene, fill_branches, fill_trunks};
+use super::{Settings, branches_of, config_of, eight, picture_in};
+use crate::{Scene, fill_trunks};
 use daa_config::Config;
 use daa_config::examples::ONE_LEVEL;
-use daa_legs::Branch;
 use daa_schedule::Answers;
 use std::process::Abort;
 use std::test::Fail;
@@ -36,8 +35,7 @@ fn words_of_one_group(rt: HostRuntime) -> Result<(), Fail> {
     let picture = picture_in(&LINES).expect(&rt, "the lines of a moment");
     let mut trunks = eight();
     fill_trunks(&mut trunks, &picture.own, &config);
-    let mut branches = [Branch::new(); BRANCHES];
-    fill_branches(&mut branches, &picture.own, &config);
+    let branches = branches_of(&picture.own, &config);
     let scene = Scene::of(&config, &picture, &trunks, &branches);
     assert!(rt; scene.count_in_reach() == 2);
     assert!(rt; scene.units() == 2);
@@ -80,8 +78,7 @@ fn words_of_two_groups(rt: HostRuntime) -> Result<(), Fail> {
     let picture = picture_in(&LINES).expect(&rt, "the lines of a moment");
     let mut trunks = eight();
     fill_trunks(&mut trunks, &picture.own, &config);
-    let mut branches = [Branch::new(); BRANCHES];
-    fill_branches(&mut branches, &picture.own, &config);
+    let branches = branches_of(&picture.own, &config);
     let scene = Scene::of(&config, &picture, &trunks, &branches);
     assert!(rt; scene.units() == 4);
     assert!(rt;
@@ -114,8 +111,7 @@ fn no_units_where_none_is_in_reach(rt: HostRuntime) -> Result<(), Fail> {
         let picture = picture_in(lines).expect(&rt, "the lines of a moment");
         let mut trunks = eight();
         fill_trunks(&mut trunks, &picture.own, &config);
-        let mut branches = [Branch::new(); BRANCHES];
-        fill_branches(&mut branches, &picture.own, &config);
+        let branches = branches_of(&picture.own, &config);
         let scene = Scene::of(&config, &picture, &trunks, &branches);
         assert!(rt; scene.units() == 0);
         assert!(rt; scene.count_in_reach() == 0);
