@@ -67,7 +67,7 @@ fn run_words<R: Threads + Sync, F: Shelf, S: Source + Send, K: Sink + Send, G: G
 ///   before they were reported; of a comparison only where the report begins with those bytes;
 /// - 9 where the states have more than 65536 bytes; `states long` is written.
 ///
-/// Memory can run out only before the source is read.
+/// A run ends for lack of memory, with status 6, only before the source is read.
 pub fn run_within<R: Threads + Sync, F: Shelf, S: Source + Send, K: Sink + Send, G: Gate>(
     rt: &R,
     alloc: Global,

@@ -14,8 +14,7 @@ use daa_heading::velocity;
 use daa_legs::{Branch, branch_from};
 use daa_state::Own;
 
-/// Keeps the branch of each candidate of the whole list, by the candidate's number. Places past the
-/// list are as they were.
+/// Keeps the branch of each candidate of the whole list, by the candidate's number.
 pub fn fill_branches(branches: &mut [Branch], own: &Own, config: &Config)
     requires own { IsOwnInRange own.now }
     requires room { length (candidates_of config.now) ≤ length branches.old }
