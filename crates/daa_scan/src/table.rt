@@ -14,7 +14,8 @@ use daa_heading::velocity;
 use daa_legs::{Branch, branch_from};
 use daa_state::Own;
 
-/// Keeps the branch of each candidate of the whole list, by the candidate's number.
+/// Keeps the branch of each candidate of the whole list, by the candidate's number. There is room
+/// for them.
 pub fn fill_branches(branches: &mut [Branch], own: &Own, config: &Config)
     requires own { IsOwnInRange own.now }
     requires room { length (candidates_of config.now) ≤ length branches.old }
