@@ -38,7 +38,8 @@ fn told(band: &Band) -> DaaBand
 /// Fills in the bands of a kind, and answers how many there are.
 fn fill(config: &Config, board: &Board, kind: Kind, bands: &mut [DaaBand]) -> usize
     requires { length (values_of kind config.now) ≤ length bands.old }
-    ensures { AreKindBands (HasLevelOn board.now) mask_levels config.now kind
+    ensures fits { result ≤ length bands.new }
+    ensures are { AreKindBands (HasLevelOn board.now) mask_levels config.now kind
         (map band_of (take result bands.new)) }
 {
     let mut count = 0;

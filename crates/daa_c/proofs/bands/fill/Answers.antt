@@ -22,6 +22,7 @@ loop-band-preserved c =
     record {
       split = next_split _ c.loop-band.yielded c.loop-band.band-iterator c.next.new.self c.in-Some.band c.loop-band.invariant.split c.in-Some.ensures.steps;
       same_size = length-set c.loop-band.bands c.loop-band.count c.told.result ∙ c.loop-band.invariant.same_size;
+      within = omega (arith, within, length-set c.loop-band.bands c.loop-band.count c.told.result);
       counted = omega (arith, c.loop-band.invariant.counted, length-append c.loop-band.yielded (c.in-Some.band ∷ []));
       filled = next_filled c.loop-band.bands c.loop-band.count c.told.result c.loop-band.yielded c.in-Some.band within c.loop-band.invariant.filled c.told.ensures;
     }

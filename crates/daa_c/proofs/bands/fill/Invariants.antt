@@ -1,4 +1,4 @@
-use Rattle.std.proofs.Common.{◌≡◌, ◌++◌, length, map, take}
+use Rattle.std.proofs.Common.{◌≡◌, ◌≤◌, ◌++◌, length, map, take}
 use Rattle.daa_c.specs.Filled.{band_of}
 use Rattle.daa_c.proofs.bands.fill.Given as goal
 
@@ -7,6 +7,7 @@ abbrev pub invariant-loop-band : goal.invariant-loop-band
 invariant-loop-band l = record {
   split : l.initial.band-iterator ≡ l.yielded ++ l.band-iterator;
   same_size : length l.bands ≡ length l.initial.bands;
+  within : l.count ≤ length l.bands;
   counted : l.count ≡ length l.yielded;
   filled : map band_of (take l.count l.bands) ≡ l.yielded;
 }
