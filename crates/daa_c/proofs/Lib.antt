@@ -1,4 +1,5 @@
 pub mod BandLemmas
+pub mod PlaceLemmas
 pub mod SheetLemmas
 pub mod ShowLemmas
 pub mod TextLemmas

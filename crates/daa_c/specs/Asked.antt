@@ -1,5 +1,5 @@
 -- What calls answer where they answer 0: under the configuration that the numbers are, which is accepted.
-use Rattle.std.specs.Prelude.{◌≡◌, ◌<◌, ℕ, ℤ, List, length, map, take, slice_get, Option, Some, None, Ok}
+use Rattle.std.specs.Prelude.{◌≡◌, ◌<◌, ◌≤◌, ℕ, ℤ, List, length, map, take, slice_get, Option, Some, None, Ok}
 use Rattle.daa_bands.specs.Board.{HasLevelOn, IsBoardOf, mask_levels}
 use Rattle.daa_bands.specs.KindBands.{AreKindBands}
 use Rattle.daa_config.specs.Candidates.{candidates_of, values_of}
@@ -26,7 +26,7 @@ use Rattle.daa_c.specs.declared.recovery.DaaRecovery.{DaaRecovery}
 use Rattle.daa_c.specs.declared.resolution.DaaResolution.{DaaResolution}
 use Rattle.daa_c.specs.declared.setting.DaaConfig.{DaaConfig}
 use Rattle.daa_c.specs.Codes.{candidate_by, kind_number, side_number}
-use Rattle.daa_c.specs.Filled.{IsTold, AreLevelsOn, band_of, resolution_by, recovery_by}
+use Rattle.daa_c.specs.Filled.{IsFilledAlert, AreLevelsOn, band_of, resolution_by, recovery_by}
 use Rattle.daa_c.specs.Numbers.{settings_by}
 
 -- a picture that the engine takes
@@ -43,13 +43,19 @@ module _ (config : DaaConfig) where
     pub there : slice_get (candidates_of settings) index ≡ Some candidate
     pub told : out ≡ candidate_by candidate
 
+  -- there is no candidate at an index of the whole list
+  pub record HasNoCandidateAt (index : ℕ) : Type 0 where
+    pub settings : Settings
+    pub accepted : settings_by config ≡ Ok settings
+    pub beyond : length (candidates_of settings) ≤ index
+
   -- the level now and the alert of an aircraft, of numbers in range
   pub record IsToldUnder (own : Own) (aircraft : Traffic) (out : DaaAlert) : Type 0 where
     pub settings : Settings
     pub accepted : settings_by config ≡ Ok settings
     pub own_range : IsOwnInRange own
     pub traffic_range : IsTrafficInRange aircraft
-    pub told : IsTold settings own aircraft out
+    pub told : IsFilledAlert settings own aircraft out
 
   -- the board of a picture
   pub record IsDecided (picture : Picture) (board : List ℕ) : Type 0 where
@@ -63,7 +69,14 @@ module _ (config : DaaConfig) where
     pub settings : Settings
     pub accepted : settings_by config ≡ Ok settings
     pub all : count ≡ length (candidates_of settings)
+    pub fits : count ≤ length levels
     pub shown : AreLevelsOn board count levels
+
+  -- it has more candidates than there is room for
+  pub record HasMoreCandidates (room : ℕ) : Type 0 where
+    pub settings : Settings
+    pub accepted : settings_by config ≡ Ok settings
+    pub more : room < length (candidates_of settings)
 
   -- the bands of the kind that a number stands for, and how many they are
   pub record AreBandsUnder (board : List ℕ) (number : ℤ) (bands : List DaaBand) (count : ℕ) : Type 0 where
@@ -71,6 +84,7 @@ module _ (config : DaaConfig) where
     pub accepted : settings_by config ≡ Ok settings
     pub kind : Kind
     pub kind_is : kind_number kind ≡ number
+    pub fits : count ≤ length bands
     pub are : AreKindBands (HasLevelOn board) mask_levels settings kind (map band_of (take count bands))
 
   -- the kind that a number stands for has more values than there is room for

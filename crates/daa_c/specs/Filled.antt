@@ -1,6 +1,7 @@
 -- What the numbers that are filled in say.
-use Rattle.std.specs.Prelude.{◌<◌, ℕ, ℤ, pos, negsuc, List, slice_index, Option, Some, None}
+use Rattle.std.specs.Prelude.{◌≡◌, ◌<◌, ℕ, ℤ, pos, negsuc, List, slice_index, Option, Some, None}
 use Rattle.daa_alert.specs.Alert.{IsAlertOf}
+use Rattle.daa_alert.specs.declared.aircraft_alert.Alert.{Alert}
 use Rattle.daa_bands.specs.Board.{HasLevelOn, mask_levels}
 use Rattle.daa_bands.specs.declared.band.Band.{Band}
 use Rattle.daa_fixed.specs.Mask.{IsGreatestLevel}
@@ -16,15 +17,18 @@ use Rattle.daa_c.specs.declared.bands.DaaBand.{DaaBand}
 use Rattle.daa_c.specs.declared.resolution.DaaResolution.{DaaResolution}
 use Rattle.daa_c.specs.declared.recovery.DaaRecovery.{DaaRecovery}
 
--- a number of a leg; less than 0 stands for none
-abbrev pub leg_of : ℤ → Option ℕ
-leg_of (pos n) = Some n
-leg_of (negsuc n) = None
+-- the number of a leg; -1 stands for none
+abbrev pub leg_by : Option ℕ → ℤ
+leg_by (Some n) = pos n
+leg_by None = negsuc 0
 
 -- the level now and the alert of an aircraft
-pub record IsTold (settings : Settings) (own : Own) (aircraft : Traffic) (told : DaaAlert) : Type 0 where
+pub record IsFilledAlert (settings : Settings) (own : Own) (aircraft : Traffic) (told : DaaAlert) : Type 0 where
   pub now : IsNowLevel settings own aircraft told.now
-  pub alert : IsAlertOf settings own aircraft (record { level = told.level; first = leg_of told.first })
+  pub alert : Alert
+  pub is : IsAlertOf settings own aircraft alert
+  pub level : told.level ≡ alert.level
+  pub first : told.first ≡ leg_by alert.first
 
 -- levels of so many candidates, in the order of the whole list: those that a board shows
 abbrev pub AreLevelsOn : List ℕ → ℕ → List ℕ → Type 0

@@ -4,7 +4,7 @@ ghost use Rattle.std.specs.Prelude.{◌≡◌, ◌≢◌, ◌∷◌, [], pos, If
 ghost use Rattle.daa_state.specs.InRange.{IsOwnInRange, IsTrafficInRange};
 ghost use Rattle.daa_c.specs.Asked.{IsToldUnder};
 ghost use Rattle.daa_c.specs.Faults.{IsRefusal, IsCodeOf};
-ghost use Rattle.daa_c.specs.Filled.{leg_of, IsTold};
+ghost use Rattle.daa_c.specs.Filled.{leg_by, IsFilledAlert};
 ghost use Rattle.daa_c.specs.States.{own_of, traffic_of};
 
 use crate::refusal::{Refusal, code};
@@ -25,7 +25,7 @@ pub struct DaaAlert {
 
 /// A number of a leg, or -1 for none.
 fn leg(first: Option<u32>) -> i64
-    ensures { leg_of result ≡ first }
+    ensures { result ≡ leg_by first }
 {
     match first {
         Some(k) => i64::from(k),
@@ -37,7 +37,7 @@ fn leg(first: Option<u32>) -> i64
 fn told(config: &Config, own: &Own, aircraft: &Traffic) -> DaaAlert
     requires own { IsOwnInRange own.now }
     requires aircraft { IsTrafficInRange aircraft.now }
-    ensures { IsTold config.now own.now aircraft.now result }
+    ensures { IsFilledAlert config.now own.now aircraft.now result }
 {
     let alert = alert(config, own, aircraft);
     DaaAlert {

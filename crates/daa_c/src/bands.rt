@@ -1,6 +1,6 @@
 //! The bands of a kind.
 
-ghost use Rattle.std.specs.Prelude.{◌≡◌, ◌≢◌, ◌≤◌, pos, length, map, take};
+ghost use Rattle.std.specs.Prelude.{◌≡◌, ◌≢◌, ◌≤◌, pos, drop, length, map, take};
 ghost use Rattle.daa_bands.specs.Board.{HasLevelOn, mask_levels};
 ghost use Rattle.daa_bands.specs.KindBands.{AreKindBands};
 ghost use Rattle.daa_config.specs.Candidates.{values_of};
@@ -38,7 +38,9 @@ fn told(band: &Band) -> DaaBand
 /// Fills in the bands of a kind, and answers how many there are.
 fn fill(config: &Config, board: &Board, kind: Kind, bands: &mut [DaaBand]) -> usize
     requires { length (values_of kind config.now) ≤ length bands.old }
-    ensures { AreKindBands (HasLevelOn board.now) mask_levels config.now kind
+    ensures fits { result ≤ length bands.new }
+    ensures past_kept { drop result bands.new ≡ drop result bands.old }
+    ensures are { AreKindBands (HasLevelOn board.now) mask_levels config.now kind
         (map band_of (take result bands.new)) }
 {
     let mut count = 0;
@@ -60,6 +62,7 @@ pub extern "C" fn daa_bands(
 ) -> i32
     ensures told { result ≡ pos 0
         → AreBandsUnder config.now board.now.masks kind bands.new count.new }
+    ensures past_kept { result ≡ pos 0 → drop count.new bands.new ≡ drop count.new bands.old }
     ensures bands_kept { result ≢ pos 0 → bands.new ≡ bands.old }
     ensures count_kept { result ≢ pos 0 → count.new ≡ count.old }
     ensures no_kind { result ≡ pos 23 → IsNoKind kind }

@@ -1,9 +1,7 @@
 //! The candidates of a configuration.
 
-ghost use Rattle.std.specs.Prelude.{◌≡◌, ◌≢◌, ◌≤◌, pos, length, Ok};
-ghost use Rattle.daa_c.specs.Asked.{IsCandidateAt};
-ghost use Rattle.daa_config.specs.Candidates.{candidates_of};
-ghost use Rattle.daa_config.specs.Settings.{Settings};
+ghost use Rattle.std.specs.Prelude.{◌≡◌, ◌≢◌, pos};
+ghost use Rattle.daa_c.specs.Asked.{IsCandidateAt, HasNoCandidateAt};
 ghost use Rattle.daa_c.specs.Codes.{answer_of, candidate_by};
 ghost use Rattle.daa_c.specs.Numbers.{settings_by};
 
@@ -37,8 +35,7 @@ fn told(candidate: Candidate) -> DaaCandidate
 pub extern "C" fn daa_candidate(config: &DaaConfig, index: u32, out: &mut DaaCandidate) -> i32
     ensures told { result ≡ pos 0 → IsCandidateAt config.now index out.new }
     ensures kept { result ≢ pos 0 → out.new ≡ out.old }
-    ensures beyond { result ≡ pos 25 → (settings : Settings)
-        → settings_by config.now ≡ Ok settings → length (candidates_of settings) ≤ index }
+    ensures beyond { result ≡ pos 25 → HasNoCandidateAt config.now index }
     ensures refused { result ≢ pos 0 → result ≢ pos 25
         → answer_of (settings_by config.now) ≡ result }
 {

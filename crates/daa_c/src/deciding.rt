@@ -1,13 +1,12 @@
 //! A moment decided, and the levels that its board shows.
 
-ghost use Rattle.std.specs.Prelude.{◌≡◌, ◌≢◌, ◌<◌, ◌≤◌, pos, length, Ok, IfOk, IfErr};
+ghost use Rattle.std.specs.Prelude.{◌≡◌, ◌≢◌, ◌≤◌, pos, drop, length, IfOk, IfErr};
 ghost use Rattle.daa_bands.specs.Board.{IsBoardOf};
 ghost use Rattle.daa_config.specs.Candidates.{candidates_of};
 ghost use Rattle.daa_engine.specs.Covered.{CoveredAt};
 ghost use Rattle.daa_state.specs.InRange.{IsPictureInRange};
-ghost use Rattle.daa_c.specs.Asked.{IsDecided, AreLevelsUnder};
+ghost use Rattle.daa_c.specs.Asked.{IsDecided, AreLevelsUnder, HasMoreCandidates};
 ghost use Rattle.daa_c.specs.Faults.{IsRefusal, IsCodeOf};
-ghost use Rattle.daa_config.specs.Settings.{Settings};
 ghost use Rattle.daa_c.specs.Codes.{answer_of};
 ghost use Rattle.daa_c.specs.Numbers.{settings_by};
 ghost use Rattle.daa_c.specs.Filled.{AreLevelsOn};
@@ -107,7 +106,10 @@ pub extern "C" fn daa_decide(
 /// Fills in the levels that a board shows.
 fn show(config: &Config, board: &Board, levels: &mut [u8])
     requires { length (candidates_of config.now) ≤ length levels.old }
-    ensures { AreLevelsOn board.now (length (candidates_of config.now)) levels.new }
+    ensures shown { AreLevelsOn board.now (length (candidates_of config.now)) levels.new }
+    ensures fits { length (candidates_of config.now) ≤ length levels.new }
+    ensures past_kept { drop (length (candidates_of config.now)) levels.new
+        ≡ drop (length (candidates_of config.now)) levels.old }
 {
     for index in 0..config.total() {
         levels[index as usize] = board.shown(index);
@@ -125,11 +127,11 @@ pub extern "C" fn daa_levels(
 ) -> i32
     ensures shown { result ≡ pos 0
         → AreLevelsUnder config.now board.now.masks levels.new count.new }
+    ensures past_kept { result ≡ pos 0
+        → drop count.new levels.new ≡ drop count.new levels.old }
     ensures levels_kept { result ≢ pos 0 → levels.new ≡ levels.old }
     ensures count_kept { result ≢ pos 0 → count.new ≡ count.old }
-    ensures short { result ≡ pos 19 → (settings : Settings)
-        → settings_by config.now ≡ Ok settings
-        → length levels.old < length (candidates_of settings) }
+    ensures short { result ≡ pos 19 → HasMoreCandidates config.now (length levels.old) }
     ensures refused { result ≢ pos 0 → result ≢ pos 19
         → answer_of (settings_by config.now) ≡ result }
 {

@@ -1,6 +1,7 @@
 use Rattle.std.proofs.Common.{◌<◌, ◌∙◌, ◌∷◌, [], arith, length}
 use Rattle.std.proofs.lemmas.List.{length-set, length-append}
 use Rattle.daa_c.proofs.BandLemmas.{fits, next_filled}
+use Rattle.daa_c.proofs.PlaceLemmas.{set_past}
 use Rattle.daa_engine.proofs.LoopLemmas.{next_split}
 use Rattle.daa_c.proofs.bands.fill.Goals as goal
 
@@ -22,6 +23,8 @@ loop-band-preserved c =
     record {
       split = next_split _ c.loop-band.yielded c.loop-band.band-iterator c.next.new.self c.in-Some.band c.loop-band.invariant.split c.in-Some.ensures.steps;
       same_size = length-set c.loop-band.bands c.loop-band.count c.told.result ∙ c.loop-band.invariant.same_size;
+      within = omega (arith, within, length-set c.loop-band.bands c.loop-band.count c.told.result);
       counted = omega (arith, c.loop-band.invariant.counted, length-append c.loop-band.yielded (c.in-Some.band ∷ []));
+      past = set_past c.loop-band.bands c.args.bands.now c.loop-band.count c.told.result c.loop-band.invariant.past;
       filled = next_filled c.loop-band.bands c.loop-band.count c.told.result c.loop-band.yielded c.in-Some.band within c.loop-band.invariant.filled c.told.ensures;
     }

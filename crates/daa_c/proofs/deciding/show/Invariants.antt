@@ -1,7 +1,11 @@
-use Rattle.std.proofs.Common.{◌≡◌, length}
+use Rattle.std.proofs.Common.{◌≡◌, drop, length}
 use Rattle.daa_c.specs.Filled.{AreLevelsOn}
 use Rattle.daa_c.proofs.deciding.show.Given as goal
 
--- the levels so far are filled in
+-- the levels so far are filled in, and the places past them are as they were
 abbrev pub invariant-loop-index : goal.invariant-loop-index
-invariant-loop-index l = (length l.levels ≡ length l.initial.levels) × AreLevelsOn l.board l.index l.levels
+invariant-loop-index l = record {
+  same_size : length l.levels ≡ length l.initial.levels;
+  past : drop l.index l.levels ≡ drop l.index l.initial.levels;
+  shown : AreLevelsOn l.board l.index l.levels;
+}
