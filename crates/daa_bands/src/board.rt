@@ -12,7 +12,7 @@ use std::marker::Model;
 /// How many candidates a board has a mask for; a configuration has at most 1897.
 const SIZE: usize = 2048;
 
-/// The masks of 2048 candidates, by their indices in the whole list: bit l - 1 of a mask stands for
+/// The masks of 2048 candidates, by their indices in the whole list: bit l - 1 of a mask means
 /// level l.
 #[derive(Drop)]
 pub struct Board {
@@ -42,7 +42,7 @@ impl Board {
         Board { masks: *masks }
     }
 
-    /// The masks, by the candidates' indices: bit l - 1 of a mask stands for level l.
+    /// The masks, by the candidates' indices: bit l - 1 of a mask means level l.
     pub fn masks(&self) -> &[u8; SIZE]
         ensures { result.now ≡ self.now }
     {

@@ -18,7 +18,7 @@ pub fn has_one_list_of_bands()
         → HasOne (AreKindBands (HasLevelOn board) mask_levels s kind) }
 {}
 
-/// Where a board stands for what is covered, the bands that it shows are those of what is covered.
+/// If a board marks exactly the covered candidates, its bands are those of the covered candidates.
 pub fn board_shows_what_is_covered()
     ensures { (covered : ℕ → ℕ → Bool) (board : List ℕ) (s : Settings) (kind : Kind)
         (bands : List Band) → IsAccepted s

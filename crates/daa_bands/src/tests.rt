@@ -59,7 +59,7 @@ fn nothing_covered(rt: HostRuntime) -> Result<(), Fail> {
     Ok(())
 }
 
-/// Equal levels are joined whatever the masks, level 0 stands between others, and the tracks 270
+/// Equal levels are joined whatever the masks, level 0 is between others, and the tracks 270
 /// and 0, which have the same level, are not joined over north.
 #[test]
 fn runs_of_all_kinds(rt: HostRuntime) -> Result<(), Fail> {

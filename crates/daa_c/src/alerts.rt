@@ -33,7 +33,7 @@ fn leg(first: Option<u32>) -> i64
     }
 }
 
-/// What is told of an aircraft.
+/// The alert of an aircraft.
 fn told(config: &Config, own: &Own, aircraft: &Traffic) -> DaaAlert
     requires own { IsOwnInRange own.now }
     requires aircraft { IsTrafficInRange aircraft.now }
@@ -47,7 +47,7 @@ fn told(config: &Config, own: &Own, aircraft: &Traffic) -> DaaAlert
     }
 }
 
-/// What is told of an aircraft of these numbers.
+/// The alert of the aircraft with these numbers.
 fn alert_of(config: &DaaConfig, own: &DaaOwn, traffic: &DaaTraffic) -> Result<DaaAlert, Refusal>
     ensures told { IfOk result
         (IsToldUnder config.now (own_of own.now) (traffic_of traffic.now)) }

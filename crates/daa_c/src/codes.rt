@@ -1,4 +1,4 @@
-//! The numbers that stand for kinds, sides and faults in C.
+//! The numbers of kinds, sides and faults in C.
 
 ghost use Rattle.std.specs.Prelude.{◌≡◌, ◌≢◌, pos, IfSome, IfNone};
 ghost use Rattle.daa_c.specs.Codes.{code_of, IsNoKind, IsNoSide, kind_number, side_number};
@@ -39,7 +39,7 @@ pub(crate) fn fault_code(fault: ConfigFault) -> i32
     }
 }
 
-/// The kind that a number stands for.
+/// The kind of a number.
 pub(crate) fn kind_in(number: i32) -> Option<Kind>
     ensures some { IfSome result (λ kind. kind_number kind ≡ number) }
     ensures none { IfNone result (IsNoKind number) }
@@ -53,7 +53,7 @@ pub(crate) fn kind_in(number: i32) -> Option<Kind>
     }
 }
 
-/// The side that a number stands for.
+/// The side of a number.
 pub(crate) fn side_in(number: i32) -> Option<Side>
     ensures some { IfSome result (λ side. side_number side ≡ number) }
     ensures none { IfNone result (IsNoSide number) }

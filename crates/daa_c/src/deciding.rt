@@ -25,7 +25,7 @@ use daa_state::Picture;
 /// The most candidates of a configuration.
 const MOST_CANDIDATES: usize = 1897;
 
-/// The levels at which each candidate is covered: bit l - 1 of a mask stands for level l.
+/// The levels at which each candidate is covered: bit l - 1 of a mask means level l.
 #[repr(C)]
 #[derive(Clone, Copy)]
 pub struct DaaBoard {
@@ -52,7 +52,7 @@ pub(crate) fn decided(config: &Config, picture: &Picture) -> Board
     requires { IsPictureInRange picture.now }
     ensures { IsBoardOf (CoveredAt config.now picture.now) config.now result }
 {
-    // tells how many there are
+    // its clauses say how many there are
     let _total = config.total();
     let mut board = Board::new();
     let mut trunks = trunks();

@@ -19,7 +19,7 @@ pub struct DaaFault {
     pub place: u64,
 }
 
-/// The number that stands for what a number of a state is.
+/// The number of a field of a state.
 fn field_number(field: Field) -> i32
     ensures { result ≡ number_of_field field }
 {
@@ -62,7 +62,7 @@ fn ranged(code: i32, place: usize, fault: &OutOfRange) -> DaaFault
     }
 }
 
-/// What is told of a refusal.
+/// The report of a refusal.
 fn told(refusal: Refusal) -> DaaFault
     ensures { result ≡ told_by refusal }
 {

@@ -1,4 +1,4 @@
-//! What is answered on a side of a kind.
+//! The answer on a side of a kind.
 
 ghost use Rattle.std.specs.Prelude.{◌≡◌, ◌≢◌, [], pos};
 ghost use Rattle.daa_c.specs.Asked.{IsResolutionUnder};
@@ -16,7 +16,7 @@ use daa_bands::Board;
 use daa_config::Resolution;
 use daa_resolve::nearest;
 
-/// What is answered: 0 to keep the present flight, 1 to go to the value, 2 that there is none.
+/// The answer: 0 to keep the present flight, 1 to go to the value, 2 for no open candidate.
 #[repr(C)]
 #[derive(Clone, Copy)]
 pub struct DaaResolution {
@@ -24,7 +24,7 @@ pub struct DaaResolution {
     pub value: i32,
 }
 
-/// The numbers of what is answered.
+/// The numbers of an answer.
 fn told(resolution: Resolution) -> DaaResolution
     ensures { result ≡ resolution_by resolution }
 {
@@ -35,7 +35,7 @@ fn told(resolution: Resolution) -> DaaResolution
     }
 }
 
-/// Fills in what is answered on a side of a kind. Answers 0, or why nothing was filled in.
+/// Fills in the answer on a side of a kind. Returns 0, or why nothing was filled in.
 #[unsafe(no_mangle)]
 pub extern "C" fn daa_resolution(
     config: &DaaConfig,

@@ -41,7 +41,7 @@ pub struct DaaTraffic {
     pub age: u32,
 }
 
-/// How many bytes stand before the first 0.
+/// The number of bytes before the first 0.
 fn text_end(bytes: &[u8]) -> usize
     ensures within { result ≤ length bytes.now }
     ensures text { take result bytes.now ≡ text_of bytes.now }

@@ -15,7 +15,7 @@ use std::thread::{self, Threads};
 /// The most bytes of a moment's text.
 const ROOM: usize = 130_176;
 
-/// A display. Between two looks it hands the processor on so many times.
+/// A display. Between two looks it yields the processor this many times.
 #[derive(Drop)]
 pub struct Display {
     pub screen: Screen,
@@ -81,7 +81,7 @@ impl Display {
         self.screen.seen() == feed.published()
     }
 
-    /// Is told of all that was published, and draws that.
+    /// Learns of all that was published, and draws it.
     #[tactic(auto, using(daa_screen::proofs::Kept::goes_on_and_on))]
     pub fn catch_up<R: Threads + Sync>(self, rt: &R, alloc: Global, feed: &Feed) -> Result<Display>
         requires { self.screen.feed ≡ feed.now.feed }

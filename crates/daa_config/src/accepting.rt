@@ -25,7 +25,7 @@ fn are_all_in_range(
     are_in_range(numbers) && (recovery_is_in_range(recovery) && levels_are_in_range(levels))
 }
 
-/// Whether the numbers may stand in a configuration.
+/// Whether the numbers are allowed in a configuration.
 #[tactic(auto, unfolding(crate::specs::ConfigOf::settings_of))]
 pub(crate) fn test(
     numbers: &Numbers,
@@ -55,7 +55,7 @@ pub(crate) fn test(
 }
 
 impl Config {
-    /// The configuration of these numbers, in the units of the text's keys, where they may stand
+    /// The configuration of these numbers, in the units of the text's keys, if they are allowed
     /// in one; else the first that applies of `OutOfRange`, `Levels` and `TooMany`. The first of
     /// the levels is level 1. It takes no memory.
     #[tactic(auto, unfolding(crate::specs::ConfigOf::settings_of))]

@@ -1,4 +1,4 @@
-//! What an ownship may try, and what is answered of it.
+//! What an ownship may try, and the answers to it.
 
 /// A flight that is tried: the present one, or one that goes to a track (degrees, 0 to 359), a
 /// ground speed (0.1 kt), a vertical speed (ft/min) or an altitude (ft).
@@ -11,8 +11,8 @@ pub enum Candidate {
     Height(i32),
 }
 
-/// What is answered for one side of a kind: stay as you are, go to this value, or that there is no
-/// value to go to.
+/// The answer on one side of a kind: keep the present flight, go to this value, or no value is
+/// open.
 #[derive(Clone, Copy, Debug, PartialEq, Eq)]
 pub enum Resolution {
     Keep,

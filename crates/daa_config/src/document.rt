@@ -1,4 +1,4 @@
-//! What stands at the keys of a document's tables.
+//! The values at the keys of a document's tables.
 
 ghost use Rattle.std.specs.Prelude.{◌≡◌, option_map, IfOk};
 ghost use Rattle.toml.specs.Data.{get_member};
@@ -49,7 +49,7 @@ fn whole_at(table: &Table, key: &str) -> Option<i64>
     }
 }
 
-/// The numbers of a kind's table, where each stands there as a whole number.
+/// The numbers of a kind's table, if each is a whole number.
 #[tactic(auto, unfolding(crate::specs::Document::grid_in))]
 fn grid_of(table: &Table) -> Option<Grid>
     ensures { result ≡ grid_in (table_view table.now) }
@@ -62,7 +62,7 @@ fn grid_of(table: &Table) -> Option<Grid>
     })
 }
 
-/// The numbers of the kind whose table stands at a key.
+/// The numbers of the kind whose table is at a key.
 #[tactic(auto, unfolding(crate::specs::Document::grid_at))]
 fn grid_found(table: &Table, key: &str) -> Option<Grid>
     ensures { result ≡ grid_at key.now (table_view table.now) }
@@ -73,7 +73,7 @@ fn grid_found(table: &Table, key: &str) -> Option<Grid>
     }
 }
 
-/// The numbers of the recovery's table, where each stands there as a whole number.
+/// The numbers of the recovery's table, if each is a whole number.
 #[tactic(auto, unfolding(crate::specs::Document::cylinder_in))]
 fn cylinder_of(table: &Table) -> Option<RecoveryNumbers>
     ensures { result ≡ cylinder_in (table_view table.now) }
@@ -96,7 +96,7 @@ pub(crate) fn recovery_of(document: &Table) -> Option<Option<RecoveryNumbers>>
     Some(Some(cylinder_of(found.as_table()?)?))
 }
 
-/// The numbers of a level's table, where each stands there as a whole number.
+/// The numbers of a level's table, if each is a whole number.
 #[tactic(auto, unfolding(crate::specs::Document::level_in))]
 fn level_of(table: &Table) -> Option<LevelNumbers>
     ensures { result ≡ level_in (table_view table.now) }

@@ -6,8 +6,8 @@ ghost use Rattle.daa_config.specs.declared.fault.ConfigFault.TheVariants.{NoMemo
 use std::alloc::{AllocError, AllocFailed};
 use thiserror::Error;
 
-/// Why a configuration is refused. Where several faults apply, the one of least number is told,
-/// wherever in the text it applies. `NoMemory` says nothing of the text.
+/// Why a configuration is refused. If several faults apply, the one with the smallest number is
+/// reported, wherever in the text it is. `NoMemory` says nothing of the text.
 #[derive(Clone, Copy, Debug, PartialEq, Eq, Error)]
 pub enum ConfigFault {
     /// The text has more than 65536 bytes.
@@ -43,7 +43,7 @@ pub enum ConfigFault {
 impl ConfigFault {
     ghost use Rattle.daa_config.specs.Fault.{code_of};
 
-    /// The number of the fault, 1 to 8; none for want of memory.
+    /// The number of the fault, 1 to 8; none for `NoMemory`.
     pub fn code(self) -> Option<u8>
         ensures { result ≡ code_of self }
     {

@@ -1,4 +1,4 @@
-//! The numbers of a configuration as its text has them, and whether they may stand there.
+//! The numbers of a configuration as its text has them, and whether they are allowed.
 
 ghost use Rattle.std.specs.Prelude.{◌≡◌, true};
 ghost use Rattle.std.specs.List.{list_all};
@@ -60,7 +60,7 @@ pub struct RecoveryNumbers {
 }
 
 /// All numbers of a configuration as its text has them; the first of the levels is level 1. The
-/// table of keys, units and ranges stands in the documentation.
+/// table of keys, units and ranges is in the documentation.
 #[derive(Debug, Drop)]
 pub struct ConfigNumbers {
     pub numbers: Numbers,

@@ -1,4 +1,4 @@
-//! How the levels of a group of candidates stand in a word of 64 bits.
+//! How the levels of a group of candidates are packed in a word of 64 bits.
 
 /// How many candidates a group has.
 pub const GROUP: u32 = 12;

@@ -81,7 +81,7 @@ fn kept(levels: &[LevelNumbers]) -> ArrayVec<LevelNumbers, 4>
     all
 }
 
-/// The numbers, where they may stand in a configuration.
+/// The numbers, if they are allowed in a configuration.
 #[tactic(auto, unfolding(crate::specs::ConfigOf::settings_of))]
 fn accept(found: &Found) -> Result<ConfigNumbers, ConfigFault>
     ensures same { IfOk result (λ numbers. written_by numbers ≡ written_in found.now) }
@@ -111,9 +111,9 @@ pub fn read_numbers(alloc: Global, text: &[u8]) -> Result<ConfigNumbers, ConfigF
     accept(&found)
 }
 
-/// The configuration that the text is, or the fault of least number that applies anywhere in it.
-/// Want of memory apart, it is accepted or refused exactly as the definition says. The text is read
-/// as a TOML document; the table of keys, units and ranges stands in the documentation.
+/// The configuration of the text or, of all faults in it, the one with the smallest number. Unless
+/// memory runs out, the text is accepted or refused exactly as the definition says. It is read
+/// as a TOML document; the table of keys, units and ranges is in the documentation.
 pub fn read(alloc: Global, text: &[u8]) -> Result<Config, ConfigFault>
     ensures accepted { IfOk result (λ config. config_of text.now ≡ Ok config) }
     ensures refused { IfErr result (λ fault. fault ≢ NoMemory → config_of text.now ≡ Err fault) }

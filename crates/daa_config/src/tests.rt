@@ -1,4 +1,4 @@
-//! Texts and what they are read as: the code of each fault, and what the readers tell of the
+//! Texts and what they are read as: the code of each fault, and what the readers return of the
 //! examples.
 
 mod codes;

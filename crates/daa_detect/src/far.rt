@@ -1,4 +1,4 @@
-//! The box test: legs that are so far away that they need no exact test. What violates horizontally
+//! The box test: it finds legs too far away to need an exact test. What violates horizontally
 //! comes within `dthr` in at most `tthr` seconds, so a leg that stays beyond `dthr` on one axis
 //! until then violates at no time.
 

@@ -1,4 +1,4 @@
-//! What is answered on the sides of all kinds.
+//! The answers on the sides of all kinds.
 
 ghost use Rattle.daa_bands.specs.Board.{HasLevelOn};
 ghost use Rattle.daa_engine.specs.Inside.Findings.{AreSides, IsAdvice};
@@ -8,14 +8,14 @@ use daa_config::{Config, Kind, Resolution};
 use daa_resolve::{Side, nearest};
 use daa_state::Own;
 
-/// What is answered on both sides of a kind.
+/// The answers on both sides of a kind.
 #[derive(Clone, Copy, Debug)]
 pub(crate) struct Sides {
     pub(crate) lower: Resolution,
     pub(crate) upper: Resolution,
 }
 
-/// What is answered on the sides of all kinds.
+/// The answers on the sides of all kinds.
 #[derive(Clone, Copy, Debug)]
 pub(crate) struct Advice {
     pub(crate) track: Sides,

@@ -58,8 +58,8 @@ pub fn decide_in(
     fill(board, trunks, branches, config, picture);
 }
 
-/// Writes the lines of a moment to the sink as `report` does, where the board of the moment was
-/// decided before: it is handed in.
+/// Writes the lines of a moment to the sink as `report` does, from a board of the moment that was
+/// decided before.
 pub fn say_moment<K: Sink>(
     config: &Config,
     picture: &Picture,
@@ -73,9 +73,9 @@ pub fn say_moment<K: Sink>(
     ensures says { SaysSome (IsMomentText config.now picture.now) (K.taken sink.old)
         (K.taken sink.new) (K.faults sink.old) (K.faults sink.new) result }
 {
-    // tells that its numbers are in range
+    // ensures that its numbers are in range
     let _levels = config.levels();
-    // tells that it is a `u32`
+    // ensures that it is a `u32`
     let _time = time_of(picture);
     let alerts = find_alerts(config, picture);
     let advice = advise(board, config, &picture.own);
@@ -84,8 +84,8 @@ pub fn say_moment<K: Sink>(
 }
 
 /// Decides a moment as `decide_in` does, on the same room, and writes its lines to the sink. There
-/// need be no engine. `SinkFault` comes only where the sink failed; then a beginning of the lines
-/// is written. The lines have at most 130176 bytes together.
+/// need be no engine. `SinkFault` is returned only if the sink failed; then a beginning of the
+/// lines is written. The lines have at most 130176 bytes together.
 pub fn report_in<K: Sink>(
     config: &Config,
     picture: &Picture,
@@ -171,7 +171,7 @@ impl Engine {
         requires { index < length (candidates_of self.now.settings) }
         ensures { IsGreatestLevel (HasLevelOn self.now.board index) mask_levels result }
     {
-        // tells that it is one of the board
+        // ensures that it is one of the board
         let _total = self.config.total();
         self.board.shown(index)
     }
@@ -185,7 +185,7 @@ impl Engine {
         runs(&self.board, &self.config, kind)
     }
 
-    /// What is answered in the latest moment on a side of a kind: the nearest open candidate, that
+    /// The answer in the latest moment on a side of a kind: the nearest open candidate, that
     /// there is none, or that the present flight may be kept. The ownship is that moment's.
     pub fn resolution(&self, own: &Own, kind: Kind, side: Side) -> Resolution
         ensures { IsResolution

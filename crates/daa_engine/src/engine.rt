@@ -89,7 +89,7 @@ fn trunks_in(alloc: Global) -> Result<Vec<Trunk>, NoMemory>
 }
 
 impl Engine {
-    /// An engine of this configuration and so many workers, 1 to 16, before its first moment.
+    /// An engine with this configuration and number of workers, 1 to 16, before its first moment.
     /// `NoMemory` says that there was no memory for it.
     pub fn new(alloc: Global, config: Config, workers: u32) -> Result<Engine, NoMemory>
         requires { IsWorkerCount workers }
@@ -100,7 +100,7 @@ impl Engine {
               board = replicate board_size 0;
             }) }
     {
-        // tells that its numbers are in range
+        // ensures that its numbers are in range
         let _levels = config.levels();
         let words = vec![in alloc; 0u64; MOST_UNITS]?;
         let branches = vec![in alloc; Branch::new(); MOST_CANDIDATES]?;
@@ -182,10 +182,10 @@ impl Engine {
     }
 
     /// Decides a moment and writes its lines to the sink: its first line, the lines of the
-    /// aircraft, those of the bands of each kind, of what is answered and of the recoveries, and
+    /// aircraft, those of the bands of each kind, of the answers and of the recoveries, and
     /// its last line. Everything is found before the first byte is written, and nothing is held
-    /// back when the call returns. `SinkFault` comes only where the sink failed; then a beginning
-    /// of the lines is written. The lines have at most 130176 bytes together.
+    /// back when the call returns. `SinkFault` is returned only if the sink failed; then a
+    /// beginning of the lines is written. The lines have at most 130176 bytes together.
     pub fn report<R: Threads + Sync, K: Sink, G: Gate>(
         &mut self,
         rt: &R,

@@ -31,7 +31,7 @@ pub fn has_one_text()
         → IsMomentText s p b → a ≡ b }
 {}
 
-/// A picture has one board at most: two boards that stand for what is covered have the same levels.
+/// A picture has at most one board: two boards of the covered candidates have the same levels.
 /// So the workers' board is that of one thread.
 pub fn has_one_board()
     ensures { (s : Settings) (p : Picture) (a b : List ℕ) (index l : ℕ)
@@ -39,8 +39,8 @@ pub fn has_one_board()
         → HasLevelOn a index l → HasLevelOn b index l }
 {}
 
-/// What a board shows is what aircraft do: over a board that stands for what is covered, the bands
-/// of a kind and the answer on a side are those over what is covered.
+/// A board agrees with the definitions: over a board of the covered candidates, the bands of a kind
+/// and the answer on a side are those over the covered candidates.
 pub fn boards_tell_what_is_covered()
     ensures bands { (s : Settings) (p : Picture) (board : List ℕ) (kind : Kind) (bands : List Band)
         → IsAccepted s

@@ -62,7 +62,7 @@ fn have_no_answer(sides: &Sides) -> bool
     }
 }
 
-/// What a line tells of a recovery.
+/// The numbers of a recovery on a line.
 fn told(found: Option<Recovery>) -> Option<(u32, i32)>
     ensures { result ≡ option_map told_of found }
 {

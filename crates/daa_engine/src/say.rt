@@ -120,7 +120,7 @@ fn say_all_bands<K: Sink>(
     say_bands(page, sink, board, config, Kind::Height)
 }
 
-/// Says the line of what is answered on the sides of a kind.
+/// Says the line of the answers on the sides of a kind.
 fn say_sides<K: Sink>(
     page: &mut Page,
     sink: &mut K,
@@ -133,7 +133,7 @@ fn say_sides<K: Sink>(
     page.say(sink, &Line::resolve(kind, sides.lower, sides.upper))
 }
 
-/// Says the lines of what is answered on all sides.
+/// Says the lines of the answers on all sides.
 fn say_advice<K: Sink>(page: &mut Page, sink: &mut K, advice: &Advice) -> Result<(), SinkFault>
     ensures { PageSays (K.taken sink.old) (K.taken sink.new) page.old page.new (K.faults sink.old)
         (K.faults sink.new) (advice_text advice.now) result }

@@ -23,11 +23,11 @@ use daa_state::Picture;
 use std::alloc::Global;
 use std::thread::Threads;
 
-/// Marks the levels at which each candidate is covered, and no others, by so many workers. The
-/// words are room for their answers, the trunks and the branches for what the workers share. Where
-/// no aircraft is in reach there is no unit, and no worker
-/// is needed. `NoMemory` says that there was no memory for the workers; then the board is as it
-/// was.
+/// Marks the levels at which each candidate is covered, and no others, by this number of workers.
+/// The words are room for their answers, the trunks and the branches for what the workers share.
+/// If no aircraft is in reach there is no unit, and no worker is needed.
+/// `NoMemory` says that there was no memory for the workers; then the board is
+/// unchanged.
 pub(crate) fn fill_together<R: Threads + Sync, G: Gate>(
     rt: &R,
     alloc: Global,

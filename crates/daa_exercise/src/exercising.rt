@@ -16,8 +16,8 @@ use std::thread::Threads;
 /// Decides the moments that a seed draws, as many as are asked for, at most 10000, and writes their
 /// summary: how many aircraft they had, how often each level was an aircraft's alert level, and how
 /// often each was the shown level of a candidate of each kind. All is counted before the first byte
-/// is written, and the same seed has the same summary for every number of workers. Of the allocator
-/// the engine asks what it asks for to decide. `SinkFault` comes only where the sink failed; then a
+/// is written, and the same seed has the same summary for every number of workers. Only the engine
+/// uses the allocator, to decide. `SinkFault` is returned only if the sink failed; then a
 /// beginning of the summary is written.
 pub fn exercise<R: Threads + Sync, K: Sink, G: Gate>(
     engine: &mut Engine,

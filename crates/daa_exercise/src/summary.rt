@@ -1,4 +1,4 @@
-//! The text of a summary. All of it is at hand before the first byte is written.
+//! The text of a summary. All of it is known before the first byte is written.
 
 ghost use Rattle.std.specs.Prelude.{◌≡◌, ◌≤◌, ◌+◌, ◌++◌, take, length};
 ghost use Rattle.arrayvec.specs.ArrayVec.{array_vec_len};
@@ -11,7 +11,7 @@ use arrayvec::ArrayVec;
 use daa_config::Kind;
 use daa_report::{Line, kind_word};
 
-/// The summary of a seed and so many moments, with the counts of the levels up to the top one,
+/// The summary of a seed and a number of moments, with the counts of the levels up to the top one,
 /// which is at most 4.
 #[tactic(auto, unfolding(crate::specs::Summary::summary_text))]
 pub(crate) fn summary(seed: u32, moments: u32, top: u32, counts: &Counts) -> ArrayVec<u8, 512>

@@ -9,6 +9,6 @@ pub enum Found {
     Differs(u64),
     /// The source failed.
     Fault,
-    /// As many bytes as may be read are the beginning of the report, and there is one more.
+    /// The report begins with the limit of bytes that were read, and there is one more.
     Limit,
 }

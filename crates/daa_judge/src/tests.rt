@@ -7,8 +7,8 @@ use std::error::Error;
 use std::process::Abort;
 use std::test::Fail;
 
-/// What is found of these bytes, handed out in pieces of a size, where the report is two texts and
-/// so many bytes may be read.
+/// What is found of these bytes, handed out in pieces of this size, if the report is two texts and
+/// `most` bytes may be read.
 fn found<R: AllocGlobal>(
     rt: &R,
     bytes: &[u8],

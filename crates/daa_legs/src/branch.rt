@@ -26,7 +26,7 @@ use daa_state::Own;
 pub struct Branch {
     /// At which it flies straight on.
     pub velocity: Solid,
-    /// In 1/60 foot. It is told where the flight leaves the leading one within 180 seconds.
+    /// In 1/60 foot. Defined if the flight leaves the leading one within 180 seconds.
     pub rise: i64,
     pub leaves: u32,
     pub settles: u32,

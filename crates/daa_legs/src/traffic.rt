@@ -41,7 +41,7 @@ pub(crate) fn place_of(aircraft: &Traffic, k: u32) -> Solid
     }
 }
 
-/// A coordinate after so many seconds.
+/// A coordinate after `secs` seconds.
 fn after(begin: i64, speed: i32, secs: u32) -> i64
     requires begin { IsWithin 7200000 begin }
     requires speed { IsWithin 10000 speed }

@@ -27,8 +27,8 @@ pub fn lines_only_grow()
         × (shown (lines_of bytes true) ≡ shown (lines_of bytes false) ++ lines) }
 {}
 
-/// Where the same bytes were fed, in whatever pieces, the same lines were taken, the one that
-/// stands counted.
+/// If the same bytes were fed, in any pieces, the same lines were taken, counting the one that is
+/// ready.
 pub fn pieces_do_not_matter()
     ensures { (bytes : Bytes) (taken taken' : List Bytes) (lines lines' : Cutting)
         → lines.ended ≡ lines'.ended

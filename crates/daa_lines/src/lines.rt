@@ -1,6 +1,6 @@
-//! The lines of a stream, one at a time: bytes are fed until a line stands, and the line is taken.
-//! A line ends at a line feed or with the input. One of 256 bytes or more is long: it stands as
-//! soon as 256 bytes of it are there, and the rest of it is skipped.
+//! The lines of a stream, one at a time: bytes are fed until a line is ready, and then it is taken.
+//! A line ends at a line feed or with the input. One of 256 bytes or more is long: it is ready as
+//! soon as 256 bytes of it were fed, and the rest of it is skipped.
 
 ghost use Rattle.std.specs.Prelude.{◌≡◌, ◌<◌, ◌≤◌, ◌+◌, ◌^◌, ◌↔◌, ◌⊎◌, ◌++◌, [], ◌∷◌, List, ℕ, length, take, false, true, slice_get};
 ghost use Rattle.daa_lines.specs.LinesOf.{lines_of};
@@ -34,7 +34,7 @@ pub enum Line<'a> {
     Whole(&'a [u8]),
     /// A line of 256 bytes or more.
     Long,
-    /// No line stands.
+    /// No line is ready.
     NotYet,
 }
 
@@ -121,15 +121,15 @@ impl Lines {
         byte == b'\n' || self.stands()
     }
 
-    /// Whether a line stands that is not taken yet.
+    /// Whether a line is ready that is not taken yet.
     fn stands(&self) -> bool
         ensures { result ≡ is_standing self.now.stage }
     {
         matches!(self.stage, Stage::Whole | Stage::Long)
     }
 
-    /// Takes the first bytes of the piece, and answers how many: those up to and with the next line
-    /// feed, but of a line no more than its first 256, and none while a line stands that is not
+    /// Takes the first bytes of the piece, and returns how many: those up to and with the next line
+    /// feed, but of a line no more than its first 256, and none while a line is ready that is not
     /// taken yet. The rest of a long line is taken up to and with its line feed. `end` must not
     /// have been called, and fewer than 2^63 bytes be fed in all.
     #[tactic(auto, unfolding(crate::specs::Inside::Pushing::after_byte))]
@@ -158,8 +158,8 @@ impl Lines {
         piece.len()
     }
 
-    /// Takes the line that stands, if one does: `NotYet` comes exactly where none does, and `Long`
-    /// exactly where the line has 256 bytes or more.
+    /// Takes the line that is ready, if there is one. It returns `NotYet` exactly if there is none,
+    /// and `Long` exactly if the line has 256 bytes or more.
     pub fn take_line(&mut self) -> Line<'_>
         ensures* after { sem 𝓛 (LeavesTaken self.entry) }
         ensures handed { IsHanded self.old result }

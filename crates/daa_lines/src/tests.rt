@@ -11,7 +11,7 @@ use std::alloc::{AllocError, Global};
 use std::process::Abort;
 use std::test::Fail;
 
-/// Takes the line that stands, if one does, and adds it to the text.
+/// Takes the line that is ready, if there is one, and adds it to the text.
 fn put_line(rt: &impl Abort, lines: &mut Lines, text: &mut Vec<u8>) -> Result<(), AllocError>
     ensures { lines.new.ended ≡ lines.old.ended }
 {
@@ -35,7 +35,7 @@ fn put_line(rt: &impl Abort, lines: &mut Lines, text: &mut Vec<u8>) -> Result<()
     Ok(())
 }
 
-/// Feeds the piece, and adds each line that stands to the text.
+/// Feeds the piece, and adds each line that is ready to the text.
 fn put_piece(
     rt: &impl Abort,
     lines: &mut Lines,
@@ -56,7 +56,7 @@ fn put_piece(
     Ok(())
 }
 
-/// The lines of the input, fed in pieces of `size` bytes. The end is told twice.
+/// The lines of the input, fed in pieces of `size` bytes. `end` is called twice.
 fn text_of(rt: &impl Abort, alloc: Global, input: &[u8], size: usize) -> Result<Vec<u8>, AllocError>
     requires { 0 < size }
 {

@@ -5,7 +5,7 @@ ghost use Rattle.daa_outside.specs.Faults.{one_more};
 
 use thiserror::Error;
 
-/// A call to the outside did not succeed. It comes only where that object's count of faults rose.
+/// A call to the outside failed. It is returned only if that object's fault counter rose.
 #[derive(Clone, Copy, Debug, PartialEq, Eq, Error)]
 #[error("a call to the outside failed")]
 pub struct Failed;

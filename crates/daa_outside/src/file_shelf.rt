@@ -11,7 +11,7 @@ use std::io::{ErrorKind, Read};
 use std::rt::Files;
 use std::{fs, io};
 
-/// The files of the system, each under its path. It tells nothing of what they hold.
+/// The files of the system, each under its path. It shows nothing of what they hold.
 #[derive(Drop)]
 pub struct FileShelf<R> {
     files: R,
@@ -23,7 +23,7 @@ impl<R: Files> FileShelf<R> {
     ghost use Rattle.daa_outside.specs.FileShelf.{faults_of};
 
     /// A shelf over the files that this runtime reaches. Each error of opening or reading is a
-    /// fault, but for want of memory while a file is read.
+    /// fault, except lack of memory while a file is read.
     pub fn new(files: R) -> Self
         ensures { faults_of result ≡ 0 }
     {
@@ -82,7 +82,7 @@ pub(crate) fn text_of<R: Read + Drop>(alloc: Global, reader: R) -> Result<Vec<u8
     Ok(text)
 }
 
-/// Want of memory, as the system tells it, is no fault of the shelf.
+/// Lack of memory, as the system reports it, is no fault of the shelf.
 fn fault_of(error: &io::Error) -> FetchFault
     ensures memory { (result ≡ FetchFault.NoMemory)
         ↔ (error_kind error.now ≡ ErrorKind.OutOfMemory) }

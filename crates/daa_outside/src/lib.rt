@@ -1,5 +1,5 @@
 //! The outside of the program, as traits: where bytes come from, where they go, texts by name, and
-//! the gate that a worker passes. Each has forms in memory, and a thin adapter over the real thing.
+//! the gate that a worker passes. Each has implementations in memory, and a thin adapter.
 #![tactic(auto)]
 
 mod calls;

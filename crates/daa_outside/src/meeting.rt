@@ -10,8 +10,8 @@ use std::{array, thread};
 /// How often a held worker looks at most, with a millisecond of sleep after each look.
 const LOOKS: u32 = 2000;
 
-/// A gate that holds each of the workers 0 to 15 when it first comes, until so many of them have
-/// come, or for two seconds and more. A held worker sleeps, so that a busy machine runs the others.
+/// A gate that holds each of the workers 0 to 15 at its first pass until a given number have come,
+/// or for two seconds and more. A held worker sleeps, so that a busy machine runs the others.
 #[derive(Drop)]
 pub struct Meeting<C> {
     clock: C,
@@ -22,7 +22,7 @@ pub struct Meeting<C> {
 }
 
 impl<C: Clock> Meeting<C> {
-    /// A gate at which so many workers are to meet; `clock` is what they sleep by.
+    /// A gate at which this number of workers are to meet; `clock` is what they sleep by.
     pub fn of(clock: C, wanted: u64) -> Self {
         Meeting {
             clock,

@@ -33,8 +33,8 @@ impl Model for MemShelf {
 }
 
 impl MemShelf {
-    /// A shelf that holds each text under the name at its place; of a name that stands twice, the
-    /// first place counts. The calls in `fails` fail; they are numbered from 0.
+    /// A shelf that holds each text under the name at its index; of a name that occurs twice, the
+    /// first index counts. The calls in `fails` fail; they are numbered from 0.
     pub fn new(names: Vec<String>, texts: Vec<Vec<u8>>, fails: Vec<u64>) -> Self
         ensures { result ≡ record {
           names = map string_bytes names.items;

@@ -37,7 +37,7 @@ impl Model for MemSink {
 }
 
 impl MemSink {
-    /// A sink that takes as many bytes as `room` has, over whatever stands there. Call i takes at
+    /// A sink that takes as many bytes as `room` has, and overwrites them. Call i takes at
     /// most `pieces[i]` bytes, where 0 counts as 1, and past the end of `pieces` there is no bound.
     /// The calls in `fails` fail, and each call once the vector is full, also that of an empty
     /// piece. Calls are numbered from 0.
@@ -111,7 +111,7 @@ impl Sink for MemSink {
     }
 }
 
-/// Writes the piece over what stands at an index.
+/// Writes the piece over the bytes from an index on.
 fn write_at(space: &mut [u8], at: usize, piece: &[u8])
     requires { at + length piece.now ≤ length space.old }
     ensures { take (at + length piece.now) space.new ≡ take at space.old ++ piece.now }

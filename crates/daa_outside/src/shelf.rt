@@ -26,10 +26,10 @@ pub enum FetchFault {
 
 /// Something that holds texts by name.
 pub trait Shelf {
-    // The texts that it holds, where it tells them.
+    // The texts that it holds, if it shows them.
     ghost texts: { Self → Option Texts };
 
-    // How many of its calls failed. The count rises in a call that fails, and stands in every
+    // The fault counter: it rises in a call that fails, and does not change in any
     // other.
     ghost faults: { Self → ℕ };
 

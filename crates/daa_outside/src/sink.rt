@@ -8,10 +8,10 @@ use crate::faults::Failed;
 
 /// Something that bytes are written to.
 pub trait Sink {
-    // The bytes that it took so far, where it tells them.
+    // The bytes that it took so far, if it shows them.
     ghost taken: { Self → Option (List ℕ) };
 
-    // How many of its calls failed. The count rises in a call that fails, and stands in every
+    // The fault counter: it rises in a call that fails, and does not change in any
     // other.
     ghost faults: { Self → ℕ };
 

@@ -8,7 +8,7 @@ use crate::sink::Sink;
 use std::io;
 use std::io::Write;
 
-/// A sink over a writer, as standard output. It tells nothing of what was taken, since a flush may
+/// A sink over a writer, as standard output. It shows nothing of what was taken, since a flush may
 /// fail after a write.
 #[derive(Drop)]
 pub struct StdSink<W: Write> {
@@ -47,7 +47,7 @@ impl<W: Write> Sink for StdSink<W> {
         ensures risen { OnErr result (HasRisen (faults_of self.old) (faults_of self.new)) }
         ensures never_falls { faults_of self.old ≤ faults_of self.new }
 
-        // What the writer tells of its own bytes.
+        // What the writer shows of its own bytes.
         ensures writer_appended { IfOk result (λ n. Appends (W.contents (writer_of self.old))
             (W.contents (writer_of self.new)) (take n piece.now)) }
         ensures writer_front { OnErr result ((n : ℕ) × Appends (W.contents (writer_of self.old))

@@ -4,8 +4,8 @@ use crate::faults::{Failed, counted};
 use crate::source::Source;
 use std::io::Read;
 
-/// A source over a reader, as standard input. It tells nothing of what is left; a call gives what
-/// one read of the reader gives.
+/// A source over a reader, as standard input. It shows nothing of what is left; a call returns what
+/// one read of the reader returns.
 #[derive(Drop)]
 pub struct StdSource<R: Read> {
     reader: R,
@@ -40,7 +40,7 @@ impl<R: Read> Source for StdSource<R> {
         ensures risen { OnErr result (HasRisen (faults_of self.old) (faults_of self.new)) }
         ensures never_falls { faults_of self.old ≤ faults_of self.new }
 
-        // What the reader tells of its own bytes.
+        // What the reader shows of its own bytes.
         ensures reader_next { IfOk result (λ n. Consumes (R.remaining (reader_of self.old))
             (R.remaining (reader_of self.new)) (take n buf.new)) }
         ensures reader_end { IfOk result (λ n. n ≡ 0 → 0 < length buf.old →

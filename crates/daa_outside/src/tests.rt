@@ -213,7 +213,7 @@ impl io::Write for FailsOnce {
 /// One that another try might pass, and one that it might not.
 static KINDS: [ErrorKind; 2] = [ErrorKind::Interrupted, ErrorKind::BrokenPipe];
 
-/// The call that fails is answered, and the next one is made when the caller asks for it.
+/// The call that fails returns, and the next one is made when the caller makes it.
 #[test]
 fn a_read_that_fails_is_not_tried_again(rt: HostRuntime) {
     for kind in KINDS {
@@ -251,7 +251,7 @@ fn a_write_of_no_bytes_is_a_fault(rt: HostRuntime) {
     assert_eq!(rt; write(&mut full, b""), Ok(0));
 }
 
-/// A writer that can be flushed so many times, and then fails.
+/// A writer that can be flushed this many times, and then fails.
 #[derive(Drop)]
 struct Flushes(u32);
 

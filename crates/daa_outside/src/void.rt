@@ -3,7 +3,7 @@
 use crate::faults::Failed;
 use crate::sink::Sink;
 
-/// A sink that takes each piece whole and tells nothing. No call fails.
+/// A sink that takes each piece whole and shows nothing. No call fails.
 #[derive(Clone, Copy, Debug)]
 pub struct Void;
 

@@ -16,7 +16,7 @@ use std::thread::Threads;
 /// Fills the words with the answers in order of units, found by 1 to 16 workers, each on a thread
 /// of its own; a worker whose thread can't be started is run by the caller. There is at least one
 /// unit, and a word for each. The gate is passed before each unit is answered. `NoMemory` says that
-/// there was no memory for the pool; then the words are as they were.
+/// there was no memory for the pool; then the words are unchanged.
 pub fn answer_all<R: Threads + Sync, A: Answers + Sync, G: Gate>(
     rt: &R,
     alloc: Global,

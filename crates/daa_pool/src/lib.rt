@@ -1,6 +1,6 @@
-//! A pool of workers that share the units of one list of answers. The ranges of units stand in the
-//! words of one table, where each is claimed from by its owner and stolen from by the others in
-//! single atomic steps. Nobody waits.
+//! A pool of workers that share the units of one list of answers. The ranges of units are in the
+//! words of one table; its owner claims from a range and the others steal from it, in
+//! single atomic steps. No worker waits.
 #![tactic(auto)]
 
 mod claim;

@@ -84,7 +84,7 @@ impl Pool {
     }
 }
 
-/// The first seat is told the answers and the number of workers.
+/// Gives the first seat the answers and the number of workers.
 fn told<A: Answers>(
     shared: &Shared<(), View, Size, PoolRule>,
     seat: &mut atomic_table::Seat<(), View>,
@@ -102,7 +102,7 @@ fn told<A: Answers>(
     begin::<Brand, A>(shared, seat, answers, workers);
 }
 
-/// The same, where `J` names what is told.
+/// The same, where `J` names the answers and the number of workers.
 fn begin<J: Telling, A: Answers>(
     shared: &Shared<(), View, Size, PoolRule>,
     seat: &mut atomic_table::Seat<(), View>,

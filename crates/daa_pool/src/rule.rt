@@ -1,4 +1,4 @@
-//! The rule of the table, and what each kind of step tells.
+//! The rule of the table, and what each kind of step shows.
 
 ghost use Rattle.std.specs.Prelude.{ℕ, List, []};
 ghost use Rattle.daa_pool.specs.Inside.View.{left_behind, next_seat, gathered, spent};
@@ -21,7 +21,7 @@ impl TableRule<(), View, Size> for PoolRule {
     ghost first = { λ size. blank };
 }
 
-/// What the first seat is told. Each call of a program picks it.
+/// What the first seat is given. Each call of a program picks it.
 pub(crate) trait Telling {
     /// The number of workers.
     ghost workers: { ℕ };

@@ -17,7 +17,7 @@ pub fn parts_out_of_order_are_no_units()
         → unpacked word ≡ span (first_part word) (first_part word) }
 {}
 
-/// The length is the number of units that stand in the range.
+/// The length is the number of units in the range.
 #[tactic(auto, using(crate::proofs::Ranges::times_below_all))]
 pub fn len_counts_the_units()
     ensures { (range : Span) (most : ℕ) → IsOrdered range → range.upto ≤ most

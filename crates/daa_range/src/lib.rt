@@ -1,4 +1,4 @@
-//! Ranges of units of work, and how a range stands in one 64-bit word, so that a single atomic step
+//! Ranges of units of work, each packed in one 64-bit word, so that a single atomic step
 //! can read or change a whole range.
 #![tactic(auto)]
 

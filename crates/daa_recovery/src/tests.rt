@@ -50,7 +50,7 @@ const BESIDE: [&str; 4] = ["moment 0", NORTH, "traffic A 400 100 1000 0 0 0 0", 
 
 /// A recovery of each kind, worked out apart from the program: the table and the ground speeds of
 /// the configuration, the moment, and for track, ground speed, vertical speed and altitude the
-/// second and the value; second 0 stands for none. The ownship flies north at 0.1 nautical mile a
+/// second and the value; second 0 means none. The ownship flies north at 0.1 nautical mile a
 /// second, so that a value that keeps its way leaves the volume, 0.66 nautical miles round an
 /// aircraft 0.4 to the right, 0.525 past it.
 struct Known {

@@ -64,7 +64,7 @@ pub fn runs_are_complete()
     ensures { RunsAreComplete }
 {}
 
-/// Where the shelf tells its texts, a command line selects at most one task and one configuration.
+/// If the shelf shows its texts, a command line selects at most one task and one configuration.
 pub fn configurations_are_unique()
     ensures { ConfigurationsAreUnique }
 {}

@@ -30,7 +30,7 @@ pub(crate) enum Status {
     NoMemory,
     /// The shelf failed, or holds nothing under a name.
     FetchFault,
-    /// As many bytes as may be read were read, and there was one more.
+    /// The limit of bytes was read, and there was one more.
     Limit,
     /// The states are too long.
     StatesLong,

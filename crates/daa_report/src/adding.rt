@@ -60,7 +60,7 @@ pub(crate) fn add_first(line: &mut ArrayVec<u8, 64>, first: Option<u32>)
     }
 }
 
-/// Adds what is answered on a side.
+/// Adds the answer on a side.
 pub(crate) fn add_answer(line: &mut ArrayVec<u8, 64>, answer: &Resolution)
     requires { array_vec_len line.old + 11 ≤ 64 }
     ensures items { line.new.items ≡ line.old.items ++ answer_text answer.now }
@@ -93,7 +93,7 @@ pub(crate) fn add_signed_field(line: &mut ArrayVec<u8, 64>, number: &i32)
     add_signed(line, number);
 }
 
-/// Adds a blank and what is answered on a side.
+/// Adds a blank and the answer on a side.
 pub(crate) fn add_answer_field(line: &mut ArrayVec<u8, 64>, answer: &Resolution)
     requires { array_vec_len line.old + 12 ≤ 64 }
     ensures items { line.new.items ≡ line.old.items ++ codes " " ++ answer_text answer.now }

@@ -120,7 +120,7 @@ impl Line {
         Line { bytes: line }
     }
 
-    /// The line of what is answered on the lower and on the upper side of a kind.
+    /// The line of the answers on the lower and on the upper side of a kind.
     #[tactic(auto, unfolding(crate::specs::Lines::resolve_line))]
     pub fn resolve(kind: Kind, lower: Resolution, upper: Resolution) -> Line
         ensures text { result ≡ resolve_line kind lower upper }

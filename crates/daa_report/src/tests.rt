@@ -1,4 +1,4 @@
-//! Each line once, in bytes that its format tells.
+//! Each line once, in the bytes of its format.
 
 use super::*;
 use daa_config::{Kind, Resolution};

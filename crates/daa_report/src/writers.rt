@@ -86,7 +86,7 @@ pub fn band<K: Sink>(
     put(sink, Line::band(kind, from, upto, level).as_bytes())
 }
 
-/// Writes what is answered on the lower side of a kind, left or down, and on the upper, right or
+/// Writes the answers on the lower side of a kind, left or down, and on the upper, right or
 /// up.
 pub fn resolve<K: Sink>(
     sink: &mut K,

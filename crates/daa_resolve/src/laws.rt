@@ -20,8 +20,8 @@ pub fn has_one_answer()
         → HasOne (IsResolution (HasLevelOn board) s own kind side) }
 {}
 
-/// Where a board stands for what is covered, the answers over the board are those over what is
-/// covered.
+/// If a board marks exactly the covered candidates, the answers over the board are those over the
+/// covered candidates.
 pub fn board_answers_for_what_is_covered()
     ensures { (covered : ℕ → ℕ → Bool) (board : List ℕ) (s : Settings) (own : Own) (kind : Kind)
         (side : Side) (answer : Resolution)

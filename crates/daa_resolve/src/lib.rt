@@ -1,5 +1,5 @@
-//! What is answered on the two sides of each kind: the nearest open candidate, by [`nearest`]. A
-//! candidate is open where no aircraft is met at the corrective level or above. Nothing here takes
+//! The answer on the two sides of each kind: the nearest open candidate, by [`nearest`]. A
+//! candidate is open if it meets no aircraft at the corrective level or above. Nothing here takes
 //! memory.
 #![tactic(auto)]
 

@@ -13,11 +13,11 @@ use daa_bands::Board;
 use daa_config::{Config, Kind, Resolution};
 use daa_state::Own;
 
-/// What is answered on a side of a kind: `Keep` where the present flight is open, else the value of
-/// the nearest open candidate on that side, or `Nothing` where there is none. On track, right has
+/// The answer on a side of a kind: `Keep` if the present flight is open, else the value of the
+/// nearest open candidate on that side, or `Nothing` if there is none. On track, right has
 /// the candidates that are 1 to 180 degrees to the right and left those 0 to 179 degrees to the
 /// left; on the other kinds up has the values greater than the present one and down the others, so
-/// that a candidate of the present value itself is an answer of left or down. Source: the DAIDALUS
+/// a candidate with the present value itself is on the side left or down. Source: the DAIDALUS
 /// reference manual, on resolutions relative to a corrective level.
 pub fn nearest(board: &Board, config: &Config, own: &Own, kind: Kind, side: Side) -> Resolution
     ensures { IsResolution (HasLevelOn board.now) config.now own.now kind side result }

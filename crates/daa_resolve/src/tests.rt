@@ -1,4 +1,4 @@
-//! What is answered where some candidates are open and the others covered.
+//! The answers if some candidates are open and the others covered.
 
 use crate::side::distance;
 use crate::{Side, board_answers_for_what_is_covered, has_one_answer, nearest, worked_examples};

@@ -1,6 +1,6 @@
-//! Which seconds of a kind's candidates may violate a level's volume. Who changes track or ground
-//! speed alone keeps the heights of the present flight, and who changes height alone its way over
-//! ground, so that one test of the present flight tells it for all of them.
+//! Which seconds of a kind's candidates may violate a level's volume. A change of track or ground
+//! speed alone keeps the heights of the present flight, a change of height alone its way over
+//! ground, so that one test of the present flight decides for all of them.
 
 ghost use Rattle.std.specs.Prelude.{◌≡◌, ◌≤◌, ◌↔◌, ◌+◌, ◌*ℤ◌, ◌≤ℤ◌, ℕ, pos};
 ghost use Rattle.daa_config.specs.declared.candidate.Candidate.{Candidate};

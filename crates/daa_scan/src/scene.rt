@@ -86,7 +86,7 @@ impl<'a> Scene<'a> {
         ensures { IsMaskOf (MeetsAt self.now index aircraft)
             (length self.now.settings.levels) result }
     {
-        // tells that the index is small
+        // ensures that the index is small
         let _total = self.config.total();
         let mut masks = [0u8; 1];
         self.levels_from(index, aircraft, &mut masks);
@@ -145,8 +145,8 @@ impl<'a> Scene<'a> {
         self.places.len() as u32
     }
 
-    /// Where the aircraft that stands at a place among those in reach has its place in the moment's
-    /// list.
+    /// The place, in the moment's list, of the aircraft whose index among those in reach is
+    /// `place`.
     fn place_in_list(&self, place: u32) -> u32
         requires { place < length (places_in_reach self.now) }
         ensures value { result ≡ slice_index (places_in_reach self.now) place }
@@ -218,9 +218,9 @@ impl<'a> Answers for Scene<'a> {
         self.groups * self.count_in_reach()
     }
 
-    /// The word of a unit, which is group `unit % groups` of the aircraft that stands at place
+    /// The word of a unit, which is group `unit % groups` of the aircraft with index
     /// `unit / groups` among those in reach, in input order: five bits for each of twelve
-    /// candidates, the first the lowest. The lowest of the five says that the candidate is there,
+    /// candidates, the first the lowest. The lowest of the five says that the candidate exists,
     /// the others are the levels from 1 to 4 that it meets the aircraft at.
     fn word(&self, unit: u32) -> u64
         requires { unit < length (words_of self.now) }

@@ -83,7 +83,7 @@ impl Core {
         self.ended[worker as usize]
     }
 
-    /// The word that stands on the board for a unit of the core, 0 where none does.
+    /// The word on the board for a unit of the core, 0 if there is none.
     pub fn board(&self, unit: u32) -> u64
         requires { unit < unit_count self.now }
         ensures { result ≡ word_on self.now unit }

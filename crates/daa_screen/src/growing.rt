@@ -39,7 +39,7 @@ impl Outcome<Latest, Option<Latest>> for Look {
     ghost then = { λ before old new after. Looks before new after };
 }
 
-/// A screen is told what the feed has seen.
+/// A screen learns what the feed has seen.
 pub(crate) struct Tell;
 
 impl Split<Option<Latest>> for Tell {

@@ -217,7 +217,7 @@ impl Traffic {
         ensures refused { IfErr result
             (λ fault. first_outside (traffic_numbers self) ≡ Some fault) }
     {
-        // tells that they are an identifier's
+        // ensures that they are an identifier's
         let _bytes = self.id.bytes();
         test_all(&traffic_numbers(&self))?;
         Ok(self)

@@ -5,8 +5,8 @@ ghost use Rattle.daa_state.specs.Fault.{code_of};
 
 use thiserror::Error;
 
-/// Why a line is refused. Where more than one cause applies, the first of this list is answered,
-/// but that `BadNumber`, `BadId` and `OutOfRange` are decided field by field from the left, for
+/// Why a line is refused. If more than one cause applies, the first of this list is reported,
+/// except that `BadNumber`, `BadId` and `OutOfRange` are decided field by field from the left, for
 /// each field first its spelling.
 #[derive(Clone, Copy, Debug, PartialEq, Eq, Error)]
 pub enum LineFault {

@@ -108,7 +108,7 @@ fn is_id(bytes: &[u8]) -> bool
     !bytes.is_empty() && bytes.len() <= MOST_BYTES && are_id_bytes(bytes)
 }
 
-/// Whether each byte may stand in an identifier.
+/// Whether each byte is allowed in an identifier.
 fn are_id_bytes(bytes: &[u8]) -> bool
     ensures { result ≡ list_all is_id_byte bytes.now }
 {

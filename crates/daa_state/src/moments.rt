@@ -24,8 +24,8 @@ pub struct Moment {
     pub traffic: ArrayVec<Traffic, MOST_AIRCRAFT>,
 }
 
-/// What stands between two words: the open moment, if there is one, the time of the last ended
-/// moment, if there is one, and the format of the lines that come.
+/// The state between two words: the open moment, if there is one, the time of the last ended
+/// moment, if there is one, and the format of the lines that follow.
 #[derive(Debug, Drop)]
 pub struct Moments {
     moment: Option<Moment>,

@@ -80,8 +80,8 @@ fn is_closest_soon(leg: &Leg, volume: &Volume, point: &Point) -> bool
     -dot(&place, &leg.velocity.flat) <= scaled(volume.tthr, point) * square(&leg.velocity.flat)
 }
 
-/// Whether the straight line comes within `dthr` at its closest approach, which is so at every time
-/// of the leg or at none.
+/// Whether the straight line comes within `dthr` at its closest approach. The answer is the same at
+/// every time of the leg.
 fn passes_near(leg: &Leg, volume: &Volume) -> bool
     requires leg { IsLegInRange leg.now }
     requires volume { IsVolumeInRange volume.now }

@@ -103,7 +103,7 @@ fn judge<'a>(alloc: Global) -> Result<Command<'a>, AllocError>
         .arg(workers(alloc))
 }
 
-/// The program's name, after which a subcommand must stand.
+/// The program's name, which a subcommand must follow.
 fn base<'a>(alloc: Global) -> Command<'a>
     ensures app { app_of result ≡ spec.base }
     ensures local { (fields_of result).has_globals ≡ false }

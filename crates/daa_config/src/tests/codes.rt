@@ -1,4 +1,4 @@
-//! The code of each fault: 0 stands for a text that is accepted.
+//! The code of each fault: 0 means a text that is accepted.
 
 use crate::examples::{FOUR_LEVELS, LARGEST_VALUES, ONE_LEVEL, THREE_LEVELS};
 use crate::{ConfigFault, read};
@@ -461,7 +461,7 @@ fn each_fault_has_a_sentence(rt: HostRuntime) -> Result<(), Fail> {
 /// The end of the text.
 const LAST: &str = "alert = 10 } ]";
 
-/// A part of the text, what stands in its place, and the code.
+/// A part of the text, what replaces it, and the code.
 static RECOVERIES: [(&str, &str, u8); 29] = [
     ("turn", "recovery = { hdist = 1, vdist = 0 }\nturn", 0),
     (

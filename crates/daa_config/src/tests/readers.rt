@@ -1,4 +1,4 @@
-//! What the readers tell of the examples.
+//! What the readers return of the examples.
 
 use crate::examples::{FOUR_LEVELS, LARGEST_VALUES, ONE_LEVEL, THREE_LEVELS};
 use crate::{

@@ -16,7 +16,7 @@ pub(super) static READINGS: [&[&str]; 3] = [
     &["daidalus", "replay", "--config", "c", "--ahead", "4"],
 ];
 
-/// As far as may be asked for.
+/// The greatest number of pieces ahead.
 static FARTHEST: &[&str] = &["daidalus", "replay", "--config", "c", "--ahead", "1024"];
 
 /// Pieces of nine bytes.
@@ -75,7 +75,7 @@ fn a_fault_is_met_in_its_place(rt: HostRuntime) -> Result<(), Fail> {
             };
             gives(&rt, ONE, outside, *status, text)?;
         }
-        // the sink fails before as many bytes as may be read are taken, though they are read ahead
+        // the sink fails before the limit of bytes is taken, though they are read ahead
         let limited = Outside {
             write_fails: &[0],
             most: 64,

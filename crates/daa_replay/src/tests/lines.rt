@@ -116,7 +116,7 @@ fn each_line_alone_has_its_code(rt: HostRuntime) -> Result<(), Fail> {
     gives(&rt, b"\r\n", PLAIN, 0, b"")
 }
 
-/// A line of so many letters `a`, a first byte in the place of one, and an end.
+/// A line of `size` letters `a`, the first replaced by another byte, and an end.
 fn line<R: AllocGlobal>(rt: &R, first: u8, size: usize, end: &[u8]) -> Result<Vec<u8>, AllocError> {
     let mut line = vec![in rt.alloc(); b'a'; size]?;
     if let Some(byte) = line.first_mut() {
@@ -126,8 +126,8 @@ fn line<R: AllocGlobal>(rt: &R, first: u8, size: usize, end: &[u8]) -> Result<Ve
     Ok(line)
 }
 
-/// A line of so many letters with another first byte and an end: the status and the text of an
-/// input of it.
+/// The parts of such a line (first byte, size, end), with the status and the text of an input of
+/// it.
 static SIZES: [(u8, usize, &[u8], u8, &[u8]); 7] = [
     (b'#', 255, b"\n", 0, b""),
     (b'#', 256, b"\n", 1, b"refused 1 1\n"),

@@ -80,7 +80,7 @@ static KINDS: [Settings; 11] = [
     },
 ];
 
-/// One of so many numbers, from `least` on.
+/// One of `many` numbers, from `least` on.
 fn drawn(draws: &mut Lcg64Xsh32, least: i32, many: u32) -> i64
     requires { 1 ≤ many }
 {

@@ -5,7 +5,7 @@ use crate::{Scene, fill_trunks};
 use daa_config::examples::ONE_LEVEL;
 use std::test::Fail;
 
-/// What stands in the place of parts of the configuration, the lines of an ownship and of an
+/// What replaces parts of the configuration, the lines of an ownship and of an
 /// aircraft, and whether it is in reach.
 struct Row {
     shows: &'static str,
