@@ -78,7 +78,7 @@ module _ (config : DaaConfig) where
     pub accepted : settings_by config ≡ Ok settings
     pub more : room < length (candidates_of settings)
 
-  -- the bands of the kind that a number stands for, and how many they are
+  -- the bands of the kind with this number, and how many they are
   pub record AreBandsUnder (board : List ℕ) (number : ℤ) (bands : List DaaBand) (count : ℕ) : Type 0 where
     pub settings : Settings
     pub accepted : settings_by config ≡ Ok settings
@@ -87,7 +87,7 @@ module _ (config : DaaConfig) where
     pub fits : count ≤ length bands
     pub are : AreKindBands (HasLevelOn board) mask_levels settings kind (map band_of (take count bands))
 
-  -- the kind that a number stands for has more values than there is room for
+  -- the kind with this number has more values than there is room for
   pub record HasMoreValues (number : ℤ) (room : ℕ) : Type 0 where
     pub settings : Settings
     pub accepted : settings_by config ≡ Ok settings
@@ -95,7 +95,7 @@ module _ (config : DaaConfig) where
     pub kind_is : kind_number kind ≡ number
     pub more : room < length (values_of kind settings)
 
-  -- what is answered on the side of the kind that numbers stand for
+  -- the answer on the side of the kind with these numbers
   pub record IsResolutionUnder (own : Own) (board : List ℕ) (kind_given side_given : ℤ) (out : DaaResolution) : Type 0 where
     pub settings : Settings
     pub accepted : settings_by config ≡ Ok settings
@@ -108,7 +108,7 @@ module _ (config : DaaConfig) where
     pub is : IsResolution (HasLevelOn board) settings own kind side answer
     pub told : out ≡ resolution_by answer
 
-  -- the recovery of the kind that a number stands for
+  -- the recovery of the kind with this number
   pub record IsRecoveryUnder (picture : Picture) (number : ℤ) (out : DaaRecovery) : Type 0 where
     pub settings : Settings
     pub accepted : settings_by config ≡ Ok settings

@@ -1,4 +1,4 @@
--- The numbers that stand for kinds, sides, candidates and faults in C.
+-- The numbers of kinds, sides, candidates and faults in C.
 use Rattle.std.specs.Prelude.{◌≢◌, ℤ, pos, Result, Ok, Err}
 use Rattle.daa_config.specs.declared.fault.ConfigFault.{ConfigFault}
 use Rattle.daa_config.specs.declared.fault.ConfigFault.TheVariants.{TooLong, NotToml, UnknownKey, MissingKey, NotNumber, OutOfRange, Levels, TooMany, NoMemory}
@@ -28,23 +28,23 @@ abbrev pub answer_of : Result Settings ConfigFault → ℤ
 answer_of (Ok settings) = pos 0
 answer_of (Err fault) = code_of fault
 
--- the number that stands for a kind
+-- the number of a kind
 abbrev pub kind_number : Kind → ℤ
 kind_number Track = pos 1
 kind_number Speed = pos 2
 kind_number Climb = pos 3
 kind_number Height = pos 4
 
--- the number stands for no kind
+-- the number is none of a kind
 abbrev pub IsNoKind : ℤ → Type 0
 IsNoKind number = (kind : Kind) → kind_number kind ≢ number
 
--- the number that stands for a side
+-- the number of a side
 abbrev pub side_number : Side → ℤ
 side_number Lower = pos 0
 side_number Upper = pos 1
 
--- the number stands for no side
+-- the number is none of a side
 abbrev pub IsNoSide : ℤ → Type 0
 IsNoSide number = (side : Side) → side_number side ≢ number
 

@@ -28,6 +28,6 @@ IsRefusal config own traffic (refuses.BadId place) =
     (aircraft : DaaTraffic) × (slice_get traffic place ≡ Some aircraft) × (is_id (text_of aircraft.id) ≡ false)
 IsRefusal config own traffic (refuses.Picture fault) = IsPictureFault (own_of own) (map traffic_of traffic) fault
 
--- the code is that of a refusal that is so
+-- the code is that of a refusal that meets `Is`
 abbrev pub IsCodeOf : (Refusal → Type 0) → ℤ → Type 0
 IsCodeOf Is code = (why : Refusal) × Is why × (refusal_code why ≡ code)

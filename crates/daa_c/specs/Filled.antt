@@ -17,7 +17,7 @@ use Rattle.daa_c.specs.declared.bands.DaaBand.{DaaBand}
 use Rattle.daa_c.specs.declared.resolution.DaaResolution.{DaaResolution}
 use Rattle.daa_c.specs.declared.recovery.DaaRecovery.{DaaRecovery}
 
--- the number of a leg; -1 stands for none
+-- the number of a leg; -1 if there is none
 abbrev pub leg_by : Option ℕ → ℤ
 leg_by (Some n) = pos n
 leg_by None = negsuc 0
@@ -30,7 +30,7 @@ pub record IsFilledAlert (settings : Settings) (own : Own) (aircraft : Traffic) 
   pub level : told.level ≡ alert.level
   pub first : told.first ≡ leg_by alert.first
 
--- levels of so many candidates, in the order of the whole list: those that a board shows
+-- the levels on a board of the first `count` candidates of the whole list
 abbrev pub AreLevelsOn : List ℕ → ℕ → List ℕ → Type 0
 AreLevelsOn board count levels = (index : ℕ) → index < count → IsGreatestLevel (HasLevelOn board index) mask_levels (slice_index levels index)
 
@@ -38,7 +38,7 @@ AreLevelsOn board count levels = (index : ℕ) → index < count → IsGreatestL
 abbrev pub band_of : DaaBand → Band
 band_of b = record { from = b.from; upto = b.upto; level = b.level }
 
--- the numbers of what is answered on a side
+-- the numbers of the answer on a side
 abbrev pub resolution_by : Resolution → DaaResolution
 resolution_by Keep = record { what = pos 0; value = pos 0 }
 resolution_by (To value) = record { what = pos 1; value = value }

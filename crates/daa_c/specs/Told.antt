@@ -1,4 +1,4 @@
--- What is told of states that are refused.
+-- What is reported of states that are refused.
 use Rattle.std.specs.Prelude.{◌≡◌, ◌⊎◌, ℕ, ℤ, pos, List}
 use Rattle.daa_state.specs.declared.checked.Field.{Field}
 use Rattle.daa_state.specs.declared.checked.Field.TheVariants.{East, North, Altitude, Track, GroundSpeed, VerticalSpeed, SpeedEast, SpeedNorth, Age}
@@ -15,7 +15,7 @@ use Rattle.daa_c.specs.Codes.{code_of}
 use Rattle.daa_c.specs.Faults.{IsRefusal}
 use Rattle.daa_c.specs.States.{picture_of}
 
--- the number that stands for what a number of a state is
+-- the number of a field of a state
 abbrev pub number_of_field : Field → ℤ
 number_of_field East = pos 1
 number_of_field North = pos 2
@@ -45,12 +45,12 @@ told_by (refuses.Picture (says.Own fault)) = ranged_fault (pos 16) 0 fault
 told_by (refuses.Picture (says.Traffic place fault)) = ranged_fault (pos 17) place fault
 told_by (refuses.Picture (says.SameId place)) = plain_fault (pos 22) place
 
--- nothing is wrong, and so it is told
+-- nothing is wrong, and this is reported
 pub record IsSound (own : DaaOwn) (traffic : List DaaTraffic) (out : DaaFault) : Type 0 where
   pub taken : IsTaken (picture_of 0 own traffic)
   pub told : out ≡ plain_fault (pos 0) 0
 
--- something is wrong, whatever the configuration is, and it is told
+-- something is wrong, whatever the configuration is, and it is reported
 pub record IsWrong (own : DaaOwn) (traffic : List DaaTraffic) (out : DaaFault) : Type 0 where
   pub why : Refusal
   pub wrong : (config : DaaConfig) → IsRefusal config own traffic why

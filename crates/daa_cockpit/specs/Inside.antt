@@ -1,2 +1,2 @@
--- What private functions, tests and proofs alone cite: nothing here has to be believed.
+-- Cited by private functions, tests and proofs alone; believe only what docs/PROVED.md names here.
 pub mod Shows

@@ -16,7 +16,7 @@ grid_of Speed s = s.numbers.gs
 grid_of Climb s = s.numbers.vs
 grid_of Height s = s.numbers.alt
 
--- low, low + step, ..: so many values
+-- low, low + step, ..: this number of values
 unfoldable pub rising : ℤ → ℤ → ℕ → List ℤ
 rising low step zero = []
 rising low step (suc n) = low ∷ rising (low +ℤ step) step n

@@ -1,4 +1,4 @@
--- The numbers that stand in a document.
+-- The numbers of a document.
 use Rattle.std.specs.Prelude.{ℤ, pos, List, [], ◌∷◌, Option, Some, None, option_map, option_and_then, codes}
 use Rattle.std.specs.Option.{option_map_or}
 use Rattle.toml.specs.Data.{Members, get_member, as_integer, as_table, Items, no_items, item}
@@ -27,7 +27,7 @@ grid_in ms = do
   rate ← number_at (codes "rate") ms
   Some (record { min = min; max = max; step = step; rate = rate })
 
--- the numbers of the kind whose table stands at a key
+-- the numbers of the kind whose table is at a key
 unfoldable pub grid_at : Text → Members → Option Grid
 grid_at key ms = option_and_then grid_in (table_in key ms)
 

@@ -3,7 +3,7 @@ use Rattle.std.specs.Prelude.{ℕ, Option, Some, None, Result, Ok, Err}
 use Rattle.daa_config.specs.declared.fault.ConfigFault.{ConfigFault}
 use Rattle.daa_config.specs.declared.fault.ConfigFault.TheVariants.{TooLong, NotToml, UnknownKey, MissingKey, NotNumber, OutOfRange, Levels, TooMany, NoMemory}
 
--- the number of a fault; want of memory, which says nothing of the text, has none
+-- the number of a fault; `NoMemory`, which says nothing of the text, has none
 abbrev pub code_of : ConfigFault → Option ℕ
 code_of TooLong = Some 1
 code_of NotToml = Some 2

@@ -1,4 +1,4 @@
--- How the levels of a group of candidates stand in a word of 64 bits.
+-- How the levels of a group of candidates are packed in a word of 64 bits.
 use Rattle.std.specs.Prelude.{ℕ, ◌+◌, ◌*◌, ◌/◌, ◌%◌, ◌^◌}
 use Rattle.std.specs.Int.{bit_at}
 
@@ -14,6 +14,6 @@ place_width = 5
 abbrev pub presence_in : ℕ → ℕ → ℕ
 presence_in word place = bit_at word (place_width * place)
 
--- the mask of the levels of the candidate at the place: its bit l - 1 stands for level l
+-- the mask of the levels of the candidate at the place: its bit l - 1 means level l
 abbrev pub mask_in : ℕ → ℕ → ℕ
 mask_in word place = word / 2 ^ (place_width * place + 1) % 2 ^ 4

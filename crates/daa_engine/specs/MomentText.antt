@@ -39,7 +39,7 @@ are_nothing _ _ = false
 abbrev pub wants_recovery : Settings → Resolution → Resolution → Bool
 wants_recovery settings lower upper = is_some settings.recovery && are_nothing lower upper
 
--- what a line of a recovery tells: after how many seconds, and the value
+-- the numbers on the line of a recovery: after how many seconds, and the value
 abbrev pub told_of : Recovery → ℕ × ℤ
 told_of r = (r.after, r.value)
 
@@ -63,7 +63,7 @@ module _ (settings : Settings) (picture : Picture) where
       (bands : List Band) × AreKindBands (CoveredAt settings picture) (length settings.levels) settings kind bands
       × (text ≡ flat_map (line_of kind) bands)
 
-  -- what is answered on the two sides of a kind
+  -- the answers on the two sides of a kind
   pub record AreAnswers (kind : Kind) (lower upper : Resolution) : Type 0 where
     pub lower_is : IsResolution (CoveredAt settings picture) settings picture.own kind Lower lower
     pub upper_is : IsResolution (CoveredAt settings picture) settings picture.own kind Upper upper

@@ -1,3 +1,3 @@
--- What private functions, tests and proofs alone cite: nothing here has to be believed.
+-- Cited by private functions, tests and proofs alone; believe only what docs/PROVED.md names here.
 pub mod Drawing
 pub mod Counting

@@ -25,21 +25,21 @@ module _ (settings : Settings) (picture : Picture) where
 
 -- ---- the first moments
 
--- the levels of each of so many moments, one moment after the other
+-- the levels of each of the first moments, one moment after the other
 abbrev pub AreLevels : (Picture → List ℕ → Type 0) → Outputs → ℕ → List ℕ → Type 0
 AreLevels Has output zero levels = levels ≡ []
 AreLevels Has output (suc count) levels = SplitsInto (AreLevels Has output count) (Has (moment_of output count)) levels
 
--- how many aircraft there are in so many moments
+-- how many aircraft there are in the first moments
 unfoldable pub aircraft_in : Outputs → ℕ → ℕ
 aircraft_in output count = sum (map (λ time. length (aircraft_of (moment_of output time))) (range_with_len 0 count))
 
 -- ---- counting
 
--- how often a level stands among levels
+-- how often a level is among levels
 abbrev pub how_often : List ℕ → ℕ → ℕ
 how_often levels level = count_by (λ other. other == level) levels
 
--- how often each level stands among them, from 0 up to the top one
+-- how often each level is among them, from 0 up to the top one
 unfoldable pub counts_of : ℕ → List ℕ → List ℕ
 counts_of top levels = map (how_often levels) (range_with_len 0 (top + 1))

@@ -49,7 +49,7 @@ abbrev pub name_of : ℕ → List ℕ
 name_of number = codes "A" ++ decimal number
 
 module _ (output : Outputs) where
-  -- the ownship stands at 0 0; its four numbers are the draws from a place on
+  -- the ownship is at 0 0; its four numbers are the draws from a place on
   unfoldable pub own_at : ℕ → Own
   own_at at = record {
     x = pos 0;
@@ -78,7 +78,7 @@ module _ (output : Outputs) where
     age = 0;
   }
 
-  -- so many aircraft, one after the other, numbered from 1
+  -- this number of aircraft, one after the other, numbered from 1
   unfoldable pub traffic_at : ℤ → ℕ → ℕ → List Traffic
   traffic_at own_altitude count at = map (λ i. aircraft_at own_altitude (i + 1) (at + 6 * i)) (range_with_len 0 count)
 

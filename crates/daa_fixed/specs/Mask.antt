@@ -2,7 +2,7 @@
 use Rattle.std.specs.Prelude.{◌≡◌, ◌<◌, ◌≤◌, ◌-◌, ◌↔◌, ℕ}
 use Rattle.std.specs.Int.{bit_at}
 
--- bit l - 1 of a mask stands for level l, from 1 on
+-- bit l - 1 of a mask means level l, from 1 on
 abbrev pub HasLevel : ℕ → ℕ → Type 0
 HasLevel mask level = bit_at mask (level - 1) ≡ 1
 

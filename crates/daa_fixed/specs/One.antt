@@ -1,7 +1,7 @@
 -- That there is exactly one.
 use Rattle.std.specs.Prelude.{◌≡◌}
 
--- something is so, and nothing else is
+-- exactly one thing meets `Is`
 pub record HasOne {A : Type 0} (Is : A → Type 0) : Type 0 where
   pub one : A
   pub is : Is one

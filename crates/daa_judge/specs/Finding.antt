@@ -7,8 +7,8 @@ use Rattle.daa_judge.specs.Judged.{Differs, Begins, BeginsButLast}
 use Rattle.daa_judge.specs.declared.found.Found.{Found}
 use Rattle.daa_judge.specs.declared.found.Found.TheVariants as found
 
--- P holds of all that the source had, as far as the bytes that it handed out tell; where they were
--- all, of them
+-- P holds of these bytes followed by any others; if the source had no more (`ended`), of these
+-- bytes alone
 abbrev pub Shows : (P : Bytes → Type 0) → (ended : Bool) → Bytes → Type 0
 Shows P ended bytes = (more : Bytes) → (ended ≡ true → more ≡ []) → P (bytes ++ more)
 
@@ -42,8 +42,8 @@ module _ (report : Bytes) (most : ℕ) where
     pub begins : Begins bytes report
     pub risen : HasRisen old.faults new.faults
 
-  -- as many bytes as may be read were read, the report begins with them, and a further read gave
-  -- one more
+  -- the limit of bytes was read, the report begins with them, and a further read returned one byte
+  -- more
   pub record PassesWithin (old new : StreamState) : Type 0 where
     pub bytes : Bytes
     pub next : ℕ

@@ -1,4 +1,4 @@
--- What private functions, tests and proofs alone cite: nothing here has to be believed.
+-- Cited by private functions, tests and proofs alone; believe only what docs/PROVED.md names here.
 pub mod FlightProgress
 pub mod Shared
 pub mod Branch

@@ -18,7 +18,7 @@ reported_place aircraft = record { flat = record { east = pos 36 *ℤ aircraft.x
 abbrev pub traffic_place : Traffic → ℕ → Solid
 traffic_place aircraft k = plus (reported_place aircraft) (times (pos (aircraft.age + k)) (traffic_velocity aircraft))
 
--- ownship minus aircraft, for so many seconds from second k on
+-- ownship minus aircraft, for `secs` seconds from second k on
 unfoldable pub relative_for : ℕ → OwnLeg → Traffic → ℕ → Leg
 relative_for secs leg aircraft k = record {
   place = minus leg.place (traffic_place aircraft k);

@@ -12,7 +12,7 @@ pub record Cutting : Type 0 where
   pub fed : ℕ
   pub number : ℕ
 
--- a line stands and is not taken yet
+-- a line is ready and is not taken yet
 abbrev pub is_standing : Stage → Bool
 is_standing Whole = true
 is_standing Long = true

@@ -5,7 +5,7 @@ use Rattle.daa_lines.specs.Cutting.{Cutting}
 use Rattle.daa_lines.specs.declared.lines.Stage.{Stage}
 use Rattle.daa_lines.specs.declared.lines.Stage.TheVariants.{Open, Whole}
 
--- a line that was begun stands, and nothing else does that did not stand before
+-- a line that was begun is then ready; nothing else changes
 abbrev pub stage_at_end : Stage → Bytes → Stage
 stage_at_end Open [] = Open
 stage_at_end Open (byte ∷ line) = Whole

@@ -10,7 +10,7 @@ up_to_line_feed [] = 0
 up_to_line_feed (byte ∷ bytes) = if byte == line_feed then 1 else 1 + up_to_line_feed bytes
 
 -- An open line takes none past its line feed, and none past the byte that makes it long. The rest of a long line
--- takes none past its line feed. A line that stands takes none.
+-- takes none past its line feed. A line that is ready takes none.
 abbrev pub bytes_taken : Stage → Bytes → Bytes → ℕ
 bytes_taken Open line piece = min (up_to_line_feed piece) (long_length - length line)
 bytes_taken Skipping line piece = up_to_line_feed piece

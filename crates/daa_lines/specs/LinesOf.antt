@@ -9,7 +9,7 @@ Bytes = List ℕ
 abbrev pub line_feed : ℕ
 line_feed = 10
 
--- a line of so many bytes, or of more, is long
+-- a line of this number of bytes or more is long
 abbrev pub long_length : ℕ
 long_length = 256
 
@@ -32,7 +32,7 @@ unfoldable pub cut : Bytes → Cut
 cut [] = record { whole = []; rest = [] }
 cut (byte ∷ bytes) = if byte == line_feed then with_feed (cut bytes) else with_byte byte (cut bytes).whole (cut bytes).rest
 
--- whether the rest is a line too: at the end of the input where it is not empty, and before that where it is long
+-- whether the rest is a line: at the end of the input if it is not empty, before it if it is long
 abbrev pub is_line : Bool → Bytes → Bool
 is_line true rest = nat_lt 0 (length rest)
 is_line false rest = nat_le long_length (length rest)

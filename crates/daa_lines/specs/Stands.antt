@@ -5,7 +5,7 @@ use Rattle.daa_lines.specs.Cutting.{Cutting}
 use Rattle.daa_lines.specs.declared.lines.Stage.{Stage}
 use Rattle.daa_lines.specs.declared.lines.Stage.TheVariants.{Open, Whole, Long, Skipping}
 
--- the line that stands, if one does
+-- the line that is ready, if there is one
 abbrev pub standing : Stage → Bytes → List Bytes
 standing Whole line = line ∷ []
 standing Long line = line ∷ []
@@ -22,6 +22,6 @@ IsRest Skipping line rest = long_length ≤ length rest
 pub record Stands (bytes : Bytes) (taken : List Bytes) (c : Cutting) : Type 0 where
   pub fed : c.fed ≡ length bytes
   pub number : c.number ≡ length taken
-  -- the lines of the bytes are those taken, and then the one that stands
+  -- the lines of the bytes are those taken, and then the one that is ready
   pub lines : shown (lines_of bytes c.ended) ≡ taken ++ standing c.stage c.line
   pub rest : c.ended ≡ false → IsRest c.stage c.line (cut bytes).rest

@@ -16,12 +16,12 @@ stage_after Whole = Open
 stage_after Long = Skipping
 stage_after stage = stage
 
--- the line that stands is taken, if one does
+-- the line that is ready is taken, if there is one
 abbrev pub after_taking : Cutting → Cutting
 after_taking c = if is_standing c.stage
     then record c { line = []; stage = stage_after c.stage; number = c.number + 1 } else c
 
--- the line that is handed out is the one that stood
+-- the line that is handed out is the one that was ready
 abbrev pub IsHanded : Cutting → Line → Type 0
 IsHanded c (line.Whole bytes) = (c.stage ≡ Whole) × (bytes.now ≡ c.line) × (length c.line < long_length)
 IsHanded c line.Long = (c.stage ≡ Long) × (length c.line ≡ long_length)

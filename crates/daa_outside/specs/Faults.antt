@@ -1,7 +1,7 @@
 -- Counts of calls and of faults. A counter is a `u64` and stops at the greatest one.
 use Rattle.std.specs.Prelude.{ℕ, ◌+◌, ◌-◌, ◌^◌, ◌<◌, ◌≤◌, ◌⊎◌, min}
 
--- the count rose; one that stands at the greatest `u64`, where a counter stops, is taken as risen
+-- the counter rose; at the greatest `u64`, where a counter stops, it counts as risen
 abbrev pub HasRisen : (old new : ℕ) → Type 0
 HasRisen old new = (old < new) ⊎ (2 ^ 64 ≤ new + 1)
 

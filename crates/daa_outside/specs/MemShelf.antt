@@ -10,7 +10,7 @@ pub record ShelfInMemory : Type 0 where
   pub calls : ℕ
   pub faults : ℕ
 
--- the first place at which the name stands
+-- the first index of the name
 abbrev pub place_of : List (List ℕ) → List ℕ → Option ℕ
 place_of names name = position (λ held. bytes_eq held name) names
 

@@ -8,7 +8,7 @@ use Rattle.daa_schedule.specs.declared.step.Step.{Step}
 use Rattle.daa_pool.specs.declared.view.Look.{Look}
 use Rattle.daa_pool.specs.declared.view.Part.{Part}
 
--- the look tells what was so: at some point of the history, at which the worker that looked had made so many steps as the look says, the range was the one found
+-- at some point of the history, after `look.moves` steps of the worker, the range was as found
 pub record WasSo (opening : CoreState) (log : List Step) (number : ℕ) (look : Look) : Type 0 where
   pub earlier : List Step
   pub later : List Step
@@ -17,7 +17,7 @@ pub record WasSo (opening : CoreState) (log : List Step) (number : ℕ) (look : 
   pub in_order : IsInOrder look.word
   pub range : range_at (run opening earlier) look.worker ≡ unpacked look.word
 
--- the worker's steps in the history are those of the part, and each of its looks tells what was so
+-- the worker's steps in the history are those of the part, and each look is true of some point
 pub record IsPartOf (opening : CoreState) (log : List Step) (part : Part) : Type 0 where
   pub moves : steps_of part.number log ≡ part.moves
   pub looks : (look : Look) → Contains part.looks look → WasSo opening log part.number look

@@ -10,7 +10,7 @@ use Rattle.daa_pool.specs.declared.view.Part.{Part}
 abbrev pub part_of : View → Part
 part_of view = record { number = view.number; moves = view.moves; looks = view.looks }
 
--- how often a unit stands in a list of settled ones
+-- how often a unit is in a list of settled ones
 abbrev pub times : ℕ → List ℕ → ℕ
 times unit units = sum_by (λ settled. if settled == unit then 1 else 0) units
 

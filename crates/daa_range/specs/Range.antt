@@ -18,11 +18,11 @@ IsOrdered range = range.first ≤ range.upto
 abbrev pub span_len : Span → ℕ
 span_len range = range.upto - range.first
 
--- how often the unit stands in the range: once or not at all
+-- how often the unit is in the range: once or not at all
 abbrev pub times_in : ℕ → Span → ℕ
 times_in unit range = if nat_le range.first unit && nat_lt unit range.upto then 1 else 0
 
--- how many of the units below a number stand in the range
+-- how many of the units below a number are in the range
 abbrev pub times_below : ℕ → Span → ℕ
 times_below zero range = 0
 times_below (suc unit) range = times_below unit range + times_in unit range

@@ -1,8 +1,8 @@
--- How a range stands in a word of 64 bits.
+-- How a range is packed in a word of 64 bits.
 use Rattle.std.specs.Prelude.{ℕ, ◌+◌, ◌*◌, ◌/◌, ◌%◌, ◌^◌, ◌≤◌, nat_le, if◌then◌else◌}
 use Rattle.daa_range.specs.Range.{Span, span}
 
--- `first` stands in the upper 32 bits, and `upto` in the lower 32
+-- `first` is in the upper 32 bits, and `upto` in the lower 32
 abbrev pub packed : Span → ℕ
 packed range = range.first * 2 ^ 32 + range.upto
 

@@ -26,7 +26,7 @@ module _ (p : Prospect) (candidate : Candidate) where
   abbrev pub IsInCylinder : Traffic → Type 0
   IsInCylinder aircraft = MeetsWithin p.settings p.picture.own candidate aircraft p.cylinder p.horizon
 
-  -- neither is so of the aircraft
+  -- neither holds of the aircraft
   pub record IsClear (m : ℕ) (aircraft : Traffic) : Type 0 where
     pub open_levels : ¬ IsClosedFrom m aircraft
     pub apart : ¬ IsInCylinder aircraft

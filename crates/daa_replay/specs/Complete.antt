@@ -1,4 +1,4 @@
--- How a run ends where nothing fails, by its words, the shelf and the number of bytes.
+-- How a run ends if nothing fails, by its words, the shelf and the number of bytes.
 use Rattle.std.specs.Prelude.{ℕ, ◌≡◌, ◌≢◌, ◌<◌, ◌≤◌, ◌⊎◌, ◌++◌, true, List, Option, Some, None, length, take}
 use Rattle.daa_outside.specs.Faults.{HasRisen}
 use Rattle.daa_outside.specs.Shelf.{Texts}
@@ -12,15 +12,15 @@ use Rattle.daa_replay.specs.Opening.{Opens, OpensStates, OpensLong, IsRefused, H
 use Rattle.daa_replay.specs.Moment.{IsReportOf}
 use Rattle.daa_replay.specs.Run.{Runs}
 
--- no count of faults rose
+-- no fault counter rose
 pub record IsQuiet (old new : Outside) : Type 0 where
   pub shelf : ¬ HasRisen old.shelf.faults new.shelf.faults
   pub source : ¬ HasRisen old.source.faults new.source.faults
   pub sink : ¬ HasRisen old.sink.faults new.sink.faults
 
--- the words are taken and ask for the task, and the shelf, which tells its texts, holds an accepted
--- configuration under the name
--- that they give
+-- the words are taken and ask for this task;
+-- the shelf shows its texts, and holds an accepted configuration under the name
+-- that the words give
 pub record HoldsAccepted (words : List Text) (texts : Option Texts) (task : Task) : Type 0 where
   pub held : Texts
   pub told : texts ≡ Some held
@@ -34,8 +34,8 @@ pub record HoldsRefused (words : List Text) (texts : Option Texts) : Type 0 wher
   pub code : ℕ
   pub refused : IsRefused words texts code
 
--- the words are taken and ask for a comparison, and the shelf, which tells its texts, holds an
--- accepted configuration and these states
+-- the words are taken and ask for a comparison; the shelf shows its texts, and holds an accepted
+-- configuration and these states
 pub record HoldsStates (words : List Text) (texts : Option Texts) (settings : Settings)
     (states : Text) : Type 0 where
   pub held : Texts
@@ -52,7 +52,7 @@ pub record HoldsLong (words : List Text) (texts : Option Texts) : Type 0 where
 abbrev pub BeginsReport : Settings → Text → Bytes → Type 0
 BeginsReport settings states bytes = (rest : Text) × IsReportOf settings states true (bytes ++ rest)
 
--- a replay of these bytes with an accepted configuration, where no count rose
+-- a replay of these bytes with an accepted configuration, in which no fault counter rose
 pub record IsQuietReplay (words : List Text) (old new : Outside) (all : Bytes) : Type 0 where
   pub ahead : ℕ
   pub accepted : HoldsAccepted words old.shelf.texts (Replay ahead)
@@ -68,13 +68,13 @@ pub record IsComparison (words : List Text) (old : Outside) (settings : Settings
 -- what the status of a comparison says of these bytes, of which at most `most` are read
 pub record Decides (most status : ℕ) (old new : Outside) (settings : Settings)
     (states all : Bytes) : Type 0 where
-  -- whatever failed: at 0 they are the report of the states, and at 1 they are not
+  -- whatever failed, at 0 they are the report of the states, and at 1 they are not
   pub same : status ≡ 0 → IsReportOf settings states true all
   pub other : status ≡ 1 → IsReportOf settings states true all → ⊥
-  -- where no count rose, it says so, or
+  -- if no fault counter rose and all bytes may be read, it says one of the two, or 6
   pub short : IsQuiet old new → length all ≤ most → (status ≡ 0) ⊎ ((status ≡ 1) ⊎ (status ≡ 6))
-  -- of more bytes than may be read whether the report begins with those that may be: it does at 8,
-  -- and does not at 1
+  -- if there are more bytes than may be read, it says whether the report begins with those that may
+  -- be read: it does at 8, and does not at 1
   pub long : IsQuiet old new → most < length all → (status ≡ 8) ⊎ ((status ≡ 1) ⊎ (status ≡ 6))
   pub begins : status ≡ 8 → BeginsReport settings states (take most all)
   pub parts : status ≡ 1 → most < length all → BeginsReport settings states (take most all) → ⊥
@@ -83,12 +83,12 @@ pub record Decides (most status : ℕ) (old new : Outside) (settings : Settings)
 -- in each case
 pub record EndsAsGiven (most : ℕ) (words : List Text) (status : ℕ)
     (old new : Outside) : Type 0 where
-  -- a replay with an accepted configuration, where no count rose: by the number of bytes
+  -- a replay with an accepted configuration, in which no fault counter rose: by the number of bytes
   pub short : (all : Bytes) → IsQuietReplay words old new all → length all ≤ most
       → (status ≡ 0) ⊎ ((status ≡ 1) ⊎ (status ≡ 6))
   pub long : (all : Bytes) → IsQuietReplay words old new all → most < length all
       → (status ≡ 8) ⊎ (status ≡ 6)
-  -- an exercise with an accepted configuration, where no count rose
+  -- an exercise with an accepted configuration, in which no fault counter rose
   pub exercise : (seed moments : ℕ) → HoldsAccepted words old.shelf.texts (Exercise seed moments)
       → IsQuiet old new → (status ≡ 0) ⊎ (status ≡ 6)
   -- a comparison with the report of states that the shelf holds, or that are too long or not there
@@ -102,7 +102,7 @@ pub record EndsAsGiven (most : ℕ) (words : List Text) (status : ℕ)
   pub rejected : HoldsRefused words old.shelf.texts
       → (status ≡ 3) ⊎ ((status ≡ 5) ⊎ ((status ≡ 6) ⊎ (status ≡ 7)))
   pub missing : HoldsNone words old.shelf.texts → (status ≡ 6) ⊎ (status ≡ 7)
-  -- a status of a fault comes only where the object's count rose
+  -- a status of a fault is returned only if the object's fault counter rose
   pub no_read_fault : ¬ HasRisen old.source.faults new.source.faults → status ≢ 4
   pub no_write_fault : ¬ HasRisen old.sink.faults new.sink.faults → status ≢ 5
   pub no_fetch_fault : ¬ HasRisen old.shelf.faults new.shelf.faults → status ≢ 7

@@ -1,4 +1,4 @@
--- What private functions alone cite.
+-- Cited by private functions, tests and proofs alone; believe only what docs/PROVED.md names here.
 pub mod Lines
 pub mod Status
 pub mod Opening

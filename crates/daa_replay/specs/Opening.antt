@@ -17,7 +17,7 @@ usage_line = codes "usage: daidalus replay --config FILE [--workers N] [--ahead 
 abbrev pub long_line : Text
 long_line = codes "states long\n"
 
--- the shelf holds this text under the name, where it tells its texts
+-- if the shelf shows its texts, it holds this text under the name
 abbrev pub IsHeld : Option Texts → Text → Text → Type 0
 IsHeld texts name text = IfSome texts (λ held. held name ≡ Some text)
 
@@ -32,7 +32,7 @@ pub record Opens (words : List Text) (texts : Option Texts) (task : Task)
   pub held : IsHeld texts asked.config text
   pub accepted : config_of text ≡ Ok settings
 
--- the shelf holds a text under the name that is too long to be fetched, where it tells its texts
+-- if the shelf shows its texts, it holds a text under the name that is too long to be fetched
 abbrev pub IsHeldLong : Option Texts → Text → Type 0
 IsHeldLong texts name =
     IfSome texts (λ held. IsSomeAnd (held name) (λ text. longest_text < length text))
@@ -64,7 +64,7 @@ pub record IsRefused (words : List Text) (texts : Option Texts) (code : ℕ) : T
   pub refused : config_of text ≡ Err fault
   pub numbered : code_of fault ≡ Some code
 
--- the words are taken, and the shelf, which tells its texts, holds none under the name that they
+-- the words are taken; the shelf shows its texts, and holds none under the name that the words
 -- give
 pub record HoldsNone (words : List Text) (texts : Option Texts) : Type 0 where
   pub asked : Asked
@@ -74,7 +74,7 @@ pub record HoldsNone (words : List Text) (texts : Option Texts) : Type 0 where
   pub missing : held asked.config ≡ None
 
 -- the words ask for a comparison with the report of states, the configuration is accepted, and the
--- shelf, which tells its texts, holds no states under the name that they give
+-- shelf shows its texts, and holds no states under the name that the words give
 pub record HoldsNoStates (words : List Text) (texts : Option Texts) : Type 0 where
   pub name : Text
   pub settings : Settings
@@ -83,7 +83,7 @@ pub record HoldsNoStates (words : List Text) (texts : Option Texts) : Type 0 whe
   pub told : texts ≡ Some held
   pub missing : held name ≡ None
 
--- where the shelf tells its texts, a command line selects at most one task and one configuration
+-- if the shelf shows its texts, a command line selects at most one task and one configuration
 abbrev pub ConfigurationsAreUnique : Type 0
 ConfigurationsAreUnique = (words : List Text) (held : Texts) (task other_task : Task)
     (settings other : Settings)

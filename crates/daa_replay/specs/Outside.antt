@@ -6,7 +6,7 @@ use Rattle.daa_outside.specs.Shelf.{Texts}
 use Rattle.daa_report.specs.Lines.{Text}
 use Rattle.daa_report.specs.Says.{AppendsFront}
 
--- of a shelf: the texts that it holds, where it tells them, and its count of faults
+-- of a shelf: the texts that it holds, if it shows them, and its fault counter
 pub record ShelfState : Type 0 where
   pub texts : Option Texts
   pub faults : ℕ

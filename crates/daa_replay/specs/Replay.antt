@@ -49,9 +49,9 @@ module _ (settings : Settings) (most : ℕ) (old new : Outside) where
     pub written : TakesReport settings old.sink.bytes new.sink.bytes bytes false
     pub write_calm : IsCalm old.sink new.sink
 
-  -- the sink failed, and a beginning of the report was written; with its end only where nothing is
+  -- the sink failed, and a beginning of the report was written; with its end only if nothing is
   -- left. A source that is read ahead may have handed out one byte past the limit by then, and may
-  -- have failed; one that is read by turns has done neither
+  -- have failed; a source that is not read ahead has done neither
   pub record WriteFails (ahead : ℕ) : Type 0 where
     pub risen : HasRisen old.sink.faults new.sink.faults
     pub bytes : Bytes
@@ -62,7 +62,7 @@ module _ (settings : Settings) (most : ℕ) (old new : Outside) where
     pub over : ended ≡ true → IsSpent old.source.bytes new.source.bytes
     pub written : TakesFront settings old.sink.bytes new.sink.bytes bytes ended
 
-  -- as many bytes as may be read were read, and then one more; the report of those before it was
+  -- the limit of bytes was read, and then one byte more; the report of the bytes before it was
   -- written
   pub record PassesLimit : Type 0 where
     pub bytes : Bytes

@@ -19,23 +19,23 @@ pub record Under (words : List Text) (texts : Option Texts)
   pub opens : Opens words texts task settings
   pub so : P task settings
 
--- a line in place of a report: the usage line, where the words are not taken
+-- the line in place of a report is the usage line: the words are not taken
 abbrev pub IsUsage : List Text → Text → Type 0
 IsUsage words line = (order_of words ≡ None) × (line ≡ usage_line)
 
--- the code of the configuration, where it is refused
+-- the line in place of a report has the code of the configuration, which is refused
 abbrev pub IsCode : List Text → Option Texts → Text → Type 0
 IsCode words texts line = (code : ℕ) × IsRefused words texts code × (line ≡ config_line code)
 
--- that the states are too long
+-- the line in place of a report is `states long`: the states are too long
 abbrev pub IsLong : List Text → Option Texts → Text → Type 0
 IsLong words texts line = OpensLong words texts × (line ≡ long_line)
 
--- one of these
+-- the line is one of these three lines in place of a report
 abbrev pub IsLine : List Text → Option Texts → Text → Type 0
 IsLine words texts line = IsUsage words line ⊎ (IsCode words texts line ⊎ IsLong words texts line)
 
--- the sink failed, while such a line, or what the task gives, was written
+-- the sink failed while such a line, or what the task writes, was written
 pub record Breaks (most : ℕ) (words : List Text) (old new : Outside) : Type 0 where
   pub risen : HasRisen old.sink.faults new.sink.faults
   pub so : OnlyBegins (IsLine words old.shelf.texts) old new
@@ -56,8 +56,8 @@ pub record FetchFails (words : List Text) (old new : Outside) : Type 0 where
 -- what a run that reads at most `most` bytes leaves, by its status
 pub record Runs (most : ℕ) (words : List Text) (status : ℕ) (old new : Outside) : Type 0 where
   pub named : status ≤ 9
-  -- 0 and 1: the input was read to its end, and no line of it was refused, or some; an exercise
-  -- ended, at 0; or a report is that of the states, or is not
+  -- 0 and 1: the input was read to its end, and no line of it was refused (0), or some (1); an
+  -- exercise ended (0); a report is that of the states (0), or is not (1)
   pub accepted : status ≡ 0 → Under words old.shelf.texts (Accepts most old new)
   pub refused : status ≡ 1 → Under words old.shelf.texts (Refuses most old new)
   pub not_taken : status ≡ 2 → OnlyWrites (IsUsage words) old new
@@ -73,7 +73,7 @@ pub record Runs (most : ℕ) (words : List Text) (status : ℕ) (old new : Outsi
   -- the shelf keeps its texts, and fails at status 7 alone
   pub texts : new.shelf.texts ≡ old.shelf.texts
   pub shelf_calm : status ≢ 7 → new.shelf.faults ≡ old.shelf.faults
-  -- no count of faults falls
+  -- no fault counter falls
   pub fetches : old.shelf.faults ≤ new.shelf.faults
   pub reads : old.source.faults ≤ new.source.faults
   pub writes : old.sink.faults ≤ new.sink.faults

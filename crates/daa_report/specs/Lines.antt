@@ -60,7 +60,7 @@ unfoldable pub band_line : Kind → ℤ → ℤ → ℕ → Text
 band_line kind from upto level =
     kind_word kind ++ codes " " ++ signed_decimal from ++ codes " " ++ signed_decimal upto ++ codes " " ++ decimal level ++ codes "\n"
 
--- what is answered on the two sides of a kind
+-- the line of the answers on the two sides of a kind
 unfoldable pub resolve_line : Kind → Resolution → Resolution → Text
 resolve_line kind lower upper =
     codes "resolve" ++ codes " " ++ kind_word kind ++ codes " " ++ lower_word kind ++ codes " " ++ answer_text lower

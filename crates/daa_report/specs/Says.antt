@@ -8,7 +8,7 @@ abbrev pub AppendsFront : Option (List ℕ) → Option (List ℕ) → List ℕ �
 AppendsFront old new text =
     (front : List ℕ) × (unwritten : List ℕ) × (text ≡ front ++ unwritten) × Appends old new front
 
--- a fault comes only where the count of faults rose; the count never falls, and stands where there was no fault
+-- a fault is returned only if the fault counter rose; it never falls, and stays without a fault
 pub record HasCause {T E : Type 0} (old new : ℕ) (result : Result T E) : Type 0 where
   pub later : old ≤ new
   pub risen : OnErr result (HasRisen old new)

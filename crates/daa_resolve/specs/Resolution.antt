@@ -21,7 +21,7 @@ module _ (Covered : ℕ → ℕ → Type 0) (s : Settings) (own : Own) (kind : K
   abbrev pub distance_to : ℤ → ℤ
   distance_to value = distance_of kind side (present_of kind own) value
 
-  -- the value is open on the side, and none that is so is nearer
+  -- the value is open on the side, and no other open value there is nearer
   abbrev pub IsNearest : ℤ → Type 0
   IsNearest value =
       (place : ℕ) × IsOpenOnSide place value

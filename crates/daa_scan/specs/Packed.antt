@@ -1,5 +1,5 @@
--- The words of the units in a form that can be computed. They are told in the field's terms by the units' numbering; here each
--- question is answered by trying.
+-- The words of the units in a form that can be computed. Units.antt defines them in the field's
+-- terms; here each question is answered by trying.
 use Rattle.std.specs.Prelude.{ℕ, zero, suc, ◌+◌, ◌*◌, ◌/◌, ◌%◌, pos, ◌+ℤ◌, ◌*ℤ◌, Bool, false, ◌&&◌, if◌then◌else◌, int_le, List, [], ◌∷◌, ◌++◌, length, slice_get, slice_index, Option, Some, None}
 use Rattle.std.specs.List.{list_any}
 use Rattle.daa_config.specs.declared.candidate.Candidate.{Candidate}

@@ -11,11 +11,11 @@ use Rattle.daa_scan.specs.Situation.{Situation, MeetsAt}
 abbrev pub group_count : Settings → ℕ
 group_count settings = (length (candidates_of settings) + (group_size - 1)) / group_size
 
--- a configuration has at most so many groups, since it has at most 1897 candidates
+-- the greatest number of groups, since a configuration has at most 1897 candidates
 abbrev pub most_groups : ℕ
 most_groups = 159
 
--- a moment has at most so many units: one for each of 64 aircraft and each group
+-- the greatest number of units of a moment: one for each of 64 aircraft and each group
 abbrev pub most_units : ℕ
 most_units = 64 * most_groups
 

@@ -2,6 +2,6 @@
 use Rattle.std.specs.Prelude.{◌≢◌, ℕ, List}
 use Rattle.std.specs.List.{All}
 
--- no answer is 0, which stands on the board where a unit has no answer yet
+-- no answer is 0, which is on the board if a unit has no answer yet
 abbrev pub AreAnswers : List ℕ → Type 0
 AreAnswers answers = All (λ answer. answer ≢ 0) answers

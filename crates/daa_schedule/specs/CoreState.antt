@@ -49,7 +49,7 @@ opened answers workers = record {
   board = replicate (length answers) 0;
 }
 
--- how often the unit stands on the board: once or not at all
+-- how often the unit is on the board: once or not at all
 abbrev pub times_on : ℕ → List ℕ → ℕ
 times_on unit board = if slice_index board unit == 0 then 0 else 1
 

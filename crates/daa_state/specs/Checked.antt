@@ -28,7 +28,7 @@ range_of Age = ages
 abbrev pub is_within : Range → ℤ → Bool
 is_within range n = int_le range.low n && int_le n range.high
 
--- what is told of a number that is out of range
+-- the report of a number that is out of range
 abbrev pub outside : Field → OutOfRange
 outside field = record { field = field; least = (range_of field).low; greatest = (range_of field).high }
 
@@ -36,7 +36,7 @@ outside field = record { field = field; least = (range_of field).low; greatest =
 abbrev pub number_of : Field → ℤ → Number
 number_of field number = record { field = field; number = number }
 
--- what is told of the first of them that is out of its range
+-- the report of the first of them that is out of its range
 unfoldable pub first_outside : List Number → Option OutOfRange
 first_outside [] = None
 first_outside (n ∷ others) = if is_within (range_of n.field) n.number then first_outside others else Some (outside n.field)

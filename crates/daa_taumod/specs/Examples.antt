@@ -1,5 +1,5 @@
--- Legs and volumes of which it is known by hand when they violate. The aircraft moves north at 360 knots, 3600 units a second; 660
--- thousandths of a nautical mile are 23760 units.
+-- Legs and volumes whose violations were worked out by hand. The aircraft moves north at 360
+-- knots, 3600 units a second; 660 thousandths of a nautical mile are 23760 units.
 use Rattle.std.specs.Prelude.{ℕ, ℤ, pos, negsuc}
 use Rattle.daa_fixed.specs.declared.Leg.{Leg}
 use Rattle.daa_taumod.specs.declared.Model.{Model}

@@ -22,11 +22,11 @@ wanted a = record a { required = true }
 abbrev pub config : Rule
 config = wanted (option (codes "config"))
 
--- `--workers N`, how many workers decide a moment: 4 where it is not given
+-- `--workers N`, how many workers decide a moment: 4 if it is not given
 abbrev pub workers : Rule
 workers = record (number_option (codes "workers") 1 16) { defaults = codes "4" ∷ [] }
 
--- `--ahead N`, by how many pieces reading may be ahead: 0 where it is not given
+-- `--ahead N`, by how many pieces reading may be ahead: 0 if it is not given
 abbrev pub ahead : Rule
 ahead = record (number_option (codes "ahead") 0 1024) { defaults = codes "0" ∷ [] }
 
@@ -56,7 +56,7 @@ exercise =
 abbrev pub judge : App
 judge = with_rule (with_rule (with_rule (new_app (codes "judge")) config) states) workers
 
--- the program's name, after which a subcommand must stand
+-- the program's name, which a subcommand must follow
 abbrev pub base : App
 base = on_top (λ s. record s { subcommand_required = true }) (new_app (codes "daidalus"))
 

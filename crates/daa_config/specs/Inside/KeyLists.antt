@@ -1,4 +1,4 @@
--- What the reader's lists of keys stand for.
+-- What the reader's lists of keys mean.
 use Rattle.std.specs.Prelude.{Bool, map}
 use Rattle.toml.specs.Data.{Members}
 use Rattle.daa_config.specs.declared.keys.Difference.{Difference}

@@ -1,4 +1,4 @@
--- What numbers of a configuration stand for.
+-- What numbers of a configuration mean.
 use Rattle.daa_config.specs.declared.reading.Found.{Found}
 use Rattle.daa_config.specs.ConfigOf.{Written}
 

@@ -26,7 +26,7 @@ HasRoomFor n tally = (level : ℕ) → slice_index tally level + n ≤ 429496729
 abbrev pub Adds : (List ℕ → Type 0) → (old new : List ℕ) → Type 0
 Adds Has old new = (here : List ℕ) × Has here × CountsMore here old new
 
--- it has counted the levels of so many moments, at most 512 of each
+-- it has counted the levels of the first `count` moments, at most 512 of each
 pub record HasCounted (Has : Picture → List ℕ → Type 0) (output : Outputs) (count : ℕ) (tally : List ℕ) : Type 0 where
   pub levels : List ℕ
   pub are : AreLevels Has output count levels
@@ -53,7 +53,7 @@ pub record CountsPicture (settings : Settings) (picture : Picture) (old new : Co
   pub climb : Adds (HasShown settings picture Climb) old.climb new.climb
   pub height : Adds (HasShown settings picture Height) old.height new.height
 
--- so many moments are counted
+-- the first `count` moments are counted
 pub record AreCounted (settings : Settings) (output : Outputs) (count : ℕ) (counts : Counts) : Type 0 where
   pub aircraft : counts.aircraft ≡ aircraft_in output count
   pub few : counts.aircraft ≤ 64 * count

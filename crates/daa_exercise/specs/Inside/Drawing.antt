@@ -5,7 +5,7 @@ use Rattle.rand_pcg.specs.Pcg.{multiplier_64}
 use Rattle.daa_state.specs.Ranges.{Range}
 use Rattle.daa_exercise.specs.declared.draws.Span.{Span}
 
--- the generator after so many outputs
+-- the generator after this number of outputs
 unfoldable pub after : ℕ → Lcg → Lcg
 after n generator = advance 64 multiplier_64 n generator
 

@@ -12,6 +12,6 @@ IsSized Whole line = length line < long_length
 IsSized Long line = length line ≡ long_length
 IsSized Skipping line = line ≡ []
 
--- 1 where a line stands or was begun, which has no number yet
+-- 1 if a line is ready or was begun, which has no number yet
 abbrev pub owed : Stage → Bytes → ℕ
 owed stage line = if is_standing stage then 1 else min 1 (length line)

@@ -11,7 +11,7 @@ at_open line byte =
     if byte == line_feed then (line, Whole)
     else (line ++ byte ∷ [], if length line + 1 == long_length then Long else Open)
 
--- a line that is skipped ends at a line feed, and one that stands stays
+-- a line that is skipped ends at a line feed, and one that is ready stays
 abbrev pub at_stage : Stage → Bytes → ℕ → Bytes × Stage
 at_stage Open line byte = at_open line byte
 at_stage Skipping line byte = ([], if byte == line_feed then Open else Skipping)

@@ -87,7 +87,7 @@ pub record Ruled (workers : ℕ) (table : Pools) : Type 0 where
 abbrev pub opening_words : ℕ → ℕ → List ℕ
 opening_words workers units = slice_set (replicate (workers + units) 0) 0 (packed (span 0 units))
 
--- before the first seat is told the answers
+-- before the first seat is given the answers
 pub record IsBlank (workers units : ℕ) (table : Pools) : Type 0 where
   pub words : table.words ≡ opening_words workers units
   pub views : table.views ≡ blank ∷ []

@@ -1,4 +1,4 @@
--- What each atomic step tells its seat. The number found is the word as it was before the step.
+-- What each atomic step shows its seat. The number found is the word as it was before the step.
 use Rattle.std.specs.Prelude.{◌≡◌, ◌≢◌, ℕ, ◌-◌, ◌<◌, ◌≤◌, List, length, slice_index}
 use Rattle.atomic_table.specs.Table.{Step, Me}
 use Rattle.daa_range.specs.Range.{span_len}
@@ -23,7 +23,7 @@ pub record IsHome (view : View) (word : ℕ) : Type 0 where
   pub first : first_part word ≡ view.bound.first
   pub upto : upto_part word ≤ view.bound.upto
 
--- the first seat is told the answers
+-- the first seat is given the answers
 abbrev pub begins : ℕ → List ℕ → Step (Unit {0}) → Sat → ℕ → Sat → Type 0
 begins workers answers step before found after = Becomes before (opener workers answers) after
 

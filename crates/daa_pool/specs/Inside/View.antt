@@ -44,7 +44,7 @@ newcomer number workers answers = record {
 abbrev pub spent : View
 spent = record (newcomer 0 0 []) { live = false }
 
--- the view of the one seat before it is told the answers
+-- the view of the one seat before it is given the answers
 abbrev pub blank : View
 blank = record spent { carries = true }
 

@@ -22,7 +22,7 @@ bound_of p (Some r) = r.after
 bound_of p None = p.horizon
 
 module _ (p : Prospect) (kind : Kind) where
-  -- the value stands below count and recovers, and none before it does at that time
+  -- the index of the value is below count, it recovers, and none before it does at that time
   pub record IsFirst (count : ℕ) (r : Recovery) : Type 0 where
     pub place : ℕ
     pub below : place < count
