@@ -12,8 +12,8 @@ pub fn accepted_is_in_range()
     ensures { (text : Text) (s : Settings) → config_of text ≡ Ok s → IsAccepted s }
 {}
 
-/// The values of a kind are the least and each further step that is not above the greatest that may
-/// be.
+/// The values of a kind are min, min + step, .. up to
+/// max.
 pub fn values_are_all_steps()
     ensures { (kind : Kind) (s : Settings) → IsAccepted s
         → AreStepsUpTo (grid_of kind s) (values_of kind s) }

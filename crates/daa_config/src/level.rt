@@ -11,9 +11,9 @@ use arrayvec::ArrayVec;
 use daa_fixed::{feet, mils};
 use daa_taumod::{Model, Volume};
 
-/// An alert level: its well-clear volume (1/36000 NM, 1/60 ft and seconds), and how many seconds
-/// ahead, 1 to 180, it is looked for a candidate's violation of the volume and alerted of one by
-/// the present flight.
+/// An alert level: its well-clear volume (1/36000 NM, 1/60 ft and seconds), its lookahead and its
+/// alert time. `lookahead` is how many seconds each candidate is flown, `alert` how many seconds
+/// of the present flight are tested: 1 to 180 each.
 #[derive(Clone, Copy, Debug, PartialEq, Eq)]
 pub struct Level {
     pub volume: Volume,
@@ -74,7 +74,7 @@ fn in_units(numbers: &LevelNumbers) -> Level
     }
 }
 
-/// The cylinder of these numbers, which are in their ranges, where there are any.
+/// The cylinder of these numbers, which are in their ranges, if there are any.
 pub(crate) fn cylinder_in_units(recovery: &Option<RecoveryNumbers>) -> Option<Volume>
     requires { recovery_fits recovery.now ≡ true }
     ensures { result ≡ option_map cylinder_of recovery.now }

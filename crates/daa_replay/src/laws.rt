@@ -16,7 +16,7 @@ use crate::lines::Event;
 use daa_state::LineFault;
 
 /// Under an accepted configuration exactly one text is the report of an input: every run of bytes
-/// has one, whether they are the whole input or its beginning, and no other text is it.
+/// has exactly one report, whether they are the whole input or its beginning.
 pub fn every_input_has_one_report()
     ensures { (settings : Settings) (bytes : Bytes) (ended : Bool) → IsAccepted settings
         → HasOne (IsReportOf settings bytes ended) }
@@ -27,7 +27,7 @@ pub fn ended_moments_are_in_range()
     ensures { (bytes : Bytes) (ended : Bool) → All IsEventInRange (events_of bytes ended) }
 {}
 
-/// A beginning of a report, as it is said event by event, is a beginning of the whole text.
+/// A beginning of a report, as defined event by event, is a beginning of the whole text.
 pub fn fronts_begin_reports()
     ensures { (settings : Settings) (bytes : Bytes) (ended : Bool) (front text : Text)
         → IsAccepted settings
@@ -44,22 +44,22 @@ pub fn events_only_grow()
         × (events_of bytes true ≡ events_of bytes false ++ events) }
 {}
 
-/// An input without a line whose first field is `format` reads as where there are neither that word
-/// nor ages, and the reports of its aircraft are of the moment itself.
+/// An input without a line whose first field is `format` is read as if there were neither that word
+/// nor ages, and each of its aircraft has age 0.
 pub fn format_lines_alone_matter()
     ensures words { ReadsAsFourWords }
     ensures ages { HasNoAges }
 {}
 
-/// How a run ends where the words, the shelf and the number of bytes say it. With an accepted
-/// configuration and no fault a replay ends with 0 or 1, or with 8 where there are more bytes than
-/// may be read, and an exercise with 0. A comparison with states of at most 65536 bytes and no
-/// fault ends with 0 or 1, or with 8 where there are more bytes than may be read and the report
-/// begins with those that may be; whatever failed, at 0 the bytes are the report and at 1 they are
-/// not. With longer states it ends with 5, 7 or 9, with none under the name with 7. With words that
-/// are not taken a run ends with 2 or 5, with a refused configuration with 3, 5 or 7, with none
-/// under the name with 7. Memory may run out in each: 6. Where the count of faults of the
-/// source, the sink or the shelf did not rise, 4, 5 or 7 does not come.
+/// How a run ends, by its words, the shelf and the number of bytes. With an accepted configuration
+/// and no fault a replay ends with 0 or 1, or with 8 if there are more bytes than may be read, and
+/// an exercise with 0. A comparison with states of at most 65536 bytes and no fault ends with 0 or
+/// 1, or with 8 if there are more bytes than may be read and the report begins with those that may
+/// be read. Whatever failed, at 0 the bytes are the report and at 1 they are not. With longer
+/// states it ends with 5, 7 or 9, without states under the name with 7. With words that are not
+/// taken a run ends with 2 or 5, with a refused configuration with 3, 5 or 7, without one under
+/// the name with 7. Memory may run out in each case: 6. If the fault counter of the source, the
+/// sink or the shelf did not rise, the status is not 4, not 5 or not 7.
 pub fn runs_are_complete()
     ensures { RunsAreComplete }
 {}

@@ -54,18 +54,18 @@ fn run_words<R: Threads + Sync, F: Shelf, S: Source + Send, K: Sink + Send, G: G
 /// bytes are the same for every number of workers, and where nothing fails for every number of
 /// pieces that are read ahead.
 ///
-/// Answers the status of the process:
-/// - 0 where the input was read to its end and no line was refused, or the exercise ended, or a
-///   report is that of the states; 1 where some line was refused, or a report is another one;
-/// - 2 where the words are not taken; the usage line is written;
-/// - 3 where the configuration is refused; `config` and its code are written;
-/// - 4 where the source failed, 5 where the sink did, 7 where the shelf did or holds nothing under
+/// Returns the status of the process:
+/// - 0 if the input was read to its end and no line was refused, or the exercise ended, or a
+///   report is that of the states; 1 if some line was refused, or a report is another one;
+/// - 2 if the words are not taken; the usage line is written;
+/// - 3 if the configuration is refused; `config` and its code are written;
+/// - 4 if the source failed, 5 if the sink did, 7 if the shelf did or holds nothing under
 ///   a name;
-/// - 6 where there was no memory for words, texts, configuration, engine or sheet; nothing is read
+/// - 6 if there was no memory for words, texts, configuration, engine or sheet; nothing is read
 ///   or written;
-/// - 8 exactly where `most` bytes were read and there was one more, and the sink did not fail
-///   before they were reported; of a comparison only where the report begins with those bytes;
-/// - 9 where the states have more than 65536 bytes; `states long` is written.
+/// - 8 exactly if `most` bytes were read and there was one more, and the sink did not fail
+///   before they were reported; of a comparison only if the report begins with those bytes;
+/// - 9 if the states have more than 65536 bytes; `states long` is written.
 ///
 /// A run ends for lack of memory, with status 6, only before the source is read.
 pub fn run_within<R: Threads + Sync, F: Shelf, S: Source + Send, K: Sink + Send, G: Gate>(

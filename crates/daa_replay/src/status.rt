@@ -26,7 +26,7 @@ pub(crate) enum Status {
     ReadFault,
     /// The sink failed.
     WriteFault,
-    /// There was no memory to make ready.
+    /// There was no memory for the start-up.
     NoMemory,
     /// The shelf failed, or holds nothing under a name.
     FetchFault,
@@ -56,7 +56,7 @@ impl Status {
     }
 }
 
-/// This status where a text was written, and a fault of the sink where it was not.
+/// This status if a text was written, and a fault of the sink if it was not.
 pub(crate) fn status_of(written: Result<(), SinkFault>, status: Status) -> Status
     ensures whole { OnOk written (result ≡ status) }
     ensures broken { OnErr written (result ≡ Status.WriteFault) }
@@ -67,11 +67,11 @@ pub(crate) fn status_of(written: Result<(), SinkFault>, status: Status) -> Statu
     }
 }
 
-/// What is written where the command words are not taken.
+/// The line for command words that are not taken.
 const USAGE: &[u8] =
     b"usage: daidalus replay --config FILE [--workers N] [--ahead N] | exercise --config FILE --seed N --moments M [--workers N] | judge --config FILE --states FILE [--workers N]\n";
 
-/// What is written where the states are too long.
+/// The line for states that are too long.
 const LONG: &[u8] = b"states long\n";
 
 /// Writes the code of a refused configuration. The one fault without a code says that memory ran
@@ -87,8 +87,8 @@ fn write_code<K: Sink>(fault: ConfigFault, sink: &mut K) -> Status
     }
 }
 
-/// Writes the usage line, that the states are too long, or the code of a refused configuration, and
-/// answers the status.
+/// Start-up failed: writes the usage line, `states long` or the code of a refused configuration,
+/// and returns the status.
 pub(crate) fn write_reason<K: Sink>(why: Unready, sink: &mut K) -> Status
     ensures { WritesReason why (stream_state (K.taken sink.old) (K.faults sink.old))
         (stream_state (K.taken sink.new) (K.faults sink.new)) result }

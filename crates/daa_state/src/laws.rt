@@ -14,21 +14,21 @@ pub fn first_256_bytes_decide()
     ensures long { LongFrom256Bytes }
 {}
 
-/// Where no line's first field is `format`, the format stays 1: such a line says no format word,
-/// and in format 1 it says what it says where there are the words `moment`, `own`, `traffic` and
-/// `end` alone.
+/// If no line's first field is `format`, the format stays 1: such a line gives no format word, and
+/// in format 1 it is read as if there were only the words `moment`, `own`, `traffic` and
+/// `end`.
 pub fn without_format_lines_four_words_are_read()
     ensures none { OnlyFormatLinesSayFormats }
     ensures same { ReadsAsFourWords }
 {}
 
-/// A word other than `Format` leaves the format.
+/// A word other than `Format` does not change the format.
 pub fn other_words_leave_the_format()
     ensures { OtherWordsLeaveTheFormat }
 {}
 
-/// In format 1 every report is of age 0, and where all words are such, so is every report of a
-/// moment that they open, and of its picture.
+/// In format 1 every age is 0. If every word of a moment has age 0, so has every aircraft of the
+/// moment and of its picture.
 pub fn format_1_has_no_ages()
     ensures words { Format1SaysNoAges }
     ensures steps { NoAgesLeaveNoAges }

@@ -6,24 +6,24 @@ ghost use Rattle.daa_words.specs.Order as spec;
 
 use clap::ArgMatches;
 
-/// What is to be done with a configuration.
+/// The task of a run under a configuration.
 #[derive(Clone, Copy, Debug, PartialEq, Eq)]
 pub enum Task<'a> {
     /// Moments are read, and each is decided.
     Replay {
-        /// By how many pieces reading may be ahead, 0 to 1024.
+        /// How many pieces may be read ahead, 0 to 1024.
         ahead: u32,
     },
     /// Moments are made, and each is decided.
     Exercise {
-        /// What the moments are made from. Any `u32` is one.
+        /// The seed of the moments: any `u32`.
         seed: u32,
         /// How many moments there are, 1 to 10000.
         moments: u32,
     },
     /// A report is compared with that of given states.
     Judge {
-        /// The name under which the states lie. Any text is one, also the empty text.
+        /// The name of the states; it may be empty.
         states: &'a str,
     },
 }
@@ -31,9 +31,9 @@ pub enum Task<'a> {
 /// What the words ask for.
 #[derive(Clone, Copy, Debug)]
 pub struct Order<'a> {
-    /// What is to be done.
+    /// The task.
     pub task: Task<'a>,
-    /// The name under which the configuration lies. Any text is one, also the empty text.
+    /// The name of the configuration; it may be empty.
     pub config: &'a str,
     /// How many workers decide a moment, 1 to 16.
     pub workers: u32,
