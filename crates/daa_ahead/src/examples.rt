@@ -1,4 +1,4 @@
-//! A source for tests: one of its reads waits at a gate, until somebody else comes there.
+//! A source for tests: one of its reads waits at a gate, until another thread arrives there.
 
 use daa_outside::{Failed, Gate, MemSource, Source};
 

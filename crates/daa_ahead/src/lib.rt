@@ -1,4 +1,4 @@
-//! Reading in pieces for someone who takes them: by turns with the taking, or ahead of it on a
+//! Reading in pieces for a taker: in turn with the taking, or ahead of it on a
 //! thread of its own.
 #![tactic(auto)]
 

@@ -68,7 +68,7 @@ fn alert_of(config: &DaaConfig, own: &DaaOwn, traffic: &DaaTraffic) -> Result<Da
     Ok(told(&config, &own, &traffic))
 }
 
-/// Fills in the level of an aircraft now, its alert level and its first leg. Answers 0, or why
+/// Fills in the level of an aircraft now, its alert level and its first leg. Returns 0, or why
 /// nothing was filled in.
 #[unsafe(no_mangle)]
 pub extern "C" fn daa_alert(

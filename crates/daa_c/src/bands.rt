@@ -35,7 +35,7 @@ fn told(band: &Band) -> DaaBand
     }
 }
 
-/// Fills in the bands of a kind, and answers how many there are.
+/// Fills in the bands of a kind, and returns how many there are.
 fn fill(config: &Config, board: &Board, kind: Kind, bands: &mut [DaaBand]) -> usize
     requires { length (values_of kind config.now) ≤ length bands.old }
     ensures fits { result ≤ length bands.new }
@@ -51,7 +51,7 @@ fn fill(config: &Config, board: &Board, kind: Kind, bands: &mut [DaaBand]) -> us
     count
 }
 
-/// Fills in the bands of a kind, and how many there are. Answers 0, or why nothing was filled in.
+/// Fills in the bands of a kind, and how many there are. Returns 0, or why nothing was filled in.
 #[unsafe(no_mangle)]
 pub extern "C" fn daa_bands(
     config: &DaaConfig,

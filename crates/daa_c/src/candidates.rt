@@ -30,7 +30,7 @@ fn told(candidate: Candidate) -> DaaCandidate
     }
 }
 
-/// Fills in the candidate at an index of the whole list. Answers 0, or why nothing was filled in.
+/// Fills in the candidate at an index of the whole list. Returns 0, or why nothing was filled in.
 #[unsafe(no_mangle)]
 pub extern "C" fn daa_candidate(config: &DaaConfig, index: u32, out: &mut DaaCandidate) -> i32
     ensures told { result ≡ pos 0 → IsCandidateAt config.now index out.new }

@@ -7,7 +7,7 @@ ghost use Rattle.daa_c.specs.Inside.Codes.{IsOfStates};
 use daa_config::{ConfigFault, Kind};
 use daa_resolve::Side;
 
-/// The caller's room is too short.
+/// The caller's buffer is too short.
 pub(crate) const SHORT: i32 = 19;
 /// There is no memory.
 const NO_MEMORY: i32 = 20;

@@ -80,7 +80,7 @@ fn board_of(config: &DaaConfig, own: &DaaOwn, traffic: &[DaaTraffic]) -> Result<
     })
 }
 
-/// Fills in the board of a moment. Answers 0, or why nothing was filled in.
+/// Fills in the board of a moment. Returns 0, or why nothing was filled in.
 #[unsafe(no_mangle)]
 pub extern "C" fn daa_decide(
     config: &DaaConfig,
@@ -117,7 +117,7 @@ fn show(config: &Config, board: &Board, levels: &mut [u8])
 }
 
 /// Fills in the level that each candidate shows, in the order of the whole list, and how many there
-/// are. Answers 0, or why nothing was filled in.
+/// are. Returns 0, or why nothing was filled in.
 #[unsafe(no_mangle)]
 pub extern "C" fn daa_levels(
     config: &DaaConfig,

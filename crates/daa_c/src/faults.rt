@@ -86,7 +86,7 @@ fn fault_of(own: &DaaOwn, traffic: &[DaaTraffic]) -> DaaFault
     }
 }
 
-/// Fills in what is wrong with an ownship and aircraft, or that nothing is. Answers 0.
+/// Fills in what is wrong with an ownship and aircraft, or that nothing is. Returns 0.
 #[unsafe(no_mangle)]
 pub extern "C" fn daa_fault(own: &DaaOwn, traffic: &[DaaTraffic], out: &mut DaaFault) -> i32
     ensures answer { result ≡ pos 0 }

@@ -1,5 +1,5 @@
 //! The engine for C: numbers in, alerts, levels, bands, resolutions, recoveries and the report of a
-//! moment out. There is no global state and no handle: each call answers from what it is handed
+//! moment out. There is no global state and no handle: each call answers from its arguments
 //! alone. `include/daidalus.h` has the declarations.
 #![tactic(auto)]
 

@@ -40,7 +40,7 @@ fn told(recovery: Option<Recovery>) -> DaaRecovery
     }
 }
 
-/// Fills in the recovery of a kind in a moment. Answers 0, or why nothing was filled in.
+/// Fills in the recovery of a kind in a moment. Returns 0, or why nothing was filled in.
 #[unsafe(no_mangle)]
 pub extern "C" fn daa_recovery(
     config: &DaaConfig,

@@ -30,8 +30,8 @@ fn write(config: &Config, picture: &Picture, board: &Board, sheet: &mut Sheet)
     let _fits = say_moment(config, picture, board, sheet);
 }
 
-/// Fills in the text of a decided moment, and answers how many bytes it has, unless it is longer
-/// than the room. The sheet is not on the stack while a moment is decided.
+/// Fills in the text of a decided moment, and returns how many bytes it has, unless it is longer
+/// than the buffer. The sheet is not on the stack while a moment is decided.
 #[inline(never)]
 fn fill(config: &Config, picture: &Picture, board: &Board, text: &mut [u8]) -> Option<usize>
     requires picture { IsPictureInRange picture.now }
@@ -53,7 +53,7 @@ fn fill(config: &Config, picture: &Picture, board: &Board, text: &mut [u8]) -> O
     Some(said.len())
 }
 
-/// Fills in the text of a moment, and how many bytes it has. Answers 0, or why nothing was filled
+/// Fills in the text of a moment, and how many bytes it has. Returns 0, or why nothing was filled
 /// in.
 #[unsafe(no_mangle)]
 pub extern "C" fn daa_report(

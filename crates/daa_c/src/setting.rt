@@ -13,7 +13,7 @@ use daa_config::{
 use std::alloc::Global;
 
 /// The numbers of a configuration, under the names of the keys and in their units. The cylinder
-/// counts where `recovery` is not 0, and of the levels the first `count`.
+/// counts if `recovery` is not 0, and of the levels the first `count`.
 #[repr(C)]
 #[derive(Clone, Copy)]
 pub struct DaaConfig {
@@ -24,7 +24,7 @@ pub struct DaaConfig {
     pub levels: [LevelNumbers; 4],
 }
 
-/// The numbers of the recovery, where one is asked for.
+/// The numbers of the recovery, if the configuration asks for one.
 fn asked(config: &DaaConfig) -> Option<RecoveryNumbers>
     ensures { result ≡ recovery_by config.now.recovery config.now.cylinder }
 {
@@ -76,7 +76,7 @@ fn fill(numbers: &ConfigNumbers, config: &mut DaaConfig)
     ask(numbers.recovery, config);
 }
 
-/// Fills in the numbers of a configuration's text, or answers its fault.
+/// Fills in the numbers of a configuration's text, or returns its fault.
 #[unsafe(no_mangle)]
 pub extern "C" fn daa_read(alloc: Global, text: &[u8], config: &mut DaaConfig) -> i32
     ensures read { result ≡ pos 0 → IsReadAs text.now config.new }
@@ -92,7 +92,7 @@ pub extern "C" fn daa_read(alloc: Global, text: &[u8], config: &mut DaaConfig) -
     }
 }
 
-/// Answers 0 where a configuration is accepted, else its fault.
+/// Returns 0 if a configuration is accepted, else its fault.
 #[unsafe(no_mangle)]
 pub extern "C" fn daa_check(config: &DaaConfig) -> i32
     ensures { result ≡ answer_of (settings_by config.now) }

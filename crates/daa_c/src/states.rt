@@ -67,7 +67,7 @@ fn ownship(own: &DaaOwn) -> Own
     }
 }
 
-/// The aircraft of these numbers, where its identifier is allowed.
+/// The aircraft of these numbers, if its identifier is allowed.
 fn aircraft(traffic: &DaaTraffic) -> Option<Traffic>
     ensures { SomeIff result (IsTrue (is_id (text_of traffic.now.id))) (traffic_of traffic.now) }
 {
@@ -84,7 +84,7 @@ fn aircraft(traffic: &DaaTraffic) -> Option<Traffic>
     })
 }
 
-/// The ownship of these numbers, where they are in range.
+/// The ownship of these numbers, if they are in range.
 pub(crate) fn checked_own(own: &DaaOwn) -> Result<Own, Refusal>
     ensures value { IfOk result (λ o. o ≡ own_of own.now) }
     ensures range { IfOk result IsOwnInRange }
@@ -97,7 +97,7 @@ pub(crate) fn checked_own(own: &DaaOwn) -> Result<Own, Refusal>
     }
 }
 
-/// The aircraft of these numbers, where they are in range and its identifier is allowed.
+/// The aircraft of these numbers, if they are in range and its identifier is allowed.
 pub(crate) fn checked_traffic(traffic: &DaaTraffic) -> Result<Traffic, Refusal>
     ensures value { IfOk result (λ t. t ≡ traffic_of traffic.now) }
     ensures range { IfOk result IsTrafficInRange }
@@ -113,7 +113,7 @@ pub(crate) fn checked_traffic(traffic: &DaaTraffic) -> Result<Traffic, Refusal>
     }
 }
 
-/// The aircraft of these numbers, where their identifiers are allowed.
+/// The aircraft of these numbers, if their identifiers are allowed.
 fn all_aircraft(traffic: &[DaaTraffic]) -> Result<ArrayVec<Traffic, 64>, Refusal>
     requires { length traffic.now ≤ 64 }
     ensures value { IfOk result (λ all. all.items ≡ map traffic_of traffic.now) }
@@ -130,7 +130,7 @@ fn all_aircraft(traffic: &[DaaTraffic]) -> Result<ArrayVec<Traffic, 64>, Refusal
     Ok(all)
 }
 
-/// The picture of these numbers, where the engine takes it.
+/// The picture of these numbers, if the engine takes it.
 pub(crate) fn picture(time: u32, own: &DaaOwn, traffic: &[DaaTraffic]) -> Result<Picture, Refusal>
     ensures value { IfOk result (λ p. p ≡ picture_of time own.now traffic.now) }
     ensures taken { IfOk result IsTaken }

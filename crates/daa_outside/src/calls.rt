@@ -39,7 +39,7 @@ impl Calls {
         Failed
     }
 
-    /// Counts a call, and gives its number where it is not one of those that fail.
+    /// Counts a call, and returns its number unless it is one of those that fail.
     pub(crate) fn begin(&mut self) -> Result<u64, Failed>
         ensures fails { IsErr result ↔ Contains self.old.fails.items self.old.made }
         ensures number { IfOk result (λ call. call ≡ self.old.made) }

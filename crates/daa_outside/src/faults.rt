@@ -1,4 +1,4 @@
-//! What an object outside answers where it fails, and the counter that goes with it.
+//! What an object outside returns if it fails, and the counter that goes with it.
 
 ghost use Rattle.std.specs.Prelude.{◌≡◌};
 ghost use Rattle.daa_outside.specs.Faults.{one_more};

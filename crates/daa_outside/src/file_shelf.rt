@@ -64,7 +64,7 @@ impl<R: Files> Shelf for FileShelf<R> {
     }
 }
 
-/// All that the reader gives, where that is no longer than a text may be.
+/// All that the reader returns, unless that is longer than a text may be.
 pub(crate) fn text_of<R: Read + Drop>(alloc: Global, reader: R) -> Result<Vec<u8>, FetchFault>
     ensures held { IfSome (R.remaining reader) (λ bytes. IfOk result (λ text. text.items ≡ bytes)) }
     ensures short { IfOk result (λ text. length text.items ≤ longest_text) }

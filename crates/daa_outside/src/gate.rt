@@ -1,13 +1,13 @@
 //! A gate that each worker passes before it answers a unit.
 
-/// A place that may hold a worker for a while. Several workers may use it at once. All that is
-/// promised of a call is that it returns.
+/// A gate may hold a worker for a while. Several workers may use it at once. A call promises only
+/// that it returns.
 pub trait Gate: Sync {
     /// The worker, from 0, is about to answer the unit, from 0.
     fn pass(&self, worker: u32, unit: u32);
 }
 
-/// The gate that lets all pass.
+/// The gate that lets every worker pass.
 #[derive(Clone, Copy, Debug)]
 pub struct Open;
 

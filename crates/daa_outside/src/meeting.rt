@@ -1,5 +1,5 @@
-//! A gate at which workers wait for each other. It is there for tests: it shows that threads run
-//! side by side.
+//! A gate at which workers wait for each other. It is for tests: it shows that threads run in
+//! parallel.
 
 use crate::gate::Gate;
 use std::sync::atomic::AtomicU64;
@@ -33,8 +33,8 @@ impl<C: Clock> Meeting<C> {
         }
     }
 
-    /// As many workers as were wanted have come, and none was let go before. One thread that does
-    /// the work of all is held at its first call, and is let go alone.
+    /// As many workers as were wanted have come, and none was released before. One thread that does
+    /// the work of all is held at its first call, and is released alone.
     pub fn has_met(&self) -> bool {
         self.is_full() && self.in_vain.load(SeqCst) == 0
     }

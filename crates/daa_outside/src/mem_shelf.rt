@@ -102,7 +102,7 @@ impl Shelf for MemShelf {
     }
 }
 
-/// The text at the first place of the name, where there is one.
+/// The text at the first index of the name, if there is one.
 fn find_text<'a>(names: &[String], texts: &'a [Vec<u8>], name: &str) -> Option<&'a Vec<u8>>
     ensures { let held = text_under (map string_bytes names.now)
         (map vec_items texts.now) name.now in
@@ -114,7 +114,7 @@ fn find_text<'a>(names: &[String], texts: &'a [Vec<u8>], name: &str) -> Option<&
     }
 }
 
-/// The first place at which a list has the name.
+/// The first index at which a list has the name.
 fn find_place(names: &[String], name: &str) -> Option<usize>
     ensures { result ≡ position (λ held. bytes_eq (string_bytes held) name.now) names.now }
 {

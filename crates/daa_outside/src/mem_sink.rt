@@ -8,7 +8,7 @@ use crate::pieces::moved;
 use crate::sink::Sink;
 use std::marker::Model;
 
-/// A vector that takes bytes in pieces of given sizes, with faults at given calls and where it is
+/// A vector that takes bytes in pieces of given sizes, with faults at given calls and when it is
 /// full.
 #[derive(Drop)]
 pub struct MemSink {

@@ -3,7 +3,7 @@
 ghost use Rattle.std.specs.Prelude.{◌≡◌, ◌≤◌, ◌+◌, ◌++◌, length, take, drop, min};
 ghost use Rattle.daa_outside.specs.Pieces.{moved_by};
 
-/// How many of `count` bytes the call moves: at most its place in the list, where 0 counts as 1.
+/// How many of `count` bytes the call moves: at most its size in the list, where 0 counts as 1.
 /// Past the end of the list there is no bound.
 pub(crate) fn moved(pieces: &[usize], call: u64, count: usize) -> usize
     ensures { result ≡ moved_by pieces.now call count }

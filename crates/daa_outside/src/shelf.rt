@@ -13,7 +13,7 @@ pub(crate) const LONGEST_TEXT: usize = 65536;
 /// Why a text was not fetched.
 #[derive(Clone, Copy, Debug, PartialEq, Eq, Error)]
 pub enum FetchFault {
-    /// The shelf failed, or holds nothing under the name: its count of faults rose.
+    /// The shelf failed, or holds nothing under the name: its fault counter rose.
     #[error("the shelf failed, or holds no text under the name")]
     Failed,
     /// The text under the name has more than 65536 bytes.
@@ -33,8 +33,8 @@ pub trait Shelf {
     // other.
     ghost faults: { Self → ℕ };
 
-    /// A copy of the text under the name, which has at most 65536 bytes. A longer one is `TooLong`
-    /// or `Failed`, and a name that is not there is `Failed`. The copy may find no memory.
+    /// A copy of the text under the name, which has at most 65536 bytes. A longer text is `TooLong`
+    /// or `Failed`, and a missing name is `Failed`. The copy may find no memory.
     fn fetch(&mut self, alloc: Global, name: &str) -> Result<Vec<u8>, FetchFault>
         ensures held { IfOk result
             (λ text. IfSome (texts self.old) (λ held. held name.now ≡ Some text.items)) }

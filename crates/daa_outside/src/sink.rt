@@ -15,7 +15,7 @@ pub trait Sink {
     // other.
     ghost faults: { Self → ℕ };
 
-    /// Takes bytes from the front of `piece`, and says how many: at least one of a piece that is
+    /// Takes bytes from the front of `piece`, and returns how many: at least one if the piece is
     /// not empty. A call that fails takes nothing.
     fn write(&mut self, piece: &[u8]) -> Result<usize, Failed>
         ensures within { IfOk result (λ n. n ≤ length piece.now) }

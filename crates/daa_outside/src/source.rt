@@ -15,8 +15,8 @@ pub trait Source {
     // other.
     ghost faults: { Self → ℕ };
 
-    /// Hands out the next bytes into the front of `buf`, and says how many. An answer of 0 into a
-    /// buffer that is not empty is the end of the input. A call that fails hands out nothing.
+    /// Hands out the next bytes into the front of `buf`, and returns how many. 0 for a buffer that
+    /// is not empty is the end of the input. A call that fails hands out nothing.
     fn read(&mut self, buf: &mut [u8]) -> Result<usize, Failed>
         ensures within { IfOk result (λ n. n ≤ length buf.old) }
         ensures next { IfOk result

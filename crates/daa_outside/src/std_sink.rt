@@ -20,8 +20,8 @@ impl<W: Write> StdSink<W> {
     ghost use Rattle.std.specs.Prelude.{◌≡◌};
     ghost use Rattle.daa_outside.specs.StdSink.{writer_of, faults_of};
 
-    /// A sink over this writer. Each error of the writer is a fault, and so is a write of no bytes
-    /// of a piece that is not empty.
+    /// A sink over this writer. Each error of the writer is a fault, and so is a write that takes
+    /// no byte of a piece that is not empty.
     pub fn new(writer: W) -> Self
         ensures writer { writer_of result ≡ writer }
         ensures faults { faults_of result ≡ 0 }
@@ -66,7 +66,7 @@ impl<W: Write> Sink for StdSink<W> {
     }
 }
 
-/// Writes a beginning of the piece and flushes it; says how many bytes were written.
+/// Writes a beginning of the piece and flushes it; returns how many bytes were written.
 fn write_and_flush<W: Write>(writer: &mut W, piece: &[u8]) -> io::Result<usize>
     ensures within { IfOk result (λ n. n ≤ length piece.now) }
     ensures appended { IfOk result

@@ -10,10 +10,10 @@ use crate::seat::{Piece, Seat};
 use daa_range::{pack, unpack};
 
 impl Pool {
-    /// A unit to answer, for a seat of this pool that holds no piece and is not over. Where the own
-    /// range is empty, the others are looked at from the next number round. The own range is looked
-    /// at once, and again only by an exchange that failed and showed a shorter one. With `None` the
-    /// seat is over, after one more look at the own range: it was empty, and each other worker's
+    /// A unit to answer, for a seat of this pool that holds no piece and is not over. It looks at
+    /// its own range once, and again only by an exchange that failed and showed a shorter range. If
+    /// its own range is empty, it looks at the others from the next number round. With `None` the
+    /// seat is over, after one more look at its own range: it was empty, and each other worker's
     /// range had fewer than two units, or changed, at a look of this call.
     pub fn claim(&self, seat: &mut Seat) -> Option<Piece>
         requires pool { IsSeatOf self.now seat.old }

@@ -14,11 +14,11 @@ use crate::rule::JoinSeat;
 use crate::seat::Seat;
 
 impl Pool {
-    /// Fills the words with the answers in order of units. All seats of this pool are given, each
-    /// of them over, and there is a word for each unit. Over all seats each unit was settled once,
+    /// Fills the words with the answers in order of units. It takes all seats of this pool, each
+    /// of them over, and a word for each unit. Over all seats each unit was settled once,
     /// and the steps that the seats made are one history of the core, none of them refused, from
-    /// the opening until all workers have ended; what a seat found where it looked was so at a
-    /// point of it.
+    /// the opening until all workers have ended; each look of a seat was true at a point of this
+    /// history.
     pub fn gather(self, mut seats: Vec<Seat>, words: &mut [u64])
         requires seats { All (λ seat. IsDone self seat) seats.items }
         requires all { AreAll (workers_of self) seats.items }

@@ -37,11 +37,11 @@ fn sheet_event<R: Threads + Sync, G: Gate>(
 {
     sheet.clear();
     let _said = write_event(tools, engine, sheet, event);
-    // its clause says that a write to it failed only where it is full
+    // its clause says that a write to it failed only if it is full
     let _text = sheet.text();
 }
 
-/// Comparing goes on where the text matched.
+/// Comparing goes on if the text matched.
 fn stop_of(found: Found) -> Result<(), Found>
     ensures same { found_in result ≡ found }
     ensures stops { Stops result }
@@ -77,7 +77,7 @@ fn judge_event<R: Threads + Sync, S: Source, G: Gate>(
     stop_of(matching.compare(source, sheet.text()))
 }
 
-/// Takes the line that waits, if one does, and compares what it gives.
+/// Takes the line that is ready, if there is one, and compares the text of its event.
 fn judge_line<R: Threads + Sync, S: Source, G: Gate>(
     tools: &Tools<'_, R, G>,
     engine: &mut Engine,
@@ -111,7 +111,7 @@ fn judge_line<R: Threads + Sync, S: Source, G: Gate>(
     }
 }
 
-/// Feeds a piece of the states, and compares what the lines that it ends give.
+/// Feeds a piece of the states, and compares the texts of the lines that it ends.
 fn judge_piece<R: Threads + Sync, S: Source, G: Gate>(
     tools: &Tools<'_, R, G>,
     engine: &mut Engine,
@@ -182,7 +182,7 @@ fn judge_last<R: Threads + Sync, S: Source, G: Gate>(
     }
 }
 
-/// The states are over: compares what their last line gives, and what their end gives.
+/// The states are over: compares the text of their last line and that of their end.
 fn judge_end<R: Threads + Sync, S: Source, G: Gate>(
     tools: &Tools<'_, R, G>,
     engine: &mut Engine,
@@ -251,7 +251,7 @@ fn judge_states<R: Threads + Sync, S: Source, G: Gate>(
     }
 }
 
-/// What the bytes of the source are, of which at most `most` are read, compared with the report of
+/// Compares the bytes of the source, of which at most `most` are read, with the report of
 /// the states.
 fn judge_all<R: Threads + Sync, S: Source, G: Gate>(
     tools: &Tools<'_, R, G>,
@@ -277,8 +277,8 @@ fn judge_all<R: Threads + Sync, S: Source, G: Gate>(
     }
 }
 
-/// Compares what the source gives, of which at most `most` bytes are read, with the report of the
-/// states, and writes what it finds.
+/// Compares the bytes of the source, of which at most `most` are read, with the report of the
+/// states, and writes the result.
 pub(crate) fn run_judge<R: Threads + Sync, S: Source, K: Sink, G: Gate>(
     tools: &Tools<'_, R, G>,
     engine: &mut Engine,

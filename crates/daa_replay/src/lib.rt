@@ -1,7 +1,7 @@
 //! The program: reads its command words and the configuration that they name. A replay then reads
-//! state lines from a source and writes their report to a sink: each ended moment gives its lines,
-//! which the engine writes; each refused line gives its number and the code of its fault. An
-//! exercise writes the summary of moments that are drawn. A comparison says whether a report is
+//! state lines from a source and writes their report to a sink: the lines of each ended moment,
+//! which the engine writes, and the number of each refused line with the code of its fault. An
+//! exercise writes the summary of moments that are drawn. A comparison writes whether a report is
 //! that of given states.
 #![tactic(auto)]
 

@@ -1,4 +1,4 @@
-//! The events of lines: each line that is taken gives a refusal, an ended moment, or nothing.
+//! The events of lines: each line is a refusal, an ended moment, or nothing.
 
 ghost use Rattle.std.specs.Prelude.{◌≡◌, ◌<◌, ◌^◌, ◌↔◌, ◌++◌, ◌+◌, List, true, false, IsSome, IfSome, IfOk, ◌∷◌, []};
 ghost use Rattle.daa_lines.specs.LinesOf.{Bytes};
@@ -21,7 +21,7 @@ pub enum Event {
     Ended(Picture),
 }
 
-/// The word of the line that waits, read in this format; the line is taken.
+/// The word of the line that is ready, read in this format; the line is taken.
 fn take_word(lines: &mut Lines, format: u32) -> Option<Result<Word, LineFault>>
     requires { IsFormat format }
     ensures stood { IsSome result ↔ (is_standing lines.old.stage ≡ true) }
@@ -38,7 +38,7 @@ fn take_word(lines: &mut Lines, format: u32) -> Option<Result<Word, LineFault>>
     }
 }
 
-/// The event of a word, if it has one; the word steps the moments.
+/// The event of a word, if it has one; the word changes the moments.
 fn step(moments: &mut Moments, number: u64, word: Result<Word, LineFault>) -> Option<Event>
     requires range { IfOk word IsWordInRange }
     ensures given { given_with [] result ≡ line_event number (word_step moments.old word) }
@@ -55,7 +55,7 @@ fn step(moments: &mut Moments, number: u64, word: Result<Word, LineFault>) -> Op
     }
 }
 
-/// Takes the line that waits, if one does, and gives its event, if it has one.
+/// Takes the line that is ready, if there is one, and returns its event, if it has one.
 pub(crate) fn take_event(lines: &mut Lines, moments: &mut Moments) -> Option<Event>
     ensures free { is_standing lines.new.stage ≡ false }
     ensures ended { lines.new.ended ≡ lines.old.ended }

@@ -49,7 +49,7 @@ pub(crate) enum Unready {
     NoMemory,
 }
 
-/// What a refused configuration makes of a run.
+/// How a run with a refused configuration ends.
 fn cause_of(fault: ConfigFault) -> Unready
     ensures { result ≡ unready_of fault }
 {
@@ -59,7 +59,7 @@ fn cause_of(fault: ConfigFault) -> Unready
     }
 }
 
-/// The configuration that the text is.
+/// The configuration of the text.
 fn read_text(alloc: Global, text: &[u8]) -> Result<Config, Unready>
     ensures { ReadsAs text.now result }
 {

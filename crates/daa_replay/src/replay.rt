@@ -57,7 +57,7 @@ pub(crate) fn any_refusal(before: bool, event: &Event) -> bool
     before || matches!(event, Event::Refused(_, _))
 }
 
-/// Takes the line that waits, if one does, and writes what it gives.
+/// Takes the line that is ready, if there is one, and writes the text of its event.
 fn write_line<R: Threads + Sync, K: Sink, G: Gate>(
     tools: &Tools<'_, R, G>,
     engine: &mut Engine,
@@ -84,7 +84,7 @@ fn write_line<R: Threads + Sync, K: Sink, G: Gate>(
     }
 }
 
-/// Feeds a piece, and writes what the lines that it ends give.
+/// Feeds a piece, and writes the texts of the lines that it ends.
 fn write_piece<R: Threads + Sync, K: Sink, G: Gate>(
     tools: &Tools<'_, R, G>,
     engine: &mut Engine,
@@ -115,7 +115,7 @@ fn write_piece<R: Threads + Sync, K: Sink, G: Gate>(
     Ok(())
 }
 
-/// The input is over: writes what its last line gives, and what its end gives. Says whether some
+/// The input is over: writes the text of its last line and that of its end. Returns whether some
 /// line was refused.
 fn write_end<R: Threads + Sync, K: Sink, G: Gate>(
     tools: &Tools<'_, R, G>,
@@ -145,7 +145,7 @@ fn write_end<R: Threads + Sync, K: Sink, G: Gate>(
     }
 }
 
-/// Takes a piece, and answers whether what it gives was written.
+/// Takes a piece, and returns whether its text was written.
 fn take_piece<R: Threads + Sync, K: Sink, G: Gate>(
     tools: &Tools<'_, R, G>,
     engine: &mut Engine,
@@ -165,7 +165,7 @@ fn take_piece<R: Threads + Sync, K: Sink, G: Gate>(
     }
 }
 
-/// Reads for the taker: by turns where `places` is 0, else ahead of it by up to `places` pieces.
+/// Reads for the taker: in turn if `places` is 0, else ahead of it by up to `places` pieces.
 fn read_for<R: Threads + Sync, S: Source + Send, T: Taker + Send, G>(
     tools: &Tools<'_, R, G>,
     source: &mut S,
@@ -253,8 +253,8 @@ fn write_rest<R: Threads + Sync, K: Sink, G: Gate>(
     }
 }
 
-/// Writes the report of what the source gives, of at most `most` bytes, under this configuration;
-/// read by turns where `places` is 0, and else ahead by up to `places` pieces.
+/// Writes the report of the source's bytes, at most `most` of them, under this configuration. It
+/// reads in turn if `places` is 0, and else ahead by up to `places` pieces.
 pub(crate) fn run_replay<R: Threads + Sync, S: Source + Send, K: Sink + Send, G: Gate>(
     tools: &Tools<'_, R, G>,
     engine: &mut Engine,

@@ -1,4 +1,4 @@
-//! How a run ends, and the line that says why it could not begin.
+//! How a run ends, and the line that is written if start-up failed.
 
 ghost use Rattle.std.specs.Prelude.{◌≡◌, OnErr, OnOk};
 ghost use Rattle.daa_replay.specs.Inside.Status.{WritesCode, WritesReason, code_of};

@@ -1,4 +1,4 @@
-//! The shared value: what its ends know of it, and how the next takes the place of what is shown.
+//! The shared value: what its ends know of it, and how the next value replaces the one shown.
 
 use crate::latest::Latest;
 use atomic_table::{Join, Split};
@@ -56,7 +56,7 @@ impl Join<Option<Latest>> for Tell {
     ghost spent = { None };
 }
 
-/// What is shown next takes the place of what is shown.
+/// The next value replaces the one shown.
 impl Absorb<Latest> for Latest {
     type State = Latest;
 

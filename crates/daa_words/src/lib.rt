@@ -6,7 +6,7 @@
 //! daidalus judge --config FILE --states FILE [--workers N]
 //! ```
 //!
-//! Which words are taken is clap's to decide, by a definition that is written in clap's own words;
+//! clap decides which words are taken, by a definition that is written in clap's own terms;
 //! what is taken is read into an [`Order`].
 #![tactic(auto)]
 
