@@ -31,7 +31,7 @@ pub record AddsWord (group word : ℕ) (old new : List ℕ) : Type 0 where
       → slice_index new index ≡ slice_index old index
   pub same_size : length new ≡ length old
 
--- the board has a level for a candidate exactly where the candidate is covered at the level, and nothing else
+-- the board has a level for a candidate exactly if the candidate is covered at the level, and nothing else
 pub record IsBoardOf (Covered : ℕ → ℕ → Type 0) (s : Settings) (board : List ℕ) : Type 0 where
   pub each : (index l : ℕ) → index < length (candidates_of s) → 1 ≤ l → l ≤ length s.levels → HasLevelOn board index l ↔ Covered index l
   pub no_level_above : (index l : ℕ) → length s.levels < l → HasLevelOn board index l → ⊥

@@ -1,6 +1,6 @@
-//! The levels of all candidates of a moment, and the bands that they make. A [`Board`] keeps a mask
-//! of levels for each candidate; [`runs`] gives the stretches of a kind's values that show the same
-//! level. Nothing here takes memory.
+//! The levels of all candidates of a moment, and the bands that they form. A [`Board`] keeps a mask
+//! of levels for each candidate; [`runs`] returns the stretches of a kind's values that show the
+//! same level. Nothing here takes memory.
 #![tactic(auto)]
 
 mod band;

@@ -32,8 +32,8 @@ pub fn blank(alloc: Global) -> std::result::Result<MemSink, AllocError>
 }
 
 impl Display {
-    /// Draws what the screen sees. Where there was no memory for a drawing, or it does not fit, the
-    /// last one stays, and this is false.
+    /// Draws what the screen sees. If there was no memory for a drawing, or it does not fit, the
+    /// last one stays, and this returns false.
     pub fn look<R: Threads + Sync>(&mut self, rt: &R, alloc: Global) -> bool
         ensures seen { GoesOn self.old.screen self.new.screen }
         ensures drawn { IsTrue result → IsDrawn self.new }

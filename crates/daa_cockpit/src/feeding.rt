@@ -8,7 +8,7 @@ use daa_screen::Feed;
 use daa_state::{LineFault, Moments, Picture, read_line};
 use std::sync::Wait;
 
-/// The picture, where the line ends a moment.
+/// The picture, if the line ends a moment.
 fn take_line(moments: &mut Moments, line: &str) -> std::result::Result<Option<Picture>, LineFault>
     ensures { IfOk result (λ picture. IfSome picture IsPictureInRange) }
 {

@@ -18,7 +18,7 @@ use daa_taumod::Volume;
 use daa_vwindow::window;
 
 /// A time of the leg at which it violates the volume, horizontally and vertically at that one time,
-/// and `None` exactly where it does so at no fraction of the leg. It need not be the first such
+/// and `None` exactly if it does so at no fraction of the leg. It need not be the first such
 /// time. A leg that stays far away on some axis is refused by a few products of 64 bits.
 pub fn hits(leg: &Leg, volume: &Volume) -> Option<Point>
     requires leg { IsLegInRange leg.now }
@@ -43,7 +43,7 @@ pub fn is_hit(leg: &Leg, volume: &Volume) -> bool
 }
 
 /// As `hits`, without the box test. Within the vertical window the nearest time decides: the first
-/// where the distance grows there, the last where it still falls there, and else the closest
+/// if the distance grows there, the last if it still falls there, and else the closest
 /// approach, at which a line that comes within `dthr` is within `dthr`. It takes two products of
 /// 128 bits for a line that misses or that is nearest inside the window, else four.
 pub(crate) fn nearest_hit(leg: &Leg, volume: &Volume) -> Option<Point>

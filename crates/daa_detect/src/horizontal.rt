@@ -81,7 +81,7 @@ fn is_tau_within(motion: &Motion, point: &Point, secs: u32) -> bool
     rate as i128 * later as i128 <= (point.den * point.den) as i128 * motion.margin
 }
 
-/// Whether the closest approach is at most `secs` seconds off, where the distance falls.
+/// Whether the closest approach is at most `secs` seconds off, if the distance falls.
 fn is_closest_within(motion: &Motion, point: &Point, secs: u32) -> bool
     requires small { HasSmallNumbers point.now }
     requires secs { secs ≤ 120 }

@@ -16,8 +16,8 @@ pub fn toward(now: i64, target: i64, rate: i64) -> i64
     (now - rate).max((now + rate).min(target))
 }
 
-/// A law of the definition: what `toward` answers is the one number at most `rate` away from `now`
-/// that is nearest to the target.
+/// A law of the definition: of all numbers at most `rate` away from `now`, `toward` returns the
+/// nearest to the target.
 pub fn toward_is_nearest()
     ensures { (now target rate x : ℤ) → pos 0 ≤ℤ rate →
         (x ≡ toward_of now target rate) ↔ IsNearestWithin now target rate x }

@@ -1,4 +1,4 @@
--- Whether a leg violates a volume at some time, in a form that can be computed: by trying. It does so at some fraction exactly where it
+-- Whether a leg violates a volume at some time, in a form that can be computed: by trying. It does so at some fraction exactly if it
 -- does so at one whose denominator is at most 2^33.
 use Rattle.std.specs.Prelude.{ℕ, zero, suc, ◌^◌, ℤ, pos, ◌+ℤ◌, ◌*ℤ◌, neg_ℤ, unsigned_abs, Bool, false, ◌&&◌, ◌||◌, int_le, int_lt}
 use Rattle.daa_fixed.specs.declared.Leg.{Leg}

@@ -1,5 +1,5 @@
-//! The same walk along a flight whose legs are kept: what is asked of it more than once is flown
-//! once. Where the flight is straight the rest is tested as one leg.
+//! The same walk along a flight whose legs are kept: a flight that is tested more than once is
+//! flown once. From where the flight is straight the rest is tested as one leg.
 
 ghost use Rattle.std.specs.Prelude.{◌≡◌, ◌≤◌, ◌<◌, ◌↔◌, IsTrue};
 ghost use Rattle.daa_taumod.specs.Volume.{IsVolumeInRange};
@@ -16,8 +16,8 @@ use daa_legs::{OwnRun, Trunk, relative, relative_run};
 use daa_state::{Own, Traffic};
 use daa_taumod::Volume;
 
-/// What `meets_between` answers, of a candidate whose first `upto` legs are kept and which keeps
-/// one velocity from leg `settles` on: whether its flight violates the volume round the aircraft at
+/// As `meets_between`, for a candidate whose first `upto` legs are kept and which keeps one
+/// velocity from leg `settles` on: whether its flight violates the volume around the aircraft at
 /// some time of a leg from `first` on, before `upto`, which is at most 180.
 pub fn meets_along(
     config: &Config,

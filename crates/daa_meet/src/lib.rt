@@ -1,5 +1,5 @@
-//! Whether a candidate's flight violates a volume round an aircraft between two of its seconds, and
-//! what decides it. Nothing here takes memory.
+//! Decides whether a candidate's flight violates a volume around an aircraft between two of its
+//! seconds. Nothing here takes memory.
 #![tactic(auto)]
 
 mod kept;

@@ -15,7 +15,7 @@ use daa_taumod::Volume;
 
 /// Whether the candidate's flight violates the volume round the aircraft at some time of a leg from
 /// `first` on, before `upto`, which is at most 180. Leg k is the second from k to k + 1, both ends
-/// included; where `upto` is not above `first` there is none.
+/// included; if `upto` is not above `first` there is none.
 pub fn meets_between(
     config: &Config,
     own: &Own,

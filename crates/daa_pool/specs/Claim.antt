@@ -71,7 +71,7 @@ IsTaking number steps =
     ⊎ ((other : ℕ) × (steps ≡ Steal number other ∷ []))
     ⊎ ((other : ℕ) × (steps ≡ Steal number other ∷ Keep number ∷ []))
 
--- a call that gives the piece of a unit: it looked at the own range once, and again only where an exchange showed a shorter one
+-- a call that gives the piece of a unit: it looked at the own range once, and again only if an exchange showed a shorter one
 pub record Claims (before after : View) (unit : ℕ) : Type 0 where
   pub seen : List Look
   pub steps : List Step

@@ -7,7 +7,7 @@ use std::env;
 use std::io::ErrorKind;
 use std::process::ExitCode;
 
-/// The status where there is no memory for the command words.
+/// The status if there is no memory for the command words.
 const NO_MEMORY: u8 = 6;
 
 /// Hands the command words and the real objects to `run`, and ends with its status.

@@ -8,9 +8,9 @@ ghost use Rattle.daa_quad.specs.Inside.Slope.{slope_of};
 use crate::{Quad, Sign, sign_at};
 use daa_fixed::Point;
 
-/// A time from `from` to `upto` whose value no fraction between them undercuts; which one, where
-/// several are least, is left open. The vertex `-b/2a`, where it lies between the two, has to be a
-/// point in range; one that lies outside is never made into a point.
+/// A time of least value from `from` to `upto`; if there are several, which one is left open. If
+/// the vertex `-b/2a` lies between the two, it must be a
+/// point in range; a vertex outside is never made into a point.
 pub fn least_point(q: &Quad, from: &Point, upto: &Point) -> Point
     requires in_order { IsInOrder from.now upto.now }
     requires vertex { HasVertexInRange q.now from.now upto.now }
@@ -26,7 +26,7 @@ pub fn least_point(q: &Quad, from: &Point, upto: &Point) -> Point
     vertex(q)
 }
 
-/// A time from `from` to `upto` at which the value is at most 0, and `None` exactly where it is
+/// A time from `from` to `upto` at which the value is at most 0, and `None` exactly if it is
 /// above 0 at every fraction between them. The conditions are those of `least_point`.
 pub fn dips(q: &Quad, from: &Point, upto: &Point) -> Option<Point>
     requires in_order { IsInOrder from.now upto.now }

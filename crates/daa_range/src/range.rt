@@ -52,7 +52,7 @@ impl Range {
         self.len() == 0
     }
 
-    /// The range of the first unit alone, where there is one.
+    /// The range of the first unit alone, if there is one.
     pub fn first_unit(self) -> Range
         requires { 0 < span_len self }
         ensures { result ≡ first_unit_of self }
@@ -63,7 +63,7 @@ impl Range {
         }
     }
 
-    /// All but the first unit, where there is one.
+    /// All but the first unit, if there is one.
     pub fn rest(self) -> Range
         requires { 0 < span_len self }
         ensures { result ≡ rest_of self }

@@ -1,4 +1,4 @@
-//! Recovery: where every candidate of a kind loses well-clear, how soon one of them has it again.
+//! Recovery: if every candidate of a kind loses well clear, how soon one of them is clear again.
 //! Nothing here takes memory.
 #![tactic(auto)]
 

@@ -86,8 +86,8 @@ impl<'a> Outlook<'a> {
         found
     }
 
-    /// What is found of the candidates of a kind up to that at a place, where `found` is what was
-    /// found of those before it.
+    /// The best of the candidates of a kind up to the one at a place; `found` is the best of those
+    /// before it.
     fn better(&self, kind: Kind, place: u32, found: Option<Recovery>) -> Option<Recovery>
         requires place { place < length (values_of kind self.now.settings) }
         requires found { IsFoundBelow self.now kind place found }
@@ -111,7 +111,7 @@ impl<'a> Outlook<'a> {
         }
     }
 
-    /// The least time below a bound at which the candidate recovers, where there is one.
+    /// The least time below a bound at which the candidate recovers, if there is one.
     fn sooner(&self, candidate: Candidate, bound: u32) -> Option<u32>
         requires { IsCandidateInRange candidate }
         ensures { IsLeastTime self.now candidate bound result }

@@ -17,8 +17,8 @@ pub struct Recovery {
 }
 
 /// The least number of seconds after which some candidate of the kind recovers, with the first such
-/// candidate of the rising list; None exactly where none recovers. The configuration must ask for
-/// it by its table of recovery.
+/// candidate of the rising list; None exactly if none recovers. The configuration must have a
+/// table of recovery.
 pub fn least(config: &Config, picture: &Picture, kind: Kind) -> Option<Recovery>
     requires asked { config.now.recovery ≢ None }
     requires picture { IsPictureInRange picture.now }

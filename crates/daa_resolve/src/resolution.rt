@@ -43,7 +43,7 @@ fn best(board: &Board, config: &Config, own: &Own, kind: Kind, side: Side) -> Op
     best
 }
 
-/// The nearer of the nearest so far and the next place, where that is open and on the side.
+/// The nearer of the nearest so far and the next value, if that is open and on the side.
 fn better(
     board: &Board,
     config: &Config,

@@ -18,7 +18,7 @@ pub enum Side {
     Upper,
 }
 
-/// What the ownship has now of what a kind changes.
+/// The ownship's present value of a kind.
 pub(crate) fn present(own: &Own, kind: Kind) -> i32
     ensures { result ≡ present_of kind own.now }
 {

@@ -107,7 +107,7 @@ impl Core {
     }
 }
 
-// What each step does where nothing refuses it.
+// What each step does if nothing refuses it.
 impl Core {
     /// The worker takes the first unit of its range into its hand.
     pub(crate) fn claim(&mut self, by: u32)

@@ -17,7 +17,7 @@ pub fn every_run_is_whole()
         → AreAnswers answers → IsWhole (run (opened answers workers) steps) }
 {}
 
-/// Where all workers have ended, the board is the list of answers.
+/// If all workers have ended, the board is the list of answers.
 pub fn a_run_to_the_end_answers_all()
     ensures { (answers : List ℕ) (workers : ℕ) (steps : List Step) → 0 < workers
         → AreAnswers answers → AllEnded (run (opened answers workers) steps)

@@ -1,5 +1,5 @@
-//! States from numbers: which of a caller's numbers is out of its range, or the value, of which
-//! contracts then know every range.
+//! States from numbers: the value, all of whose ranges contracts then know, or which of a caller's
+//! numbers is out of its range.
 
 ghost use Rattle.std.specs.Prelude.{◌≡◌, ◌<◌, length, true, false, slice_get, Some, None, IfOk, IfErr, OnOk, pos};
 ghost use Rattle.daa_state.specs.Checked.{range_of, is_within, outside, first_outside, number_of, own_numbers, traffic_numbers, IsTakenAt, AreTaken, IsPictureFault};
@@ -40,7 +40,7 @@ pub enum Field {
     Age,
 }
 
-/// A number of a state is out of its range: what it is, and the least and the greatest that it may
+/// A number of a state is out of its range: its field, and the least and the greatest that it may
 /// be.
 #[derive(Clone, Copy, Debug, PartialEq, Eq)]
 pub struct OutOfRange {
@@ -194,7 +194,7 @@ fn traffic_numbers(aircraft: &Traffic) -> [Number; 7]
 }
 
 impl Own {
-    /// The same ownship, where each of its numbers is in its range; else the first that is not, in
+    /// The same ownship, if each of its numbers is in its range; else the first that is not, in
     /// the order of the fields.
     #[tactic(auto, using(crate::proofs::TakenLemmas::own_range))]
     pub fn checked(self) -> Result<Own, OutOfRange>
@@ -208,7 +208,7 @@ impl Own {
 }
 
 impl Traffic {
-    /// The same aircraft, where each of its numbers is in its range; else the first that is not, in
+    /// The same aircraft, if each of its numbers is in its range; else the first that is not, in
     /// the order of the fields.
     #[tactic(auto, using(crate::proofs::TakenLemmas::traffic_range))]
     pub fn checked(self) -> Result<Traffic, OutOfRange>
@@ -252,9 +252,9 @@ fn test_aircraft(traffic: &[Traffic], own: &Own, place: usize) -> Result<(), Pic
 }
 
 impl Picture {
-    /// The picture of this time in seconds, this ownship and these aircraft, where each of their
-    /// numbers is in its range and there are at most 64 aircraft of different identifiers; else why
-    /// it is none.
+    /// The picture of this time in seconds, this ownship and these aircraft, if each of their
+    /// numbers is in its range and there are at most 64 aircraft with different identifiers; else
+    /// why there is no picture.
     pub fn checked(time: u32, own: Own, traffic: &[Traffic]) -> Result<Picture, PictureFault>
         ensures time { IfOk result (λ picture. picture.time ≡ time) }
         ensures own { IfOk result (λ picture. picture.own ≡ own) }

@@ -43,7 +43,7 @@ impl Model for Id {
 }
 
 impl Id {
-    /// The identifier of these bytes; `None` exactly where they are no identifier.
+    /// The identifier of these bytes; `None` exactly if they are no identifier.
     pub fn of(bytes: &[u8]) -> Option<Id>
         ensures { SomeIff result (IsTrue (is_id bytes.now)) bytes.now }
     {
@@ -67,7 +67,7 @@ impl Id {
     }
 }
 
-/// Two identifiers are equal exactly where their bytes are.
+/// Two identifiers are equal exactly if their bytes are.
 impl PartialEq for Id {
     ghost use Rattle.std.specs.Str.{bytes_eq};
     ghost use Rattle.std.specs.Cmp.Rules.{comparing};

@@ -1,5 +1,5 @@
-//! State lines to moments: `read_line` gives the word that a line says, and `Moments` steps from
-//! word to word and gives a picture at the end of each moment. A line or a word that does not fit
+//! State lines to moments: `read_line` returns the word of a line, and `Moments` takes word after
+//! word and returns a picture at the end of each moment. A line or a word that does not fit
 //! is refused with one fault and changes nothing. Nothing here takes memory.
 #![tactic(auto)]
 

@@ -105,7 +105,7 @@ impl Moments {
         self.format
     }
 
-    /// The end of the input: `Unfinished` exactly where a moment is open.
+    /// The end of the input: `Unfinished` exactly if a moment is open.
     pub fn finish(&self) -> Result<(), LineFault>
         ensures { result ≡ finished self.now }
     {
@@ -116,7 +116,7 @@ impl Moments {
     }
 }
 
-/// The moment that begins, where none is open and its time is later than the last.
+/// The moment that begins, if none is open and its time is later than the last.
 #[tactic(auto, unfolding(crate::specs::MomentStep::begun_moment))]
 fn begin(moment: &Option<Moment>, last: Option<u32>, time: u32) -> Result<Moment, LineFault>
     ensures value { result ≡ begun_moment moment.now last time }

@@ -6,7 +6,7 @@ ghost use Rattle.daa_taumod.specs.Volume.{Violates, ViolatesHorizontally, Violat
 
 use crate::Model;
 
-/// Times of which it is known by hand whether they violate: a touch at exactly `dthr`, half a
+/// Times whose violations were worked out by hand: a touch at exactly `dthr`, half a
 /// second off and with a unit less; both models ten seconds ahead; co-altitude in exactly `tcoa`
 /// and a second later.
 pub fn worked_examples()

@@ -5,8 +5,8 @@
 /// Which time to a horizontal conflict a volume looks at.
 #[derive(Clone, Copy, Debug, PartialEq, Eq)]
 pub enum Model {
-    /// Modified tau: what the square of the distance has above that of `dthr`, over the distance
-    /// times how fast it falls.
+    /// Modified tau: the square of the distance less that of `dthr`, over the distance times its
+    /// rate of decrease.
     Taumod,
     /// The time to the closest approach.
     Tcpa,

@@ -21,8 +21,8 @@ pub fn violates(leg: &Leg, volume: &Volume, point: &Point) -> bool
     violates_horizontally(leg, volume, point) && violates_vertically(leg, volume, point)
 }
 
-/// A law of the two models: where the volume is violated by the time to the closest approach, it is
-/// violated by modified tau too, all thresholds being equal.
+/// A law of the two models: a violation with the time to the closest approach is a violation with
+/// modified tau and equal thresholds.
 pub fn tcpa_implies_taumod()
     ensures { (leg : Leg) (volume : Volume) (n d : ℤ) → pos 1 ≤ℤ d →
         Violates leg (with_model Model.Tcpa volume) n d

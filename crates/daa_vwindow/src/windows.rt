@@ -15,8 +15,8 @@ use daa_fixed::{Leg, Point};
 use daa_taumod::Volume;
 
 /// The first and the last time of the leg at which the vertical part of the volume holds: it holds
-/// at a fraction of the leg exactly where that is not before the first and not after the last.
-/// `None` exactly where it holds at no fraction. The numbers of both times are small: num at most
+/// at a fraction of the leg exactly if that is not before the first and not after the last.
+/// `None` exactly if it holds at no fraction. The numbers of both times are small: num at most
 /// 7200000, den at most 40000.
 pub fn window(leg: &Leg, volume: &Volume) -> Option<(Point, Point)>
     requires leg { IsLegInRange leg.now }

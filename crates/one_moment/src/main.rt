@@ -1,5 +1,5 @@
-//! One moment from numbers: states as a caller has them, decided in the caller's own thread, and
-//! what is asked after it, printed in the words of the report.
+//! One moment from numbers: a caller's states, decided in the caller's own thread, and
+//! the answers, printed in the words of the report.
 #![tactic(auto)]
 
 ghost use Rattle.std.specs.Prelude.{IfOk};
