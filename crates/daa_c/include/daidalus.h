@@ -1,16 +1,16 @@
 /* The detect-and-avoid engine for C and C++: alerts, bands, resolutions and recoveries of a moment, and its report.
  *
- * There is no handle and no global state. What a caller keeps is plain numbers in structs of its own: a configuration
+ * There is no handle and no global state. A caller keeps plain numbers in structs of its own: a configuration
  * (struct daa_config, filled in by hand or by daa_read) and a moment's board of levels (struct daa_board, filled in by
- * daa_decide). Each call answers from what it is handed alone, so calls may run side by side in threads of the caller.
- * No call starts a thread, waits, prints, or keeps a pointer after it returns. daa_read alone takes memory (malloc), and
- * gives it back before it returns. Of the stack a call takes less than 256 KB (measured, not proved).
+ * daa_decide). Each call answers from its arguments alone, so calls may run in parallel in threads of the caller.
+ * No call starts a thread, waits, prints, or keeps a pointer after it returns. Only daa_read takes memory (malloc), and
+ * frees it before it returns. A call takes less than 256 KB of stack (measured, not proved).
  *
- * Each call answers DAA_OK, or another number of the list below; then it has filled in nothing. Every number is looked at,
- * also those of a configuration, so no number that is handed in makes a call undefined.
+ * Each call returns DAA_OK, or another number of the list below; then it has filled in nothing. Every number is checked,
+ * also those of a configuration, so no number passed in makes a call undefined.
  *
- * What the caller must keep, since nothing checks it: each pointer is valid for what it points to, or for the length that
- * follows it, also of length 0, and is not null; what a call fills in overlaps nothing else that the call is handed, and
+ * The caller must ensure, since nothing checks it: each pointer is valid for what it points to, or for the length that
+ * follows it, also of length 0, and is not null; what a call fills in overlaps no other argument of the call, and
  * no other thread reads or writes it at the time. */
 #ifndef DAIDALUS_H
 #define DAIDALUS_H
@@ -22,7 +22,7 @@
 extern "C" {
 #endif
 
-/* What calls answer. 1 to 8 are the faults of a configuration; from numbers alone only 6 to 8 come. */
+/* What calls return. 1 to 8 are the faults of a configuration; for numbers alone only 6 to 8 are returned. */
 enum {
     DAA_OK = 0,
     DAA_CONFIG_TOO_LONG = 1,     /* the text has more than 65536 bytes */
@@ -36,8 +36,8 @@ enum {
     DAA_BAD_OWN = 16,            /* a number of the ownship is out of its range */
     DAA_BAD_TRAFFIC = 17,        /* a number of an aircraft is out of its range */
     DAA_TOO_MANY = 18,           /* there are more than 64 aircraft */
-    DAA_SHORT = 19,              /* the caller's room is too short */
-    DAA_NO_MEMORY = 20,          /* there is no memory; only daa_read answers it */
+    DAA_SHORT = 19,              /* the caller's buffer is too short */
+    DAA_NO_MEMORY = 20,          /* there is no memory; only daa_read returns it */
     DAA_BAD_ID = 21,             /* an aircraft's identifier is not allowed */
     DAA_SAME_ID = 22,            /* two aircraft have one identifier */
     DAA_BAD_KIND = 23,           /* the kind is none of daa_kind */
@@ -68,8 +68,8 @@ struct daa_grid {
 };
 
 /* An alert level. dthr in 0.001 NM (1 to 10000), zthr in ft (0 to 10000), tthr and tcoa in seconds (0 to 120): the well-clear
- * volume. lookahead and alert in seconds (1 to 180): how far ahead candidates and the present flight are looked at. tcpa: 0
- * where the horizontal test is modified tau, 1 where it is the time to the closest approach. */
+ * volume. lookahead and alert in seconds (1 to 180): how far ahead candidates and the present flight are tested. tcpa: 0
+ * if the horizontal test is modified tau, 1 if it is the time to the closest approach. */
 struct daa_level {
     int64_t dthr, zthr, tthr, tcoa, lookahead, alert, tcpa;
 };
@@ -79,9 +79,9 @@ struct daa_level {
  * turn_rate in degrees a second (1 to 30), track_step in degrees (1 to 90, a divisor of 360).
  * gs in 0.1 kt (0 to 10000, step 1 to 10000), vs in ft/min (-10000 to 10000, step 1 to 20000), alt in ft (-2000 to 60000,
  * step 1 to 62000).
- * recovery: 0 where no recovery is asked for, else hdist in 0.001 NM (1 to 10000) and vdist in ft (0 to 10000) are the
+ * recovery: 0 if no recovery is asked for, else hdist in 0.001 NM (1 to 10000) and vdist in ft (0 to 10000) are the
  * cylinder that a recovery stays out of.
- * count: how many levels there are, 1 to 4; level[0] is level 1. Places of level from count on are not read. */
+ * count: how many levels there are, 1 to 4; level[0] is level 1. Elements of level from count on are not read. */
 struct daa_config {
     int64_t resolve, turn_rate, track_step;
     struct daa_grid gs, vs, alt;
@@ -107,7 +107,7 @@ struct daa_traffic {
 };
 
 /* now: the greatest level whose volume is violated now, or 0. level: the greatest level that alerts, or 0. first: the first
- * second of the present flight, counted from 0, in which it violates that level's volume, or -1 where level is 0. */
+ * second of the present flight, counted from 0, in which it violates that level's volume, or -1 if level is 0. */
 struct daa_alert {
     uint32_t now, level;
     int64_t first;
@@ -126,8 +126,8 @@ enum daa_field {
     DAA_AGE = 9             /* age */
 };
 
-/* What is wrong with a state. code: DAA_OK where nothing is, DAA_TOO_MANY, DAA_BAD_OWN, DAA_BAD_ID, DAA_BAD_TRAFFIC or
- * DAA_SAME_ID. place: which aircraft it is, counted from 0 (after DAA_SAME_ID the later of the two), or 0 where it is none.
+/* What is wrong with a state. code: DAA_OK if nothing is, DAA_TOO_MANY, DAA_BAD_OWN, DAA_BAD_ID, DAA_BAD_TRAFFIC or
+ * DAA_SAME_ID. place: which aircraft it is, counted from 0 (after DAA_SAME_ID the later of the two), or 0 if it is none.
  * field: which number (enum daa_field) is out of its range from least to greatest, after DAA_BAD_OWN and DAA_BAD_TRAFFIC; all
  * three are 0 after the others. */
 struct daa_fault {
@@ -135,13 +135,13 @@ struct daa_fault {
     uint64_t place;
 };
 
-/* The levels at which each candidate is covered in a moment: bit l - 1 of mask[i] stands for level l of the candidate at
- * index i of the whole list. It goes with the configuration and the picture of which daa_decide made it. */
+/* The levels at which each candidate is covered in a moment: bit l - 1 of mask[i] means level l of the candidate at
+ * index i of the whole list. Use it only with the configuration and the picture from which daa_decide made it. */
 struct daa_board {
     uint8_t mask[2048];
 };
 
-/* A candidate: its kind, and the value that it goes to, in the kind's unit; 0 where the kind is DAA_HOLD. */
+/* A candidate: its kind, and the value that it goes to, in the kind's unit; 0 if the kind is DAA_HOLD. */
 struct daa_candidate {
     int32_t kind, value;
 };
@@ -152,14 +152,14 @@ struct daa_band {
     uint32_t level;
 };
 
-/* What is answered on a side of a kind. what: 0 where the present flight may be kept, 1 where value is the nearest open
- * one, 2 where there is none; value is 0 but after 1. */
+/* The answer on a side of a kind. what: 0 if the present flight may be kept, 1 if value is the nearest open one, 2 if
+ * there is none; value is 0 unless what is 1. */
 struct daa_resolution {
     int32_t what, value;
 };
 
 /* The recovery of a kind. found: 1, and then after (seconds, from 1 on) is the least time from which on some value is clear,
- * and value the first that is; or 0 where there is none, and after and value are 0. */
+ * and value the first that is; or 0 if there is none, and after and value are 0. */
 struct daa_recovery {
     int32_t found;
     uint32_t after;
@@ -168,12 +168,12 @@ struct daa_recovery {
 
 /* ---- a configuration */
 
-/* Fills in the numbers of a configuration's text of TOML, of size bytes. The numbers are then in their ranges. Places of
- * level from count on stay as they were, and hdist and vdist where no recovery is asked for. */
+/* Fills in the numbers of a configuration's text of TOML, of size bytes. The numbers are then in their ranges. Elements of
+ * level from count on are unchanged, and so are hdist and vdist if no recovery is asked for. */
 int32_t daa_read(const uint8_t *text, size_t size, struct daa_config *config);
 
-/* Whether a configuration is accepted: DAA_OK; DAA_CONFIG_LEVELS where count is above 4; or else the first that applies of
- * DAA_CONFIG_OUT_OF_RANGE, DAA_CONFIG_LEVELS and DAA_CONFIG_TOO_MANY. Every call below that takes a configuration answers
+/* Whether a configuration is accepted: DAA_OK; DAA_CONFIG_LEVELS if count is above 4; or else the first that applies of
+ * DAA_CONFIG_OUT_OF_RANGE, DAA_CONFIG_LEVELS and DAA_CONFIG_TOO_MANY. Every call below that takes a configuration returns
  * these too. */
 int32_t daa_check(const struct daa_config *config);
 
@@ -183,8 +183,8 @@ int32_t daa_candidate(const struct daa_config *config, uint32_t index, struct da
 
 /* ---- states */
 
-/* Fills in what is wrong with an ownship and aircraft, or that nothing is; the answer is DAA_OK either way. What is told is
- * one of the things that are wrong. Every call below that takes a picture answers the same codes. */
+/* Fills in what is wrong with an ownship and aircraft, or that nothing is; it returns DAA_OK either way. It reports
+ * one of the things that are wrong. Every call below that takes a picture returns the same codes. */
 int32_t daa_fault(const struct daa_own *own, const struct daa_traffic *traffic, size_t count, struct daa_fault *out);
 
 /* ---- a moment */
@@ -197,17 +197,17 @@ int32_t daa_alert(const struct daa_config *config, const struct daa_own *own, co
 int32_t daa_decide(const struct daa_config *config, const struct daa_own *own, const struct daa_traffic *traffic, size_t count,
                    struct daa_board *board);
 
-/* Fills in the level (0 to 4) that each candidate shows on a board, in the order of the whole list, and how many there are.
- * DAA_SHORT where room is less; 1897 places are always enough. Places from there on stay as they were. */
+/* Fills in the level (0 to 4) of each candidate on a board, in the order of the whole list, and how many there are.
+ * DAA_SHORT if room is less; 1897 elements are always enough. Elements from count on are unchanged. */
 int32_t daa_levels(const struct daa_config *config, const struct daa_board *board, uint8_t *levels, size_t room, size_t *count);
 
 /* Fills in the bands of a kind on a board, in the rising order of the values, those of level 0 too, and how many there are.
- * DAA_SHORT where room is less than the values of the kind; 512 places are always enough. Places past the bands stay as
- * they were. */
+ * DAA_SHORT if room is less than the values of the kind; 512 elements are always enough. Elements past the bands are
+ * unchanged. */
 int32_t daa_bands(const struct daa_config *config, const struct daa_board *board, int32_t kind, struct daa_band *bands,
                   size_t room, size_t *count);
 
-/* Fills in what is answered on a side of a kind: keep, the nearest open value, or that there is none. The ownship is that of
+/* Fills in the answer on a side of a kind: keep, the nearest open value, or that there is none. The ownship is that of
  * the board's moment. */
 int32_t daa_resolution(const struct daa_config *config, const struct daa_own *own, const struct daa_board *board, int32_t kind,
                        int32_t side, struct daa_resolution *out);
@@ -216,8 +216,8 @@ int32_t daa_resolution(const struct daa_config *config, const struct daa_own *ow
 int32_t daa_recovery(const struct daa_config *config, const struct daa_own *own, const struct daa_traffic *traffic,
                      size_t count, int32_t kind, struct daa_recovery *out);
 
-/* Fills in the text of a moment as the program's report has it, and how many bytes it has; time is in seconds. DAA_SHORT where
- * room is less, and only there; 130176 bytes are always enough. */
+/* Fills in the text of a moment as the program's report has it, and how many bytes it has; time is in seconds. DAA_SHORT if
+ * room is less, and only then; 130176 bytes are always enough. */
 int32_t daa_report(const struct daa_config *config, uint32_t time, const struct daa_own *own, const struct daa_traffic *traffic,
                    size_t count, uint8_t *text, size_t room, size_t *length);
 
