@@ -17,8 +17,8 @@ summary_text seed moments aircraft alerts shown =
     ++ (of_each (λ kind. numbers_line (kind_word kind) (shown kind))
     ++ numbers_line (codes "done") [])))
 
--- the summary of so many moments of a seed under a configuration: over the alert levels of all aircraft of all moments, and
--- over the shown levels of all candidates of each kind
+-- the summary of the first moments of a seed under a configuration: over the alert levels of all
+-- aircraft of all moments, and over the shown levels of all candidates of each kind
 pub record IsSummaryOf (settings : Settings) (seed moments : ℕ) (text : Text) : Type 0 where
   pub alerts : List ℕ
   pub shown : Kind → List ℕ

@@ -14,7 +14,7 @@ traffic_velocity aircraft = record { flat = record { east = aircraft.vx; north =
 abbrev pub reported_place : Traffic → Solid
 reported_place aircraft = record { flat = record { east = pos 36 *ℤ aircraft.x; north = pos 36 *ℤ aircraft.y }; up = pos 60 *ℤ aircraft.alt }
 
--- where it is at second k, counted from now: it has flown on since its report, which is so many seconds old
+-- where it is at second k, counted from now: it has flown straight on since its report
 abbrev pub traffic_place : Traffic → ℕ → Solid
 traffic_place aircraft k = plus (reported_place aircraft) (times (pos (aircraft.age + k)) (traffic_velocity aircraft))
 

@@ -6,7 +6,7 @@ use Rattle.std.specs.Int.{int_min, int_rem_euclid}
 abbrev pub right_angle : (track c : ℤ) → ℤ
 right_angle track c = int_rem_euclid (c -ℤ track) (pos 360)
 
--- the track turned toward c by at most so many degrees: to the right where c is at most 180 degrees to the right, else to the left
+-- the track turned toward c by at most `most` degrees: right if c is at most 180 right, else left
 unfoldable pub turned : (track c most : ℤ) → ℤ
 turned track c most =
     if int_le (right_angle track c) (pos 180)

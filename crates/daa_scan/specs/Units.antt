@@ -36,14 +36,14 @@ pub record IsWordOf (s : Situation) (at group word : ℕ) : Type 0 where
   pub masks : (j : ℕ) → j < group_size → IsMaskOf (MeetsAt s (index_in group j) at) (length s.settings.levels) (mask_in word j)
   pub rest : word < 2 ^ (place_width * group_size)
 
--- the words in order of units: unit u is group u mod g of the aircraft that stands at place u / g among those in reach
+-- the words in order of units: unit u is group u mod g of the aircraft with index u / g in reach
 pub record AreWordsOf (s : Situation) (words : List ℕ) : Type 0 where
   pub places : List ℕ
   pub in_reach : AreInReach s places
   pub count : length words ≡ group_count s.settings * length places
   pub each : (unit : ℕ) → unit < length words → IsWordOf s (slice_index places (unit / group_count s.settings)) (unit % group_count s.settings) (slice_index words unit)
 
--- the word is that of a unit: of group u mod g and the aircraft that stands at place u / g among those in reach
+-- the word is that of a unit: of group u mod g and the aircraft with index u / g in reach
 pub record IsWordOfUnit (s : Situation) (unit word : ℕ) : Type 0 where
   pub places : List ℕ
   pub in_reach : AreInReach s places

@@ -17,7 +17,7 @@ use daa_state::{Moments, Own, Picture, read_line};
 use std::process::Abort;
 use std::test::Fail;
 
-/// A text of a configuration, and parts of it with what stands in their place.
+/// A text of a configuration, and parts of it with their replacements.
 #[derive(Drop)]
 struct Settings {
     text: &'static str,
@@ -51,7 +51,7 @@ fn picture_in(lines: &[&str]) -> Option<Picture>
     None
 }
 
-/// How many branches are kept: one for each candidate, of which there are at most so many.
+/// How many branches are kept: one for each of the at most 1897 candidates.
 const BRANCHES: usize = 1897;
 
 /// The branches of all candidates.

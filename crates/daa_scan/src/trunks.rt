@@ -120,7 +120,7 @@ pub(crate) fn lead_to(own: &Own, kind: Kind, upper: bool) -> Candidate
     }
 }
 
-/// Keeps so many legs of the flight that leads on the side with this place.
+/// Keeps the first `most` legs of the flight that leads on the side with this place.
 fn keep(trunk: &mut Trunk, own: &Own, config: &Config, place: u32, most: u32)
     requires own { IsOwnInRange own.now }
     requires place { place < 8 }

@@ -33,7 +33,8 @@ pub record Shows (words : List ℕ) (workers : ℕ) (core : CoreState) : Type 0 
   pub ranges : (worker : ℕ) → worker < workers → range_at core worker ≡ unpacked (word_at words worker)
   pub board : (unit : ℕ) → unit < unit_count core → word_on core unit ≡ word_at words (workers + unit)
 
--- what holds of a live view, which is that of the seat id. The holder tells for each number which seat has it, and the carrier is the seat that has the count of seats made
+-- what holds of the live view of the seat id. The holder names for each number the seat that has
+-- it, and the carrier is the seat that has the count of seats made
 pub record IsSeated (core : CoreState) (history : List Step) (workers made carrier : ℕ) (holder : ℕ → ℕ) (id : ℕ) (view : View) : Type 0 where
   -- its numbers were given out, and no other seat has them
   pub number : (number : ℕ) → HasNumber view number → (number < made) × (holder number ≡ id)
@@ -41,7 +42,7 @@ pub record IsSeated (core : CoreState) (history : List Step) (workers made carri
   -- all views carry the same answers and number of workers
   pub crew : view.workers ≡ workers
   pub answers : view.answers ≡ core.answers
-  -- the view shows its worker's hand and mark, and its worker's steps in the history, and each of its looks tells what was so
+  -- the view shows its worker's hand, mark and steps in the history; each look is true of some point
   pub hand : hand_at core view.number ≡ view.hand
   pub over : has_ended core view.number ≡ view.over
   pub part : IsPartOf (opened core.answers workers) history (part_of view)
@@ -62,7 +63,9 @@ pub record IsUnmade (core : CoreState) (history : List Step) (words : List ℕ) 
   pub going : has_ended core number ≡ false
   pub moves : steps_of number history ≡ []
 
--- The words and the views show a core that is whole. A history of steps, none of them refused, leads to it from the opening, and each worker's steps in it are those that its view tells, and each look of a view was so at some point of it
+-- The words and the views show a core that is whole. A history of steps, none of them refused,
+-- leads to it from the opening. Each worker's steps in it are those of its view, and each look of a
+-- view was true at some point of it
 pub record Ruled (workers : ℕ) (table : Pools) : Type 0 where
   pub core : CoreState
   pub log : List Step

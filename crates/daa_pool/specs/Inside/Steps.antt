@@ -59,7 +59,7 @@ settles step before found after = Becomes before (settled before.0 step.first) a
 abbrev pub ends : Step (Unit {0}) → Sat → ℕ → Sat → Type 0
 ends step before found after = Becomes before (ended before.0 found) after × (span_len (unpacked found) ≡ 0) × (length before.0.settled ≤ length before.0.answers)
 
--- a seat that has all numbers, each ended, reads an answer, and is told that each unit was settled once and that there is one history
+-- a seat with all numbers, each ended, reads an answer; each unit was settled once, in one history
 abbrev pub reads : Step (Unit {0}) → Sat → ℕ → Sat → Type 0
 reads step before found after =
     Becomes before before.0 after
