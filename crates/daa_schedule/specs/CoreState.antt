@@ -3,8 +3,8 @@ use Rattle.std.specs.Prelude.{◌≡◌, ◌≢◌, ℕ, ◌+◌, ◌-◌, ◌*�
 use Rattle.std.specs.List.{sum_by}
 use Rattle.daa_range.specs.Range.{Span, span, span_len, IsOrdered, times_in}
 
--- for each worker a range, a hand, which is a range too, and whether it has ended; for each unit its
--- answer, and the word on the board, 0 if there is none
+-- for each worker a range, a hand, which is a range too, and whether it has ended;
+-- for each unit its answer, and the word on the board, 0 if there is none
 pub record CoreState : Type 0 where
   pub answers : List ℕ
   pub ranges : List Span

@@ -42,7 +42,7 @@ pub record IsSeated (core : CoreState) (history : List Step) (workers made carri
   -- all views carry the same answers and number of workers
   pub crew : view.workers ≡ workers
   pub answers : view.answers ≡ core.answers
-  -- the view shows its worker's hand, mark and steps in the history; each look is true of some point
+  -- the view shows its worker's hand, mark and steps in the history; each look is true somewhere
   pub hand : hand_at core view.number ≡ view.hand
   pub over : has_ended core view.number ≡ view.over
   pub part : IsPartOf (opened core.answers workers) history (part_of view)
