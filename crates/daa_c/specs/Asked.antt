@@ -1,4 +1,4 @@
--- What calls answer where they answer 0: under the configuration that the numbers are, which is accepted.
+-- What calls fill in if they return 0, under the configuration of the numbers, which is accepted.
 use Rattle.std.specs.Prelude.{◌≡◌, ◌<◌, ◌≤◌, ℕ, ℤ, List, length, map, take, slice_get, Option, Some, None, Ok}
 use Rattle.daa_bands.specs.Board.{HasLevelOn, IsBoardOf, mask_levels}
 use Rattle.daa_bands.specs.KindBands.{AreKindBands}

@@ -1,4 +1,4 @@
--- The configuration that a caller's numbers are.
+-- The configuration of a caller's numbers.
 use Rattle.std.specs.Prelude.{◌≡◌, ℕ, zero, suc, nat_lt, List, take, Option, Some, None, Result, Err, IsOk, if◌then◌else◌}
 use Rattle.daa_config.specs.declared.fault.ConfigFault.{ConfigFault}
 use Rattle.daa_config.specs.declared.fault.ConfigFault.TheVariants.{Levels}

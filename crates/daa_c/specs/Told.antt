@@ -56,6 +56,6 @@ pub record IsWrong (own : DaaOwn) (traffic : List DaaTraffic) (out : DaaFault) :
   pub wrong : (config : DaaConfig) → IsRefusal config own traffic why
   pub told : out ≡ told_by why
 
--- one of the two
+-- it is reported that nothing is wrong, or what is wrong
 abbrev pub IsFaultOf : DaaOwn → List DaaTraffic → DaaFault → Type 0
 IsFaultOf own traffic out = IsSound own traffic out ⊎ IsWrong own traffic out

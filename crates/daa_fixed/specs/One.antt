@@ -1,4 +1,4 @@
--- That there is exactly one.
+-- Exactly one thing meets a relation.
 use Rattle.std.specs.Prelude.{◌≡◌}
 
 -- exactly one thing meets `Is`

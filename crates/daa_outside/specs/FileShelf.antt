@@ -1,4 +1,4 @@
--- What shows of a shelf over files.
+-- What a contract sees of a shelf over files.
 use Rattle.std.specs.Prelude.{ℕ}
 use Rattle.daa_outside.specs.declared.file_shelf.FileShelf.{FileShelf}
 

@@ -1,7 +1,7 @@
 -- The texts that a shelf holds by name.
 use Rattle.std.specs.Prelude.{ℕ, List, Option}
 
--- the text under each name, where one is held
+-- the text under each name, if one is held
 abbrev pub Texts : Type 0
 Texts = List ℕ → Option (List ℕ)
 

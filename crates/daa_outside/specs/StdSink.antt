@@ -1,4 +1,4 @@
--- What shows of a sink over a writer.
+-- What a contract sees of a sink over a writer.
 use Rattle.std.specs.Prelude.{ℕ}
 use Rattle.daa_outside.specs.declared.std_sink.StdSink.{StdSink}
 

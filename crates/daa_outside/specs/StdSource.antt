@@ -1,4 +1,4 @@
--- What shows of a source over a reader.
+-- What a contract sees of a source over a reader.
 use Rattle.std.specs.Prelude.{ℕ}
 use Rattle.daa_outside.specs.declared.std_source.StdSource.{StdSource}
 

@@ -54,7 +54,7 @@ module _ (p : Prospect) (kind : Kind) where
     pub none_sooner : (m : ℕ) → 1 ≤ m → m < r.after → NoneRecovers m
     pub none_earlier : (i : ℕ) (value : ℤ) → i < place → ¬ RecoversAt i r.after value
 
-  -- that, or that no value recovers at any time from 1 on before the horizon
+  -- that, or None: no value recovers at any time from 1 on before the horizon
   abbrev pub IsFound : Option Recovery → Type 0
   IsFound (Some r) = IsLeast r
   IsFound None = (m : ℕ) → 1 ≤ m → m < p.horizon → NoneRecovers m

@@ -1,5 +1,5 @@
--- The events of an input where there is no word `format` and no age: each line says one of the four
--- words alone.
+-- The events of an input if there were no word `format` and no ages: each line gives one of the four
+-- other words.
 use Rattle.std.specs.Prelude.{ℕ, ◌≡◌, ◌+◌, ◌++◌, Bool, true, false, List, [], ◌∷◌, All}
 use Rattle.daa_lines.specs.LinesOf.{Bytes, lines_of}
 use Rattle.daa_state.specs.Current.{IsCurrentPicture}
@@ -9,7 +9,7 @@ use Rattle.daa_state.specs.MomentStep.{State, Stepped, start, finished}
 use Rattle.daa_replay.specs.declared.lines.Event.{Event}
 use Rattle.daa_replay.specs.Lines.{word_step, next_state, line_event, end_event, events_of, OfPicture}
 
--- a line is read as one of the four words alone, and its word steps the state
+-- a line is read as one of the four words, and its word changes the state
 abbrev pub four_line_step : State → Bytes → Checked Stepped
 four_line_step state line = word_step state (four_word_of line)
 
@@ -29,12 +29,12 @@ four_events_of bytes ended = four_events_from start 1 ended (lines_of bytes ende
 abbrev pub HasNoFormatLine : Bytes → Bool → Type 0
 HasNoFormatLine bytes ended = All (λ line. is_format_line line ≡ false) (lines_of bytes ended)
 
--- an input without such a line reads as it did without that word
+-- an input without such a line is read as if there were no such word
 abbrev pub ReadsAsFourWords : Type 0
 ReadsAsFourWords = (bytes : Bytes) (ended : Bool) → HasNoFormatLine bytes ended
     → events_of bytes ended ≡ four_events_of bytes ended
 
--- and the reports of its aircraft are of the moment itself
+-- and its aircraft have age 0
 abbrev pub HasNoAges : Type 0
 HasNoAges = (bytes : Bytes) (ended : Bool) → HasNoFormatLine bytes ended
     → All (OfPicture IsCurrentPicture) (events_of bytes ended)

@@ -10,17 +10,17 @@ use Rattle.daa_state.specs.declared.word.Picture.{Picture}
 use Rattle.daa_replay.specs.declared.lines.Event.{Event}
 use Rattle.daa_replay.specs.declared.lines.Event.TheVariants as event
 
--- a word steps the state, if there is one
+-- a word changes the state, if there is one
 abbrev pub word_step : State → Checked Word → Checked Stepped
 word_step state word = do
   word ← word
   step state word
 
--- a line is read in the format of the state before it, and its word steps the state
+-- a line is read in the format of the state before it, and its word changes the state
 abbrev pub line_step : State → Bytes → Checked Stepped
 line_step state line = word_step state (word_of line state.format)
 
--- a refused line leaves the state as it was
+-- a refused line leaves the state unchanged
 abbrev pub next_state : State → Checked Stepped → State
 next_state state (Ok next) = next.state
 next_state state (Err fault) = state
@@ -30,19 +30,19 @@ abbrev pub picture_event : Option Picture → List Event
 picture_event None = []
 picture_event (Some picture) = event.Ended picture ∷ []
 
--- what the line of this number gives: a refusal, an ended moment, or nothing
+-- the event of the line with this number: a refusal, an ended moment, or nothing
 abbrev pub line_event : ℕ → Checked Stepped → List Event
 line_event number (Ok next) = picture_event next.picture
 line_event number (Err fault) = event.Refused number fault ∷ []
 
--- what the end of the input gives, under the number after the last line's: a refusal where a moment
+-- the event of the end of the input, under the number after the last line's: a refusal if a moment
 -- is open
 abbrev pub end_event : ℕ → Checked (Unit {0}) → List Event
 end_event number (Ok over) = []
 end_event number (Err fault) = event.Refused number fault ∷ []
 
--- the events of lines, the first of which has the number; where these are all, the end of the input
--- follows
+-- the events of lines, the first of which has the number; if these are all lines, the event of the
+-- end follows
 abbrev pub events_from : State → ℕ → Bool → List Bytes → List Event
 events_from state number false [] = []
 events_from state number true [] = end_event number (finished state)
@@ -50,7 +50,7 @@ events_from state number ended (line ∷ lines) =
     line_event number (line_step state line)
     ++ events_from (next_state state (line_step state line)) (number + 1) ended lines
 
--- the events of the bytes, which are the whole input where it has ended, and else its beginning
+-- the events of the bytes, which are the whole input if it has ended, and else its beginning
 unfoldable pub events_of : Bytes → Bool → List Event
 events_of bytes ended = events_from start 1 ended (lines_of bytes ended)
 

@@ -22,7 +22,7 @@ module _ (settings : Settings) where
       (first : Text) × (rest : Text) × IsEventText event first × AreTexts events rest
       × (text ≡ first ++ rest)
 
-  -- the report of the bytes, which are the whole input where it has ended, and else its beginning
+  -- the report of the bytes, which are the whole input if it has ended, and else its beginning
   abbrev pub IsReportOf : Bytes → Bool → Text → Type 0
   IsReportOf bytes ended text = AreTexts (events_of bytes ended) text
 

@@ -9,11 +9,11 @@ use Rattle.daa_report.specs.Lines.{Text}
 use Rattle.daa_words.specs.Order.{Asked, order_of}
 use Rattle.daa_words.specs.Task.{Task, Judge}
 
--- the line that is written where the command words are not taken
+-- the line that is written if the command words are not taken
 abbrev pub usage_line : Text
 usage_line = codes "usage: daidalus replay --config FILE [--workers N] [--ahead N] | exercise --config FILE --seed N --moments M [--workers N] | judge --config FILE --states FILE [--workers N]\n"
 
--- the line that is written where the states are too long
+-- the line that is written if the states are too long
 abbrev pub long_line : Text
 long_line = codes "states long\n"
 
@@ -46,7 +46,7 @@ pub record OpensStates (words : List Text) (texts : Option Texts) (settings : Se
   pub held : IsHeld texts name states
   pub short : length states ≤ longest_text
 
--- the same where the states are too long
+-- the same with states that are too long
 pub record OpensLong (words : List Text) (texts : Option Texts) : Type 0 where
   pub name : Text
   pub settings : Settings

@@ -11,7 +11,7 @@ pub record ShelfState : Type 0 where
   pub texts : Option Texts
   pub faults : ℕ
 
--- the state of these texts and this count
+-- the state with these texts and this fault counter
 abbrev pub shelf_state : Option Texts → ℕ → ShelfState
 shelf_state texts faults = record { texts = texts; faults = faults }
 

@@ -11,24 +11,24 @@ use Rattle.daa_config.specs.declared.candidate.Resolution.TheVariants.{Keep, To,
 abbrev pub Text : Type 0
 Text = List ℕ
 
--- what a kind is called
+-- the word of a kind
 abbrev pub kind_word : Kind → Text
 kind_word Track = codes "track"
 kind_word Speed = codes "gs"
 kind_word Climb = codes "vs"
 kind_word Height = codes "alt"
 
--- what its lower side is called
+-- the word of its lower side
 abbrev pub lower_word : Kind → Text
 lower_word Track = codes "left"
 lower_word _ = codes "down"
 
--- what its upper side is called
+-- the word of its upper side
 abbrev pub upper_word : Kind → Text
 upper_word Track = codes "right"
 upper_word _ = codes "up"
 
--- a dash where there is no leg
+-- a dash if there is no leg
 abbrev pub first_text : Option ℕ → Text
 first_text None = codes "-"
 first_text (Some leg) = decimal leg

@@ -1,4 +1,4 @@
--- What is left of what was said to a page over a sink.
+-- What a page over a sink wrote and holds of what was said to it.
 use Rattle.std.specs.Prelude.{ℕ, ◌≡◌, ◌++◌, List, Option, Result, OnOk, OnErr}
 use Rattle.std.specs.Io.KnownBytes.{Appends}
 use Rattle.daa_report.specs.Says.{AppendsFront, HasCause}

@@ -14,7 +14,7 @@ pub record HasCause {T E : Type 0} (old new : ℕ) (result : Result T E) : Type 
   pub risen : OnErr result (HasRisen old new)
   pub steady : OnOk result (new ≡ old)
 
--- at Ok the sink has taken the text, and at Err a front of it and it has failed; its count of faults never falls
+-- at Ok the sink took the text, at Err a front of it, and failed; its fault counter never falls
 pub record Says {E : Type 0} (old new : Option (List ℕ)) (faults_old faults_new : ℕ) (text : List ℕ) (result : Result (Unit {0}) E) : Type 0 where
   pub whole : OnOk result (Appends old new text)
   pub front : OnErr result (AppendsFront old new text)

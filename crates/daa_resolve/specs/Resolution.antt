@@ -27,7 +27,7 @@ module _ (Covered : ℕ → ℕ → Type 0) (s : Settings) (own : Own) (kind : K
       (place : ℕ) × IsOpenOnSide place value
       × ((p : ℕ) (v : ℤ) → IsOpenOnSide p v → distance_to value ≤ℤ distance_to v)
 
-  -- keep where Hold, the candidate at index 0, is open; else the nearest value, or nothing where there is none
+  -- keep if Hold, the candidate at index 0, is open; else the nearest value, or nothing if none is
   abbrev pub IsResolution : Resolution → Type 0
   IsResolution Keep = IsOpen Covered s 0
   IsResolution (To value) = (IsOpen Covered s 0 → ⊥) × IsNearest value

@@ -1,4 +1,4 @@
--- Aircraft whose reports are of the moment itself.
+-- Aircraft whose reports have age 0.
 use Rattle.std.specs.Prelude.{◌≡◌, All, IfSome}
 use Rattle.daa_state.specs.MomentStep.{State, Stepped}
 use Rattle.daa_state.specs.Picture.{aircraft_of}

@@ -1,4 +1,4 @@
--- Lines as they are read where there is no word `format` and no age: the four words of format 1.
+-- Lines as read if there were no word `format` and no ages: the four words of format 1.
 use Rattle.std.specs.Prelude.{Bool, false, List, [], ◌∷◌, length, nat_le, codes, Ok, Err, if◌then◌else◌}
 use Rattle.std.specs.Str.{bytes_eq}
 use Rattle.std.specs.Str.Lines.{strip_carriage_return}
@@ -33,7 +33,7 @@ unfoldable pub four_word_of_fields : List Bytes → Checked Word
 four_word_of_fields [] = Ok says.Skip
 four_word_of_fields (name ∷ fields) = four_word_of_name name fields
 
--- the word of a line, where there are the four words alone
+-- the word of a line, if there were only the four words
 unfoldable pub four_word_of : Bytes → Checked Word
 four_word_of line =
     if nat_le (length line) 255 then four_word_of_fields (fields_of (strip_carriage_return line))

@@ -22,26 +22,26 @@ First256BytesDecide = (line : Bytes) (format : ℕ) → word_of (take 256 line) 
 abbrev pub LongFrom256Bytes : Type 0
 LongFrom256Bytes = (line : Bytes) (format : ℕ) → 256 ≤ length line → word_of line format ≡ Err LongLine
 
--- a line whose first field is not `format` says no format word, in either format
+-- a line whose first field is not `format` gives no format word, in either format
 abbrev pub OnlyFormatLinesSayFormats : Type 0
 OnlyFormatLinesSayFormats = (line : Bytes) (format : ℕ) → is_format_line line ≡ false
     → IfOk (word_of line format) (λ word. is_format_word word ≡ false)
 
--- in format 1 it is read as where there are the four words alone
+-- in format 1 it is read as if there were only the four words
 abbrev pub ReadsAsFourWords : Type 0
 ReadsAsFourWords = (line : Bytes) → is_format_line line ≡ false → word_of line 1 ≡ four_word_of line
 
--- a word other than a format word leaves the format
+-- a word other than a format word does not change the format
 abbrev pub OtherWordsLeaveTheFormat : Type 0
 OtherWordsLeaveTheFormat = (state : State) (word : Word) → is_format_word word ≡ false
     → IfOk (step state word) (λ next. next.state.format ≡ state.format)
 
--- in format 1 the report of an aircraft is of age 0
+-- in format 1 the aircraft of a word has age 0
 abbrev pub Format1SaysNoAges : Type 0
 Format1SaysNoAges = (line : Bytes) → IfOk (word_of line 1) IsCurrentWord
 
--- where each report of the open moment is of age 0, and that of the word, so is each that the step leaves in the open
--- moment or in the picture
+-- if all aircraft of the open moment and of the word have age 0, so have all aircraft of the open
+-- moment or of the picture after the step
 abbrev pub NoAgesLeaveNoAges : Type 0
 NoAgesLeaveNoAges = (state : State) (word : Word) → IsCurrentState state → IsCurrentWord word
     → IfOk (step state word) IsCurrentStep

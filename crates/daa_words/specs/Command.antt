@@ -14,11 +14,11 @@ abbrev pub number_option : Text → ℕ → ℕ → Rule
 number_option name least most =
     record (option name) { parser = Some (Signed (pos least) (pos most)) }
 
--- the option has to be given
+-- the option must be given
 abbrev pub wanted : Rule → Rule
 wanted a = record a { required = true }
 
--- `--config FILE`, the name under which the configuration lies
+-- `--config FILE`, the name of the configuration
 abbrev pub config : Rule
 config = wanted (option (codes "config"))
 
@@ -26,7 +26,7 @@ config = wanted (option (codes "config"))
 abbrev pub workers : Rule
 workers = record (number_option (codes "workers") 1 16) { defaults = codes "4" ∷ [] }
 
--- `--ahead N`, by how many pieces reading may be ahead: 0 if it is not given
+-- `--ahead N`, how many pieces may be read ahead: 0 if it is not given
 abbrev pub ahead : Rule
 ahead = record (number_option (codes "ahead") 0 1024) { defaults = codes "0" ∷ [] }
 
@@ -38,7 +38,7 @@ seed = wanted (number_option (codes "seed") 0 4294967295)
 abbrev pub moments : Rule
 moments = wanted (number_option (codes "moments") 1 10000)
 
--- `--states FILE`, the name under which the states lie whose report is compared
+-- `--states FILE`, the name of the states whose report is compared
 abbrev pub states : Rule
 states = wanted (option (codes "states"))
 
