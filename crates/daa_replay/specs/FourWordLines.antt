@@ -1,5 +1,5 @@
--- The events of an input if there were no word `format` and no ages: each line gives one of the four
--- other words.
+-- The events of an input if there were no word `format` and no ages: each line gives one of the
+-- four other words.
 use Rattle.std.specs.Prelude.{ℕ, ◌≡◌, ◌+◌, ◌++◌, Bool, true, false, List, [], ◌∷◌, All}
 use Rattle.daa_lines.specs.LinesOf.{Bytes, lines_of}
 use Rattle.daa_state.specs.Current.{IsCurrentPicture}
