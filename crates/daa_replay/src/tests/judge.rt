@@ -194,6 +194,11 @@ fn the_configuration_comes_first_and_then_the_states(rt: HostRuntime) -> Result<
         ..JUDGE
     };
     judges(&rt, ONE, ONE_TEXT, missing, 7, b"")?;
+    let neither = Outside {
+        config: "x",
+        ..missing
+    };
+    judges(&rt, ONE, ONE_TEXT, neither, 3, b"config 2\n")?;
     Ok(())
 }
 
