@@ -2,13 +2,13 @@
 
 ghost use Rattle.std.specs.Prelude.{◌≡◌, ◌<◌, ◌≤◌, ◌+◌, ℤ, length, slice_get, Some};
 ghost use Rattle.daa_config.specs.Candidates.{candidate_to, candidates_of, start_of, values_of};
-ghost use Rattle.daa_config.specs.Settings.{IsCandidateInRange};
+ghost use Rattle.daa_config.specs.Settings.{IsCandidateInRange, AreRatesInRange};
 ghost use Rattle.daa_state.specs.InRange.{IsOwnInRange};
 ghost use Rattle.daa_heading.specs.Heading.{velocity_of};
-ghost use Rattle.daa_legs.specs.Table.{AreBranchesOf};
+ghost use Rattle.daa_legs.specs.Table.{IsBranchOf, AreBranchesOf};
 ghost use Rattle.daa_scan.specs.Inside.Trunks.{AreBranchesBelow};
 
-use daa_config::{Candidate, Config, Kind};
+use daa_config::{Candidate, Config, Kind, Rates};
 use daa_fixed::Flat;
 use daa_heading::velocity;
 use daa_legs::{Branch, branch_from};
@@ -42,7 +42,13 @@ fn fill_present(branches: &mut [Branch], own: &Own, config: &Config, present: &F
 {
     // tells that there is a candidate
     let _total = config.total();
-    branches[0] = branch_from(own, &config.rates(), Candidate::Hold, present);
+    keep(
+        &mut branches[0],
+        own,
+        &config.rates(),
+        Candidate::Hold,
+        present,
+    );
 }
 
 /// Keeps those of a kind, after those of the kinds before it.
@@ -58,8 +64,27 @@ fn fill_kind(branches: &mut [Branch], own: &Own, config: &Config, present: &Flat
     let start = config.start(kind);
     for place in 0..config.count(kind) {
         let candidate = candidate_in(config, kind, place);
-        branches[(start + place) as usize] = branch_from(own, &rates, candidate, present);
+        keep(
+            &mut branches[(start + place) as usize],
+            own,
+            &rates,
+            candidate,
+            present,
+        );
     }
+}
+
+/// Keeps the branch of a candidate. It is written in place, since a read of what was just written
+/// in parts is slow.
+#[inline(never)]
+fn keep(branch: &mut Branch, own: &Own, rates: &Rates, candidate: Candidate, present: &Flat)
+    requires own { IsOwnInRange own.now }
+    requires rates { AreRatesInRange rates.now }
+    requires candidate { IsCandidateInRange candidate }
+    requires present { present.now ≡ velocity_of own.now.gs own.now.trk }
+    ensures { IsBranchOf own.now rates.now candidate branch.new }
+{
+    *branch = branch_from(own, rates, candidate, present);
 }
 
 /// The candidate at a place of a kind.

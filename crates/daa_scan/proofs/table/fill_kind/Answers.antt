@@ -20,11 +20,11 @@ loop-place-preserved c =
     let more : c.start-start.result + c.loop-place.place + 1 ≡ c.start-start.result + (c.loop-place.place + 1) = omega arith in
     let listed : slice_get (candidates_of c.args.config.now) (c.start-start.result + c.loop-place.place) ≡ Some c.candidate_in-candidate.result =
     ap (λ (n : ℕ). slice_get (candidates_of c.args.config.now) (n + c.loop-place.place)) c.start-start.ensures.value ∙ c.candidate_in-candidate.ensures.value in
-    let is = subst (λ (r : Rates). IsBranchOf c.args.own.now r c.candidate_in-candidate.result c.branch_from.result) c.rates-rates.ensures.value c.branch_from.ensures in
+    let is = subst (λ (r : Rates). IsBranchOf c.args.own.now r c.candidate_in-candidate.result c.keep.new.branch) c.rates-rates.ensures.value c.keep.ensures in
     record {
-      filled = subst (λ (n : ℕ). AreBranchesBelow c.args.config.now c.args.own.now n (slice_set c.loop-place.branches (c.start-start.result + c.loop-place.place) c.branch_from.result)) more
-          (next_filled c.args.config.now c.args.own.now (c.start-start.result + c.loop-place.place) c.loop-place.branches c.branch_from.result c.candidate_in-candidate.result listed is c.loop-place.invariant.filled);
-      length_ = next_length (c.start-start.result + c.loop-place.place) c.loop-place.branches c.branch_from.result ∙ c.loop-place.invariant.length_;
+      filled = subst (λ (n : ℕ). AreBranchesBelow c.args.config.now c.args.own.now n (slice_set c.loop-place.branches (c.start-start.result + c.loop-place.place) c.keep.new.branch)) more
+          (next_filled c.args.config.now c.args.own.now (c.start-start.result + c.loop-place.place) c.loop-place.branches c.keep.new.branch c.candidate_in-candidate.result listed is c.loop-place.invariant.filled);
+      length_ = next_length (c.start-start.result + c.loop-place.place) c.loop-place.branches c.keep.new.branch ∙ c.loop-place.invariant.length_;
     }
 
 pub returns-clause-branches : goal.returns-clause-branches

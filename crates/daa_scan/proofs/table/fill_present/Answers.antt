@@ -9,6 +9,6 @@ use Rattle.daa_scan.proofs.table.fill_present.Goals as goal
 
 pub returns-clause-branches : goal.returns-clause-branches
 returns-clause-branches c =
-    let is = subst (λ (r : Rates). IsBranchOf c.args.own.now r Hold c.branch_from.result) c.rates.ensures.value c.branch_from.ensures in
-    let one = next_filled c.args.config.now c.args.own.now 0 c.args.branches.now c.branch_from.result Hold (hold_there c.args.config.now 0 (omega arith)) is (none_filled c.args.config.now c.args.own.now c.args.branches.now c.requires.room) in
-    subst (λ (n : ℕ). AreBranchesBelow c.args.config.now c.args.own.now n (slice_set c.args.branches.now 0 c.branch_from.result)) (track_first c.args.config.now) one
+    let is = subst (λ (r : Rates). IsBranchOf c.args.own.now r Hold c.keep.new.branch) c.rates.ensures.value c.keep.ensures in
+    let one = next_filled c.args.config.now c.args.own.now 0 c.args.branches.now c.keep.new.branch Hold (hold_there c.args.config.now 0 (omega arith)) is (none_filled c.args.config.now c.args.own.now c.args.branches.now c.requires.room) in
+    subst (λ (n : ℕ). AreBranchesBelow c.args.config.now c.args.own.now n (slice_set c.args.branches.now 0 c.keep.new.branch)) (track_first c.args.config.now) one
