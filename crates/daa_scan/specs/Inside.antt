@@ -1,5 +1,6 @@
 -- What private functions, tests and proofs alone cite: nothing here has to be believed.
 pub mod Packed
+pub mod Needs
 pub mod Nesting
 pub mod Refusal
 pub mod Sharing
