@@ -32,7 +32,7 @@ use daa_outside::Sink;
 use daa_recovery::{Recovery, least};
 use daa_report::SinkFault;
 use daa_resolve::{Side, nearest};
-use daa_scan::{fill_branches, fill_trunks};
+use daa_scan::fill_flights;
 use daa_state::{Own, Picture};
 
 /// Decides a moment on room that the caller hands in: bit l - 1 at a candidate's index of the board
@@ -53,9 +53,8 @@ pub fn decide_in(
     ensures trunks { length trunks.new ≡ 8 }
     ensures branches { length branches.new ≡ length branches.old }
 {
-    fill_trunks(trunks, &picture.own, config);
-    fill_branches(branches, &picture.own, config);
-    fill(board, trunks, branches, config, picture);
+    let needs = fill_flights(trunks, branches, config, picture);
+    fill(board, trunks, branches, needs, config, picture);
 }
 
 /// Writes the lines of a moment to the sink as `report` does, from a board of the moment that was

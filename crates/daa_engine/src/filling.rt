@@ -5,15 +5,14 @@ ghost use Rattle.daa_bands.specs.Board.{IsBoardOf};
 ghost use Rattle.daa_config.specs.Candidates.{candidates_of};
 ghost use Rattle.daa_state.specs.InRange.{IsPictureInRange};
 ghost use Rattle.daa_state.specs.Picture.{aircraft_of};
-ghost use Rattle.daa_legs.specs.Table.{AreBranchesOf};
-ghost use Rattle.daa_scan.specs.Trunks.{AreLeads};
+ghost use Rattle.daa_scan.specs.Trunks.{AreFlightsOf};
 ghost use Rattle.daa_engine.specs.Covered.{CoveredAt, scene_of};
 ghost use Rattle.daa_engine.specs.Inside.Filling.{AddsAircraft};
 
 use daa_bands::Board;
 use daa_config::Config;
 use daa_legs::{Branch, Trunk};
-use daa_scan::Scene;
+use daa_scan::{Needs, Scene};
 use daa_state::Picture;
 
 /// Room for a mask of each candidate; a configuration has at most 1897.
@@ -24,16 +23,16 @@ pub(crate) fn fill(
     board: &mut Board,
     trunks: &[Trunk],
     branches: &[Branch],
+    needs: Needs,
     config: &Config,
     picture: &Picture,
 )
     requires picture { IsPictureInRange picture.now }
     requires room { length trunks.now ≡ 8 }
-    requires leads { AreLeads config.now picture.now.own trunks.now }
-    requires branches { AreBranchesOf config.now picture.now.own branches.now }
+    requires flights { AreFlightsOf config.now picture.now needs trunks.now branches.now }
     ensures { IsBoardOf (CoveredAt config.now picture.now) config.now board.new }
 {
-    let scene = Scene::of(config, picture, trunks, branches);
+    let scene = Scene::of(config, picture, trunks, branches, needs);
     board.clear();
     for place in 0..picture.traffic.len() as u32 {
         mark_aircraft(board, &scene, config, place);

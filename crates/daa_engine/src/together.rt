@@ -17,7 +17,7 @@ use daa_config::Config;
 use daa_legs::{Branch, Trunk};
 use daa_outside::Gate;
 use daa_pool::answer_all;
-use daa_scan::{Scene, fill_branches, fill_trunks};
+use daa_scan::{Scene, fill_flights};
 use daa_schedule::{Answers, NoMemory};
 use daa_state::Picture;
 use std::alloc::Global;
@@ -52,9 +52,8 @@ pub(crate) fn fill_together<R: Threads + Sync, G: Gate>(
     ensures trunks { length trunks.new ≡ 8 }
     ensures branches { length branches.new ≡ length branches.old }
 {
-    fill_trunks(trunks, &picture.own, config);
-    fill_branches(branches, &picture.own, config);
-    let scene = Scene::of(config, picture, trunks, branches);
+    let needs = fill_flights(trunks, branches, config, picture);
+    let scene = Scene::of(config, picture, trunks, branches, needs);
     let units = scene.units() as usize;
     let words = &mut words.as_mut_slice()[..units];
     if units > 0 {

@@ -78,6 +78,7 @@ pub fn branch_of(own: &Own, rates: &Rates, candidate: Candidate) -> Branch
 }
 
 /// The same, where the present way over ground of a second is known.
+#[inline(always)]
 pub fn branch_from(own: &Own, rates: &Rates, candidate: Candidate, present: &Flat) -> Branch
     requires own { IsOwnInRange own.now }
     requires rates { AreRatesInRange rates.now }
@@ -96,6 +97,7 @@ pub fn branch_from(own: &Own, rates: &Rates, candidate: Candidate, present: &Fla
 }
 
 /// What a leg of the candidate's own rises, where it has one within 180 seconds.
+#[inline(always)]
 fn rise_on(own: &Own, rates: &Rates, candidate: Candidate, parting: &Parting) -> i64
     requires own { IsOwnInRange own.now }
     requires rates { AreRatesInRange rates.now }
@@ -111,6 +113,7 @@ fn rise_on(own: &Own, rates: &Rates, candidate: Candidate, parting: &Parting) ->
 }
 
 /// Where the candidate's flight leaves the leading one.
+#[inline(always)]
 fn parting_of(own: &Own, rates: &Rates, candidate: Candidate) -> Parting
     requires own { IsOwnInRange own.now }
     requires rates { AreRatesInRange rates.now }

@@ -16,6 +16,7 @@ use daa_heading::velocity;
 use daa_state::Own;
 
 /// The velocity on leg `k`.
+#[inline(always)]
 pub(crate) fn velocity_at(own: &Own, rates: &Rates, candidate: Candidate, k: u32) -> Solid
     requires own { IsOwnInRange own.now }
     requires rates { AreRatesInRange rates.now }
@@ -33,6 +34,7 @@ pub(crate) fn velocity_at(own: &Own, rates: &Rates, candidate: Candidate, k: u32
 }
 
 /// The same, where the present way over ground of a second is known.
+#[inline(always)]
 pub(crate) fn velocity_from(
     own: &Own,
     rates: &Rates,
@@ -59,6 +61,7 @@ pub(crate) fn velocity_from(
 
 /// The velocity once the candidate's value is reached, where the present way over ground of a
 /// second is known.
+#[inline(always)]
 pub(crate) fn velocity_at_end(own: &Own, candidate: Candidate, present: &Flat) -> Solid
     requires own { IsOwnInRange own.now }
     requires candidate { IsCandidateInRange candidate }
@@ -75,6 +78,7 @@ pub(crate) fn velocity_at_end(own: &Own, candidate: Candidate, present: &Flat) -
 }
 
 /// The velocity of a way over ground of a second and a vertical speed.
+#[inline(always)]
 fn rising(way: &Flat, up: i32) -> Solid
     ensures { result ≡ record { flat = way.now; up = up } }
 {
@@ -85,6 +89,7 @@ fn rising(way: &Flat, up: i32) -> Solid
 }
 
 /// The velocity of a ground speed, a track and a vertical speed.
+#[inline(always)]
 fn flown(gs: i32, track: i32, up: i32) -> Solid
     requires gs { IsFrom (pos 0) (pos 10000) gs }
     requires track { IsFrom (pos 0) (pos 359) track }

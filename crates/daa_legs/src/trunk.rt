@@ -91,6 +91,7 @@ impl Trunk {
 
 /// The velocity on leg `k` of the candidate that has this branch, where the present way over ground
 /// of a second is known.
+#[inline(always)]
 fn velocity_by(
     own: &Own,
     rates: &Rates,

@@ -16,3 +16,4 @@ pub mod Marks
 pub mod Sides
 pub mod Shown
 pub mod Tables
+pub mod Needed

@@ -1,6 +1,6 @@
 -- The sides of a kind: their leading flights, and how far they were walked.
 use Rattle.std.proofs.Common.{◌≡◌, ℕ, ℤ, pos, ◌+◌, ◌-◌, ◌<◌, ◌≤◌, Bool, [], true, false, List, length, refl, sym, subst, ap, ◌∙◌, arith, ⊎_elim}
-use Rattle.std.specs.Prelude.{slice_index_or}
+use Rattle.std.specs.Prelude.{IsTrue, slice_index_or}
 use Rattle.std.proofs.Math.ListN.{set}
 use Rattle.std.proofs.lemmas.Bool.{cases_eq, cases_lt}
 use Rattle.std.proofs.lemmas.List.{get_or-set_same, get_or-set_other, length-set}
@@ -26,7 +26,8 @@ use Rattle.daa_scan.specs.declared.marking.Trails.{Trails}
 use Rattle.daa_scan.specs.Inside.Marking.{AreTrailsOf}
 use Rattle.daa_scan.specs.Inside.Refusal.{AreSecondsOf}
 use Rattle.daa_scan.specs.Inside.Sharing.{IsTrailOf}
-use Rattle.daa_scan.specs.Trunks.{place_of, trunk_in, AreLeads}
+use Rattle.daa_scan.specs.Trunks.{place_of, trunk_in, is_needed, AreLeads}
+use Rattle.daa_scan.specs.declared.needs.Needs.{Needs}
 use Rattle.daa_scan.proofs.TrunksWords.{AreLeadsBelow}
 use Rattle.daa_scan.specs.Inside.Trunks.{IsAhead}
 use Rattle.daa_scan.proofs.Trails.{fewer_legs}
@@ -41,18 +42,18 @@ ahead_more settings l most new next h at a b k level le there = ⊎_elim
     below l j h n = ⊎_elim (λ k. omega (arith, k)) (λ k. absurd (n (omega (arith, h, k)))) (cases_lt j (l + 1))
 
 -- none is kept
-pub none_led : (settings : Settings) (own : Own) (most : ℕ) (trunks : List (List OwnLeg)) → length trunks ≡ 8 → AreLeadsBelow settings own 0 most trunks
-none_led settings own most trunks room = record { room = room; each = λ kind upper z b. absurd (omega (arith, b)) }
+pub none_led : (settings : Settings) (own : Own) (needs : Needs) (most : ℕ) (trunks : List (List OwnLeg)) → length trunks ≡ 8 → AreLeadsBelow settings own needs 0 most trunks
+none_led settings own needs most trunks room = record { room = room; each = λ kind upper z b n. absurd (omega (arith, b)) }
 
 -- the next
-pub next_led : (settings : Settings) (own : Own) (most place : ℕ) (trunks : List (List OwnLeg)) (legs : List OwnLeg) → place < 8 → AreLeadsBelow settings own place most trunks
-    → ((kind : Kind) (upper : Bool) (z : ℤ) → place ≡ place_of kind upper → AreLegsOf own (rates_of settings) (lead_of own (candidate_to kind z) upper) most legs)
-    → AreLeadsBelow settings own (place + 1) most (set trunks place legs)
-next_led settings own most place trunks legs inside h is = record {
+pub next_led : (settings : Settings) (own : Own) (needs : Needs) (most place : ℕ) (trunks : List (List OwnLeg)) (legs : List OwnLeg) → place < 8 → AreLeadsBelow settings own needs place most trunks
+    → ((kind : Kind) (upper : Bool) (z : ℤ) → place ≡ place_of kind upper → IsTrue (is_needed needs kind) → AreLegsOf own (rates_of settings) (lead_of own (candidate_to kind z) upper) most legs)
+    → AreLeadsBelow settings own needs (place + 1) most (set trunks place legs)
+next_led settings own needs most place trunks legs inside h is = record {
   room = length-set trunks place legs ∙ h.room;
-  each = λ kind upper z b. ⊎_elim
-      (λ e. subst (λ (ls : List OwnLeg). AreLegsOf own (rates_of settings) (lead_of own (candidate_to kind z) upper) most ls) (sym (ap (λ (i : ℕ). slice_index_or (set trunks place legs) i []) e ∙ get_or-set_same trunks place legs [] (omega (arith, inside, h.room)))) (is kind upper z (sym e)))
-      (λ n. subst (λ (ls : List OwnLeg). AreLegsOf own (rates_of settings) (lead_of own (candidate_to kind z) upper) most ls) (sym (get_or-set_other trunks place (place_of kind upper) legs [] n)) (h.each kind upper z (below (place_of kind upper) b n)))
+  each = λ kind upper z b needed. ⊎_elim
+      (λ e. subst (λ (ls : List OwnLeg). AreLegsOf own (rates_of settings) (lead_of own (candidate_to kind z) upper) most ls) (sym (ap (λ (i : ℕ). slice_index_or (set trunks place legs) i []) e ∙ get_or-set_same trunks place legs [] (omega (arith, inside, h.room)))) (is kind upper z (sym e) needed))
+      (λ n. subst (λ (ls : List OwnLeg). AreLegsOf own (rates_of settings) (lead_of own (candidate_to kind z) upper) most ls) (sym (get_or-set_other trunks place (place_of kind upper) legs [] n)) (h.each kind upper z (below (place_of kind upper) b n) needed))
       (cases_eq (place_of kind upper) place);
 }
   where
@@ -70,11 +71,11 @@ place_small Height true = omega arith
 place_small Height false = omega arith
 
 -- all of them lead
-pub all_led : (settings : Settings) (own : Own) (most place : ℕ) (trunks : List (List OwnLeg)) → 8 ≤ place → IsAhead settings (length settings.levels) most → AreLeadsBelow settings own place most trunks → AreLeads settings own trunks
-all_led settings own most place trunks all ahead h l level at kind upper z =
+pub all_led : (settings : Settings) (own : Own) (needs : Needs) (most place : ℕ) (trunks : List (List OwnLeg)) → 8 ≤ place → IsAhead settings (length settings.levels) most → AreLeadsBelow settings own needs place most trunks → AreLeads settings own needs trunks
+all_led settings own needs most place trunks all ahead h l level at kind upper z needed =
     let w = slice_get_within settings.levels (l - 1) level at.there in
     let s = place_small kind upper in
-    fewer_legs own (rates_of settings) (lead_of own (candidate_to kind z) upper) most level.lookahead (trunk_in trunks kind upper) (ahead l level (omega (arith, w)) at) (h.each kind upper z (omega (arith, s, all)))
+    fewer_legs own (rates_of settings) (lead_of own (candidate_to kind z) upper) most level.lookahead (trunk_in trunks kind upper) (ahead l level (omega (arith, w)) at) (h.each kind upper z (omega (arith, s, all)) needed)
 
 module _ (own : Own) (kind : Kind) (upper : Bool) (lead : Candidate) (is : (z : ℤ) → lead ≡ lead_of own (candidate_to kind z) upper) where
   pub trunk_led : (rates : Rates) (n : ℕ) (t : List (List OwnLeg)) (legs : List OwnLeg) → ((u : Bool) (z : ℤ) → AreLegsOf own rates (lead_of own (candidate_to kind z) u) n (trunk_in t kind u)) → legs ≡ trunk_in t kind upper → AreLegsOf own rates lead n legs

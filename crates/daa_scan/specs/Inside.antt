@@ -1,5 +1,6 @@
 -- Cited by private functions, tests and proofs alone; believe only what docs/PROVED.md names here.
 pub mod Packed
+pub mod Needs
 pub mod Nesting
 pub mod Refusal
 pub mod Sharing

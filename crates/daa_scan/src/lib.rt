@@ -4,6 +4,7 @@
 
 mod laws;
 mod marking;
+mod needs;
 mod nesting;
 mod reach;
 mod refusal;
@@ -14,9 +15,8 @@ mod trail;
 mod trunks;
 
 pub use laws::worked_examples;
+pub use needs::{Needs, fill_flights};
 pub use scene::Scene;
-pub use table::fill_branches;
-pub use trunks::{Trunks, fill_trunks};
 
 #[cfg(test)]
 mod tests;

@@ -20,7 +20,7 @@ ghost use Rattle.daa_legs.specs.Kept.{AreLegsOf};
 ghost use Rattle.daa_legs.specs.Meeting.{MeetsWithin, Meets, ViolatesOn};
 ghost use Rattle.daa_scan.specs.Inside.Refusal.{AreSecondsAt};
 ghost use Rattle.daa_scan.specs.Inside.Sharing.{IsTrailOf};
-ghost use Rattle.daa_scan.specs.Trunks.{trunk_in};
+ghost use Rattle.daa_scan.specs.Trunks.{trunk_in, is_needed, AreIdle};
 ghost use Rattle.daa_scan.specs.Inside.Trunks.{AreTrunksOf};
 ghost use Rattle.daa_scan.specs.Inside.Marking.{AreTrailsOf, AreMarked, AreMasks};
 
@@ -57,6 +57,7 @@ pub(crate) fn mark_levels(
     requires trunks { AreTrunksOf config.now own.now trunks.now }
     requires short { first + length masks.old < 2 ^ 32 }
     requires clear { masks.old ≡ replicate (length masks.old) 0 }
+    requires idle { AreIdle config.now own.now aircraft.now trunks.now.needs }
     ensures masks { AreMasks config.now own.now aircraft.now first
         (length config.now.levels) masks.new }
     ensures length { length masks.new ≡ length masks.old }
@@ -83,6 +84,7 @@ fn mark_level(
     requires few { l < 8 }
     requires short { first + length masks.old < 2 ^ 32 }
     requires masks { AreMasks config.now own.now aircraft.now first l masks.old }
+    requires idle { AreIdle config.now own.now aircraft.now trunks.now.needs }
     ensures masks { AreMasks config.now own.now aircraft.now first (l + 1) masks.new }
     ensures length { length masks.new ≡ length masks.old }
 {
@@ -211,11 +213,15 @@ fn mark_kind(
     requires short { first + length masks.old < 2 ^ 32 }
     requires masks { AreMarked config.now own.now aircraft.now first
         (start_of kind config.now) l masks.old }
+    requires idle { AreIdle config.now own.now aircraft.now trunks.now.needs }
     ensures masks { AreMarked config.now own.now aircraft.now first
         (start_of kind config.now + length (values_of kind config.now)) l masks.new }
     ensures length { length masks.new ≡ length masks.old }
 {
     let level = config.level(l + 1);
+    if !trunks.has(kind) {
+        return;
+    }
     if seconds.first >= level.lookahead {
         return;
     }
@@ -294,6 +300,7 @@ fn next_mask(
     requires of { (value : ℤ) × (candidate ≡ candidate_to kind value) }
     requires trails { AreTrailsOf config.now own.now aircraft.now level.now.volume kind trails.old }
     requires mask { IsMaskOf (Meets config.now own.now candidate aircraft.now) l mask }
+    requires needed { IsTrue (is_needed trunks.now.needs kind) }
     ensures mask { IsMaskOf (Meets config.now own.now candidate aircraft.now) (l + 1) result }
     ensures trails { AreTrailsOf config.now own.now aircraft.now level.now.volume kind trails.new }
 {

@@ -8,12 +8,12 @@ ghost use Rattle.daa_state.specs.InRange.{IsPictureInRange};
 ghost use Rattle.daa_state.specs.Picture.{aircraft_of};
 ghost use Rattle.daa_scan.specs.Reach.{IsInReachAt};
 ghost use Rattle.daa_scan.specs.Situation.{MeetsAt};
-ghost use Rattle.daa_legs.specs.Table.{AreBranchesOf};
-ghost use Rattle.daa_scan.specs.Trunks.{AreLeads};
+ghost use Rattle.daa_scan.specs.Trunks.{AreFlightsOf};
 ghost use Rattle.daa_scan.specs.Units.{group_count, most_groups};
 ghost use Rattle.daa_scan.specs.Packed.{places_in_reach, packed_word, entry_at};
 
 use crate::marking::mark_levels;
+use crate::needs::Needs;
 use crate::reach::is_in_reach;
 use crate::trunks::Trunks;
 use arrayvec::ArrayVec;
@@ -53,18 +53,18 @@ impl<'a> Model for Scene<'a> {
 }
 
 impl<'a> Scene<'a> {
-    /// The scene of a configuration and an ended moment, with the flights that lead on the sides of
-    /// each kind and the candidates' branches.
+    /// The scene of a configuration and an ended moment, with the flights that are needed: those
+    /// that lead on the sides of each kind and the candidates' branches.
     pub fn of(
         config: &'a Config,
         picture: &'a Picture,
         trunks: &'a [Trunk],
         branches: &'a [Branch],
+        needs: Needs,
     ) -> Scene<'a>
         requires picture { IsPictureInRange picture.now }
         requires room { length trunks.now ≡ 8 }
-        requires leads { AreLeads config.now picture.now.own trunks.now }
-        requires branches { AreBranchesOf config.now picture.now.own branches.now }
+        requires flights { AreFlightsOf config.now picture.now needs trunks.now branches.now }
         ensures { result ≡ record { settings = config.now; picture = picture.now } }
     {
         Scene {
@@ -72,7 +72,7 @@ impl<'a> Scene<'a> {
             picture,
             groups: groups_of(config),
             places: places_near(config, picture),
-            trunks: Trunks::of(trunks, branches),
+            trunks: Trunks::of(trunks, branches, needs),
         }
     }
 
@@ -105,6 +105,9 @@ impl<'a> Scene<'a> {
             (slice_index masks.new j) }
         ensures length { length masks.new ≡ length masks.old }
     {
+        if !self.in_reach(aircraft) {
+            return;
+        }
         mark_levels(
             self.config,
             &self.picture.own,

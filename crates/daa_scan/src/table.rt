@@ -2,64 +2,81 @@
 
 ghost use Rattle.std.specs.Prelude.{◌≡◌, ◌<◌, ◌≤◌, ◌+◌, ℤ, length, slice_get, Some};
 ghost use Rattle.daa_config.specs.Candidates.{candidate_to, candidates_of, start_of, values_of};
-ghost use Rattle.daa_config.specs.Settings.{IsCandidateInRange};
+ghost use Rattle.daa_config.specs.Settings.{IsCandidateInRange, AreRatesInRange};
 ghost use Rattle.daa_state.specs.InRange.{IsOwnInRange};
 ghost use Rattle.daa_heading.specs.Heading.{velocity_of};
-ghost use Rattle.daa_legs.specs.Table.{AreBranchesOf};
+ghost use Rattle.daa_legs.specs.Table.{IsBranchOf};
+ghost use Rattle.daa_scan.specs.Trunks.{AreBranchesOf};
 ghost use Rattle.daa_scan.specs.Inside.Trunks.{AreBranchesBelow};
 
-use daa_config::{Candidate, Config, Kind};
+use crate::needs::Needs;
+use daa_config::{Candidate, Config, Kind, Rates};
 use daa_fixed::Flat;
 use daa_heading::velocity;
 use daa_legs::{Branch, branch_from};
 use daa_state::Own;
 
-/// Keeps the branch of each candidate of the whole list, by the candidate's number. There is room
-/// for them.
-pub fn fill_branches(branches: &mut [Branch], own: &Own, config: &Config)
+/// Keeps the branch of each candidate of the kinds that are needed, by the candidate's number in
+/// the whole list. There is room for them.
+pub(crate) fn fill_branches(branches: &mut [Branch], own: &Own, config: &Config, needs: &Needs)
     requires own { IsOwnInRange own.now }
     requires room { length (candidates_of config.now) ≤ length branches.old }
-    ensures branches { AreBranchesOf config.now own.now branches.new }
+    ensures branches { AreBranchesOf config.now own.now needs.now branches.new }
     ensures length { length branches.new ≡ length branches.old }
 {
     let present = velocity(own.gs, own.trk);
-    fill_present(branches, own, config, &present);
-    fill_kind(branches, own, config, &present, Kind::Track);
-    fill_kind(branches, own, config, &present, Kind::Speed);
-    fill_kind(branches, own, config, &present, Kind::Climb);
-    fill_kind(branches, own, config, &present, Kind::Height);
+    fill_kind(branches, own, config, needs, &present, Kind::Track);
+    fill_kind(branches, own, config, needs, &present, Kind::Speed);
+    fill_kind(branches, own, config, needs, &present, Kind::Climb);
+    fill_kind(branches, own, config, needs, &present, Kind::Height);
 }
 
-/// Keeps that of the present flight, the first of the whole list, where its way over ground of a
-/// second is known.
-fn fill_present(branches: &mut [Branch], own: &Own, config: &Config, present: &Flat)
+/// Keeps those of a kind where it is needed, after those of the kinds before it, where the present
+/// way over ground of a second is known.
+fn fill_kind(
+    branches: &mut [Branch],
+    own: &Own,
+    config: &Config,
+    needs: &Needs,
+    present: &Flat,
+    kind: Kind,
+)
     requires own { IsOwnInRange own.now }
     requires present { present.now ≡ velocity_of own.now.gs own.now.trk }
-    requires room { length (candidates_of config.now) ≤ length branches.old }
-    ensures branches { AreBranchesBelow config.now own.now
-        (start_of Kind.Track config.now) branches.new }
-    ensures length { length branches.new ≡ length branches.old }
-{
-    // tells that there is a candidate
-    let _total = config.total();
-    branches[0] = branch_from(own, &config.rates(), Candidate::Hold, present);
-}
-
-/// Keeps those of a kind, after those of the kinds before it.
-fn fill_kind(branches: &mut [Branch], own: &Own, config: &Config, present: &Flat, kind: Kind)
-    requires own { IsOwnInRange own.now }
-    requires present { present.now ≡ velocity_of own.now.gs own.now.trk }
-    requires before { AreBranchesBelow config.now own.now (start_of kind config.now) branches.old }
-    ensures branches { AreBranchesBelow config.now own.now
+    requires before { AreBranchesBelow config.now own.now needs.now
+        (start_of kind config.now) branches.old }
+    ensures branches { AreBranchesBelow config.now own.now needs.now
         (start_of kind config.now + length (values_of kind config.now)) branches.new }
     ensures length { length branches.new ≡ length branches.old }
 {
     let rates = config.rates();
     let start = config.start(kind);
+    if !needs.has(kind) {
+        return;
+    }
     for place in 0..config.count(kind) {
         let candidate = candidate_in(config, kind, place);
-        branches[(start + place) as usize] = branch_from(own, &rates, candidate, present);
+        keep(
+            &mut branches[(start + place) as usize],
+            own,
+            &rates,
+            candidate,
+            present,
+        );
     }
+}
+
+/// Keeps the branch of a candidate. It is written in place, since a read of what was just written
+/// in parts is slow.
+#[inline(never)]
+fn keep(branch: &mut Branch, own: &Own, rates: &Rates, candidate: Candidate, present: &Flat)
+    requires own { IsOwnInRange own.now }
+    requires rates { AreRatesInRange rates.now }
+    requires candidate { IsCandidateInRange candidate }
+    requires present { present.now ≡ velocity_of own.now.gs own.now.trk }
+    ensures { IsBranchOf own.now rates.now candidate branch.new }
+{
+    *branch = branch_from(own, rates, candidate, present);
 }
 
 /// The candidate at a place of a kind.

@@ -1,9 +1,9 @@
 //! Worked scenes: a configuration, an ownship and aircraft as their lines say them, and what the
 //! scan answers.
 
-ghost use Rattle.std.specs.Prelude.{◌≡◌, IfSome, length};
-ghost use Rattle.daa_state.specs.InRange.{IsOwnInRange, IsPictureInRange};
-ghost use Rattle.daa_legs.specs.Table.{AreBranchesOf};
+ghost use Rattle.std.specs.Prelude.{◌≡◌, ◌≤◌, IfSome, length};
+ghost use Rattle.daa_config.specs.Candidates.{candidates_of};
+ghost use Rattle.daa_state.specs.InRange.{IsPictureInRange};
 
 mod drawn;
 mod reaching;
@@ -13,7 +13,7 @@ mod words;
 use super::*;
 use daa_config::{Config, read};
 use daa_legs::{Branch, Trunk};
-use daa_state::{Moments, Own, Picture, read_line};
+use daa_state::{Moments, Picture, read_line};
 use std::process::Abort;
 use std::test::Fail;
 
@@ -54,16 +54,13 @@ fn picture_in(lines: &[&str]) -> Option<Picture>
 /// How many branches are kept: one for each of the at most 1897 candidates.
 const BRANCHES: usize = 1897;
 
-/// The branches of all candidates.
-fn branches_of(own: &Own, config: &Config) -> [Branch; BRANCHES]
-    requires { IsOwnInRange own.now }
-    ensures { AreBranchesOf config.now own.now result }
+/// Room for the branches of all candidates.
+fn branches_for(config: &Config) -> [Branch; BRANCHES]
+    ensures { length (candidates_of config.now) ≤ length result }
 {
     // tells how many there are at most
     let _total = config.total();
-    let mut branches = [Branch::new(); BRANCHES];
-    fill_branches(&mut branches, own, config);
-    branches
+    [Branch::new(); BRANCHES]
 }
 
 /// Room for the flights that lead on the sides of each kind.

@@ -1,7 +1,7 @@
 //! The flights that lead on the two sides of each kind, and the branches of the candidates, both
 //! kept by the caller.
 
-ghost use Rattle.std.specs.Prelude.{◌≡◌, ◌<◌, ◌≤◌, Bool, ℕ, ℤ, length, slice_index_or};
+ghost use Rattle.std.specs.Prelude.{◌≡◌, ◌<◌, ◌≤◌, Bool, IsTrue, ℕ, ℤ, length, slice_index_or};
 ghost use Rattle.daa_config.specs.Candidates.{candidate_to};
 ghost use Rattle.daa_config.specs.Settings.{IsCandidateInRange, IsLevelAt, rates_of};
 ghost use Rattle.daa_config.specs.declared.kind.Kind.{Kind};
@@ -11,9 +11,10 @@ ghost use Rattle.daa_legs.specs.Branch.{lead_of};
 ghost use Rattle.daa_legs.specs.Kept.{AreLegsOf};
 ghost use Rattle.daa_legs.specs.declared.branch.Branch.{Branch};
 ghost use Rattle.daa_legs.specs.declared.own_leg.OwnLeg.{OwnLeg};
-ghost use Rattle.daa_scan.specs.Trunks.{place_of, trunk_in, AreLeads};
+ghost use Rattle.daa_scan.specs.Trunks.{place_of, trunk_in, is_needed, AreLeads};
 ghost use Rattle.daa_scan.specs.Inside.Trunks.{IsAhead};
 
+use crate::needs::Needs;
 use daa_config::{Candidate, Config, Kind};
 use daa_legs::{Branch, Trunk};
 use daa_state::Own;
@@ -23,11 +24,13 @@ use std::marker::Model;
 const LEADS: u32 = 8;
 
 /// The kept flights, half a turn to the right and to the left, and those to the greatest and the
-/// least value of the other kinds; and the branch of each candidate of the whole list.
+/// least value of the other kinds; and the branch of each candidate of the whole list. There are
+/// those of the kinds that are needed.
 #[derive(Drop)]
-pub struct Trunks<'a> {
+pub(crate) struct Trunks<'a> {
     trunks: &'a [Trunk],
     branches: &'a [Branch],
+    needs: Needs,
 }
 
 impl<'a> Model for Trunks<'a> {
@@ -36,18 +39,37 @@ impl<'a> Model for Trunks<'a> {
 
     ghost Value = { Shared };
 
-    ghost view = { λ t. record { trunks = t.trunks.now; branches = t.branches.now } };
+    ghost view = { λ t. record {
+      trunks = t.trunks.now;
+      branches = t.branches.now;
+      needs = t.needs;
+    } };
 
     ghost invariant = { λ t. length t.trunks.now ≡ 8 };
 }
 
 impl<'a> Trunks<'a> {
     /// What is kept.
-    pub fn of(trunks: &'a [Trunk], branches: &'a [Branch]) -> Trunks<'a>
+    pub(crate) fn of(trunks: &'a [Trunk], branches: &'a [Branch], needs: Needs) -> Trunks<'a>
         requires { length trunks.now ≡ 8 }
-        ensures { result ≡ record { trunks = trunks.now; branches = branches.now } }
+        ensures { result ≡ record {
+          trunks = trunks.now;
+          branches = branches.now;
+          needs = needs;
+        } }
     {
-        Trunks { trunks, branches }
+        Trunks {
+            trunks,
+            branches,
+            needs,
+        }
+    }
+
+    /// Whether the flights of a kind are needed.
+    pub(crate) fn has(&self, kind: Kind) -> bool
+        ensures { result ≡ is_needed self.now.needs kind }
+    {
+        self.needs.has(kind)
     }
 
     /// The flight that leads on a side of a kind.
@@ -66,16 +88,17 @@ impl<'a> Trunks<'a> {
     }
 }
 
-/// Keeps the flights that lead, as far as any level looks ahead.
-pub fn fill_trunks(trunks: &mut [Trunk], own: &Own, config: &Config)
+/// Keeps the flights that lead on the sides of the kinds that are needed, as far as any level looks
+/// ahead.
+pub(crate) fn fill_trunks(trunks: &mut [Trunk], own: &Own, config: &Config, needs: &Needs)
     requires own { IsOwnInRange own.now }
     requires room { length trunks.old ≡ 8 }
-    ensures leads { AreLeads config.now own.now trunks.new }
+    ensures leads { AreLeads config.now own.now needs.now trunks.new }
     ensures room { length trunks.new ≡ 8 }
 {
     let most = most_lookahead(config);
     for place in 0..LEADS {
-        keep(&mut trunks[place as usize], own, config, place, most);
+        keep(&mut trunks[place as usize], own, config, needs, place, most);
     }
 }
 
@@ -120,17 +143,22 @@ pub(crate) fn lead_to(own: &Own, kind: Kind, upper: bool) -> Candidate
     }
 }
 
-/// Keeps the first `most` legs of the flight that leads on the side with this place.
-fn keep(trunk: &mut Trunk, own: &Own, config: &Config, place: u32, most: u32)
+/// Keeps so many legs of the flight that leads on the side with this place, where its kind is
+/// needed.
+fn keep(trunk: &mut Trunk, own: &Own, config: &Config, needs: &Needs, place: u32, most: u32)
     requires own { IsOwnInRange own.now }
     requires place { place < 8 }
     requires most { most ≤ 180 }
     ensures { (kind : Kind) (upper : Bool) (z : ℤ) → place ≡ place_of kind upper
+        → IsTrue (is_needed needs.now kind)
         → AreLegsOf own.now (rates_of config.now) (lead_of own.now (candidate_to kind z) upper) most
         trunk.new }
 {
-    let lead = lead_to(own, kind_at(place), place % 2 == 0);
-    trunk.fill(own, config, lead, most);
+    let kind = kind_at(place);
+    if needs.has(kind) {
+        let lead = lead_to(own, kind, place % 2 == 0);
+        trunk.fill(own, config, lead, most);
+    }
 }
 
 /// The greatest number of seconds that a level looks ahead.

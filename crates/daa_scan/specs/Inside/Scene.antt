@@ -4,15 +4,14 @@ use Rattle.daa_config.specs.Settings.{IsAccepted}
 use Rattle.daa_state.specs.InRange.{IsPictureInRange}
 use Rattle.daa_scan.specs.Packed.{places_in_reach}
 use Rattle.daa_scan.specs.Situation.{Situation}
-use Rattle.daa_scan.specs.Trunks.{Shared}
-use Rattle.daa_scan.specs.Inside.Trunks.{AreTrunksOf}
+use Rattle.daa_scan.specs.Trunks.{Shared, AreFlightsOf}
 use Rattle.daa_scan.specs.Units.{group_count}
 
 -- its configuration was accepted, its moment is in range, its groups are counted, the aircraft in reach are found, and the flights that
--- lead on the sides of each kind and the candidates' branches are kept
+-- lead on the sides of each kind and the candidates' branches are kept where they are needed
 pub record IsScene (s : Situation) (groups : ℕ) (places : List ℕ) (trunks : Shared) : Type 0 where
   pub accepted : IsAccepted s.settings
   pub picture : IsPictureInRange s.picture
   pub counted : groups ≡ group_count s.settings
   pub found : places ≡ places_in_reach s
-  pub kept : AreTrunksOf s.settings s.picture.own trunks
+  pub kept : AreFlightsOf s.settings s.picture trunks.needs trunks.trunks trunks.branches

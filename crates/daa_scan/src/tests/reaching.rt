@@ -1,7 +1,7 @@
 //! Which aircraft are in reach: the last place that is, and the first that is not.
 
-use super::{Settings, branches_of, config_of, eight, picture_in};
-use crate::{Scene, fill_trunks};
+use super::{Settings, branches_for, config_of, eight, picture_in};
+use crate::{Scene, fill_flights};
 use daa_config::examples::ONE_LEVEL;
 use std::test::Fail;
 
@@ -212,9 +212,9 @@ fn the_last_place_in_reach(rt: HostRuntime) -> Result<(), Fail> {
         );
         assert!(rt; picture.traffic.len() == 1, "{}", row.shows);
         let mut trunks = eight();
-        fill_trunks(&mut trunks, &picture.own, &config);
-        let branches = branches_of(&picture.own, &config);
-        let scene = Scene::of(&config, &picture, &trunks, &branches);
+        let mut branches = branches_for(&config);
+        let needs = fill_flights(&mut trunks, &mut branches, &config, &picture);
+        let scene = Scene::of(&config, &picture, &trunks, &branches, needs);
         assert!(rt;
             scene.in_reach(0) == row.in_reach,
             "{}: {}",

@@ -3,8 +3,8 @@
 ghost use Rattle.daa_config.specs.Settings.{IsCandidateInRange};
 ghost use Rattle.daa_state.specs.InRange.{IsOwnInRange, IsPictureInRange, IsTrafficInRange};
 
-use super::{Settings, branches_of, config_of, eight, picture_in};
-use crate::{Scene, fill_trunks};
+use super::{Settings, branches_for, config_of, eight, picture_in};
+use crate::{Scene, fill_flights};
 use daa_config::examples::{FOUR_LEVELS, ONE_LEVEL, THREE_LEVELS};
 use daa_config::{Candidate, Config};
 use daa_meet::meets_between;
@@ -233,9 +233,9 @@ fn worked_rows(rt: HostRuntime) -> Result<(), Fail> {
             "the lines of a moment",
         );
         let mut trunks = eight();
-        fill_trunks(&mut trunks, &picture.own, &config);
-        let branches = branches_of(&picture.own, &config);
-        let scene = Scene::of(&config, &picture, &trunks, &branches);
+        let mut branches = branches_for(&config);
+        let needs = fill_flights(&mut trunks, &mut branches, &config, &picture);
+        let scene = Scene::of(&config, &picture, &trunks, &branches, needs);
         assert!(rt; config.total() == 8, "{}", row.shows);
         assert!(rt; picture.traffic.len() == 1, "{}", row.shows);
         for index in 0..config.total() {
@@ -263,9 +263,9 @@ pub(super) fn expect_same_levels(
     requires { IsPictureInRange picture.now }
 {
     let mut trunks = eight();
-    fill_trunks(&mut trunks, &picture.own, config);
-    let branches = branches_of(&picture.own, config);
-    let scene = Scene::of(config, picture, &trunks, &branches);
+    let mut branches = branches_for(config);
+    let needs = fill_flights(&mut trunks, &mut branches, config, picture);
+    let scene = Scene::of(config, picture, &trunks, &branches, needs);
     for place in 0..picture.traffic.len() {
         let mut masks = [0u8; MASKS];
         scene.levels_from(0, place as u32, &mut masks);

@@ -3,8 +3,8 @@
 ghost use Rattle.std.specs.Prelude.{◌≡◌, ◌<◌, length};
 ghost use Rattle.daa_state.specs.Picture.{aircraft_of};
 
-use super::{Settings, branches_of, config_of, eight, picture_in};
-use crate::{Scene, fill_trunks};
+use super::{Settings, branches_for, config_of, eight, picture_in};
+use crate::{Scene, fill_flights};
 use daa_config::Config;
 use daa_config::examples::ONE_LEVEL;
 use daa_schedule::Answers;
@@ -34,9 +34,9 @@ fn words_of_one_group(rt: HostRuntime) -> Result<(), Fail> {
     )?;
     let picture = picture_in(&LINES).expect(&rt, "the lines of a moment");
     let mut trunks = eight();
-    fill_trunks(&mut trunks, &picture.own, &config);
-    let branches = branches_of(&picture.own, &config);
-    let scene = Scene::of(&config, &picture, &trunks, &branches);
+    let mut branches = branches_for(&config);
+    let needs = fill_flights(&mut trunks, &mut branches, &config, &picture);
+    let scene = Scene::of(&config, &picture, &trunks, &branches, needs);
     assert!(rt; scene.count_in_reach() == 2);
     assert!(rt; scene.units() == 2);
     assert!(rt; scene.word(0) == 0b00011_00011_00011_00001_00011_00011_00011_00011);
@@ -77,9 +77,9 @@ fn words_of_two_groups(rt: HostRuntime) -> Result<(), Fail> {
     )?;
     let picture = picture_in(&LINES).expect(&rt, "the lines of a moment");
     let mut trunks = eight();
-    fill_trunks(&mut trunks, &picture.own, &config);
-    let branches = branches_of(&picture.own, &config);
-    let scene = Scene::of(&config, &picture, &trunks, &branches);
+    let mut branches = branches_for(&config);
+    let needs = fill_flights(&mut trunks, &mut branches, &config, &picture);
+    let scene = Scene::of(&config, &picture, &trunks, &branches, needs);
     assert!(rt; scene.units() == 4);
     assert!(rt;
         scene.word(2) == 0b00011_00011_00011_00011_00011_00011_00011_00011_00011_00011_00011_00011
@@ -110,9 +110,9 @@ fn no_units_where_none_is_in_reach(rt: HostRuntime) -> Result<(), Fail> {
     for lines in [far.as_slice(), none.as_slice()] {
         let picture = picture_in(lines).expect(&rt, "the lines of a moment");
         let mut trunks = eight();
-        fill_trunks(&mut trunks, &picture.own, &config);
-        let branches = branches_of(&picture.own, &config);
-        let scene = Scene::of(&config, &picture, &trunks, &branches);
+        let mut branches = branches_for(&config);
+        let needs = fill_flights(&mut trunks, &mut branches, &config, &picture);
+        let scene = Scene::of(&config, &picture, &trunks, &branches, needs);
         assert!(rt; scene.units() == 0);
         assert!(rt; scene.count_in_reach() == 0);
     }

@@ -8,6 +8,10 @@ use Rattle.daa_scan.proofs.Marks.{of_kind, of_kind_in_range, marked_past, marked
 use Rattle.daa_scan.proofs.Sides.{begun}
 use Rattle.daa_scan.proofs.marking.mark_kind.Goals as goal
 
+pub returns-then-not-has-clause-masks : goal.returns-then-not-has-clause-masks
+returns-then-not-has-clause-masks c = marked_past c.args.config.now c.args.own.now c.args.aircraft.now c.args.first c.args.l c.args.masks.now c.args.kind c.level-level.result.now c.level-level.ensures.accepted c.level-level.ensures.value
+    (c.requires.idle c.args.kind (cc (c.has.ensures, c.if-not-has.true)) (c.args.l + 1) c.level-level.result.now c.level-level.ensures.value) c.requires.masks
+
 pub returns-then-seconds-level-clause-masks : goal.returns-then-seconds-level-clause-masks
 returns-then-seconds-level-clause-masks c = marked_past c.args.config.now c.args.own.now c.args.aircraft.now c.args.first c.args.l c.args.masks.now c.args.kind c.level-level.result.now c.level-level.ensures.accepted c.level-level.ensures.value
     (λ z m. (c.requires.seconds c.level-level.result.now c.level-level.ensures.value).before z m.leg m.before (omega (arith, m.before, c.if-seconds-level.true)) m.violates) c.requires.masks
@@ -33,7 +37,7 @@ next_mask-requires c =
     let in_range = of_kind_in_range c.args.kind c.args.config.now c.loop-index.index (slice_index_or (candidates_of c.args.config.now) c.loop-index.index Hold) c.level-level.ensures.accepted from before listed in
     let of = of_kind c.args.kind c.args.config.now c.loop-index.index (slice_index_or (candidates_of c.args.config.now) c.loop-index.index Hold) c.level-level.ensures.accepted from before listed in
     let mask = c.loop-index.invariant.masks.left (c.loop-index.index - c.args.first) (slice_index_or (candidates_of c.args.config.now) c.loop-index.index Hold) inside (omega (arith, placed)) at in
-    (c.requires.own, (c.requires.aircraft, (c.requires.few, (c.level-level.ensures.in_range, (c.level-level.ensures.value, (c.requires.trunks, (c.is_nested-nested.ensures.some, ((λ t candidate m. c.is_nested-nested.ensures.nested t c.args.own.now candidate c.args.aircraft.now m), (listed, (in_range, (of, (c.loop-index.invariant.trails, mask))))))))))))
+    (c.requires.own, (c.requires.aircraft, (c.requires.few, (c.level-level.ensures.in_range, (c.level-level.ensures.value, (c.requires.trunks, (c.is_nested-nested.ensures.some, ((λ t candidate m. c.is_nested-nested.ensures.nested t c.args.own.now candidate c.args.aircraft.now m), (listed, (in_range, (of, (c.loop-index.invariant.trails, (mask, cc (c.has.ensures, c.if-not-has.false))))))))))))))
 
 pub loop-index-preserved : goal.loop-index-preserved
 loop-index-preserved c =

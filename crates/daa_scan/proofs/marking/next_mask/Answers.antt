@@ -8,7 +8,7 @@ use Rattle.daa_scan.proofs.Marks.{none_nested, one_more}
 use Rattle.daa_scan.proofs.marking.next_mask.Goals as goal
 
 pub returns-then-not-has_level-clause-mask : goal.returns-then-not-has_level-clause-mask
-returns-then-not-has_level-clause-mask g c = none_nested c.args.config.now c.args.own.now g.candidate c.args.aircraft.now c.args.l c.args.mask c.requires.1.1.1.1.1.1.1.1.1.1.1.1
+returns-then-not-has_level-clause-mask g c = none_nested c.args.config.now c.args.own.now g.candidate c.args.aircraft.now c.args.l c.args.mask c.requires.1.1.1.1.1.1.1.1.1.1.1.1.0
     (c.requires.1.1.1.1.1.1.0 c.if-nested.true) (c.requires.1.1.1.1.1.1.1.0 c.if-nested.true g.candidate) (λ b. let t = c.has_level.ensures.1 b in cc (t, c.if-not-has_level.true))
 
 pub branch-branch-requires : goal.branch-branch-requires
@@ -18,10 +18,9 @@ branch-branch-requires g c =
 
 pub meets_shared-met-requires : goal.meets_shared-met-requires
 meets_shared-met-requires g c =
-    let trunks = c.requires.1.1.1.1.1.0.leads (c.args.l + 1) c.args.level.now c.requires.1.1.1.1.0 c.args.kind in
-    let branch = subst (λ (b : Branch). IsBranchOf c.args.own.now (rates_of c.args.config.now) g.candidate b) (c.branch-branch.ensures c.branch-branch.result.now) (c.requires.1.1.1.1.1.0.branches.each c.args.index g.candidate c.branch-branch.result.now c.requires.1.1.1.1.1.1.1.1.0) in
-    (c.requires.0, (c.requires.1.0, (c.requires.1.1.1.0, (trunks, (c.requires.1.1.1.1.1.1.1.1.1.0, (c.requires.1.1.1.1.1.1.1.1.1.1.0, (branch, c.requires.1.1.1.1.1.1.1.1.1.1.1.0)))))))
+    let branch = subst (λ (b : Branch). IsBranchOf c.args.own.now (rates_of c.args.config.now) g.candidate b) (c.branch-branch.ensures c.branch-branch.result.now) (c.requires.1.1.1.1.1.0.branches.each c.args.index g.candidate c.branch-branch.result.now c.requires.1.1.1.1.1.1.1.1.0 c.args.kind c.requires.1.1.1.1.1.1.1.1.1.1.0.0 c.requires.1.1.1.1.1.1.1.1.1.1.0.1 c.requires.1.1.1.1.1.1.1.1.1.1.1.1.1) in
+    (c.requires.0, (c.requires.1.0, (c.requires.1.1.1.0, ((λ upper z. c.requires.1.1.1.1.1.0.leads (c.args.l + 1) c.args.level.now c.requires.1.1.1.1.0 c.args.kind upper z c.requires.1.1.1.1.1.1.1.1.1.1.1.1.1), (c.requires.1.1.1.1.1.1.1.1.1.0, (c.requires.1.1.1.1.1.1.1.1.1.1.0, (branch, c.requires.1.1.1.1.1.1.1.1.1.1.1.0)))))))
 
 pub returns-clause-mask : goal.returns-clause-mask
-returns-clause-mask g c = one_more c.args.config.now c.args.own.now g.candidate c.args.aircraft.now c.args.l c.args.mask c.requires.1.1.1.1.1.1.1.1.1.1.1.1 c.args.level.now c.requires.1.1.1.1.0 c.meets_shared-met.result c.with_level.result
+returns-clause-mask g c = one_more c.args.config.now c.args.own.now g.candidate c.args.aircraft.now c.args.l c.args.mask c.requires.1.1.1.1.1.1.1.1.1.1.1.1.0 c.args.level.now c.requires.1.1.1.1.0 c.meets_shared-met.result c.with_level.result
     c.meets_shared-met.ensures.met c.with_level.ensures.met c.with_level.ensures.not_met

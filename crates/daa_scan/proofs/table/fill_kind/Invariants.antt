@@ -5,6 +5,6 @@ use Rattle.daa_scan.proofs.table.fill_kind.Given as goal
 -- the candidates so far have their branches
 abbrev pub invariant-loop-place : goal.invariant-loop-place
 invariant-loop-place l = record {
-  filled : AreBranchesBelow l.config l.own (l.start + l.place) l.branches;
+  filled : AreBranchesBelow l.config l.own l.needs (l.start + l.place) l.branches;
   length_ : length l.branches ≡ length l.fn.branches;
 }

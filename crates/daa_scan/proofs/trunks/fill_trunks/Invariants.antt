@@ -3,4 +3,4 @@ use Rattle.daa_scan.proofs.trunks.fill_trunks.Given as goal
 
 -- the flights of the places so far are kept
 abbrev pub invariant-loop-place : goal.invariant-loop-place
-invariant-loop-place l = AreLeadsBelow l.config l.own l.place l.most l.trunks
+invariant-loop-place l = AreLeadsBelow l.config l.own l.needs l.place l.most l.trunks

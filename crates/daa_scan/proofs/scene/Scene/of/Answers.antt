@@ -1,6 +1,5 @@
 use Rattle.std.proofs.Common.{sym, subst}
-use Rattle.daa_scan.specs.Trunks.{Shared}
-use Rattle.daa_scan.specs.Inside.Trunks.{AreTrunksOf}
+use Rattle.daa_scan.specs.Trunks.{Shared, AreFlightsOf}
 use Rattle.daa_scan.proofs.scene.Scene.of.Goals as goal
 
 pub invariant_of-result : goal.invariant_of-result
@@ -9,5 +8,5 @@ invariant_of-result c = record {
   picture = c.requires.picture;
   counted = c.groups_of.ensures.value;
   found = c.places_near.ensures;
-  kept = subst (λ (t : Shared). AreTrunksOf c.args.config.now c.args.picture.now.own t) (sym c.of.ensures) (record { leads = c.requires.leads; branches = c.requires.branches });
+  kept = subst (λ (t : Shared). AreFlightsOf c.args.config.now c.args.picture.now t.needs t.trunks t.branches) (sym c.of.ensures) c.requires.flights;
 }

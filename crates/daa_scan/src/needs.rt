@@ -1,0 +1,130 @@
+//! The kinds of which some candidate may meet an aircraft in reach: the flights of the others are
+//! not needed.
+
+ghost use Rattle.std.specs.Prelude.{◌≡◌, ◌≤◌, ℕ, Some, false, length, slice_get};
+ghost use Rattle.daa_config.specs.Candidates.{candidates_of};
+ghost use Rattle.daa_config.specs.Settings.{IsLevelInRange};
+ghost use Rattle.daa_state.specs.InRange.{IsOwnInRange, IsTrafficInRange, IsPictureInRange};
+ghost use Rattle.daa_state.specs.Picture.{aircraft_of};
+ghost use Rattle.daa_state.specs.declared.word.Traffic.{Traffic};
+ghost use Rattle.daa_scan.specs.Reach.{IsInReach};
+ghost use Rattle.daa_scan.specs.Trunks.{is_needed, AreIdle, AreFlightsOf};
+ghost use Rattle.daa_scan.specs.Inside.Needs.{NeedsMore, IsIdleAt};
+
+use crate::reach::is_in_reach;
+use crate::refusal::{Seconds, present_leg, seconds_in_height, seconds_in_plane};
+use crate::table::fill_branches;
+use crate::trunks::fill_trunks;
+use daa_config::{Config, Kind, Level};
+use daa_legs::{Branch, Trunk};
+use daa_state::{Own, Picture, Traffic};
+
+/// Whether the flights of those kinds are needed that keep the present heights, and of those that
+/// keep the present way over ground.
+#[derive(Clone, Copy, Debug)]
+pub struct Needs {
+    /// Of tracks and ground speeds.
+    pub(crate) turns: bool,
+    /// Of vertical speeds and altitudes.
+    pub(crate) climbs: bool,
+}
+
+impl Needs {
+    /// Whether the flights of a kind are needed.
+    pub(crate) fn has(&self, kind: Kind) -> bool
+        ensures { result ≡ is_needed self.now kind }
+    {
+        match kind {
+            Kind::Track => self.turns,
+            Kind::Speed => self.turns,
+            Kind::Climb => self.climbs,
+            Kind::Height => self.climbs,
+        }
+    }
+}
+
+/// Keeps the flights that lead on the sides of each kind and the candidates' branches, where some
+/// aircraft in reach may be met. There is room for them.
+pub fn fill_flights(
+    trunks: &mut [Trunk],
+    branches: &mut [Branch],
+    config: &Config,
+    picture: &Picture,
+) -> Needs
+    requires picture { IsPictureInRange picture.now }
+    requires trunks { length trunks.old ≡ 8 }
+    requires branches { length (candidates_of config.now) ≤ length branches.old }
+    ensures flights { AreFlightsOf config.now picture.now result trunks.new branches.new }
+    ensures trunks { length trunks.new ≡ 8 }
+    ensures branches { length branches.new ≡ length branches.old }
+{
+    let needs = needs_of(config, picture);
+    fill_trunks(trunks, &picture.own, config, &needs);
+    fill_branches(branches, &picture.own, config, &needs);
+    needs
+}
+
+/// The kinds of which some candidate may meet an aircraft in reach.
+fn needs_of(config: &Config, picture: &Picture) -> Needs
+    requires picture { IsPictureInRange picture.now }
+    ensures { (at : ℕ) (aircraft : Traffic) → slice_get (aircraft_of picture.now) at ≡ Some aircraft
+        → IsInReach config.now picture.now.own aircraft
+        → AreIdle config.now picture.now.own aircraft result }
+{
+    let mut needs = Needs {
+        turns: false,
+        climbs: false,
+    };
+    for place in 0..picture.traffic.len() as u32 {
+        needs = with_aircraft(
+            needs,
+            config,
+            &picture.own,
+            &picture.traffic[place as usize],
+        );
+    }
+    needs
+}
+
+/// With those of which some candidate may meet the aircraft, if it is in reach.
+fn with_aircraft(needs: Needs, config: &Config, own: &Own, aircraft: &Traffic) -> Needs
+    requires own { IsOwnInRange own.now }
+    requires aircraft { IsTrafficInRange aircraft.now }
+    ensures more { NeedsMore needs result }
+    ensures idle { IsInReach config.now own.now aircraft.now
+        → AreIdle config.now own.now aircraft.now result }
+{
+    if !is_in_reach(config, own, aircraft) {
+        return needs;
+    }
+    let mut all = needs;
+    for l in 0..config.levels() {
+        all = with_level(all, config, own, aircraft, config.level(l + 1));
+    }
+    all
+}
+
+/// With those of which some candidate may meet the aircraft at the level.
+fn with_level(needs: Needs, config: &Config, own: &Own, aircraft: &Traffic, level: &Level) -> Needs
+    requires own { IsOwnInRange own.now }
+    requires aircraft { IsTrafficInRange aircraft.now }
+    requires level { IsLevelInRange level.now }
+    ensures more { NeedsMore needs result }
+    ensures idle { IsIdleAt config.now own.now aircraft.now level.now result }
+{
+    let present = present_leg(config, own, aircraft, level.lookahead);
+    let heights = seconds_in_height(&present, &level.volume);
+    let way = seconds_in_plane(&present, &level.volume);
+    Needs {
+        turns: stays_needed(needs.turns, &heights, level.lookahead),
+        climbs: stays_needed(needs.climbs, &way, level.lookahead),
+    }
+}
+
+/// Whether a kind is needed that was or that has seconds within the lookahead.
+fn stays_needed(before: bool, seconds: &Seconds, lookahead: u32) -> bool
+    ensures more { result ≡ false → before ≡ false }
+    ensures none { result ≡ false → lookahead ≤ seconds.now.first }
+{
+    before || seconds.first < lookahead
+}
