@@ -24,14 +24,15 @@ use Rattle.daa_engine.specs.declared.rescue.Rescue.{Rescue}
 use Rattle.daa_engine.specs.declared.rescue.Rescue.TheVariants.{Silent, Said}
 use Rattle.daa_engine.specs.declared.rescue.Rescues.{Rescues}
 use Rattle.daa_engine.specs.Inside.Findings.{IsAircraftAlert, AreAircraftAlerts, AreSides, IsAdvice, IsRescue, AreRescues}
-use Rattle.daa_engine.specs.MomentText.{AreAlertLines, AreBandLines, AreAnswers, IsRecoveryText, IsMomentText}
+use Rattle.daa_bands.specs.Parts.{SplitsByEach}
+use Rattle.daa_engine.specs.MomentText.{AreAircraftLines, AreBandLines, AreAnswers, IsRecoveryText, IsMomentText}
 use Rattle.daa_engine.specs.Inside.Written.{aircraft_text, alerts_text, bands_text, bands_texts, sides_of, advice_text, rescue_text, rescue_of, rescues_text, written}
 
 -- ---- aircraft
 
 alert_lines_are : (s : Settings) (p : Picture) (ts : List Traffic) (ws : List AircraftAlert) → length ws ≡ length ts
     → ((i : ℕ) (t : Traffic) (w : AircraftAlert) → i < length ts → IsAircraftAlert s p.own (slice_index_or ts i t) (slice_index_or ws i w))
-    → AreAlertLines s p ts (flat_map aircraft_text (zip ts ws))
+    → SplitsByEach (AreAircraftLines s p) ts (flat_map aircraft_text (zip ts ws))
 unfolding aircraft_text
 alert_lines_are s p [] ws e h = refl
 alert_lines_are s p (t ∷ ts) [] e h = absurd (omega arith)

@@ -1,5 +1,6 @@
 -- What private functions alone cite.
 pub mod Lines
+pub mod Moment
 pub mod Status
 pub mod Opening
 pub mod Replay
