@@ -5,8 +5,62 @@ use Rattle.std.proofs.lemmas.List.Elements.{recursion_from_All, All-from_recursi
 use Rattle.std.proofs.lemmas.Bool.Decides.{nat_tests}
 use Rattle.daa_bands.specs.declared.band.Band.{Band}
 use Rattle.daa_fixed.specs.One.{HasOne}
-use Rattle.daa_bands.specs.Band.{Mark, IsStretch, DiffersFromFirst, AreBands}
+use Rattle.daa_bands.specs.Band.{Mark, IsStretch, AreBands}
+use Rattle.daa_bands.specs.Parts.{SplitsInto, SplitsByEach}
 use Rattle.daa_bands.specs.Walk.{with_mark, bands_of}
+
+-- ---- bands, one after the other
+
+-- the band differs in level from its neighbour, the first of the bands after it
+abbrev pub DiffersFromFirst : Band → List Band → Type 0
+DiffersFromFirst band [] = Unit {0}
+DiffersFromFirst band (next ∷ bands) = band.level ≢ next.level
+
+abbrev Chained : List Mark → List Band → Type 0
+Chained marks [] = marks ≡ []
+Chained marks (band ∷ bands) =
+    DiffersFromFirst band bands × SplitsInto (IsStretch band) (λ rest. Chained rest bands) marks
+
+-- neighbours differ in level
+abbrev AreApart : List Band → Type 0
+AreApart bands = (before after : List Band) (band next : Band) → bands ≡ before ++ band ∷ next ∷ after → band.level ≢ next.level
+
+differs_first : (band : Band) (bands : List Band) → AreApart (band ∷ bands) → DiffersFromFirst band bands
+differs_first band [] h = tt
+differs_first band (next ∷ bands) h = h [] bands band next refl
+
+chain : (bands : List Band) (marks : List Mark) → SplitsByEach IsStretch bands marks → AreApart bands → Chained marks bands
+chain [] marks s h = s
+chain (band ∷ bands) marks s h = (
+  differs_first band bands h,
+  record {
+    first = s.first;
+    second = s.second;
+    first_is = s.first_is;
+    second_is = chain bands s.second s.second_is (λ before after x y e. h (band ∷ before) after x y (ap (λ (bs : List Band). band ∷ bs) e));
+    joined = s.joined;
+  },
+)
+
+stretches_in : (bands : List Band) (marks : List Mark) → Chained marks bands → SplitsByEach IsStretch bands marks
+stretches_in [] marks h = h
+stretches_in (band ∷ bands) marks (d, h) =
+    record { first = h.first; second = h.second; first_is = h.first_is; second_is = stretches_in bands h.second h.second_is; joined = h.joined }
+
+first_apart : (band : Band) (bands after : List Band) (x y : Band) → DiffersFromFirst band bands → band ∷ bands ≡ x ∷ (y ∷ after) → x.level ≢ y.level
+first_apart band [] after x y d e = cc
+first_apart band (next ∷ bands) after x y d e =
+    let same : band ≡ x = cc in
+    let other : next ≡ y = cc in
+    λ k. d (ap (λ (b : Band). b.level) same ∙ k ∙ sym (ap (λ (b : Band). b.level) other))
+
+apart : (bands : List Band) (marks : List Mark) → Chained marks bands → AreApart bands
+apart [] marks h [] after x y e = cc
+apart [] marks h (z ∷ before) after x y e = cc
+apart (band ∷ bands) marks (d, h) [] after x y e = first_apart band bands after x y d e
+apart (band ∷ bands) marks (d, h) (z ∷ before) after x y e = apart bands h.second h.second_is before after x y cc
+
+-- ---- marks, one after the other
 
 -- a band of one value
 abbrev alone : Mark → Band
@@ -48,17 +102,17 @@ longer_differs : (mark : Mark) (band : Band) (bands : List Band) → DiffersFrom
 longer_differs mark band [] d = tt
 longer_differs mark band (next ∷ bands) d = d
 
-add : (mark : Mark) (marks : List Mark) (bands : List Band) → AreBands marks bands → AreBands (mark ∷ marks) (with_mark mark bands)
-add mark marks [] h = subst (AreBands (mark ∷ marks)) (sym (with_mark_new mark [] tt)) (
+add : (mark : Mark) (marks : List Mark) (bands : List Band) → Chained marks bands → Chained (mark ∷ marks) (with_mark mark bands)
+add mark marks [] h = subst (Chained (mark ∷ marks)) (sym (with_mark_new mark [] tt)) (
   tt,
   record { first = mark ∷ []; second = []; first_is = one mark; second_is = refl; joined = ap (λ (ms : List Mark). mark ∷ ms) h },
 )
 add mark marks (band ∷ bands) (d, h) = go (band.level == mark.1) refl
   where
-    go : (b : Bool) → (band.level == mark.1) ≡ b → AreBands (mark ∷ marks) (with_mark mark (band ∷ bands))
+    go : (b : Bool) → (band.level == mark.1) ≡ b → Chained (mark ∷ marks) (with_mark mark (band ∷ bands))
     go true t =
         let l : mark.1 ≡ band.level = grind (arith, nat_tests) in
-        subst (AreBands (mark ∷ marks)) (sym (with_mark_same mark band bands (sym l))) (
+        subst (Chained (mark ∷ marks)) (sym (with_mark_same mark band bands (sym l))) (
           longer_differs mark band bands d,
           record {
             first = mark ∷ h.first;
@@ -70,13 +124,16 @@ add mark marks (band ∷ bands) (d, h) = go (band.level == mark.1) refl
         )
     go false t =
         let l : mark.1 ≢ band.level = grind (arith, nat_tests) in
-        subst (AreBands (mark ∷ marks)) (sym (with_mark_new mark (band ∷ bands) l))
+        subst (Chained (mark ∷ marks)) (sym (with_mark_new mark (band ∷ bands) l))
         (l, record { first = mark ∷ []; second = marks; first_is = one mark; second_is = (d, h); joined = refl })
 
-pub found : (marks : List Mark) → AreBands marks (bands_of marks)
+chained : (marks : List Mark) → Chained marks (bands_of marks)
 unfolding bands_of
-found [] = refl
-found (mark ∷ marks) = add mark marks (bands_of marks) (found marks)
+chained [] = refl
+chained (mark ∷ marks) = add mark marks (bands_of marks) (chained marks)
+
+pub found : (marks : List Mark) → AreBands marks (bands_of marks)
+found marks = record { stretches = stretches_in (bands_of marks) marks (chained marks); differ = apart (bands_of marks) marks (chained marks) }
 
 -- ---- no other list is
 
@@ -118,7 +175,7 @@ module _ (mark : Mark) (marks : List Mark) (band : Band) (bands : List Band) (st
       (a.1.0, a.1)
 
   shorter_bands : (next : Mark) (others : List Mark) → stretch ≡ (band.from, band.level) ∷ (next ∷ others) → mark ∷ marks ≡ stretch ++ rest
-      → IsStretch band stretch → DiffersFromFirst (shorter next) bands → AreBands rest bands → AreBands marks (shorter next ∷ bands)
+      → IsStretch band stretch → DiffersFromFirst (shorter next) bands → Chained rest bands → Chained marks (shorter next ∷ bands)
   shorter_bands next others f e s d r =
       let t = split (next ∷ others) f e in let l = next_level next others f s in
       let k = last_tail (band.from, band.level) next (band.upto, band.level) others s.last.0 (sym f ∙ s.last.1) in (
@@ -136,13 +193,13 @@ module _ (mark : Mark) (marks : List Mark) (band : Band) (bands : List Band) (st
         },
       )
 
-  take_first : (known : List Band) → ((bs : List Band) → AreBands marks bs → bs ≡ known) → mark ∷ marks ≡ stretch ++ rest → IsStretch band stretch
-      → DiffersFromFirst band bands → AreBands rest bands → band ∷ bands ≡ with_mark mark known
+  take_first : (known : List Band) → ((bs : List Band) → Chained marks bs → bs ≡ known) → mark ∷ marks ≡ stretch ++ rest → IsStretch band stretch
+      → DiffersFromFirst band bands → Chained rest bands → band ∷ bands ≡ with_mark mark known
   take_first known ih e s d r = go s.first.0 s.first.1
     where
       go : (others : List Mark) → stretch ≡ (band.from, band.level) ∷ others → band ∷ bands ≡ with_mark mark known
       go [] f =
-          let i : bands ≡ known = ih bands (subst (λ (ms : List Mark). AreBands ms bands) (sym (split [] f e).1) r) in
+          let i : bands ≡ known = ih bands (subst (λ (ms : List Mark). Chained ms bands) (sym (split [] f e).1) r) in
           sym (alone_first f e s d) ∙ ap (with_mark mark) i
       go (next ∷ others) f =
           let t = split (next ∷ others) f e in
@@ -154,15 +211,18 @@ module _ (mark : Mark) (marks : List Mark) (band : Band) (bands : List Band) (st
           keeps [] d = tt
           keeps (b ∷ bs) d = d
 
-pub only : (marks : List Mark) (bands : List Band) → AreBands marks bands → bands ≡ bands_of marks
+chained_only : (marks : List Mark) (bands : List Band) → Chained marks bands → bands ≡ bands_of marks
 unfolding bands_of
-only [] [] h = refl
-only [] (band ∷ bands) (d, h) =
+chained_only [] [] h = refl
+chained_only [] (band ∷ bands) (d, h) =
     let s = h.first_is in let f = s.first.1 in
     let g : [] ≡ ((band.from, band.level) ∷ s.first.0) ++ h.second = subst (λ (ms : List Mark). [] ≡ ms ++ h.second) f h.joined in cc
-only (mark ∷ marks) [] h = cc
-only (mark ∷ marks) (band ∷ bands) (d, h) =
-    take_first mark marks band bands h.first h.second (bands_of marks) (λ bs k. only marks bs k) h.joined h.first_is d h.second_is
+chained_only (mark ∷ marks) [] h = cc
+chained_only (mark ∷ marks) (band ∷ bands) (d, h) =
+    take_first mark marks band bands h.first h.second (bands_of marks) (λ bs k. chained_only marks bs k) h.joined h.first_is d h.second_is
+
+pub only : (marks : List Mark) (bands : List Band) → AreBands marks bands → bands ≡ bands_of marks
+only marks bands are = chained_only marks bands (chain bands marks are.stretches are.differ)
 
 pub one_list : (marks : List Mark) → HasOne (AreBands marks)
 one_list marks = record { one = bands_of marks; is = found marks; only = λ others h. only marks others h }

@@ -13,11 +13,11 @@ use Rattle.daa_config.specs.declared.kind.Kind.{Kind}
 use Rattle.daa_bands.specs.declared.band.Band.{Band}
 use Rattle.daa_bands.specs.Walk.{shown_of, with_mark, bands_of, marks_from, bands_left}
 use Rattle.daa_fixed.specs.Mask.{HasLevel, IsGreatestLevel}
-use Rattle.daa_bands.specs.Band.{Mark, DiffersFromFirst, AreBands}
+use Rattle.daa_bands.specs.Band.{Mark, AreBands}
 use Rattle.daa_bands.specs.Board.{HasLevelOn, mask_levels}
 use Rattle.daa_fixed.specs.One.{HasOne}
 use Rattle.daa_bands.specs.KindBands.{AreKindBands}
-use Rattle.daa_bands.proofs.BandLemmas.{with_mark_same, with_mark_new, found}
+use Rattle.daa_bands.proofs.BandLemmas.{DiffersFromFirst, with_mark_same, with_mark_new, found}
 use Rattle.daa_bands.proofs.KindLemmas.{kind_bands_only}
 use Rattle.daa_bands.proofs.MaskLemmas.{greatest_shown}
 

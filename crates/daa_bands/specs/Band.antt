@@ -1,7 +1,7 @@
 -- The bands of a list of values, each with its level.
 use Rattle.std.specs.Prelude.{◌≡◌, ◌≢◌, ℕ, ℤ, List, [], ◌∷◌, ◌++◌}
 use Rattle.std.specs.List.{All}
-use Rattle.daa_bands.specs.Parts.{SplitsInto}
+use Rattle.daa_bands.specs.Parts.{SplitsByEach}
 use Rattle.daa_bands.specs.declared.band.Band.{Band}
 
 -- the band from one value up to another, at a level
@@ -18,13 +18,7 @@ pub record IsStretch (band : Band) (stretch : List Mark) : Type 0 where
   pub last : (others : List Mark) × (stretch ≡ others ++ (band.upto, band.level) ∷ [])
   pub level : All (λ mark. mark.1 ≡ band.level) stretch
 
--- the band differs in level from its neighbour, the first of the bands after it
-abbrev pub DiffersFromFirst : Band → List Band → Type 0
-DiffersFromFirst band [] = Unit {0}
-DiffersFromFirst band (next ∷ bands) = band.level ≢ next.level
-
 -- the stretches of the bands, put together, are the values in order, and neighbours differ in level
-abbrev pub AreBands : List Mark → List Band → Type 0
-AreBands marks [] = marks ≡ []
-AreBands marks (band ∷ bands) =
-    DiffersFromFirst band bands × SplitsInto (IsStretch band) (λ rest. AreBands rest bands) marks
+pub record AreBands (marks : List Mark) (bands : List Band) : Type 0 where
+  pub stretches : SplitsByEach IsStretch bands marks
+  pub differ : (before after : List Band) (band next : Band) → bands ≡ before ++ band ∷ next ∷ after → band.level ≢ next.level

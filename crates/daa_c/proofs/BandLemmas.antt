@@ -2,7 +2,8 @@
 use Rattle.std.proofs.Common.{◌≡◌, ◌<◌, ◌≤◌, ◌+◌, ◌++◌, ◌∷◌, [], ℕ, ℤ, List, length, map, take, slice_set, ap, arith}
 use Rattle.std.specs.List.{zip}
 use Rattle.std.proofs.lemmas.List.{length-append, take_more_set, map_push}
-use Rattle.daa_bands.specs.Band.{Mark, AreBands, IsStretch}
+use Rattle.daa_bands.specs.Band.{Mark, IsStretch}
+use Rattle.daa_bands.specs.Parts.{SplitsByEach}
 use Rattle.daa_bands.specs.KindBands.{AreKindBands}
 use Rattle.daa_bands.specs.Board.{HasLevelOn, mask_levels}
 use Rattle.daa_bands.specs.declared.band.Band.{Band}
@@ -15,9 +16,9 @@ use Rattle.daa_c.specs.declared.bands.DaaBand.{DaaBand}
 not_empty : (band : Band) (stretch : List Mark) → IsStretch band stretch → 1 ≤ length stretch
 not_empty band stretch s = let e = ap length s.first.1 in omega arith
 
-bands_few : (marks : List Mark) (bands : List Band) → AreBands marks bands → length bands ≤ length marks
+bands_few : (marks : List Mark) (bands : List Band) → SplitsByEach IsStretch bands marks → length bands ≤ length marks
 bands_few marks [] are = omega arith
-bands_few marks (band ∷ bands) (differs, are) =
+bands_few marks (band ∷ bands) are =
     omega (arith, ap length are.joined, length-append are.first are.second, not_empty band are.first are.first_is, bands_few are.second bands are.second_is)
 
 marks_few : (values : List ℤ) (levels : List ℕ) → length (zip values levels) ≤ length values
@@ -28,7 +29,7 @@ marks_few (z ∷ values) (n ∷ levels) = omega (arith, marks_few values levels)
 -- a kind has no more bands than values
 kind_few : (board : List ℕ) (s : Settings) (kind : Kind) (bands : List Band) → AreKindBands (HasLevelOn board) mask_levels s kind bands
     → length bands ≤ length (values_of kind s)
-kind_few board s kind bands a = omega (arith, bands_few (zip (values_of kind s) a.levels) bands a.are, marks_few (values_of kind s) a.levels)
+kind_few board s kind bands a = omega (arith, bands_few (zip (values_of kind s) a.levels) bands a.are.stretches, marks_few (values_of kind s) a.levels)
 
 -- there is room for the next
 pub fits : (board : List ℕ) (s : Settings) (kind : Kind) (given all done left rest : List Band) (x : Band) (room : ℕ)

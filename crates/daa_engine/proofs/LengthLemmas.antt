@@ -24,7 +24,7 @@ use Rattle.daa_state.specs.declared.word.Picture.{Picture}
 use Rattle.daa_state.specs.declared.word.Traffic.{Traffic}
 use Rattle.daa_alert.specs.declared.aircraft_alert.Alert.{Alert}
 use Rattle.daa_alert.specs.Alert.{IsAlertOf}
-use Rattle.daa_bands.specs.Band.{Mark, IsStretch, AreBands}
+use Rattle.daa_bands.specs.Band.{Mark, IsStretch}
 use Rattle.daa_bands.specs.declared.band.Band.{Band}
 use Rattle.daa_resolve.specs.Resolution.{IsResolution}
 use Rattle.daa_resolve.specs.declared.side.Side.{Side}
@@ -34,7 +34,8 @@ use Rattle.daa_recovery.specs.declared.recovery.Recovery.{Recovery}
 use Rattle.daa_report.specs.Lines.{Text, kind_word, lower_word, upper_word, first_text, answer_text, moment_line, now_line, alert_line, band_line, resolve_line, recover_line, found_text, number_field, done_line}
 use Rattle.daa_engine.specs.Covered.{CoveredAt}
 use Rattle.daa_engine.specs.Longest.{longest_moment}
-use Rattle.daa_engine.specs.MomentText.{AreAircraftLines, AreAlertLines, AreBandLines, AreAnswers, IsRecoveryLine, IsRecoveryText, IsMomentText, line_of, of_each, told_of, wants_recovery}
+use Rattle.daa_bands.specs.Parts.{SplitsByEach}
+use Rattle.daa_engine.specs.MomentText.{AreAircraftLines, AreBandLines, AreAnswers, IsRecoveryLine, IsRecoveryText, IsMomentText, line_of, of_each, told_of, wants_recovery}
 
 -- ---- numbers
 
@@ -229,17 +230,17 @@ of_stretch band stretch s h =
 not_empty : (band : Band) (stretch : List Mark) → IsStretch band stretch → 1 ≤ length stretch
 not_empty band stretch s = let e = ap length s.first.1 in omega arith
 
-bands_in : (marks : List Mark) (bands : List Band) → AreBands marks bands → AllByRecursion IsMark marks → AllByRecursion IsBand bands
+bands_in : (marks : List Mark) (bands : List Band) → SplitsByEach IsStretch bands marks → AllByRecursion IsMark marks → AllByRecursion IsBand bands
 bands_in marks [] are h = tt
-bands_in marks (band ∷ bands) (d, are) h =
+bands_in marks (band ∷ bands) are h =
     let k = subst (AllByRecursion IsMark) are.joined h in (
       of_stretch band are.first are.first_is (left_all IsMark are.first are.second k),
       bands_in are.second bands are.second_is (right_all IsMark are.first are.second k),
     )
 
-bands_few : (marks : List Mark) (bands : List Band) → AreBands marks bands → length bands ≤ length marks
+bands_few : (marks : List Mark) (bands : List Band) → SplitsByEach IsStretch bands marks → length bands ≤ length marks
 bands_few marks [] are = omega arith
-bands_few marks (band ∷ bands) (d, are) =
+bands_few marks (band ∷ bands) are =
     let e = ap length are.joined ∙ length-append are.first are.second in
     omega (arith, e, not_empty band are.first are.first_is, bands_few are.second bands are.second_is)
 
@@ -295,12 +296,12 @@ module _ (s : Settings) (p : Picture) (ok : IsAccepted s) where
       let few = ok.few_levels in
       let levels = levels_in are.levels (λ i lt. let w = (are.shown.greatest i lt).within in omega arith) in
       let marks = marks_in values are.levels (values_in values (value_in kind)) levels in
-      let in' = bands_in (zip values are.levels) bands are.are marks in
+      let in' = bands_in (zip values are.levels) bands are.are.stretches marks in
       omega (
         arith,
         ap length e,
         lines_few (line_of kind) IsBand (band_is_short kind) bands in',
-        bands_few (zip values are.levels) bands are.are,
+        bands_few (zip values are.levels) bands are.are.stretches,
         marks_few values are.levels,
       )
 
@@ -353,7 +354,7 @@ module _ (s : Settings) (p : Picture) (ok : IsAccepted s) where
         alert_short t.id alert.level alert.first i (omega arith) (leg_in t alert is.alert_is),
       )
 
-  alerts_short : (ts : List Traffic) → AllByRecursion IsTrafficInRange ts → (text : Text) → AreAlertLines s p ts text → length text ≤ 128 * length ts
+  alerts_short : (ts : List Traffic) → AllByRecursion IsTrafficInRange ts → (text : Text) → SplitsByEach (AreAircraftLines s p) ts text → length text ≤ 128 * length ts
   alerts_short [] r text e = omega (arith, ap length e)
   alerts_short (t ∷ ts) r text is =
       let e = ap length is.joined ∙ length-append is.first is.second in

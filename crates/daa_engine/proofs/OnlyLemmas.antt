@@ -20,7 +20,8 @@ use Rattle.daa_resolve.specs.declared.side.Side.TheVariants.{Lower, Upper}
 use Rattle.daa_resolve.proofs.OnlyLemmas.{one_answer}
 use Rattle.daa_report.specs.Lines.{Text, now_line, alert_line, resolve_line, recover_line, moment_line, done_line}
 use Rattle.daa_engine.specs.Covered.{CoveredAt}
-use Rattle.daa_engine.specs.MomentText.{AreAircraftLines, AreAlertLines, AreBandLines, AreAnswers, IsRecoveryLine, IsRecoveryText, IsMomentText, line_of, of_each, wants_recovery, told_of}
+use Rattle.daa_bands.specs.Parts.{SplitsByEach}
+use Rattle.daa_engine.specs.MomentText.{AreAircraftLines, AreBandLines, AreAnswers, IsRecoveryLine, IsRecoveryText, IsMomentText, line_of, of_each, wants_recovery, told_of}
 
 module _ (s : Settings) (p : Picture) where
   aircraft_only : (t : Traffic) (a b : Text) → AreAircraftLines s p t a → AreAircraftLines s p t b → a ≡ b
@@ -29,7 +30,7 @@ module _ (s : Settings) (p : Picture) where
       let w = alert_once s p.own t h.alert k.alert h.alert_is k.alert_is in
       h.text_is ∙ ap₂ (λ (x : ℕ) (y : Alert). now_line t.id x ++ alert_line t.id y.level y.first) n w ∙ sym k.text_is
 
-  alerts_only : (ts : List Traffic) (a b : Text) → AreAlertLines s p ts a → AreAlertLines s p ts b → a ≡ b
+  alerts_only : (ts : List Traffic) (a b : Text) → SplitsByEach (AreAircraftLines s p) ts a → SplitsByEach (AreAircraftLines s p) ts b → a ≡ b
   alerts_only [] a b h k = h ∙ sym k
   alerts_only (t ∷ ts) a b h k =
       h.joined ∙ ap₂ (λ (x y : Text). x ++ y) (aircraft_only t h.first k.first h.first_is k.first_is) (alerts_only ts h.second k.second h.second_is k.second_is)

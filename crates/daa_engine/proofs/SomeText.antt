@@ -27,7 +27,8 @@ use Rattle.daa_recovery.proofs.Some.{one_recovery}
 use Rattle.daa_report.specs.Lines.{Text, now_line, alert_line, resolve_line, recover_line, moment_line, done_line}
 use Rattle.daa_engine.specs.Covered.{CoveredAt, scene_of}
 use Rattle.daa_engine.proofs.Covered.{CoveredBelow}
-use Rattle.daa_engine.specs.MomentText.{AreAircraftLines, AreAlertLines, IsRecoveryText, IsMomentText, line_of, of_each, are_nothing, wants_recovery, told_of}
+use Rattle.daa_bands.specs.Parts.{SplitsByEach}
+use Rattle.daa_engine.specs.MomentText.{AreAircraftLines, IsRecoveryText, IsMomentText, line_of, of_each, are_nothing, wants_recovery, told_of}
 use Rattle.daa_engine.proofs.OnlyLemmas.{text_only}
 
 module _ (s : Settings) (p : Picture) (a : IsAccepted s) (r : IsPictureInRange p) where
@@ -63,7 +64,7 @@ module _ (s : Settings) (p : Picture) (a : IsAccepted s) (r : IsPictureInRange p
       let alert = some_alert s p.own t (on_told s p.own t a r.own in') (alerts_told s p.own t a r.own in') in
       (now_line t.id now.0 ++ alert_line t.id alert.0.level alert.0.first, record { now = now.0; alert = alert.0; now_is = now.1; alert_is = alert.1; text_is = refl })
 
-  alert_lines : (ts : List Traffic) → AllByRecursion IsTrafficInRange ts → (text : Text) × AreAlertLines s p ts text
+  alert_lines : (ts : List Traffic) → AllByRecursion IsTrafficInRange ts → (text : Text) × SplitsByEach (AreAircraftLines s p) ts text
   alert_lines [] in' = ([], refl)
   alert_lines (t ∷ ts) in' =
       let first = aircraft_lines t in'.0 in

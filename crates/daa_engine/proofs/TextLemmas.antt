@@ -23,15 +23,16 @@ use Rattle.daa_engine.specs.declared.advice.Advice.{Advice}
 use Rattle.daa_engine.specs.declared.rescue.Rescue.{Rescue}
 use Rattle.daa_engine.specs.declared.rescue.Rescue.TheVariants.{Silent, Said}
 use Rattle.daa_engine.specs.declared.rescue.Rescues.{Rescues}
-use Rattle.daa_engine.specs.Inside.Findings.{IsAircraftAlert, AreAircraftAlerts, AreSides, IsAdvice, IsRescue, AreRescues, alert_of}
-use Rattle.daa_engine.specs.MomentText.{AreAlertLines, AreBandLines, AreAnswers, IsRecoveryText, IsMomentText}
+use Rattle.daa_engine.specs.Inside.Findings.{IsAircraftAlert, AreAircraftAlerts, AreSides, IsAdvice, IsRescue, AreRescues}
+use Rattle.daa_bands.specs.Parts.{SplitsByEach}
+use Rattle.daa_engine.specs.MomentText.{AreAircraftLines, AreBandLines, AreAnswers, IsRecoveryText, IsMomentText}
 use Rattle.daa_engine.specs.Inside.Written.{aircraft_text, alerts_text, bands_text, bands_texts, sides_of, advice_text, rescue_text, rescue_of, rescues_text, written}
 
 -- ---- aircraft
 
 alert_lines_are : (s : Settings) (p : Picture) (ts : List Traffic) (ws : List AircraftAlert) → length ws ≡ length ts
     → ((i : ℕ) (t : Traffic) (w : AircraftAlert) → i < length ts → IsAircraftAlert s p.own (slice_index_or ts i t) (slice_index_or ws i w))
-    → AreAlertLines s p ts (flat_map aircraft_text (zip ts ws))
+    → SplitsByEach (AreAircraftLines s p) ts (flat_map aircraft_text (zip ts ws))
 unfolding aircraft_text
 alert_lines_are s p [] ws e h = refl
 alert_lines_are s p (t ∷ ts) [] e h = absurd (omega arith)
@@ -39,7 +40,7 @@ alert_lines_are s p (t ∷ ts) (w ∷ ws) e h =
     let found = h 0 t w (omega arith) in record {
       first = aircraft_text (t, w);
       second = flat_map aircraft_text (zip ts ws);
-      first_is = record { now = w.level_now; alert = alert_of w; now_is = found.level_now; alert_is = found.alert; text_is = refl };
+      first_is = record { now = w.level_now; alert = w.alert; now_is = found.level_now; alert_is = found.alert; text_is = refl };
       second_is = alert_lines_are s p ts ws (omega arith) (λ i a b lt. h (suc i) a b (omega arith));
       joined = refl;
     }

@@ -1,5 +1,5 @@
 -- The text of a moment.
-use Rattle.std.specs.Prelude.{◌≡◌, ℕ, ℤ, Bool, true, false, ◌&&◌, IsTrue, List, [], ◌∷◌, ◌++◌, length, Option, option_map, is_some}
+use Rattle.std.specs.Prelude.{◌≡◌, ℕ, ℤ, Bool, true, false, ◌&&◌, IsTrue, List, [], ◌++◌, length, Option, option_map, is_some}
 use Rattle.std.specs.List.{flat_map}
 use Rattle.daa_config.specs.Settings.{Settings}
 use Rattle.daa_config.specs.declared.candidate.Resolution.{Resolution}
@@ -13,7 +13,7 @@ use Rattle.daa_legs.specs.Alerts.{IsNowLevel}
 use Rattle.daa_alert.specs.Alert.{IsAlertOf}
 use Rattle.daa_alert.specs.declared.aircraft_alert.Alert.{Alert}
 use Rattle.daa_bands.specs.KindBands.{AreKindBands}
-use Rattle.daa_bands.specs.Parts.{SplitsInto}
+use Rattle.daa_bands.specs.Parts.{SplitsByEach}
 use Rattle.daa_bands.specs.declared.band.Band.{Band}
 use Rattle.daa_resolve.specs.Resolution.{IsResolution}
 use Rattle.daa_resolve.specs.declared.side.Side.TheVariants.{Lower, Upper}
@@ -52,11 +52,6 @@ module _ (settings : Settings) (picture : Picture) where
     pub alert_is : IsAlertOf settings picture.own aircraft alert
     pub text_is : text ≡ now_line aircraft.id now ++ alert_line aircraft.id alert.level alert.first
 
-  -- the lines of the aircraft, one after the other
-  abbrev pub AreAlertLines : List Traffic → Text → Type 0
-  AreAlertLines [] text = text ≡ []
-  AreAlertLines (aircraft ∷ others) text = SplitsInto (AreAircraftLines aircraft) (AreAlertLines others) text
-
   -- the lines of a kind's bands, over the greatest levels at which its candidates are covered
   abbrev pub AreBandLines : Kind → Text → Type 0
   AreBandLines kind text =
@@ -85,7 +80,7 @@ module _ (settings : Settings) (picture : Picture) where
     pub lower : Kind → Resolution
     pub upper : Kind → Resolution
     pub recoveries : Kind → Text
-    pub alerts_are : AreAlertLines (aircraft_of picture) alerts
+    pub alerts_are : SplitsByEach AreAircraftLines (aircraft_of picture) alerts
     pub bands_are : (kind : Kind) → AreBandLines kind (bands kind)
     pub answers_are : (kind : Kind) → AreAnswers kind (lower kind) (upper kind)
     pub recoveries_are : (kind : Kind) → IsRecoveryText kind (lower kind) (upper kind) (recoveries kind)

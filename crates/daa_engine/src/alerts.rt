@@ -6,16 +6,15 @@ ghost use Rattle.daa_state.specs.Picture.{aircraft_of};
 ghost use Rattle.daa_engine.specs.Inside.Findings.{IsAircraftAlert, AreAircraftAlerts};
 
 use arrayvec::ArrayVec;
-use daa_alert::{alert, now_level};
+use daa_alert::{Alert, alert, now_level};
 use daa_config::Config;
 use daa_state::{Own, Picture, Traffic};
 
-/// The level of an aircraft now, its alert level, and the first leg that alerts.
+/// The level of an aircraft now, and its alert.
 #[derive(Clone, Copy, Debug, Default)]
 pub(crate) struct AircraftAlert {
     pub(crate) level_now: u8,
-    pub(crate) level: u8,
-    pub(crate) first: Option<u32>,
+    pub(crate) alert: Alert,
 }
 
 /// What is found of each aircraft, in the order of the input.
@@ -37,10 +36,8 @@ fn find_alert(config: &Config, own: &Own, aircraft: &Traffic) -> AircraftAlert
     requires aircraft { IsTrafficInRange aircraft.now }
     ensures { IsAircraftAlert config.now own.now aircraft.now result }
 {
-    let alert = alert(config, own, aircraft);
     AircraftAlert {
         level_now: now_level(config, own, aircraft),
-        level: alert.level,
-        first: alert.first,
+        alert: alert(config, own, aircraft),
     }
 }

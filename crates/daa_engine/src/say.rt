@@ -22,12 +22,12 @@ fn say_now<K: Sink>(
     page: &mut Page,
     sink: &mut K,
     aircraft: &Traffic,
-    alert: &AircraftAlert,
+    found: &AircraftAlert,
 ) -> Result<(), SinkFault>
     ensures { PageSays (K.taken sink.old) (K.taken sink.new) page.old page.new (K.faults sink.old)
-        (K.faults sink.new) (now_line aircraft.now.id alert.now.level_now) result }
+        (K.faults sink.new) (now_line aircraft.now.id found.now.level_now) result }
 {
-    page.say(sink, &Line::now(&aircraft.id, alert.level_now))
+    page.say(sink, &Line::now(&aircraft.id, found.level_now))
 }
 
 /// Says the alert of an aircraft.
@@ -35,11 +35,13 @@ fn say_alert<K: Sink>(
     page: &mut Page,
     sink: &mut K,
     aircraft: &Traffic,
-    alert: &AircraftAlert,
+    found: &AircraftAlert,
 ) -> Result<(), SinkFault>
     ensures { PageSays (K.taken sink.old) (K.taken sink.new) page.old page.new (K.faults sink.old)
-        (K.faults sink.new) (alert_line aircraft.now.id alert.now.level alert.now.first) result }
+        (K.faults sink.new) (alert_line aircraft.now.id found.now.alert.level found.now.alert.first)
+        result }
 {
+    let alert = found.alert;
     page.say(sink, &Line::alert(&aircraft.id, alert.level, alert.first))
 }
 
@@ -48,13 +50,13 @@ fn say_aircraft<K: Sink>(
     page: &mut Page,
     sink: &mut K,
     aircraft: &Traffic,
-    alert: &AircraftAlert,
+    found: &AircraftAlert,
 ) -> Result<(), SinkFault>
     ensures { PageSays (K.taken sink.old) (K.taken sink.new) page.old page.new (K.faults sink.old)
-        (K.faults sink.new) (aircraft_text (aircraft.now, alert.now)) result }
+        (K.faults sink.new) (aircraft_text (aircraft.now, found.now)) result }
 {
-    say_now(page, sink, aircraft, alert)?;
-    say_alert(page, sink, aircraft, alert)
+    say_now(page, sink, aircraft, found)?;
+    say_alert(page, sink, aircraft, found)
 }
 
 /// Says the lines of all aircraft.

@@ -15,7 +15,8 @@ use Rattle.daa_state.specs.Picture.{aircraft_of}
 use Rattle.daa_state.specs.declared.word.Picture.{Picture}
 use Rattle.daa_state.specs.declared.word.Traffic.{Traffic}
 use Rattle.daa_engine.specs.Covered.{CoveredAt}
-use Rattle.daa_engine.specs.MomentText.{AreAlertLines}
+use Rattle.daa_bands.specs.Parts.{SplitsByEach}
+use Rattle.daa_engine.specs.MomentText.{AreAircraftLines}
 use Rattle.daa_engine.proofs.SomeText.{one_text}
 use Rattle.daa_exercise.specs.Levels.{HasAlerts, HasShown, AreLevels, aircraft_in, counts_of}
 use Rattle.daa_exercise.specs.Moments.{moment_of, begin_of}
@@ -27,7 +28,7 @@ use Rattle.daa_exercise.proofs.RangeLemmas.{drawn_range}
 
 module _ (s : Settings) (p : Picture) where
   -- the lines of the aircraft tell their levels
-  told : (ts : List Traffic) (text : Text) → AreAlertLines s p ts text → (levels : List ℕ) × AllZip (IsAlertLevel s p.own) ts levels
+  told : (ts : List Traffic) (text : Text) → SplitsByEach (AreAircraftLines s p) ts text → (levels : List ℕ) × AllZip (IsAlertLevel s p.own) ts levels
   told [] text e = ([], tt)
   told (t ∷ ts) text is =
       let one = is.first_is in

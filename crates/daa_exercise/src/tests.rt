@@ -179,12 +179,3 @@ fn a_sink_that_fails(rt: HostRuntime) -> Result<(), Fail> {
     assert_eq!(rt; out.taken(), &THREE.as_bytes()[..14]);
     Ok(())
 }
-
-#[test]
-fn laws_can_be_called() {
-    every_exercise_has_one_summary();
-    drawn_moments_are_in_range();
-    drawn_moments_are_taken();
-    counts_add_up();
-    worked_examples();
-}

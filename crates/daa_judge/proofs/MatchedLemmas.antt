@@ -52,8 +52,10 @@ module _ (most : ℕ) (first m now : StreamState) (before : Bytes) (old : Matchi
       let front = before ++ take n piece in
       record {
         bytes = before ++ piece;
-        handed = Consumes-trans first.bytes m.bytes now.bytes before piece h.handed (subst (Consumes m.bytes now.bytes) all r.handed);
-        bound = omega (arith, h.size, r.bound, length-append before piece);
+        handed = record {
+          handed = Consumes-trans first.bytes m.bytes now.bytes before piece h.handed (subst (Consumes m.bytes now.bytes) all r.handed);
+          bound = omega (arith, h.size, r.bound, length-append before piece);
+        };
         ended = false;
         over = λ e. absurd (false≢true e);
         differs = λ further e. subst (λ (k : ℕ). Differs (before ++ (text ++ rest)) k ((before ++ piece) ++ further))
@@ -83,8 +85,7 @@ module _ (most : ℕ) (first m now : StreamState) (before : Bytes) (old : Matchi
       let last = last_after End most old.left first m now before h.size h.handed h.calm r in
       record {
         bytes = before;
-        handed = last.handed;
-        bound = omega (arith, h.size);
+        handed = record { handed = last.handed; bound = omega (arith, h.size) };
         ended = true;
         over = λ e. last.over;
         differs = λ further e. subst (λ (k : ℕ). Differs (before ++ ((y ∷ text) ++ rest)) k (before ++ further)) (sym h.line)
@@ -95,7 +96,7 @@ module _ (most : ℕ) (first m now : StreamState) (before : Bytes) (old : Matchi
       }
   over Fault text rest some r =
       let last = last_after Fault most old.left first m now before h.size h.handed h.calm r in
-      record { bytes = before; handed = last.handed; bound = omega (arith, h.size); begins = (text ++ rest, refl); risen = last.risen }
+      record { bytes = before; handed = record { handed = last.handed; bound = omega (arith, h.size) }; begins = (text ++ rest, refl); risen = last.risen }
   over Limit text rest some r =
       let last = last_after Limit most old.left first m now before h.size h.handed h.calm r in
       record { bytes = before; next = last.next; size = last.full; handed = last.handed; begins = (text ++ rest, refl); calm = last.calm }
@@ -105,8 +106,10 @@ module _ (most : ℕ) (first m now : StreamState) (before : Bytes) (old : Matchi
   pub beyond : (count : ℕ) (buf : Bytes) → count ≤ length buf → length buf ≤ longest_read → ReadsMore count old.left buf m now → ShowsDifference before most old.line first now
   beyond count buf in' few r = record {
     bytes = before ++ take count buf;
-    handed = Consumes-trans first.bytes m.bytes now.bytes before (take count buf) h.handed r.handed;
-    bound = omega (arith, h.size, r.bound, length-append before (take count buf), length-take count buf);
+    handed = record {
+      handed = Consumes-trans first.bytes m.bytes now.bytes before (take count buf) h.handed r.handed;
+      bound = omega (arith, h.size, r.bound, length-append before (take count buf), length-take count buf);
+    };
     ended = false;
     over = λ e. absurd (false≢true e);
     differs = λ further e. subst (λ (k : ℕ). Differs before k ((before ++ take count buf) ++ further)) (sym h.line)
@@ -130,12 +133,12 @@ module _ (most : ℕ) (first m now : StreamState) (before : Bytes) (old : Matchi
   pub same : ReadsLast End old.left m now [] → Finds before most found.Alike first now
   same r =
       let last = last_after End most old.left first m now before h.size h.handed h.calm r in
-      record { bytes = before; handed = last.handed; bound = omega (arith, h.size); over = last.over; same = refl; calm = last.calm }
+      record { handed = record { handed = last.handed; bound = omega (arith, h.size) }; over = last.over; calm = last.calm }
 
   pub fails : ReadsLast Fault old.left m now [] → Finds before most found.Fault first now
   fails r =
       let last = last_after Fault most old.left first m now before h.size h.handed h.calm r in
-      record { bytes = before; handed = last.handed; bound = omega (arith, h.size); begins = ([], sym (append-nil before)); risen = last.risen }
+      record { bytes = before; handed = record { handed = last.handed; bound = omega (arith, h.size) }; begins = ([], sym (append-nil before)); risen = last.risen }
 
   pub passes : ReadsLast Limit old.left m now [] → Finds before most found.Limit first now
   passes r =

@@ -1,8 +1,8 @@
 -- What reading shows of a report: it is compared with what a source hands out.
-use Rattle.std.specs.Prelude.{ℕ, ◌≡◌, ◌≤◌, ◌++◌, Bool, true, [], ◌∷◌, length}
+use Rattle.std.specs.Prelude.{ℕ, ◌≡◌, ◌++◌, Bool, true, [], ◌∷◌, length}
 use Rattle.std.specs.Io.KnownBytes.{Consumes}
 use Rattle.daa_outside.specs.Faults.{HasRisen}
-use Rattle.daa_ahead.specs.Bytes.{Bytes, StreamState, IsSpent}
+use Rattle.daa_ahead.specs.Bytes.{Bytes, StreamState, HandsOut, IsSpent}
 use Rattle.daa_judge.specs.Judged.{Differs, Begins, BeginsButLast}
 use Rattle.daa_judge.specs.declared.found.Found.{Found}
 use Rattle.daa_judge.specs.declared.found.Found.TheVariants as found
@@ -15,19 +15,15 @@ Shows P ended bytes = (more : Bytes) → (ended ≡ true → more ≡ []) → P 
 module _ (report : Bytes) (most : ℕ) where
   -- it was read to its end, and is the report
   pub record IsSame (old new : StreamState) : Type 0 where
-    pub bytes : Bytes
-    pub handed : Consumes old.bytes new.bytes bytes
-    pub bound : length bytes ≤ most
+    pub handed : HandsOut most old new report
     pub over : IsSpent old.bytes new.bytes
-    pub same : bytes ≡ report
     pub calm : new.faults ≡ old.faults
 
   -- what was read, and whether it was all, shows that it differs from the report, and in which line
   -- first; nothing was read after the read that showed it
   pub record ShowsDifference (number : ℕ) (old new : StreamState) : Type 0 where
     pub bytes : Bytes
-    pub handed : Consumes old.bytes new.bytes bytes
-    pub bound : length bytes ≤ most
+    pub handed : HandsOut most old new bytes
     pub ended : Bool
     pub over : ended ≡ true → IsSpent old.bytes new.bytes
     pub differs : Shows (Differs report number) ended bytes
@@ -37,8 +33,7 @@ module _ (report : Bytes) (most : ℕ) where
   -- a read failed, and the report begins with what was read by then
   pub record FailsWithin (old new : StreamState) : Type 0 where
     pub bytes : Bytes
-    pub handed : Consumes old.bytes new.bytes bytes
-    pub bound : length bytes ≤ most
+    pub handed : HandsOut most old new bytes
     pub begins : Begins bytes report
     pub risen : HasRisen old.faults new.faults
 

@@ -2,15 +2,15 @@
 use Rattle.std.proofs.Common.{◌≡◌, ◌≤◌, ℕ, Bool, true, false, List, [], ◌∷◌, ◌++◌, length, refl, sym, ap, ap₂, ◌∙◌, arith, append-nil, nat_le, nat_lt, subst, if◌then◌else◌}
 use Rattle.std.proofs.lemmas.Bool.{false≢true}
 use Rattle.std.proofs.lemmas.Bool.Decides.{nat_tests}
-use Rattle.daa_lines.specs.LinesOf.{Bytes, cut, last_line, lines_of, long_length, shown}
+use Rattle.daa_lines.specs.LinesOf.{Bytes, long_length, shown}
 use Rattle.daa_lines.specs.Cutting.{Cutting}
 use Rattle.daa_lines.specs.Inside.Cutting.{IsSized}
 use Rattle.daa_lines.specs.Ending.{after_end, stage_at_end}
 use Rattle.daa_lines.specs.Stands.{Stands, standing}
 use Rattle.daa_lines.specs.declared.lines.Stage.{Stage}
 use Rattle.daa_lines.specs.declared.lines.Stage.TheVariants.{Open, Whole, Long, Skipping}
-use Rattle.daa_lines.proofs.CutLemmas.{cut_at}
-use Rattle.daa_lines.proofs.PushingLemmas.{Lasts}
+use Rattle.daa_lines.proofs.CutLemmas.{cut, cut_at, last_line, lines_of-cut}
+use Rattle.daa_lines.proofs.PushingLemmas.{Lasts, lasts}
 use Rattle.daa_lines.proofs.ShownLemmas.{short_rest, shown-append, whole_line}
 
 same_last : (rest : Bytes) → long_length ≤ length rest → last_line true rest ≡ last_line false rest
@@ -41,13 +41,12 @@ if_true test a b h = rw h refl
 
 ends : (bytes : Bytes) (taken : List Bytes) (c : Cutting) (ended : Bool) → c.ended ≡ ended → IsSized c.stage c.line
     → Stands bytes taken c → Stands bytes taken (after_end c)
-unfolding lines_of
 ends bytes taken c true over size s = subst (Stands bytes taken) (sym (if_true c.ended c _ over)) s
 ends bytes taken c false going size s =
     let next : Stands bytes taken (record c { ended = true; stage = stage_at_end c.stage c.line }) = record {
       fed = s.fed;
       number = s.number;
-      lines = ending (cut bytes).whole taken (cut bytes).rest c.line c.stage size (rw going at s.lines, s.rest going);
+      lines = ap shown (lines_of-cut bytes true) ∙ ending (cut bytes).whole taken (cut bytes).rest c.line c.stage size (lasts bytes taken c going s);
       rest = λ e. absurd (false≢true (sym e));
     } in
     rw going next

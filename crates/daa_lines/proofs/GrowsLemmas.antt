@@ -3,8 +3,8 @@ use Rattle.std.proofs.Common.{◌≡◌, ◌+◌, ◌==◌, ℕ, Bool, true, fal
 use Rattle.std.proofs.lemmas.List.{take-append-le}
 use Rattle.std.proofs.lemmas.Bool.{cases_lt}
 use Rattle.std.proofs.lemmas.Bool.Decides.{nat_tests}
-use Rattle.daa_lines.specs.LinesOf.{Bytes, Cut, cut, lines_of, last_line, line_feed, long_length, shown}
-use Rattle.daa_lines.proofs.CutLemmas.{cut_at, cut_more, cut-push}
+use Rattle.daa_lines.specs.LinesOf.{Bytes, lines_of, line_feed, long_length, shown}
+use Rattle.daa_lines.proofs.CutLemmas.{Cut, cut, cut_at, cut_more, cut-push, last_line, lines_of-cut}
 use Rattle.daa_lines.proofs.ShownLemmas.{long_rest, short_rest, shown-append}
 
 -- the lines begin with those
@@ -42,14 +42,16 @@ one : (p : Cut) (b : ℕ) (is_end : Bool) → (b == line_feed) ≡ is_end → Be
 one p b true e = rw e (ends p.whole p.rest)
 one p b false e = rw e (grows p.whole p.rest b)
 
-pub lines_begin : (bytes more : Bytes) → Begins (shown (lines_of bytes false)) (shown (lines_of (bytes ++ more) false))
-unfolding lines_of
-lines_begin bytes [] = ([], rw append-nil (sym (append-nil _)))
-lines_begin bytes (b ∷ more) =
+cut_begins : (bytes more : Bytes) → Begins (seen (cut bytes)) (seen (cut (bytes ++ more)))
+cut_begins bytes [] = ([], rw append-nil (sym (append-nil _)))
+cut_begins bytes (b ∷ more) =
     let first : Begins (seen (cut bytes)) (seen (cut (bytes ++ b ∷ []))) = rw (cut-push bytes b) (one (cut bytes) b _ refl) in
     let then_more : Begins (seen (cut (bytes ++ b ∷ []))) (seen (cut (bytes ++ b ∷ more))) =
-    rw (append_assoc bytes (b ∷ []) more) at (lines_begin (bytes ++ b ∷ []) more) in
+    rw (append_assoc bytes (b ∷ []) more) at (cut_begins (bytes ++ b ∷ []) more) in
     (first.0 ++ then_more.0, then_more.1 ∙ ap (λ (x : List Bytes). x ++ then_more.0) first.1 ∙ append_assoc _ first.0 then_more.0)
+
+pub lines_begin : (bytes more : Bytes) → Begins (shown (lines_of bytes false)) (shown (lines_of (bytes ++ more) false))
+lines_begin bytes more = rw (lines_of-cut bytes false, lines_of-cut (bytes ++ more) false) (cut_begins bytes more)
 
 ending : (done : List Bytes) (rest : Bytes) → Begins (seen (cut_at done rest)) (shown (done ++ last_line true rest))
 ending done [] = ([], sym (append-nil _))
@@ -67,5 +69,4 @@ ending done (b ∷ rest) =
 
 -- the lines at the end of the input begin with those before
 pub lines_end : (bytes : Bytes) → Begins (shown (lines_of bytes false)) (shown (lines_of bytes true))
-unfolding lines_of
-lines_end bytes = ending (cut bytes).whole (cut bytes).rest
+lines_end bytes = rw (lines_of-cut bytes false, lines_of-cut bytes true) (ending (cut bytes).whole (cut bytes).rest)

@@ -1,30 +1,25 @@
--- The stretches and the rest are the bytes, in one way.
-use Rattle.std.proofs.Common.{◌≡◌, ◌≢◌, ◌==◌, ℕ, Bool, true, false, List, [], ◌∷◌, ◌++◌, refl, sym, ap, ◌∙◌, append_assoc, arith, All, if◌then◌else◌}
+-- The stretches are the bytes, in one way.
+use Rattle.std.proofs.Common.{◌≡◌, ◌≢◌, ◌==◌, ℕ, Bool, true, false, List, [], ◌∷◌, ◌++◌, refl, sym, ap, subst, ◌∙◌, arith, All, if◌then◌else◌}
+use Rattle.std.specs.List.{join_with_byte}
 use Rattle.std.proofs.lemmas.Bool.Decides.{nat_tests}
-use Rattle.std.proofs.lemmas.List.Elements.{All-cons, All-head, All-nil, All-tail}
-use Rattle.daa_lines.specs.LinesOf.{Bytes, Cut, cut, line_feed, with_byte, with_feed}
-use Rattle.daa_lines.specs.Joined.{HasNoFeed, IsWithoutFeeds, joined}
-use Rattle.daa_lines.proofs.CutLemmas.{cut_at}
+use Rattle.std.proofs.lemmas.List.Elements.{All-append, All-cons, All-head, All-nil, All-tail}
+use Rattle.std.proofs.lemmas.List.Splits.{join_with_byte-slice_split, slice_split_at, slice_split_none}
+use Rattle.daa_lines.specs.LinesOf.{Bytes, line_feed, stretches_of}
+use Rattle.daa_lines.specs.Joined.{HasNoFeed}
+use Rattle.daa_lines.proofs.CutLemmas.{Cut, cut, cut_at, with_byte, with_feed, stretches_of-cut}
 
 -- a byte that is no line feed
 abbrev IsOther : ℕ → Type 0
 IsOther byte = byte ≢ line_feed
 
-joined-with_byte : (byte : ℕ) (whole : List Bytes) (rest : Bytes) → joined (with_byte byte whole rest) ≡ byte ∷ joined (cut_at whole rest)
-joined-with_byte byte [] rest = refl
-joined-with_byte byte (line ∷ whole) rest = refl
+pub joined-stretches_of : (bytes : Bytes) → join_with_byte line_feed (stretches_of bytes) ≡ bytes
+unfolding stretches_of
+joined-stretches_of bytes = join_with_byte-slice_split line_feed bytes
 
-joined_front : (byte : ℕ) (is_feed : Bool) (c : Cut) → (byte == line_feed) ≡ is_feed
-    → joined (if is_feed then with_feed c else with_byte byte c.whole c.rest) ≡ byte ∷ joined c
-joined_front byte true c e =
-    let feed : byte ≡ line_feed = grind (arith, nat_tests) in
-    ap (λ (b : ℕ). b ∷ joined c) (sym feed)
-joined_front byte false c e = joined-with_byte byte c.whole c.rest
-
-pub joined-cut : (bytes : Bytes) → joined (cut bytes) ≡ bytes
-unfolding cut
-joined-cut [] = refl
-joined-cut (byte ∷ bytes) = joined_front byte _ (cut bytes) refl ∙ ap (λ (b : Bytes). byte ∷ b) (joined-cut bytes)
+-- no line feed is in a stretch or in the rest
+record IsWithoutFeeds (c : Cut) : Type 0 where
+  pub whole : All HasNoFeed c.whole
+  pub rest : HasNoFeed c.rest
 
 without_front : (byte : ℕ) (whole : List Bytes) (rest : Bytes) → byte ≢ line_feed → IsWithoutFeeds (cut_at whole rest) → IsWithoutFeeds (with_byte byte whole rest)
 without_front byte [] rest ne w = record { whole = w.whole; rest = All-cons IsOther byte rest ne w.rest }
@@ -40,34 +35,29 @@ without_next byte false c e w =
     let other : byte ≢ line_feed = grind (arith, nat_tests) in
     without_front byte c.whole c.rest other w
 
-pub cut_without_feeds : (bytes : Bytes) → IsWithoutFeeds (cut bytes)
+cut_without_feeds : (bytes : Bytes) → IsWithoutFeeds (cut bytes)
 unfolding cut
 cut_without_feeds [] = record { whole = All-nil HasNoFeed; rest = All-nil IsOther }
 cut_without_feeds (byte ∷ bytes) = without_next byte _ (cut bytes) refl (cut_without_feeds bytes)
 
+pub stretches_without_feeds : (bytes : Bytes) → All HasNoFeed (stretches_of bytes)
+stretches_without_feeds bytes =
+    let w = cut_without_feeds bytes in let rest = (cut bytes).rest in
+    subst (All HasNoFeed) (sym (stretches_of-cut bytes))
+    (All-append HasNoFeed (cut bytes).whole (rest ∷ []) w.whole (All-cons HasNoFeed rest [] w.rest (All-nil HasNoFeed)))
+
 is_other : (byte : ℕ) → IsOther byte → (byte == line_feed) ≡ false
 is_other byte ne = grind (arith, nat_tests)
 
--- bytes with no line feed are cut into no stretch
-cut-rest : (rest : Bytes) → HasNoFeed rest → cut rest ≡ cut_at [] rest
-unfolding cut
-cut-rest [] free = refl
-cut-rest (byte ∷ rest) free =
-    rw (is_other byte (All-head IsOther byte rest free), cut-rest rest (All-tail IsOther byte rest free)) refl
+-- no byte passes the test
+none_passes : (bytes : Bytes) → HasNoFeed bytes → All (λ byte. (byte == line_feed) ≡ false) bytes
+none_passes bytes free = λ k d l. is_other _ (free k d l)
 
--- bytes with no line feed, and then one, are the first stretch
-cut-line : (line bytes : Bytes) → HasNoFeed line → cut (line ++ line_feed ∷ bytes) ≡ cut_at (line ∷ (cut bytes).whole) (cut bytes).rest
-unfolding cut
-cut-line [] bytes free = refl
-cut-line (byte ∷ line) bytes free =
-    rw (is_other byte (All-head IsOther byte line free), cut-line line bytes (All-tail IsOther byte line free)) refl
-
-cut_lines : (whole : List Bytes) (rest : Bytes) → All HasNoFeed whole → HasNoFeed rest → cut (joined (cut_at whole rest)) ≡ cut_at whole rest
-cut_lines [] rest free last = cut-rest rest last
-cut_lines (line ∷ whole) rest free last =
-    let next : cut (joined (cut_at whole rest)) ≡ cut_at whole rest = cut_lines whole rest (All-tail HasNoFeed line whole free) last in
-    let group : joined (cut_at (line ∷ whole) rest) ≡ line ++ line_feed ∷ joined (cut_at whole rest) = simp append_assoc in
-    ap cut group ∙ cut-line line (joined (cut_at whole rest)) (All-head HasNoFeed line whole free) ∙ ap (λ (c : Cut). cut_at (line ∷ c.whole) c.rest) next
-
-pub cut-joined : (stretches : Cut) → IsWithoutFeeds stretches → cut (joined stretches) ≡ stretches
-cut-joined stretches w = cut_lines stretches.whole stretches.rest w.whole w.rest
+pub stretches_of-joined : (first : Bytes) (others : List Bytes) → All HasNoFeed (first ∷ others)
+    → stretches_of (join_with_byte line_feed (first ∷ others)) ≡ first ∷ others
+unfolding stretches_of
+stretches_of-joined first [] free = slice_split_none (λ byte. byte == line_feed) first (none_passes first (All-head HasNoFeed first [] free))
+stretches_of-joined first (next ∷ others) free =
+    slice_split_at (λ byte. byte == line_feed) first line_feed (join_with_byte line_feed (next ∷ others))
+    (none_passes first (All-head HasNoFeed first (next ∷ others) free)) refl
+    ∙ ap (λ (ls : List Bytes). first ∷ ls) (stretches_of-joined next others (All-tail HasNoFeed first (next ∷ others) free))

@@ -2,14 +2,14 @@
 use Rattle.std.proofs.Common.{◌≡◌, ◌≤◌, ◌<◌, ◌+◌, ◌==◌, ℕ, Bool, true, false, cond, List, [], ◌∷◌, ◌++◌, length, take, refl, sym, ap, ap₂, ◌∙◌, arith, length-append, append-nil, append_assoc, get_or, subst}
 use Rattle.std.proofs.lemmas.List.{take-append-le, take_more}
 use Rattle.std.proofs.lemmas.Bool.Decides.{nat_tests}
-use Rattle.daa_lines.specs.LinesOf.{Bytes, Cut, cut, last_line, line_feed, lines_of, long_length, shown}
+use Rattle.daa_lines.specs.LinesOf.{Bytes, line_feed, lines_of, long_length, shown}
 use Rattle.daa_lines.specs.Cutting.{Cutting, is_standing}
 use Rattle.daa_lines.specs.Inside.Cutting.{IsSized}
 use Rattle.daa_lines.specs.Inside.Pushing.{after_byte, at_open, at_stage}
 use Rattle.daa_lines.specs.Stands.{Stands, IsRest, standing}
 use Rattle.daa_lines.specs.declared.lines.Stage.{Stage}
 use Rattle.daa_lines.specs.declared.lines.Stage.TheVariants.{Open, Whole, Long, Skipping}
-use Rattle.daa_lines.proofs.CutLemmas.{cut_at, cut_more, cut-push}
+use Rattle.daa_lines.proofs.CutLemmas.{Cut, cut, cut_at, cut_more, cut-push, last_line, lines_of-cut, rest_in-cut}
 use Rattle.daa_lines.proofs.ShownLemmas.{long_rest, short_rest, shown-append, whole_line}
 
 -- what a byte makes of the lines so far
@@ -60,18 +60,24 @@ by_stage p taken Skipping line b free size h = by_skipping p.whole taken p.rest 
 by_stage p taken Whole line b free size h = cc
 by_stage p taken Long line b free size h = cc
 
+-- the bytes that were fed, cut, while the input goes on
+pub lasts : (bytes : Bytes) (taken : List Bytes) (c : Cutting) → c.ended ≡ false → Stands bytes taken c → Lasts (cut bytes) taken c.stage c.line
+lasts bytes taken c going s = (
+  ap shown (sym (lines_of-cut bytes false)) ∙ ap (λ (e : Bool). shown (lines_of bytes e)) (sym going) ∙ s.lines,
+  subst (IsRest c.stage c.line) (rest_in-cut bytes) (s.rest going),
+)
+
 -- one byte more
 pub stands-push : (bytes : Bytes) (taken : List Bytes) (c : Cutting) (b : ℕ) → is_standing c.stage ≡ false → c.ended ≡ false → IsSized c.stage c.line
     → Stands bytes taken c → Stands (bytes ++ b ∷ []) taken (after_byte c b)
-unfolding after_byte lines_of
+unfolding after_byte
 stands-push bytes taken c b free going size s =
-    let held : Lasts (cut bytes) taken c.stage c.line = (rw going at s.lines, s.rest going) in
-    let next = by_stage (cut bytes) taken c.stage c.line b free size held in
+    let next = by_stage (cut bytes) taken c.stage c.line b free size (lasts bytes taken c going s) in
     record {
       fed = omega (arith, s.fed, length-append bytes (b ∷ []));
       number = s.number;
-      lines = rw (going, cut-push bytes b) next.0;
-      rest = λ _. rw (cut-push bytes b) next.1;
+      lines = rw (going, lines_of-cut (bytes ++ b ∷ []) false, cut-push bytes b) next.0;
+      rest = λ _. rw (rest_in-cut (bytes ++ b ∷ []), cut-push bytes b) next.1;
     }
 
 -- one byte more of a piece

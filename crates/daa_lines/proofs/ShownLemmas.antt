@@ -2,7 +2,8 @@
 use Rattle.std.proofs.Common.{◌≡◌, ◌≤◌, ◌<◌, true, false, List, [], ◌∷◌, ◌++◌, length, take, refl, ap, arith, append-nil, nat_le}
 use Rattle.std.proofs.lemmas.List.{take_all}
 use Rattle.std.proofs.lemmas.Bool.Decides.{nat_tests}
-use Rattle.daa_lines.specs.LinesOf.{Bytes, last_line, long_length, shown}
+use Rattle.daa_lines.specs.LinesOf.{Bytes, long_length, shown}
+use Rattle.daa_lines.proofs.CutLemmas.{last_line}
 
 pub shown-append : (xs ys : List Bytes) → shown (xs ++ ys) ≡ shown xs ++ shown ys
 shown-append [] ys = refl

@@ -1,6 +1,6 @@
 -- Which bytes went in, and which lines came out.
 use Rattle.std.specs.Prelude.{◌≡◌, ◌≤◌, false, List, [], ◌∷◌, ◌++◌, length}
-use Rattle.daa_lines.specs.LinesOf.{Bytes, cut, lines_of, long_length, shown}
+use Rattle.daa_lines.specs.LinesOf.{Bytes, stretches_of, lines_of, long_length, shown}
 use Rattle.daa_lines.specs.Cutting.{Cutting}
 use Rattle.daa_lines.specs.declared.lines.Stage.{Stage}
 use Rattle.daa_lines.specs.declared.lines.Stage.TheVariants.{Open, Whole, Long, Skipping}
@@ -10,6 +10,12 @@ abbrev pub standing : Stage → Bytes → List Bytes
 standing Whole line = line ∷ []
 standing Long line = line ∷ []
 standing _ line = []
+
+-- the last of the stretches
+abbrev pub rest_in : List Bytes → Bytes
+rest_in [] = []
+rest_in (rest ∷ []) = rest
+rest_in (line ∷ stretches) = rest_in stretches
 
 -- what the bytes after the last line feed are
 abbrev pub IsRest : Stage → Bytes → Bytes → Type 0
@@ -24,4 +30,4 @@ pub record Stands (bytes : Bytes) (taken : List Bytes) (c : Cutting) : Type 0 wh
   pub number : c.number ≡ length taken
   -- the lines of the bytes are those taken, and then the one that is ready
   pub lines : shown (lines_of bytes c.ended) ≡ taken ++ standing c.stage c.line
-  pub rest : c.ended ≡ false → IsRest c.stage c.line (cut bytes).rest
+  pub rest : c.ended ≡ false → IsRest c.stage c.line (rest_in (stretches_of bytes))

@@ -1,21 +1,22 @@
 //! What holds of the lines of every input, and inputs whose lines are known.
 
-ghost use Rattle.std.specs.Prelude.{◌≡◌, List, true, false, [], ◌∷◌, ◌++◌, codes, replicate};
-ghost use Rattle.daa_lines.specs.LinesOf.{Bytes, Cut, cut, lines_of, shown};
+ghost use Rattle.std.specs.Prelude.{◌≡◌, List, true, false, [], ◌∷◌, ◌++◌, All, codes, replicate};
+ghost use Rattle.std.specs.List.{join_with_byte};
+ghost use Rattle.daa_lines.specs.LinesOf.{Bytes, line_feed, stretches_of, lines_of, shown};
 ghost use Rattle.daa_lines.specs.Cutting.{Cutting};
 ghost use Rattle.daa_lines.specs.Stands.{Stands, standing};
-ghost use Rattle.daa_lines.specs.Joined.{IsWithoutFeeds, joined};
+ghost use Rattle.daa_lines.specs.Joined.{HasNoFeed};
 ghost use Rattle.daa_lines.specs.Feeding.{bytes_taken};
 
 use crate::lines::Stage;
 
-/// Joined again with line feeds, the stretches and the rest are the bytes, and no line feed is in
-/// them. Bytes have no other stretches of which this holds.
+/// Joined again with line feeds, the stretches are the bytes, and no line feed is in them. Bytes
+/// have no other stretches of which this holds.
 pub fn stretches_are_the_bytes()
-    ensures joined { (bytes : Bytes) → joined (cut bytes) ≡ bytes }
-    ensures without_feeds { (bytes : Bytes) → IsWithoutFeeds (cut bytes) }
-    ensures only { (stretches : Cut) → IsWithoutFeeds stretches
-        → cut (joined stretches) ≡ stretches }
+    ensures joined { (bytes : Bytes) → join_with_byte line_feed (stretches_of bytes) ≡ bytes }
+    ensures without_feeds { (bytes : Bytes) → All HasNoFeed (stretches_of bytes) }
+    ensures only { (first : Bytes) (others : List Bytes) → All HasNoFeed (first ∷ others)
+        → stretches_of (join_with_byte line_feed (first ∷ others)) ≡ first ∷ others }
 {}
 
 /// The lines of a longer input begin with those of a shorter one, and those at its end with those

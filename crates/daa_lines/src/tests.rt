@@ -3,10 +3,7 @@
 
 ghost use Rattle.std.specs.Prelude.{◌≡◌, ◌<◌, false};
 
-use crate::{
-    Line, Lines, Stage, lines_only_grow, pieces_do_not_matter, stretches_are_the_bytes,
-    worked_examples,
-};
+use crate::{Line, Lines, Stage};
 use std::alloc::{AllocError, Global};
 use std::process::Abort;
 use std::test::Fail;
@@ -234,12 +231,4 @@ fn values_may_be_sent() {
     may_be_sent::<Lines>();
     may_be_sent::<Line<'static>>();
     may_be_sent::<Stage>();
-}
-
-#[test]
-fn laws() {
-    lines_only_grow();
-    pieces_do_not_matter();
-    stretches_are_the_bytes();
-    worked_examples();
 }

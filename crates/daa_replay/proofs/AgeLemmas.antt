@@ -3,7 +3,7 @@ use Rattle.std.proofs.Common.{ℕ, ◌≡◌, ◌∙◌, Bool, false, Ok, Err, r
 use Rattle.std.specs.Prelude.{IfOk}
 use Rattle.daa_lines.specs.LinesOf.{Bytes, lines_of}
 use Rattle.daa_state.specs.Current.{IsCurrentWord, IsCurrentState, IsCurrentPicture, IsCurrentStep}
-use Rattle.daa_state.specs.Fault.{Checked}
+use Rattle.daa_state.specs.Fault.{Checked, ◌>>=◌}
 use Rattle.daa_state.specs.FourWords.{is_format_line}
 use Rattle.daa_state.specs.Laws.{is_format_word}
 use Rattle.daa_state.specs.MomentStep.{State, Stepped, start, step}
@@ -11,7 +11,7 @@ use Rattle.daa_state.specs.WordOf.{word_of}
 use Rattle.daa_state.specs.declared.word.Word.{Word}
 use Rattle.daa_state.proofs.AgeLaws.{word_of-current, step-current}
 use Rattle.daa_state.proofs.FormatLaws.{only_format_lines_say_formats, step-format}
-use Rattle.daa_replay.specs.Lines.{word_step, line_step, events_of}
+use Rattle.daa_replay.specs.Lines.{line_step, events_of}
 use Rattle.daa_replay.specs.FourWordLines.{HasNoAges}
 use Rattle.daa_replay.proofs.PictureLemmas.{Leaves, each_picture}
 
@@ -26,7 +26,7 @@ both state (Ok next) one h k = record { state = record { format = k ∙ one; cur
 both state (Err fault) one h k = tt
 
 word_leaves : (state : State) (word : Checked Word) → IsFirstFormat state → IfOk word IsCurrentWord → IfOk word (λ w. is_format_word w ≡ false)
-    → IfOk (word_step state word) (Leaves IsFirstFormat IsCurrentPicture)
+    → IfOk (word >>= step state) (Leaves IsFirstFormat IsCurrentPicture)
 word_leaves state (Ok word) h k other = both state (step state word) h.format (step-current state word h.current k) (step-format state word other)
 word_leaves state (Err fault) h k other = tt
 

@@ -40,30 +40,30 @@ take_front (x ∷ xs) ys (suc n) e = ap (λ (l : Bytes). x ∷ l) (take_front xs
 module _ (report : Bytes) (most : ℕ) (old new : StreamState) (all : Bytes) (told : old.bytes ≡ Some all) where
   pub same_all : IsSame report most old new → all ≡ report
   same_all s =
-      let h = handed_all old.bytes new.bytes all s.bytes told s.handed in
-      h.all_are ∙ ap (λ (l : Bytes). s.bytes ++ l) (h.none s.over) ∙ append-nil s.bytes ∙ s.same
+      let h = handed_all old.bytes new.bytes all report told s.handed.handed in
+      h.all_are ∙ ap (λ (l : Bytes). report ++ l) (h.none s.over) ∙ append-nil report
 
   pub same_short : IsSame report most old new → length all ≤ most
-  same_short s = let e = same_all s in let b = s.bound in omega (arith, ap length e, ap length s.same)
+  same_short s = let e = same_all s in omega (arith, ap length e, s.handed.bound)
 
   pub other_all : (number : ℕ) → ShowsDifference report most number old new → all ≢ report
   other_all number d e =
-      let h = handed_all old.bytes new.bytes all d.bytes told d.handed in
+      let h = handed_all old.bytes new.bytes all d.bytes told d.handed.handed in
       (d.differs h.more (λ t. h.none (d.over t))).other (sym h.all_are ∙ e)
 
   pub other_long : (number : ℕ) → ShowsDifference report most number old new → most < length all → Begins (take most all) report → ⊥
   other_long number d long (rest, begins) = go d.ended refl
     where
       h : HasLeft old.bytes new.bytes all d.bytes
-      h = handed_all old.bytes new.bytes all d.bytes told d.handed
+      h = handed_all old.bytes new.bytes all d.bytes told d.handed.handed
 
       go : (b : Bool) → d.ended ≡ b → ⊥
       go true e =
           let n = ap length (h.none (d.over e)) in
-          let b = d.bound in
+          let b = d.handed.bound in
           absurd (omega (arith, ap length h.all_are, length-append d.bytes h.more))
       go false e =
-          let t = take_over d.bytes h.more most d.bound in
+          let t = take_over d.bytes h.more most d.handed.bound in
           let r : d.bytes ++ (t.0 ++ rest) ≡ report =
           sym (append_assoc d.bytes t.0 rest) ∙ ap (λ (l : Bytes). l ++ rest) (sym t.1 ∙ ap (take most) (sym h.all_are)) ∙ sym begins in
           (d.differs (t.0 ++ rest) (λ k. absurd (false_not_true (sym e ∙ k)))).other r

@@ -14,8 +14,7 @@ use Rattle.daa_lines.specs.LinesOf.{Bytes}
 use Rattle.daa_outside.specs.Faults.{HasRisen}
 use Rattle.daa_replay.specs.declared.replay.Progress.{Progress}
 use Rattle.daa_replay.specs.declared.moment.Tools.{Tools}
-use Rattle.daa_replay.specs.Inside.Replay.{Desk, desk, IsBetween, CanReport, Writes, Breaks, Steps, Reports}
-use Rattle.daa_replay.specs.Replay.{TakesFront}
+use Rattle.daa_replay.specs.Inside.Replay.{Desk, desk, IsBetween, CanReport, Writes, Breaks, Steps, Reports, TakesFront}
 
 -- ---- pieces put together
 

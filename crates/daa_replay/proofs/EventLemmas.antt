@@ -2,12 +2,13 @@
 use Rattle.std.proofs.Common.{ℕ, ◌+◌, ◌≡◌, List, [], ◌∷◌, ◌++◌, length, take, arith, refl, sym, ap, ◌∙◌, Bool, true, false, append_assoc, append-nil}
 use Rattle.daa_lines.specs.LinesOf.{Bytes, lines_of, shown}
 use Rattle.daa_lines.proofs.GrowsLemmas.{Begins, lines_begin, lines_end}
-use Rattle.daa_state.specs.Fault.{Checked}
-use Rattle.daa_state.specs.MomentStep.{State, Stepped, start, finished}
+use Rattle.daa_state.specs.Fault.{Checked, ◌>>=◌}
+use Rattle.daa_state.specs.declared.word.Word.{Word}
+use Rattle.daa_state.specs.MomentStep.{State, Stepped, start, step, finished}
 use Rattle.daa_state.proofs.WordLaws.{word_of-take}
 use Rattle.daa_replay.specs.declared.lines.Event.{Event}
 use Rattle.daa_replay.specs.Inside.Lines.{state_after}
-use Rattle.daa_replay.specs.Lines.{word_step, line_step, next_state, line_event, end_event, events_from, events_of}
+use Rattle.daa_replay.specs.Lines.{line_step, next_state, line_event, end_event, events_from, events_of}
 
 -- the events of lines are those of the first ones, and then those of the others
 pub events_from-append : (state : State) (number : ℕ) (ended : Bool) (xs ys : List Bytes) →
@@ -49,7 +50,7 @@ pub events_from-shown : (state : State) (number : ℕ) (ended : Bool) (lines : L
 events_from-shown state number true [] = refl
 events_from-shown state number false [] = refl
 events_from-shown state number ended (line ∷ lines) =
-    let same : line_step state (take 256 line) ≡ line_step state line = ap (word_step state) (word_of-take state.format line) in
+    let same : line_step state (take 256 line) ≡ line_step state line = ap (λ (w : Checked Word). w >>= step state) (word_of-take state.format line) in
     ap (λ (s : Checked Stepped). line_event number s ++ events_from (next_state state s) (number + 1) ended (shown lines)) same
     ∙ ap (λ (l : List Event). line_event number (line_step state line) ++ l)
     (events_from-shown (next_state state (line_step state line)) (number + 1) ended lines)

@@ -7,13 +7,13 @@ use Rattle.daa_lines.specs.Stands.{Stands, standing}
 use Rattle.daa_lines.specs.Taking.{after_taking}
 use Rattle.daa_lines.specs.declared.lines.Stage.{Stage}
 use Rattle.daa_lines.specs.declared.lines.Stage.TheVariants.{Open, Whole, Long, Skipping}
-use Rattle.daa_state.specs.MomentStep.{State, start, finished}
+use Rattle.daa_state.specs.MomentStep.{State, start, step, finished}
 use Rattle.daa_replay.specs.declared.lines.Event.{Event}
-use Rattle.daa_state.specs.Fault.{Checked}
+use Rattle.daa_state.specs.Fault.{Checked, ◌>>=◌}
 use Rattle.daa_state.specs.WordOf.{word_of}
 use Rattle.daa_state.specs.declared.word.Word.{Word}
 use Rattle.daa_lines.proofs.TakingLemmas.{standing_none, standing_one}
-use Rattle.daa_replay.specs.Lines.{word_step, line_step, next_state, line_event, end_event, events_from, events_of}
+use Rattle.daa_replay.specs.Lines.{line_step, next_state, line_event, end_event, events_from, events_of}
 use Rattle.daa_replay.specs.Inside.Lines.{Follows, state_after, given_with}
 use Rattle.daa_replay.proofs.EventLemmas.{events_from-append, events_begin, events_from-push, events_from-end, events_from-shown, state_after-append}
 
@@ -73,14 +73,14 @@ pub follows-event : (bytes : Bytes) (given : List Event) (old new : Cutting) (be
     → is_standing old.stage ≡ true → new ≡ after_taking old
     → ((b : Bytes) (t : List Bytes) → Stands b t old → Stands b (t ++ standing old.stage old.line) new)
     → word ≡ word_of old.line before.format → number ≡ new.number
-    → given_with [] event ≡ line_event number (word_step before word) → after ≡ next_state before (word_step before word)
+    → given_with [] event ≡ line_event number (word >>= step before) → after ≡ next_state before (word >>= step before)
     → Follows bytes given old before → Follows bytes (given_with given event) new after
 follows-event bytes given old new before after word number event stood taken kept word_is number_is event_is after_is f =
     let counted : number ≡ old.number + 1 = number_is ∙ ap (λ (c : Cutting). c.number) taken ∙ taken_number old stood in
     let events : given_with given event ≡ given ++ line_event (old.number + 1) (line_step before old.line) =
     given_with-append given event
-    ∙ ap (λ (l : List Event). given ++ l) (event_is ∙ ap₂ (λ (n : ℕ) (w : Checked Word). line_event n (word_step before w)) counted word_is) in
-    let state : after ≡ next_state before (line_step before old.line) = after_is ∙ ap (λ (w : Checked Word). next_state before (word_step before w)) word_is in
+    ∙ ap (λ (l : List Event). given ++ l) (event_is ∙ ap₂ (λ (n : ℕ) (w : Checked Word). line_event n (w >>= step before)) counted word_is) in
+    let state : after ≡ next_state before (line_step before old.line) = after_is ∙ ap (λ (w : Checked Word). next_state before (w >>= step before)) word_is in
     rw (events, state) (follows-line bytes given old new before stood kept f)
 
 pub given_whole : (bytes : Bytes) (given : List Event) (lines : Cutting) (moments : State) (over : Checked (Unit {0})) → lines.ended ≡ true → is_standing lines.stage ≡ false

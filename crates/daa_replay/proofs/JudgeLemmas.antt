@@ -104,12 +104,12 @@ module _ {settings : Settings} (most : ℕ) (first : StreamState) (bytes : Bytes
   pub stopped-early : (result : Found) (t : StreamState) → StopsIn settings most first bytes false result t → StopsIn settings most first bytes true result t
   stopped-early result t s =
       let whole = events_end bytes in
-      let f = s.begins.front in
+      let f = s.begins.is in
       record {
         front = s.front;
         begins = record {
           text = s.begins.text;
-          front = record {
+          is = record {
             written = f.written;
             later = f.later ++ whole.0;
             events = whole.1 ∙ ap (λ (e : List Event). e ++ whole.0) f.events ∙ append_assoc f.written f.later whole.0;
@@ -130,7 +130,7 @@ module _ {settings : Settings} (most : ℕ) (first : StreamState) (bytes : Bytes
       → IsMatched most first text m s → IsWhole settings most first bytes m s
   whole_of refused text m s r h = record {
     report = r.written.text;
-    is = r.written.report;
+    is = r.written.is;
     matched = subst (λ (t : Text). IsMatched most first t m s) r.written.taken h;
   }
 
@@ -165,7 +165,7 @@ module _ {settings : Settings} (most : ℕ) (first : StreamState) (bytes : Bytes
   judged_stop result now ok s =
       let one = one_report settings ok bytes true in
       let e : s.front ≡ s.begins.text = s.begins.taken in
-      let rest = front_begins settings ok bytes true s.begins.text one.one s.begins.front one.is in
+      let rest = front_begins settings ok bytes true s.begins.text one.one s.begins.is one.is in
       (one, subst (λ (t : Text). Finds t most result first now) (ap (λ (t : Text). t ++ rest.0) e ∙ sym rest.1) (s.finds rest.0))
 
   pub judged_whole : (result : Found) (m : Matching) (s now : StreamState) → IsAccepted settings → IsWhole settings most first bytes m s

@@ -2,7 +2,8 @@
 use Rattle.std.proofs.Common.{◌≡◌, ◌≢◌, ◌≤◌, ◌+◌, ◌∙◌, ℕ, Bool, true, false, List, [], ◌∷◌, ◌++◌, length, take, None, Some, refl, sym, ap, subst, arith, inl, inr, length-append, append-nil}
 use Rattle.std.specs.Io.KnownBytes.{Consumes}
 use Rattle.daa_ahead.specs.Moves as ahead
-use Rattle.daa_config.specs.Settings.{Settings}
+use Rattle.daa_bands.specs.Parts.{SplitsByEach}
+use Rattle.daa_config.specs.Settings.{Settings, IsAccepted}
 use Rattle.daa_outside.specs.Faults.{HasRisen}
 use Rattle.daa_lines.specs.LinesOf.{Bytes}
 use Rattle.daa_lines.specs.Cutting.{is_standing}
@@ -10,24 +11,30 @@ use Rattle.daa_replay.specs.declared.lines.Event.{Event}
 use Rattle.daa_replay.specs.declared.replay.Progress.{Progress}
 use Rattle.daa_replay.specs.declared.status.Status.{Status}
 use Rattle.daa_replay.specs.declared.status.Status.TheVariants as status
-use Rattle.daa_replay.specs.Moment.{AreTexts}
-use Rattle.daa_replay.specs.Inside.Replay.{Reports, ReportsAll}
-use Rattle.daa_replay.specs.Outside.{Outside, IsCalm}
+use Rattle.daa_replay.specs.Moment.{IsEventText, IsReportOf, IsReportFront}
+use Rattle.daa_replay.specs.Inside.Replay.{Reports, ReportsAll, TakesFront}
+use Rattle.daa_replay.specs.Outside.{Outside, IsCalm, TakesSome}
 use Rattle.daa_ahead.specs.Bytes.{ToldBytes, IsSpent}
-use Rattle.daa_replay.specs.Replay.{TakesFront, TakesReport, ReadsAll, WriteFails}
+use Rattle.daa_replay.specs.Replay.{ReadsAll, WriteFails}
 use Rattle.daa_replay.specs.Inside.Run.{Replays}
 use Rattle.daa_replay.specs.Inside.Status.{Ends, code_of}
 use Rattle.daa_replay.proofs.FollowsLemmas.{given_now}
 use Rattle.daa_replay.proofs.ReportLemmas.{stops-more}
+use Rattle.daa_replay.proofs.SomeReport.{begun-front}
 
 -- where no line stands, the report so far is written
 pub written_now : {settings : Settings} (first now : ToldBytes) (bytes : Bytes) (p : Progress) → p.lines.ended ≡ false → is_standing p.lines.stage ≡ false
-    → Reports settings first bytes p now → TakesReport settings first now bytes false
+    → Reports settings first bytes p now → TakesSome (IsReportOf settings bytes false) first now
 written_now {settings = settings} first now bytes p going free r = record {
   text = r.text;
-  report = subst (λ (es : List Event). AreTexts settings es r.text) (given_now bytes r.given p.lines p.moments going free r.follows) r.texts;
+  is = subst (λ (es : List Event). SplitsByEach (IsEventText settings) es r.text) (given_now bytes r.given p.lines p.moments going free r.follows) r.texts;
   taken = r.taken;
 }
+
+-- what was written is a beginning of the report
+front_now : {settings : Settings} → IsAccepted settings → (old new : ToldBytes) (bytes : Bytes) (ended : Bool)
+    → TakesFront settings old new bytes ended → TakesSome (IsReportFront settings bytes ended) old new
+front_now {settings = settings} ok old new bytes ended s = record { text = s.text; is = begun-front settings ok bytes ended s.text s.is; taken = s.taken }
 
 -- the end of the input was met, and what was read before is reported
 pub record IsOver (settings : Settings) (a d : ToldBytes) (taken : ℕ) (first : ToldBytes) (p : Progress) (now : ToldBytes) : Type 0 where
@@ -54,11 +61,11 @@ module _ {settings : Settings} (places most taken : ℕ) (within : taken ≤ mos
         write_calm = quiet;
       }
 
-  stops_at_end : (p : Progress) (now : ToldBytes) → IsOver settings old.source.bytes new.source.bytes taken old.sink.bytes p now
+  stops_at_end : IsAccepted settings → (p : Progress) (now : ToldBytes) → IsOver settings old.source.bytes new.source.bytes taken old.sink.bytes p now
       → ((first : ToldBytes) (bytes : Bytes) → Reports settings first bytes p now → TakesFront settings first new.sink.bytes bytes true)
       → HasRisen old.sink.faults new.sink.faults → IsCalm old.source new.source
       → WriteFails settings most old new places
-  stops_at_end p now o stops risen calm = record {
+  stops_at_end ok p now o stops risen calm = record {
     risen = risen;
     bytes = o.bytes;
     handed = record { handed = o.handed; bound = omega (arith, o.size) };
@@ -66,18 +73,18 @@ module _ {settings : Settings} (places most taken : ℕ) (within : taken ≤ mos
     read_calm = λ e. calm;
     ended = true;
     over = λ e. o.left;
-    written = stops old.sink.bytes o.bytes o.reports;
+    written = front_now ok old.sink.bytes new.sink.bytes o.bytes true (stops old.sink.bytes o.bytes o.reports);
   }
 
   -- how a run ends whose input was read to its end
-  pub replays_over : (end : Status) (p : Progress) (now : ToldBytes) → Ends end → IsOver settings old.source.bytes new.source.bytes taken old.sink.bytes p now
+  pub replays_over : IsAccepted settings → (end : Status) (p : Progress) (now : ToldBytes) → Ends end → IsOver settings old.source.bytes new.source.bytes taken old.sink.bytes p now
       → (end ≡ status.Accepted → (first : ToldBytes) (bytes : Bytes) → Reports settings first bytes p now → ReportsAll settings first bytes false new.sink.bytes)
       → (end ≡ status.Refused → (first : ToldBytes) (bytes : Bytes) → Reports settings first bytes p now → ReportsAll settings first bytes true new.sink.bytes)
       → (end ≡ status.WriteFault → (first : ToldBytes) (bytes : Bytes) → Reports settings first bytes p now → TakesFront settings first new.sink.bytes bytes true)
       → (end ≡ status.WriteFault → HasRisen old.sink.faults new.sink.faults)
       → IsCalm old.source new.source → old.sink.faults ≤ new.sink.faults → (end ≢ status.WriteFault → IsCalm old.sink new.sink)
       → Replays settings most (code_of end) old new places
-  replays_over status.Accepted p now ends o whole refused stops risen calm k quiet = record {
+  replays_over ok status.Accepted p now ends o whole refused stops risen calm k quiet = record {
     named = inl refl;
     accepted = λ e. reads_all false p now o (whole refl) calm (quiet (λ w. cc));
     refused = λ e. absurd (omega (arith, e));
@@ -87,7 +94,7 @@ module _ {settings : Settings} (places most taken : ℕ) (within : taken ≤ mos
     reads = omega (arith, calm);
     writes = k;
   }
-  replays_over status.Refused p now ends o whole refused stops risen calm k quiet = record {
+  replays_over ok status.Refused p now ends o whole refused stops risen calm k quiet = record {
     named = inr (inl refl);
     accepted = λ e. absurd (omega (arith, e));
     refused = λ e. reads_all true p now o (refused refl) calm (quiet (λ w. cc));
@@ -97,26 +104,26 @@ module _ {settings : Settings} (places most taken : ℕ) (within : taken ≤ mos
     reads = omega (arith, calm);
     writes = k;
   }
-  replays_over status.WriteFault p now ends o whole refused stops risen calm k quiet = record {
+  replays_over ok status.WriteFault p now ends o whole refused stops risen calm k quiet = record {
     named = inr (inr (inr (inl refl)));
     accepted = λ e. absurd (omega (arith, e));
     refused = λ e. absurd (omega (arith, e));
     read_fault = λ e. absurd (omega (arith, e));
-    write_fault = λ e. stops_at_end p now o (stops refl) (risen refl) calm;
+    write_fault = λ e. stops_at_end ok p now o (stops refl) (risen refl) calm;
     limit = λ e. absurd (omega (arith, e));
     reads = omega (arith, calm);
     writes = k;
   }
-  replays_over status.NotTaken p now ends o whole refused stops risen calm k quiet = absurd ends
-  replays_over status.BadConfiguration p now ends o whole refused stops risen calm k quiet = absurd ends
-  replays_over status.NoMemory p now ends o whole refused stops risen calm k quiet = absurd ends
-  replays_over status.FetchFault p now ends o whole refused stops risen calm k quiet = absurd ends
-  replays_over status.ReadFault p now ends o whole refused stops risen calm k quiet = absurd ends
-  replays_over status.Limit p now ends o whole refused stops risen calm k quiet = absurd ends
-  replays_over status.StatesLong p now ends o whole refused stops risen calm k quiet = absurd ends
+  replays_over ok status.NotTaken p now ends o whole refused stops risen calm k quiet = absurd ends
+  replays_over ok status.BadConfiguration p now ends o whole refused stops risen calm k quiet = absurd ends
+  replays_over ok status.NoMemory p now ends o whole refused stops risen calm k quiet = absurd ends
+  replays_over ok status.FetchFault p now ends o whole refused stops risen calm k quiet = absurd ends
+  replays_over ok status.ReadFault p now ends o whole refused stops risen calm k quiet = absurd ends
+  replays_over ok status.Limit p now ends o whole refused stops risen calm k quiet = absurd ends
+  replays_over ok status.StatesLong p now ends o whole refused stops risen calm k quiet = absurd ends
 
   pub read_fails : HasRisen old.source.faults new.source.faults → old.source.faults ≤ new.source.faults → IsCalm old.sink new.sink
-      → (bytes : Bytes) → length bytes ≡ taken → Consumes old.source.bytes new.source.bytes bytes → TakesReport settings old.sink.bytes new.sink.bytes bytes false
+      → (bytes : Bytes) → length bytes ≡ taken → Consumes old.source.bytes new.source.bytes bytes → TakesSome (IsReportOf settings bytes false) old.sink.bytes new.sink.bytes
       → Replays settings most 4 old new places
   read_fails risen f quiet bytes size handed written = record {
     named = inr (inr (inl refl));
@@ -132,10 +139,10 @@ module _ {settings : Settings} (places most taken : ℕ) (within : taken ≤ mos
 -- ---- the end of a replay, by how reading ended
 
 -- the sink failed
-pub write_fails : {settings : Settings} (places most : ℕ) (old new : Outside) (bytes : Bytes) → length bytes ≤ most → ahead.TakesFront places most old.source new.source bytes
+pub write_fails : {settings : Settings} → IsAccepted settings → (places most : ℕ) (old new : Outside) (bytes : Bytes) → length bytes ≤ most → ahead.TakesFront places most old.source new.source bytes
     → TakesFront settings old.sink.bytes new.sink.bytes bytes false → HasRisen old.sink.faults new.sink.faults → old.source.faults ≤ new.source.faults → old.sink.faults ≤ new.sink.faults
     → Replays settings most 5 old new places
-write_fails places most old new bytes within front written risen f k =
+write_fails ok places most old new bytes within front written risen f k =
     let handed = front.handed in
     record {
       named = inr (inr (inr (inl refl)));
@@ -150,7 +157,7 @@ write_fails places most old new bytes within front written risen f k =
         read_calm = λ t. front.calm t;
         ended = false;
         over = λ t. absurd (no t);
-        written = stops-more old.sink.bytes new.sink.bytes bytes front.untaken written;
+        written = front_now ok old.sink.bytes new.sink.bytes (bytes ++ front.untaken) false (stops-more old.sink.bytes new.sink.bytes bytes front.untaken written);
       };
       limit = λ e. absurd (omega (arith, e));
       reads = f;
@@ -162,7 +169,7 @@ write_fails places most old new bytes within front written risen f k =
 
 -- one byte more was read than may be
 pub passes_limit : {settings : Settings} (places most : ℕ) (old new : Outside) (bytes : Bytes) (next : ℕ) → length bytes ≡ most → Consumes old.source.bytes new.source.bytes (bytes ++ next ∷ [])
-    → TakesReport settings old.sink.bytes new.sink.bytes bytes false → IsCalm old.source new.source → IsCalm old.sink new.sink → Replays settings most 8 old new places
+    → TakesSome (IsReportOf settings bytes false) old.sink.bytes new.sink.bytes → IsCalm old.source new.source → IsCalm old.sink new.sink → Replays settings most 8 old new places
 passes_limit places most old new bytes next size handed written f k = record {
   named = inr (inr (inr (inr refl)));
   accepted = λ e. absurd (omega (arith, e));

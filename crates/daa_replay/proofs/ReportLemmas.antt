@@ -6,6 +6,7 @@ use Rattle.std.specs.Io.KnownBytes.{Appends}
 use Rattle.std.proofs.KnownBytes.{Appends-trans}
 use Rattle.std.proofs.lemmas.List.{take-take, drop-take, take-append-drop}
 use Rattle.std.proofs.lemmas.List.Folds.{list_any-append}
+use Rattle.daa_bands.specs.Parts.{SplitsByEach}
 use Rattle.daa_config.specs.Settings.{Settings}
 use Rattle.daa_lines.specs.LinesOf.{Bytes}
 use Rattle.daa_lines.specs.Cutting.{Cutting}
@@ -17,10 +18,9 @@ use Rattle.daa_replay.specs.declared.lines.Event.{Event}
 use Rattle.daa_replay.specs.declared.replay.Progress.{Progress}
 use Rattle.daa_replay.specs.Lines.{events_of, is_refusal}
 use Rattle.daa_replay.specs.Inside.Lines.{Follows}
-use Rattle.daa_replay.specs.Moment.{IsEventText, AreTexts}
+use Rattle.daa_replay.specs.Moment.{IsEventText}
 use Rattle.daa_ahead.specs.Bytes.{ToldBytes}
-use Rattle.daa_replay.specs.Replay.{TakesFront}
-use Rattle.daa_replay.specs.Inside.Replay.{Reports, ReportsAll}
+use Rattle.daa_replay.specs.Inside.Replay.{Reports, ReportsAll, TakesFront}
 use Rattle.daa_replay.proofs.EventLemmas.{events_begin}
 use Rattle.daa_replay.proofs.FollowsLemmas.{given_begins, follows-fed, follows-as}
 use Rattle.daa_replay.proofs.TextLemmas.{texts-push, begins-more}
@@ -65,11 +65,11 @@ module _ {settings : Settings} where
   -- the sink failed within the text of an event
   stops-event : (first before now : ToldBytes) (bytes : Bytes) (ended : Bool) (given more : List Event) (event : Event) (whole text : Text)
       → events_of bytes ended ≡ (given ++ event ∷ []) ++ more
-      → AreTexts settings given whole → Appends first before whole → IsEventText settings event text → AppendsFront before now text
+      → SplitsByEach (IsEventText settings) given whole → Appends first before whole → IsEventText settings event text → AppendsFront before now text
       → TakesFront settings first now bytes ended
   stops-event first before now bytes ended given more event whole text events texts taken is front = record {
     text = whole ++ front.0;
-    front = record {
+    is = record {
       written = given;
       later = event ∷ more;
       events = events ∙ append_assoc given (event ∷ []) more;
@@ -98,15 +98,15 @@ module _ {settings : Settings} where
   stops-more first now bytes more s =
       let longer = events_begin bytes more in record {
         text = s.text;
-        front = record {
-          written = s.front.written;
-          later = s.front.later ++ longer.0;
-          events = longer.1 ∙ ap (λ (e : List Event). e ++ longer.0) s.front.events ∙ append_assoc s.front.written s.front.later longer.0;
-          whole = s.front.whole;
-          texts = s.front.texts;
-          begun = s.front.begun;
-          begins = begins-more settings s.front.later longer.0 s.front.begun s.front.begins;
-          together = s.front.together;
+        is = record {
+          written = s.is.written;
+          later = s.is.later ++ longer.0;
+          events = longer.1 ∙ ap (λ (e : List Event). e ++ longer.0) s.is.events ∙ append_assoc s.is.written s.is.later longer.0;
+          whole = s.is.whole;
+          texts = s.is.texts;
+          begun = s.is.begun;
+          begins = begins-more settings s.is.later longer.0 s.is.begun s.is.begins;
+          together = s.is.together;
         };
         taken = s.taken;
       }
@@ -156,7 +156,7 @@ module _ {settings : Settings} where
       → Reports settings first bytes progress now → ReportsAll settings first bytes progress.any_refused now
   whole-none first now bytes progress whole r =
       let all = whole bytes r.given r.follows in record {
-        written = record { text = r.text; report = subst (λ (e : List Event). AreTexts settings e r.text) all r.texts; taken = r.taken };
+        written = record { text = r.text; is = subst (λ (e : List Event). SplitsByEach (IsEventText settings) e r.text) all r.texts; taken = r.taken };
         refusals = ap (list_any is_refusal) (sym all) ∙ r.refusals;
       }
 
@@ -170,7 +170,7 @@ module _ {settings : Settings} where
       let all = whole bytes r.given r.follows in record {
         written = record {
           text = r.text ++ text;
-          report = subst (λ (e : List Event). AreTexts settings e (r.text ++ text)) all (texts-push settings r.given event r.text text r.texts is);
+          is = subst (λ (e : List Event). SplitsByEach (IsEventText settings) e (r.text ++ text)) all (texts-push settings r.given event r.text text r.texts is);
           taken = Appends-trans first before now r.text text r.taken appends;
         };
         refusals = ap (list_any is_refusal) (sym all) ∙ refusals-push r.given event progress.any_refused refused r.refusals flag;

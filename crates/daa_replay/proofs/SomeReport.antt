@@ -1,8 +1,9 @@
 -- Every picture that an input ends is in range, and so the input has a report.
-use Rattle.std.proofs.Common.{ℕ, suc, ◌+◌, arith, Bool, true, false, List, [], ◌∷◌, ◌++◌, Option, None, Some, Ok, Err, refl}
+use Rattle.std.proofs.Common.{ℕ, suc, ◌+◌, arith, Bool, true, false, List, [], ◌∷◌, ◌++◌, Option, None, Some, Ok, Err, refl, subst}
 use Rattle.std.specs.Prelude.{All, IfOk, IfSome}
 use Rattle.std.proofs.lemmas.Result.{IfOk-weaker}
 use Rattle.daa_fixed.specs.One.{HasOne}
+use Rattle.daa_bands.specs.Parts.{SplitsByEach}
 use Rattle.daa_config.specs.Settings.{Settings, IsAccepted}
 use Rattle.daa_lines.specs.LinesOf.{Bytes, lines_of}
 use Rattle.daa_state.specs.Fault.{Checked, code_of}
@@ -18,9 +19,10 @@ use Rattle.daa_engine.proofs.SomeText.{one_text}
 use Rattle.daa_replay.specs.declared.lines.Event.{Event}
 use Rattle.daa_replay.specs.declared.lines.Event.TheVariants as event
 use Rattle.daa_replay.specs.Lines.{line_step, next_state, picture_event, line_event, end_event, events_from, events_of, IsEventInRange}
-use Rattle.daa_replay.specs.Moment.{IsEventText, AreTexts, IsReportOf}
+use Rattle.daa_replay.specs.Moment.{IsEventText, IsReportOf, IsReportFront}
+use Rattle.daa_replay.specs.Inside.Moment.{IsBegun}
 use Rattle.daa_replay.proofs.PictureLemmas.{Leaves, each_picture}
-use Rattle.daa_replay.proofs.OneText.{report_once}
+use Rattle.daa_replay.proofs.OneText.{report_once, front_begins}
 
 -- ---- events in range
 
@@ -40,14 +42,21 @@ module _ (settings : Settings) (accepted : IsAccepted settings) where
   some_event_text (event.Refused number fault) h = (refused_line number (code_of fault), refl)
   some_event_text (event.Ended picture) h = let t = one_text settings picture accepted h in (t.one, t.is)
 
-  some_texts : (events : List Event) → All IsEventInRange events → (text : Text) × AreTexts settings events text
+  some_texts : (events : List Event) → All IsEventInRange events → (text : Text) × SplitsByEach (IsEventText settings) events text
   some_texts [] h = ([], refl)
   some_texts (e ∷ events) h =
       let first = some_event_text e (h 0 e (omega arith)) in
       let rest = some_texts events (λ k d l. h (suc k) d (omega arith)) in
-      (first.0 ++ rest.0, (first.0, rest.0, first.1, rest.1, refl))
+      (first.0 ++ rest.0, record { first = first.0; second = rest.0; first_is = first.1; second_is = rest.1; joined = refl })
 
   pub one_report : (bytes : Bytes) (ended : Bool) → HasOne (IsReportOf settings bytes ended)
   one_report bytes ended =
       let t = some_texts (events_of bytes ended) (events_in_range bytes ended) in
       record { one = t.0; is = t.1; only = λ other h. report_once settings accepted bytes ended other t.0 h t.1 }
+
+  -- what was written event by event is a beginning of the report
+  pub begun-front : (bytes : Bytes) (ended : Bool) (front : Text) → IsBegun settings bytes ended front → IsReportFront settings bytes ended front
+  begun-front bytes ended front f =
+      let one = one_report bytes ended in
+      let rest = front_begins settings accepted bytes ended front one.one f one.is in
+      (rest.0, subst (IsReportOf settings bytes ended) rest.1 one.is)

@@ -3,15 +3,15 @@
 use Rattle.std.specs.Prelude.{ℕ, ◌≡◌, ◌+◌, ◌++◌, Bool, true, false, List, [], ◌∷◌, All}
 use Rattle.daa_lines.specs.LinesOf.{Bytes, lines_of}
 use Rattle.daa_state.specs.Current.{IsCurrentPicture}
-use Rattle.daa_state.specs.Fault.{Checked}
+use Rattle.daa_state.specs.Fault.{Checked, ◌>>=◌}
 use Rattle.daa_state.specs.FourWords.{four_word_of, is_format_line}
-use Rattle.daa_state.specs.MomentStep.{State, Stepped, start, finished}
+use Rattle.daa_state.specs.MomentStep.{State, Stepped, start, step, finished}
 use Rattle.daa_replay.specs.declared.lines.Event.{Event}
-use Rattle.daa_replay.specs.Lines.{word_step, next_state, line_event, end_event, events_of, OfPicture}
+use Rattle.daa_replay.specs.Lines.{next_state, line_event, end_event, events_of, OfPicture}
 
 -- a line is read as one of the four words, and its word changes the state
 abbrev pub four_line_step : State → Bytes → Checked Stepped
-four_line_step state line = word_step state (four_word_of line)
+four_line_step state line = four_word_of line >>= step state
 
 -- the events of lines that are read so, the first of which has the number
 abbrev pub four_events_from : State → ℕ → Bool → List Bytes → List Event

@@ -1,5 +1,6 @@
 -- Cited by private functions, tests and proofs alone; believe only what docs/PROVED.md names here.
 pub mod Lines
+pub mod Moment
 pub mod Status
 pub mod Opening
 pub mod Replay

@@ -10,15 +10,9 @@ use Rattle.daa_state.specs.declared.word.Picture.{Picture}
 use Rattle.daa_replay.specs.declared.lines.Event.{Event}
 use Rattle.daa_replay.specs.declared.lines.Event.TheVariants as event
 
--- a word changes the state, if there is one
-abbrev pub word_step : State → Checked Word → Checked Stepped
-word_step state word = do
-  word ← word
-  step state word
-
--- a line is read in the format of the state before it, and its word changes the state
+-- a line is read in the format of the state before it, and its word steps the state
 abbrev pub line_step : State → Bytes → Checked Stepped
-line_step state line = word_step state (word_of line state.format)
+line_step state line = word_of line state.format >>= step state
 
 -- a refused line leaves the state unchanged
 abbrev pub next_state : State → Checked Stepped → State

@@ -1,7 +1,7 @@
 -- What contracts see of the shelf, the source and the sink of a run.
 use Rattle.std.specs.Prelude.{ℕ, ◌≡◌, List, Option}
 use Rattle.std.specs.Io.KnownBytes.{Appends}
-use Rattle.daa_ahead.specs.Bytes.{StreamState}
+use Rattle.daa_ahead.specs.Bytes.{ToldBytes, StreamState}
 use Rattle.daa_outside.specs.Shelf.{Texts}
 use Rattle.daa_report.specs.Lines.{Text}
 use Rattle.daa_report.specs.Says.{AppendsFront}
@@ -33,6 +33,12 @@ IsCalm old new = new.faults ≡ old.faults
 pub record Takes (old new : StreamState) (text : List ℕ) : Type 0 where
   pub taken : Appends old.bytes new.bytes text
   pub calm : IsCalm old new
+
+-- the sink took a text of which P holds after what it had taken before
+pub record TakesSome (P : Text → Type 0) (old new : ToldBytes) : Type 0 where
+  pub text : Text
+  pub is : P text
+  pub taken : Appends old new text
 
 module _ (P : Text → Type 0) (old new : Outside) where
   -- nothing was read, and a text of which P holds was written

@@ -1,33 +1,14 @@
 -- What a replay under a configuration leaves at its source and its sink, by how it ends.
-use Rattle.std.specs.Prelude.{ℕ, ◌≡◌, ◌≤◌, ◌+◌, ◌++◌, ◌⊎◌, Bool, true, false, List, [], ◌∷◌, Option, Some, IfSome, length}
+use Rattle.std.specs.Prelude.{ℕ, ◌≡◌, ◌+◌, ◌++◌, Bool, true, false, [], ◌∷◌, length}
 use Rattle.std.specs.List.{list_any}
-use Rattle.std.specs.Io.KnownBytes.{Consumes, Appends}
+use Rattle.std.specs.Io.KnownBytes.{Consumes}
 use Rattle.daa_config.specs.Settings.{Settings}
 use Rattle.daa_outside.specs.Faults.{HasRisen}
 use Rattle.daa_lines.specs.LinesOf.{Bytes}
-use Rattle.daa_report.specs.Lines.{Text}
 use Rattle.daa_replay.specs.Lines.{events_of, is_refusal}
-use Rattle.daa_ahead.specs.Bytes.{ToldBytes, StreamState, IsSpent}
-use Rattle.daa_replay.specs.Outside.{Outside, IsCalm}
+use Rattle.daa_ahead.specs.Bytes.{HandsOut, IsSpent}
+use Rattle.daa_replay.specs.Outside.{Outside, IsCalm, TakesSome}
 use Rattle.daa_replay.specs.Moment.{IsReportOf, IsReportFront}
-
--- the source handed out these bytes, at most `most`
-pub record HandsOut (most : ℕ) (old new : StreamState) (bytes : Bytes) : Type 0 where
-  pub handed : Consumes old.bytes new.bytes bytes
-  pub bound : length bytes ≤ most
-
-module _ (settings : Settings) where
-  -- the sink took the report of these bytes after what it had taken before
-  pub record TakesReport (old new : ToldBytes) (bytes : Bytes) (ended : Bool) : Type 0 where
-    pub text : Text
-    pub report : IsReportOf settings bytes ended text
-    pub taken : Appends old new text
-
-  -- the sink took a beginning of the report of these bytes
-  pub record TakesFront (old new : ToldBytes) (bytes : Bytes) (ended : Bool) : Type 0 where
-    pub text : Text
-    pub front : IsReportFront settings bytes ended text
-    pub taken : Appends old new text
 
 -- a replay that reads at most `most` bytes
 module _ (settings : Settings) (most : ℕ) (old new : Outside) where
@@ -36,7 +17,7 @@ module _ (settings : Settings) (most : ℕ) (old new : Outside) where
     pub bytes : Bytes
     pub handed : HandsOut most old.source new.source bytes
     pub over : IsSpent old.source.bytes new.source.bytes
-    pub written : TakesReport settings old.sink.bytes new.sink.bytes bytes true
+    pub written : TakesSome (IsReportOf settings bytes true) old.sink.bytes new.sink.bytes
     pub refusals : list_any is_refusal (events_of bytes true) ≡ refused
     pub read_calm : IsCalm old.source new.source
     pub write_calm : IsCalm old.sink new.sink
@@ -46,7 +27,7 @@ module _ (settings : Settings) (most : ℕ) (old new : Outside) where
     pub risen : HasRisen old.source.faults new.source.faults
     pub bytes : Bytes
     pub handed : HandsOut most old.source new.source bytes
-    pub written : TakesReport settings old.sink.bytes new.sink.bytes bytes false
+    pub written : TakesSome (IsReportOf settings bytes false) old.sink.bytes new.sink.bytes
     pub write_calm : IsCalm old.sink new.sink
 
   -- the sink failed, and a beginning of the report was written; with its end only if nothing is
@@ -60,7 +41,7 @@ module _ (settings : Settings) (most : ℕ) (old new : Outside) where
     pub read_calm : ahead ≡ 0 → IsCalm old.source new.source
     pub ended : Bool
     pub over : ended ≡ true → IsSpent old.source.bytes new.source.bytes
-    pub written : TakesFront settings old.sink.bytes new.sink.bytes bytes ended
+    pub written : TakesSome (IsReportFront settings bytes ended) old.sink.bytes new.sink.bytes
 
   -- the limit of bytes was read, and then one byte more; the report of the bytes before it was
   -- written
@@ -69,6 +50,6 @@ module _ (settings : Settings) (most : ℕ) (old new : Outside) where
     pub next : ℕ
     pub size : length bytes ≡ most
     pub handed : Consumes old.source.bytes new.source.bytes (bytes ++ next ∷ [])
-    pub written : TakesReport settings old.sink.bytes new.sink.bytes bytes false
+    pub written : TakesSome (IsReportOf settings bytes false) old.sink.bytes new.sink.bytes
     pub read_calm : IsCalm old.source new.source
     pub write_calm : IsCalm old.sink new.sink

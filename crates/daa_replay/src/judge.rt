@@ -151,38 +151,7 @@ fn judge_piece<R: Threads + Sync, S: Source, G: Gate>(
     Ok(())
 }
 
-/// The event of the end of the states, if it has one, is compared.
-fn judge_last<R: Threads + Sync, S: Source, G: Gate>(
-    tools: &Tools<'_, R, G>,
-    engine: &mut Engine,
-    sheet: &mut Sheet,
-    source: &mut S,
-    matching: &mut Matching,
-    progress: &mut Progress,
-) -> Result<(), Found>
-    requires room { HasRoom matching.old }
-    requires free { is_standing progress.old.lines.stage ≡ false }
-    requires ended { progress.old.lines.ended ≡ true }
-    requires few { progress.old.lines.fed < 2 ^ 63 }
-    ensures same { engine.new.settings ≡ engine.old.settings }
-    ensures room { HasRoom matching.new }
-    ensures never_falls { S.faults source.old ≤ S.faults source.new }
-    ensures ok { OnOk result (AfterMatch engine.old.settings progress.old matching.old
-        (stream_state (S.left source.old) (S.faults source.old)) (λ settings most first bytes.
-        IsWhole settings most first bytes matching.new
-        (stream_state (S.left source.new) (S.faults source.new)))) }
-    ensures err { IfErr result (λ found. AfterMatch engine.old.settings progress.old matching.old
-        (stream_state (S.left source.old) (S.faults source.old)) (λ settings most first bytes.
-        StopsIn settings most first bytes true found
-        (stream_state (S.left source.new) (S.faults source.new)))) }
-{
-    match take_end(&progress.lines, &progress.moments) {
-        None => Ok(()),
-        Some(event) => judge_event(tools, engine, sheet, source, matching, &event),
-    }
-}
-
-/// The states are over: compares the text of their last line and that of their end.
+/// The states are over: compares what their last line gives, and what their end gives.
 fn judge_end<R: Threads + Sync, S: Source, G: Gate>(
     tools: &Tools<'_, R, G>,
     engine: &mut Engine,
@@ -209,7 +178,10 @@ fn judge_end<R: Threads + Sync, S: Source, G: Gate>(
 {
     progress.lines.end();
     judge_line(tools, engine, sheet, source, matching, progress)?;
-    judge_last(tools, engine, sheet, source, matching, progress)
+    match take_end(&progress.lines, &progress.moments) {
+        None => Ok(()),
+        Some(event) => judge_event(tools, engine, sheet, source, matching, &event),
+    }
 }
 
 /// Compares the whole report of the states.

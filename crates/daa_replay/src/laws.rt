@@ -27,7 +27,7 @@ pub fn ended_moments_are_in_range()
     ensures { (bytes : Bytes) (ended : Bool) → All IsEventInRange (events_of bytes ended) }
 {}
 
-/// A beginning of a report, as defined event by event, is a beginning of the whole text.
+/// A beginning of a report is a beginning of the whole text.
 pub fn fronts_begin_reports()
     ensures { (settings : Settings) (bytes : Bytes) (ended : Bool) (front text : Text)
         → IsAccepted settings

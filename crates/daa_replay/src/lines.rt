@@ -8,8 +8,8 @@ ghost use Rattle.daa_lines.specs.Taking.{after_taking};
 ghost use Rattle.daa_state.specs.WordOf.{word_of};
 ghost use Rattle.daa_state.specs.InRange.{IsFormat, IsWordInRange};
 ghost use Rattle.daa_replay.specs.declared.lines.Event.{Event};
-ghost use Rattle.daa_replay.specs.Inside.Lines.{Follows, given_with};
-ghost use Rattle.daa_replay.specs.Lines.{IsEventInRange, events_of, line_event, next_state, word_step};
+ghost use Rattle.daa_replay.specs.Inside.Lines.{Follows, given_with, word_step};
+ghost use Rattle.daa_replay.specs.Lines.{IsEventInRange, events_of, line_event, next_state};
 
 use daa_lines::{Line, Lines};
 use daa_state::{LineFault, Moments, Picture, Word, read_line};

@@ -7,8 +7,7 @@ ghost use Rattle.daa_lines.specs.Cutting.{is_standing};
 ghost use Rattle.daa_report.specs.Says.{HasCause};
 ghost use Rattle.daa_replay.specs.Lines.{is_refusal};
 ghost use Rattle.daa_ahead.specs.Bytes.{ToldBytes, stream_state};
-ghost use Rattle.daa_replay.specs.Replay.{TakesFront};
-ghost use Rattle.daa_replay.specs.Inside.Replay.{AfterReport, Reports, ReportsAll, CanReport, IsBetween, Steps, desk};
+ghost use Rattle.daa_replay.specs.Inside.Replay.{AfterReport, Reports, ReportsAll, TakesFront, CanReport, IsBetween, Steps, desk};
 ghost use Rattle.daa_ahead.specs.Moves.{Moves, wants_more};
 ghost use Rattle.daa_ahead.specs.Takes.{CanTake, TakesBytes};
 ghost use Rattle.daa_outside.specs.Faults.{HasRisen};
@@ -272,6 +271,8 @@ pub(crate) fn run_replay<R: Threads + Sync, S: Source + Send, K: Sink + Send, G:
         (outside after (stream_state (S.left source.new) (S.faults source.new))
         (stream_state (K.taken sink.new) (K.faults sink.new))) places }
 {
+    // its clause says that the configuration is accepted
+    let _config = engine.config();
     let mut progress = begin();
     match write_all(tools, engine, source, sink, &mut progress, places, most) {
         Ended::End => write_rest(tools, engine, &mut progress, sink),

@@ -7,7 +7,6 @@ use Rattle.daa_state.specs.declared.word.Own.{Own}
 use Rattle.daa_state.specs.declared.word.Traffic.{Traffic}
 use Rattle.daa_legs.specs.Alerts.{IsNowLevel}
 use Rattle.daa_alert.specs.Alert.{IsAlertOf}
-use Rattle.daa_alert.specs.declared.aircraft_alert.Alert.{Alert}
 use Rattle.daa_resolve.specs.Resolution.{IsResolution}
 use Rattle.daa_resolve.specs.declared.side.Side.TheVariants.{Lower, Upper}
 use Rattle.daa_engine.specs.declared.alerts.AircraftAlert.{AircraftAlert}
@@ -21,14 +20,10 @@ use Rattle.daa_engine.specs.declared.rescue.Rescue.TheVariants.{Silent, Said}
 use Rattle.daa_engine.specs.declared.rescue.Rescues.{Rescues}
 use Rattle.daa_state.specs.declared.word.Picture.{Picture}
 
--- the alert by itself, without the level now
-abbrev pub alert_of : AircraftAlert → Alert
-alert_of found = record { level = found.level; first = found.first }
-
 -- the level now and the alert are those of the aircraft
 pub record IsAircraftAlert (settings : Settings) (own : Own) (aircraft : Traffic) (found : AircraftAlert) : Type 0 where
   pub level_now : IsNowLevel settings own aircraft found.level_now
-  pub alert : IsAlertOf settings own aircraft (alert_of found)
+  pub alert : IsAlertOf settings own aircraft found.alert
 
 -- they are those of the first aircraft
 pub record AreAircraftAlerts (settings : Settings) (own : Own) (traffic : List Traffic) (count : ℕ) (alerts : List AircraftAlert) : Type 0 where

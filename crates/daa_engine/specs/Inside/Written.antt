@@ -19,7 +19,7 @@ use Rattle.daa_engine.specs.declared.rescue.Rescues.{Rescues}
 
 -- the two lines of an aircraft
 unfoldable pub aircraft_text : Traffic × AircraftAlert → Text
-aircraft_text pair = now_line pair.0.id pair.1.level_now ++ alert_line pair.0.id pair.1.level pair.1.first
+aircraft_text pair = now_line pair.0.id pair.1.level_now ++ alert_line pair.0.id pair.1.alert.level pair.1.alert.first
 
 -- the two lines of each aircraft, in the order of the input
 unfoldable pub alerts_text : List Traffic → List AircraftAlert → Text

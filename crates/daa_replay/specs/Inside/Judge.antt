@@ -10,9 +10,8 @@ use Rattle.daa_judge.specs.declared.matching.Matching.{Matching}
 use Rattle.daa_lines.specs.LinesOf.{Bytes}
 use Rattle.daa_report.specs.Lines.{Text}
 use Rattle.daa_replay.specs.declared.replay.Progress.{Progress}
-use Rattle.daa_replay.specs.Replay.{TakesFront}
 use Rattle.daa_replay.specs.Moment.{IsReportOf}
-use Rattle.daa_replay.specs.Inside.Replay.{Reports}
+use Rattle.daa_replay.specs.Inside.Replay.{Reports, TakesFront}
 
 -- these bytes were fed, and the texts of the events given so far were compared, and matched
 pub record IsJudged (settings : Settings) (most : ℕ) (first : StreamState) (bytes : Bytes)

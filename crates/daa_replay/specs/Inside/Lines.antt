@@ -3,9 +3,15 @@ use Rattle.std.specs.Prelude.{◌≡◌, ◌++◌, false, List, [], ◌∷◌, O
 use Rattle.daa_lines.specs.LinesOf.{Bytes}
 use Rattle.daa_lines.specs.Cutting.{Cutting}
 use Rattle.daa_lines.specs.Stands.{Stands}
-use Rattle.daa_state.specs.MomentStep.{State, start}
+use Rattle.daa_state.specs.Fault.{Checked, ◌>>=◌}
+use Rattle.daa_state.specs.MomentStep.{State, Stepped, start, step}
+use Rattle.daa_state.specs.declared.word.Word.{Word}
 use Rattle.daa_replay.specs.declared.lines.Event.{Event}
 use Rattle.daa_replay.specs.Lines.{line_step, next_state, events_from}
+
+-- the word steps the state, if there is one
+abbrev pub word_step : State → Checked Word → Checked Stepped
+word_step state word = word >>= step state
 
 -- the state after lines
 abbrev pub state_after : State → List Bytes → State

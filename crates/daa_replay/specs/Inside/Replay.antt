@@ -2,16 +2,18 @@
 use Rattle.std.specs.Prelude.{◌≡◌, Bool, true, List, ℕ, ◌≤◌, ◌<◌, ◌+◌, ◌^◌, ◌++◌, false, length}
 use Rattle.std.specs.List.{list_any}
 use Rattle.std.specs.Io.KnownBytes.{Appends}
+use Rattle.daa_bands.specs.Parts.{SplitsByEach}
 use Rattle.daa_config.specs.Settings.{Settings}
 use Rattle.daa_lines.specs.LinesOf.{Bytes}
 use Rattle.daa_report.specs.Lines.{Text}
 use Rattle.daa_replay.specs.declared.lines.Event.{Event}
 use Rattle.daa_replay.specs.declared.replay.Progress.{Progress}
 use Rattle.daa_replay.specs.Lines.{is_refusal, events_of}
-use Rattle.daa_replay.specs.Moment.{AreTexts}
+use Rattle.daa_replay.specs.Moment.{IsEventText, IsReportOf}
+use Rattle.daa_replay.specs.Inside.Moment.{IsBegun}
 use Rattle.daa_replay.specs.Inside.Lines.{Follows}
 use Rattle.daa_ahead.specs.Bytes.{ToldBytes}
-use Rattle.daa_replay.specs.Replay.{TakesReport, TakesFront}
+use Rattle.daa_replay.specs.Outside.{TakesSome}
 use Rattle.daa_lines.specs.Cutting.{is_standing}
 use Rattle.daa_outside.specs.Faults.{HasRisen}
 
@@ -22,7 +24,7 @@ pub record Reports (settings : Settings) (first : ToldBytes) (bytes : Bytes) (pr
   pub given : List Event
   pub follows : Follows bytes given progress.lines progress.moments
   pub text : Text
-  pub texts : AreTexts settings given text
+  pub texts : SplitsByEach (IsEventText settings) given text
   pub taken : Appends first now text
   pub refusals : list_any is_refusal given ≡ progress.any_refused
 
@@ -33,10 +35,14 @@ AfterReport now progress taken P =
     (settings : Settings) (first : ToldBytes) (bytes : Bytes) → now ≡ settings
     → Reports settings first bytes progress taken → P settings first bytes
 
+-- the sink took a beginning of the report of these bytes
+abbrev pub TakesFront : Settings → (old new : ToldBytes) → Bytes → (ended : Bool) → Type 0
+TakesFront settings old new bytes ended = TakesSome (IsBegun settings bytes ended) old new
+
 -- the sink took the report of all bytes, in which a line was refused or none
 pub record ReportsAll (settings : Settings) (first : ToldBytes) (bytes : Bytes) (refused : Bool)
     (now : ToldBytes) : Type 0 where
-  pub written : TakesReport settings first now bytes true
+  pub written : TakesSome (IsReportOf settings bytes true) first now
   pub refusals : list_any is_refusal (events_of bytes true) ≡ refused
 
 -- the engine's configuration, how far the report has come, and what the sink took and counted

@@ -7,7 +7,7 @@ use Rattle.daa_report.proofs.PageLemmas.{said_front, said_as, said_more}
 use Rattle.daa_engine.proofs.say.say_alerts.Goals as goal
 
 blank : AircraftAlert
-blank = record { level_now = 0; level = 0; first = None }
+blank = record { level_now = 0; alert = record { level = 0; first = None } }
 
 pub returns-in_err-say_aircraft : goal.returns-in_err-say_aircraft
 unfolding alerts_text blank

@@ -1,25 +1,25 @@
 use Rattle.std.proofs.Common.{refl}
-use Rattle.daa_lines.specs.LinesOf.{cut, lines_of}
+use Rattle.daa_lines.specs.LinesOf.{stretches_of, lines_of}
 use Rattle.daa_lines.proofs.laws.worked_examples.Goals as goal
 
 pub returns-clause-kept_return : goal.returns-clause-kept_return
-unfolding lines_of cut
+unfolding lines_of stretches_of
 returns-clause-kept_return c = refl
 
 pub returns-clause-rest_at_end : goal.returns-clause-rest_at_end
-unfolding lines_of cut
+unfolding lines_of stretches_of
 returns-clause-rest_at_end c = refl
 
 pub returns-clause-no_empty_rest : goal.returns-clause-no_empty_rest
-unfolding lines_of cut
+unfolding lines_of stretches_of
 returns-clause-no_empty_rest c = refl
 
 pub returns-clause-rest_of_255 : goal.returns-clause-rest_of_255
-unfolding lines_of cut
+unfolding lines_of stretches_of
 returns-clause-rest_of_255 c = refl
 
 pub returns-clause-rest_of_256 : goal.returns-clause-rest_of_256
-unfolding lines_of cut
+unfolding lines_of stretches_of
 returns-clause-rest_of_256 c = refl
 
 pub returns-clause-to_line_feed : goal.returns-clause-to_line_feed

@@ -9,7 +9,7 @@ returns-in-End g c before after =
     let w = m.given in
     let r = m.read in
     let o = c.write_rest.ensures in
-    replays_over c.args.places c.args.most (length m.taken) m.bound _ _ c.write_rest.result c.write_all.new.progress _ o.ended
+    replays_over c.args.places c.args.most (length m.taken) m.bound _ _ c.config-config.ensures.accepted c.write_rest.result c.write_all.new.progress _ o.ended
     (record { bytes = m.taken; handed = r.handed; size = refl; left = r.over; reports = w.reports _ _ _ refl (c.begin-progress.ensures.reports _ _) })
     (λ s first bytes r. o.accepted s _ first bytes w.same r)
     (λ s first bytes r. o.refused s _ first bytes w.same r)
@@ -36,5 +36,5 @@ pub returns-in-Stopped : goal.returns-in-Stopped
 returns-in-Stopped g c before after =
     let m = c.in-Stopped.ensures.moves in
     let w = m.given in
-    write_fails c.args.places c.args.most _ _ m.taken m.bound m.read
+    write_fails c.config-config.ensures.accepted c.args.places c.args.most _ _ m.taken m.bound m.read
     (w.front _ _ _ refl (c.begin-progress.ensures.reports _ _)) w.risen m.never_falls w.later

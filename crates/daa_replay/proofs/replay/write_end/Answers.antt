@@ -3,8 +3,7 @@ use Rattle.daa_config.specs.Settings.{Settings}
 use Rattle.daa_lines.specs.LinesOf.{Bytes}
 use Rattle.daa_replay.specs.Moment.{IsEventText}
 use Rattle.daa_ahead.specs.Bytes.{ToldBytes}
-use Rattle.daa_replay.specs.Replay.{TakesFront}
-use Rattle.daa_replay.specs.Inside.Replay.{Reports}
+use Rattle.daa_replay.specs.Inside.Replay.{Reports, TakesFront}
 use Rattle.daa_replay.proofs.ReportLemmas.{reports-lines, whole-none, whole-event, stops-end, on_err}
 use Rattle.daa_replay.proofs.replay.write_end.Goals as goal
 

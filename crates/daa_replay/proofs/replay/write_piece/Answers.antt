@@ -2,8 +2,7 @@ use Rattle.std.proofs.Common.{◌≡◌, ◌∙◌, ◌≤◌, ◌+◌, ◌-◌,
 use Rattle.daa_config.specs.Settings.{Settings}
 use Rattle.daa_lines.specs.LinesOf.{Bytes}
 use Rattle.daa_ahead.specs.Bytes.{ToldBytes}
-use Rattle.daa_replay.specs.Replay.{TakesFront}
-use Rattle.daa_replay.specs.Inside.Replay.{Reports}
+use Rattle.daa_replay.specs.Inside.Replay.{Reports, TakesFront}
 use Rattle.daa_replay.proofs.ReportLemmas.{reports-part, stops-part, on_err}
 use Rattle.daa_replay.proofs.replay.write_piece.Goals as goal
 
