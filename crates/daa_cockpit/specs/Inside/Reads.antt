@@ -1,5 +1,5 @@
 -- What the lines of a text say.
-use Rattle.std.specs.Prelude.{◌≡◌, ℕ, List, [], ◌∷◌, ◌++◌, fold, Option, None, Some, Ok}
+use Rattle.std.specs.Prelude.{ℕ, List, [], ◌∷◌, ◌++◌, fold, Option, None, Some, Ok}
 use Rattle.std.specs.Str.Lines.{lines}
 use Rattle.daa_state.specs.Fault.{Checked, ◌>>=◌}
 use Rattle.daa_state.specs.MomentStep.{State, Stepped, start, step, finished}
