@@ -1,6 +1,5 @@
 -- What goes on from a story and is no longer is that story.
-use Rattle.std.proofs.Common.{◌≡◌, ◌≤◌, List, length, sym, arith}
-use Rattle.daa_state.specs.declared.word.Picture.{Picture}
+use Rattle.std.proofs.Common.{◌≡◌, length, sym, arith}
 use Rattle.daa_screen.specs.Story.{Story, GoesOn}
 use Rattle.daa_screen.proofs.Fronts.{prefix_whole}
 

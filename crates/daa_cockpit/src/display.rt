@@ -1,8 +1,8 @@
 //! A display: a screen, an engine that writes for it, and what was drawn last.
 
-ghost use Rattle.std.specs.Prelude.{◌≡◌, ◌≤◌, [], IsTrue, IfOk};
+ghost use Rattle.std.specs.Prelude.{◌≡◌, ◌≤◌, [], IsTrue, IsFalse, IfOk};
 ghost use Rattle.daa_screen.specs.Story.{GoesOn};
-ghost use Rattle.daa_cockpit.specs.Inside.Shows.{IsDrawn, ShowsAll};
+ghost use Rattle.daa_cockpit.specs.Inside.Shows.{IsDrawn, ShowsAll, IsSameDisplay};
 
 use anyhow::{Result, bail};
 use daa_engine::Engine;
@@ -36,7 +36,9 @@ impl Display {
     /// last one stays, and this returns false.
     pub fn look<R: Threads + Sync>(&mut self, rt: &R, alloc: Global) -> bool
         ensures seen { GoesOn self.old.screen self.new.screen }
-        ensures drawn { IsTrue result → IsDrawn self.new }
+        ensures drawn { IsTrue result → IsDrawn self.old.engine.settings self.new }
+        ensures stays { IsFalse result → self.new.drawing ≡ self.old.drawing }
+        ensures settings { self.new.engine.settings ≡ self.old.engine.settings }
     {
         let Ok(mut drawing) = blank(alloc) else {
             return false;
@@ -53,7 +55,7 @@ impl Display {
 
     /// Looks at its own pace until the feed has ended, and once more then.
     pub fn watch<R: Threads + Sync>(&mut self, rt: &R, alloc: Global, ended: &AtomicBool)
-        ensures { self.new.screen.feed ≡ self.old.screen.feed }
+        ensures { IsSameDisplay self.old self.new }
     {
         for _ in 0..u64::MAX {
             let last = ended.load(Ordering::SeqCst);
@@ -75,8 +77,8 @@ impl Display {
     /// Whether its screen has seen all that was published, and nothing else.
     #[tactic(auto, using(crate::proofs::Whole::goes_on_whole))]
     fn has_all(&self, feed: &Feed) -> bool
-        requires { GoesOn feed.now self.now.screen }
-        ensures { IsTrue result → self.now.screen ≡ feed.now }
+        requires { GoesOn feed.now.story self.now.screen }
+        ensures { IsTrue result → self.now.screen ≡ feed.now.story }
     {
         self.screen.seen() == feed.published()
     }
@@ -84,8 +86,9 @@ impl Display {
     /// Learns of all that was published, and draws it.
     #[tactic(auto, using(daa_screen::proofs::Kept::goes_on_and_on))]
     pub fn catch_up<R: Threads + Sync>(self, rt: &R, alloc: Global, feed: &Feed) -> Result<Display>
-        requires { self.screen.feed ≡ feed.now.feed }
-        ensures { IfOk result (λ display. ShowsAll feed.now display) }
+        requires { self.screen.feed ≡ feed.now.story.feed }
+        ensures { IfOk result
+            (λ display. ShowsAll self.engine.settings feed.now.story display) }
     {
         let mut display = self;
         display.screen.learn(feed.tell());

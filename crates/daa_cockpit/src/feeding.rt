@@ -1,7 +1,10 @@
 //! Publishing the moments of a text.
 
-ghost use Rattle.std.specs.Prelude.{◌≡◌, ◌+◌, ◌^◌, ◌<◌, length, IfOk, IfSome};
+ghost use Rattle.std.specs.Prelude.{◌≡◌, ◌+◌, ◌^◌, ◌<◌, length, IfOk, IfSome, OnOk, Ok};
 ghost use Rattle.daa_state.specs.InRange.{IsPictureInRange};
+ghost use Rattle.daa_state.specs.MomentStep.{stepped};
+ghost use Rattle.daa_screen.specs.Story.{with_picture};
+ghost use Rattle.daa_cockpit.specs.Inside.Reads.{read, line_step, read_more, pictures_after};
 
 use anyhow::{Result, bail};
 use daa_screen::Feed;
@@ -10,7 +13,9 @@ use std::sync::Wait;
 
 /// The picture, if the line ends a moment.
 fn take_line(moments: &mut Moments, line: &str) -> std::result::Result<Option<Picture>, LineFault>
-    ensures { IfOk result (λ picture. IfSome picture IsPictureInRange) }
+    ensures step { IfOk result
+        (λ picture. line_step moments.old line.now ≡ Ok (stepped moments.new picture)) }
+    ensures range { IfOk result (λ picture. IfSome picture IsPictureInRange) }
 {
     let word = read_line(line.as_bytes(), moments.format())?;
     moments.take(word)
@@ -19,7 +24,8 @@ fn take_line(moments: &mut Moments, line: &str) -> std::result::Result<Option<Pi
 /// Publishes the picture.
 fn publish<W: Wait>(rt: &W, feed: &mut Feed, picture: &Picture) -> Result<()>
     requires { IsPictureInRange picture.now }
-    ensures { feed.new.feed ≡ feed.old.feed }
+    ensures published { OnOk result (feed.new.story ≡ with_picture feed.old.story picture.now) }
+    ensures feed { feed.new.story.feed ≡ feed.old.story.feed }
 {
     if feed.published() == u64::MAX || feed.publish(rt, picture).is_err() {
         bail!("there is no room for a picture");
@@ -27,17 +33,31 @@ fn publish<W: Wait>(rt: &W, feed: &mut Feed, picture: &Picture) -> Result<()>
     Ok(())
 }
 
-/// Publishes the picture of each moment that the lines of this text end.
+/// Takes a line, and publishes the picture where it ends a moment.
+fn publish_line<W: Wait>(rt: &W, moments: &mut Moments, line: &str, feed: &mut Feed) -> Result<()>
+    ensures read { OnOk result
+        (read_more (Ok (read moments.old feed.old.story.pictures)) line.now
+        ≡ Ok (read moments.new feed.new.story.pictures)) }
+    ensures feed { feed.new.story.feed ≡ feed.old.story.feed }
+{
+    match take_line(moments, line) {
+        Ok(None) => Ok(()),
+        Ok(Some(picture)) => publish(rt, feed, &picture),
+        Err(fault) => bail!("a line is refused with code {}", fault.code()),
+    }
+}
+
+/// Publishes the picture of each moment that the lines of this text end, in their order, and
+/// nothing else. `Err` says that a line is refused, that the last moment does not end, or that
+/// there is no room for a picture; then some of them may be published.
 pub fn publish_moments<W: Wait>(rt: &W, states: &str, feed: &mut Feed) -> Result<()>
-    ensures { feed.new.feed ≡ feed.old.feed }
+    ensures published { OnOk result
+        (pictures_after feed.old.story.pictures states.now ≡ Ok feed.new.story.pictures) }
+    ensures feed { feed.new.story.feed ≡ feed.old.story.feed }
 {
     let mut moments = Moments::new();
     for line in states.lines() {
-        match take_line(&mut moments, line) {
-            Ok(None) => {}
-            Ok(Some(picture)) => publish(rt, feed, &picture)?,
-            Err(fault) => bail!("a line is refused with code {}", fault.code()),
-        }
+        publish_line(rt, &mut moments, line, feed)?;
     }
     if moments.finish().is_err() {
         bail!("the last moment does not end");

@@ -1,7 +1,8 @@
 //! The displays together.
 
-ghost use Rattle.std.specs.Prelude.{◌≡◌, IfOk};
-ghost use Rattle.daa_cockpit.specs.Inside.Shows.{ShowsAll};
+ghost use Rattle.std.specs.Prelude.{◌≡◌, IfOk, OnOk, Ok};
+ghost use Rattle.daa_cockpit.specs.Inside.Reads.{pictures_after};
+ghost use Rattle.daa_cockpit.specs.Inside.Shows.{ShowsAll, IsSameDisplay};
 
 use crate::display::Display;
 use crate::feeding::publish_moments;
@@ -23,9 +24,9 @@ pub struct FlightDeck {
 impl FlightDeck {
     /// Each display looks, in a thread of its own and at its own pace, until the feed has ended.
     fn watch<R: Threads + Sync>(&mut self, rt: &R, alloc: Global, ended: &AtomicBool)
-        ensures pilot { self.new.pilot.screen.feed ≡ self.old.pilot.screen.feed }
-        ensures observer { self.new.observer.screen.feed ≡ self.old.observer.screen.feed }
-        ensures ground { self.new.ground.screen.feed ≡ self.old.ground.screen.feed }
+        ensures pilot { IsSameDisplay self.old.pilot self.new.pilot }
+        ensures observer { IsSameDisplay self.old.observer self.new.observer }
+        ensures ground { IsSameDisplay self.old.ground self.new.ground }
     {
         let (pilot, observer, ground) = (&mut self.pilot, &mut self.observer, &mut self.ground);
         join_mut(
@@ -49,10 +50,12 @@ impl FlightDeck {
         states: &str,
         feed: &mut Feed,
     ) -> Result<()>
-        ensures feed { feed.new.feed ≡ feed.old.feed }
-        ensures pilot { self.new.pilot.screen.feed ≡ self.old.pilot.screen.feed }
-        ensures observer { self.new.observer.screen.feed ≡ self.old.observer.screen.feed }
-        ensures ground { self.new.ground.screen.feed ≡ self.old.ground.screen.feed }
+        ensures published { OnOk result
+            (pictures_after feed.old.story.pictures states.now ≡ Ok feed.new.story.pictures) }
+        ensures feed { feed.new.story.feed ≡ feed.old.story.feed }
+        ensures pilot { IsSameDisplay self.old.pilot self.new.pilot }
+        ensures observer { IsSameDisplay self.old.observer self.new.observer }
+        ensures ground { IsSameDisplay self.old.ground self.new.ground }
     {
         let ended = AtomicBool::new(false);
         let (published, ()) = join_mut(
@@ -76,12 +79,17 @@ impl FlightDeck {
         states: &str,
         feed: &mut Feed,
     ) -> Result<FlightDeck>
-        requires pilot { self.pilot.screen.feed ≡ feed.old.feed }
-        requires observer { self.observer.screen.feed ≡ feed.old.feed }
-        requires ground { self.ground.screen.feed ≡ feed.old.feed }
-        ensures pilot { IfOk result (λ deck. ShowsAll feed.new deck.pilot) }
-        ensures observer { IfOk result (λ deck. ShowsAll feed.new deck.observer) }
-        ensures ground { IfOk result (λ deck. ShowsAll feed.new deck.ground) }
+        requires pilot { self.pilot.screen.feed ≡ feed.old.story.feed }
+        requires observer { self.observer.screen.feed ≡ feed.old.story.feed }
+        requires ground { self.ground.screen.feed ≡ feed.old.story.feed }
+        ensures published { OnOk result
+            (pictures_after feed.old.story.pictures states.now ≡ Ok feed.new.story.pictures) }
+        ensures pilot { IfOk result
+            (λ deck. ShowsAll self.pilot.engine.settings feed.new.story deck.pilot) }
+        ensures observer { IfOk result
+            (λ deck. ShowsAll self.observer.engine.settings feed.new.story deck.observer) }
+        ensures ground { IfOk result
+            (λ deck. ShowsAll self.ground.engine.settings feed.new.story deck.ground) }
     {
         let mut deck = self;
         deck.publish_and_watch(rt, alloc, states, feed)?;

@@ -73,9 +73,9 @@ pub fn open<W: Wait>(
     alloc: Global,
     engines: (Engine, Engine, Engine),
 ) -> Result<(Feed, FlightDeck)>
-    ensures pilot { IfOk result (λ opened. opened.1.pilot.screen ≡ opened.0) }
-    ensures observer { IfOk result (λ opened. opened.1.observer.screen ≡ opened.0) }
-    ensures ground { IfOk result (λ opened. opened.1.ground.screen ≡ opened.0) }
+    ensures pilot { IfOk result (λ opened. opened.1.pilot.screen ≡ opened.0.story) }
+    ensures observer { IfOk result (λ opened. opened.1.observer.screen ≡ opened.0.story) }
+    ensures ground { IfOk result (λ opened. opened.1.ground.screen ≡ opened.0.story) }
 {
     let Ok((feed, mut screens)) = Feed::open(rt, alloc, 3) else {
         bail!("no memory");

@@ -1,14 +1,20 @@
 -- What a display shows.
 use Rattle.std.specs.Prelude.{◌≡◌}
+use Rattle.daa_config.specs.Settings.{Settings}
 use Rattle.daa_screen.specs.Answer.{IsWholeAnswer}
 use Rattle.daa_screen.specs.Story.{Story}
 use Rattle.daa_cockpit.specs.declared.display.Display.{Display}
 
--- what is drawn is the answer after what its screen has seen
-abbrev pub IsDrawn : Display → Type 0
-IsDrawn display = IsWholeAnswer display.engine.settings display.screen.pictures display.drawing.taken
+-- what is drawn is the answer, under this configuration, after what the display's screen has seen
+abbrev pub IsDrawn : Settings → Display → Type 0
+IsDrawn settings display = IsWholeAnswer settings display.screen.pictures display.drawing.taken
 
 -- its screen has seen all that was published and nothing else, and that is drawn
-pub record ShowsAll (published : Story) (display : Display) : Type 0 where
+pub record ShowsAll (settings : Settings) (published : Story) (display : Display) : Type 0 where
   pub seen : display.screen ≡ published
-  pub drawn : IsDrawn display
+  pub drawn : IsDrawn settings display
+
+-- its screen is still of the same feed, and its engine under the same configuration
+pub record IsSameDisplay (before after : Display) : Type 0 where
+  pub feed : after.screen.feed ≡ before.screen.feed
+  pub settings : after.engine.settings ≡ before.engine.settings

@@ -3,4 +3,4 @@ use Rattle.daa_screen.proofs.tests.publish_ten.Given as goal
 
 -- the feed is the same
 abbrev pub invariant-loop-time : goal.invariant-loop-time
-invariant-loop-time g l = l.feed.feed ≡ l.fn.feed.feed
+invariant-loop-time g l = l.feed.story.feed ≡ l.fn.feed.story.feed
