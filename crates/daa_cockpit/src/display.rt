@@ -84,7 +84,6 @@ impl Display {
     }
 
     /// Is told of all that was published, and draws that.
-    #[tactic(auto, using(daa_screen::proofs::Kept::goes_on_and_on))]
     pub fn catch_up<R: Threads + Sync>(self, rt: &R, alloc: Global, feed: &Feed) -> Result<Display>
         requires { self.screen.feed ≡ feed.now.story.feed }
         ensures { IfOk result
@@ -92,6 +91,17 @@ impl Display {
     {
         let mut display = self;
         display.screen.learn(feed.tell());
+        display.draw_all(rt, alloc, feed)
+    }
+
+    /// Draws all that was published, of which it was told.
+    #[tactic(auto, using(daa_screen::proofs::Kept::goes_on_and_on))]
+    fn draw_all<R: Threads + Sync>(self, rt: &R, alloc: Global, feed: &Feed) -> Result<Display>
+        requires { GoesOn feed.now.story self.screen }
+        ensures { IfOk result
+            (λ display. ShowsAll self.engine.settings feed.now.story display) }
+    {
+        let mut display = self;
         let drawn = display.look(rt, alloc);
         if drawn && display.has_all(feed) {
             return Ok(display);
