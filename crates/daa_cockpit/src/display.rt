@@ -83,8 +83,7 @@ impl Display {
         self.screen.seen() == feed.published()
     }
 
-    /// Learns of all that was published, and draws it.
-    #[tactic(auto, using(daa_screen::proofs::Kept::goes_on_and_on))]
+    /// Is told of all that was published, and draws that.
     pub fn catch_up<R: Threads + Sync>(self, rt: &R, alloc: Global, feed: &Feed) -> Result<Display>
         requires { self.screen.feed ≡ feed.now.story.feed }
         ensures { IfOk result
@@ -92,6 +91,17 @@ impl Display {
     {
         let mut display = self;
         display.screen.learn(feed.tell());
+        display.draw_all(rt, alloc, feed)
+    }
+
+    /// Draws all that was published, of which it was told.
+    #[tactic(auto, using(daa_screen::proofs::Kept::goes_on_and_on))]
+    fn draw_all<R: Threads + Sync>(self, rt: &R, alloc: Global, feed: &Feed) -> Result<Display>
+        requires { GoesOn feed.now.story self.screen }
+        ensures { IfOk result
+            (λ display. ShowsAll self.engine.settings feed.now.story display) }
+    {
+        let mut display = self;
         let drawn = display.look(rt, alloc);
         if drawn && display.has_all(feed) {
             return Ok(display);
