@@ -1,6 +1,6 @@
 -- What calls answer where they answer 0: under the configuration that the numbers are, which is accepted.
 use Rattle.std.specs.Prelude.{◌≡◌, ◌<◌, ◌≤◌, ℕ, ℤ, List, length, map, take, slice_get, Option, Some, None, Ok}
-use Rattle.daa_bands.specs.Board.{HasLevelOn, IsBoardOf, mask_levels}
+use Rattle.daa_bands.specs.Board.{HasLevelOn, IsBoardOf}
 use Rattle.daa_bands.specs.KindBands.{AreKindBands}
 use Rattle.daa_config.specs.Candidates.{candidates_of, values_of}
 use Rattle.daa_config.specs.Settings.{Settings}
@@ -70,7 +70,7 @@ module _ (config : DaaConfig) where
     pub accepted : settings_by config ≡ Ok settings
     pub all : count ≡ length (candidates_of settings)
     pub fits : count ≤ length levels
-    pub shown : AreLevelsOn board count levels
+    pub shown : AreLevelsOn board (length settings.levels) count levels
 
   -- it has more candidates than there is room for
   pub record HasMoreCandidates (room : ℕ) : Type 0 where
@@ -84,8 +84,9 @@ module _ (config : DaaConfig) where
     pub accepted : settings_by config ≡ Ok settings
     pub kind : Kind
     pub kind_is : kind_number kind ≡ number
-    pub fits : count ≤ length bands
-    pub are : AreKindBands (HasLevelOn board) mask_levels settings kind (map band_of (take count bands))
+    pub fits : length (values_of kind settings) ≤ length bands
+    pub within : count ≤ length bands
+    pub are : AreKindBands (HasLevelOn board) (length settings.levels) settings kind (map band_of (take count bands))
 
   -- the kind that a number stands for has more values than there is room for
   pub record HasMoreValues (number : ℤ) (room : ℕ) : Type 0 where

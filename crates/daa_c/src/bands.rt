@@ -10,7 +10,7 @@ ghost use Rattle.daa_c.specs.Filled.{band_of};
 ghost use Rattle.daa_c.specs.Numbers.{settings_by};
 
 use crate::codes::{BAD_KIND, SHORT, fault_code, kind_in};
-use crate::deciding::DaaBoard;
+use crate::deciding::{DaaBoard, cut};
 use crate::setting::{DaaConfig, accept};
 use daa_bands::{Band, Board, runs};
 use daa_config::{Config, Kind};
@@ -80,6 +80,6 @@ pub extern "C" fn daa_bands(
     if bands.len() < config.count(kind) as usize {
         return SHORT;
     }
-    *count = fill(&config, &Board::of(&board.masks), kind, bands);
+    *count = fill(&config, &cut(&config, &board.masks), kind, bands);
     0
 }

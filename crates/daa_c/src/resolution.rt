@@ -1,9 +1,9 @@
 //! What is answered on a side of a kind.
 
-ghost use Rattle.std.specs.Prelude.{◌≡◌, ◌≢◌, [], pos};
+ghost use Rattle.std.specs.Prelude.{◌≡◌, ◌≢◌, pos};
 ghost use Rattle.daa_c.specs.Asked.{IsResolutionUnder};
 ghost use Rattle.daa_c.specs.Codes.{IsNoKind, IsNoSide};
-ghost use Rattle.daa_c.specs.Faults.{IsRefusal, IsCodeOf};
+ghost use Rattle.daa_c.specs.Faults.{refusal_of_own, IsCodeOf};
 ghost use Rattle.daa_c.specs.Filled.{resolution_by};
 ghost use Rattle.daa_c.specs.States.{own_of};
 
@@ -51,7 +51,7 @@ pub extern "C" fn daa_resolution(
     ensures no_kind { result ≡ pos 23 → IsNoKind kind }
     ensures no_side { result ≡ pos 24 → IsNoSide side }
     ensures refused { result ≢ pos 0 → result ≢ pos 23 → result ≢ pos 24
-        → IsCodeOf (IsRefusal config.now own.now []) result }
+        → IsCodeOf (refusal_of_own config.now own.now) result }
 {
     let config = match accept(config) {
         Ok(config) => config,
