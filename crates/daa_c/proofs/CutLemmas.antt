@@ -1,6 +1,6 @@
 -- Masks without the bits past the levels of a configuration, and a board of them.
-use Rattle.std.proofs.Common.{◌≡◌, ◌≢◌, ◌<◌, ◌≤◌, ◌+◌, ◌-◌, ◌^◌, ◌⊎◌, ◌∙◌, ℕ, zero, suc, List, length, min, bit_or, bit_and, replicate, refl, sym, ap, subst, arith, inl, inr, below_more}
-use Rattle.std.specs.Prelude.{slice_index, ◌↔◌}
+use Rattle.std.proofs.Common.{◌≡◌, ◌≢◌, ◌<◌, ◌≤◌, ◌+◌, ◌-◌, ◌^◌, ◌⊎◌, ◌∙◌, ℕ, List, length, min, bit_or, bit_and, replicate, sym, ap, arith, inl, inr, below_more}
+use Rattle.std.specs.Prelude.{slice_index}
 use Rattle.std.specs.Int.{bit_at}
 use lib.Bits.{or_zero_l}
 use Rattle.std.proofs.lemmas.Nat.Bits.{bit_at_and, bit_at_ones, bit_at_ones_above, bit_at-lt, bit_at-zero}

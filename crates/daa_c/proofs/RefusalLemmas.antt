@@ -1,5 +1,5 @@
 -- Why an ownship and aircraft are refused, found one thing after the other.
-use Rattle.std.proofs.Common.{◌≡◌, ◌<◌, ◌≤◌, ◌+◌, ◌∙◌, ℕ, true, false, List, [], ◌∷◌, length, map, drop, slice_index_or, Option, Some, None, option_map, nat_lt, sym, ap, arith}
+use Rattle.std.proofs.Common.{◌≡◌, ◌<◌, ◌≤◌, ◌+◌, ◌∙◌, ℕ, true, false, List, length, map, drop, slice_index_or, Option, Some, None, option_map, nat_lt, sym, ap}
 use Rattle.std.specs.Prelude.{if◌then◌else◌}
 use Rattle.std.proofs.lemmas.Bool.{lt-ltb, le-ltb}
 use Rattle.std.proofs.lemmas.List.{drop_more, drop_all}
@@ -23,7 +23,7 @@ use Rattle.daa_c.specs.declared.states.DaaTraffic.{DaaTraffic}
 
 bad-place : (traffic : List DaaTraffic) (place : ℕ) (d : DaaTraffic) → place < length traffic
     → bad_id_from place (drop place traffic)
-        ≡ (if is_id (text_of (slice_index_or traffic place d).id) then bad_id_from (place + 1) (drop (place + 1) traffic) else Some place)
+    ≡ (if is_id (text_of (slice_index_or traffic place d).id) then bad_id_from (place + 1) (drop (place + 1) traffic) else Some place)
 unfolding bad_id_from
 bad-place traffic place d within = ap (bad_id_from place) (drop_more traffic place d within)
 
@@ -56,7 +56,7 @@ refused_many own traffic many = let test : nat_lt 64 (length traffic) ≡ true =
 
 few_refused : (own : DaaOwn) (traffic : List DaaTraffic) → length traffic ≤ 64
     → states_refusal own traffic
-        ≡ earlier (option_map refuses.BadId (bad_id_from 0 traffic)) (option_map refuses.Picture (picture_fault_of (own_of own) (map traffic_of traffic)))
+    ≡ earlier (option_map refuses.BadId (bad_id_from 0 traffic)) (option_map refuses.Picture (picture_fault_of (own_of own) (map traffic_of traffic)))
 unfolding states_refusal
 few_refused own traffic few = let test : nat_lt 64 (length traffic) ≡ false = le-ltb 64 (length traffic) few in rw test
 
@@ -86,3 +86,6 @@ config_first read fault states wrong = ap (λ (r : Result Settings ConfigFault).
 pub config_passed : (read : Result Settings ConfigFault) (settings : Settings) (states why : Option Refusal) → read ≡ Ok settings → states ≡ why
     → earlier (config_refusal read) states ≡ why
 config_passed read settings states why accepted is = ap (λ (r : Result Settings ConfigFault). earlier (config_refusal r) states) accepted ∙ is
+
+pub accepted_alone : (read : Result Settings ConfigFault) (settings : Settings) → read ≡ Ok settings → config_refusal read ≡ None
+accepted_alone read settings accepted = ap config_refusal accepted

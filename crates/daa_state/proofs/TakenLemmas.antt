@@ -108,7 +108,7 @@ taken_whole traffic all count past within so_far taken =
 -- what is wrong from a place on is what is wrong at it, or else further on
 from-place : (traffic : List Traffic) (place : ℕ) (d : Traffic) → place < length traffic
     → fault_from traffic place (drop place traffic)
-        ≡ earlier (fault_at traffic place (slice_index_or traffic place d)) (fault_from traffic (place + 1) (drop (place + 1) traffic))
+    ≡ earlier (fault_at traffic place (slice_index_or traffic place d)) (fault_from traffic (place + 1) (drop (place + 1) traffic))
 unfolding fault_from
 from-place traffic place d within = ap (fault_from traffic place) (drop_more traffic place d within)
 

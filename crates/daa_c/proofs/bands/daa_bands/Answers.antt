@@ -1,7 +1,9 @@
-use Rattle.std.proofs.Common.{◌≡◌, ◌∙◌, ℤ, pos, sym, arith, rules, w32, FitsSigned}
+use Rattle.std.proofs.Common.{◌≡◌, ◌∙◌, pos, sym, arith, rules, w32, FitsSigned}
 use Rattle.std.proofs.lemmas.Int.{to_z-of_z}
 use Rattle.daa_bands.specs.Board.{HasLevelOn}
 use Rattle.daa_bands.proofs.KindLemmas.{bands_covered}
+use Rattle.daa_c.specs.Numbers.{settings_by}
+use Rattle.daa_c.proofs.RefusalLemmas.{accepted_alone}
 use Rattle.daa_c.proofs.bands.daa_bands.Goals as goal
 
 pub returns-clause-told : goal.returns-clause-told
@@ -18,6 +20,9 @@ returns-clause-told c = λ (_ : pos 0 ≡ pos 0).
     }
 
 pub returns-in_default-clause-no_kind : goal.returns-in_default-clause-no_kind
-returns-in_default-clause-no_kind c = λ _ kind is.
+returns-in_default-clause-no_kind c = λ _.
     let fits : FitsSigned w32 c.args.kind = search rules in
-    c.in_default.ensures.none kind (is ∙ sym (to_z-of_z w32 _ fits))
+    record {
+      sound = accepted_alone (settings_by c.args.config.now) c.in-Ok.config c.in-Ok.ensures.accepted;
+      none = λ kind is. c.in_default.ensures.none kind (is ∙ sym (to_z-of_z w32 _ fits));
+    }

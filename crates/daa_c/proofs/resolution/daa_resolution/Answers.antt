@@ -1,4 +1,4 @@
-use Rattle.std.proofs.Common.{◌≡◌, ◌∙◌, sym, ℕ, List, Some, subst, pos, rules, w32, FitsSigned}
+use Rattle.std.proofs.Common.{◌≡◌, ◌∙◌, sym, ℕ, List, Some, None, subst, pos, rules, w32, FitsSigned}
 use Rattle.std.proofs.lemmas.Int.{to_z-of_z}
 use Rattle.daa_bands.specs.Board.{HasLevelOn}
 use Rattle.daa_resolve.specs.Resolution.{IsResolution}
@@ -43,6 +43,20 @@ returns-in-Err-checked_own-clause-refused c = λ _ _ _.
     )
 
 pub returns-in_default-clause-no_kind : goal.returns-in_default-clause-no_kind
-returns-in_default-clause-no_kind c = λ _ kind is.
+returns-in_default-clause-no_kind c = λ _.
     let fits : FitsSigned w32 c.args.kind = search rules in
-    c.in_default.ensures.none kind (is ∙ sym (to_z-of_z w32 _ fits))
+    record {
+      sound = config_passed (settings_by c.args.config.now) c.in-Ok.config (own_refusal c.args.own.now) None c.in-Ok.ensures.accepted c.in-Ok-checked_own.ensures.sound;
+      none = λ kind is. c.in_default.ensures.none kind (is ∙ sym (to_z-of_z w32 _ fits));
+    }
+
+pub returns-in_default-side_in-clause-no_side : goal.returns-in_default-side_in-clause-no_side
+returns-in_default-side_in-clause-no_side c = λ _.
+    let fits : FitsSigned w32 c.args.kind = search rules in
+    let side_fits : FitsSigned w32 c.args.side = search rules in
+    record {
+      sound = config_passed (settings_by c.args.config.now) c.in-Ok.config (own_refusal c.args.own.now) None c.in-Ok.ensures.accepted c.in-Ok-checked_own.ensures.sound;
+      kind = c.in-Some.kind;
+      kind_is = c.in-Some.ensures.some ∙ to_z-of_z w32 _ fits;
+      none = λ side is. c.in_default-side_in.ensures.none side (is ∙ sym (to_z-of_z w32 _ side_fits));
+    }
