@@ -7,7 +7,8 @@
  * frees it before it returns. A call takes less than 256 KB of stack (measured, not proved).
  *
  * Each call returns DAA_OK, or another number of the list below; then it has filled in nothing. Every number is checked,
- * also those of a configuration, so no number passed in makes a call undefined.
+ * also those of a configuration, so no number passed in makes a call undefined. Where several numbers apply, a call
+ * answers the first in the order: the configuration's, the states', DAA_BAD_KIND, DAA_BAD_SIDE, and then the others.
  *
  * The caller must ensure, since nothing checks it: each pointer is valid for what it points to, or for the length that
  * follows it, also of length 0, and is not null; what a call fills in overlaps no other argument of the call, and
@@ -30,7 +31,7 @@ enum {
     DAA_CONFIG_UNKNOWN_KEY = 3,
     DAA_CONFIG_MISSING_KEY = 4,
     DAA_CONFIG_NOT_NUMBER = 5,   /* a value is no whole number, or no table */
-    DAA_CONFIG_OUT_OF_RANGE = 6, /* a number is out of its range */
+    DAA_CONFIG_OUT_OF_RANGE = 6, /* a number is out of its range, min is above max, or track_step does not divide 360 */
     DAA_CONFIG_LEVELS = 7,       /* the count of levels is not 1 to 4, or resolve is above it */
     DAA_CONFIG_TOO_MANY = 8,     /* a kind has more than 512 candidates */
     DAA_BAD_OWN = 16,            /* a number of the ownship is out of its range */
@@ -62,7 +63,7 @@ enum daa_side {
 };
 
 /* The values min, min + step and so on up to max that a kind's candidates go to, at most 512, and by how much a second may
- * change the present value, in the kind's unit (of altitudes in ft/min): rate is 1 to 10000. */
+ * change the present value, in the kind's unit (of altitudes in ft/min): rate is 1 to 10000. min is not above max. */
 struct daa_grid {
     int64_t min, max, step, rate;
 };
@@ -106,8 +107,9 @@ struct daa_traffic {
     uint32_t age;
 };
 
-/* now: the greatest level whose volume is violated now, or 0. level: the greatest level that alerts, or 0. first: the first
- * second of the present flight, counted from 0, in which it violates that level's volume, or -1 if level is 0. */
+/* now: the greatest level whose volume is violated now, or 0. level: the greatest level that alerts, or 0; both are at most
+ * the configuration's count of levels (1 to 4). first: the first second of the present flight, counted from 0 (so 0 to 179),
+ * in which it violates that level's volume, or -1 if level is 0. */
 struct daa_alert {
     uint32_t now, level;
     int64_t first;
@@ -126,7 +128,7 @@ enum daa_field {
     DAA_AGE = 9             /* age */
 };
 
-/* What is wrong with a state. code: DAA_OK if nothing is, DAA_TOO_MANY, DAA_BAD_OWN, DAA_BAD_ID, DAA_BAD_TRAFFIC or
+/* What is wrong with a state. code: DAA_OK if nothing is, DAA_TOO_MANY, DAA_BAD_ID, DAA_BAD_OWN, DAA_BAD_TRAFFIC or
  * DAA_SAME_ID. place: which aircraft it is, counted from 0 (after DAA_SAME_ID the later of the two), or 0 if it is none.
  * field: which number (enum daa_field) is out of its range from least to greatest, after DAA_BAD_OWN and DAA_BAD_TRAFFIC; all
  * three are 0 after the others. */
@@ -146,7 +148,8 @@ struct daa_candidate {
     int32_t kind, value;
 };
 
-/* A stretch of a kind's rising values, from one up to another, that all show the same level (0: none is met). */
+/* A stretch of a kind's rising values, from one up to another, that all show the same level: 0 where none is met, else 1 to
+ * the configuration's count of levels. */
 struct daa_band {
     int32_t from, upto;
     uint32_t level;
@@ -158,8 +161,8 @@ struct daa_resolution {
     int32_t what, value;
 };
 
-/* The recovery of a kind. found: 1, and then after (seconds, from 1 on) is the least time from which on some value is clear,
- * and value the first that is; or 0 if there is none, and after and value are 0. */
+/* The recovery of a kind. found: 1, and then after (seconds, 1 to 179) is the least time from which on some value is clear,
+ * and value the first that is, in the kind's unit; or 0 if there is none, and after and value are 0. */
 struct daa_recovery {
     int32_t found;
     uint32_t after;
@@ -184,12 +187,15 @@ int32_t daa_candidate(const struct daa_config *config, uint32_t index, struct da
 /* ---- states */
 
 /* Fills in what is wrong with an ownship and aircraft, or that nothing is; it returns DAA_OK either way. It reports
- * one of the things that are wrong. Every call below that takes a picture returns the same codes. */
+ * the first that is wrong in the order: DAA_TOO_MANY; DAA_BAD_ID of the first aircraft of which it is so; DAA_BAD_OWN; then
+ * the aircraft by their places, of each DAA_BAD_TRAFFIC before DAA_SAME_ID. Of several numbers of a state it is the first in
+ * the order of the struct. Every call below that takes a picture returns these codes in this order. */
 int32_t daa_fault(const struct daa_own *own, const struct daa_traffic *traffic, size_t count, struct daa_fault *out);
 
 /* ---- a moment */
 
-/* Fills in the alert of one aircraft. */
+/* Fills in the alert of one aircraft. Of the states' codes it answers the first of DAA_BAD_OWN, DAA_BAD_ID and
+ * DAA_BAD_TRAFFIC. */
 int32_t daa_alert(const struct daa_config *config, const struct daa_own *own, const struct daa_traffic *traffic,
                   struct daa_alert *out);
 
@@ -197,18 +203,20 @@ int32_t daa_alert(const struct daa_config *config, const struct daa_own *own, co
 int32_t daa_decide(const struct daa_config *config, const struct daa_own *own, const struct daa_traffic *traffic, size_t count,
                    struct daa_board *board);
 
-/* Fills in the level (0 to 4) of each candidate on a board, in the order of the whole list, and how many there are.
- * DAA_SHORT if room is less; 1897 elements are always enough. Elements from count on are unchanged. */
+/* Fills in the level of each candidate on a board, 0 to the configuration's count of levels (so at most 4), in the
+ * order of the whole list, and how many there are. Bits of a mask past the count of levels, and masks past the list, say
+ * nothing. DAA_SHORT if room is less, and only there; 1897 elements are always enough. Elements from count on are
+ * unchanged. */
 int32_t daa_levels(const struct daa_config *config, const struct daa_board *board, uint8_t *levels, size_t room, size_t *count);
 
 /* Fills in the bands of a kind on a board, in the rising order of the values, those of level 0 too, and how many there are.
- * DAA_SHORT if room is less than the values of the kind; 512 elements are always enough. Elements past the bands are
- * unchanged. */
+ * DAA_SHORT if room is less than the values of the kind, and only there; 512 elements are always enough. Elements past the
+ * bands are unchanged. */
 int32_t daa_bands(const struct daa_config *config, const struct daa_board *board, int32_t kind, struct daa_band *bands,
                   size_t room, size_t *count);
 
 /* Fills in the answer on a side of a kind: keep, the nearest open value, or that there is none. The ownship is that of
- * the board's moment. */
+ * the board's moment; of the states' codes the call answers DAA_BAD_OWN alone. */
 int32_t daa_resolution(const struct daa_config *config, const struct daa_own *own, const struct daa_board *board, int32_t kind,
                        int32_t side, struct daa_resolution *out);
 

@@ -1,5 +1,5 @@
 -- Places that are filled in one after the other.
-use Rattle.std.proofs.Common.{◌≡◌, ◌<◌, ◌+◌, ℕ, List, drop, slice_set, ap, arith}
+use Rattle.std.proofs.Common.{◌≡◌, ◌+◌, ℕ, List, drop, slice_set, ap, arith}
 use Rattle.std.proofs.lemmas.List.{drop-drop, drop-set-lt}
 
 -- the places past the next one that is filled in are as they were

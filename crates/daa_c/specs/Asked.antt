@@ -1,6 +1,6 @@
 -- What calls fill in if they return 0, under the configuration of the numbers, which is accepted.
 use Rattle.std.specs.Prelude.{◌≡◌, ◌<◌, ◌≤◌, ℕ, ℤ, List, length, map, take, slice_get, Option, Some, None, Ok}
-use Rattle.daa_bands.specs.Board.{HasLevelOn, IsBoardOf, mask_levels}
+use Rattle.daa_bands.specs.Board.{HasLevelOn, IsBoardOf}
 use Rattle.daa_bands.specs.KindBands.{AreKindBands}
 use Rattle.daa_config.specs.Candidates.{candidates_of, values_of}
 use Rattle.daa_config.specs.Settings.{Settings}
@@ -23,9 +23,10 @@ use Rattle.daa_c.specs.declared.alerts.DaaAlert.{DaaAlert}
 use Rattle.daa_c.specs.declared.bands.DaaBand.{DaaBand}
 use Rattle.daa_c.specs.declared.candidates.DaaCandidate.{DaaCandidate}
 use Rattle.daa_c.specs.declared.recovery.DaaRecovery.{DaaRecovery}
+use Rattle.daa_c.specs.declared.refusal.Refusal.{Refusal}
 use Rattle.daa_c.specs.declared.resolution.DaaResolution.{DaaResolution}
 use Rattle.daa_c.specs.declared.setting.DaaConfig.{DaaConfig}
-use Rattle.daa_c.specs.Codes.{candidate_by, kind_number, side_number}
+use Rattle.daa_c.specs.Codes.{candidate_by, IsNoKind, IsNoSide, kind_number, side_number}
 use Rattle.daa_c.specs.Filled.{IsFilledAlert, AreLevelsOn, band_of, resolution_by, recovery_by}
 use Rattle.daa_c.specs.Numbers.{settings_by}
 
@@ -33,6 +34,18 @@ use Rattle.daa_c.specs.Numbers.{settings_by}
 pub record IsTaken (picture : Picture) : Type 0 where
   pub range : IsPictureInRange picture
   pub different : AreTaken (aircraft_of picture)
+
+-- nothing else is refused, and the number stands for no kind
+pub record HasNoKind (refusal : Option Refusal) (number : ℤ) : Type 0 where
+  pub sound : refusal ≡ None
+  pub none : IsNoKind number
+
+-- nothing else is refused, and the first number stands for a kind, but the second for no side
+pub record HasNoSide (refusal : Option Refusal) (kind_given side_given : ℤ) : Type 0 where
+  pub sound : refusal ≡ None
+  pub kind : Kind
+  pub kind_is : kind_number kind ≡ kind_given
+  pub none : IsNoSide side_given
 
 module _ (config : DaaConfig) where
   -- the candidate at an index of the whole list
@@ -70,7 +83,7 @@ module _ (config : DaaConfig) where
     pub accepted : settings_by config ≡ Ok settings
     pub all : count ≡ length (candidates_of settings)
     pub fits : count ≤ length levels
-    pub shown : AreLevelsOn board count levels
+    pub shown : AreLevelsOn board (length settings.levels) count levels
 
   -- it has more candidates than there is room for
   pub record HasMoreCandidates (room : ℕ) : Type 0 where
@@ -84,8 +97,9 @@ module _ (config : DaaConfig) where
     pub accepted : settings_by config ≡ Ok settings
     pub kind : Kind
     pub kind_is : kind_number kind ≡ number
-    pub fits : count ≤ length bands
-    pub are : AreKindBands (HasLevelOn board) mask_levels settings kind (map band_of (take count bands))
+    pub fits : length (values_of kind settings) ≤ length bands
+    pub within : count ≤ length bands
+    pub are : AreKindBands (HasLevelOn board) (length settings.levels) settings kind (map band_of (take count bands))
 
   -- the kind with this number has more values than there is room for
   pub record HasMoreValues (number : ℤ) (room : ℕ) : Type 0 where
@@ -119,8 +133,11 @@ module _ (config : DaaConfig) where
     pub is : IsRecovery settings picture kind answer
     pub told : out ≡ recovery_by answer
 
-  -- it asks for no recovery
-  pub record AsksForNone : Type 0 where
+  -- nothing else is refused, and it asks for no recovery
+  pub record AsksForNone (refusal : Option Refusal) (number : ℤ) : Type 0 where
+    pub sound : refusal ≡ None
+    pub kind : Kind
+    pub kind_is : kind_number kind ≡ number
     pub settings : Settings
     pub accepted : settings_by config ≡ Ok settings
     pub none : settings.recovery ≡ None

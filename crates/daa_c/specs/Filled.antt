@@ -2,7 +2,7 @@
 use Rattle.std.specs.Prelude.{◌≡◌, ◌<◌, ℕ, ℤ, pos, negsuc, List, slice_index, Option, Some, None}
 use Rattle.daa_alert.specs.Alert.{IsAlertOf}
 use Rattle.daa_alert.specs.declared.aircraft_alert.Alert.{Alert}
-use Rattle.daa_bands.specs.Board.{HasLevelOn, mask_levels}
+use Rattle.daa_bands.specs.Board.{HasLevelOn}
 use Rattle.daa_bands.specs.declared.band.Band.{Band}
 use Rattle.daa_fixed.specs.Mask.{IsGreatestLevel}
 use Rattle.daa_config.specs.Settings.{Settings}
@@ -30,9 +30,9 @@ pub record IsFilledAlert (settings : Settings) (own : Own) (aircraft : Traffic) 
   pub level : told.level ≡ alert.level
   pub first : told.first ≡ leg_by alert.first
 
--- the levels on a board of the first `count` candidates of the whole list
-abbrev pub AreLevelsOn : List ℕ → ℕ → List ℕ → Type 0
-AreLevelsOn board count levels = (index : ℕ) → index < count → IsGreatestLevel (HasLevelOn board index) mask_levels (slice_index levels index)
+-- levels of so many candidates, in the order of the whole list: the greatest, up to top, that a board shows
+abbrev pub AreLevelsOn : List ℕ → (top count : ℕ) → List ℕ → Type 0
+AreLevelsOn board top count levels = (index : ℕ) → index < count → IsGreatestLevel (HasLevelOn board index) top (slice_index levels index)
 
 -- the band of a caller's numbers
 abbrev pub band_of : DaaBand → Band

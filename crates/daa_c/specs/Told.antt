@@ -1,5 +1,5 @@
--- What is reported of states that are refused.
-use Rattle.std.specs.Prelude.{◌≡◌, ◌⊎◌, ℕ, ℤ, pos, List}
+-- What is told of states that are refused.
+use Rattle.std.specs.Prelude.{◌≡◌, ◌⊎◌, ℕ, ℤ, pos, List, Some, None}
 use Rattle.daa_state.specs.declared.checked.Field.{Field}
 use Rattle.daa_state.specs.declared.checked.Field.TheVariants.{East, North, Altitude, Track, GroundSpeed, VerticalSpeed, SpeedEast, SpeedNorth, Age}
 use Rattle.daa_state.specs.declared.checked.OutOfRange.{OutOfRange}
@@ -7,12 +7,11 @@ use Rattle.daa_state.specs.declared.checked.PictureFault.TheVariants as says
 use Rattle.daa_c.specs.declared.faults.DaaFault.{DaaFault}
 use Rattle.daa_c.specs.declared.refusal.Refusal.{Refusal}
 use Rattle.daa_c.specs.declared.refusal.Refusal.TheVariants as refuses
-use Rattle.daa_c.specs.declared.setting.DaaConfig.{DaaConfig}
 use Rattle.daa_c.specs.declared.states.DaaOwn.{DaaOwn}
 use Rattle.daa_c.specs.declared.states.DaaTraffic.{DaaTraffic}
 use Rattle.daa_c.specs.Asked.{IsTaken}
 use Rattle.daa_c.specs.Codes.{code_of}
-use Rattle.daa_c.specs.Faults.{IsRefusal}
+use Rattle.daa_c.specs.Faults.{states_refusal}
 use Rattle.daa_c.specs.States.{picture_of}
 
 -- the number of a field of a state
@@ -48,12 +47,13 @@ told_by (refuses.Picture (says.SameId place)) = plain_fault (pos 22) place
 -- nothing is wrong, and this is reported
 pub record IsSound (own : DaaOwn) (traffic : List DaaTraffic) (out : DaaFault) : Type 0 where
   pub taken : IsTaken (picture_of 0 own traffic)
+  pub none : states_refusal own traffic ≡ None
   pub told : out ≡ plain_fault (pos 0) 0
 
--- something is wrong, whatever the configuration is, and it is reported
+-- something is wrong, and it is told
 pub record IsWrong (own : DaaOwn) (traffic : List DaaTraffic) (out : DaaFault) : Type 0 where
   pub why : Refusal
-  pub wrong : (config : DaaConfig) → IsRefusal config own traffic why
+  pub wrong : states_refusal own traffic ≡ Some why
   pub told : out ≡ told_by why
 
 -- it is reported that nothing is wrong, or what is wrong

@@ -1,9 +1,9 @@
 //! The alert of an aircraft.
 
-ghost use Rattle.std.specs.Prelude.{◌≡◌, ◌≢◌, ◌∷◌, [], pos, IfOk, IfErr};
+ghost use Rattle.std.specs.Prelude.{◌≡◌, ◌≢◌, pos, Some, IfOk, IfErr};
 ghost use Rattle.daa_state.specs.InRange.{IsOwnInRange, IsTrafficInRange};
 ghost use Rattle.daa_c.specs.Asked.{IsToldUnder};
-ghost use Rattle.daa_c.specs.Faults.{IsRefusal, IsCodeOf};
+ghost use Rattle.daa_c.specs.Faults.{refusal_of_two, IsCodeOf};
 ghost use Rattle.daa_c.specs.Filled.{leg_by, IsFilledAlert};
 ghost use Rattle.daa_c.specs.States.{own_of, traffic_of};
 
@@ -51,7 +51,8 @@ fn told(config: &Config, own: &Own, aircraft: &Traffic) -> DaaAlert
 fn alert_of(config: &DaaConfig, own: &DaaOwn, traffic: &DaaTraffic) -> Result<DaaAlert, Refusal>
     ensures told { IfOk result
         (IsToldUnder config.now (own_of own.now) (traffic_of traffic.now)) }
-    ensures refused { IfErr result (IsRefusal config.now own.now (traffic.now ∷ [])) }
+    ensures refused { IfErr result
+        (λ refusal. refusal_of_two config.now own.now traffic.now ≡ Some refusal) }
 {
     let config = match accept(config) {
         Ok(config) => config,
@@ -81,7 +82,7 @@ pub extern "C" fn daa_alert(
         → IsToldUnder config.now (own_of own.now) (traffic_of traffic.now) out.new }
     ensures kept { result ≢ pos 0 → out.new ≡ out.old }
     ensures refused { result ≢ pos 0
-        → IsCodeOf (IsRefusal config.now own.now (traffic.now ∷ [])) result }
+        → IsCodeOf (refusal_of_two config.now own.now traffic.now) result }
 {
     match alert_of(config, own, traffic) {
         Ok(alert) => {

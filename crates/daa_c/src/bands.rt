@@ -4,13 +4,14 @@ ghost use Rattle.std.specs.Prelude.{◌≡◌, ◌≢◌, ◌≤◌, pos, drop, 
 ghost use Rattle.daa_bands.specs.Board.{HasLevelOn, mask_levels};
 ghost use Rattle.daa_bands.specs.KindBands.{AreKindBands};
 ghost use Rattle.daa_config.specs.Candidates.{values_of};
-ghost use Rattle.daa_c.specs.Asked.{AreBandsUnder, HasMoreValues};
-ghost use Rattle.daa_c.specs.Codes.{answer_of, IsNoKind};
+ghost use Rattle.daa_c.specs.Asked.{AreBandsUnder, HasMoreValues, HasNoKind};
+ghost use Rattle.daa_c.specs.Codes.{answer_of};
+ghost use Rattle.daa_c.specs.Faults.{config_refusal};
 ghost use Rattle.daa_c.specs.Filled.{band_of};
 ghost use Rattle.daa_c.specs.Numbers.{settings_by};
 
 use crate::codes::{BAD_KIND, SHORT, fault_code, kind_in};
-use crate::deciding::DaaBoard;
+use crate::deciding::{DaaBoard, cut};
 use crate::setting::{DaaConfig, accept};
 use daa_bands::{Band, Board, runs};
 use daa_config::{Config, Kind};
@@ -65,7 +66,8 @@ pub extern "C" fn daa_bands(
     ensures past_kept { result ≡ pos 0 → drop count.new bands.new ≡ drop count.new bands.old }
     ensures bands_kept { result ≢ pos 0 → bands.new ≡ bands.old }
     ensures count_kept { result ≢ pos 0 → count.new ≡ count.old }
-    ensures no_kind { result ≡ pos 23 → IsNoKind kind }
+    ensures no_kind { result ≡ pos 23
+        → HasNoKind (config_refusal (settings_by config.now)) kind }
     ensures short { result ≡ pos 19 → HasMoreValues config.now kind (length bands.old) }
     ensures refused { result ≢ pos 0 → result ≢ pos 19 → result ≢ pos 23
         → answer_of (settings_by config.now) ≡ result }
@@ -80,6 +82,6 @@ pub extern "C" fn daa_bands(
     if bands.len() < config.count(kind) as usize {
         return SHORT;
     }
-    *count = fill(&config, &Board::of(&board.masks), kind, bands);
+    *count = fill(&config, &cut(&config, &board.masks), kind, bands);
     0
 }

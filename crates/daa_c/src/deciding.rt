@@ -1,12 +1,13 @@
 //! A moment decided, and the levels that its board shows.
 
-ghost use Rattle.std.specs.Prelude.{◌≡◌, ◌≢◌, ◌≤◌, pos, drop, length, IfOk, IfErr};
-ghost use Rattle.daa_bands.specs.Board.{IsBoardOf};
+ghost use Rattle.std.specs.Prelude.{◌≡◌, ◌≢◌, ◌≤◌, ◌-◌, ◌^◌, pos, drop, length, Some, IfOk, IfErr};
+ghost use Rattle.daa_bands.specs.Board.{HasLevelOn, IsBoardOf, mask_levels};
 ghost use Rattle.daa_config.specs.Candidates.{candidates_of};
+ghost use Rattle.daa_config.specs.Settings.{IsAccepted};
 ghost use Rattle.daa_engine.specs.Covered.{CoveredAt};
 ghost use Rattle.daa_state.specs.InRange.{IsPictureInRange};
 ghost use Rattle.daa_c.specs.Asked.{IsDecided, AreLevelsUnder, HasMoreCandidates};
-ghost use Rattle.daa_c.specs.Faults.{IsRefusal, IsCodeOf};
+ghost use Rattle.daa_c.specs.Faults.{refusal_of, IsCodeOf};
 ghost use Rattle.daa_c.specs.Codes.{answer_of};
 ghost use Rattle.daa_c.specs.Numbers.{settings_by};
 ghost use Rattle.daa_c.specs.Filled.{AreLevelsOn};
@@ -65,7 +66,8 @@ pub(crate) fn decided(config: &Config, picture: &Picture) -> Board
 fn board_of(config: &DaaConfig, own: &DaaOwn, traffic: &[DaaTraffic]) -> Result<DaaBoard, Refusal>
     ensures decided { IfOk result
         (λ b. IsDecided config.now (picture_of 0 own.now traffic.now) b.masks) }
-    ensures refused { IfErr result (IsRefusal config.now own.now traffic.now) }
+    ensures refused { IfErr result
+        (λ refusal. refusal_of config.now own.now traffic.now ≡ Some refusal) }
 {
     let config = match accept(config) {
         Ok(config) => config,
@@ -92,7 +94,7 @@ pub extern "C" fn daa_decide(
         → IsDecided config.now (picture_of 0 own.now traffic.now) board.new.masks }
     ensures kept { result ≢ pos 0 → board.new ≡ board.old }
     ensures refused { result ≢ pos 0
-        → IsCodeOf (IsRefusal config.now own.now traffic.now) result }
+        → IsCodeOf (refusal_of config.now own.now traffic.now) result }
 {
     match board_of(config, own, traffic) {
         Ok(decided) => {
@@ -103,10 +105,39 @@ pub extern "C" fn daa_decide(
     }
 }
 
+/// The bits that stand for so many levels.
+fn level_bits(levels: u32) -> u8
+    requires { levels ≤ 4 }
+    ensures { result ≡ 2 ^ levels - 1 }
+{
+    match levels {
+        0 => 0,
+        1 => 1,
+        2 => 3,
+        3 => 7,
+        _ => 15,
+    }
+}
+
+/// The board of a caller's masks, without the bits that stand for no level of the configuration and
+/// the masks past its candidates.
+pub(crate) fn cut(config: &Config, masks: &[u8; 2048]) -> Board
+    ensures board { IsBoardOf (HasLevelOn masks.now) config.now result }
+    ensures accepted { IsAccepted config.now }
+{
+    let bits = level_bits(config.levels());
+    let mut board = Board::new();
+    for index in 0..config.total() {
+        board.mark(index, masks[index as usize] & bits);
+    }
+    board
+}
+
 /// Fills in the levels that a board shows.
 fn show(config: &Config, board: &Board, levels: &mut [u8])
     requires { length (candidates_of config.now) ≤ length levels.old }
-    ensures shown { AreLevelsOn board.now (length (candidates_of config.now)) levels.new }
+    ensures shown { AreLevelsOn
+        board.now mask_levels (length (candidates_of config.now)) levels.new }
     ensures fits { length (candidates_of config.now) ≤ length levels.new }
     ensures past_kept { drop (length (candidates_of config.now)) levels.new
         ≡ drop (length (candidates_of config.now)) levels.old }
@@ -116,8 +147,8 @@ fn show(config: &Config, board: &Board, levels: &mut [u8])
     }
 }
 
-/// Fills in the level that each candidate shows, in the order of the whole list, and how many there
-/// are. Returns 0, or why nothing was filled in.
+/// Fills in the level that each candidate shows, from 0 to the number of levels, in the order of the
+/// whole list, and how many there are. Answers 0, or why nothing was filled in.
 #[unsafe(no_mangle)]
 pub extern "C" fn daa_levels(
     config: &DaaConfig,
@@ -143,7 +174,7 @@ pub extern "C" fn daa_levels(
     if levels.len() < total {
         return SHORT;
     }
-    show(&config, &Board::of(&board.masks), levels);
+    show(&config, &cut(&config, &board.masks), levels);
     *count = total;
     0
 }

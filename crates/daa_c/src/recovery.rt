@@ -1,10 +1,9 @@
 //! The recovery of a kind.
 
 ghost use Rattle.std.specs.Prelude.{◌≡◌, ◌≢◌, pos};
-ghost use Rattle.daa_c.specs.Asked.{AsksForNone, IsRecoveryUnder};
-ghost use Rattle.daa_c.specs.Codes.{IsNoKind};
+ghost use Rattle.daa_c.specs.Asked.{AsksForNone, HasNoKind, IsRecoveryUnder};
 ghost use Rattle.daa_c.specs.Filled.{recovery_by};
-ghost use Rattle.daa_c.specs.Faults.{IsRefusal, IsCodeOf};
+ghost use Rattle.daa_c.specs.Faults.{refusal_of, IsCodeOf};
 ghost use Rattle.daa_c.specs.States.{picture_of};
 
 use crate::codes::{BAD_KIND, NOT_ASKED, kind_in};
@@ -52,10 +51,12 @@ pub extern "C" fn daa_recovery(
     ensures told { result ≡ pos 0
         → IsRecoveryUnder config.now (picture_of 0 own.now traffic.now) kind out.new }
     ensures kept { result ≢ pos 0 → out.new ≡ out.old }
-    ensures no_kind { result ≡ pos 23 → IsNoKind kind }
-    ensures not_asked { result ≡ pos 26 → AsksForNone config.now }
+    ensures no_kind { result ≡ pos 23
+        → HasNoKind (refusal_of config.now own.now traffic.now) kind }
+    ensures not_asked { result ≡ pos 26
+        → AsksForNone config.now (refusal_of config.now own.now traffic.now) kind }
     ensures refused { result ≢ pos 0 → result ≢ pos 23 → result ≢ pos 26
-        → IsCodeOf (IsRefusal config.now own.now traffic.now) result }
+        → IsCodeOf (refusal_of config.now own.now traffic.now) result }
 {
     let config = match accept(config) {
         Ok(config) => config,

@@ -6,7 +6,7 @@ ghost use Rattle.daa_engine.specs.Covered.{CoveredAt};
 ghost use Rattle.daa_engine.specs.MomentText.{IsMomentText};
 ghost use Rattle.daa_state.specs.InRange.{IsPictureInRange};
 ghost use Rattle.daa_c.specs.Asked.{IsReported, HasLongerText};
-ghost use Rattle.daa_c.specs.Faults.{IsRefusal, IsCodeOf};
+ghost use Rattle.daa_c.specs.Faults.{refusal_of, IsCodeOf};
 ghost use Rattle.daa_c.specs.States.{picture_of};
 
 use crate::codes::SHORT;
@@ -72,7 +72,7 @@ pub extern "C" fn daa_report(
     ensures short { result ≡ pos 19 → HasLongerText
         config.now (picture_of time own.now traffic.now) (length text.old) }
     ensures refused { result ≢ pos 0 → result ≢ pos 19
-        → IsCodeOf (IsRefusal config.now own.now traffic.now) result }
+        → IsCodeOf (refusal_of config.now own.now traffic.now) result }
 {
     let config = match accept(config) {
         Ok(config) => config,

@@ -1,9 +1,8 @@
 //! The answer on a side of a kind.
 
-ghost use Rattle.std.specs.Prelude.{◌≡◌, ◌≢◌, [], pos};
-ghost use Rattle.daa_c.specs.Asked.{IsResolutionUnder};
-ghost use Rattle.daa_c.specs.Codes.{IsNoKind, IsNoSide};
-ghost use Rattle.daa_c.specs.Faults.{IsRefusal, IsCodeOf};
+ghost use Rattle.std.specs.Prelude.{◌≡◌, ◌≢◌, pos};
+ghost use Rattle.daa_c.specs.Asked.{IsResolutionUnder, HasNoKind, HasNoSide};
+ghost use Rattle.daa_c.specs.Faults.{refusal_of_own, IsCodeOf};
 ghost use Rattle.daa_c.specs.Filled.{resolution_by};
 ghost use Rattle.daa_c.specs.States.{own_of};
 
@@ -48,10 +47,10 @@ pub extern "C" fn daa_resolution(
     ensures told { result ≡ pos 0
         → IsResolutionUnder config.now (own_of own.now) board.now.masks kind side out.new }
     ensures kept { result ≢ pos 0 → out.new ≡ out.old }
-    ensures no_kind { result ≡ pos 23 → IsNoKind kind }
-    ensures no_side { result ≡ pos 24 → IsNoSide side }
+    ensures no_kind { result ≡ pos 23 → HasNoKind (refusal_of_own config.now own.now) kind }
+    ensures no_side { result ≡ pos 24 → HasNoSide (refusal_of_own config.now own.now) kind side }
     ensures refused { result ≢ pos 0 → result ≢ pos 23 → result ≢ pos 24
-        → IsCodeOf (IsRefusal config.now own.now []) result }
+        → IsCodeOf (refusal_of_own config.now own.now) result }
 {
     let config = match accept(config) {
         Ok(config) => config,

@@ -1,6 +1,6 @@
 //! A configuration as C has it.
 
-ghost use Rattle.std.specs.Prelude.{◌≡◌, ◌≢◌, ◌≤◌, pos, Ok, Err, IfOk, IfErr};
+ghost use Rattle.std.specs.Prelude.{◌≡◌, ◌≢◌, ◌≤◌, pos, drop, Ok, Err, IfOk, IfErr};
 ghost use Rattle.daa_config.specs.ConfigOf.{config_of};
 ghost use Rattle.daa_config.specs.Written;
 ghost use Rattle.daa_c.specs.Codes.{answer_of};
@@ -47,9 +47,10 @@ pub(crate) fn accept(config: &DaaConfig) -> Result<Config, ConfigFault>
     Config::of(&config.numbers, &asked(config), levels)
 }
 
-/// Fills in the numbers of the recovery.
+/// Fills in the numbers of the recovery, where one is asked for.
 fn ask(recovery: Option<RecoveryNumbers>, config: &mut DaaConfig)
     ensures asked { recovery_by config.new.recovery config.new.cylinder ≡ recovery }
+    ensures kept { config.new.recovery ≡ 0 → config.new.cylinder ≡ config.old.cylinder }
     ensures others { config.new ≡ record config.old {
       recovery = config.new.recovery;
       cylinder = config.new.cylinder;
@@ -68,6 +69,10 @@ fn ask(recovery: Option<RecoveryNumbers>, config: &mut DaaConfig)
 fn fill(numbers: &ConfigNumbers, config: &mut DaaConfig)
     ensures same { written_by config.new ≡ Written.written_by numbers.now }
     ensures few { config.new.count ≤ 4 }
+    ensures past_kept { drop config.new.count config.new.levels
+        ≡ drop config.new.count config.old.levels }
+    ensures cylinder_kept { config.new.recovery ≡ 0
+        → config.new.cylinder ≡ config.old.cylinder }
 {
     let levels = numbers.levels.as_slice();
     config.numbers = numbers.numbers;
@@ -76,11 +81,16 @@ fn fill(numbers: &ConfigNumbers, config: &mut DaaConfig)
     ask(numbers.recovery, config);
 }
 
-/// Fills in the numbers of a configuration's text, or returns its fault.
+/// Fills in the numbers of a configuration's text, or answers its fault. Places of levels past
+/// those that are counted stay as they were, and the cylinder where no recovery is asked for.
 #[unsafe(no_mangle)]
 pub extern "C" fn daa_read(alloc: Global, text: &[u8], config: &mut DaaConfig) -> i32
     ensures read { result ≡ pos 0 → IsReadAs text.now config.new }
     ensures kept { result ≢ pos 0 → config.new ≡ config.old }
+    ensures past_kept { drop config.new.count config.new.levels
+        ≡ drop config.new.count config.old.levels }
+    ensures cylinder_kept { config.new.recovery ≡ 0
+        → config.new.cylinder ≡ config.old.cylinder }
     ensures refused { result ≢ pos 0 → result ≢ pos 20 → answer_of (config_of text.now) ≡ result }
 {
     match read_numbers(alloc, text) {

@@ -1,15 +1,12 @@
 //! States as C has them.
 
-ghost use Rattle.std.specs.Prelude.{◌≡◌, ◌≤◌, ◌∷◌, [], List, length, map, take, IsTrue, IfOk, IfErr};
+ghost use Rattle.std.specs.Prelude.{◌≡◌, ◌≤◌, length, map, take, Some, None, IsTrue, IfOk, IfErr, OnOk};
 ghost use Rattle.std.specs.Option.{SomeIff};
 ghost use Rattle.daa_state.specs.Id.{is_id};
 ghost use Rattle.daa_state.specs.InRange.{IsOwnInRange, IsTrafficInRange};
 ghost use Rattle.daa_c.specs.Asked.{IsTaken};
-ghost use Rattle.daa_c.specs.Faults.{IsRefusal};
+ghost use Rattle.daa_c.specs.Faults.{bad_id_from, own_refusal, traffic_refusal, states_refusal};
 ghost use Rattle.daa_c.specs.States.{own_of, text_of, traffic_of, picture_of};
-ghost use Rattle.daa_c.specs.declared.setting.DaaConfig.{DaaConfig};
-ghost use Rattle.daa_c.specs.declared.states.DaaOwn.{DaaOwn};
-ghost use Rattle.daa_c.specs.declared.states.DaaTraffic.{DaaTraffic};
 
 use crate::refusal::Refusal;
 use arrayvec::ArrayVec;
@@ -88,8 +85,8 @@ fn aircraft(traffic: &DaaTraffic) -> Option<Traffic>
 pub(crate) fn checked_own(own: &DaaOwn) -> Result<Own, Refusal>
     ensures value { IfOk result (λ o. o ≡ own_of own.now) }
     ensures range { IfOk result IsOwnInRange }
-    ensures refused { (config : DaaConfig) (traffic : List DaaTraffic)
-        → IfErr result (IsRefusal config own.now traffic) }
+    ensures sound { OnOk result (own_refusal own.now ≡ None) }
+    ensures refused { IfErr result (λ refusal. own_refusal own.now ≡ Some refusal) }
 {
     match ownship(own).checked() {
         Ok(own) => Ok(own),
@@ -97,12 +94,13 @@ pub(crate) fn checked_own(own: &DaaOwn) -> Result<Own, Refusal>
     }
 }
 
-/// The aircraft of these numbers, if they are in range and its identifier is allowed.
+/// The aircraft of these numbers, where they are in range and its identifier is allowed, which is
+/// looked at first.
 pub(crate) fn checked_traffic(traffic: &DaaTraffic) -> Result<Traffic, Refusal>
     ensures value { IfOk result (λ t. t ≡ traffic_of traffic.now) }
     ensures range { IfOk result IsTrafficInRange }
-    ensures refused { (config : DaaConfig) (own : DaaOwn)
-        → IfErr result (IsRefusal config own (traffic.now ∷ [])) }
+    ensures sound { OnOk result (traffic_refusal traffic.now ≡ None) }
+    ensures refused { IfErr result (λ refusal. traffic_refusal traffic.now ≡ Some refusal) }
 {
     let Some(one) = aircraft(traffic) else {
         return Err(Refusal::BadId(0));
@@ -113,35 +111,38 @@ pub(crate) fn checked_traffic(traffic: &DaaTraffic) -> Result<Traffic, Refusal>
     }
 }
 
-/// The aircraft of these numbers, if their identifiers are allowed.
-fn all_aircraft(traffic: &[DaaTraffic]) -> Result<ArrayVec<Traffic, 64>, Refusal>
+/// The aircraft of these numbers, where their identifiers are allowed; else the place of the first
+/// whose is not.
+fn all_aircraft(traffic: &[DaaTraffic]) -> Result<ArrayVec<Traffic, 64>, usize>
     requires { length traffic.now ≤ 64 }
     ensures value { IfOk result (λ all. all.items ≡ map traffic_of traffic.now) }
-    ensures refused { (config : DaaConfig) (own : DaaOwn)
-        → IfErr result (IsRefusal config own traffic.now) }
+    ensures sound { OnOk result (bad_id_from 0 traffic.now ≡ None) }
+    ensures refused { IfErr result (λ place. bad_id_from 0 traffic.now ≡ Some place) }
 {
     let mut all = ArrayVec::new();
     for place in 0..traffic.len() {
         let Some(one) = aircraft(&traffic[place]) else {
-            return Err(Refusal::BadId(place));
+            return Err(place);
         };
         all.push(one);
     }
     Ok(all)
 }
 
-/// The picture of these numbers, if the engine takes it.
+/// The picture of these numbers, where the engine takes it. Else the first of: too many aircraft, an
+/// identifier that is not allowed, and why the states are no picture.
 pub(crate) fn picture(time: u32, own: &DaaOwn, traffic: &[DaaTraffic]) -> Result<Picture, Refusal>
     ensures value { IfOk result (λ p. p ≡ picture_of time own.now traffic.now) }
     ensures taken { IfOk result IsTaken }
-    ensures refused { (config : DaaConfig) → IfErr result (IsRefusal config own.now traffic.now) }
+    ensures sound { OnOk result (states_refusal own.now traffic.now ≡ None) }
+    ensures refused { IfErr result (λ refusal. states_refusal own.now traffic.now ≡ Some refusal) }
 {
     if traffic.len() > 64 {
         return Err(Refusal::Picture(PictureFault::TooMany));
     }
     let all = match all_aircraft(traffic) {
         Ok(all) => all,
-        Err(refusal) => return Err(refusal),
+        Err(place) => return Err(Refusal::BadId(place)),
     };
     match Picture::checked(time, ownship(own), all.as_slice()) {
         Ok(picture) => Ok(picture),

@@ -57,8 +57,9 @@ pub fn decide_in(
     fill(board, trunks, branches, needs, config, picture);
 }
 
-/// Writes the lines of a moment to the sink as `report` does, from a board of the moment that was
-/// decided before.
+/// Writes the lines of a moment to the sink as `report` does, where the board of the moment was
+/// decided before: it is handed in. `SinkFault` comes only where the sink failed; then a beginning
+/// of the lines is written. The lines have at most 130176 bytes together.
 pub fn say_moment<K: Sink>(
     config: &Config,
     picture: &Picture,
@@ -193,8 +194,9 @@ impl Engine {
         nearest(&self.board, &self.config, own, kind, side)
     }
 
-    /// The recovery of a kind in a moment: after how many seconds the first candidate is clear, and
-    /// its value. The configuration asks for recoveries.
+    /// The recovery of a kind in a moment: the least second, from 1 to 179, from which on some
+    /// candidate of the kind is clear, and the value, in the kind's unit, of the first that is; or
+    /// `None` where there is none. The configuration asks for recoveries.
     pub fn recovery(&self, picture: &Picture, kind: Kind) -> Option<Recovery>
         requires asked { self.now.settings.recovery ≢ None }
         requires picture { IsPictureInRange picture.now }

@@ -4,8 +4,10 @@ ghost use Rattle.std.specs.Prelude.{◌≡◌, ◌<◌, ◌≤◌, ◌^◌, ◌�
 ghost use Rattle.daa_bands.specs.Board.{HasLevelOn, IsBoardOf, mask_levels};
 ghost use Rattle.daa_bands.specs.KindBands.{AreKindBands};
 ghost use Rattle.daa_bands.specs.declared.band.Band.{Band};
+ghost use Rattle.daa_config.specs.Candidates.{candidates_of};
 ghost use Rattle.daa_config.specs.declared.candidate.Resolution.{Resolution};
 ghost use Rattle.daa_config.specs.declared.kind.Kind.{Kind};
+ghost use Rattle.daa_fixed.specs.Mask.{IsGreatestLevel};
 ghost use Rattle.daa_fixed.specs.One.{HasOne};
 ghost use Rattle.daa_config.specs.Settings.{Settings, IsAccepted};
 ghost use Rattle.daa_state.specs.declared.word.Picture.{Picture};
@@ -39,8 +41,8 @@ pub fn has_one_board()
         → HasLevelOn a index l → HasLevelOn b index l }
 {}
 
-/// A board agrees with the definitions: over a board of the covered candidates, the bands of a kind
-/// and the answer on a side are those over the covered candidates.
+/// What a board shows is what aircraft do: over a board that stands for what is covered, the bands
+/// of a kind, the answer on a side and the level of a candidate are those over what is covered.
 pub fn boards_tell_what_is_covered()
     ensures bands { (s : Settings) (p : Picture) (board : List ℕ) (kind : Kind) (bands : List Band)
         → IsAccepted s
@@ -52,6 +54,12 @@ pub fn boards_tell_what_is_covered()
         → IsBoardOf (CoveredAt s p) s board
         → IsResolution (HasLevelOn board) s p.own kind side answer
         → IsResolution (CoveredAt s p) s p.own kind side answer }
+    ensures levels { (s : Settings) (p : Picture) (board : List ℕ) (index level : ℕ)
+        → IsAccepted s
+        → IsBoardOf (CoveredAt s p) s board
+        → index < length (candidates_of s)
+        → IsGreatestLevel (HasLevelOn board index) mask_levels level
+        → IsGreatestLevel (CoveredAt s p index) (length s.levels) level }
 {}
 
 /// Under a configuration without a table of recovery the text is that of the lines that there are

@@ -1,15 +1,19 @@
 -- Aircraft that are taken one after the other.
-use Rattle.std.proofs.Common.{ℕ, ℤ, pos, ◌≡◌, ◌<◌, ◌≤◌, ◌+◌, ◌++◌, ◌∙◌, ◌&&◌, Bool, true, false, List, [], ◌∷◌, length, Some, None, below_more, refl, sym, subst, take, slice_index_or, arith}
-use Rattle.std.specs.Prelude.{slice_get, All, int_le, ◌≤ℤ◌, if◌then◌else◌}
+use Rattle.std.proofs.Common.{ℕ, ℤ, pos, ◌≡◌, ◌<◌, ◌≤◌, ◌+◌, ◌++◌, ◌∙◌, ◌&&◌, Bool, true, false, List, [], ◌∷◌, length, Some, None, below_more, refl, sym, subst, take, slice_index_or, drop, ap, arith}
+use Rattle.std.specs.Prelude.{Option, nat_lt, slice_get, All, int_le, ◌≤ℤ◌, if◌then◌else◌}
 use Rattle.std.proofs.lemmas.Int.{ints}
 use Rattle.std.proofs.lemmas.Option.{slice_get_within, slice_get-get_or}
-use Rattle.std.proofs.lemmas.List.{take_more, take_all}
+use Rattle.std.proofs.lemmas.List.{take_more, take_all, drop_more, drop_all}
+use Rattle.std.proofs.lemmas.Bool.{lt-ltb, le-ltb}
 use Rattle.std.proofs.lemmas.List.Elements.{All-nil, All-from_get_or}
-use Rattle.daa_state.specs.Checked.{range_of, is_within, outside, first_outside, own_numbers, traffic_numbers, IsTakenAt, AreTaken}
+use Rattle.daa_state.specs.Checked.{range_of, is_within, outside, first_outside, own_numbers, traffic_numbers, IsTakenAt, AreTaken, fault_at, earlier, fault_from, own_fault, picture_fault_of}
 use Rattle.daa_state.specs.Id.{is_id}
 use Rattle.daa_state.specs.InRange.{IsWithin, IsOwnInRange, IsTrafficInRange}
 use Rattle.daa_state.specs.Ranges.{Range}
 use Rattle.daa_state.specs.declared.checked.Number.{Number}
+use Rattle.daa_state.specs.declared.checked.OutOfRange.{OutOfRange}
+use Rattle.daa_state.specs.declared.checked.PictureFault.{PictureFault}
+use Rattle.daa_state.specs.declared.checked.PictureFault.TheVariants as says
 use Rattle.daa_state.specs.declared.word.Own.{Own}
 use Rattle.daa_state.specs.declared.word.Traffic.{Traffic}
 
@@ -98,3 +102,61 @@ pub taken_whole : (traffic all : List Traffic) (count : ℕ) → length traffic 
 taken_whole traffic all count past within so_far taken =
     let ends : count ≡ length traffic = omega (arith, past, within) in
     subst AreTaken (sym (whole traffic all count past so_far)) (below-all traffic (subst (AreTakenBelow traffic) ends taken))
+
+-- ---- why it is none
+
+-- what is wrong from a place on is what is wrong at it, or else further on
+from-place : (traffic : List Traffic) (place : ℕ) (d : Traffic) → place < length traffic
+    → fault_from traffic place (drop place traffic)
+    ≡ earlier (fault_at traffic place (slice_index_or traffic place d)) (fault_from traffic (place + 1) (drop (place + 1) traffic))
+unfolding fault_from
+from-place traffic place d within = ap (fault_from traffic place) (drop_more traffic place d within)
+
+-- nothing is wrong at a place
+pub fault_passed : (traffic : List Traffic) (place : ℕ) (d : Traffic) (all : Option PictureFault) → place < length traffic
+    → ((t : Traffic) → slice_get traffic place ≡ Some t → fault_at traffic place t ≡ None)
+    → fault_from traffic place (drop place traffic) ≡ all → fault_from traffic (place + 1) (drop (place + 1) traffic) ≡ all
+fault_passed traffic place d all within none so_far =
+    let rest : Option PictureFault = fault_from traffic (place + 1) (drop (place + 1) traffic) in
+    let here = none (slice_index_or traffic place d) (slice_get-get_or traffic place d within) in
+    sym (ap (λ (f : Option PictureFault). earlier f rest) here) ∙ sym (from-place traffic place d within) ∙ so_far
+
+-- something is wrong at a place
+pub fault_found : (traffic : List Traffic) (place : ℕ) (fault : PictureFault) (all : Option PictureFault) → place < length traffic
+    → ((t : Traffic) → slice_get traffic place ≡ Some t → fault_at traffic place t ≡ Some fault)
+    → fault_from traffic place (drop place traffic) ≡ all → all ≡ Some fault
+fault_found [] place fault all within found so_far = absurd (omega (arith, within))
+fault_found (first ∷ others) place fault all within found so_far =
+    let traffic : List Traffic = first ∷ others in
+    let rest : Option PictureFault = fault_from traffic (place + 1) (drop (place + 1) traffic) in
+    let here = found (slice_index_or traffic place first) (slice_get-get_or traffic place first within) in
+    sym so_far ∙ from-place traffic place first within ∙ ap (λ (f : Option PictureFault). earlier f rest) here
+
+-- nothing is wrong past the last
+pub fault_past : (traffic : List Traffic) (place : ℕ) (all : Option PictureFault) → length traffic ≤ place
+    → fault_from traffic place (drop place traffic) ≡ all → all ≡ None
+unfolding fault_from
+fault_past traffic place all past so_far = sym so_far ∙ ap (fault_from traffic place) (drop_all place traffic past)
+
+pub fault_many : (own : Own) (traffic : List Traffic) → 64 < length traffic → picture_fault_of own traffic ≡ Some says.TooMany
+unfolding picture_fault_of
+fault_many own traffic many =
+    let test : nat_lt 64 (length traffic) ≡ true = lt-ltb 64 (length traffic) many in
+    rw test
+
+pub fault_few : (own : Own) (traffic : List Traffic) → length traffic ≤ 64
+    → picture_fault_of own traffic ≡ earlier (own_fault (first_outside (own_numbers own))) (fault_from traffic 0 traffic)
+unfolding picture_fault_of
+fault_few own traffic few =
+    let test : nat_lt 64 (length traffic) ≡ false = le-ltb 64 (length traffic) few in
+    rw test
+
+pub fault_own : (own : Own) (traffic : List Traffic) (fault : OutOfRange) → length traffic ≤ 64 → first_outside (own_numbers own) ≡ Some fault
+    → picture_fault_of own traffic ≡ Some (says.Own fault)
+fault_own own traffic fault few wrong =
+    fault_few own traffic few ∙ ap (λ (f : Option OutOfRange). earlier (own_fault f) (fault_from traffic 0 traffic)) wrong
+
+pub fault_traffic : (own : Own) (traffic : List Traffic) → length traffic ≤ 64 → first_outside (own_numbers own) ≡ None
+    → picture_fault_of own traffic ≡ fault_from traffic 0 traffic
+fault_traffic own traffic few sound =
+    fault_few own traffic few ∙ ap (λ (f : Option OutOfRange). earlier (own_fault f) (fault_from traffic 0 traffic)) sound

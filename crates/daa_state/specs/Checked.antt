@@ -1,5 +1,5 @@
 -- Which number of a state is out of its range, and which aircraft make no picture.
-use Rattle.std.specs.Prelude.{◌≡◌, ◌<◌, ℕ, ℤ, pos, true, false, Bool, ◌&&◌, int_le, List, [], ◌∷◌, length, take, slice_get, Option, Some, None, if◌then◌else◌}
+use Rattle.std.specs.Prelude.{◌≡◌, ◌+◌, ℕ, ℤ, pos, true, false, Bool, ◌&&◌, int_le, nat_lt, List, [], ◌∷◌, length, take, slice_get, Option, Some, None, if◌then◌else◌}
 use Rattle.daa_state.specs.InRange.{IsTrafficInRange}
 use Rattle.daa_state.specs.MomentStep.{has_id}
 use Rattle.daa_state.specs.Ranges.{Range, positions, altitudes, tracks, ground_speeds, speeds, vertical_speeds, ages}
@@ -60,11 +60,33 @@ pub record IsTakenAt (traffic : List Traffic) (place : ℕ) (aircraft : Traffic)
 abbrev pub AreTaken : List Traffic → Type 0
 AreTaken traffic = (place : ℕ) (aircraft : Traffic) → slice_get traffic place ≡ Some aircraft → IsTakenAt traffic place aircraft
 
--- why an ownship and a list of aircraft are no picture
-abbrev pub IsPictureFault : Own → List Traffic → PictureFault → Type 0
-IsPictureFault own traffic says.TooMany = 64 < length traffic
-IsPictureFault own traffic (says.Own fault) = first_outside (own_numbers own) ≡ Some fault
-IsPictureFault own traffic (says.Traffic place fault) =
-    (aircraft : Traffic) × (slice_get traffic place ≡ Some aircraft) × (first_outside (traffic_numbers aircraft) ≡ Some fault)
-IsPictureFault own traffic (says.SameId place) =
-    (aircraft : Traffic) × (slice_get traffic place ≡ Some aircraft) × (has_id aircraft.id (take place traffic) ≡ true)
+-- what is told of the aircraft at a place: the number that is out of its range, or else that an earlier one has its identifier
+abbrev pub told_at : ℕ → Option OutOfRange → Bool → Option PictureFault
+told_at place (Some fault) twice = Some (says.Traffic place fault)
+told_at place None true = Some (says.SameId place)
+told_at place None false = None
+
+-- what is wrong with an aircraft at a place of a list
+abbrev pub fault_at : List Traffic → ℕ → Traffic → Option PictureFault
+fault_at traffic place aircraft = told_at place (first_outside (traffic_numbers aircraft)) (has_id aircraft.id (take place traffic))
+
+-- the first of the two that is there
+abbrev pub earlier : {A : Type 0} → Option A → Option A → Option A
+earlier (Some first) second = Some first
+earlier None second = second
+
+-- what is wrong with the first aircraft with which something is, of those that stand in a list from a place on
+unfoldable pub fault_from : List Traffic → ℕ → List Traffic → Option PictureFault
+fault_from traffic place [] = None
+fault_from traffic place (aircraft ∷ others) = earlier (fault_at traffic place aircraft) (fault_from traffic (place + 1) others)
+
+-- what is told of an ownship of which this number is out of its range
+abbrev pub own_fault : Option OutOfRange → Option PictureFault
+own_fault (Some fault) = Some (says.Own fault)
+own_fault None = None
+
+-- why an ownship and a list of aircraft are no picture: the first of too many aircraft, the ownship, and the aircraft by their places
+unfoldable pub picture_fault_of : Own → List Traffic → Option PictureFault
+picture_fault_of own traffic =
+    if nat_lt 64 (length traffic) then Some says.TooMany
+    else earlier (own_fault (first_outside (own_numbers own))) (fault_from traffic 0 traffic)

@@ -2,7 +2,7 @@
 //! numbers is out of its range.
 
 ghost use Rattle.std.specs.Prelude.{◌≡◌, ◌<◌, length, true, false, slice_get, Some, None, IfOk, IfErr, OnOk, pos};
-ghost use Rattle.daa_state.specs.Checked.{range_of, is_within, outside, first_outside, number_of, own_numbers, traffic_numbers, IsTakenAt, AreTaken, IsPictureFault};
+ghost use Rattle.daa_state.specs.Checked.{range_of, is_within, outside, first_outside, number_of, own_numbers, traffic_numbers, IsTakenAt, AreTaken, fault_at, picture_fault_of};
 ghost use Rattle.daa_state.specs.InRange.{IsOwnInRange, IsTrafficInRange, IsPictureInRange};
 ghost use Rattle.daa_state.specs.MomentStep.{has_id};
 ghost use Rattle.daa_state.specs.Picture.{aircraft_of};
@@ -40,8 +40,8 @@ pub enum Field {
     Age,
 }
 
-/// A number of a state is out of its range: its field, and the least and the greatest that it may
-/// be.
+/// A number of a state is out of its range: what it is, and the least and the greatest that it may
+/// be. Of several numbers it is the first, in the order of the fields.
 #[derive(Clone, Copy, Debug, PartialEq, Eq)]
 pub struct OutOfRange {
     pub field: Field,
@@ -49,7 +49,8 @@ pub struct OutOfRange {
     pub greatest: i32,
 }
 
-/// Why an ownship and aircraft are no picture. Places are counted from 0.
+/// Why an ownship and aircraft are no picture: the first of the faults that are there, in the order
+/// that [`Picture::checked`] tells. Places are counted from 0.
 #[derive(Clone, Copy, Debug, PartialEq, Eq)]
 pub enum PictureFault {
     /// There are more than 64 aircraft.
@@ -200,6 +201,7 @@ impl Own {
     pub fn checked(self) -> Result<Own, OutOfRange>
         ensures value { IfOk result (λ own. own ≡ self) }
         ensures range { IfOk result IsOwnInRange }
+        ensures sound { IfOk result (λ own. first_outside (own_numbers self) ≡ None) }
         ensures refused { IfErr result (λ fault. first_outside (own_numbers self) ≡ Some fault) }
     {
         test_all(&own_numbers(&self))?;
@@ -214,6 +216,7 @@ impl Traffic {
     pub fn checked(self) -> Result<Traffic, OutOfRange>
         ensures value { IfOk result (λ aircraft. aircraft ≡ self) }
         ensures range { IfOk result IsTrafficInRange }
+        ensures sound { IfOk result (λ aircraft. first_outside (traffic_numbers self) ≡ None) }
         ensures refused { IfErr result
             (λ fault. first_outside (traffic_numbers self) ≡ Some fault) }
     {
@@ -231,12 +234,16 @@ fn is_among(traffic: &[Traffic], id: &Id) -> bool
     traffic.iter().any(|aircraft| aircraft.id == *id)
 }
 
-/// Whether the aircraft at a place is in range, and none before it has its identifier.
-fn test_aircraft(traffic: &[Traffic], own: &Own, place: usize) -> Result<(), PictureFault>
+/// Whether the aircraft at a place is in range, and none before it has its identifier; else the
+/// first number that is out of its range, or that one has.
+fn test_aircraft(traffic: &[Traffic], place: usize) -> Result<(), PictureFault>
     requires { place < length traffic.now }
     ensures taken { OnOk result ((t : Traffic) → slice_get traffic.now place ≡ Some t
         → IsTakenAt traffic.now place t) }
-    ensures refused { IfErr result (IsPictureFault own.now traffic.now) }
+    ensures sound { OnOk result ((t : Traffic) → slice_get traffic.now place ≡ Some t
+        → fault_at traffic.now place t ≡ None) }
+    ensures refused { IfErr result (λ fault. (t : Traffic) → slice_get traffic.now place ≡ Some t
+        → fault_at traffic.now place t ≡ Some fault) }
 {
     let aircraft = traffic[place];
     match aircraft.checked() {
@@ -252,16 +259,19 @@ fn test_aircraft(traffic: &[Traffic], own: &Own, place: usize) -> Result<(), Pic
 }
 
 impl Picture {
-    /// The picture of this time in seconds, this ownship and these aircraft, if each of their
-    /// numbers is in its range and there are at most 64 aircraft with different identifiers; else
-    /// why there is no picture.
+    /// The picture of this time in seconds, this ownship and these aircraft, where each of their
+    /// numbers is in its range and there are at most 64 aircraft of different identifiers; else why
+    /// it is none. Of several faults it is the first: too many aircraft, then the ownship's first
+    /// number, then the aircraft by their places, of each its first number before its identifier.
     pub fn checked(time: u32, own: Own, traffic: &[Traffic]) -> Result<Picture, PictureFault>
         ensures time { IfOk result (λ picture. picture.time ≡ time) }
         ensures own { IfOk result (λ picture. picture.own ≡ own) }
         ensures traffic { IfOk result (λ picture. aircraft_of picture ≡ traffic.now) }
         ensures range { IfOk result IsPictureInRange }
         ensures different { IfOk result (λ picture. AreTaken (aircraft_of picture)) }
-        ensures refused { IfErr result (IsPictureFault own traffic.now) }
+        ensures sound { IfOk result (λ picture. picture_fault_of own traffic.now ≡ None) }
+        ensures refused { IfErr result
+            (λ fault. picture_fault_of own traffic.now ≡ Some fault) }
     {
         if traffic.len() > MOST_AIRCRAFT {
             return Err(PictureFault::TooMany);
@@ -272,7 +282,7 @@ impl Picture {
         };
         let mut all = ArrayVec::new();
         for place in 0..traffic.len() {
-            test_aircraft(traffic, &own, place)?;
+            test_aircraft(traffic, place)?;
             all.push(traffic[place]);
         }
         Ok(Picture {

@@ -1,8 +1,28 @@
-use Rattle.std.proofs.Common.{◌∙◌, sym, rules, w32, FitsSigned}
+use Rattle.std.proofs.Common.{◌≡◌, ◌∙◌, pos, sym, arith, rules, w32, FitsSigned}
 use Rattle.std.proofs.lemmas.Int.{to_z-of_z}
+use Rattle.daa_bands.specs.Board.{HasLevelOn}
+use Rattle.daa_bands.proofs.KindLemmas.{bands_covered}
+use Rattle.daa_c.specs.Numbers.{settings_by}
+use Rattle.daa_c.proofs.RefusalLemmas.{accepted_alone}
 use Rattle.daa_c.proofs.bands.daa_bands.Goals as goal
 
-pub returns-in_default-clause-no_kind : goal.returns-in_default-clause-no_kind
-returns-in_default-clause-no_kind c = λ _ kind is.
+pub returns-clause-told : goal.returns-clause-told
+returns-clause-told c = λ (_ : pos 0 ≡ pos 0).
     let fits : FitsSigned w32 c.args.kind = search rules in
-    c.in_default.ensures.none kind (is ∙ sym (to_z-of_z w32 _ fits))
+    record {
+      settings = c.in-Ok.config;
+      accepted = c.in-Ok.ensures.accepted;
+      kind = c.in-Some.kind;
+      kind_is = c.in-Some.ensures.some ∙ to_z-of_z w32 _ fits;
+      fits = omega (arith, c.if-bands-count.false, c.count.ensures.value, c.fill.auto.bands);
+      within = c.fill.ensures.fits;
+      are = bands_covered (HasLevelOn c.args.board.now.masks) c.in-Ok.config c.cut.result c.cut.ensures.accepted c.cut.ensures.board c.in-Some.kind _ c.fill.ensures.are;
+    }
+
+pub returns-in_default-clause-no_kind : goal.returns-in_default-clause-no_kind
+returns-in_default-clause-no_kind c = λ _.
+    let fits : FitsSigned w32 c.args.kind = search rules in
+    record {
+      sound = accepted_alone (settings_by c.args.config.now) c.in-Ok.config c.in-Ok.ensures.accepted;
+      none = λ kind is. c.in_default.ensures.none kind (is ∙ sym (to_z-of_z w32 _ fits));
+    }

@@ -1,4 +1,5 @@
 use Rattle.std.proofs.Common.{◌≡◌, drop, length}
+use Rattle.daa_bands.specs.Board.{mask_levels}
 use Rattle.daa_c.specs.Filled.{AreLevelsOn}
 use Rattle.daa_c.proofs.deciding.show.Given as goal
 
@@ -7,5 +8,5 @@ abbrev pub invariant-loop-index : goal.invariant-loop-index
 invariant-loop-index l = record {
   same_size : length l.levels ≡ length l.initial.levels;
   past : drop l.index l.levels ≡ drop l.index l.initial.levels;
-  shown : AreLevelsOn l.board l.index l.levels;
+  shown : AreLevelsOn l.board mask_levels l.index l.levels;
 }

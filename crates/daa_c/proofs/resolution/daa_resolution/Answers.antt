@@ -1,10 +1,13 @@
-use Rattle.std.proofs.Common.{◌≡◌, ◌∙◌, sym, ℕ, List, [], subst, pos, rules, w32, FitsSigned}
+use Rattle.std.proofs.Common.{◌≡◌, ◌∙◌, sym, ℕ, List, Some, None, subst, pos, rules, w32, FitsSigned}
 use Rattle.std.proofs.lemmas.Int.{to_z-of_z}
 use Rattle.daa_bands.specs.Board.{HasLevelOn}
 use Rattle.daa_resolve.specs.Resolution.{IsResolution}
 use Rattle.daa_state.specs.InRange.{IsOwnInRange}
 use Rattle.daa_state.specs.declared.word.Own.{Own}
+use Rattle.daa_c.specs.Faults.{own_refusal}
+use Rattle.daa_c.specs.Numbers.{settings_by}
 use Rattle.daa_c.specs.declared.refusal.Refusal.TheVariants as refuses
+use Rattle.daa_c.proofs.RefusalLemmas.{config_first, config_passed}
 use Rattle.daa_c.proofs.resolution.daa_resolution.Goals as goal
 
 pub returns-clause-told : goal.returns-clause-told
@@ -29,17 +32,31 @@ returns-clause-told c = λ (_ : pos 0 ≡ pos 0).
 pub returns-in-Err-clause-refused : goal.returns-in-Err-clause-refused
 returns-in-Err-clause-refused c = λ _ _ _.
     let fits : FitsSigned w32 c.code.result = search rules in
-    (refuses.Config c.in-Err.fault, c.in-Err.ensures.refused, sym (to_z-of_z w32 _ fits ∙ c.code.ensures.value))
+    (refuses.Config c.in-Err.fault, config_first (settings_by c.args.config.now) c.in-Err.fault (own_refusal c.args.own.now) c.in-Err.ensures.refused, sym (to_z-of_z w32 _ fits ∙ c.code.ensures.value))
 
 pub returns-in-Err-checked_own-clause-refused : goal.returns-in-Err-checked_own-clause-refused
 returns-in-Err-checked_own-clause-refused c = λ _ _ _.
     let fits : FitsSigned w32 c.code-in-Err-checked_own.result = search rules in (
       c.in-Err-checked_own.refusal,
-      c.in-Err-checked_own.ensures.refused c.args.config.now [],
+      config_passed (settings_by c.args.config.now) c.in-Ok.config (own_refusal c.args.own.now) (Some c.in-Err-checked_own.refusal) c.in-Ok.ensures.accepted c.in-Err-checked_own.ensures.refused,
       sym (to_z-of_z w32 _ fits ∙ c.code-in-Err-checked_own.ensures.value),
     )
 
 pub returns-in_default-clause-no_kind : goal.returns-in_default-clause-no_kind
-returns-in_default-clause-no_kind c = λ _ kind is.
+returns-in_default-clause-no_kind c = λ _.
     let fits : FitsSigned w32 c.args.kind = search rules in
-    c.in_default.ensures.none kind (is ∙ sym (to_z-of_z w32 _ fits))
+    record {
+      sound = config_passed (settings_by c.args.config.now) c.in-Ok.config (own_refusal c.args.own.now) None c.in-Ok.ensures.accepted c.in-Ok-checked_own.ensures.sound;
+      none = λ kind is. c.in_default.ensures.none kind (is ∙ sym (to_z-of_z w32 _ fits));
+    }
+
+pub returns-in_default-side_in-clause-no_side : goal.returns-in_default-side_in-clause-no_side
+returns-in_default-side_in-clause-no_side c = λ _.
+    let fits : FitsSigned w32 c.args.kind = search rules in
+    let side_fits : FitsSigned w32 c.args.side = search rules in
+    record {
+      sound = config_passed (settings_by c.args.config.now) c.in-Ok.config (own_refusal c.args.own.now) None c.in-Ok.ensures.accepted c.in-Ok-checked_own.ensures.sound;
+      kind = c.in-Some.kind;
+      kind_is = c.in-Some.ensures.some ∙ to_z-of_z w32 _ fits;
+      none = λ side is. c.in_default-side_in.ensures.none side (is ∙ sym (to_z-of_z w32 _ side_fits));
+    }

@@ -1,4 +1,26 @@
+use Rattle.std.proofs.Common.{◌≡◌, ◌≤◌, ◌∙◌, Some, None, length, map, arith}
+use Rattle.daa_c.specs.States.{traffic_of}
+use Rattle.daa_c.proofs.RefusalLemmas.{refused_many, refused_id, refused_picture}
 use Rattle.daa_c.proofs.states.picture.Goals as goal
 
+pub returns-then-traffic-gt64-clause-refused : goal.returns-then-traffic-gt64-clause-refused
+returns-then-traffic-gt64-clause-refused c = refused_many c.args.own.now c.args.traffic.now (omega (arith, c.if-traffic-gt64.true))
+
 pub returns-in-Err-clause-refused : goal.returns-in-Err-clause-refused
-returns-in-Err-clause-refused c = λ config. c.in-Err.ensures.refused config c.args.own.now
+returns-in-Err-clause-refused c =
+    let few : length c.args.traffic.now ≤ 64 = omega (arith, c.if-traffic-gt64.false) in
+    refused_id c.args.own.now c.args.traffic.now c.in-Err.place few c.in-Err.ensures.refused
+
+pub returns-in-Ok-checked-clause-sound : goal.returns-in-Ok-checked-clause-sound
+returns-in-Ok-checked-clause-sound c =
+    let few : length c.args.traffic.now ≤ 64 = omega (arith, c.if-traffic-gt64.false) in
+    let same : c.as_slice.result.now ≡ map traffic_of c.args.traffic.now = c.as_slice.ensures.value ∙ c.in-Ok.ensures.value in
+    refused_picture c.args.own.now c.args.traffic.now c.ownship.result c.as_slice.result.now None few c.in-Ok.ensures.sound c.ownship.ensures same
+    c.in-Ok-checked.ensures.sound
+
+pub returns-in-Err-checked-clause-refused : goal.returns-in-Err-checked-clause-refused
+returns-in-Err-checked-clause-refused c =
+    let few : length c.args.traffic.now ≤ 64 = omega (arith, c.if-traffic-gt64.false) in
+    let same : c.as_slice.result.now ≡ map traffic_of c.args.traffic.now = c.as_slice.ensures.value ∙ c.in-Ok.ensures.value in
+    refused_picture c.args.own.now c.args.traffic.now c.ownship.result c.as_slice.result.now (Some c.in-Err-checked.fault) few c.in-Ok.ensures.sound c.ownship.ensures same
+    c.in-Err-checked.ensures.refused
