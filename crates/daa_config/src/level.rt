@@ -3,7 +3,7 @@
 ghost use Rattle.std.specs.Prelude.{◌≡◌, ◌≤◌, ◌*◌, ℕ, pos, nat_abs, true, length, map, option_map};
 ghost use Rattle.std.specs.List.{list_all};
 ghost use Rattle.daa_fixed.specs.Size.{IsFrom};
-ghost use Rattle.daa_config.specs.Numbers.{level_fits, recovery_fits};
+ghost use Rattle.daa_config.specs.Inside.Rows.{level_fits, recovery_fits};
 ghost use Rattle.daa_config.specs.Level.{level_of, cylinder_of, model_of};
 
 use crate::numbers::{LevelNumbers, RecoveryNumbers};
