@@ -24,7 +24,7 @@ pub record Written : Type 0 where
   pub recovery : Option RecoveryNumbers
   pub levels : List LevelNumbers
 
--- all rows of these numbers
+-- all rows of these numbers, of each table
 unfoldable pub rows_of : Written → List Row
 rows_of w =
     document_rows w.numbers

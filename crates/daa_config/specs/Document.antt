@@ -20,9 +20,10 @@ table_in ms key = option_and_then as_table (get_member (codes key) ms)
 abbrev pub levels_in : Members → List Members
 levels_in ms = option_map_or (λ ds. filter_map as_table (list_of ds)) (option_and_then as_array (get_member (codes "level") ms)) []
 
--- ---- the numbers, once no table differs from its rows: each from its key
+-- ---- the numbers, each from its key
 
--- the whole number at a key; 0 where the key was left out
+-- the whole number at a key, 0 where there is none: whoever reads has seen that no table differs from its rows, so only a key
+-- that may be left out can be missing
 abbrev pub number_in : Members → String → ℤ
 number_in ms key = option_map_or (λ z. z) (option_and_then as_integer (get_member (codes key) ms)) (pos 0)
 
@@ -48,7 +49,7 @@ numbers_by at grid = record { resolve = at "resolve"; turn_rate = at "turn_rate"
 
 -- ---- all tables
 
--- the document, or one of its tables, differs from its rows
+-- the document, or one of its tables, differs from its rows; their numbers play no part in it
 unfoldable pub any_table : (List Row → Members → Bool) → Members → Bool
 any_table differs ms =
     differs (document_rows (numbers_by (number_in ms) (grid_in ms))) ms

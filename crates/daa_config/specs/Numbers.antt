@@ -15,7 +15,6 @@ levels_are_wrong resolve levels =
 unfoldable pub count_of : Grid → ℕ
 count_of g = nat_abs (g.max -ℤ g.min) / nat_abs g.step + 1
 
--- ground speed, vertical speed or altitude has more values than may be
+-- the grid of ground speed, vertical speed or altitude has more values than may be
 unfoldable pub has_too_many : Numbers → Bool
-has_too_many n =
-    nat_lt most_values (count_of n.gs) || (nat_lt most_values (count_of n.vs) || nat_lt most_values (count_of n.alt))
+has_too_many n = list_any (λ g. nat_lt most_values (count_of g)) (n.gs ∷ n.vs ∷ n.alt ∷ [])

@@ -15,14 +15,14 @@ use Rattle.daa_config.specs.declared.numbers.RecoveryNumbers.{RecoveryNumbers}
 abbrev pub Text : Type 0
 Text = List ℕ
 
--- a key of a table: whether it must be there, what may stand at it, and whether the number there is in its range
+-- a key of a table: whether it must be there, what may stand at it, and whether its number is in its range
 pub record Row : Type 0 where
   pub key : Text
   pub needed : Bool
   pub holds : Data → Bool
   pub fits : Bool
 
--- a whole number that must be there, from low to high; it is z
+-- a whole number that must be there and be from low to high; it is z
 abbrev pub number : String → ℤ → ℤ → ℤ → Row
 number key low high z = record { key = codes key; needed = true; holds = λ d. is_some (as_integer d); fits = int_le low z && int_le z high }
 
@@ -53,7 +53,7 @@ document_rows n =
     ∷ record (table "level") { holds = are_tables }
     ∷ record (table "recovery") { needed = false } ∷ []
 
--- of the table of a kind whose values are within these bounds; `max` is not below `min`, and a step is at most the way between the bounds
+-- of the table of a kind whose values are within these bounds: `max` is from `min` on, and a step is at most the way between the bounds
 abbrev pub grid_rows : Bounds → Grid → List Row
 grid_rows values g =
     number "min" values.0 values.1 g.min

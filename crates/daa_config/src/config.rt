@@ -8,6 +8,7 @@ ghost use Rattle.daa_config.specs.Numbers.{count_of};
 use crate::candidate::Candidate;
 use crate::kind::Kind;
 use crate::level::Level;
+use crate::limits::MOST_LEVELS;
 use crate::numbers::{Grid, Numbers, count};
 use arrayvec::ArrayVec;
 use daa_taumod::Volume;
@@ -28,7 +29,7 @@ pub struct Rates {
 pub struct Config {
     numbers: Numbers,
     recovery: Option<Volume>,
-    levels: ArrayVec<Level, 4>,
+    levels: ArrayVec<Level, MOST_LEVELS>,
 }
 
 /// A level of no size, which fills the unused places of a configuration's levels.
@@ -74,7 +75,7 @@ impl Config {
     pub(crate) fn new(
         numbers: Numbers,
         recovery: Option<Volume>,
-        levels: ArrayVec<Level, 4>,
+        levels: ArrayVec<Level, MOST_LEVELS>,
     ) -> Config
         requires { IsAccepted
             (record { numbers = numbers; recovery = recovery; levels = levels.items }) }

@@ -62,7 +62,7 @@ pub struct RecoveryNumbers {
 pub struct ConfigNumbers {
     pub numbers: Numbers,
     pub recovery: Option<RecoveryNumbers>,
-    pub levels: ArrayVec<LevelNumbers, 4>,
+    pub levels: ArrayVec<LevelNumbers, MOST_LEVELS>,
 }
 
 /// Whether the step divides a full turn.

@@ -12,7 +12,7 @@ use crate::config::Config;
 use crate::document::{levels_of, numbers_of, recovery_of};
 use crate::fault::ConfigFault;
 use crate::keys::{Difference, any_table_differs};
-use crate::limits::LONGEST_TEXT;
+use crate::limits::{LONGEST_TEXT, MOST_LEVELS};
 use crate::numbers::{ConfigNumbers, LevelNumbers, Numbers, RecoveryNumbers};
 use arrayvec::ArrayVec;
 use std::alloc::Global;
@@ -68,7 +68,7 @@ fn find(alloc: Global, document: &Table) -> Result<Found, ConfigFault>
 }
 
 /// The levels, of which there are at most four.
-fn kept(levels: &[LevelNumbers]) -> ArrayVec<LevelNumbers, 4>
+fn kept(levels: &[LevelNumbers]) -> ArrayVec<LevelNumbers, MOST_LEVELS>
     requires { length levels.now ≤ 4 }
     ensures { result.items ≡ levels.now }
 {
