@@ -36,7 +36,7 @@ rows_of w =
 -- the configuration of these numbers, unless one is out of its range or there are too many
 unfoldable pub settings_of : Written → Result Settings ConfigFault
 settings_of w =
-    if not (list_all (λ row. row.fits) (rows_of w) && full_turn % nat_abs w.numbers.track_step == 0) then Err OutOfRange
+    if not (list_all (λ row. row.fits) (rows_of w) && (full_turn % nat_abs w.numbers.track_step == 0)) then Err OutOfRange
     else if levels_are_wrong w.numbers.resolve w.levels then Err Levels
     else if has_too_many w.numbers then Err TooMany
     else Ok (record { numbers = w.numbers; recovery = option_map cylinder_of w.recovery; levels = map level_of w.levels })
