@@ -1,6 +1,6 @@
 //! Accepts the numbers of a configuration, or says which fault they have.
 
-ghost use Rattle.std.specs.Prelude.{◌≡◌, ◌&&◌, ◌%◌, ◌==◌, nat_abs, true, false, map, Ok, Err, OnOk, IfOk, IfErr};
+ghost use Rattle.std.specs.Prelude.{◌≡◌, ◌%◌, ◌==◌, nat_abs, true, false, Ok, Err, OnOk, IfOk, IfErr};
 ghost use Rattle.std.specs.List.{list_all};
 ghost use Rattle.daa_config.specs.ConfigOf.{rows_of, settings_of};
 ghost use Rattle.daa_config.specs.Inside.Rows.{recovery_fits, level_fits};

@@ -1,5 +1,5 @@
 -- What the code's rows stand for, and what it finds at keys.
-use Rattle.std.specs.Prelude.{ℤ, pos, Bool, true, false, ◌&&◌, ◌||◌, int_le, List, [], ◌∷◌, is_some, Option, Some, None, option_and_then}
+use Rattle.std.specs.Prelude.{ℤ, pos, Bool, true, ◌&&◌, int_le, List, is_some, Option, Some, None, option_and_then}
 use Rattle.std.specs.List.{list_any, list_all, filter_map}
 use Rattle.std.specs.Option.{option_map_or}
 use Rattle.toml.specs.Data.{Data, Items, Members, no_members, get_member, as_integer, as_table, as_array}

@@ -1,5 +1,5 @@
 use Rattle.std.proofs.Common.{List, map, Option, option_map, sym, subst}
-use Rattle.daa_config.specs.Level.{level_of, cylinder_of}
+use Rattle.daa_config.specs.Level.{cylinder_of}
 use Rattle.daa_taumod.specs.declared.Volume.{Volume}
 use Rattle.daa_config.specs.declared.level.Level.{Level}
 use Rattle.daa_config.specs.Settings.{IsAccepted}
