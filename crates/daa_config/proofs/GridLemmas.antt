@@ -7,7 +7,6 @@ use mir.Syntax.{w32, w64}
 use Rattle.std.proofs.Math.Nat.{le-div_iff_mul-le, mul-le-mul_right}
 use lib.IntN.{suc_ℤ-*ℤ, pos-*ℤ-pos, zero-*ℤ, +ℤ_idr, +ℤ_assoc, +ℤ_comm}
 use Rattle.daa_fixed.specs.Size.{IsFrom}
-use Rattle.daa_config.specs.Limits.{gs_limits, vs_limits, alt_limits}
 use Rattle.daa_config.specs.Numbers.{count_of}
 use Rattle.daa_config.specs.Inside.Stepped.{IsStepped}
 use Rattle.daa_config.specs.Settings.{Settings, IsAccepted, IsInBounds, value_bounds}
@@ -118,9 +117,9 @@ stepped_kind s Track h = let t = h.track_step.least in record {
   high = omega (arith, ints);
   step = omega (arith, ints);
 }
-stepped_kind s Speed h = stepped gs_limits s.numbers.gs (omega (arith, ints)) (omega (arith, ints)) (omega (arith, ints)) h.gs
-stepped_kind s Climb h = stepped vs_limits s.numbers.vs (omega (arith, ints)) (omega (arith, ints)) (omega (arith, ints)) h.vs
-stepped_kind s Height h = stepped alt_limits s.numbers.alt (omega (arith, ints)) (omega (arith, ints)) (omega (arith, ints)) h.alt
+stepped_kind s Speed h = stepped (value_bounds Speed) s.numbers.gs (omega (arith, ints)) (omega (arith, ints)) h.gs
+stepped_kind s Climb h = stepped (value_bounds Climb) s.numbers.vs (omega (arith, ints)) (omega (arith, ints)) h.vs
+stepped_kind s Height h = stepped (value_bounds Height) s.numbers.alt (omega (arith, ints)) (omega (arith, ints)) h.alt
 
 quotient : (n k : ℕ) → n / k ≤ n
 quotient n k = grind arith

@@ -1,25 +1,29 @@
--- From the tests of a configuration's numbers to the ranges that they are in.
-use Rattle.std.proofs.Common.{◌≡◌, ◌≤◌, ◌%◌, ◌==◌, ℕ, zero, suc, true, false, ◌&&◌, List, [], ◌∷◌, length, map, Option, Some, None, option_map, refl, arith, nat_lt, subst}
-use Rattle.std.specs.Prelude.{ℤ, pos, negsuc, ◌≤ℤ◌, int_lt, int_le, nat_abs, slice_get, ◌-◌}
-use Rattle.std.specs.List.{list_all}
+-- From the rows of a configuration's numbers to the ranges that they are in.
+use Rattle.std.proofs.Common.{◌≡◌, ◌∙◌, ◌≤◌, ◌%◌, ◌==◌, ◌++◌, ℕ, zero, suc, Bool, true, false, ◌&&◌, List, [], ◌∷◌, length, map, Option, Some, None, option_map, refl, sym, ap, arith, nat_lt, subst}
+use Rattle.std.specs.Prelude.{ℤ, pos, negsuc, ◌≤ℤ◌, ◌-ℤ◌, int_lt, int_le, nat_abs, slice_get, ◌-◌}
+use Rattle.std.specs.List.{list_all, flat_map}
+use Rattle.std.specs.Option.{option_map_or}
 use Rattle.std.proofs.lemmas.Int.{ints}
 use Rattle.std.proofs.lemmas.Bool.Decides.{nat_tests}
 use Rattle.std.proofs.lemmas.List.{length-map}
+use Rattle.std.proofs.lemmas.List.Folds.{list_all-append}
 use Rattle.std.proofs.lemmas.Bool.{and_parts, or_parts}
 use Rattle.daa_fixed.specs.Size.{IsFrom}
+use Rattle.daa_config.specs.declared.kind.Kind.TheVariants.{Speed, Climb, Height}
 use Rattle.daa_config.specs.declared.level.Level.{Level}
 use Rattle.daa_config.specs.declared.limits.Bounds.{Bounds}
-use Rattle.daa_config.specs.declared.limits.GridLimits.{GridLimits}
 use Rattle.daa_config.specs.declared.numbers.Grid.{Grid}
 use Rattle.daa_config.specs.declared.numbers.Numbers.{Numbers}
 use Rattle.daa_config.specs.declared.numbers.LevelNumbers.{LevelNumbers}
 use Rattle.daa_config.specs.declared.numbers.RecoveryNumbers.{RecoveryNumbers}
 use Rattle.daa_taumod.specs.declared.Volume.{Volume}
-use Rattle.daa_config.specs.Limits.{full_turn, resolve_bounds, turn_rate_bounds, track_step_bounds, gs_limits, vs_limits, alt_limits, level_limits, recovery_limits, most_levels, most_values}
-use Rattle.daa_config.specs.Numbers.{is_in, grid_fits, track_step_fits, numbers_fit, recovery_fits, level_fits, levels_are_wrong, count_of, has_too_many}
+use Rattle.daa_config.specs.Limits.{full_turn, most_levels, most_values}
+use Rattle.daa_config.specs.Numbers.{levels_are_wrong, count_of, has_too_many}
+use Rattle.daa_config.specs.Rows.{Row, document_rows, grid_rows, level_rows, recovery_rows}
+use Rattle.daa_config.specs.Inside.Rows.{level_fits, recovery_fits}
 use Rattle.daa_config.specs.Inside.Stepped.{IsStepped}
-use Rattle.daa_config.specs.Settings.{IsInBounds, IsGridInRange, IsLevelInRange, IsAccepted, IsCylinder}
-use Rattle.daa_config.specs.ConfigOf.{Written}
+use Rattle.daa_config.specs.Settings.{IsGridInRange, IsLevelInRange, IsAccepted, IsCylinder, value_bounds}
+use Rattle.daa_config.specs.ConfigOf.{Written, rows_of}
 use Rattle.daa_config.specs.Level.{level_of, cylinder_of}
 
 -- ---- tests
@@ -36,78 +40,95 @@ not_over m n h = grind (arith, nat_tests)
 some_of : (n : ℕ) → (n == 0) ≡ false → 1 ≤ n
 some_of n h = grind (arith, nat_tests)
 
-in_bounds : (bounds : Bounds) (z : ℤ) → is_in bounds z ≡ true → IsInBounds bounds z
-unfolding is_in
-in_bounds bounds z h =
-    let b = and_parts (int_le bounds.0 z) (int_le z bounds.1) h in
+equal_from : (m n : ℕ) → (m == n) ≡ true → m ≡ n
+equal_from m n h = grind (arith, nat_tests)
+
+-- the test of a row for a number
+abbrev is_in : ℤ → ℤ → ℤ → Bool
+is_in low high z = int_le low z && int_le z high
+
+in_bounds : (low high z : ℤ) → is_in low high z ≡ true → IsFrom low high z
+in_bounds low high z h =
+    let b = and_parts (int_le low z) (int_le z high) h in
     record { least = at_most _ _ b.0; most = at_most _ _ b.1 }
+
+-- ---- all rows, table by table
+
+-- the rows of a table pass
+abbrev pub fit : List Row → Bool
+fit rows = list_all (λ row. row.fits) rows
+
+of_recovery : (r : Option RecoveryNumbers) → fit (option_map_or recovery_rows r []) ≡ recovery_fits r
+of_recovery None = refl
+of_recovery (Some n) = refl
+
+of_levels : (ls : List LevelNumbers) → fit (flat_map level_rows ls) ≡ list_all level_fits ls
+of_levels [] = refl
+of_levels (l ∷ ls) = list_all-append (λ (row : Row). row.fits) (level_rows l) (flat_map level_rows ls) ∙ ap (λ b. level_fits l && b) (of_levels ls)
+
+-- the tests of the tables, one after the other
+abbrev pub tables_fit : Written → Bool
+tables_fit w =
+    fit (document_rows w.numbers) && (fit (grid_rows (value_bounds Speed) w.numbers.gs) && (fit (grid_rows (value_bounds Climb) w.numbers.vs)
+    && (fit (grid_rows (value_bounds Height) w.numbers.alt) && (recovery_fits w.recovery && list_all level_fits w.levels))))
+
+pub all_rows : (w : Written) → fit (rows_of w) ≡ tables_fit w
+unfolding rows_of
+all_rows w =
+    let p : Row → Bool = λ row. row.fits in
+    let d = document_rows w.numbers in
+    let g = grid_rows (value_bounds Speed) w.numbers.gs in
+    let v = grid_rows (value_bounds Climb) w.numbers.vs in
+    let a = grid_rows (value_bounds Height) w.numbers.alt in
+    let r = option_map_or recovery_rows w.recovery [] in
+    let l = flat_map level_rows w.levels in
+    list_all-append p d (g ++ (v ++ (a ++ (r ++ l))))
+    ∙ ap (λ b. fit d && b) (list_all-append p g (v ++ (a ++ (r ++ l)))
+    ∙ ap (λ b. fit g && b) (list_all-append p v (a ++ (r ++ l))
+    ∙ ap (λ b. fit v && b) (list_all-append p a (r ++ l)
+    ∙ ap (λ b. fit a && b) (list_all-append p r l
+    ∙ ap (λ b. b && fit l) (of_recovery w.recovery)
+    ∙ ap (λ b. recovery_fits w.recovery && b) (of_levels w.levels)))))
 
 -- ---- grids
 
 -- the numbers of a grid that passes, its count left aside
-record Fits (limits : GridLimits) (g : Grid) : Type 0 where
-  value_min : IsInBounds limits.value g.min
-  value_max : IsInBounds limits.value g.max
-  ordered : g.min ≤ℤ g.max
-  step : IsInBounds limits.step g.step
-  rate : IsInBounds limits.rate g.rate
+record Fits (values : Bounds) (g : Grid) : Type 0 where
+  min : IsFrom values.0 values.1 g.min
+  max : IsFrom g.min values.1 g.max
+  step : IsFrom (pos 1) (values.1 -ℤ values.0) g.step
+  rate : IsFrom (pos 1) (pos 10000) g.rate
 
-fits_grid : (limits : GridLimits) (g : Grid) → grid_fits limits g ≡ true → Fits limits g
-unfolding grid_fits
-fits_grid limits g h =
-    let a = and_parts (is_in limits.value g.min) _ h in
-    let b = and_parts (is_in limits.value g.max) _ a.1 in
-    let d = and_parts (int_le g.min g.max) _ b.1 in
-    let e = and_parts (is_in limits.step g.step) _ d.1 in
-    record {
-      value_min = in_bounds _ _ a.0;
-      value_max = in_bounds _ _ b.0;
-      ordered = at_most _ _ d.0;
-      step = in_bounds _ _ e.0;
-      rate = in_bounds _ _ e.1;
-    }
+fits_grid : (values : Bounds) (g : Grid) → fit (grid_rows values g) ≡ true → Fits values g
+fits_grid values g h =
+    let a = and_parts (is_in values.0 values.1 g.min) _ h in
+    let b = and_parts (is_in g.min values.1 g.max) _ a.1 in
+    let d = and_parts (is_in (pos 1) (values.1 -ℤ values.0) g.step) _ b.1 in
+    let e = and_parts (is_in (pos 1) (pos 10000) g.rate) _ d.1 in
+    record { min = in_bounds _ _ _ a.0; max = in_bounds _ _ _ b.0; step = in_bounds _ _ _ d.0; rate = in_bounds _ _ _ e.0 }
 
-in_range : (limits : GridLimits) (g : Grid) → Fits limits g → nat_lt most_values (count_of g) ≡ false → IsGridInRange limits g
-in_range limits g f h = record {
-  least = f.value_min.least;
-  ordered = f.ordered;
-  most = f.value_max.most;
+in_range : (values : Bounds) (g : Grid) → Fits values g → nat_lt most_values (count_of g) ≡ false → IsGridInRange values g
+in_range values g f h = record {
+  least = f.min.least;
+  ordered = f.max.least;
+  most = f.max.most;
   step = f.step;
   few = not_over most_values (count_of g) h;
 }
 
--- ---- the numbers, the levels apart
+-- ---- the numbers of the document's own rows
 
 record Parts (n : Numbers) : Type 0 where
-  resolve : IsInBounds resolve_bounds n.resolve
-  turn_rate : IsInBounds turn_rate_bounds n.turn_rate
-  track_step : IsInBounds track_step_bounds n.track_step
-  divides : full_turn % nat_abs n.track_step ≡ 0
-  gs : Fits gs_limits n.gs
-  vs : Fits vs_limits n.vs
-  alt : Fits alt_limits n.alt
+  resolve : IsFrom (pos 1) (pos 4) n.resolve
+  turn_rate : IsFrom (pos 1) (pos 30) n.turn_rate
+  track_step : IsFrom (pos 1) (pos 90) n.track_step
 
-equal_from : (m n : ℕ) → (m == n) ≡ true → m ≡ n
-equal_from m n h = grind (arith, nat_tests)
-
-parts : (n : Numbers) → numbers_fit n ≡ true → Parts n
-unfolding numbers_fit track_step_fits
+parts : (n : Numbers) → fit (document_rows n) ≡ true → Parts n
 parts n h =
-    let a = and_parts (is_in resolve_bounds n.resolve) _ h in
-    let b = and_parts (is_in turn_rate_bounds n.turn_rate) _ a.1 in
-    let d = and_parts (track_step_fits n.track_step) _ b.1 in
-    let t = and_parts (is_in track_step_bounds n.track_step) _ d.0 in
-    let e = and_parts (grid_fits gs_limits n.gs) _ d.1 in
-    let f = and_parts (grid_fits vs_limits n.vs) _ e.1 in
-    record {
-      resolve = in_bounds _ _ a.0;
-      turn_rate = in_bounds _ _ b.0;
-      track_step = in_bounds _ _ t.0;
-      divides = equal_from (full_turn % nat_abs n.track_step) 0 t.1;
-      gs = fits_grid _ _ e.0;
-      vs = fits_grid _ _ f.0;
-      alt = fits_grid _ _ f.1;
-    }
+    let a = and_parts (is_in (pos 1) (pos 4) n.resolve) _ h in
+    let b = and_parts (is_in (pos 1) (pos 30) n.turn_rate) _ a.1 in
+    let d = and_parts (is_in (pos 1) (pos 90) n.track_step) _ b.1 in
+    record { resolve = in_bounds _ _ _ a.0; turn_rate = in_bounds _ _ _ b.0; track_step = in_bounds _ _ _ d.0 }
 
 -- ---- levels
 
@@ -124,29 +145,28 @@ sized low high z f =
 
 -- each number of a level that passes
 record LevelParts (n : LevelNumbers) : Type 0 where
-  dthr : IsInBounds level_limits.dthr n.dthr
-  zthr : IsInBounds level_limits.zthr n.zthr
-  tthr : IsInBounds level_limits.tthr n.tthr
-  tcoa : IsInBounds level_limits.tcoa n.tcoa
-  lookahead : IsInBounds level_limits.lookahead n.lookahead
-  alert : IsInBounds level_limits.alert n.alert
+  dthr : IsFrom (pos 1) (pos 10000) n.dthr
+  zthr : IsFrom (pos 0) (pos 10000) n.zthr
+  tthr : IsFrom (pos 0) (pos 120) n.tthr
+  tcoa : IsFrom (pos 0) (pos 120) n.tcoa
+  lookahead : IsFrom (pos 1) (pos 180) n.lookahead
+  alert : IsFrom (pos 1) (pos 180) n.alert
 
 level_parts : (n : LevelNumbers) → level_fits n ≡ true → LevelParts n
-unfolding level_fits
 level_parts n h =
-    let a = and_parts (is_in level_limits.dthr n.dthr) _ h in
-    let b = and_parts (is_in level_limits.zthr n.zthr) _ a.1 in
-    let d = and_parts (is_in level_limits.tthr n.tthr) _ b.1 in
-    let e = and_parts (is_in level_limits.tcoa n.tcoa) _ d.1 in
-    let f = and_parts (is_in level_limits.lookahead n.lookahead) _ e.1 in
-    let g = and_parts (is_in level_limits.alert n.alert) _ f.1 in
+    let a = and_parts (is_in (pos 1) (pos 10000) n.dthr) _ h in
+    let b = and_parts (is_in (pos 0) (pos 10000) n.zthr) _ a.1 in
+    let d = and_parts (is_in (pos 0) (pos 120) n.tthr) _ b.1 in
+    let e = and_parts (is_in (pos 0) (pos 120) n.tcoa) _ d.1 in
+    let f = and_parts (is_in (pos 1) (pos 180) n.lookahead) _ e.1 in
+    let g = and_parts (is_in (pos 1) (pos 180) n.alert) _ f.1 in
     record {
-      dthr = in_bounds _ _ a.0;
-      zthr = in_bounds _ _ b.0;
-      tthr = in_bounds _ _ d.0;
-      tcoa = in_bounds _ _ e.0;
-      lookahead = in_bounds _ _ f.0;
-      alert = in_bounds _ _ g.0;
+      dthr = in_bounds _ _ _ a.0;
+      zthr = in_bounds _ _ _ b.0;
+      tthr = in_bounds _ _ _ d.0;
+      tcoa = in_bounds _ _ _ e.0;
+      lookahead = in_bounds _ _ _ f.0;
+      alert = in_bounds _ _ _ g.0;
     }
 
 -- no number of a level that passes is negative or large
@@ -203,14 +223,14 @@ each_level (n ∷ ns) h (suc i) level e = each_level ns (and_parts (level_fits n
 
 -- the numbers of a recovery that passes
 record RecoveryParts (n : RecoveryNumbers) : Type 0 where
-  hdist : IsInBounds recovery_limits.hdist n.hdist
-  vdist : IsInBounds recovery_limits.vdist n.vdist
+  hdist : IsFrom (pos 1) (pos 10000) n.hdist
+  vdist : IsFrom (pos 0) (pos 10000) n.vdist
 
 recovery_parts : (n : RecoveryNumbers) → recovery_fits (Some n) ≡ true → RecoveryParts n
-unfolding recovery_fits
 recovery_parts n h =
-    let a = and_parts (is_in recovery_limits.hdist n.hdist) _ h in
-    record { hdist = in_bounds _ _ a.0; vdist = in_bounds _ _ a.1 }
+    let a = and_parts (is_in (pos 1) (pos 10000) n.hdist) _ h in
+    let b = and_parts (is_in (pos 0) (pos 10000) n.vdist) _ a.1 in
+    record { hdist = in_bounds _ _ _ a.0; vdist = in_bounds _ _ _ b.0 }
 
 -- neither is negative or large
 pub record IsRecoverySmall (n : RecoveryNumbers) : Type 0 where
@@ -237,31 +257,62 @@ recovery_in_range (Some n) h cylinder e =
       model = refl;
     })
 
-pub accepted : (w : Written) → (numbers_fit w.numbers && (recovery_fits w.recovery && list_all level_fits w.levels)) ≡ true → levels_are_wrong w.numbers.resolve w.levels ≡ false
+-- what the tests of the tables give
+record Ranges (w : Written) : Type 0 where
+  numbers : Parts w.numbers
+  gs : Fits (value_bounds Speed) w.numbers.gs
+  vs : Fits (value_bounds Climb) w.numbers.vs
+  alt : Fits (value_bounds Height) w.numbers.alt
+  recovery : recovery_fits w.recovery ≡ true
+  levels : list_all level_fits w.levels ≡ true
+
+ranges : (w : Written) → fit (rows_of w) ≡ true → Ranges w
+ranges w h =
+    let a = and_parts (fit (document_rows w.numbers)) _ (sym (all_rows w) ∙ h) in
+    let b = and_parts (fit (grid_rows (value_bounds Speed) w.numbers.gs)) _ a.1 in
+    let d = and_parts (fit (grid_rows (value_bounds Climb) w.numbers.vs)) _ b.1 in
+    let e = and_parts (fit (grid_rows (value_bounds Height) w.numbers.alt)) _ d.1 in
+    let f = and_parts (recovery_fits w.recovery) _ e.1 in
+    record {
+      numbers = parts _ a.0;
+      gs = fits_grid _ _ b.0;
+      vs = fits_grid _ _ d.0;
+      alt = fits_grid _ _ e.0;
+      recovery = f.0;
+      levels = f.1;
+    }
+
+pub recovery_passes : (w : Written) → fit (rows_of w) ≡ true → recovery_fits w.recovery ≡ true
+recovery_passes w h = (ranges w h).recovery
+
+pub levels_pass : (w : Written) → fit (rows_of w) ≡ true → list_all level_fits w.levels ≡ true
+levels_pass w h = (ranges w h).levels
+
+pub accepted : (w : Written) → fit (rows_of w) ≡ true → (full_turn % nat_abs w.numbers.track_step == 0) ≡ true → levels_are_wrong w.numbers.resolve w.levels ≡ false
     → has_too_many w.numbers ≡ false → IsAccepted (record { numbers = w.numbers; recovery = option_map cylinder_of w.recovery; levels = map level_of w.levels })
 unfolding levels_are_wrong has_too_many
-accepted w fit counted few =
-    let b = and_parts (numbers_fit w.numbers) _ fit in
-    let v = and_parts (recovery_fits w.recovery) _ b.1 in
-    let p = parts w.numbers b.0 in
+accepted w fitting divides counted few =
+    let r = ranges w fitting in
+    let p = r.numbers in
     let l = or_parts (length w.levels == 0) _ counted in
     let m = or_parts (nat_lt most_levels (length w.levels)) _ l.1 in
     let x = or_parts (nat_lt most_values (count_of w.numbers.gs)) _ few in
     let y = or_parts (nat_lt most_values (count_of w.numbers.vs)) _ x.1 in
+    let z = or_parts (nat_lt most_values (count_of w.numbers.alt)) _ y.1 in
     let same : length (map level_of w.levels) ≡ length w.levels = length-map w.levels level_of in
     let one = some_of (length w.levels) l.0 in
     let four = not_over most_levels (length w.levels) m.0 in
     record {
-      rates = record { turn = p.turn_rate; gs = p.gs.rate; vs = p.vs.rate; alt = p.alt.rate };
+      rates = record { turn = p.turn_rate; gs = r.gs.rate; vs = r.vs.rate; alt = r.alt.rate };
       track_step = p.track_step;
-      divides = p.divides;
-      gs = in_range _ _ p.gs x.0;
-      vs = in_range _ _ p.vs y.0;
-      alt = in_range _ _ p.alt y.1;
+      divides = equal_from (full_turn % nat_abs w.numbers.track_step) 0 divides;
+      gs = in_range _ _ r.gs x.0;
+      vs = in_range _ _ r.vs y.0;
+      alt = in_range _ _ r.alt z.0;
       some_level = omega arith;
       few_levels = omega arith;
-      level = λ l level at. each_level w.levels v.1 (l - 1) level at.there;
-      recovery = recovery_in_range w.recovery v.0;
+      level = λ l level at. each_level w.levels r.levels (l - 1) level at.there;
+      recovery = recovery_in_range w.recovery r.recovery;
       resolve = record { least = p.resolve.least; most = rw same (not_below (pos (length w.levels)) w.numbers.resolve m.1) };
     }
 
@@ -275,11 +326,10 @@ few_counted resolve levels counted =
 
 -- ---- counting along a grid
 
-pub stepped : (limits : GridLimits) (g : Grid) → negsuc 99999 ≤ℤ limits.value.0 → limits.value.1 ≤ℤ pos 100000 → pos 1 ≤ℤ limits.step.0
-    → IsGridInRange limits g → IsStepped g
-stepped limits g low high one r =
+pub stepped : (values : Bounds) (g : Grid) → negsuc 99999 ≤ℤ values.0 → values.1 ≤ℤ pos 100000 → IsGridInRange values g → IsStepped g
+stepped values g low high r =
     let a = r.least in let b = r.most in let d = r.step.least in
-    record { low = omega (arith, ints); ordered = r.ordered; high = omega (arith, ints); step = omega (arith, ints) }
+    record { low = omega (arith, ints); ordered = r.ordered; high = omega (arith, ints); step = d }
 
 -- the grids of numbers that pass
 pub record AreStepped (n : Numbers) : Type 0 where
@@ -287,17 +337,16 @@ pub record AreStepped (n : Numbers) : Type 0 where
   pub vs : IsStepped n.vs
   pub alt : IsStepped n.alt
 
-fits_stepped : (limits : GridLimits) (g : Grid) → negsuc 99999 ≤ℤ limits.value.0 → limits.value.1 ≤ℤ pos 100000 → pos 1 ≤ℤ limits.step.0
-    → Fits limits g → IsStepped g
-fits_stepped limits g low high one f =
-    let a = f.value_min.least in let b = f.value_max.most in let d = f.step.least in
-    record { low = omega (arith, ints); ordered = f.ordered; high = omega (arith, ints); step = omega (arith, ints) }
+fits_stepped : (values : Bounds) (g : Grid) → negsuc 99999 ≤ℤ values.0 → values.1 ≤ℤ pos 100000 → Fits values g → IsStepped g
+fits_stepped values g low high f =
+    let a = f.min.least in let b = f.max.most in
+    record { low = omega (arith, ints); ordered = f.max.least; high = omega (arith, ints); step = f.step.least }
 
-pub all_stepped : (n : Numbers) → numbers_fit n ≡ true → AreStepped n
-all_stepped n h =
-    let p = parts n h in
+pub all_stepped : (w : Written) → fit (rows_of w) ≡ true → AreStepped w.numbers
+all_stepped w h =
+    let r = ranges w h in
     record {
-      gs = fits_stepped gs_limits n.gs (omega (arith, ints)) (omega (arith, ints)) (omega (arith, ints)) p.gs;
-      vs = fits_stepped vs_limits n.vs (omega (arith, ints)) (omega (arith, ints)) (omega (arith, ints)) p.vs;
-      alt = fits_stepped alt_limits n.alt (omega (arith, ints)) (omega (arith, ints)) (omega (arith, ints)) p.alt;
+      gs = fits_stepped (value_bounds Speed) w.numbers.gs (omega (arith, ints)) (omega (arith, ints)) r.gs;
+      vs = fits_stepped (value_bounds Climb) w.numbers.vs (omega (arith, ints)) (omega (arith, ints)) r.vs;
+      alt = fits_stepped (value_bounds Height) w.numbers.alt (omega (arith, ints)) (omega (arith, ints)) r.alt;
     }

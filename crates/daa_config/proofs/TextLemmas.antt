@@ -1,37 +1,57 @@
--- What a document is, and that what is taken is in range.
-use Rattle.std.proofs.Common.{◌≡◌, ℕ, Bool, true, false, not, ◌&&◌, List, map, option_map, Some, None, Result, Ok, Err, cond, refl, subst}
+-- What a text is as a document, and that what is taken is in range.
+use Rattle.std.proofs.Common.{◌≡◌, ◌∙◌, ◌≤◌, arith, ℕ, Bool, true, false, not, ◌&&◌, ◌==◌, ◌%◌, List, length, nat_lt, map, option_map, Option, Some, None, Result, Ok, Err, cond, refl, subst}
+use Rattle.std.specs.Prelude.{nat_abs}
 use Rattle.std.specs.List.{list_all}
+use Rattle.std.specs.Option.{option_map_or}
 use Rattle.std.specs.Str.{IsUtf8, is_utf8}
 use Rattle.std.proofs.lemmas.Str.{IsUtf8-from_is_utf8, is_utf8-from_IsUtf8}
+use Rattle.std.proofs.lemmas.Bool.Decides.{nat_tests}
+use Rattle.std.proofs.lemmas.Bool.{and_parts, not-false}
 use Rattle.toml.specs.Data.{Members}
 use Rattle.toml.specs.Parse.{parse_document}
-use Rattle.std.proofs.lemmas.Bool.{not-false}
 use Rattle.daa_config.specs.declared.fault.ConfigFault.{ConfigFault}
-use Rattle.daa_config.specs.Keys.{Text}
-use Rattle.daa_config.specs.Fault.{◌>>=◌}
-use Rattle.daa_config.specs.Numbers.{numbers_fit, recovery_fits, level_fits, levels_are_wrong, has_too_many}
+use Rattle.daa_config.specs.declared.fault.ConfigFault.TheVariants.{TooLong, NotToml, UnknownKey, MissingKey, NotNumber, OutOfRange, Levels, TooMany}
+use Rattle.daa_config.specs.Document.{any_table}
+use Rattle.daa_config.specs.Limits.{longest_text, full_turn}
+use Rattle.daa_config.specs.Numbers.{levels_are_wrong, has_too_many}
+use Rattle.daa_config.specs.Rows.{Text, has_other_key, lacks_key, holds_other}
 use Rattle.daa_config.specs.Settings.{Settings, IsAccepted}
-use Rattle.daa_config.specs.ConfigOf.{document, document_of, written_of, settings_of, config_of, Written}
+use Rattle.daa_config.specs.ConfigOf.{Written, rows_of, settings_of, written_in, config_in, config_of}
 use Rattle.daa_config.specs.Level.{level_of, cylinder_of}
 use Rattle.daa_config.proofs.RangeLemmas.{accepted}
 
-pub document_read : (t : List ℕ) (ms : Members) → IsUtf8 t → parse_document t ≡ Some ms → document t ≡ Some ms
-unfolding document
-document_read t ms utf8 read = rw (is_utf8-from_IsUtf8 t utf8) read
+-- what a text is that is no document
+abbrev refused : Result Settings ConfigFault
+refused = Err NotToml
 
-pub document_refused : (t : List ℕ) → (IsUtf8 t → parse_document t ≡ None) → document t ≡ None
-unfolding document
+-- what a text is that is not too long
+abbrev short_text : Text → Result Settings ConfigFault
+short_text t = cond (not (is_utf8 t)) (Err NotToml) (option_map_or config_in (parse_document t) (Err NotToml))
+
+document_read : (t : List ℕ) (ms : Members) → IsUtf8 t → parse_document t ≡ Some ms → short_text t ≡ config_in ms
+document_read t ms utf8 read = rw (is_utf8-from_IsUtf8 t utf8, read) refl
+
+document_refused : (t : List ℕ) → (IsUtf8 t → parse_document t ≡ None) → short_text t ≡ Err NotToml
 document_refused t h = go (is_utf8 t) refl
   where
-    go : (b : Bool) → is_utf8 t ≡ b → cond b (parse_document t) None ≡ None
-    go true e = h (IsUtf8-from_is_utf8 t e)
+    go : (b : Bool) → is_utf8 t ≡ b → cond (not b) (Err NotToml) (option_map_or config_in (parse_document t) (Err NotToml)) ≡ refused
+    go true e = rw (h (IsUtf8-from_is_utf8 t e)) refl
     go false e = refl
 
--- ---- what is taken
+not_long : (n : ℕ) → n ≤ longest_text → nat_lt longest_text n ≡ false
+not_long n h = grind (arith, nat_tests)
 
-taken : {A B : Type 0} (r : Result A ConfigFault) (f : A → Result B ConfigFault) (y : B) → (r >>= f) ≡ Ok y → (x : A) × (f x ≡ Ok y)
-taken (Ok x) f y h = (x, h)
-taken (Err e) f y h = cc
+short : (t : List ℕ) → length t ≤ longest_text → config_of t ≡ short_text t
+unfolding config_of
+short t h = rw (not_long (length t) h) refl
+
+pub text_read : (t : List ℕ) (ms : Members) → length t ≤ 65536 → IsUtf8 t → parse_document t ≡ Some ms → config_of t ≡ config_in ms
+text_read t ms few utf8 read = short t few ∙ document_read t ms utf8 read
+
+pub text_refused : (t : List ℕ) → length t ≤ 65536 → (IsUtf8 t → parse_document t ≡ None) → config_of t ≡ Err NotToml
+text_refused t few h = short t few ∙ document_refused t h
+
+-- ---- what is taken
 
 past : {Y : Type 0} (b : Bool) (e : ConfigFault) (r : Result Y ConfigFault) (y : Y) → cond b (Err e) r ≡ Ok y → (b ≡ false) × (r ≡ Ok y)
 past true e r y h = cc
@@ -41,15 +61,30 @@ settled : (w : Written) (s : Settings) → settings_of w ≡ Ok s → IsAccepted
 unfolding settings_of
 settled w s h =
     let t : Settings = record { numbers = w.numbers; recovery = option_map cylinder_of w.recovery; levels = map level_of w.levels } in
-    let ranges = past (not (numbers_fit w.numbers && (recovery_fits w.recovery && list_all level_fits w.levels))) _ _ s h in
-    let levels = past (levels_are_wrong w.numbers.resolve w.levels) _ _ s ranges.1 in
-    let many = past (has_too_many w.numbers) _ _ s levels.1 in
+    let fit = list_all (λ row. row.fits) (rows_of w) in
+    let divides = full_turn % nat_abs w.numbers.track_step == 0 in
+    let ranges = past (not (fit && divides)) OutOfRange _ s h in
+    let levels = past (levels_are_wrong w.numbers.resolve w.levels) Levels _ s ranges.1 in
+    let many = past (has_too_many w.numbers) TooMany _ s levels.1 in
+    let both = and_parts fit divides (not-false _ ranges.0) in
     let same : t ≡ s = cc (many.1) in
-    subst IsAccepted same (accepted w (not-false _ ranges.0) levels.0 many.0)
+    subst IsAccepted same (accepted w both.0 both.1 levels.0 many.0)
+
+of_document : (ms : Members) (s : Settings) → config_in ms ≡ Ok s → IsAccepted s
+unfolding config_in
+of_document ms s h =
+    let other = past (any_table has_other_key ms) UnknownKey _ s h in
+    let lacking = past (any_table lacks_key ms) MissingKey _ s other.1 in
+    let holding = past (any_table holds_other ms) NotNumber _ s lacking.1 in
+    settled (written_in ms) s holding.1
+
+of_parsed : (o : Option Members) (s : Settings) → option_map_or config_in o (Err NotToml) ≡ Ok s → IsAccepted s
+of_parsed None s h = cc
+of_parsed (Some ms) s h = of_document ms s h
 
 pub in_range : (text : Text) (s : Settings) → config_of text ≡ Ok s → IsAccepted s
 unfolding config_of
 in_range text s h =
-    let ms = taken (document_of text) _ s h in
-    let w = taken (written_of ms.0) settings_of s ms.1 in
-    settled w.0 s w.1
+    let short = past (nat_lt longest_text (length text)) TooLong _ s h in
+    let utf8 = past (not (is_utf8 text)) NotToml _ s short.1 in
+    of_parsed (parse_document text) s utf8.1

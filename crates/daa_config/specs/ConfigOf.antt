@@ -1,22 +1,22 @@
 -- The configuration that a text is, or the fault of least number that applies anywhere in it.
-use Rattle.std.specs.Prelude.{◌&&◌, not, List, length, map, nat_lt, Option, Some, None, Result, Ok, Err, if◌then◌else◌, option_and_then, option_map}
-use Rattle.std.specs.List.{list_all}
+use Rattle.std.specs.Prelude.{◌%◌, ◌==◌, ◌&&◌, not, List, [], ◌++◌, length, map, nat_abs, nat_lt, Option, Result, Ok, Err, if◌then◌else◌, option_map}
+use Rattle.std.specs.List.{list_all, flat_map}
 use Rattle.std.specs.Option.{option_map_or}
 use Rattle.std.specs.Str.{is_utf8}
 use Rattle.toml.specs.Data.{Members}
 use Rattle.toml.specs.Parse.{parse_document}
 use Rattle.daa_config.specs.declared.fault.ConfigFault.{ConfigFault}
 use Rattle.daa_config.specs.declared.fault.ConfigFault.TheVariants.{TooLong, NotToml, UnknownKey, MissingKey, NotNumber, OutOfRange, Levels, TooMany}
+use Rattle.daa_config.specs.declared.kind.Kind.TheVariants.{Speed, Climb, Height}
 use Rattle.daa_config.specs.declared.numbers.Numbers.{Numbers}
 use Rattle.daa_config.specs.declared.numbers.LevelNumbers.{LevelNumbers}
 use Rattle.daa_config.specs.declared.numbers.RecoveryNumbers.{RecoveryNumbers}
-use Rattle.daa_config.specs.Document.{numbers_in, recovery_in, levels_in}
-use Rattle.daa_config.specs.Fault.{◌>>=◌}
+use Rattle.daa_config.specs.Document.{table_in, levels_in, number_in, grid_in, numbers_by, recovery_by, level_by, any_table}
 use Rattle.daa_config.specs.Level.{level_of, cylinder_of}
-use Rattle.daa_config.specs.Keys.{Text, any_table, has_other_key, lacks_key}
-use Rattle.daa_config.specs.Limits.{longest_text}
-use Rattle.daa_config.specs.Numbers.{numbers_fit, recovery_fits, level_fits, levels_are_wrong, has_too_many}
-use Rattle.daa_config.specs.Settings.{Settings}
+use Rattle.daa_config.specs.Limits.{longest_text, full_turn}
+use Rattle.daa_config.specs.Numbers.{levels_are_wrong, has_too_many}
+use Rattle.daa_config.specs.Rows.{Text, Row, document_rows, grid_rows, level_rows, recovery_rows, has_other_key, lacks_key, holds_other}
+use Rattle.daa_config.specs.Settings.{Settings, value_bounds}
 
 -- the numbers of a document, as they are written
 pub record Written : Type 0 where
@@ -24,42 +24,42 @@ pub record Written : Type 0 where
   pub recovery : Option RecoveryNumbers
   pub levels : List LevelNumbers
 
+-- all rows of these numbers, of each table
+unfoldable pub rows_of : Written → List Row
+rows_of w =
+    document_rows w.numbers
+    ++ (grid_rows (value_bounds Speed) w.numbers.gs ++ (grid_rows (value_bounds Climb) w.numbers.vs ++ (grid_rows (value_bounds Height) w.numbers.alt
+    ++ (option_map_or recovery_rows w.recovery [] ++ flat_map level_rows w.levels))))
+
 -- ---- the faults, in the order of their numbers
-
--- the document that the text is, by the grammar of TOML
-unfoldable pub document : Text → Option Members
-document text = if is_utf8 text then parse_document text else None
-
--- that document, unless the text is too long or is none
-unfoldable pub document_of : Text → Result Members ConfigFault
-document_of text =
-    if nat_lt longest_text (length text) then Err TooLong
-    else option_map_or (λ ms. Ok ms) (document text) (Err NotToml)
-
--- the numbers at their places, where each place holds a whole number
-unfoldable pub numbers_written : Members → Option Written
-numbers_written ms = option_and_then (λ numbers.
-    option_and_then (λ recovery.
-    option_and_then (λ levels. Some (record { numbers = numbers; recovery = recovery; levels = levels })) (levels_in ms)) (recovery_in ms)) (numbers_in ms)
-
--- these numbers, unless a table has a key too many or too few, or a place holds something else
-unfoldable pub written_of : Members → Result Written ConfigFault
-written_of ms =
-    if any_table has_other_key ms then Err UnknownKey
-    else if any_table lacks_key ms then Err MissingKey
-    else option_map_or (λ w. Ok w) (numbers_written ms) (Err NotNumber)
 
 -- the configuration of these numbers, unless one is out of its range or there are too many
 unfoldable pub settings_of : Written → Result Settings ConfigFault
 settings_of w =
-    if not (numbers_fit w.numbers && (recovery_fits w.recovery && list_all level_fits w.levels)) then Err OutOfRange
+    if not (list_all (λ row. row.fits) (rows_of w) && (full_turn % nat_abs w.numbers.track_step == 0)) then Err OutOfRange
     else if levels_are_wrong w.numbers.resolve w.levels then Err Levels
     else if has_too_many w.numbers then Err TooMany
     else Ok (record { numbers = w.numbers; recovery = option_map cylinder_of w.recovery; levels = map level_of w.levels })
 
--- the configuration that the text is, unless one of these faults applies; then the first one
+-- the numbers of a document
+unfoldable pub written_in : Members → Written
+written_in ms = record {
+  numbers = numbers_by (number_in ms) (grid_in ms);
+  recovery = option_map (λ t. recovery_by (number_in t)) (table_in ms "recovery");
+  levels = map (λ t. level_by (number_in t)) (levels_in ms);
+}
+
+-- the configuration that a document is, unless one of its tables differs from its rows
+unfoldable pub config_in : Members → Result Settings ConfigFault
+config_in ms =
+    if any_table has_other_key ms then Err UnknownKey
+    else if any_table lacks_key ms then Err MissingKey
+    else if any_table holds_other ms then Err NotNumber
+    else settings_of (written_in ms)
+
+-- the configuration that the text is, by the grammar of TOML, unless one of these faults applies; then the first one
 unfoldable pub config_of : Text → Result Settings ConfigFault
-config_of text = do
-  ms ← document_of text
-  w ← written_of ms
-  settings_of w
+config_of text =
+    if nat_lt longest_text (length text) then Err TooLong
+    else if not (is_utf8 text) then Err NotToml
+    else option_map_or config_in (parse_document text) (Err NotToml)

@@ -1,80 +1,60 @@
--- The numbers of a document.
-use Rattle.std.specs.Prelude.{ℤ, pos, List, [], ◌∷◌, Option, Some, None, option_map, option_and_then, codes}
+-- The tables of a document, and the numbers that stand in them.
+use Prim.Native.String.{String}
+use Rattle.std.specs.Prelude.{ℤ, pos, Bool, false, ◌||◌, List, [], Option, option_and_then, codes}
+use Rattle.std.specs.List.{list_any, filter_map}
 use Rattle.std.specs.Option.{option_map_or}
-use Rattle.toml.specs.Data.{Members, get_member, as_integer, as_table, Items, no_items, item}
+use Rattle.toml.specs.Data.{Members, no_members, get_member, as_integer, as_table, as_array}
+use Rattle.daa_config.specs.declared.kind.Kind.TheVariants.{Speed, Climb, Height}
 use Rattle.daa_config.specs.declared.numbers.Grid.{Grid}
 use Rattle.daa_config.specs.declared.numbers.Numbers.{Numbers}
 use Rattle.daa_config.specs.declared.numbers.LevelNumbers.{LevelNumbers}
 use Rattle.daa_config.specs.declared.numbers.RecoveryNumbers.{RecoveryNumbers}
-use Rattle.daa_config.specs.Keys.{Text, table_in, list_in}
+use Rattle.daa_config.specs.Rows.{Row, list_of, document_rows, grid_rows, level_rows, recovery_rows}
+use Rattle.daa_config.specs.Settings.{value_bounds}
 
--- what comes next is done with what is there; where there is nothing, that is all
-infixl 10 ◌>>=◌
-abbrev pub ◌>>=◌ : {A B : Type 0} → Option A → (A → Option B) → Option B
-o >>= f = option_and_then f o
+-- the table at a key
+abbrev pub table_in : Members → String → Option Members
+table_in ms key = option_and_then as_table (get_member (codes key) ms)
 
--- the whole number at a key; a float, a date or a truth value is none. Where no key that must be there is missing, only `tcpa`
--- may be: then it is 0
-abbrev pub number_at : Text → Members → Option ℤ
-number_at key ms = option_map_or as_integer (get_member key ms) (Some (pos 0))
+-- the tables in the list of levels
+abbrev pub levels_in : Members → List Members
+levels_in ms = option_map_or (λ ds. filter_map as_table (list_of ds)) (option_and_then as_array (get_member (codes "level") ms)) []
 
--- the numbers of a kind's table, where each place holds a whole number
-unfoldable pub grid_in : Members → Option Grid
-grid_in ms = do
-  min ← number_at (codes "min") ms
-  max ← number_at (codes "max") ms
-  step ← number_at (codes "step") ms
-  rate ← number_at (codes "rate") ms
-  Some (record { min = min; max = max; step = step; rate = rate })
+-- ---- the numbers, each from its key
 
--- the numbers of the kind whose table is at a key
-unfoldable pub grid_at : Text → Members → Option Grid
-grid_at key ms = option_and_then grid_in (table_in key ms)
+-- the whole number at a key, 0 where there is none: whoever reads has seen that no table differs from its rows, so only a key
+-- that may be left out can be missing
+abbrev pub number_in : Members → String → ℤ
+number_in ms key = option_map_or (λ z. z) (option_and_then as_integer (get_member (codes key) ms)) (pos 0)
 
--- the numbers of the recovery's table
-unfoldable pub cylinder_in : Members → Option RecoveryNumbers
-cylinder_in ms = do
-  hdist ← number_at (codes "hdist") ms
-  vdist ← number_at (codes "vdist") ms
-  Some (record { hdist = hdist; vdist = vdist })
+-- of a kind's table
+abbrev pub grid_by : (String → ℤ) → Grid
+grid_by at = record { min = at "min"; max = at "max"; step = at "step"; rate = at "rate" }
 
--- the same, where there is such a table; a document without one has none
-unfoldable pub recovery_in : Members → Option (Option RecoveryNumbers)
-recovery_in ms =
-    option_map_or (λ found. option_map Some (as_table found >>= cylinder_in)) (get_member (codes "recovery") ms) (Some None)
+-- of the kind whose table stands at a key
+abbrev pub grid_in : Members → String → Grid
+grid_in ms key = grid_by (number_in (option_map_or (λ t. t) (table_in ms key) no_members))
 
--- the numbers of a level's table
-unfoldable pub level_in : Members → Option LevelNumbers
-level_in ms = do
-  dthr ← number_at (codes "dthr") ms
-  zthr ← number_at (codes "zthr") ms
-  tthr ← number_at (codes "tthr") ms
-  tcoa ← number_at (codes "tcoa") ms
-  lookahead ← number_at (codes "lookahead") ms
-  alert ← number_at (codes "alert") ms
-  tcpa ← number_at (codes "tcpa") ms
-  Some (record { dthr = dthr; zthr = zthr; tthr = tthr; tcoa = tcoa; lookahead = lookahead; alert = alert; tcpa = tcpa })
+-- of a level's table
+abbrev pub level_by : (String → ℤ) → LevelNumbers
+level_by at = record { dthr = at "dthr"; zthr = at "zthr"; tthr = at "tthr"; tcoa = at "tcoa"; lookahead = at "lookahead"; alert = at "alert"; tcpa = at "tcpa" }
 
--- the numbers of each level, where each member of the list is a table that holds them
-abbrev pub each_level : Items → Option (List LevelNumbers)
-each_level no_items = Some []
-each_level (item d ds) = do
-  table ← as_table d
-  level ← level_in table
-  levels ← each_level ds
-  Some (level ∷ levels)
+-- of the recovery's table
+abbrev pub recovery_by : (String → ℤ) → RecoveryNumbers
+recovery_by at = record { hdist = at "hdist"; vdist = at "vdist" }
 
--- the numbers of the levels, where `level` is a list of such tables
-abbrev pub levels_in : Members → Option (List LevelNumbers)
-levels_in ms = option_and_then each_level (list_in (codes "level") ms)
+-- of the document, those of its levels and its recovery apart
+abbrev pub numbers_by : (String → ℤ) → (String → Grid) → Numbers
+numbers_by at grid = record { resolve = at "resolve"; turn_rate = at "turn_rate"; track_step = at "track_step"; gs = grid "gs"; vs = grid "vs"; alt = grid "alt" }
 
--- the numbers of the document, those of the levels apart
-unfoldable pub numbers_in : Members → Option Numbers
-numbers_in ms = do
-  resolve ← number_at (codes "resolve") ms
-  turn_rate ← number_at (codes "turn_rate") ms
-  track_step ← number_at (codes "track_step") ms
-  gs ← grid_at (codes "gs") ms
-  vs ← grid_at (codes "vs") ms
-  alt ← grid_at (codes "alt") ms
-  Some (record { resolve = resolve; turn_rate = turn_rate; track_step = track_step; gs = gs; vs = vs; alt = alt })
+-- ---- all tables
+
+-- the document, or one of its tables, differs from its rows; their numbers play no part in it
+unfoldable pub any_table : (List Row → Members → Bool) → Members → Bool
+any_table differs ms =
+    differs (document_rows (numbers_by (number_in ms) (grid_in ms))) ms
+    || (option_map_or (λ t. differs (grid_rows (value_bounds Speed) (grid_by (number_in t))) t) (table_in ms "gs") false
+    || (option_map_or (λ t. differs (grid_rows (value_bounds Climb) (grid_by (number_in t))) t) (table_in ms "vs") false
+    || (option_map_or (λ t. differs (grid_rows (value_bounds Height) (grid_by (number_in t))) t) (table_in ms "alt") false
+    || (option_map_or (λ t. differs (recovery_rows (recovery_by (number_in t))) t) (table_in ms "recovery") false
+    || list_any (λ t. differs (level_rows (level_by (number_in t))) t) (levels_in ms)))))

@@ -1,5 +1,5 @@
 -- Why a configuration is refused.
-use Rattle.std.specs.Prelude.{ℕ, Option, Some, None, Result, Ok, Err}
+use Rattle.std.specs.Prelude.{ℕ, Option, Some, None}
 use Rattle.daa_config.specs.declared.fault.ConfigFault.{ConfigFault}
 use Rattle.daa_config.specs.declared.fault.ConfigFault.TheVariants.{TooLong, NotToml, UnknownKey, MissingKey, NotNumber, OutOfRange, Levels, TooMany, NoMemory}
 
@@ -14,9 +14,3 @@ code_of OutOfRange = Some 6
 code_of Levels = Some 7
 code_of TooMany = Some 8
 code_of NoMemory = None
-
--- what comes next is done with the value, if there is one; the first fault stays
-infixl 10 ◌>>=◌
-abbrev pub ◌>>=◌ : {A B : Type 0} → Result A ConfigFault → (A → Result B ConfigFault) → Result B ConfigFault
-(Ok x) >>= f = f x
-(Err e) >>= f = Err e

@@ -1,6 +1,6 @@
 pub mod Limits
 pub mod Numbers
-pub mod Keys
+pub mod Rows
 pub mod Document
 pub mod Settings
 pub mod Fault

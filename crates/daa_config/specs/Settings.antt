@@ -1,5 +1,5 @@
 -- A configuration as contracts see it, and what holds of every one that is accepted.
-use Rattle.std.specs.Prelude.{◌≡◌, ℕ, ℤ, pos, ◌-◌, ◌%◌, ◌≤◌, ◌≤ℤ◌, nat_abs, List, length, slice_get, Option, Some}
+use Rattle.std.specs.Prelude.{◌≡◌, ℕ, ℤ, pos, ◌-◌, ◌%◌, ◌≤◌, ◌≤ℤ◌, ◌-ℤ◌, neg_ℤ, nat_abs, List, length, slice_get, Option, Some}
 use Rattle.daa_fixed.specs.Size.{IsFrom}
 use Rattle.daa_taumod.specs.declared.Model.TheVariants.{Taumod}
 use Rattle.daa_taumod.specs.declared.Volume.{Volume}
@@ -11,10 +11,9 @@ use Rattle.daa_config.specs.declared.kind.Kind.{Kind}
 use Rattle.daa_config.specs.declared.kind.Kind.TheVariants.{Track, Speed, Climb, Height}
 use Rattle.daa_config.specs.declared.level.Level.{Level}
 use Rattle.daa_config.specs.declared.limits.Bounds.{Bounds}
-use Rattle.daa_config.specs.declared.limits.GridLimits.{GridLimits}
 use Rattle.daa_config.specs.declared.numbers.Grid.{Grid}
 use Rattle.daa_config.specs.declared.numbers.Numbers.{Numbers}
-use Rattle.daa_config.specs.Limits.{from_to, full_turn, most_levels, most_values, turn_rate_bounds, track_step_bounds, gs_limits, vs_limits, alt_limits}
+use Rattle.daa_config.specs.Limits.{from_to, full_turn, most_levels, most_values}
 use Rattle.daa_config.specs.Numbers.{count_of}
 
 -- the numbers of a configuration, the cylinder that a recovery stays out of where one is asked for, and the levels in units; the first
@@ -47,9 +46,9 @@ IsInBounds bounds z = IsFrom bounds.0 bounds.1 z
 -- what any value of a kind is from and up to: a degree, 0.1 kt, ft/min, ft
 abbrev pub value_bounds : Kind → Bounds
 value_bounds Track = from_to (pos 0) (pos 359)
-value_bounds Speed = gs_limits.value
-value_bounds Climb = vs_limits.value
-value_bounds Height = alt_limits.value
+value_bounds Speed = from_to (pos 0) (pos 10000)
+value_bounds Climb = from_to (neg_ℤ (pos 10000)) (pos 10000)
+value_bounds Height = from_to (neg_ℤ (pos 2000)) (pos 60000)
 
 -- a candidate whose value its kind can have
 abbrev pub IsCandidateInRange : Candidate → Type 0
@@ -61,17 +60,17 @@ IsCandidateInRange (ToHeight a) = IsInBounds (value_bounds Height) a
 
 -- each rate of change is within its bounds
 pub record AreRatesInRange (r : Rates) : Type 0 where
-  pub turn : IsInBounds turn_rate_bounds r.turn
-  pub gs : IsInBounds gs_limits.rate r.gs
-  pub vs : IsInBounds vs_limits.rate r.vs
-  pub alt : IsInBounds alt_limits.rate r.alt
+  pub turn : IsFrom (pos 1) (pos 30) r.turn
+  pub gs : IsFrom (pos 1) (pos 10000) r.gs
+  pub vs : IsFrom (pos 1) (pos 10000) r.vs
+  pub alt : IsFrom (pos 1) (pos 10000) r.alt
 
--- min, max and step of a kind are within its limits, in order, and give not too many values
-pub record IsGridInRange (limits : GridLimits) (g : Grid) : Type 0 where
-  pub least : limits.value.0 ≤ℤ g.min
+-- min and max of a kind are within the bounds of its values and in order, and the step gives not too many values
+pub record IsGridInRange (values : Bounds) (g : Grid) : Type 0 where
+  pub least : values.0 ≤ℤ g.min
   pub ordered : g.min ≤ℤ g.max
-  pub most : g.max ≤ℤ limits.value.1
-  pub step : IsInBounds limits.step g.step
+  pub most : g.max ≤ℤ values.1
+  pub step : IsFrom (pos 1) (values.1 -ℤ values.0) g.step
   pub few : count_of g ≤ most_values
 
 -- a level's volume in units, and the seconds that it looks ahead and alerts
@@ -94,11 +93,11 @@ pub record IsCylinder (cylinder : Volume) : Type 0 where
 -- a configuration that is accepted has its numbers in their ranges
 pub record IsAccepted (s : Settings) : Type 0 where
   pub rates : AreRatesInRange (rates_of s)
-  pub track_step : IsInBounds track_step_bounds s.numbers.track_step
+  pub track_step : IsFrom (pos 1) (pos 90) s.numbers.track_step
   pub divides : full_turn % nat_abs s.numbers.track_step ≡ 0
-  pub gs : IsGridInRange gs_limits s.numbers.gs
-  pub vs : IsGridInRange vs_limits s.numbers.vs
-  pub alt : IsGridInRange alt_limits s.numbers.alt
+  pub gs : IsGridInRange (value_bounds Speed) s.numbers.gs
+  pub vs : IsGridInRange (value_bounds Climb) s.numbers.vs
+  pub alt : IsGridInRange (value_bounds Height) s.numbers.alt
   pub some_level : 1 ≤ length s.levels
   pub few_levels : length s.levels ≤ most_levels
   pub level : (l : ℕ) (level : Level) → IsLevelAt s l level → IsLevelInRange level

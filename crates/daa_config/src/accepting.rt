@@ -1,28 +1,63 @@
 //! Accepts the numbers of a configuration, or says which fault they have.
 
-ghost use Rattle.std.specs.Prelude.{◌≡◌, ◌&&◌, true, false, Ok, Err, OnOk, IfOk, IfErr};
+ghost use Rattle.std.specs.Prelude.{◌≡◌, ◌%◌, ◌==◌, nat_abs, true, false, Ok, Err, OnOk, IfOk, IfErr};
 ghost use Rattle.std.specs.List.{list_all};
-ghost use Rattle.daa_config.specs.ConfigOf.{settings_of};
-ghost use Rattle.daa_config.specs.Numbers.{numbers_fit, recovery_fits, level_fits, levels_are_wrong, has_too_many};
+ghost use Rattle.daa_config.specs.ConfigOf.{rows_of, settings_of};
+ghost use Rattle.daa_config.specs.Inside.Rows.{recovery_fits, level_fits};
+ghost use Rattle.daa_config.specs.Limits.{full_turn};
+ghost use Rattle.daa_config.specs.Numbers.{levels_are_wrong, has_too_many};
 
 use crate::config::Config;
 use crate::fault::ConfigFault;
 use crate::level::{all_in_units, cylinder_in_units};
+use crate::limits::{CLIMBS, HEIGHTS, SPEEDS};
 use crate::numbers::{
-    LevelNumbers, Numbers, RecoveryNumbers, are_in_range, are_too_many, have_wrong_count,
-    levels_are_in_range, recovery_is_in_range,
+    LevelNumbers, Numbers, RecoveryNumbers, are_too_many, divides_full_turn, have_wrong_count,
 };
+use crate::rows::{all_fit, document_rows, grid_rows, level_rows, recovery_rows};
+
+/// Whether the numbers of the recovery are in their ranges, where there are any.
+fn recovery_is_in_range(recovery: &Option<RecoveryNumbers>) -> bool
+    ensures { result ≡ recovery_fits recovery.now }
+{
+    match recovery {
+        None => true,
+        Some(numbers) => all_fit(&recovery_rows(numbers)),
+    }
+}
+
+/// Whether the numbers of the level are in their ranges.
+fn level_is_in_range(level: &LevelNumbers) -> bool
+    ensures { result ≡ level_fits level.now }
+{
+    all_fit(&level_rows(level))
+}
+
+/// Whether the numbers of every level are in their ranges.
+fn levels_are_in_range(levels: &[LevelNumbers]) -> bool
+    ensures { result ≡ list_all level_fits levels.now }
+{
+    levels.iter().all(level_is_in_range)
+}
 
 /// Whether every number is in its range.
+#[tactic(auto, using(crate::proofs::RangeLemmas::all_rows))]
 fn are_all_in_range(
     numbers: &Numbers,
     recovery: &Option<RecoveryNumbers>,
     levels: &[LevelNumbers],
 ) -> bool
-    ensures { result ≡ (numbers_fit numbers.now &&
-        (recovery_fits recovery.now && list_all level_fits levels.now)) }
+    ensures { result ≡ list_all (λ row. row.fits) (rows_of (record {
+      numbers = numbers.now;
+      recovery = recovery.now;
+      levels = levels.now;
+    })) }
 {
-    are_in_range(numbers) && (recovery_is_in_range(recovery) && levels_are_in_range(levels))
+    all_fit(&document_rows(numbers))
+        && (all_fit(&grid_rows(&SPEEDS, &numbers.gs))
+            && (all_fit(&grid_rows(&CLIMBS, &numbers.vs))
+                && (all_fit(&grid_rows(&HEIGHTS, &numbers.alt))
+                    && (recovery_is_in_range(recovery) && levels_are_in_range(levels)))))
 }
 
 /// Whether the numbers are allowed in a configuration.
@@ -32,8 +67,12 @@ pub(crate) fn test(
     recovery: &Option<RecoveryNumbers>,
     levels: &[LevelNumbers],
 ) -> Result<(), ConfigFault>
-    ensures fit { OnOk result ((numbers_fit numbers.now &&
-        (recovery_fits recovery.now && list_all level_fits levels.now)) ≡ true) }
+    ensures fit { OnOk result (list_all (λ row. row.fits) (rows_of (record {
+      numbers = numbers.now;
+      recovery = recovery.now;
+      levels = levels.now;
+    })) ≡ true) }
+    ensures divides { OnOk result ((full_turn % nat_abs numbers.now.track_step == 0) ≡ true) }
     ensures counted { OnOk result (levels_are_wrong numbers.now.resolve levels.now ≡ false) }
     ensures few { OnOk result (has_too_many numbers.now ≡ false) }
     ensures refused { IfErr result (λ fault. settings_of (record {
@@ -42,7 +81,7 @@ pub(crate) fn test(
       levels = levels.now;
     }) ≡ Err fault) }
 {
-    if !are_all_in_range(numbers, recovery, levels) {
+    if !(are_all_in_range(numbers, recovery, levels) && divides_full_turn(numbers.track_step)) {
         return Err(ConfigFault::OutOfRange);
     }
     if have_wrong_count(numbers, levels) {

@@ -8,6 +8,7 @@ ghost use Rattle.daa_config.specs.Numbers.{count_of};
 use crate::candidate::Candidate;
 use crate::kind::Kind;
 use crate::level::Level;
+use crate::limits::MOST_LEVELS;
 use crate::numbers::{Grid, Numbers, count};
 use arrayvec::ArrayVec;
 use daa_taumod::Volume;
@@ -28,7 +29,7 @@ pub struct Rates {
 pub struct Config {
     numbers: Numbers,
     recovery: Option<Volume>,
-    levels: ArrayVec<Level, 4>,
+    levels: ArrayVec<Level, MOST_LEVELS>,
 }
 
 /// A level of no size, which fills the unused places of a configuration's levels.
@@ -68,14 +69,13 @@ impl Model for Config {
 
 impl Config {
     ghost use Rattle.daa_config.specs.Settings.{IsAccepted, IsLevelAt, IsLevelInRange, rates_of, AreRatesInRange, IsCandidateInRange, IsInBounds, value_bounds};
-    ghost use Rattle.daa_config.specs.Limits.{turn_rate_bounds, gs_limits, vs_limits, alt_limits};
     ghost use Rattle.daa_config.specs.Candidates.{grid_of, values_of, least_of, greatest_of, candidates_of, start_of, IsCandidateOf};
 
     /// A configuration of these numbers.
     pub(crate) fn new(
         numbers: Numbers,
         recovery: Option<Volume>,
-        levels: ArrayVec<Level, 4>,
+        levels: ArrayVec<Level, MOST_LEVELS>,
     ) -> Config
         requires { IsAccepted
             (record { numbers = numbers; recovery = recovery; levels = levels.items }) }
@@ -136,7 +136,7 @@ impl Config {
     /// Degrees of track that a second may change, 1 to 30.
     pub fn turn_rate(&self) -> i32
         ensures value { result ≡ self.now.numbers.turn_rate }
-        ensures in_range { IsInBounds turn_rate_bounds result }
+        ensures in_range { IsFrom (pos 1) (pos 30) result }
         ensures accepted { IsAccepted self.now }
     {
         self.numbers.turn_rate as i32
@@ -145,7 +145,7 @@ impl Config {
     /// Ground speed, in 0.1 kt, that a second may change, 1 to 10000.
     pub fn gs_rate(&self) -> i32
         ensures value { result ≡ self.now.numbers.gs.rate }
-        ensures in_range { IsInBounds gs_limits.rate result }
+        ensures in_range { IsFrom (pos 1) (pos 10000) result }
         ensures accepted { IsAccepted self.now }
     {
         self.numbers.gs.rate as i32
@@ -154,7 +154,7 @@ impl Config {
     /// Vertical speed, in ft/min, that a second may change, 1 to 10000.
     pub fn vs_rate(&self) -> i32
         ensures value { result ≡ self.now.numbers.vs.rate }
-        ensures in_range { IsInBounds vs_limits.rate result }
+        ensures in_range { IsFrom (pos 1) (pos 10000) result }
         ensures accepted { IsAccepted self.now }
     {
         self.numbers.vs.rate as i32
@@ -163,7 +163,7 @@ impl Config {
     /// The vertical speed, in ft/min, at which a flight goes to an altitude, 1 to 10000.
     pub fn alt_rate(&self) -> i32
         ensures value { result ≡ self.now.numbers.alt.rate }
-        ensures in_range { IsInBounds alt_limits.rate result }
+        ensures in_range { IsFrom (pos 1) (pos 10000) result }
         ensures accepted { IsAccepted self.now }
     {
         self.numbers.alt.rate as i32

@@ -1,81 +1,49 @@
-//! Whether the tables of a document have the keys that are listed for them.
+//! Whether the tables of a document differ from their rows.
 
-ghost use Rattle.std.specs.Prelude.{◌≡◌, map, option_map};
+ghost use Rattle.std.specs.Prelude.{◌≡◌, ◌-ℤ◌, pos, map, not, false};
+ghost use Rattle.std.specs.List.{list_any};
+ghost use Rattle.std.specs.Option.{option_map_or};
+ghost use Rattle.std.specs.Str.{bytes_eq};
+ghost use Rattle.toml.specs.Data.{get_member};
 ghost use Rattle.toml.specs.View.{table_view, items_view};
-ghost use Rattle.daa_config.specs.Keys.{has_other_key, lacks_key, is_among, is_listed, any_item, any_level, any_table, passes, level_keys};
-ghost use Rattle.daa_config.specs.Inside.KeyLists.{listed_by, differs_by};
+ghost use Rattle.daa_fixed.specs.Size.{IsFrom};
+ghost use Rattle.daa_config.specs.Rows.{has_other_key, lacks_key, holds_other, list_of};
+ghost use Rattle.daa_config.specs.Rows as listed;
+ghost use Rattle.daa_config.specs.Document.{number_in, grid_by, recovery_by, level_by, table_in, levels_in, any_table};
+ghost use Rattle.daa_config.specs.Inside.Rows.{row_by, differs_by, table_at as found_at, any_item};
 
-use crate::document::{list_at, member_at, table_at};
+use crate::document::{cylinder_of, grid_of, level_of, list_at, member_at, numbers_of, table_at};
+use crate::limits::{Bounds, CLIMBS, HEIGHTS, SPEEDS};
+use crate::rows::{Row, document_rows, grid_rows, level_rows, recovery_rows};
 use toml::{Table, Value};
 
-/// The keys that a table must have, and those that it may have besides.
-#[derive(Clone, Copy)]
-pub struct Keys {
-    required: &'static [&'static str],
-    optional: &'static [&'static str],
-}
-
-/// How a table can differ from what is listed for it.
+/// How a table can differ from its rows.
 #[derive(Clone, Copy)]
 pub enum Difference {
     UnknownKey,
     MissingKey,
+    NotNumber,
 }
 
-static DOCUMENT: Keys = Keys {
-    required: &[
-        "resolve",
-        "turn_rate",
-        "track_step",
-        "gs",
-        "vs",
-        "alt",
-        "level",
-    ],
-    optional: &["recovery"],
-};
-
-static GRID: Keys = Keys {
-    required: &["min", "max", "step", "rate"],
-    optional: &[],
-};
-
-static RECOVERY: Keys = Keys {
-    required: &["hdist", "vdist"],
-    optional: &[],
-};
-
-static LEVEL: Keys = Keys {
-    required: &["dthr", "zthr", "tthr", "tcoa", "lookahead", "alert"],
-    optional: &["tcpa"],
-};
-
-/// Whether the key is one of the names.
+/// Whether a row has the key.
 #[tactic(auto, using(crate::proofs::KeyLemmas::any_found))]
-fn is_one_of(names: &[&str], key: &str) -> bool
-    ensures { result ≡ is_among (map (λ s. s.now) names.now) key.now }
+fn is_listed(rows: &[Row], key: &str) -> bool
+    ensures { result ≡ list_any (λ row. bytes_eq row.key key.now) (map row_by rows.now) }
 {
-    for name in names {
-        if *name == key {
+    for row in rows {
+        if row.key == key {
             return true;
         }
     }
     false
 }
 
-/// Whether a table may have the key.
-fn may_have(keys: &Keys, key: &str) -> bool
-    ensures { result ≡ is_listed (listed_by keys.now) key.now }
-{
-    is_one_of(keys.required, key) || is_one_of(keys.optional, key)
-}
-
-/// Whether the table has a key that is not listed.
-fn has_unknown_key(keys: &Keys, table: &Table) -> bool
-    ensures { result ≡ has_other_key (listed_by keys.now) (table_view table.now) }
+/// Whether the table has a key that no row has.
+fn has_unknown_key(rows: &[Row], table: &Table) -> bool
+    ensures { result ≡ has_other_key (map row_by rows.now) (table_view table.now) }
 {
     for key in table.keys() {
-        if !may_have(keys, key.as_str()) {
+        if !is_listed(rows, key.as_str()) {
             return true;
         }
     }
@@ -84,63 +52,112 @@ fn has_unknown_key(keys: &Keys, table: &Table) -> bool
 
 /// Whether the table lacks a key that it must have.
 #[tactic(auto, using(crate::proofs::KeyLemmas::any_found))]
-fn lacks_required_key(keys: &Keys, table: &Table) -> bool
-    ensures { result ≡ lacks_key (listed_by keys.now) (table_view table.now) }
+fn lacks_needed_key(rows: &[Row], table: &Table) -> bool
+    ensures { result ≡ lacks_key (map row_by rows.now) (table_view table.now) }
 {
-    for name in keys.required {
-        if member_at(table, name).is_none() {
+    for row in rows {
+        if row.needed && member_at(table, row.key).is_none() {
             return true;
         }
     }
     false
 }
 
-/// Whether there is a table that differs from what is listed for it.
-fn differs(difference: Difference, keys: &Keys, table: Option<&Table>) -> bool
-    ensures { result ≡ passes (differs_by difference (listed_by keys.now))
-        (option_map (λ t. table_view t.now) table.entry) }
+/// Whether something stands at the row's key that may not stand there.
+fn is_other(row: &Row, table: &Table) -> bool
+    ensures { result ≡ option_map_or (λ d. not ((row_by row.now).holds d))
+        (get_member (row_by row.now).key (table_view table.now)) false }
 {
-    match table {
+    match member_at(table, row.key) {
+        Some(value) => !row.holds(value),
         None => false,
-        Some(table) => match difference {
-            Difference::UnknownKey => has_unknown_key(keys, table),
-            Difference::MissingKey => lacks_required_key(keys, table),
-        },
     }
 }
 
-/// Whether one of the items is a table that differs from what is listed for it.
-fn any_differs(difference: Difference, keys: &Keys, items: &[Value]) -> bool
-    ensures { result ≡ any_item (differs_by difference (listed_by keys.now))
-        (items_view items.now) }
+/// Whether at a key of the table stands something that may not stand there.
+#[tactic(auto, using(crate::proofs::KeyLemmas::any_found))]
+fn holds_other_value(rows: &[Row], table: &Table) -> bool
+    ensures { result ≡ holds_other (map row_by rows.now) (table_view table.now) }
+{
+    for row in rows {
+        if is_other(row, table) {
+            return true;
+        }
+    }
+    false
+}
+
+/// Whether the table differs from its rows.
+fn differs(difference: Difference, rows: &[Row], table: &Table) -> bool
+    ensures { result ≡ differs_by difference (map row_by rows.now) (table_view table.now) }
+{
+    match difference {
+        Difference::UnknownKey => has_unknown_key(rows, table),
+        Difference::MissingKey => lacks_needed_key(rows, table),
+        Difference::NotNumber => holds_other_value(rows, table),
+    }
+}
+
+/// Whether there is a table of a kind at the key, and it differs from its rows.
+fn grid_differs(difference: Difference, values: &Bounds, document: &Table, key: &str) -> bool
+    requires { IsFrom (pos 0) (pos 100000) (values.now.1 -ℤ values.now.0) }
+    ensures { result ≡ option_map_or
+        (λ t. differs_by difference (listed.grid_rows values.now (grid_by (number_in t))) t)
+        (found_at (table_view document.now) key.now) false }
+{
+    match table_at(document, key) {
+        Some(table) => differs(difference, &grid_rows(values, &grid_of(table)), table),
+        None => false,
+    }
+}
+
+/// Whether there is a table of a recovery, and it differs from its rows.
+fn recovery_differs(difference: Difference, document: &Table) -> bool
+    ensures { result ≡ option_map_or
+        (λ t. differs_by difference (listed.recovery_rows (recovery_by (number_in t))) t)
+        (table_in (table_view document.now) "recovery") false }
+{
+    match table_at(document, "recovery") {
+        Some(table) => differs(difference, &recovery_rows(&cylinder_of(table)), table),
+        None => false,
+    }
+}
+
+/// Whether a table among the items is a level's and differs from its rows.
+fn any_differs(difference: Difference, items: &[Value]) -> bool
+    ensures { result ≡ any_item (differs_by difference) (list_of (items_view items.now)) }
 {
     for value in items {
-        if differs(difference, keys, value.as_table()) {
-            return true;
+        if let Some(table) = value.as_table() {
+            if differs(difference, &level_rows(&level_of(table)), table) {
+                return true;
+            }
         }
     }
     false
 }
 
-/// Whether a level's table differs from what is listed for it.
+/// Whether a level's table differs from its rows.
 fn levels_differ(difference: Difference, document: &Table) -> bool
-    ensures { result ≡ any_level (differs_by difference level_keys) (table_view document.now) }
+    ensures { result ≡ list_any
+        (λ t. differs_by difference (listed.level_rows (level_by (number_in t))) t)
+        (levels_in (table_view document.now)) }
 {
     match list_at(document, "level") {
-        Some(items) => any_differs(difference, &LEVEL, items.as_slice()),
+        Some(items) => any_differs(difference, items.as_slice()),
         None => false,
     }
 }
 
-/// Whether the document, or one of its tables, differs from what is listed for it.
-#[tactic(auto, unfolding(crate::specs::Keys::any_table))]
+/// Whether the document, or one of its tables, differs from its rows.
+#[tactic(auto, unfolding(crate::specs::Document::any_table))]
 pub(crate) fn any_table_differs(difference: Difference, document: &Table) -> bool
     ensures { result ≡ any_table (differs_by difference) (table_view document.now) }
 {
-    differs(difference, &DOCUMENT, Some(document))
-        || (differs(difference, &GRID, table_at(document, "gs"))
-            || (differs(difference, &GRID, table_at(document, "vs"))
-                || (differs(difference, &GRID, table_at(document, "alt"))
-                    || (differs(difference, &RECOVERY, table_at(document, "recovery"))
+    differs(difference, &document_rows(&numbers_of(document)), document)
+        || (grid_differs(difference, &SPEEDS, document, "gs")
+            || (grid_differs(difference, &CLIMBS, document, "vs")
+                || (grid_differs(difference, &HEIGHTS, document, "alt")
+                    || (recovery_differs(difference, document)
                         || levels_differ(difference, document)))))
 }

@@ -2,7 +2,7 @@
 
 ghost use Rattle.std.specs.Prelude.{◌≡◌, Ok};
 ghost use Rattle.daa_config.specs.declared.kind.Kind.{Kind};
-ghost use Rattle.daa_config.specs.Keys.{Text};
+ghost use Rattle.daa_config.specs.Rows.{Text};
 ghost use Rattle.daa_config.specs.Settings.{Settings, IsAccepted};
 ghost use Rattle.daa_config.specs.ConfigOf.{config_of};
 ghost use Rattle.daa_config.specs.Candidates.{grid_of, values_of, AreStepsUpTo};

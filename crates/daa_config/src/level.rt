@@ -3,9 +3,10 @@
 ghost use Rattle.std.specs.Prelude.{◌≡◌, ◌≤◌, ◌*◌, ℕ, pos, nat_abs, true, length, map, option_map};
 ghost use Rattle.std.specs.List.{list_all};
 ghost use Rattle.daa_fixed.specs.Size.{IsFrom};
-ghost use Rattle.daa_config.specs.Numbers.{level_fits, recovery_fits};
+ghost use Rattle.daa_config.specs.Inside.Rows.{level_fits, recovery_fits};
 ghost use Rattle.daa_config.specs.Level.{level_of, cylinder_of, model_of};
 
+use crate::limits::MOST_LEVELS;
 use crate::numbers::{LevelNumbers, RecoveryNumbers};
 use arrayvec::ArrayVec;
 use daa_fixed::{feet, mils};
@@ -101,7 +102,7 @@ fn in_cylinder(numbers: &RecoveryNumbers) -> Volume
 }
 
 /// The levels of these numbers, in order.
-pub(crate) fn all_in_units(numbers: &[LevelNumbers]) -> ArrayVec<Level, 4>
+pub(crate) fn all_in_units(numbers: &[LevelNumbers]) -> ArrayVec<Level, MOST_LEVELS>
     requires fit { list_all level_fits numbers.now ≡ true }
     requires few { length numbers.now ≤ 4 }
     ensures { result.items ≡ map level_of numbers.now }

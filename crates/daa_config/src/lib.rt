@@ -17,6 +17,7 @@ mod limits;
 mod numbers;
 pub mod packing;
 mod reading;
+mod rows;
 
 pub use candidate::{Candidate, Resolution};
 pub use config::{Config, Rates};

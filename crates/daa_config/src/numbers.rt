@@ -1,14 +1,11 @@
 //! The numbers of a configuration as its text has them, and whether they are allowed.
 
-ghost use Rattle.std.specs.Prelude.{◌≡◌, true};
-ghost use Rattle.std.specs.List.{list_all};
+ghost use Rattle.std.specs.Prelude.{◌≡◌, nat_abs, ◌%◌, ◌==◌};
 ghost use Rattle.daa_config.specs.Inside.Stepped.{IsStepped};
-ghost use Rattle.daa_config.specs.Numbers.{grid_fits, track_step_fits, numbers_fit, recovery_fits, level_fits, levels_are_wrong, count_of, has_too_many};
+ghost use Rattle.daa_config.specs.Limits.{full_turn};
+ghost use Rattle.daa_config.specs.Numbers.{levels_are_wrong, count_of, has_too_many};
 
-use crate::limits::{
-    ALT, FULL_TURN, GS, GridLimits, LEVEL, MOST_LEVELS, MOST_VALUES, RECOVERY, RESOLVE, TRACK_STEP,
-    TURN_RATE, VS,
-};
+use crate::limits::{FULL_TURN, MOST_LEVELS, MOST_VALUES};
 use arrayvec::ArrayVec;
 
 /// The values `min`, `min + step` and so on up to `max` that a kind of candidate may go to, and by
@@ -65,74 +62,15 @@ pub struct RecoveryNumbers {
 pub struct ConfigNumbers {
     pub numbers: Numbers,
     pub recovery: Option<RecoveryNumbers>,
-    pub levels: ArrayVec<LevelNumbers, 4>,
+    pub levels: ArrayVec<LevelNumbers, MOST_LEVELS>,
 }
 
-/// Whether the numbers of a kind are in their ranges, and its least value is not above its
-/// greatest.
-#[tactic(auto, unfolding(crate::specs::Numbers::grid_fits))]
-fn grid_is_in_range(limits: &GridLimits, grid: &Grid) -> bool
-    ensures { result ≡ grid_fits limits.now grid.now }
+/// Whether the step divides a full turn.
+pub(crate) fn divides_full_turn(step: i64) -> bool
+    ensures { result ≡ (full_turn % nat_abs step == 0) }
 {
-    limits.value.contains(grid.min)
-        && (limits.value.contains(grid.max)
-            && (grid.min <= grid.max
-                && (limits.step.contains(grid.step) && limits.rate.contains(grid.rate))))
-}
-
-/// Whether the step of the track is in its range and divides a full turn.
-#[tactic(auto, unfolding(crate::specs::Numbers::track_step_fits, crate::specs::Numbers::is_in))]
-fn track_step_is_in_range(step: i64) -> bool
-    ensures { result ≡ track_step_fits step }
-{
-    TRACK_STEP.contains(step) && FULL_TURN % step == 0
-}
-
-/// Whether the numbers, those of the levels apart, are in their ranges.
-#[tactic(auto, unfolding(crate::specs::Numbers::numbers_fit))]
-pub(crate) fn are_in_range(numbers: &Numbers) -> bool
-    ensures { result ≡ numbers_fit numbers.now }
-{
-    RESOLVE.contains(numbers.resolve)
-        && (TURN_RATE.contains(numbers.turn_rate)
-            && (track_step_is_in_range(numbers.track_step)
-                && (grid_is_in_range(&GS, &numbers.gs)
-                    && (grid_is_in_range(&VS, &numbers.vs)
-                        && grid_is_in_range(&ALT, &numbers.alt)))))
-}
-
-/// Whether the numbers of the recovery are in their ranges, where there are any.
-#[tactic(auto, unfolding(crate::specs::Numbers::recovery_fits))]
-pub(crate) fn recovery_is_in_range(recovery: &Option<RecoveryNumbers>) -> bool
-    ensures { result ≡ recovery_fits recovery.now }
-{
-    match recovery {
-        None => true,
-        Some(numbers) => {
-            RECOVERY.hdist.contains(numbers.hdist) && RECOVERY.vdist.contains(numbers.vdist)
-        }
-    }
-}
-
-/// Whether the numbers of the level are in their ranges.
-#[tactic(auto, unfolding(crate::specs::Numbers::level_fits))]
-pub(crate) fn level_is_in_range(level: &LevelNumbers) -> bool
-    ensures { result ≡ level_fits level.now }
-{
-    LEVEL.dthr.contains(level.dthr)
-        && (LEVEL.zthr.contains(level.zthr)
-            && (LEVEL.tthr.contains(level.tthr)
-                && (LEVEL.tcoa.contains(level.tcoa)
-                    && (LEVEL.lookahead.contains(level.lookahead)
-                        && (LEVEL.alert.contains(level.alert)
-                            && LEVEL.tcpa.contains(level.tcpa))))))
-}
-
-/// Whether the numbers of every level are in their ranges.
-pub(crate) fn levels_are_in_range(levels: &[LevelNumbers]) -> bool
-    ensures { result ≡ list_all level_fits levels.now }
-{
-    levels.iter().all(level_is_in_range)
+    let step = step.unsigned_abs();
+    step != 0 && FULL_TURN % step == 0
 }
 
 /// Whether there is no level, there are more than may be, or `resolve` is above their number.
@@ -156,7 +94,9 @@ pub(crate) fn count(grid: &Grid) -> u64
 /// Whether the ground speeds, the vertical speeds or the altitudes are more than may be.
 #[tactic(auto, unfolding(crate::specs::Numbers::has_too_many))]
 pub(crate) fn are_too_many(numbers: &Numbers) -> bool
-    requires { numbers_fit numbers.now ≡ true }
+    requires gs { IsStepped numbers.now.gs }
+    requires vs { IsStepped numbers.now.vs }
+    requires alt { IsStepped numbers.now.alt }
     ensures { result ≡ has_too_many numbers.now }
 {
     count(&numbers.gs) > MOST_VALUES

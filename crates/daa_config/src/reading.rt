@@ -3,17 +3,16 @@
 ghost use Rattle.std.specs.Prelude.{◌≡◌, ◌≢◌, ◌≤◌, length, Ok, Err, IsOk, IfOk, IfErr};
 ghost use Rattle.toml.specs.View.{table_view};
 ghost use Rattle.daa_config.specs.declared.fault.ConfigFault.TheVariants.{NoMemory};
-ghost use Rattle.daa_config.specs.Inside.Fault.{Gives};
 ghost use Rattle.daa_config.specs.Written.{written_by};
-ghost use Rattle.daa_config.specs.Inside.Written.{written_in};
-ghost use Rattle.daa_config.specs.ConfigOf.{config_of, document_of, written_of, settings_of};
+ghost use Rattle.daa_config.specs.Inside.Written.{written_from};
+ghost use Rattle.daa_config.specs.ConfigOf.{config_of, config_in, settings_of};
 
 use crate::accepting::test;
 use crate::config::Config;
 use crate::document::{levels_of, numbers_of, recovery_of};
 use crate::fault::ConfigFault;
 use crate::keys::{Difference, any_table_differs};
-use crate::limits::LONGEST_TEXT;
+use crate::limits::{LONGEST_TEXT, MOST_LEVELS};
 use crate::numbers::{ConfigNumbers, LevelNumbers, Numbers, RecoveryNumbers};
 use arrayvec::ArrayVec;
 use std::alloc::Global;
@@ -28,9 +27,11 @@ struct Found {
 }
 
 /// The text as a document.
-#[tactic(auto, unfolding(crate::specs::ConfigOf::document_of), using(crate::proofs::TextLemmas::document_read, crate::proofs::TextLemmas::document_refused))]
+#[tactic(auto, unfolding(crate::specs::ConfigOf::config_of), using(crate::proofs::TextLemmas::text_read, crate::proofs::TextLemmas::text_refused))]
 fn parse(alloc: Global, text: &[u8]) -> Result<Table, ConfigFault>
-    ensures { Gives table_view result (document_of text.now) }
+    ensures parsed { IfOk result (λ document. config_of text.now
+        ≡ config_in (table_view document)) }
+    ensures refused { IfErr result (λ fault. fault ≢ NoMemory → config_of text.now ≡ Err fault) }
 {
     if text.len() > LONGEST_TEXT {
         return Err(ConfigFault::TooLong);
@@ -42,10 +43,13 @@ fn parse(alloc: Global, text: &[u8]) -> Result<Table, ConfigFault>
     }
 }
 
-/// The numbers of a document, where its keys are those listed and each place holds a whole number.
-#[tactic(auto, unfolding(crate::specs::ConfigOf::written_of, crate::specs::ConfigOf::numbers_written))]
+/// The numbers of a document, where no table of it differs from its rows.
+#[tactic(auto, unfolding(crate::specs::ConfigOf::config_in, crate::specs::ConfigOf::written_in))]
 fn find(alloc: Global, document: &Table) -> Result<Found, ConfigFault>
-    ensures { Gives written_in result (written_of (table_view document.now)) }
+    ensures found { IfOk result (λ found. config_in (table_view document.now)
+        ≡ settings_of (written_from found)) }
+    ensures refused { IfErr result (λ fault. fault ≢ NoMemory
+        → config_in (table_view document.now) ≡ Err fault) }
 {
     if any_table_differs(Difference::UnknownKey, document) {
         return Err(ConfigFault::UnknownKey);
@@ -53,24 +57,18 @@ fn find(alloc: Global, document: &Table) -> Result<Found, ConfigFault>
     if any_table_differs(Difference::MissingKey, document) {
         return Err(ConfigFault::MissingKey);
     }
-    let Some(numbers) = numbers_of(document) else {
+    if any_table_differs(Difference::NotNumber, document) {
         return Err(ConfigFault::NotNumber);
-    };
-    let Some(recovery) = recovery_of(document) else {
-        return Err(ConfigFault::NotNumber);
-    };
-    match levels_of(alloc, document)? {
-        Some(levels) => Ok(Found {
-            numbers,
-            recovery,
-            levels,
-        }),
-        None => Err(ConfigFault::NotNumber),
     }
+    Ok(Found {
+        numbers: numbers_of(document),
+        recovery: recovery_of(document),
+        levels: levels_of(alloc, document)?,
+    })
 }
 
 /// The levels, of which there are at most four.
-fn kept(levels: &[LevelNumbers]) -> ArrayVec<LevelNumbers, 4>
+fn kept(levels: &[LevelNumbers]) -> ArrayVec<LevelNumbers, MOST_LEVELS>
     requires { length levels.now ≤ 4 }
     ensures { result.items ≡ levels.now }
 {
@@ -84,9 +82,9 @@ fn kept(levels: &[LevelNumbers]) -> ArrayVec<LevelNumbers, 4>
 /// The numbers, if they are allowed in a configuration.
 #[tactic(auto, unfolding(crate::specs::ConfigOf::settings_of))]
 fn accept(found: &Found) -> Result<ConfigNumbers, ConfigFault>
-    ensures same { IfOk result (λ numbers. written_by numbers ≡ written_in found.now) }
+    ensures same { IfOk result (λ numbers. written_by numbers ≡ written_from found.now) }
     ensures accepted { IfOk result (λ numbers. IsOk (settings_of (written_by numbers))) }
-    ensures refused { IfErr result (λ fault. settings_of (written_in found.now) ≡ Err fault) }
+    ensures refused { IfErr result (λ fault. settings_of (written_from found.now) ≡ Err fault) }
 {
     let levels = found.levels.as_slice();
     test(&found.numbers, &found.recovery, levels)?;
@@ -100,7 +98,6 @@ fn accept(found: &Found) -> Result<ConfigNumbers, ConfigFault>
 /// The numbers of the configuration that the text is, which are accepted, or the fault of least
 /// number that applies anywhere in it. Want of memory apart, they are accepted or refused exactly
 /// as the definition says.
-#[tactic(auto, unfolding(crate::specs::ConfigOf::config_of))]
 pub fn read_numbers(alloc: Global, text: &[u8]) -> Result<ConfigNumbers, ConfigFault>
     ensures same { IfOk result (λ numbers. config_of text.now ≡ settings_of (written_by numbers)) }
     ensures accepted { IfOk result (λ numbers. IsOk (settings_of (written_by numbers))) }

@@ -9,7 +9,7 @@ use Rattle.daa_outside.specs.declared.shelf.FetchFault.TheVariants as fetch
 use Rattle.daa_config.specs.declared.fault.ConfigFault.{ConfigFault}
 use Rattle.daa_config.specs.declared.fault.ConfigFault.TheVariants.{TooLong}
 use Rattle.daa_config.specs.declared.fault.ConfigFault.TheVariants as config_fault
-use Rattle.daa_config.specs.ConfigOf.{config_of, document_of}
+use Rattle.daa_config.specs.ConfigOf.{config_of}
 use Rattle.daa_report.specs.Lines.{Text}
 use Rattle.daa_report.specs.Says.{Says}
 use Rattle.daa_replay.specs.declared.status.Status.{Status}
@@ -28,7 +28,7 @@ use Rattle.daa_replay.specs.Inside.Opening.{FetchesAs, MakesReady, OpensAs, Prep
 use Rattle.daa_replay.specs.Inside.Status.{WritesLine}
 
 too_long : (text : Text) → longest_text < length text → config_of text ≡ Err TooLong
-unfolding config_of document_of
+unfolding config_of
 too_long text h = rw (lt-ltb longest_text (length text) h) refl
 
 -- a text that is too long to be fetched is refused as one; where the shelf tells no text, some long text is

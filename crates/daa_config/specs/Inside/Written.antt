@@ -3,5 +3,5 @@ use Rattle.daa_config.specs.declared.reading.Found.{Found}
 use Rattle.daa_config.specs.ConfigOf.{Written}
 
 -- those that the reader found
-abbrev pub written_in : Found → Written
-written_in found = record { numbers = found.numbers; recovery = found.recovery; levels = found.levels.items }
+abbrev pub written_from : Found → Written
+written_from found = record { numbers = found.numbers; recovery = found.recovery; levels = found.levels.items }

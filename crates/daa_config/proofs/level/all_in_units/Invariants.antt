@@ -1,6 +1,6 @@
 use Rattle.std.proofs.Common.{◌≡◌, ◌++◌, true, map, drop, length}
 use Rattle.std.specs.List.{list_all}
-use Rattle.daa_config.specs.Numbers.{level_fits}
+use Rattle.daa_config.specs.Inside.Rows.{level_fits}
 use Rattle.daa_config.specs.Level.{level_of}
 use Rattle.daa_config.proofs.level.all_in_units.Given as goal
 

@@ -1,5 +1,5 @@
 use Rattle.std.proofs.Common.{◌∙◌, sym, ap}
-use Rattle.daa_config.specs.Numbers.{recovery_fits}
+use Rattle.daa_config.specs.Inside.Rows.{recovery_fits}
 use Rattle.daa_config.proofs.RangeLemmas.{recovery_small}
 use Rattle.daa_config.proofs.level.cylinder_in_units.Goals as goal
 

@@ -1,0 +1,193 @@
+//! The tables of a configuration: a row for each key says all that is asked of it.
+
+ghost use Rattle.std.specs.Prelude.{◌≡◌, ◌-ℤ◌, pos, map, true, is_some};
+ghost use Rattle.std.specs.List.{list_all};
+ghost use Rattle.toml.specs.Data.{as_table};
+ghost use Rattle.toml.specs.View.{view, items_view};
+ghost use Rattle.daa_fixed.specs.Size.{IsFrom};
+ghost use Rattle.daa_config.specs.declared.rows.Place.TheVariants.{Number, Table as OfTable};
+ghost use Rattle.daa_config.specs.Inside.Rows.{row_by};
+ghost use Rattle.daa_config.specs.Rows as listed;
+
+use crate::limits::Bounds;
+use crate::numbers::{Grid, LevelNumbers, Numbers, RecoveryNumbers};
+use toml::Value;
+
+/// What stands at a key: a whole number from the least to the greatest, here this one; a table; or
+/// a list of tables.
+#[derive(Clone, Copy)]
+pub enum Place {
+    Number {
+        least: i64,
+        greatest: i64,
+        here: i64,
+    },
+    Table,
+    Tables,
+}
+
+/// A key of a table, whether it must be there, and what stands at it.
+#[derive(Clone, Copy)]
+pub struct Row {
+    pub key: &'static str,
+    pub needed: bool,
+    pub place: Place,
+}
+
+impl Row {
+    /// Whether the number is in its range.
+    fn fits(&self) -> bool
+        ensures { result ≡ (row_by self.now).fits }
+    {
+        match self.place {
+            Place::Number {
+                least,
+                greatest,
+                here,
+            } => least <= here && here <= greatest,
+            _ => true,
+        }
+    }
+
+    /// Whether the value may stand at the key.
+    pub(crate) fn holds(&self, value: &Value) -> bool
+        ensures { result ≡ (row_by self.now).holds (view value.now) }
+    {
+        match self.place {
+            Place::Number { .. } => value.as_integer().is_some(),
+            Place::Table => value.as_table().is_some(),
+            Place::Tables => are_tables(value),
+        }
+    }
+}
+
+/// Whether the value is a list of tables.
+fn are_tables(value: &Value) -> bool
+    ensures { result ≡ listed.are_tables (view value.now) }
+{
+    match value.as_array() {
+        Some(items) => all_are_tables(items.as_slice()),
+        None => false,
+    }
+}
+
+/// Whether each of the items is a table.
+fn all_are_tables(items: &[Value]) -> bool
+    ensures { result ≡ list_all (λ one. is_some (as_table one)) (listed.list_of (items_view items.now)) }
+{
+    for item in items {
+        if item.as_table().is_none() {
+            return false;
+        }
+    }
+    true
+}
+
+/// Whether each number is in its range.
+pub(crate) fn all_fit(rows: &[Row]) -> bool
+    ensures { result ≡ list_all (λ row. row.fits) (map row_by rows.now) }
+{
+    for row in rows {
+        if !row.fits() {
+            return false;
+        }
+    }
+    true
+}
+
+/// A whole number that must be there, from the least to the greatest.
+fn number(key: &'static str, least: i64, greatest: i64, here: i64) -> Row
+    ensures { result ≡ record { key = key.entry; needed = true; place = Number least greatest here } }
+{
+    Row {
+        key,
+        needed: true,
+        place: Place::Number {
+            least,
+            greatest,
+            here,
+        },
+    }
+}
+
+/// A table that must be there, which has rows of its own.
+fn table(key: &'static str) -> Row
+    ensures { result ≡ record { key = key.entry; needed = true; place = OfTable } }
+{
+    Row {
+        key,
+        needed: true,
+        place: Place::Table,
+    }
+}
+
+/// The rows of the document.
+pub(crate) fn document_rows(n: &Numbers) -> [Row; 8]
+    ensures { map row_by result ≡ listed.document_rows n.now }
+{
+    [
+        number("resolve", 1, 4, n.resolve),
+        number("turn_rate", 1, 30, n.turn_rate),
+        number("track_step", 1, 90, n.track_step),
+        table("gs"),
+        table("vs"),
+        table("alt"),
+        Row {
+            place: Place::Tables,
+            ..table("level")
+        },
+        Row {
+            needed: false,
+            ..table("recovery")
+        },
+    ]
+}
+
+/// How far it is from the first to the second.
+fn width(values: &Bounds) -> i64
+    requires { IsFrom (pos 0) (pos 100000) (values.now.1 -ℤ values.now.0) }
+    ensures { result ≡ values.now.1 -ℤ values.now.0 }
+{
+    values.1 - values.0
+}
+
+/// The rows of the table of a kind whose values are within these bounds.
+pub(crate) fn grid_rows(values: &Bounds, g: &Grid) -> [Row; 4]
+    requires { IsFrom (pos 0) (pos 100000) (values.now.1 -ℤ values.now.0) }
+    ensures { map row_by result ≡ listed.grid_rows values.now g.now }
+{
+    [
+        number("min", values.0, values.1, g.min),
+        number("max", g.min, values.1, g.max),
+        number("step", 1, width(values), g.step),
+        number("rate", 1, 10000, g.rate),
+    ]
+}
+
+/// The rows of a level's table.
+pub(crate) fn level_rows(l: &LevelNumbers) -> [Row; 7]
+    ensures { map row_by result ≡ listed.level_rows l.now }
+{
+    [
+        number("dthr", 1, 10000, l.dthr),
+        number("zthr", 0, 10000, l.zthr),
+        number("tthr", 0, 120, l.tthr),
+        number("tcoa", 0, 120, l.tcoa),
+        number("lookahead", 1, 180, l.lookahead),
+        number("alert", 1, 180, l.alert),
+        Row {
+            needed: false,
+            ..number("tcpa", 0, 1, l.tcpa)
+        },
+    ]
+}
+
+/// The rows of the table of a recovery's cylinder.
+pub(crate) fn recovery_rows(r: &RecoveryNumbers) -> [Row; 2]
+    ensures { map row_by result ≡ listed.recovery_rows r.now }
+{
+    [
+        number("hdist", 1, 10000, r.hdist),
+        number("vdist", 0, 10000, r.vdist),
+    ]
+}
