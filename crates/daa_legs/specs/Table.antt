@@ -1,9 +1,7 @@
--- The branches of the candidates, kept in a table.
-use Rattle.std.specs.Prelude.{◌≡◌, ℕ, ◌+◌, ◌<◌, ◌≤◌, List, length, Some, slice_get, slice_index_or}
+-- The branch of a candidate.
+use Rattle.std.specs.Prelude.{◌≡◌, ◌+◌, ◌<◌, ◌≤◌}
 use Rattle.daa_config.specs.declared.config.Rates.{Rates}
 use Rattle.daa_config.specs.declared.candidate.Candidate.{Candidate}
-use Rattle.daa_config.specs.Candidates.{candidates_of}
-use Rattle.daa_config.specs.Settings.{Settings, rates_of}
 use Rattle.daa_state.specs.declared.word.Own.{Own}
 use Rattle.daa_legs.specs.declared.branch.Branch.{Branch}
 use Rattle.daa_legs.specs.Motion.{velocity_on}
@@ -18,9 +16,3 @@ pub record IsBranchOf (own : Own) (rates : Rates) (candidate : Candidate) (branc
   pub velocity : branch.velocity ≡ velocity_there own candidate
   pub rise : branch.leaves < branch.settles → branch.leaves < 180
       → velocity_on own rates candidate branch.leaves ≡ record { flat = branch.velocity.flat; up = branch.rise }
-
--- the table has an entry for each candidate of the whole list, by the candidate's number, and each is the candidate's branch
-pub record AreBranchesOf (settings : Settings) (own : Own) (branches : List Branch) : Type 0 where
-  pub room : length (candidates_of settings) ≤ length branches
-  pub each : (i : ℕ) (candidate : Candidate) (d : Branch) → slice_get (candidates_of settings) i ≡ Some candidate
-      → IsBranchOf own (rates_of settings) candidate (slice_index_or branches i d)

@@ -1,5 +1,5 @@
 -- Kinds that are needed: what a level, and what an aircraft, adds.
-use Rattle.std.proofs.Common.{◌≡◌, ℕ, ℤ, ◌+◌, ◌-◌, ◌≤◌, Bool, false, subst, arith, length, ⊎_elim}
+use Rattle.std.proofs.Common.{IsTrue, ◌≡◌, ℕ, ℤ, ◌+◌, ◌-◌, ◌≤◌, Bool, false, subst, arith, length, ⊎_elim}
 use Rattle.std.proofs.lemmas.Bool.{cases_eq, cases_lt}
 use Rattle.std.proofs.lemmas.Option.{slice_get_within}
 use Rattle.daa_config.specs.declared.kind.Kind.{Kind}
@@ -13,26 +13,30 @@ use Rattle.daa_legs.specs.Meeting.{MeetsWithin}
 use Rattle.daa_legs.proofs.AtLevel.{one_level}
 use Rattle.daa_scan.specs.declared.needs.Needs.{Needs}
 use Rattle.daa_scan.specs.declared.refusal.Seconds.{Seconds}
-use Rattle.daa_scan.specs.Trunks.{AreIdle}
+use Rattle.daa_scan.specs.Trunks.{is_needed, AreIdle}
 use Rattle.daa_scan.specs.Inside.Refusal.{AreSecondsOf}
-use Rattle.daa_scan.specs.Inside.Needs.{NeedsMore, IsIdleAt, AreIdleBelow}
+use Rattle.daa_scan.specs.Inside.Needs.{NeedsMore, IsIdleAt}
 
 below : (l j : ℕ) → j ≤ l + 1 → (j ≡ l + 1 → ⊥) → j ≤ l
 below l j h n = ⊎_elim (λ k. omega (arith, k)) (λ k. absurd (n (omega (arith, h, k)))) (cases_lt j (l + 1))
 
 module _ (settings : Settings) (own : Own) (aircraft : Traffic) where
-  pub none_idle : (needs : Needs) → AreIdleBelow settings own aircraft 0 needs
+  -- no candidate of a kind that is not needed meets the aircraft at one of the first n levels
+  abbrev pub AreIdleBelow : (n : ℕ) → Needs → Type 0
+  AreIdleBelow n needs = (l : ℕ) (level : Level) → l ≤ n → IsLevelAt settings l level → IsIdleAt settings own aircraft level needs
+
+  pub none_idle : (needs : Needs) → AreIdleBelow 0 needs
   none_idle needs l level le at = absurd (omega (arith, le, at.numbered))
 
   -- the next level
-  pub idle_next : (l : ℕ) (needs more : Needs) (next : Level) → IsLevelAt settings (l + 1) next → NeedsMore needs more → IsIdleAt settings own aircraft next more → AreIdleBelow settings own aircraft l needs → AreIdleBelow settings own aircraft (l + 1) more
+  pub idle_next : (l : ℕ) (needs more : Needs) (next : Level) → IsLevelAt settings (l + 1) next → NeedsMore needs more → IsIdleAt settings own aircraft next more → AreIdleBelow l needs → AreIdleBelow (l + 1) more
   idle_next l needs more next at grows is h k level le there kind e z m = ⊎_elim
       (λ same. is kind e z (subst (λ (x : Level). MeetsWithin settings own (candidate_to kind z) aircraft x.volume x.lookahead) (one_level settings (l + 1) level next (subst (λ (i : ℕ). IsLevelAt settings i level) same there) at) m))
       (λ n. h k level (below l k le n) there kind (grows kind e) z m)
       (cases_eq k (l + 1))
 
   -- all of them
-  pub idle_all : (n : ℕ) (needs : Needs) → length settings.levels ≤ n → AreIdleBelow settings own aircraft n needs → AreIdle settings own aircraft needs
+  pub idle_all : (n : ℕ) (needs : Needs) → length settings.levels ≤ n → AreIdleBelow n needs → AreIdle settings own aircraft needs
   idle_all n needs all h kind e l level at = let w = slice_get_within settings.levels (l - 1) level at.there in h l level (omega (arith, w, all)) at kind e
 
   -- a kind that has no seconds within the lookahead does not meet
@@ -56,3 +60,7 @@ needs_more needs turns climbs t c Track n = t n
 needs_more needs turns climbs t c Speed n = t n
 needs_more needs turns climbs t c Climb n = c n
 needs_more needs turns climbs t c Height n = c n
+
+-- where every kind is needed none is idle
+pub all_needed : (settings : Settings) (own : Own) (aircraft : Traffic) (needs : Needs) → ((kind : Kind) → IsTrue (is_needed needs kind)) → AreIdle settings own aircraft needs
+all_needed settings own aircraft needs all kind n = absurd (let t = all kind in cc (t, n))

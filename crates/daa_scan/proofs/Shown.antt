@@ -11,7 +11,8 @@ use Rattle.daa_state.specs.declared.word.Traffic.{Traffic}
 use Rattle.daa_scan.specs.Inside.Marking.{AreMasks}
 use Rattle.daa_scan.specs.Situation.{Situation, MeetsAt}
 use Rattle.daa_scan.specs.Reach.{IsInReach, IsInReachAt}
-use Rattle.daa_scan.specs.Trunks.{Shared, AreIdle, AreFlightsOf}
+use Rattle.daa_scan.specs.Trunks.{AreIdle, AreFlightsOf}
+use Rattle.daa_scan.specs.Inside.Trunks.{Shared}
 use Rattle.daa_scan.proofs.Masking.{met_at}
 
 pub masks_at : (s : Situation) (at first n : ℕ) (aircraft : Traffic) (masks : List ℕ) → slice_get (aircraft_of s.picture) at ≡ Some aircraft → AreMasks s.settings s.picture.own aircraft first n masks

@@ -19,12 +19,6 @@ use Rattle.daa_state.specs.declared.word.Traffic.{Traffic}
 use Rattle.daa_scan.specs.Reach.{IsInReach}
 use Rattle.daa_scan.specs.declared.needs.Needs.{Needs}
 
--- the legs of the flights that lead, the candidates' branches, and of which kinds there are any
-pub record Shared : Type 0 where
-  pub trunks : List (List OwnLeg)
-  pub branches : List Branch
-  pub needs : Needs
-
 -- whether the flights of a kind are needed
 abbrev pub is_needed : Needs → Kind → Bool
 is_needed needs Track = needs.turns

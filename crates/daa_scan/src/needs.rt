@@ -1,9 +1,10 @@
 //! The kinds of which some candidate may meet an aircraft in reach: the flights of the others are
 //! not needed.
 
-ghost use Rattle.std.specs.Prelude.{◌≡◌, ◌≤◌, ℕ, Some, false, length, slice_get};
+ghost use Rattle.std.specs.Prelude.{◌≡◌, ◌≤◌, ℕ, IsTrue, Some, false, length, slice_get};
 ghost use Rattle.daa_config.specs.Candidates.{candidates_of};
 ghost use Rattle.daa_config.specs.Settings.{IsLevelInRange};
+ghost use Rattle.daa_config.specs.declared.kind.Kind.{Kind};
 ghost use Rattle.daa_state.specs.InRange.{IsOwnInRange, IsTrafficInRange, IsPictureInRange};
 ghost use Rattle.daa_state.specs.Picture.{aircraft_of};
 ghost use Rattle.daa_state.specs.declared.word.Traffic.{Traffic};
@@ -40,6 +41,13 @@ impl Needs {
             Kind::Climb => self.climbs,
             Kind::Height => self.climbs,
         }
+    }
+
+    /// Whether the flights of every kind are needed.
+    fn has_all(&self) -> bool
+        ensures { IsTrue result → (kind : Kind) → IsTrue (is_needed self.now kind) }
+    {
+        self.turns && self.climbs
     }
 }
 
@@ -94,6 +102,9 @@ fn with_aircraft(needs: Needs, config: &Config, own: &Own, aircraft: &Traffic) -
     ensures idle { IsInReach config.now own.now aircraft.now
         → AreIdle config.now own.now aircraft.now result }
 {
+    if needs.has_all() {
+        return needs;
+    }
     if !is_in_reach(config, own, aircraft) {
         return needs;
     }

@@ -35,7 +35,7 @@ pub(crate) struct Trunks<'a> {
 
 impl<'a> Model for Trunks<'a> {
     ghost use Rattle.std.specs.Prelude.{◌≡◌, length};
-    ghost use Rattle.daa_scan.specs.Trunks.{Shared};
+    ghost use Rattle.daa_scan.specs.Inside.Trunks.{Shared};
 
     ghost Value = { Shared };
 

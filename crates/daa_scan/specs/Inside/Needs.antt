@@ -1,9 +1,9 @@
 -- The kinds of which some candidate may meet an aircraft.
-use Rattle.std.specs.Prelude.{◌≡◌, ℕ, ℤ, ◌≤◌, false}
+use Rattle.std.specs.Prelude.{◌≡◌, ℤ, false}
 use Rattle.daa_config.specs.declared.kind.Kind.{Kind}
 use Rattle.daa_config.specs.declared.level.Level.{Level}
 use Rattle.daa_config.specs.Candidates.{candidate_to}
-use Rattle.daa_config.specs.Settings.{Settings, IsLevelAt}
+use Rattle.daa_config.specs.Settings.{Settings}
 use Rattle.daa_state.specs.declared.word.Own.{Own}
 use Rattle.daa_state.specs.declared.word.Traffic.{Traffic}
 use Rattle.daa_legs.specs.Meeting.{MeetsWithin}
@@ -18,7 +18,3 @@ module _ (settings : Settings) (own : Own) (aircraft : Traffic) where
   -- no candidate of a kind that is not needed meets the aircraft at the level
   abbrev pub IsIdleAt : Level → Needs → Type 0
   IsIdleAt level needs = (kind : Kind) → is_needed needs kind ≡ false → (z : ℤ) → ¬ MeetsWithin settings own (candidate_to kind z) aircraft level.volume level.lookahead
-
-  -- nor at one of the first n levels
-  abbrev pub AreIdleBelow : (n : ℕ) → Needs → Type 0
-  AreIdleBelow n needs = (l : ℕ) (level : Level) → l ≤ n → IsLevelAt settings l level → IsIdleAt level needs

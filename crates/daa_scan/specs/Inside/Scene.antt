@@ -4,7 +4,8 @@ use Rattle.daa_config.specs.Settings.{IsAccepted}
 use Rattle.daa_state.specs.InRange.{IsPictureInRange}
 use Rattle.daa_scan.specs.Packed.{places_in_reach}
 use Rattle.daa_scan.specs.Situation.{Situation}
-use Rattle.daa_scan.specs.Trunks.{Shared, AreFlightsOf}
+use Rattle.daa_scan.specs.Trunks.{AreFlightsOf}
+use Rattle.daa_scan.specs.Inside.Trunks.{Shared}
 use Rattle.daa_scan.specs.Units.{group_count}
 
 -- its configuration was accepted, its moment is in range, its groups are counted, the aircraft in reach are found, and the flights that

@@ -7,9 +7,16 @@ use Rattle.daa_config.specs.Candidates.{candidate_to, candidates_of}
 use Rattle.daa_config.specs.Settings.{Settings, IsLevelAt, rates_of}
 use Rattle.daa_state.specs.declared.word.Own.{Own}
 use Rattle.daa_legs.specs.declared.branch.Branch.{Branch}
+use Rattle.daa_legs.specs.declared.own_leg.OwnLeg.{OwnLeg}
 use Rattle.daa_legs.specs.Table.{IsBranchOf}
-use Rattle.daa_scan.specs.Trunks.{Shared, is_needed, AreLeads, AreBranchesOf}
+use Rattle.daa_scan.specs.Trunks.{is_needed, AreLeads, AreBranchesOf}
 use Rattle.daa_scan.specs.declared.needs.Needs.{Needs}
+
+-- the legs of the flights that lead, the candidates' branches, and of which kinds there are any
+pub record Shared : Type 0 where
+  pub trunks : List (List OwnLeg)
+  pub branches : List Branch
+  pub needs : Needs
 
 -- none of the first n levels looks farther ahead
 abbrev pub IsAhead : Settings → (n most : ℕ) → Type 0

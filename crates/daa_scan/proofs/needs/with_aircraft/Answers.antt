@@ -1,6 +1,9 @@
 use Rattle.std.proofs.Common.{arith}
-use Rattle.daa_scan.proofs.Needed.{none_idle, idle_next, idle_all}
+use Rattle.daa_scan.proofs.Needed.{none_idle, idle_next, idle_all, all_needed}
 use Rattle.daa_scan.proofs.needs.with_aircraft.Goals as goal
+
+pub returns-then-has_all-clause-idle : goal.returns-then-has_all-clause-idle
+returns-then-has_all-clause-idle c reached = all_needed c.args.config.now c.args.own.now c.args.aircraft.now c.args.needs (c.has_all.ensures c.if-has_all.true)
 
 pub loop-l-init : goal.loop-l-init
 loop-l-init c = record {

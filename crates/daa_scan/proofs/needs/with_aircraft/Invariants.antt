@@ -1,4 +1,5 @@
-use Rattle.daa_scan.specs.Inside.Needs.{NeedsMore, AreIdleBelow}
+use Rattle.daa_scan.specs.Inside.Needs.{NeedsMore}
+use Rattle.daa_scan.proofs.Needed.{AreIdleBelow}
 use Rattle.daa_scan.proofs.needs.with_aircraft.Given as goal
 
 -- a kind that is not needed does not meet the aircraft at the levels so far

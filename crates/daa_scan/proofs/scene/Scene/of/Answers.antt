@@ -1,5 +1,6 @@
 use Rattle.std.proofs.Common.{sym, subst}
-use Rattle.daa_scan.specs.Trunks.{Shared, AreFlightsOf}
+use Rattle.daa_scan.specs.Trunks.{AreFlightsOf}
+use Rattle.daa_scan.specs.Inside.Trunks.{Shared}
 use Rattle.daa_scan.proofs.scene.Scene.of.Goals as goal
 
 pub invariant_of-result : goal.invariant_of-result
