@@ -13,7 +13,7 @@ ghost use Rattle.daa_c.specs.declared.states.DaaTraffic.{DaaTraffic};
 
 use crate::refusal::Refusal;
 use arrayvec::ArrayVec;
-use daa_state::{Id, Own, Picture, PictureFault, Traffic};
+use daa_state::{Id, MOST_AIRCRAFT, Own, Picture, PictureFault, Traffic};
 
 /// The ownship, in the units of state lines.
 #[repr(C)]
@@ -114,7 +114,7 @@ pub(crate) fn checked_traffic(traffic: &DaaTraffic) -> Result<Traffic, Refusal>
 }
 
 /// The aircraft of these numbers, where their identifiers are allowed.
-fn all_aircraft(traffic: &[DaaTraffic]) -> Result<ArrayVec<Traffic, 64>, Refusal>
+fn all_aircraft(traffic: &[DaaTraffic]) -> Result<ArrayVec<Traffic, MOST_AIRCRAFT>, Refusal>
     requires { length traffic.now ≤ 64 }
     ensures value { IfOk result (λ all. all.items ≡ map traffic_of traffic.now) }
     ensures refused { (config : DaaConfig) (own : DaaOwn)
@@ -136,7 +136,7 @@ pub(crate) fn picture(time: u32, own: &DaaOwn, traffic: &[DaaTraffic]) -> Result
     ensures taken { IfOk result IsTaken }
     ensures refused { (config : DaaConfig) → IfErr result (IsRefusal config own.now traffic.now) }
 {
-    if traffic.len() > 64 {
+    if traffic.len() > MOST_AIRCRAFT {
         return Err(Refusal::Picture(PictureFault::TooMany));
     }
     let all = match all_aircraft(traffic) {
