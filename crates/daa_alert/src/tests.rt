@@ -10,6 +10,7 @@ use super::*;
 use by_seconds::first_leg_by_seconds;
 use daa_config::examples::{FOUR_LEVELS, LARGEST_VALUES, ONE_LEVEL, THREE_LEVELS};
 use daa_config::{Config, read};
+use daa_state::examples::{ABEAM, CLIMBING, NORTH};
 use daa_state::{Own, Traffic, Word, read_line};
 use std::process::Abort;
 use std::test::Fail;
@@ -26,13 +27,6 @@ struct Row {
     level: u8,
     first: Option<u32>,
 }
-
-/// North at 360 knots.
-const NORTH: &str = "own 0 0 1000 0 3600 0";
-/// The same, climbing at 3000 ft/min.
-const CLIMBING: &str = "own 0 0 1000 0 3600 3000";
-/// 0.66 miles to the right, abeam in 10 seconds.
-const ABEAM: &str = "traffic A 660 1000 1000 0 0 0 0";
 
 static ROWS: [Row; 27] = [
     Row {
@@ -399,9 +393,4 @@ fn may_be_sent<T: Send>() {}
 #[test]
 fn values_may_be_sent() {
     may_be_sent::<Alert>();
-}
-
-#[test]
-fn laws() {
-    alerts_are_unique();
 }

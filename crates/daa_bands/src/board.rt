@@ -10,13 +10,13 @@ use daa_config::packing::{GROUP, MASKS, WIDTH};
 use std::marker::Model;
 
 /// How many candidates a board has a mask for; a configuration has at most 1897.
-const SIZE: usize = 2048;
+pub const BOARD_MASKS: usize = 2048;
 
 /// The masks of 2048 candidates, by their indices in the whole list: bit l - 1 of a mask means
 /// level l.
 #[derive(Drop)]
 pub struct Board {
-    masks: [u8; SIZE],
+    masks: [u8; BOARD_MASKS],
 }
 
 impl Model for Board {
@@ -32,18 +32,20 @@ impl Board {
     pub fn new() -> Board
         ensures { result ≡ replicate board_size 0 }
     {
-        Board { masks: [0; SIZE] }
+        Board {
+            masks: [0; BOARD_MASKS],
+        }
     }
 
     /// A board of these masks, by the candidates' indices, as [`Board::masks`] hands them out.
-    pub fn of(masks: &[u8; SIZE]) -> Board
+    pub fn of(masks: &[u8; BOARD_MASKS]) -> Board
         ensures { result ≡ masks.now }
     {
         Board { masks: *masks }
     }
 
-    /// The masks, by the candidates' indices: bit l - 1 of a mask means level l.
-    pub fn masks(&self) -> &[u8; SIZE]
+    /// The masks, by the candidates' indices: bit l - 1 of a mask stands for level l.
+    pub fn masks(&self) -> &[u8; BOARD_MASKS]
         ensures { result.now ≡ self.now }
     {
         &self.masks
@@ -53,7 +55,7 @@ impl Board {
     pub fn clear(&mut self)
         ensures { self.new ≡ replicate board_size 0 }
     {
-        self.masks = [0; SIZE];
+        self.masks = [0; BOARD_MASKS];
     }
 
     /// Adds the levels of a mask to those of the candidate at an index, which is below 2048.

@@ -10,7 +10,7 @@ mod laws;
 mod walk;
 
 pub use band::Band;
-pub use board::Board;
+pub use board::{BOARD_MASKS, Board};
 pub use kind_bands::runs;
 pub use laws::{board_shows_what_is_covered, has_one_list_of_bands, worked_examples};
 pub use walk::Runs;

@@ -1,8 +1,6 @@
 //! Boards that are filled by hand, and the bands that they show.
 
-use crate::{
-    Band, Board, Runs, board_shows_what_is_covered, has_one_list_of_bands, runs, worked_examples,
-};
+use crate::{Band, Board, Runs, runs};
 use daa_config::{Config, Kind, read};
 use std::process::Abort;
 use std::test::Fail;
@@ -149,13 +147,6 @@ fn shared<T: Send + Sync>(value: &T) -> &T {
 fn is_shared(rt: HostRuntime) {
     let board = Board::new();
     assert_eq!(rt; shared(&board).mask(0), 0);
-}
-
-#[test]
-fn laws() {
-    has_one_list_of_bands();
-    board_shows_what_is_covered();
-    worked_examples();
 }
 
 fn may_be_sent<T: Send>() {}

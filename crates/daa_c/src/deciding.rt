@@ -17,7 +17,7 @@ use crate::codes::{SHORT, fault_code};
 use crate::refusal::{Refusal, code};
 use crate::setting::{DaaConfig, accept};
 use crate::states::{DaaOwn, DaaTraffic, picture};
-use daa_bands::Board;
+use daa_bands::{BOARD_MASKS, Board};
 use daa_config::Config;
 use daa_engine::decide_in;
 use daa_legs::{Branch, Trunk};
@@ -30,7 +30,7 @@ const MOST_CANDIDATES: usize = 1897;
 #[repr(C)]
 #[derive(Clone, Copy)]
 pub struct DaaBoard {
-    pub masks: [u8; 2048],
+    pub masks: [u8; BOARD_MASKS],
 }
 
 /// Eight flights that lead.

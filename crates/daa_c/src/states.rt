@@ -10,7 +10,7 @@ ghost use Rattle.daa_c.specs.States.{own_of, text_of, traffic_of, picture_of};
 
 use crate::refusal::Refusal;
 use arrayvec::ArrayVec;
-use daa_state::{Id, Own, Picture, PictureFault, Traffic};
+use daa_state::{Id, MOST_AIRCRAFT, Own, Picture, PictureFault, Traffic};
 
 /// The ownship, in the units of state lines.
 #[repr(C)]
@@ -111,9 +111,8 @@ pub(crate) fn checked_traffic(traffic: &DaaTraffic) -> Result<Traffic, Refusal>
     }
 }
 
-/// The aircraft of these numbers, where their identifiers are allowed; else the place of the first
-/// whose is not.
-fn all_aircraft(traffic: &[DaaTraffic]) -> Result<ArrayVec<Traffic, 64>, usize>
+/// The aircraft of these numbers, where their identifiers are allowed.
+fn all_aircraft(traffic: &[DaaTraffic]) -> Result<ArrayVec<Traffic, MOST_AIRCRAFT>, Refusal>
     requires { length traffic.now ≤ 64 }
     ensures value { IfOk result (λ all. all.items ≡ map traffic_of traffic.now) }
     ensures sound { OnOk result (bad_id_from 0 traffic.now ≡ None) }
@@ -137,7 +136,7 @@ pub(crate) fn picture(time: u32, own: &DaaOwn, traffic: &[DaaTraffic]) -> Result
     ensures sound { OnOk result (states_refusal own.now traffic.now ≡ None) }
     ensures refused { IfErr result (λ refusal. states_refusal own.now traffic.now ≡ Some refusal) }
 {
-    if traffic.len() > 64 {
+    if traffic.len() > MOST_AIRCRAFT {
         return Err(Refusal::Picture(PictureFault::TooMany));
     }
     let all = match all_aircraft(traffic) {

@@ -8,7 +8,7 @@ ghost use Rattle.daa_engine.specs.Inside.Findings.{IsAircraftAlert, AreAircraftA
 use arrayvec::ArrayVec;
 use daa_alert::{Alert, alert, now_level};
 use daa_config::Config;
-use daa_state::{Own, Picture, Traffic};
+use daa_state::{MOST_AIRCRAFT, Own, Picture, Traffic};
 
 /// The level of an aircraft now, and its alert.
 #[derive(Clone, Copy, Debug, Default)]
@@ -18,7 +18,10 @@ pub(crate) struct AircraftAlert {
 }
 
 /// What is found of each aircraft, in the order of the input.
-pub(crate) fn find_alerts(config: &Config, picture: &Picture) -> ArrayVec<AircraftAlert, 64>
+pub(crate) fn find_alerts(
+    config: &Config,
+    picture: &Picture,
+) -> ArrayVec<AircraftAlert, MOST_AIRCRAFT>
     requires { IsPictureInRange picture.now }
     ensures { AreAircraftAlerts config.now picture.now.own (aircraft_of picture.now)
         (length (aircraft_of picture.now)) result.items }

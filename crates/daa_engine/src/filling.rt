@@ -9,14 +9,11 @@ ghost use Rattle.daa_scan.specs.Trunks.{AreFlightsOf};
 ghost use Rattle.daa_engine.specs.Covered.{CoveredAt, scene_of};
 ghost use Rattle.daa_engine.specs.Inside.Filling.{AddsAircraft};
 
-use daa_bands::Board;
+use daa_bands::{BOARD_MASKS, Board};
 use daa_config::Config;
 use daa_legs::{Branch, Trunk};
 use daa_scan::{Needs, Scene};
 use daa_state::Picture;
-
-/// Room for a mask of each candidate; a configuration has at most 1897.
-const MASKS: usize = 2048;
 
 /// Marks the levels at which each candidate is covered, and no others.
 pub(crate) fn fill(
@@ -50,7 +47,7 @@ fn mark_aircraft(board: &mut Board, scene: &Scene, config: &Config, place: u32)
     if !scene.in_reach(place) {
         return;
     }
-    let mut masks = [0u8; MASKS];
+    let mut masks = [0u8; BOARD_MASKS];
     scene.levels_from(0, place, &mut masks);
     for index in 0..config.total() {
         board.mark(index, masks[index as usize]);

@@ -14,6 +14,7 @@ use daa_detect::is_hit;
 use daa_legs::{Flight, relative};
 use daa_outside::{MemSink, Open};
 use daa_report::SinkFault;
+use daa_state::examples::{ABEAM, CLIMBING, NORTH};
 use daa_state::{Moments, Picture, read_line};
 use std::alloc::Global;
 use std::process::Abort;
@@ -28,13 +29,6 @@ struct Row {
     lines: &'static [&'static str],
     report: &'static str,
 }
-
-/// North at 360 knots.
-const NORTH: &str = "own 0 0 1000 0 3600 0";
-/// The same, climbing at 3000 ft/min.
-const CLIMBING: &str = "own 0 0 1000 0 3600 3000";
-/// 0.66 miles to the right, abeam in 10 seconds.
-const ABEAM: &str = "traffic A 660 1000 1000 0 0 0 0";
 
 /// Still, 0.4 miles to the right and 0.1 ahead.
 const BESIDE: &str = "traffic A 400 100 1000 0 0 0 0";
@@ -676,13 +670,4 @@ fn may_be_sent<T: Send>() {}
 #[test]
 fn values_may_be_sent() {
     may_be_sent::<Engine>();
-}
-
-#[test]
-fn laws() {
-    has_one_text();
-    has_one_board();
-    every_picture_has_one_text();
-    texts_are_short();
-    texts_without_a_recovery_are_as_before();
 }

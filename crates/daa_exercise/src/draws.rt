@@ -8,7 +8,7 @@ ghost use Rattle.daa_exercise.specs.Moments.{aircraft_counts, name_of, own_at, a
 ghost use Rattle.daa_exercise.specs.Outputs.{generator_of, picked, outputs_from};
 
 use arrayvec::ArrayVec;
-use daa_state::{Id, Own, Picture, Traffic};
+use daa_state::{Id, MOST_AIRCRAFT, Own, Picture, Traffic};
 use rand_core::SeedableRng;
 use rand_core::utils::NextWord;
 use rand_pcg::Lcg64Xsh32;
@@ -152,7 +152,7 @@ impl Draws {
     }
 
     /// So many aircraft, numbered from 1.
-    fn next_traffic(&mut self, own: &Own, count: u32) -> ArrayVec<Traffic, 64>
+    fn next_traffic(&mut self, own: &Own, count: u32) -> ArrayVec<Traffic, MOST_AIRCRAFT>
         requires low { pos 0 ≤ℤ own.now.alt }
         requires high { own.now.alt ≤ℤ pos 20000 }
         requires few { count ≤ 8 }

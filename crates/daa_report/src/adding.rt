@@ -6,12 +6,13 @@ ghost use Rattle.arrayvec.specs.ArrayVec.{array_vec_len};
 ghost use Rattle.daa_report.specs.Lines.{first_text, answer_text, found_text, number_field};
 ghost use Rattle.std.specs.List.{flat_map};
 
+use crate::line::MOST_BYTES;
 use arrayvec::ArrayVec;
 use daa_config::Resolution;
 use itoa::Buffer;
 
 /// Adds bytes at the end.
-pub(crate) fn add_bytes(line: &mut ArrayVec<u8, 64>, bytes: &[u8])
+pub(crate) fn add_bytes(line: &mut ArrayVec<u8, MOST_BYTES>, bytes: &[u8])
     requires { array_vec_len line.old + length bytes.now ≤ 64 }
     ensures items { line.new.items ≡ line.old.items ++ bytes.now }
     ensures len { array_vec_len line.new ≡ array_vec_len line.old + length bytes.now }
@@ -20,7 +21,7 @@ pub(crate) fn add_bytes(line: &mut ArrayVec<u8, 64>, bytes: &[u8])
 }
 
 /// Adds a text at the end.
-pub(crate) fn add(line: &mut ArrayVec<u8, 64>, text: &str)
+pub(crate) fn add(line: &mut ArrayVec<u8, MOST_BYTES>, text: &str)
     requires { array_vec_len line.old + length text.now ≤ 64 }
     ensures items { line.new.items ≡ line.old.items ++ text.now }
     ensures len { array_vec_len line.new ≡ array_vec_len line.old + length text.now }
@@ -29,7 +30,7 @@ pub(crate) fn add(line: &mut ArrayVec<u8, 64>, text: &str)
 }
 
 /// Adds a number at the end, in decimal digits.
-pub(crate) fn add_number(line: &mut ArrayVec<u8, 64>, number: u64)
+pub(crate) fn add_number(line: &mut ArrayVec<u8, MOST_BYTES>, number: u64)
     requires { array_vec_len line.old + 20 ≤ 64 }
     ensures items { line.new.items ≡ line.old.items ++ decimal number }
     ensures len { array_vec_len line.new ≤ array_vec_len line.old + 20 }
@@ -39,7 +40,7 @@ pub(crate) fn add_number(line: &mut ArrayVec<u8, 64>, number: u64)
 }
 
 /// Adds a number at the end, in decimal digits, with a sign where it is negative.
-pub(crate) fn add_signed(line: &mut ArrayVec<u8, 64>, number: &i32)
+pub(crate) fn add_signed(line: &mut ArrayVec<u8, MOST_BYTES>, number: &i32)
     requires { array_vec_len line.old + 11 ≤ 64 }
     ensures items { line.new.items ≡ line.old.items ++ signed_decimal number.now }
     ensures len { array_vec_len line.new ≤ array_vec_len line.old + 11 }
@@ -49,7 +50,7 @@ pub(crate) fn add_signed(line: &mut ArrayVec<u8, 64>, number: &i32)
 }
 
 /// Adds the number of a leg, or a dash.
-pub(crate) fn add_first(line: &mut ArrayVec<u8, 64>, first: Option<u32>)
+pub(crate) fn add_first(line: &mut ArrayVec<u8, MOST_BYTES>, first: Option<u32>)
     requires { array_vec_len line.old + 20 ≤ 64 }
     ensures items { line.new.items ≡ line.old.items ++ first_text first }
     ensures len { array_vec_len line.new ≤ array_vec_len line.old + 20 }
@@ -60,8 +61,8 @@ pub(crate) fn add_first(line: &mut ArrayVec<u8, 64>, first: Option<u32>)
     }
 }
 
-/// Adds the answer on a side.
-pub(crate) fn add_answer(line: &mut ArrayVec<u8, 64>, answer: &Resolution)
+/// Adds what is answered on a side.
+pub(crate) fn add_answer(line: &mut ArrayVec<u8, MOST_BYTES>, answer: &Resolution)
     requires { array_vec_len line.old + 11 ≤ 64 }
     ensures items { line.new.items ≡ line.old.items ++ answer_text answer.now }
     ensures len { array_vec_len line.new ≤ array_vec_len line.old + 11 }
@@ -74,7 +75,7 @@ pub(crate) fn add_answer(line: &mut ArrayVec<u8, 64>, answer: &Resolution)
 }
 
 /// Adds a blank and a text.
-pub(crate) fn add_field(line: &mut ArrayVec<u8, 64>, text: &str)
+pub(crate) fn add_field(line: &mut ArrayVec<u8, MOST_BYTES>, text: &str)
     requires { array_vec_len line.old + length text.now + 1 ≤ 64 }
     ensures items { line.new.items ≡ line.old.items ++ codes " " ++ text.now }
     ensures len { array_vec_len line.new ≡ array_vec_len line.old + length text.now + 1 }
@@ -84,7 +85,7 @@ pub(crate) fn add_field(line: &mut ArrayVec<u8, 64>, text: &str)
 }
 
 /// Adds a blank and a number with its sign.
-pub(crate) fn add_signed_field(line: &mut ArrayVec<u8, 64>, number: &i32)
+pub(crate) fn add_signed_field(line: &mut ArrayVec<u8, MOST_BYTES>, number: &i32)
     requires { array_vec_len line.old + 12 ≤ 64 }
     ensures items { line.new.items ≡ line.old.items ++ codes " " ++ signed_decimal number.now }
     ensures len { array_vec_len line.new ≤ array_vec_len line.old + 12 }
@@ -93,8 +94,8 @@ pub(crate) fn add_signed_field(line: &mut ArrayVec<u8, 64>, number: &i32)
     add_signed(line, number);
 }
 
-/// Adds a blank and the answer on a side.
-pub(crate) fn add_answer_field(line: &mut ArrayVec<u8, 64>, answer: &Resolution)
+/// Adds a blank and what is answered on a side.
+pub(crate) fn add_answer_field(line: &mut ArrayVec<u8, MOST_BYTES>, answer: &Resolution)
     requires { array_vec_len line.old + 12 ≤ 64 }
     ensures items { line.new.items ≡ line.old.items ++ codes " " ++ answer_text answer.now }
     ensures len { array_vec_len line.new ≤ array_vec_len line.old + 12 }
@@ -104,7 +105,7 @@ pub(crate) fn add_answer_field(line: &mut ArrayVec<u8, 64>, answer: &Resolution)
 }
 
 /// Adds a blank and a number of at most ten digits.
-pub(crate) fn add_number_field(line: &mut ArrayVec<u8, 64>, number: u32)
+pub(crate) fn add_number_field(line: &mut ArrayVec<u8, MOST_BYTES>, number: u32)
     requires { array_vec_len line.old + 11 ≤ 64 }
     ensures items { line.new.items ≡ line.old.items ++ number_field number }
     ensures len { array_vec_len line.new ≤ array_vec_len line.old + 11 }
@@ -115,7 +116,7 @@ pub(crate) fn add_number_field(line: &mut ArrayVec<u8, 64>, number: u32)
 }
 
 /// Adds a blank and each of the numbers.
-pub(crate) fn add_number_fields(line: &mut ArrayVec<u8, 64>, numbers: &[u32])
+pub(crate) fn add_number_fields(line: &mut ArrayVec<u8, MOST_BYTES>, numbers: &[u32])
     requires { array_vec_len line.old + 11 * length numbers.now ≤ 64 }
     ensures items { line.new.items ≡ line.old.items ++ flat_map number_field numbers.now }
     ensures len { array_vec_len line.new ≤ array_vec_len line.old + 11 * length numbers.now }
@@ -126,7 +127,7 @@ pub(crate) fn add_number_fields(line: &mut ArrayVec<u8, 64>, numbers: &[u32])
 }
 
 /// Adds a number of seconds and a value, or that there are none.
-pub(crate) fn add_found(line: &mut ArrayVec<u8, 64>, found: &Option<(u32, i32)>)
+pub(crate) fn add_found(line: &mut ArrayVec<u8, MOST_BYTES>, found: &Option<(u32, i32)>)
     requires { array_vec_len line.old + 23 ≤ 64 }
     ensures items { line.new.items ≡ line.old.items ++ found_text found.now }
     ensures len { array_vec_len line.new ≤ array_vec_len line.old + 23 }

@@ -21,10 +21,13 @@ fn bytes_of(id: &Id) -> &[u8]
     id.bytes()
 }
 
+/// The most bytes of a line.
+pub(crate) const MOST_BYTES: usize = 64;
+
 /// A line of at most 64 bytes.
 #[derive(Drop)]
 pub struct Line {
-    bytes: ArrayVec<u8, 64>,
+    bytes: ArrayVec<u8, MOST_BYTES>,
 }
 
 impl Model for Line {
@@ -50,7 +53,7 @@ impl Line {
         ensures text { result ≡ refused_line number code }
         ensures few { length result ≤ 64 }
     {
-        let mut line = ArrayVec::<u8, 64>::new();
+        let mut line = ArrayVec::<u8, MOST_BYTES>::new();
         add(&mut line, "refused ");
         add_number(&mut line, number);
         add(&mut line, " ");
@@ -65,7 +68,7 @@ impl Line {
         ensures text { result ≡ moment_line time }
         ensures few { length result ≤ 64 }
     {
-        let mut line = ArrayVec::<u8, 64>::new();
+        let mut line = ArrayVec::<u8, MOST_BYTES>::new();
         add(&mut line, "moment ");
         add_number(&mut line, u64::from(time));
         add(&mut line, "\n");
@@ -78,7 +81,7 @@ impl Line {
         ensures text { result ≡ now_line id.now level }
         ensures few { length result ≤ 64 }
     {
-        let mut line = ArrayVec::<u8, 64>::new();
+        let mut line = ArrayVec::<u8, MOST_BYTES>::new();
         add(&mut line, "now ");
         add_bytes(&mut line, bytes_of(id));
         add(&mut line, " ");
@@ -93,7 +96,7 @@ impl Line {
         ensures text { result ≡ alert_line id.now level first }
         ensures few { length result ≤ 64 }
     {
-        let mut line = ArrayVec::<u8, 64>::new();
+        let mut line = ArrayVec::<u8, MOST_BYTES>::new();
         add(&mut line, "alert ");
         add_bytes(&mut line, bytes_of(id));
         add(&mut line, " ");
@@ -110,7 +113,7 @@ impl Line {
         ensures text { result ≡ band_line kind from upto level }
         ensures few { length result ≤ 64 }
     {
-        let mut line = ArrayVec::<u8, 64>::new();
+        let mut line = ArrayVec::<u8, MOST_BYTES>::new();
         add(&mut line, kind_word(kind));
         add_signed_field(&mut line, &from);
         add_signed_field(&mut line, &upto);
@@ -126,7 +129,7 @@ impl Line {
         ensures text { result ≡ resolve_line kind lower upper }
         ensures few { length result ≤ 64 }
     {
-        let mut line = ArrayVec::<u8, 64>::new();
+        let mut line = ArrayVec::<u8, MOST_BYTES>::new();
         add(&mut line, "resolve");
         add_field(&mut line, kind_word(kind));
         add_field(&mut line, lower_word(kind));
@@ -144,7 +147,7 @@ impl Line {
         ensures text { result ≡ recover_line kind found }
         ensures few { length result ≤ 64 }
     {
-        let mut line = ArrayVec::<u8, 64>::new();
+        let mut line = ArrayVec::<u8, MOST_BYTES>::new();
         add(&mut line, "recover");
         add_field(&mut line, kind_word(kind));
         add_found(&mut line, &found);
@@ -158,7 +161,7 @@ impl Line {
         ensures text { result ≡ done_line time }
         ensures few { length result ≤ 64 }
     {
-        let mut line = ArrayVec::<u8, 64>::new();
+        let mut line = ArrayVec::<u8, MOST_BYTES>::new();
         add(&mut line, "done ");
         add_number(&mut line, u64::from(time));
         add(&mut line, "\n");
@@ -172,7 +175,7 @@ impl Line {
         ensures text { result ≡ numbers_line word.now numbers.now }
         ensures few { length result ≤ 64 }
     {
-        let mut line = ArrayVec::<u8, 64>::new();
+        let mut line = ArrayVec::<u8, MOST_BYTES>::new();
         add(&mut line, word);
         add_number_fields(&mut line, numbers);
         add(&mut line, "\n");
@@ -185,7 +188,7 @@ impl Line {
         ensures text { result ≡ config_line code }
         ensures few { length result ≤ 64 }
     {
-        let mut line = ArrayVec::<u8, 64>::new();
+        let mut line = ArrayVec::<u8, MOST_BYTES>::new();
         add(&mut line, "config ");
         add_number(&mut line, u64::from(code));
         add(&mut line, "\n");
@@ -198,7 +201,7 @@ impl Line {
         ensures text { result ≡ same_line }
         ensures few { length result ≤ 64 }
     {
-        let mut line = ArrayVec::<u8, 64>::new();
+        let mut line = ArrayVec::<u8, MOST_BYTES>::new();
         add(&mut line, "same\n");
         Line { bytes: line }
     }
@@ -209,7 +212,7 @@ impl Line {
         ensures text { result ≡ differs_line number }
         ensures few { length result ≤ 64 }
     {
-        let mut line = ArrayVec::<u8, 64>::new();
+        let mut line = ArrayVec::<u8, MOST_BYTES>::new();
         add(&mut line, "differs ");
         add_number(&mut line, number);
         add(&mut line, "\n");

@@ -1,7 +1,7 @@
 //! The answers if some candidates are open and the others covered.
 
 use crate::side::distance;
-use crate::{Side, board_answers_for_what_is_covered, has_one_answer, nearest, worked_examples};
+use crate::{Side, nearest};
 use daa_bands::Board;
 use daa_config::{Config, Kind, Resolution, read};
 use daa_state::Own;
@@ -200,13 +200,6 @@ fn corrective_levels(rt: HostRuntime) -> Result<(), Fail> {
         wanted
     );
     Ok(())
-}
-
-#[test]
-fn laws() {
-    has_one_answer();
-    board_answers_for_what_is_covered();
-    worked_examples();
 }
 
 fn may_be_sent<T: Send>() {}

@@ -9,13 +9,10 @@ ghost use Rattle.daa_state.specs.Picture.{aircraft_of};
 ghost use Rattle.daa_state.specs.declared.word.Traffic.{Traffic};
 
 use crate::id::Id;
-use crate::word::{Own, Picture, Traffic};
+use crate::word::{MOST_AIRCRAFT, Own, Picture, Traffic};
 use arrayvec::ArrayVec;
 use std::error::Error;
 use std::fmt;
-
-/// The most aircraft of a picture.
-const MOST_AIRCRAFT: usize = 64;
 
 /// What a number of a state is.
 #[derive(Clone, Copy, Debug, PartialEq, Eq)]

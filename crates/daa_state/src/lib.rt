@@ -5,6 +5,7 @@
 
 mod checked;
 mod copy;
+pub mod examples;
 mod fault;
 mod fields;
 mod id;
@@ -22,7 +23,7 @@ pub use laws::{
     without_format_lines_four_words_are_read, worked_examples,
 };
 pub use moments::Moments;
-pub use word::{Own, Picture, Traffic, Word};
+pub use word::{MOST_AIRCRAFT, Own, Picture, Traffic, Word};
 pub use word_of::read_line;
 
 #[cfg(test)]

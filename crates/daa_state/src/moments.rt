@@ -8,12 +8,9 @@ ghost use Rattle.daa_state.specs.MomentStep.{step, stepped, finished, start, beg
 
 use crate::fault::LineFault;
 use crate::id::Id;
-use crate::word::{Own, Picture, Traffic, Word};
+use crate::word::{MOST_AIRCRAFT, Own, Picture, Traffic, Word};
 use arrayvec::ArrayVec;
 use std::marker::Model;
-
-/// The most aircraft of a moment.
-const MOST_AIRCRAFT: usize = 64;
 
 /// A moment that is open: its time in seconds, its ownship if it has one, and its aircraft in the
 /// order of their lines.

@@ -30,12 +30,15 @@ pub struct Traffic {
     pub age: u32,
 }
 
+/// The most aircraft of a moment.
+pub const MOST_AIRCRAFT: usize = 64;
+
 /// An ended moment: its time in seconds, its ownship, and its aircraft in the order of their lines.
 #[derive(Debug, Drop)]
 pub struct Picture {
     pub time: u32,
     pub own: Own,
-    pub traffic: ArrayVec<Traffic, 64>,
+    pub traffic: ArrayVec<Traffic, MOST_AIRCRAFT>,
 }
 
 /// The word that a line says.
