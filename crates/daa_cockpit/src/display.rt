@@ -31,6 +31,14 @@ pub fn blank(alloc: Global) -> std::result::Result<MemSink, AllocError>
     Ok(MemSink::over(vec![in alloc; 0; ROOM]?, Vec::new(alloc), Vec::new(alloc)))
 }
 
+/// The screen is told of all that was published.
+fn tell_all(feed: &Feed, screen: &mut Screen)
+    requires { screen.old.feed ≡ feed.now.story.feed }
+    ensures { GoesOn feed.now.story screen.new }
+{
+    screen.learn(feed.tell());
+}
+
 impl Display {
     /// Draws what the screen sees. If there was no memory for a drawing, or it does not fit, the
     /// last one stays, and this returns false.
@@ -49,8 +57,15 @@ impl Display {
         if answered.is_err() {
             return false;
         }
-        self.drawing = drawing;
+        self.put_up(drawing);
         true
+    }
+
+    /// The sheet takes the place of the last one.
+    fn put_up(&mut self, drawing: MemSink)
+        ensures { self.new ≡ record self.old { drawing = drawing } }
+    {
+        self.drawing = drawing;
     }
 
     /// Looks at its own pace until the feed has ended, and once more then.
@@ -90,7 +105,7 @@ impl Display {
             (λ display. ShowsAll self.engine.settings feed.now.story display) }
     {
         let mut display = self;
-        display.screen.learn(feed.tell());
+        tell_all(feed, &mut display.screen);
         display.draw_all(rt, alloc, feed)
     }
 
