@@ -1,4 +1,4 @@
 -- Cited by private functions, tests and proofs alone; believe only what docs/PROVED.md names here.
-pub mod Read
+pub mod Reading
 pub mod Ring
-pub mod Took
+pub mod Taking

@@ -1,5 +1,5 @@
-pub mod Greatest
-pub mod Halves
-pub mod Alerted
+pub mod GreatestLevels
+pub mod HalvingLemmas
+pub mod AlertLemmas
 pub mod OneAlert
 pub mod SomeAlert

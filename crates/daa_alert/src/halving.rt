@@ -7,7 +7,7 @@ ghost use Rattle.daa_taumod.specs.Volume.{IsVolumeInRange};
 ghost use Rattle.daa_state.specs.InRange.{IsOwnInRange, IsTrafficInRange};
 ghost use Rattle.daa_legs.specs.Meeting.{MeetsWithin};
 ghost use Rattle.daa_legs.specs.Alerts.{Alerts, IsFirstLeg};
-ghost use Rattle.daa_alert.specs.Inside.Least.{IsLeastLeg};
+ghost use Rattle.daa_alert.specs.Inside.Halving.{IsLeastLeg};
 
 use daa_config::{Candidate, Config};
 use daa_detect::is_hit;

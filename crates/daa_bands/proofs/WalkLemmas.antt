@@ -1,4 +1,4 @@
--- The bands that a walk over the places of a kind finds.
+-- The bands that a walk over the values of a kind finds.
 use Rattle.std.proofs.Common.{◌≡◌, ◌≢◌, ◌<◌, ◌≤◌, ◌+◌, ◌-◌, ◌∙◌, ◌==◌, ℕ, zero, suc, Bool, true, false, List, [], ◌∷◌, length, drop, Some, refl, sym, ap, subst, arith, rules, w32, FitsSigned, to_z, of_z}
 use Rattle.std.proofs.lemmas.Int.{to_z-of_z}
 use Rattle.std.specs.Prelude.{ℤ, slice_get, slice_index, if◌then◌else◌}
@@ -78,7 +78,7 @@ get_drop zero i xs = ap (slice_get xs) (omega arith)
 get_drop (suc n) i [] = refl
 get_drop (suc n) i (x ∷ xs) = let e : suc n + i ≡ suc (n + i) = omega arith in get_drop n i xs ∙ ap (slice_get (x ∷ xs)) (sym e)
 
--- the first band from a place on, and the others
+-- the first band from an index on, and the others
 pub first_band : (board : List ℕ) (s : Settings) (kind : Kind) (start at last count : ℕ) (value upto : ℤ) (level : ℕ)
     → start ≡ start_of kind s → count ≡ length (values_of kind s)
     → slice_get (values_of kind s) at ≡ Some value → slice_get (values_of kind s) last ≡ Some upto
@@ -109,7 +109,7 @@ first_band board s kind start at last count value upto level start_is count_is g
     ∙ ap (λ (zs : List ℤ). band value upto level ∷ bands_of (marks_from board (start + (last + 1)) zs)) f
     ∙ ap (λ (j : ℕ). band value upto level ∷ bands_of (marks_from board (j + (last + 1)) (drop (last + 1) values))) start_is
 
--- past the last place there is none
+-- past the last index there is none
 pub no_band : (board : List ℕ) (s : Settings) (kind : Kind) (at count : ℕ) → count ≡ length (values_of kind s) → count ≤ at → bands_left board s kind at ≡ []
 unfolding bands_left bands_of marks_from
 no_band board s kind at count e h = ap (λ (zs : List ℤ). bands_of (marks_from board (start_of kind s + at) zs)) (drop_all at (values_of kind s) (omega arith))

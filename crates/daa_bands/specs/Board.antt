@@ -25,14 +25,14 @@ pub record AddsMask (index mask : ℕ) (old new : List ℕ) : Type 0 where
 
 -- each candidate of the group has the levels that it had and those that the word has of it, and no other has changed
 pub record AddsWord (group word : ℕ) (old new : List ℕ) : Type 0 where
-  pub inside : (place : ℕ) → place < group_size →
-      slice_index new (group_size * group + place) ≡ bit_or (slice_index old (group_size * group + place)) (mask_in word place)
+  pub inside : (index : ℕ) → index < group_size →
+      slice_index new (group_size * group + index) ≡ bit_or (slice_index old (group_size * group + index)) (mask_in word index)
   pub outside : (index : ℕ) → (index < group_size * group) ⊎ (group_size * group + group_size ≤ index)
       → slice_index new index ≡ slice_index old index
   pub same_size : length new ≡ length old
 
 -- the board has a level for a candidate exactly if the candidate is covered at the level, and nothing else
-pub record IsBoardOf (Covered : ℕ → ℕ → Type 0) (s : Settings) (board : List ℕ) : Type 0 where
-  pub each : (index l : ℕ) → index < length (candidates_of s) → 1 ≤ l → l ≤ length s.levels → HasLevelOn board index l ↔ Covered index l
-  pub no_level_above : (index l : ℕ) → length s.levels < l → HasLevelOn board index l → ⊥
-  pub no_candidate_past : (index l : ℕ) → length (candidates_of s) ≤ index → 1 ≤ l → HasLevelOn board index l → ⊥
+pub record IsBoardOf (Covered : ℕ → ℕ → Type 0) (settings : Settings) (board : List ℕ) : Type 0 where
+  pub each : (index l : ℕ) → index < length (candidates_of settings) → 1 ≤ l → l ≤ length settings.levels → HasLevelOn board index l ↔ Covered index l
+  pub no_level_above : (index l : ℕ) → length settings.levels < l → HasLevelOn board index l → ⊥
+  pub no_candidate_past : (index l : ℕ) → length (candidates_of settings) ≤ index → 1 ≤ l → HasLevelOn board index l → ⊥

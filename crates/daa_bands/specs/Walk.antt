@@ -28,6 +28,6 @@ unfoldable pub marks_from : List ℕ → ℕ → List ℤ → List Mark
 marks_from board index [] = []
 marks_from board index (value ∷ values) = (value, shown_of (slice_index board index)) ∷ marks_from board (index + 1) values
 
--- the bands of a kind's values from a place of its list on
+-- the bands of a kind's values from an index of its list on
 unfoldable pub bands_left : List ℕ → Settings → Kind → ℕ → List Band
-bands_left board s kind at = bands_of (marks_from board (start_of kind s + at) (drop at (values_of kind s)))
+bands_left board settings kind at = bands_of (marks_from board (start_of kind settings + at) (drop at (values_of kind settings)))

@@ -72,8 +72,8 @@ impl Board {
         requires { group_size * group + group_size ≤ board_size }
         ensures { AddsWord group word self.old self.new }
     {
-        for place in 0..GROUP {
-            self.mark(GROUP * group + place, mask_at(word, place));
+        for index in 0..GROUP {
+            self.mark(GROUP * group + index, mask_at(word, index));
         }
     }
 
@@ -95,10 +95,10 @@ impl Board {
     }
 }
 
-/// The mask that a packed word has of the candidate at a place of its group.
-fn mask_at(word: u64, place: u32) -> u8
-    requires { place < group_size }
-    ensures { result ≡ mask_in word place }
+/// The mask that a packed word has of the candidate at an index of its group.
+fn mask_at(word: u64, index: u32) -> u8
+    requires { index < group_size }
+    ensures { result ≡ mask_in word index }
 {
-    ((word >> (WIDTH * place + 1)) % MASKS) as u8
+    ((word >> (WIDTH * index + 1)) % MASKS) as u8
 }

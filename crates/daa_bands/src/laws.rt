@@ -14,17 +14,18 @@ ghost use Rattle.daa_bands.specs.KindBands.{AreKindBands};
 /// Values with their levels have exactly one list of bands, and so has each kind over any board.
 pub fn has_one_list_of_bands()
     ensures marks { (marks : List Mark) → HasOne (AreBands marks) }
-    ensures kinds { (board : List ℕ) (s : Settings) (kind : Kind)
-        → HasOne (AreKindBands (HasLevelOn board) mask_levels s kind) }
+    ensures kinds { (board : List ℕ) (settings : Settings) (kind : Kind)
+        → HasOne (AreKindBands (HasLevelOn board) mask_levels settings kind) }
 {}
 
 /// If a board marks exactly the covered candidates, its bands are those of the covered candidates.
 pub fn board_shows_what_is_covered()
-    ensures { (covered : ℕ → ℕ → Bool) (board : List ℕ) (s : Settings) (kind : Kind)
-        (bands : List Band) → IsAccepted s
-        → IsBoardOf (λ index l. IsTrue (covered index l)) s board
-        → AreKindBands (HasLevelOn board) mask_levels s kind bands
-        → AreKindBands (λ index l. IsTrue (covered index l)) (length s.levels) s kind bands }
+    ensures { (covered : ℕ → ℕ → Bool) (board : List ℕ) (settings : Settings) (kind : Kind)
+        (bands : List Band) → IsAccepted settings
+        → IsBoardOf (λ index l. IsTrue (covered index l)) settings board
+        → AreKindBands (HasLevelOn board) mask_levels settings kind bands
+        → AreKindBands (λ index l. IsTrue (covered index l))
+        (length settings.levels) settings kind bands }
 {}
 
 /// Worked examples: of the tracks 0, 90, 180 and 270 the middle two show the same level and are one

@@ -128,7 +128,7 @@ fn packed_word(rt: HostRuntime) {
 }
 
 #[test]
-fn cleared(rt: HostRuntime) {
+fn a_cleared_board_has_no_levels(rt: HostRuntime) {
     let mut board = Board::new();
     board.merge_word(0, WORD);
     board.mark(2047, 1);
@@ -139,14 +139,14 @@ fn cleared(rt: HostRuntime) {
 }
 
 /// A board may be sent to another thread and shared by several.
-fn shared<T: Send + Sync>(value: &T) -> &T {
+fn share<T: Send + Sync>(value: &T) -> &T {
     value
 }
 
 #[test]
 fn is_shared(rt: HostRuntime) {
     let board = Board::new();
-    assert_eq!(rt; shared(&board).mask(0), 0);
+    assert_eq!(rt; share(&board).mask(0), 0);
 }
 
 fn may_be_sent<T: Send>() {}

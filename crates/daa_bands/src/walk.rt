@@ -59,7 +59,7 @@ impl<'a> Iterator for Runs<'a> {
             return None;
         }
         let start = self.config.start(self.kind);
-        let level = shown_at(self.board, start + self.at);
+        let level = shown_level(self.board, start + self.at);
         let last = last_of_level(self.board, start, level, self.at, count);
         let band = Band {
             from: self.config.value(self.kind, self.at),
@@ -72,14 +72,14 @@ impl<'a> Iterator for Runs<'a> {
 }
 
 /// The shown level of the candidate at an index.
-fn shown_at(board: &Board, index: u32) -> u8
+fn shown_level(board: &Board, index: u32) -> u8
     requires { index < board_size }
     ensures { result ≡ shown_of (slice_index board.now index) }
 {
     board.shown(index)
 }
 
-/// The last place, from one on, up to which the candidates show a level.
+/// The last index, from one on, up to which the candidates show a level.
 fn last_of_level(board: &Board, start: u32, level: u8, first: u32, count: u32) -> u32
     requires first { first < count }
     requires count { start + count ≤ board_size }
@@ -92,7 +92,7 @@ fn last_of_level(board: &Board, start: u32, level: u8, first: u32, count: u32) -
         → shown_of (slice_index board.now (start + result + 1)) ≢ level }
 {
     let mut last = first;
-    while last + 1 < count && shown_at(board, start + last + 1) == level {
+    while last + 1 < count && shown_level(board, start + last + 1) == level {
         last += 1;
     }
     last

@@ -12,7 +12,7 @@ use Rattle.daa_state.specs.declared.checked.PictureFault.{PictureFault}
 use Rattle.daa_state.specs.declared.checked.PictureFault.TheVariants as says
 use Rattle.daa_state.specs.declared.word.Own.{Own}
 use Rattle.daa_state.specs.declared.word.Traffic.{Traffic}
-use Rattle.daa_c.specs.Faults.{bad_id_from, states_refusal, config_refusal}
+use Rattle.daa_c.specs.Refusal.{bad_id_from, states_refusal, config_refusal}
 use Rattle.daa_c.specs.States.{own_of, text_of, traffic_of}
 use Rattle.daa_c.specs.declared.refusal.Refusal.{Refusal}
 use Rattle.daa_c.specs.declared.refusal.Refusal.TheVariants as refuses

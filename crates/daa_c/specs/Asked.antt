@@ -54,7 +54,7 @@ module _ (config : DaaConfig) where
     pub accepted : settings_by config ≡ Ok settings
     pub candidate : Candidate
     pub there : slice_get (candidates_of settings) index ≡ Some candidate
-    pub told : out ≡ candidate_by candidate
+    pub filled : out ≡ candidate_by candidate
 
   -- there is no candidate at an index of the whole list
   pub record HasNoCandidateAt (index : ℕ) : Type 0 where
@@ -63,12 +63,12 @@ module _ (config : DaaConfig) where
     pub beyond : length (candidates_of settings) ≤ index
 
   -- the level now and the alert of an aircraft, of numbers in range
-  pub record IsToldUnder (own : Own) (aircraft : Traffic) (out : DaaAlert) : Type 0 where
+  pub record IsAlertUnder (own : Own) (aircraft : Traffic) (out : DaaAlert) : Type 0 where
     pub settings : Settings
     pub accepted : settings_by config ≡ Ok settings
     pub own_range : IsOwnInRange own
     pub traffic_range : IsTrafficInRange aircraft
-    pub told : IsFilledAlert settings own aircraft out
+    pub filled : IsFilledAlert settings own aircraft out
 
   -- the board of a picture
   pub record IsDecided (picture : Picture) (board : List ℕ) : Type 0 where
@@ -120,7 +120,7 @@ module _ (config : DaaConfig) where
     pub side_is : side_number side ≡ side_given
     pub answer : Resolution
     pub is : IsResolution (HasLevelOn board) settings own kind side answer
-    pub told : out ≡ resolution_by answer
+    pub filled : out ≡ resolution_by answer
 
   -- the recovery of the kind with this number
   pub record IsRecoveryUnder (picture : Picture) (number : ℤ) (out : DaaRecovery) : Type 0 where
@@ -131,7 +131,7 @@ module _ (config : DaaConfig) where
     pub kind_is : kind_number kind ≡ number
     pub answer : Option Recovery
     pub is : IsRecovery settings picture kind answer
-    pub told : out ≡ recovery_by answer
+    pub filled : out ≡ recovery_by answer
 
   -- nothing else is refused, and it asks for no recovery
   pub record AsksForNone (refusal : Option Refusal) (number : ℤ) : Type 0 where

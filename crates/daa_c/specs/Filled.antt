@@ -23,12 +23,12 @@ leg_by (Some n) = pos n
 leg_by None = negsuc 0
 
 -- the level now and the alert of an aircraft
-pub record IsFilledAlert (settings : Settings) (own : Own) (aircraft : Traffic) (told : DaaAlert) : Type 0 where
-  pub now : IsNowLevel settings own aircraft told.now
+pub record IsFilledAlert (settings : Settings) (own : Own) (aircraft : Traffic) (filled : DaaAlert) : Type 0 where
+  pub now : IsNowLevel settings own aircraft filled.now
   pub alert : Alert
   pub is : IsAlertOf settings own aircraft alert
-  pub level : told.level ≡ alert.level
-  pub first : told.first ≡ leg_by alert.first
+  pub level : filled.level ≡ alert.level
+  pub first : filled.first ≡ leg_by alert.first
 
 -- levels of so many candidates, in the order of the whole list: the greatest, up to top, that a board shows
 abbrev pub AreLevelsOn : List ℕ → (top count : ℕ) → List ℕ → Type 0

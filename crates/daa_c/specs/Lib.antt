@@ -1,8 +1,8 @@
 pub mod Asked
 pub mod Codes
-pub mod Faults
+pub mod Refusal
 pub mod Filled
 pub mod Inside
 pub mod Numbers
 pub mod States
-pub mod Told
+pub mod Faults

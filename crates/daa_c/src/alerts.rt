@@ -2,8 +2,8 @@
 
 ghost use Rattle.std.specs.Prelude.{◌≡◌, ◌≢◌, pos, Some, IfOk, IfErr};
 ghost use Rattle.daa_state.specs.InRange.{IsOwnInRange, IsTrafficInRange};
-ghost use Rattle.daa_c.specs.Asked.{IsToldUnder};
-ghost use Rattle.daa_c.specs.Faults.{refusal_of_two, IsCodeOf};
+ghost use Rattle.daa_c.specs.Asked.{IsAlertUnder};
+ghost use Rattle.daa_c.specs.Refusal.{refusal_of_two, IsCodeOf};
 ghost use Rattle.daa_c.specs.Filled.{leg_by, IsFilledAlert};
 ghost use Rattle.daa_c.specs.States.{own_of, traffic_of};
 
@@ -34,7 +34,7 @@ fn leg(first: Option<u32>) -> i64
 }
 
 /// The alert of an aircraft.
-fn told(config: &Config, own: &Own, aircraft: &Traffic) -> DaaAlert
+fn alert_numbers(config: &Config, own: &Own, aircraft: &Traffic) -> DaaAlert
     requires own { IsOwnInRange own.now }
     requires aircraft { IsTrafficInRange aircraft.now }
     ensures { IsFilledAlert config.now own.now aircraft.now result }
@@ -49,8 +49,8 @@ fn told(config: &Config, own: &Own, aircraft: &Traffic) -> DaaAlert
 
 /// The alert of the aircraft with these numbers.
 fn alert_of(config: &DaaConfig, own: &DaaOwn, traffic: &DaaTraffic) -> Result<DaaAlert, Refusal>
-    ensures told { IfOk result
-        (IsToldUnder config.now (own_of own.now) (traffic_of traffic.now)) }
+    ensures filled { IfOk result
+        (IsAlertUnder config.now (own_of own.now) (traffic_of traffic.now)) }
     ensures refused { IfErr result
         (λ refusal. refusal_of_two config.now own.now traffic.now ≡ Some refusal) }
 {
@@ -66,7 +66,7 @@ fn alert_of(config: &DaaConfig, own: &DaaOwn, traffic: &DaaTraffic) -> Result<Da
         Ok(traffic) => traffic,
         Err(refusal) => return Err(refusal),
     };
-    Ok(told(&config, &own, &traffic))
+    Ok(alert_numbers(&config, &own, &traffic))
 }
 
 /// Fills in the level of an aircraft now, its alert level and its first leg. Returns 0, or why
@@ -78,8 +78,8 @@ pub extern "C" fn daa_alert(
     traffic: &DaaTraffic,
     out: &mut DaaAlert,
 ) -> i32
-    ensures told { result ≡ pos 0
-        → IsToldUnder config.now (own_of own.now) (traffic_of traffic.now) out.new }
+    ensures filled { result ≡ pos 0
+        → IsAlertUnder config.now (own_of own.now) (traffic_of traffic.now) out.new }
     ensures kept { result ≢ pos 0 → out.new ≡ out.old }
     ensures refused { result ≢ pos 0
         → IsCodeOf (refusal_of_two config.now own.now traffic.now) result }

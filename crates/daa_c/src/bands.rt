@@ -6,7 +6,7 @@ ghost use Rattle.daa_bands.specs.KindBands.{AreKindBands};
 ghost use Rattle.daa_config.specs.Candidates.{values_of};
 ghost use Rattle.daa_c.specs.Asked.{AreBandsUnder, HasMoreValues, HasNoKind};
 ghost use Rattle.daa_c.specs.Codes.{answer_of};
-ghost use Rattle.daa_c.specs.Faults.{config_refusal};
+ghost use Rattle.daa_c.specs.Refusal.{config_refusal};
 ghost use Rattle.daa_c.specs.Filled.{band_of};
 ghost use Rattle.daa_c.specs.Numbers.{settings_by};
 
@@ -26,7 +26,7 @@ pub struct DaaBand {
 }
 
 /// The numbers of a band.
-fn told(band: &Band) -> DaaBand
+fn band_numbers(band: &Band) -> DaaBand
     ensures { band_of result ≡ band.now }
 {
     DaaBand {
@@ -46,7 +46,7 @@ fn fill(config: &Config, board: &Board, kind: Kind, bands: &mut [DaaBand]) -> us
 {
     let mut count = 0;
     for band in runs(board, config, kind) {
-        bands[count] = told(&band);
+        bands[count] = band_numbers(&band);
         count += 1;
     }
     count
@@ -61,7 +61,7 @@ pub extern "C" fn daa_bands(
     bands: &mut [DaaBand],
     count: &mut usize,
 ) -> i32
-    ensures told { result ≡ pos 0
+    ensures filled { result ≡ pos 0
         → AreBandsUnder config.now board.now.masks kind bands.new count.new }
     ensures past_kept { result ≡ pos 0 → drop count.new bands.new ≡ drop count.new bands.old }
     ensures bands_kept { result ≢ pos 0 → bands.new ≡ bands.old }

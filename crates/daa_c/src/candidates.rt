@@ -18,7 +18,7 @@ pub struct DaaCandidate {
 }
 
 /// The numbers of a candidate.
-fn told(candidate: Candidate) -> DaaCandidate
+fn candidate_numbers(candidate: Candidate) -> DaaCandidate
     ensures { result ≡ candidate_by candidate }
 {
     match candidate {
@@ -33,7 +33,7 @@ fn told(candidate: Candidate) -> DaaCandidate
 /// Fills in the candidate at an index of the whole list. Returns 0, or why nothing was filled in.
 #[unsafe(no_mangle)]
 pub extern "C" fn daa_candidate(config: &DaaConfig, index: u32, out: &mut DaaCandidate) -> i32
-    ensures told { result ≡ pos 0 → IsCandidateAt config.now index out.new }
+    ensures filled { result ≡ pos 0 → IsCandidateAt config.now index out.new }
     ensures kept { result ≢ pos 0 → out.new ≡ out.old }
     ensures beyond { result ≡ pos 25 → HasNoCandidateAt config.now index }
     ensures refused { result ≢ pos 0 → result ≢ pos 25
@@ -46,6 +46,6 @@ pub extern "C" fn daa_candidate(config: &DaaConfig, index: u32, out: &mut DaaCan
     if index >= config.total() {
         return BAD_INDEX;
     }
-    *out = told(config.candidate(index));
+    *out = candidate_numbers(config.candidate(index));
     0
 }

@@ -7,7 +7,7 @@ ghost use Rattle.daa_config.specs.Settings.{IsAccepted};
 ghost use Rattle.daa_engine.specs.Covered.{CoveredAt};
 ghost use Rattle.daa_state.specs.InRange.{IsPictureInRange};
 ghost use Rattle.daa_c.specs.Asked.{IsDecided, AreLevelsUnder, HasMoreCandidates};
-ghost use Rattle.daa_c.specs.Faults.{refusal_of, IsCodeOf};
+ghost use Rattle.daa_c.specs.Refusal.{refusal_of, IsCodeOf};
 ghost use Rattle.daa_c.specs.Codes.{answer_of};
 ghost use Rattle.daa_c.specs.Numbers.{settings_by};
 ghost use Rattle.daa_c.specs.Filled.{AreLevelsOn};
@@ -49,7 +49,7 @@ fn trunks() -> [Trunk; 8] {
 
 /// The board of a picture.
 #[inline(never)]
-pub(crate) fn decided(config: &Config, picture: &Picture) -> Board
+pub(crate) fn decided_board(config: &Config, picture: &Picture) -> Board
     requires { IsPictureInRange picture.now }
     ensures { IsBoardOf (CoveredAt config.now picture.now) config.now result }
 {
@@ -78,7 +78,7 @@ fn board_of(config: &DaaConfig, own: &DaaOwn, traffic: &[DaaTraffic]) -> Result<
         Err(refusal) => return Err(refusal),
     };
     Ok(DaaBoard {
-        masks: *decided(&config, &picture).masks(),
+        masks: *decided_board(&config, &picture).masks(),
     })
 }
 

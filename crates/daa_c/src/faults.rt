@@ -1,7 +1,7 @@
 //! What is wrong with states.
 
 ghost use Rattle.std.specs.Prelude.{◌≡◌, pos};
-ghost use Rattle.daa_c.specs.Told.{plain_fault, ranged_fault, told_by, number_of_field, IsFaultOf};
+ghost use Rattle.daa_c.specs.Faults.{plain_fault, ranged_fault, fault_by, number_of_field, IsFaultOf};
 
 use crate::refusal::{Refusal, code};
 use crate::states::{DaaOwn, DaaTraffic, picture};
@@ -37,7 +37,7 @@ fn field_number(field: Field) -> i32
 }
 
 /// A fault with no number.
-fn plain(code: i32, place: usize) -> DaaFault
+fn bare_fault(code: i32, place: usize) -> DaaFault
     ensures { result ≡ plain_fault code place }
 {
     DaaFault {
@@ -50,7 +50,7 @@ fn plain(code: i32, place: usize) -> DaaFault
 }
 
 /// A fault of a number.
-fn ranged(code: i32, place: usize, fault: &OutOfRange) -> DaaFault
+fn range_fault(code: i32, place: usize, fault: &OutOfRange) -> DaaFault
     ensures { result ≡ ranged_fault code place fault.now }
 {
     DaaFault {
@@ -63,16 +63,16 @@ fn ranged(code: i32, place: usize, fault: &OutOfRange) -> DaaFault
 }
 
 /// The report of a refusal.
-fn told(refusal: Refusal) -> DaaFault
-    ensures { result ≡ told_by refusal }
+fn fault_numbers(refusal: Refusal) -> DaaFault
+    ensures { result ≡ fault_by refusal }
 {
     match refusal {
-        Refusal::Config(_) => plain(code(refusal), 0),
-        Refusal::BadId(place) => plain(21, place),
-        Refusal::Picture(PictureFault::TooMany) => plain(18, 0),
-        Refusal::Picture(PictureFault::Own(fault)) => ranged(16, 0, &fault),
-        Refusal::Picture(PictureFault::Traffic(place, fault)) => ranged(17, place, &fault),
-        Refusal::Picture(PictureFault::SameId(place)) => plain(22, place),
+        Refusal::Config(_) => bare_fault(code(refusal), 0),
+        Refusal::BadId(place) => bare_fault(21, place),
+        Refusal::Picture(PictureFault::TooMany) => bare_fault(18, 0),
+        Refusal::Picture(PictureFault::Own(fault)) => range_fault(16, 0, &fault),
+        Refusal::Picture(PictureFault::Traffic(place, fault)) => range_fault(17, place, &fault),
+        Refusal::Picture(PictureFault::SameId(place)) => bare_fault(22, place),
     }
 }
 
@@ -81,8 +81,8 @@ fn fault_of(own: &DaaOwn, traffic: &[DaaTraffic]) -> DaaFault
     ensures { IsFaultOf own.now traffic.now result }
 {
     match picture(0, own, traffic) {
-        Ok(_) => plain(0, 0),
-        Err(refusal) => told(refusal),
+        Ok(_) => bare_fault(0, 0),
+        Err(refusal) => fault_numbers(refusal),
     }
 }
 
@@ -90,7 +90,7 @@ fn fault_of(own: &DaaOwn, traffic: &[DaaTraffic]) -> DaaFault
 #[unsafe(no_mangle)]
 pub extern "C" fn daa_fault(own: &DaaOwn, traffic: &[DaaTraffic], out: &mut DaaFault) -> i32
     ensures answer { result ≡ pos 0 }
-    ensures told { IsFaultOf own.now traffic.now out.new }
+    ensures filled { IsFaultOf own.now traffic.now out.new }
 {
     *out = fault_of(own, traffic);
     0

@@ -3,7 +3,7 @@
 ghost use Rattle.std.specs.Prelude.{◌≡◌, ◌≢◌, pos};
 ghost use Rattle.daa_c.specs.Asked.{AsksForNone, HasNoKind, IsRecoveryUnder};
 ghost use Rattle.daa_c.specs.Filled.{recovery_by};
-ghost use Rattle.daa_c.specs.Faults.{refusal_of, IsCodeOf};
+ghost use Rattle.daa_c.specs.Refusal.{refusal_of, IsCodeOf};
 ghost use Rattle.daa_c.specs.States.{picture_of};
 
 use crate::codes::{BAD_KIND, NOT_ASKED, kind_in};
@@ -22,7 +22,7 @@ pub struct DaaRecovery {
 }
 
 /// The numbers of a recovery.
-fn told(recovery: Option<Recovery>) -> DaaRecovery
+fn recovery_numbers(recovery: Option<Recovery>) -> DaaRecovery
     ensures { result ≡ recovery_by recovery }
 {
     match recovery {
@@ -48,7 +48,7 @@ pub extern "C" fn daa_recovery(
     kind: i32,
     out: &mut DaaRecovery,
 ) -> i32
-    ensures told { result ≡ pos 0
+    ensures filled { result ≡ pos 0
         → IsRecoveryUnder config.now (picture_of 0 own.now traffic.now) kind out.new }
     ensures kept { result ≢ pos 0 → out.new ≡ out.old }
     ensures no_kind { result ≡ pos 23
@@ -72,6 +72,6 @@ pub extern "C" fn daa_recovery(
     if config.recovery().is_none() {
         return NOT_ASKED;
     }
-    *out = told(least(&config, &picture, kind));
+    *out = recovery_numbers(least(&config, &picture, kind));
     0
 }

@@ -1,7 +1,7 @@
 //! Why a caller's numbers are refused.
 
 ghost use Rattle.std.specs.Prelude.{◌≡◌, ◌≢◌, pos};
-ghost use Rattle.daa_c.specs.Faults.{refusal_code};
+ghost use Rattle.daa_c.specs.Refusal.{refusal_code};
 ghost use Rattle.daa_c.specs.Inside.Codes.{IsOfStates};
 
 use crate::codes::fault_code;

@@ -6,11 +6,11 @@ ghost use Rattle.daa_engine.specs.Covered.{CoveredAt};
 ghost use Rattle.daa_engine.specs.MomentText.{IsMomentText};
 ghost use Rattle.daa_state.specs.InRange.{IsPictureInRange};
 ghost use Rattle.daa_c.specs.Asked.{IsReported, HasLongerText};
-ghost use Rattle.daa_c.specs.Faults.{refusal_of, IsCodeOf};
+ghost use Rattle.daa_c.specs.Refusal.{refusal_of, IsCodeOf};
 ghost use Rattle.daa_c.specs.States.{picture_of};
 
 use crate::codes::SHORT;
-use crate::deciding::decided;
+use crate::deciding::decided_board;
 use crate::refusal::{Refusal, code};
 use crate::setting::{DaaConfig, accept};
 use crate::sheet::Sheet;
@@ -82,7 +82,7 @@ pub extern "C" fn daa_report(
         Ok(picture) => picture,
         Err(refusal) => return code(refusal),
     };
-    match fill(&config, &picture, &decided(&config, &picture), text) {
+    match fill(&config, &picture, &decided_board(&config, &picture), text) {
         Some(length) => {
             *count = length;
             0

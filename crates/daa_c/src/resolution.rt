@@ -2,7 +2,7 @@
 
 ghost use Rattle.std.specs.Prelude.{◌≡◌, ◌≢◌, pos};
 ghost use Rattle.daa_c.specs.Asked.{IsResolutionUnder, HasNoKind, HasNoSide};
-ghost use Rattle.daa_c.specs.Faults.{refusal_of_own, IsCodeOf};
+ghost use Rattle.daa_c.specs.Refusal.{refusal_of_own, IsCodeOf};
 ghost use Rattle.daa_c.specs.Filled.{resolution_by};
 ghost use Rattle.daa_c.specs.States.{own_of};
 
@@ -24,7 +24,7 @@ pub struct DaaResolution {
 }
 
 /// The numbers of an answer.
-fn told(resolution: Resolution) -> DaaResolution
+fn resolution_numbers(resolution: Resolution) -> DaaResolution
     ensures { result ≡ resolution_by resolution }
 {
     match resolution {
@@ -44,7 +44,7 @@ pub extern "C" fn daa_resolution(
     side: i32,
     out: &mut DaaResolution,
 ) -> i32
-    ensures told { result ≡ pos 0
+    ensures filled { result ≡ pos 0
         → IsResolutionUnder config.now (own_of own.now) board.now.masks kind side out.new }
     ensures kept { result ≢ pos 0 → out.new ≡ out.old }
     ensures no_kind { result ≡ pos 23 → HasNoKind (refusal_of_own config.now own.now) kind }
@@ -66,6 +66,6 @@ pub extern "C" fn daa_resolution(
     let Some(side) = side_in(side) else {
         return BAD_SIDE;
     };
-    *out = told(nearest(&Board::of(&board.masks), &config, &own, kind, side));
+    *out = resolution_numbers(nearest(&Board::of(&board.masks), &config, &own, kind, side));
     0
 }

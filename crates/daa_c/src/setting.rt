@@ -25,7 +25,7 @@ pub struct DaaConfig {
 }
 
 /// The numbers of the recovery, if the configuration asks for one.
-fn asked(config: &DaaConfig) -> Option<RecoveryNumbers>
+fn asked_recovery(config: &DaaConfig) -> Option<RecoveryNumbers>
     ensures { result ≡ recovery_by config.now.recovery config.now.cylinder }
 {
     if config.recovery == 0 {
@@ -44,7 +44,7 @@ pub(crate) fn accept(config: &DaaConfig) -> Result<Config, ConfigFault>
         return Err(ConfigFault::Levels);
     }
     let levels = &config.levels[..config.count as usize];
-    Config::of(&config.numbers, &asked(config), levels)
+    Config::of(&config.numbers, &asked_recovery(config), levels)
 }
 
 /// Fills in the numbers of the recovery, where one is asked for.

@@ -5,7 +5,7 @@ ghost use Rattle.std.specs.Option.{SomeIff};
 ghost use Rattle.daa_state.specs.Id.{is_id};
 ghost use Rattle.daa_state.specs.InRange.{IsOwnInRange, IsTrafficInRange};
 ghost use Rattle.daa_c.specs.Asked.{IsTaken};
-ghost use Rattle.daa_c.specs.Faults.{bad_id_from, own_refusal, traffic_refusal, states_refusal};
+ghost use Rattle.daa_c.specs.Refusal.{bad_id_from, own_refusal, traffic_refusal, states_refusal};
 ghost use Rattle.daa_c.specs.States.{own_of, text_of, traffic_of, picture_of};
 
 use crate::refusal::Refusal;
@@ -88,7 +88,7 @@ pub(crate) fn checked_own(own: &DaaOwn) -> Result<Own, Refusal>
     ensures sound { OnOk result (own_refusal own.now ≡ None) }
     ensures refused { IfErr result (λ refusal. own_refusal own.now ≡ Some refusal) }
 {
-    match ownship(own).checked() {
+    match ownship(own).check() {
         Ok(own) => Ok(own),
         Err(fault) => Err(Refusal::Picture(PictureFault::Own(fault))),
     }
@@ -105,7 +105,7 @@ pub(crate) fn checked_traffic(traffic: &DaaTraffic) -> Result<Traffic, Refusal>
     let Some(one) = aircraft(traffic) else {
         return Err(Refusal::BadId(0));
     };
-    match one.checked() {
+    match one.check() {
         Ok(one) => Ok(one),
         Err(fault) => Err(Refusal::Picture(PictureFault::Traffic(0, fault))),
     }
@@ -143,7 +143,7 @@ pub(crate) fn picture(time: u32, own: &DaaOwn, traffic: &[DaaTraffic]) -> Result
         Ok(all) => all,
         Err(place) => return Err(Refusal::BadId(place)),
     };
-    match Picture::checked(time, ownship(own), all.as_slice()) {
+    match Picture::check(time, ownship(own), all.as_slice()) {
         Ok(picture) => Ok(picture),
         Err(fault) => Err(Refusal::Picture(fault)),
     }

@@ -90,7 +90,7 @@ impl Display {
     }
 
     /// Whether its screen has seen all that was published, and nothing else.
-    #[tactic(auto, using(crate::proofs::Whole::goes_on_whole))]
+    #[tactic(auto, using(crate::proofs::WholeStories::goes_on_whole))]
     fn has_all(&self, feed: &Feed) -> bool
         requires { GoesOn feed.now.story self.now.screen }
         ensures { IsTrue result → self.now.screen ≡ feed.now.story }
@@ -110,7 +110,7 @@ impl Display {
     }
 
     /// Draws all that was published, of which it was told.
-    #[tactic(auto, using(daa_screen::proofs::Kept::goes_on_and_on))]
+    #[tactic(auto, using(daa_screen::proofs::KeptPictures::goes_on_and_on))]
     fn draw_all<R: Threads + Sync>(self, rt: &R, alloc: Global, feed: &Feed) -> Result<Display>
         requires { GoesOn feed.now.story self.screen }
         ensures { IfOk result

@@ -95,7 +95,7 @@ unfolding candidates_of start_of
 hold_first s zero h = refl
 hold_first s (suc i) h = absurd (omega arith)
 
--- the candidate at a place of a kind stands that far past the kind's start
+-- the candidate at an index of a kind stands that far past the kind's start
 pub candidate_at : (k : Kind) (s : Settings) (i : ℕ) (v : ℤ) → slice_get (values_of k s) i ≡ Some v
     → slice_get (candidates_of s) (start_of k s + i) ≡ Some (candidate_to k v)
 unfolding candidates_of start_of

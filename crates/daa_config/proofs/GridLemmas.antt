@@ -1,4 +1,4 @@
--- Values of a kind, by their places.
+-- Values of a kind, by their indices.
 use Rattle.std.proofs.Common.{◌≡◌, ◌<◌, ◌≤◌, ◌+◌, ◌*◌, ◌/◌, ◌∙◌, ℕ, zero, suc, List, [], ◌∷◌, length, Some, refl, sym, ap, arith, subst}
 use Rattle.std.specs.Prelude.{ℤ, pos, ◌+ℤ◌, ◌*ℤ◌, ◌-ℤ◌, ◌≤ℤ◌, ◌<ℤ◌, nat_abs, slice_get, slice_index_or, All, Contains, ◌-◌}
 use Rattle.std.proofs.lemmas.Int.{ints, to_z-of_z}
@@ -144,7 +144,7 @@ in_bounds_of s Speed z h low high = let l = h.gs.least in let m = h.gs.most in r
 in_bounds_of s Climb z h low high = let l = h.vs.least in let m = h.vs.most in record { least = omega (arith, ints); most = omega (arith, ints) }
 in_bounds_of s Height z h low high = let l = h.alt.least in let m = h.alt.most in record { least = omega (arith, ints); most = omega (arith, ints) }
 
--- a value at a place of a kind
+-- a value at an index of a kind
 pub record IsValueAt (k : Kind) (s : Settings) (i : ℕ) (z : ℤ) : Type 0 where
   pub there : slice_get (values_of k s) i ≡ Some z
   pub within : IsFrom (least_of k s) (greatest_of k s) z

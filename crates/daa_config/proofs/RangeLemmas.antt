@@ -94,16 +94,16 @@ all_rows w =
 
 -- the numbers of a grid that passes, its count left aside
 record Fits (values : Bounds) (g : Grid) : Type 0 where
-  min : IsFrom values.0 values.1 g.min
-  max : IsFrom g.min values.1 g.max
-  step : IsFrom (pos 1) (values.1 -ℤ values.0) g.step
+  min : IsFrom values.low values.high g.min
+  max : IsFrom g.min values.high g.max
+  step : IsFrom (pos 1) (values.high -ℤ values.low) g.step
   rate : IsFrom (pos 1) (pos 10000) g.rate
 
 fits_grid : (values : Bounds) (g : Grid) → fit (grid_rows values g) ≡ true → Fits values g
 fits_grid values g h =
-    let a = and_parts (is_in values.0 values.1 g.min) _ h in
-    let b = and_parts (is_in g.min values.1 g.max) _ a.1 in
-    let d = and_parts (is_in (pos 1) (values.1 -ℤ values.0) g.step) _ b.1 in
+    let a = and_parts (is_in values.low values.high g.min) _ h in
+    let b = and_parts (is_in g.min values.high g.max) _ a.1 in
+    let d = and_parts (is_in (pos 1) (values.high -ℤ values.low) g.step) _ b.1 in
     let e = and_parts (is_in (pos 1) (pos 10000) g.rate) _ d.1 in
     record { min = in_bounds _ _ _ a.0; max = in_bounds _ _ _ b.0; step = in_bounds _ _ _ d.0; rate = in_bounds _ _ _ e.0 }
 
@@ -326,7 +326,7 @@ few_counted resolve levels counted =
 
 -- ---- counting along a grid
 
-pub stepped : (values : Bounds) (g : Grid) → negsuc 99999 ≤ℤ values.0 → values.1 ≤ℤ pos 100000 → IsGridInRange values g → IsStepped g
+pub stepped : (values : Bounds) (g : Grid) → negsuc 99999 ≤ℤ values.low → values.high ≤ℤ pos 100000 → IsGridInRange values g → IsStepped g
 stepped values g low high r =
     let a = r.least in let b = r.most in let d = r.step.least in
     record { low = omega (arith, ints); ordered = r.ordered; high = omega (arith, ints); step = d }
@@ -337,7 +337,7 @@ pub record AreStepped (n : Numbers) : Type 0 where
   pub vs : IsStepped n.vs
   pub alt : IsStepped n.alt
 
-fits_stepped : (values : Bounds) (g : Grid) → negsuc 99999 ≤ℤ values.0 → values.1 ≤ℤ pos 100000 → Fits values g → IsStepped g
+fits_stepped : (values : Bounds) (g : Grid) → negsuc 99999 ≤ℤ values.low → values.high ≤ℤ pos 100000 → Fits values g → IsStepped g
 fits_stepped values g low high f =
     let a = f.min.least in let b = f.max.most in
     record { low = omega (arith, ints); ordered = f.max.least; high = omega (arith, ints); step = f.step.least }

@@ -11,10 +11,10 @@ use Rattle.daa_config.specs.Settings.{Settings}
 
 -- the grid of a kind; tracks are the multiples of their step below a full turn
 unfoldable pub grid_of : Kind → Settings → Grid
-grid_of Track s = record { min = pos 0; max = pos 359; step = s.numbers.track_step; rate = s.numbers.turn_rate }
-grid_of Speed s = s.numbers.gs
-grid_of Climb s = s.numbers.vs
-grid_of Height s = s.numbers.alt
+grid_of Track settings = record { min = pos 0; max = pos 359; step = settings.numbers.track_step; rate = settings.numbers.turn_rate }
+grid_of Speed settings = settings.numbers.gs
+grid_of Climb settings = settings.numbers.vs
+grid_of Height settings = settings.numbers.alt
 
 -- low, low + step, ..: this number of values
 unfoldable pub rising : ℤ → ℤ → ℕ → List ℤ
@@ -23,15 +23,15 @@ rising low step (suc n) = low ∷ rising (low +ℤ step) step n
 
 -- the rising list of values of a kind
 unfoldable pub values_of : Kind → Settings → List ℤ
-values_of kind s = rising (grid_of kind s).min (grid_of kind s).step (count_of (grid_of kind s))
+values_of kind settings = rising (grid_of kind settings).min (grid_of kind settings).step (count_of (grid_of kind settings))
 
 -- the least value of a kind, which is the first
 unfoldable pub least_of : Kind → Settings → ℤ
-least_of kind s = (grid_of kind s).min
+least_of kind settings = (grid_of kind settings).min
 
 -- the greatest value of a kind, which is the last
 unfoldable pub greatest_of : Kind → Settings → ℤ
-greatest_of kind s = (grid_of kind s).min +ℤ pos (count_of (grid_of kind s) - 1) *ℤ (grid_of kind s).step
+greatest_of kind settings = (grid_of kind settings).min +ℤ pos (count_of (grid_of kind settings) - 1) *ℤ (grid_of kind settings).step
 
 -- the values are min and each further step, none of them above max; the next would be above it
 pub record AreStepsUpTo (g : Grid) (values : List ℤ) : Type 0 where
@@ -50,23 +50,23 @@ candidate_to Height a = ToHeight a
 
 -- the candidates that go to the values of a kind
 unfoldable pub candidates_to : Kind → Settings → List Candidate
-candidates_to kind s = map (candidate_to kind) (values_of kind s)
+candidates_to kind settings = map (candidate_to kind) (values_of kind settings)
 
 -- Hold, then those to tracks, ground speeds, vertical speeds and altitudes
 unfoldable pub candidates_of : Settings → List Candidate
-candidates_of s = Hold ∷ (candidates_to Track s ++ (candidates_to Speed s ++ (candidates_to Climb s ++ candidates_to Height s)))
+candidates_of settings = Hold ∷ (candidates_to Track settings ++ (candidates_to Speed settings ++ (candidates_to Climb settings ++ candidates_to Height settings)))
 
 -- where the candidates of a kind begin in the whole list
 unfoldable pub start_of : Kind → Settings → ℕ
-start_of Track s = 1
-start_of Speed s = 1 + length (values_of Track s)
-start_of Climb s = 1 + length (values_of Track s) + length (values_of Speed s)
-start_of Height s = 1 + length (values_of Track s) + length (values_of Speed s) + length (values_of Climb s)
+start_of Track settings = 1
+start_of Speed settings = 1 + length (values_of Track settings)
+start_of Climb settings = 1 + length (values_of Track settings) + length (values_of Speed settings)
+start_of Height settings = 1 + length (values_of Track settings) + length (values_of Speed settings) + length (values_of Climb settings)
 
 -- a candidate from the least to the greatest value of its kind
 abbrev pub IsCandidateOf : Settings → Candidate → Type 0
-IsCandidateOf s Hold = Unit {0}
-IsCandidateOf s (ToTrack c) = IsFrom (least_of Track s) (greatest_of Track s) c
-IsCandidateOf s (ToSpeed g) = IsFrom (least_of Speed s) (greatest_of Speed s) g
-IsCandidateOf s (ToClimb w) = IsFrom (least_of Climb s) (greatest_of Climb s) w
-IsCandidateOf s (ToHeight a) = IsFrom (least_of Height s) (greatest_of Height s) a
+IsCandidateOf settings Hold = Unit {0}
+IsCandidateOf settings (ToTrack c) = IsFrom (least_of Track settings) (greatest_of Track settings) c
+IsCandidateOf settings (ToSpeed g) = IsFrom (least_of Speed settings) (greatest_of Speed settings) g
+IsCandidateOf settings (ToClimb w) = IsFrom (least_of Climb settings) (greatest_of Climb settings) w
+IsCandidateOf settings (ToHeight a) = IsFrom (least_of Height settings) (greatest_of Height settings) a

@@ -4,7 +4,7 @@ use Rattle.daa_config.specs.declared.limits.Bounds.{Bounds}
 
 -- the numbers from low to high
 abbrev pub from_to : ℤ → ℤ → Bounds
-from_to low high = record { 0 = low; 1 = high }
+from_to low high = record { low = low; high = high }
 
 -- the most bytes of a text
 abbrev pub longest_text : ℕ

@@ -10,10 +10,10 @@ group_size = 12
 abbrev pub place_width : ℕ
 place_width = 5
 
--- 1 where the word has a candidate at the place of its group, else 0
+-- 1 where the word has a candidate at the index of its group, else 0
 abbrev pub presence_in : ℕ → ℕ → ℕ
-presence_in word place = bit_at word (place_width * place)
+presence_in word index = bit_at word (place_width * index)
 
--- the mask of the levels of the candidate at the place: its bit l - 1 means level l
+-- the mask of the levels of the candidate at the index: its bit l - 1 means level l
 abbrev pub mask_in : ℕ → ℕ → ℕ
-mask_in word place = word / 2 ^ (place_width * place + 1) % 2 ^ 4
+mask_in word index = word / 2 ^ (place_width * index + 1) % 2 ^ 4

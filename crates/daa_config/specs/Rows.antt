@@ -56,9 +56,9 @@ document_rows n =
 -- of the table of a kind whose values are within these bounds: `max` is from `min` on, and a step is at most the way between the bounds
 abbrev pub grid_rows : Bounds → Grid → List Row
 grid_rows values g =
-    number "min" values.0 values.1 g.min
-    ∷ number "max" g.min values.1 g.max
-    ∷ number "step" (pos 1) (values.1 -ℤ values.0) g.step
+    number "min" values.low values.high g.min
+    ∷ number "max" g.min values.high g.max
+    ∷ number "step" (pos 1) (values.high -ℤ values.low) g.step
     ∷ number "rate" (pos 1) (pos 10000) g.rate ∷ []
 
 -- of a level's table: 0.001 NM, ft, and seconds; `tcpa` is 1 where the time to the closest approach counts

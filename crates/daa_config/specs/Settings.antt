@@ -24,24 +24,24 @@ pub record Settings : Type 0 where
   pub levels : List Level
 
 -- the level numbered l, from 1 on
-pub record IsLevelAt (s : Settings) (l : ℕ) (level : Level) : Type 0 where
+pub record IsLevelAt (settings : Settings) (l : ℕ) (level : Level) : Type 0 where
   pub numbered : 1 ≤ l
-  pub there : slice_get s.levels (l - 1) ≡ Some level
+  pub there : slice_get settings.levels (l - 1) ≡ Some level
 
 -- by how much a second may change the track, the speeds and the altitude
 abbrev pub rates_of : Settings → Rates
-rates_of s = record {
-  turn = s.numbers.turn_rate;
-  gs = s.numbers.gs.rate;
-  vs = s.numbers.vs.rate;
-  alt = s.numbers.alt.rate;
+rates_of settings = record {
+  turn = settings.numbers.turn_rate;
+  gs = settings.numbers.gs.rate;
+  vs = settings.numbers.vs.rate;
+  alt = settings.numbers.alt.rate;
 }
 
 -- ---- ranges
 
 -- the number is between the bounds; both belong to them
 abbrev pub IsInBounds : Bounds → ℤ → Type 0
-IsInBounds bounds z = IsFrom bounds.0 bounds.1 z
+IsInBounds bounds z = IsFrom bounds.low bounds.high z
 
 -- what any value of a kind is from and up to: a degree, 0.1 kt, ft/min, ft
 abbrev pub value_bounds : Kind → Bounds
@@ -67,10 +67,10 @@ pub record AreRatesInRange (r : Rates) : Type 0 where
 
 -- min and max of a kind are within the bounds of its values and in order, and the step gives not too many values
 pub record IsGridInRange (values : Bounds) (g : Grid) : Type 0 where
-  pub least : values.0 ≤ℤ g.min
+  pub least : values.low ≤ℤ g.min
   pub ordered : g.min ≤ℤ g.max
-  pub most : g.max ≤ℤ values.1
-  pub step : IsFrom (pos 1) (values.1 -ℤ values.0) g.step
+  pub most : g.max ≤ℤ values.high
+  pub step : IsFrom (pos 1) (values.high -ℤ values.low) g.step
   pub few : count_of g ≤ most_values
 
 -- a level's volume in units, and the seconds that it looks ahead and alerts
@@ -91,15 +91,15 @@ pub record IsCylinder (cylinder : Volume) : Type 0 where
   pub model : cylinder.model ≡ Taumod
 
 -- a configuration that is accepted has its numbers in their ranges
-pub record IsAccepted (s : Settings) : Type 0 where
-  pub rates : AreRatesInRange (rates_of s)
-  pub track_step : IsFrom (pos 1) (pos 90) s.numbers.track_step
-  pub divides : full_turn % nat_abs s.numbers.track_step ≡ 0
-  pub gs : IsGridInRange (value_bounds Speed) s.numbers.gs
-  pub vs : IsGridInRange (value_bounds Climb) s.numbers.vs
-  pub alt : IsGridInRange (value_bounds Height) s.numbers.alt
-  pub some_level : 1 ≤ length s.levels
-  pub few_levels : length s.levels ≤ most_levels
-  pub level : (l : ℕ) (level : Level) → IsLevelAt s l level → IsLevelInRange level
-  pub recovery : (cylinder : Volume) → s.recovery ≡ Some cylinder → IsCylinder cylinder
-  pub resolve : IsFrom (pos 1) (pos (length s.levels)) s.numbers.resolve
+pub record IsAccepted (settings : Settings) : Type 0 where
+  pub rates : AreRatesInRange (rates_of settings)
+  pub track_step : IsFrom (pos 1) (pos 90) settings.numbers.track_step
+  pub divides : full_turn % nat_abs settings.numbers.track_step ≡ 0
+  pub gs : IsGridInRange (value_bounds Speed) settings.numbers.gs
+  pub vs : IsGridInRange (value_bounds Climb) settings.numbers.vs
+  pub alt : IsGridInRange (value_bounds Height) settings.numbers.alt
+  pub some_level : 1 ≤ length settings.levels
+  pub few_levels : length settings.levels ≤ most_levels
+  pub level : (l : ℕ) (level : Level) → IsLevelAt settings l level → IsLevelInRange level
+  pub recovery : (cylinder : Volume) → settings.recovery ≡ Some cylinder → IsCylinder cylinder
+  pub resolve : IsFrom (pos 1) (pos (length settings.levels)) settings.numbers.resolve

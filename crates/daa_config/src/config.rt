@@ -212,7 +212,7 @@ impl Config {
         count(&self.grid(kind)) as u32
     }
 
-    /// The value at a place in the kind's rising list, counted from 0, in the kind's unit.
+    /// The value at an index of the kind's rising list, counted from 0, in the kind's unit.
     pub fn value(&self, kind: Kind, i: u32) -> i32
         requires { i < length (values_of kind self.now) }
         ensures value { slice_get (values_of kind self.now) i ≡ Some result }
@@ -275,7 +275,7 @@ impl Config {
         self.start(Kind::Height) + self.count(Kind::Height)
     }
 
-    /// The candidate at a place in the whole list: Hold at 0, then those of track, ground speed,
+    /// The candidate at an index of the whole list: Hold at 0, then those of track, ground speed,
     /// vertical speed and altitude.
     pub fn candidate(&self, index: u32) -> Candidate
         requires { index < length (candidates_of self.now) }
@@ -288,27 +288,27 @@ impl Config {
             return Candidate::Hold;
         }
         if index < self.start(Kind::Speed) {
-            return self.going(Kind::Track, index - self.start(Kind::Track));
+            return self.candidate_in(Kind::Track, index - self.start(Kind::Track));
         }
         if index < self.start(Kind::Climb) {
-            return self.going(Kind::Speed, index - self.start(Kind::Speed));
+            return self.candidate_in(Kind::Speed, index - self.start(Kind::Speed));
         }
         if index < self.start(Kind::Height) {
-            return self.going(Kind::Climb, index - self.start(Kind::Climb));
+            return self.candidate_in(Kind::Climb, index - self.start(Kind::Climb));
         }
-        self.going(Kind::Height, index - self.start(Kind::Height))
+        self.candidate_in(Kind::Height, index - self.start(Kind::Height))
     }
 
-    /// The candidate at a place of a kind.
-    fn going(&self, kind: Kind, place: u32) -> Candidate
-        requires { place < length (values_of kind self.now) }
+    /// The candidate at an index of a kind's list.
+    fn candidate_in(&self, kind: Kind, index: u32) -> Candidate
+        requires { index < length (values_of kind self.now) }
         ensures value { slice_get (candidates_of self.now)
-            (start_of kind self.now + place) ≡ Some result }
+            (start_of kind self.now + index) ≡ Some result }
         ensures within { IsCandidateOf self.now result }
         ensures in_range { IsCandidateInRange result }
         ensures accepted { IsAccepted self.now }
     {
-        let value = self.value(kind, place);
+        let value = self.value(kind, index);
         match kind {
             Kind::Track => Candidate::Track(value),
             Kind::Speed => Candidate::Speed(value),
@@ -318,7 +318,7 @@ impl Config {
     }
 }
 
-/// The value of a grid at a place.
+/// The value of a grid at an index.
 fn value_at(grid: &Grid, i: u32) -> i32
     requires grid { IsStepped grid.now }
     requires within { i < count_of grid.now }

@@ -9,12 +9,13 @@ ghost use Rattle.daa_config.specs.Candidates.{grid_of, values_of, AreStepsUpTo};
 
 /// A text that is taken has its numbers in their ranges.
 pub fn accepted_is_in_range()
-    ensures { (text : Text) (s : Settings) → config_of text ≡ Ok s → IsAccepted s }
+    ensures { (text : Text) (settings : Settings) → config_of text ≡ Ok settings
+        → IsAccepted settings }
 {}
 
 /// The values of a kind are min, min + step, .. up to
 /// max.
 pub fn values_are_all_steps()
-    ensures { (kind : Kind) (s : Settings) → IsAccepted s
-        → AreStepsUpTo (grid_of kind s) (values_of kind s) }
+    ensures { (kind : Kind) (settings : Settings) → IsAccepted settings
+        → AreStepsUpTo (grid_of kind settings) (values_of kind settings) }
 {}

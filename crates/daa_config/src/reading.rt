@@ -68,7 +68,7 @@ fn find(alloc: Global, document: &Table) -> Result<Found, ConfigFault>
 }
 
 /// The levels, of which there are at most four.
-fn kept(levels: &[LevelNumbers]) -> ArrayVec<LevelNumbers, MOST_LEVELS>
+fn list_levels(levels: &[LevelNumbers]) -> ArrayVec<LevelNumbers, MOST_LEVELS>
     requires { length levels.now ≤ 4 }
     ensures { result.items ≡ levels.now }
 {
@@ -91,7 +91,7 @@ fn accept(found: &Found) -> Result<ConfigNumbers, ConfigFault>
     Ok(ConfigNumbers {
         numbers: found.numbers,
         recovery: found.recovery,
-        levels: kept(levels),
+        levels: list_levels(levels),
     })
 }
 

@@ -73,7 +73,8 @@ fn are_tables(value: &Value) -> bool
 
 /// Whether each of the items is a table.
 fn all_are_tables(items: &[Value]) -> bool
-    ensures { result ≡ list_all (λ one. is_some (as_table one)) (listed.list_of (items_view items.now)) }
+    ensures { result ≡ list_all (λ one. is_some (as_table one)) (listed.list_of
+        (items_view items.now)) }
 {
     for item in items {
         if item.as_table().is_none() {
@@ -148,7 +149,7 @@ fn width(values: &Bounds) -> i64
     requires { IsFrom (pos 0) (pos 100000) (values.now.1 -ℤ values.now.0) }
     ensures { result ≡ values.now.1 -ℤ values.now.0 }
 {
-    values.1 - values.0
+    values.high - values.low
 }
 
 /// The rows of the table of a kind whose values are within these bounds.
@@ -157,8 +158,8 @@ pub(crate) fn grid_rows(values: &Bounds, g: &Grid) -> [Row; 4]
     ensures { map row_by result ≡ listed.grid_rows values.now g.now }
 {
     [
-        number("min", values.0, values.1, g.min),
-        number("max", g.min, values.1, g.max),
+        number("min", values.low, values.high, g.min),
+        number("max", g.min, values.high, g.max),
         number("step", 1, width(values), g.step),
         number("rate", 1, 10000, g.rate),
     ]

@@ -41,15 +41,15 @@ after s v t q t0 soon before =
     tt)
     (sum_nonneg _ _ (rest _ _ soon) (mul_nonneg t _ t0 (rest _ _ before)))
 
-module _ (leg : Leg) (vol : Volume) where
+module _ (leg : Leg) (volume : Volume) where
   abbrev vv : ℤ
   vv = dot_of leg.velocity.flat leg.velocity.flat
 
   -- the leg, flown on for tthr seconds
   abbrev whole : ℕ
-  whole = leg.secs + vol.tthr
+  whole = leg.secs + volume.tthr
 
-  more_secs : pos whole ≡ pos leg.secs +ℤ pos vol.tthr
+  more_secs : pos whole ≡ pos leg.secs +ℤ pos volume.tthr
   more_secs = omega (arith, ints)
 
   module _ (n d : ℤ) (time : IsTime leg.secs n d) where
@@ -62,7 +62,7 @@ module _ (leg : Leg) (vol : Volume) where
     abbrev sv : ℤ
     sv = dot_of s leg.velocity.flat
 
-    now_near : IsNear leg vol n d → HoldsSometime whole (IsNear leg vol)
+    now_near : IsNear leg volume n d → HoldsSometime whole (IsNear leg volume)
     now_near near = record {
       num = n;
       den = d;
@@ -70,13 +70,13 @@ module _ (leg : Leg) (vol : Volume) where
         fraction = time.fraction;
         from = time.from;
         upto = by_rest n (pos whole *ℤ d) _ (let S = # 0 in let T = # 1 in let N = # 2 in let D = # 3 in
-            (λ i. more_secs i *ℤ d -ℤ n) ∙ ring (pos leg.secs ∷ pos vol.tthr ∷ n ∷ d ∷ []) ((S ⊕ T) ⊗ D ⊖ N) ((S ⊗ D ⊖ N) ⊕ T ⊗ D) tt)
-            (sum_nonneg _ _ (rest _ _ time.upto) (mul_nonneg (pos vol.tthr) d (omega (arith, ints)) d0));
+            (λ i. more_secs i *ℤ d -ℤ n) ∙ ring (pos leg.secs ∷ pos volume.tthr ∷ n ∷ d ∷ []) ((S ⊕ T) ⊗ D ⊖ N) ((S ⊗ D ⊖ N) ⊕ T ⊗ D) tt)
+            (sum_nonneg _ _ (rest _ _ time.upto) (mul_nonneg (pos volume.tthr) d (omega (arith, ints)) d0));
       };
       holds = near;
     }
 
-    module _ (c : IsClosing leg vol n d) where
+    module _ (c : IsClosing leg volume n d) where
       moves : pos 0 <ℤ vv
       moves = nearing_moves s leg.velocity.flat c.nearing
 
@@ -84,7 +84,7 @@ module _ (leg : Leg) (vol : Volume) where
       vv0 = omega (arith, ints, moves)
 
       -- the closest approach is at most tthr seconds off, and near
-      closest_soon : neg_ℤ sv ≤ℤ (pos vol.tthr *ℤ d *ℤ vv) → HoldsSometime whole (IsNear leg vol)
+      closest_soon : neg_ℤ sv ≤ℤ (pos volume.tthr *ℤ d *ℤ vv) → HoldsSometime whole (IsNear leg volume)
       closest_soon soon = record {
         num = n *ℤ vv -ℤ sv;
         den = d *ℤ vv;
@@ -94,11 +94,11 @@ module _ (leg : Leg) (vol : Volume) where
           upto = by_rest _ _ _
               (let S = # 0 in let T = # 1 in let N = # 2 in let D = # 3 in let A = # 4 in let B = # 5 in
               (λ i. more_secs i *ℤ (d *ℤ vv) -ℤ (n *ℤ vv -ℤ sv))
-              ∙ ring (pos leg.secs ∷ pos vol.tthr ∷ n ∷ d ∷ vv ∷ sv ∷ []) ((S ⊕ T) ⊗ (D ⊗ A) ⊖ (N ⊗ A ⊖ B)) (A ⊗ (S ⊗ D ⊖ N) ⊕ (T ⊗ D ⊗ A ⊖ ⊝ B)) tt)
+              ∙ ring (pos leg.secs ∷ pos volume.tthr ∷ n ∷ d ∷ vv ∷ sv ∷ []) ((S ⊕ T) ⊗ (D ⊗ A) ⊖ (N ⊗ A ⊖ B)) (A ⊗ (S ⊗ D ⊖ N) ⊕ (T ⊗ D ⊗ A ⊖ ⊝ B)) tt)
               (sum_nonneg _ _ (mul_nonneg vv _ vv0 (rest _ _ time.upto)) (rest _ _ soon));
         };
-        holds = subst (λ (z : ℤ). z ≤ℤ square_of (pos vol.dthr *ℤ (d *ℤ vv))) (sym there)
-            (subst (λ (z : ℤ). (square_of (vv *ℤ s.east -ℤ sv *ℤ leg.velocity.flat.east) +ℤ square_of (vv *ℤ s.north -ℤ sv *ℤ leg.velocity.flat.north)) ≤ℤ square_of z) (assoc (pos vol.dthr) d vv) (at_closest s leg.velocity.flat (pos vol.dthr *ℤ d) c.near vv0));
+        holds = subst (λ (z : ℤ). z ≤ℤ square_of (pos volume.dthr *ℤ (d *ℤ vv))) (sym there)
+            (subst (λ (z : ℤ). (square_of (vv *ℤ s.east -ℤ sv *ℤ leg.velocity.flat.east) +ℤ square_of (vv *ℤ s.north -ℤ sv *ℤ leg.velocity.flat.north)) ≤ℤ square_of z) (assoc (pos volume.dthr) d vv) (at_closest s leg.velocity.flat (pos volume.dthr *ℤ d) c.near vv0));
       }
         where
           at_least_one : (x : ℤ) → pos 0 <ℤ x → pos 1 ≤ℤ x
@@ -120,21 +120,21 @@ module _ (leg : Leg) (vol : Volume) where
           there = λ i. square_of (axis leg.place.flat.east leg.velocity.flat.east vv sv i) +ℤ square_of (axis leg.place.flat.north leg.velocity.flat.north vv sv i)
 
       -- the closest approach is later, and the distance at most dthr after tthr seconds
-      tau_soon : IsSoon Taumod leg vol n d → (pos vol.tthr *ℤ d *ℤ vv) ≤ℤ neg_ℤ sv → HoldsSometime whole (IsNear leg vol)
+      tau_soon : IsSoon Taumod leg volume n d → (pos volume.tthr *ℤ d *ℤ vv) ≤ℤ neg_ℤ sv → HoldsSometime whole (IsNear leg volume)
       tau_soon soon later = record {
-        num = n +ℤ pos vol.tthr *ℤ d;
+        num = n +ℤ pos volume.tthr *ℤ d;
         den = d;
         time = record {
           fraction = time.fraction;
-          from = sum_nonneg _ _ time.from (mul_nonneg (pos vol.tthr) d (omega (arith, ints)) d0);
+          from = sum_nonneg _ _ time.from (mul_nonneg (pos volume.tthr) d (omega (arith, ints)) d0);
           upto = by_rest _ _ _
               (let S = # 0 in let T = # 1 in let N = # 2 in let D = # 3 in
-              (λ i. more_secs i *ℤ d -ℤ (n +ℤ pos vol.tthr *ℤ d))
-              ∙ ring (pos leg.secs ∷ pos vol.tthr ∷ n ∷ d ∷ []) ((S ⊕ T) ⊗ D ⊖ (N ⊕ T ⊗ D)) (S ⊗ D ⊖ N) tt)
+              (λ i. more_secs i *ℤ d -ℤ (n +ℤ pos volume.tthr *ℤ d))
+              ∙ ring (pos leg.secs ∷ pos volume.tthr ∷ n ∷ d ∷ []) ((S ⊕ T) ⊗ D ⊖ (N ⊕ T ⊗ D)) (S ⊗ D ⊖ N) tt)
               (rest _ _ time.upto);
         };
-        holds = subst (λ (z : ℤ). z ≤ℤ square_of (pos vol.dthr *ℤ d)) (sym there)
-            (after s leg.velocity.flat (pos vol.tthr *ℤ d) (pos vol.dthr *ℤ d) (mul_nonneg (pos vol.tthr) d (omega (arith, ints)) d0) soon later);
+        holds = subst (λ (z : ℤ). z ≤ℤ square_of (pos volume.dthr *ℤ d)) (sym there)
+            (after s leg.velocity.flat (pos volume.tthr *ℤ d) (pos volume.dthr *ℤ d) (mul_nonneg (pos volume.tthr) d (omega (arith, ints)) d0) soon later);
       }
         where
           axis : (x v t : ℤ) → d *ℤ x +ℤ (n +ℤ t) *ℤ v ≡ (d *ℤ x +ℤ n *ℤ v) +ℤ t *ℤ v
@@ -142,19 +142,19 @@ module _ (leg : Leg) (vol : Volume) where
               let X = # 0 in let V = # 1 in let T = # 2 in let N = # 3 in let D = # 4 in
               ring (x ∷ v ∷ t ∷ n ∷ d ∷ []) (D ⊗ X ⊕ (N ⊕ T) ⊗ V) ((D ⊗ X ⊕ N ⊗ V) ⊕ T ⊗ V) tt
 
-          there : dot_of (place_at leg (n +ℤ pos vol.tthr *ℤ d) d) (place_at leg (n +ℤ pos vol.tthr *ℤ d) d)
-              ≡ square_of (s.east +ℤ pos vol.tthr *ℤ d *ℤ leg.velocity.flat.east) +ℤ square_of (s.north +ℤ pos vol.tthr *ℤ d *ℤ leg.velocity.flat.north)
-          there = λ i. square_of (axis leg.place.flat.east leg.velocity.flat.east (pos vol.tthr *ℤ d) i) +ℤ square_of (axis leg.place.flat.north leg.velocity.flat.north (pos vol.tthr *ℤ d) i)
+          there : dot_of (place_at leg (n +ℤ pos volume.tthr *ℤ d) d) (place_at leg (n +ℤ pos volume.tthr *ℤ d) d)
+              ≡ square_of (s.east +ℤ pos volume.tthr *ℤ d *ℤ leg.velocity.flat.east) +ℤ square_of (s.north +ℤ pos volume.tthr *ℤ d *ℤ leg.velocity.flat.north)
+          there = λ i. square_of (axis leg.place.flat.east leg.velocity.flat.east (pos volume.tthr *ℤ d) i) +ℤ square_of (axis leg.place.flat.north leg.velocity.flat.north (pos volume.tthr *ℤ d) i)
 
-      closing_comes_near : (model : Model) → IsSoon model leg vol n d → HoldsSometime whole (IsNear leg vol)
+      closing_comes_near : (model : Model) → IsSoon model leg volume n d → HoldsSometime whole (IsNear leg volume)
       closing_comes_near Tcpa soon = closest_soon soon
-      closing_comes_near Taumod soon = by_lt_z (pos vol.tthr *ℤ d *ℤ vv) (neg_ℤ sv)
+      closing_comes_near Taumod soon = by_lt_z (pos volume.tthr *ℤ d *ℤ vv) (neg_ℤ sv)
           (λ l. tau_soon soon (omega (arith, ints, l)))
           (λ l. closest_soon l)
 
-    pub comes_near : ViolatesHorizontally leg vol n d → HoldsSometime whole (IsNear leg vol)
+    pub comes_near : ViolatesHorizontally leg volume n d → HoldsSometime whole (IsNear leg volume)
     comes_near (inl near) = now_near near
-    comes_near (inr closing) = closing_comes_near closing vol.model closing.soon
+    comes_near (inr closing) = closing_comes_near closing volume.model closing.soon
 
 -- ---- what stays beyond is never near
 -- what is positive at both ends of m seconds is positive between them
@@ -205,17 +205,17 @@ axis_beyond b v m r n d y m1 (inr far) time near =
     (ring (b ∷ v ∷ pos r ∷ n ∷ d ∷ pos m ∷ []) (⊝ R ⊖ (B ⊕ M ⊗ V)) (⊝ R ⊖ B ⊕ M ⊗ ⊝ V) tt)
     (above (b +ℤ pos m *ℤ v) (neg_ℤ (pos r)) far.1))))
 
-far_never_near : (leg : Leg) (vol : Volume) → 1 ≤ leg.secs → IsFar leg vol → HoldsNever (leg.secs + vol.tthr) (IsNear leg vol)
-far_never_near leg vol some (inl east) n d time near =
-    axis_beyond leg.place.flat.east leg.velocity.flat.east (leg.secs + vol.tthr) vol.dthr n d (place_at leg n d).north (omega (arith, some)) east time near
-far_never_near leg vol some (inr north) n d time near =
-    axis_beyond leg.place.flat.north leg.velocity.flat.north (leg.secs + vol.tthr) vol.dthr n d (place_at leg n d).east (omega (arith, some)) north time
+far_never_near : (leg : Leg) (volume : Volume) → 1 ≤ leg.secs → IsFar leg volume → HoldsNever (leg.secs + volume.tthr) (IsNear leg volume)
+far_never_near leg volume some (inl east) n d time near =
+    axis_beyond leg.place.flat.east leg.velocity.flat.east (leg.secs + volume.tthr) volume.dthr n d (place_at leg n d).north (omega (arith, some)) east time near
+far_never_near leg volume some (inr north) n d time near =
+    axis_beyond leg.place.flat.north leg.velocity.flat.north (leg.secs + volume.tthr) volume.dthr n d (place_at leg n d).east (omega (arith, some)) north time
     (exchange ((place_at leg n d).east *ℤ (place_at leg n d).east) ((place_at leg n d).north *ℤ (place_at leg n d).north) _ near)
   where
     exchange : (x y z : ℤ) → (x +ℤ y) ≤ℤ z → (y +ℤ x) ≤ℤ z
     exchange x y z h = omega (arith, ints)
 
-pub far_never : (leg : Leg) (vol : Volume) → 1 ≤ leg.secs → IsFar leg vol → HoldsNever leg.secs (Violates leg vol)
-far_never leg vol some far n d time v =
-    let near = comes_near leg vol n d time v.horizontal in
-    far_never_near leg vol some far near.num near.den near.time near.holds
+pub far_never : (leg : Leg) (volume : Volume) → 1 ≤ leg.secs → IsFar leg volume → HoldsNever leg.secs (Violates leg volume)
+far_never leg volume some far n d time v =
+    let near = comes_near leg volume n d time v.horizontal in
+    far_never_near leg volume some far near.num near.den near.time near.holds

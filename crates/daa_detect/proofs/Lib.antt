@@ -2,8 +2,8 @@ pub mod ComesNear
 pub mod Approach
 pub mod Choices
 pub mod Distance
-pub mod Ends
+pub mod DecidingTimes
 pub mod Margin
-pub mod Nearest
+pub mod NearestTimes
 pub mod Sizes
-pub mod Sometimes
+pub mod FoundTimes

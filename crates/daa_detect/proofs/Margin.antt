@@ -14,7 +14,7 @@ use Rattle.daa_fixed.proofs.Lengths.{lagrange, nearing_moves}
 use Rattle.daa_taumod.proofs.ClosestApproach.{passes_near-always}
 use Rattle.daa_detect.specs.declared.motion.Motion.{Motion}
 use Rattle.daa_detect.specs.Inside.Motion.{IsMotion, IsTauWithin, rate_of}
-use Rattle.daa_detect.proofs.Nearest.{E, N, VE, VN, R, K, D, SE, SN, VV, SV, CC, pp, pv, vv, sv, cc, dot_at}
+use Rattle.daa_detect.proofs.NearestTimes.{E, N, VE, VN, R, K, D, SE, SN, VV, SV, CC, pp, pv, vv, sv, cc, dot_at}
 
 abbrev S : Poly
 S = # 7
@@ -22,107 +22,107 @@ S = # 7
 abbrev W : Poly
 W = D ⊗ SV ⊕ K ⊗ VV
 
-module _ (leg : Leg) (vol : Volume) (m : Motion) (is : IsMotion leg vol m) (n d : ℤ) where
+module _ (leg : Leg) (volume : Volume) (m : Motion) (is : IsMotion leg volume m) (n d : ℤ) where
   abbrev ρ : ℕ → List ℤ
-  ρ secs = leg.place.flat.east ∷ leg.place.flat.north ∷ leg.velocity.flat.east ∷ leg.velocity.flat.north ∷ pos vol.dthr ∷ n ∷ d ∷ pos secs ∷ []
+  ρ secs = leg.place.flat.east ∷ leg.place.flat.north ∷ leg.velocity.flat.east ∷ leg.velocity.flat.north ∷ pos volume.dthr ∷ n ∷ d ∷ pos secs ∷ []
 
-  pub rate_is : rate_of m n d ≡ pv leg vol n d
-  rate_is = (λ i. d *ℤ is.rate i +ℤ n *ℤ is.speed_squared i) ∙ sym (dot_at leg vol n d)
+  pub rate_is : rate_of m n d ≡ pv leg volume n d
+  rate_is = (λ i. d *ℤ is.rate i +ℤ n *ℤ is.speed_squared i) ∙ sym (dot_at leg volume n d)
 
   -- what is left of dthr after secs seconds, times v.v
   left : (secs : ℕ) → d *ℤ d *ℤ m.margin -ℤ rate_of m n d *ℤ (rate_of m n d +ℤ pos secs *ℤ d *ℤ m.speed_squared)
-      ≡ vv leg vol *ℤ (square_of (pos vol.dthr *ℤ d) -ℤ (pp leg vol n d +ℤ pos secs *ℤ d *ℤ pv leg vol n d))
+      ≡ vv leg volume *ℤ (square_of (pos volume.dthr *ℤ d) -ℤ (pp leg volume n d +ℤ pos secs *ℤ d *ℤ pv leg volume n d))
   left secs =
       (λ i. d *ℤ d *ℤ is.margin i -ℤ (d *ℤ is.rate i +ℤ n *ℤ is.speed_squared i) *ℤ (d *ℤ is.rate i +ℤ n *ℤ is.speed_squared i +ℤ pos secs *ℤ d *ℤ is.speed_squared i))
       ∙ ring (ρ secs) (D ⊗ D ⊗ (R ⊗ R ⊗ VV ⊖ CC ⊗ CC) ⊖ W ⊗ (W ⊕ S ⊗ D ⊗ VV)) (VV ⊗ ((R ⊗ D) ⊗ (R ⊗ D) ⊖ ((SE ⊗ SE ⊕ SN ⊗ SN) ⊕ S ⊗ D ⊗ (SE ⊗ VE ⊕ SN ⊗ VN)))) tt
 
   -- what moves
-  module _ (moves : pos 0 <ℤ vv leg vol) where
-    pub tau_is : (secs : ℕ) → IsTauWithin m secs n d ↔ ((pp leg vol n d +ℤ pos secs *ℤ d *ℤ pv leg vol n d) ≤ℤ square_of (pos vol.dthr *ℤ d))
+  module _ (moves : pos 0 <ℤ vv leg volume) where
+    pub tau_is : (secs : ℕ) → IsTauWithin m secs n d ↔ ((pp leg volume n d +ℤ pos secs *ℤ d *ℤ pv leg volume n d) ≤ℤ square_of (pos volume.dthr *ℤ d))
     tau_is secs = (
-      (λ h. by_rest _ _ _ refl (cancel_le (vv leg vol) _ moves (subst (λ (z : ℤ). pos 0 ≤ℤ z) (left secs) (rest _ _ h)))),
-      (λ h. by_rest _ _ _ (left secs) (mul_nonneg (vv leg vol) _ (omega (arith, ints, moves)) (rest _ _ h))),
+      (λ h. by_rest _ _ _ refl (cancel_le (vv leg volume) _ moves (subst (λ (z : ℤ). pos 0 ≤ℤ z) (left secs) (rest _ _ h)))),
+      (λ h. by_rest _ _ _ (left secs) (mul_nonneg (vv leg volume) _ (omega (arith, ints, moves)) (rest _ _ h))),
     )
 
-    none_ahead : pp leg vol n d +ℤ pos 0 *ℤ d *ℤ pv leg vol n d ≡ pp leg vol n d
+    none_ahead : pp leg volume n d +ℤ pos 0 *ℤ d *ℤ pv leg volume n d ≡ pp leg volume n d
     none_ahead = ring (ρ 0) ((SE ⊗ SE ⊕ SN ⊗ SN) ⊕ lit (pos 0) ⊗ D ⊗ (SE ⊗ VE ⊕ SN ⊗ VN)) (SE ⊗ SE ⊕ SN ⊗ SN) tt
 
-    pub near_is : IsTauWithin m 0 n d ↔ IsNear leg vol n d
-    near_is = subst (λ (z : ℤ). IsTauWithin m 0 n d ↔ (z ≤ℤ square_of (pos vol.dthr *ℤ d))) none_ahead (tau_is 0)
+    pub near_is : IsTauWithin m 0 n d ↔ IsNear leg volume n d
+    near_is = subst (λ (z : ℤ). IsTauWithin m 0 n d ↔ (z ≤ℤ square_of (pos volume.dthr *ℤ d))) none_ahead (tau_is 0)
 
   -- where the line misses, nothing violates
-  pub violating_passes : pos 1 ≤ℤ d → ViolatesHorizontally leg vol n d → pos 0 ≤ℤ m.margin
+  pub violating_passes : pos 1 ≤ℤ d → ViolatesHorizontally leg volume n d → pos 0 ≤ℤ m.margin
   violating_passes d1 (inl near) = cancel_le (d *ℤ d) m.margin (mul_pos d d (omega (arith, ints)) (omega (arith, ints)))
-      (subst (λ (z : ℤ). pos 0 ≤ℤ z) (sym room) (sum_nonneg _ _ (mul_nonneg (vv leg vol) _ vv0 (rest _ _ near)) (square_nonneg (pv leg vol n d))))
+      (subst (λ (z : ℤ). pos 0 ≤ℤ z) (sym room) (sum_nonneg _ _ (mul_nonneg (vv leg volume) _ vv0 (rest _ _ near)) (square_nonneg (pv leg volume n d))))
     where
-      vv0 : pos 0 ≤ℤ vv leg vol
+      vv0 : pos 0 ≤ℤ vv leg volume
       vv0 = sum_nonneg _ _ (square_nonneg leg.velocity.flat.east) (square_nonneg leg.velocity.flat.north)
 
-      room : d *ℤ d *ℤ m.margin ≡ vv leg vol *ℤ (square_of (pos vol.dthr *ℤ d) -ℤ pp leg vol n d) +ℤ pv leg vol n d *ℤ pv leg vol n d
+      room : d *ℤ d *ℤ m.margin ≡ vv leg volume *ℤ (square_of (pos volume.dthr *ℤ d) -ℤ pp leg volume n d) +ℤ pv leg volume n d *ℤ pv leg volume n d
       room = (λ i. d *ℤ d *ℤ is.margin i)
           ∙ ring (ρ 0) (D ⊗ D ⊗ (R ⊗ R ⊗ VV ⊖ CC ⊗ CC)) (VV ⊗ ((R ⊗ D) ⊗ (R ⊗ D) ⊖ (SE ⊗ SE ⊕ SN ⊗ SN)) ⊕ (SE ⊗ VE ⊕ SN ⊗ VN) ⊗ (SE ⊗ VE ⊕ SN ⊗ VN)) tt
-  violating_passes d1 (inr closing) = subst (λ (z : ℤ). pos 0 ≤ℤ z) (sym is.margin) (rest _ _ ((passes_near-always leg vol n d d1).1 closing.near))
+  violating_passes d1 (inr closing) = subst (λ (z : ℤ). pos 0 ≤ℤ z) (sym is.margin) (rest _ _ ((passes_near-always leg volume n d d1).1 closing.near))
 
   -- ---- where the distance does not fall, only what is near violates
-  pub opening_is : pos 0 ≤ℤ rate_of m n d → IsNear leg vol n d ↔ ViolatesHorizontally leg vol n d
+  pub opening_is : pos 0 ≤ℤ rate_of m n d → IsNear leg volume n d ↔ ViolatesHorizontally leg volume n d
   opening_is up = (inl, ⊎_elim (λ h. h) (λ c. absurd (clash _ _ (subst (λ (z : ℤ). pos 0 ≤ℤ z) rate_is up) c.nearing)))
 
   -- ---- where it falls, on a line that passes near
   module _ (d1 : pos 1 ≤ℤ d) (passes : pos 0 ≤ℤ m.margin) (down : rate_of m n d <ℤ pos 0) where
-    falls : pv leg vol n d <ℤ pos 0
+    falls : pv leg volume n d <ℤ pos 0
     falls = subst (λ (z : ℤ). z <ℤ pos 0) rate_is down
 
-    moves : pos 0 <ℤ vv leg vol
+    moves : pos 0 <ℤ vv leg volume
     moves = nearing_moves (place_at leg n d) leg.velocity.flat falls
 
-    closing : IsSoon vol.model leg vol n d → IsClosing leg vol n d
+    closing : IsSoon volume.model leg volume n d → IsClosing leg volume n d
     closing soon = record {
       nearing = falls;
       soon = soon;
-      near = (passes_near-always leg vol n d d1).0 (by_rest _ _ _ refl (subst (λ (z : ℤ). pos 0 ≤ℤ z) is.margin passes));
+      near = (passes_near-always leg volume n d d1).0 (by_rest _ _ _ refl (subst (λ (z : ℤ). pos 0 ≤ℤ z) is.margin passes));
     }
 
     -- what is near has a modified tau of at most 0
-    near_soon : IsNear leg vol n d → IsSoon Taumod leg vol n d
-    near_soon near = sooner _ _ _ _ (mul_nonneg (pos vol.tthr) d (omega (arith, ints)) (omega (arith, ints))) falls near
+    near_soon : IsNear leg volume n d → IsSoon Taumod leg volume n d
+    near_soon near = sooner _ _ _ _ (mul_nonneg (pos volume.tthr) d (omega (arith, ints)) (omega (arith, ints))) falls near
       where
         sooner : (p t u z : ℤ) → pos 0 ≤ℤ t → u <ℤ pos 0 → p ≤ℤ z → (p +ℤ t *ℤ u) ≤ℤ z
         sooner p t u z t0 u0 h =
             by_rest _ _ _ (ring (p ∷ t ∷ u ∷ z ∷ []) (# 3 ⊖ (# 0 ⊕ # 1 ⊗ # 2)) ((# 3 ⊖ # 0) ⊕ # 1 ⊗ ⊝ (# 2)) tt)
             (sum_nonneg _ _ (rest _ _ h) (mul_nonneg t (neg_ℤ u) t0 (omega (arith, ints))))
 
-    pub taumod_is : vol.model ≡ Taumod → IsTauWithin m vol.tthr n d ↔ ViolatesHorizontally leg vol n d
+    pub taumod_is : volume.model ≡ Taumod → IsTauWithin m volume.tthr n d ↔ ViolatesHorizontally leg volume n d
     taumod_is e = (
-      (λ h. inr (closing (subst (λ (k : Model). IsSoon k leg vol n d) (sym e) ((tau_is moves vol.tthr).0 h)))),
+      (λ h. inr (closing (subst (λ (k : Model). IsSoon k leg volume n d) (sym e) ((tau_is moves volume.tthr).0 h)))),
       ⊎_elim
-          (λ near. (tau_is moves vol.tthr).1 (near_soon near))
-          (λ c. (tau_is moves vol.tthr).1 (subst (λ (k : Model). IsSoon k leg vol n d) e c.soon)),
+          (λ near. (tau_is moves volume.tthr).1 (near_soon near))
+          (λ c. (tau_is moves volume.tthr).1 (subst (λ (k : Model). IsSoon k leg volume n d) e c.soon)),
     )
 
     abbrev IsClosestWithin : Type 0
-    IsClosestWithin = neg_ℤ (rate_of m n d) ≤ℤ (pos vol.tthr *ℤ d *ℤ m.speed_squared)
+    IsClosestWithin = neg_ℤ (rate_of m n d) ≤ℤ (pos volume.tthr *ℤ d *ℤ m.speed_squared)
 
-    closest_is : IsClosestWithin ≡ IsSoon Tcpa leg vol n d
-    closest_is = λ i. neg_ℤ (rate_is i) ≤ℤ (pos vol.tthr *ℤ d *ℤ is.speed_squared i)
+    closest_is : IsClosestWithin ≡ IsSoon Tcpa leg volume n d
+    closest_is = λ i. neg_ℤ (rate_is i) ≤ℤ (pos volume.tthr *ℤ d *ℤ is.speed_squared i)
 
-    pub tcpa_is : vol.model ≡ Tcpa → (IsClosestWithin ⊎ IsNear leg vol n d) ↔ ViolatesHorizontally leg vol n d
+    pub tcpa_is : volume.model ≡ Tcpa → (IsClosestWithin ⊎ IsNear leg volume n d) ↔ ViolatesHorizontally leg volume n d
     tcpa_is e = (
       ⊎_elim
-          (λ h. inr (closing (subst (λ (k : Model). IsSoon k leg vol n d) (sym e) (subst (λ (P : Type 0). P) closest_is h))))
+          (λ h. inr (closing (subst (λ (k : Model). IsSoon k leg volume n d) (sym e) (subst (λ (P : Type 0). P) closest_is h))))
           inl,
       ⊎_elim
           inr
-          (λ c. inl (subst (λ (P : Type 0). P) (sym closest_is) (subst (λ (k : Model). IsSoon k leg vol n d) e c.soon))),
+          (λ c. inl (subst (λ (P : Type 0). P) (sym closest_is) (subst (λ (k : Model). IsSoon k leg volume n d) e c.soon))),
     )
 
   -- ---- what does not move is as near as at the beginning
   module _ (still : m.speed_squared ≡ pos 0) where
-    no_speed : vv leg vol ≡ pos 0
+    no_speed : vv leg volume ≡ pos 0
     no_speed = sym is.speed_squared ∙ still
 
-    no_rate : sv leg vol ≡ pos 0
-    no_rate = root_zero (sv leg vol)
-        (part _ _ (square_nonneg (cc leg vol))
+    no_rate : sv leg volume ≡ pos 0
+    no_rate = root_zero (sv leg volume)
+        (part _ _ (square_nonneg (cc leg volume))
         (sym (lagrange leg.place.flat leg.velocity.flat) ∙ (λ i. dot_of leg.place.flat leg.place.flat *ℤ no_speed i) ∙ *ℤ-zero (dot_of leg.place.flat leg.place.flat)))
       where
         part : (x y : ℤ) → pos 0 ≤ℤ y → x +ℤ y ≡ pos 0 → x ≤ℤ pos 0
@@ -133,13 +133,13 @@ module _ (leg : Leg) (vol : Volume) (m : Motion) (is : IsMotion leg vol m) (n d 
         root_zero (pos (suc x)) h = absurd (omega (arith, ints))
         root_zero (negsuc x) h = absurd (omega (arith, ints))
 
-    same : square_of (pos vol.dthr *ℤ d) -ℤ pp leg vol n d ≡ d *ℤ d *ℤ (square_of (pos vol.dthr) -ℤ dot_of leg.place.flat leg.place.flat)
+    same : square_of (pos volume.dthr *ℤ d) -ℤ pp leg volume n d ≡ d *ℤ d *ℤ (square_of (pos volume.dthr) -ℤ dot_of leg.place.flat leg.place.flat)
     same =
         ring (ρ 0) ((R ⊗ D) ⊗ (R ⊗ D) ⊖ (SE ⊗ SE ⊕ SN ⊗ SN)) (D ⊗ D ⊗ (R ⊗ R ⊖ (E ⊗ E ⊕ N ⊗ N)) ⊖ (lit (pos 2) ⊗ K ⊗ D ⊗ SV ⊕ K ⊗ K ⊗ VV)) tt
-        ∙ (λ i. d *ℤ d *ℤ (square_of (pos vol.dthr) -ℤ dot_of leg.place.flat leg.place.flat) -ℤ (pos 2 *ℤ n *ℤ d *ℤ no_rate i +ℤ n *ℤ n *ℤ no_speed i))
+        ∙ (λ i. d *ℤ d *ℤ (square_of (pos volume.dthr) -ℤ dot_of leg.place.flat leg.place.flat) -ℤ (pos 2 *ℤ n *ℤ d *ℤ no_rate i +ℤ n *ℤ n *ℤ no_speed i))
         ∙ ring (ρ 0) (D ⊗ D ⊗ (R ⊗ R ⊖ (E ⊗ E ⊕ N ⊗ N)) ⊖ (lit (pos 2) ⊗ K ⊗ D ⊗ lit (pos 0) ⊕ K ⊗ K ⊗ lit (pos 0))) (D ⊗ D ⊗ (R ⊗ R ⊖ (E ⊗ E ⊕ N ⊗ N))) tt
 
-    pub still_near : pos 1 ≤ℤ d → (dot_of leg.place.flat leg.place.flat ≤ℤ square_of (pos vol.dthr)) ↔ IsNear leg vol n d
+    pub still_near : pos 1 ≤ℤ d → (dot_of leg.place.flat leg.place.flat ≤ℤ square_of (pos volume.dthr)) ↔ IsNear leg volume n d
     still_near d1 = (
       (λ h. by_rest _ _ _ same (mul_nonneg (d *ℤ d) _ (square_nonneg d) (rest _ _ h))),
       (λ h. by_rest _ _ _ refl (cancel_le (d *ℤ d) _ (mul_pos d d (omega (arith, ints)) (omega (arith, ints))) (subst (λ (z : ℤ). pos 0 ≤ℤ z) same (rest _ _ h)))),

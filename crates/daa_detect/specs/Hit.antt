@@ -6,6 +6,6 @@ use Rattle.daa_taumod.specs.declared.Volume.{Volume}
 use Rattle.daa_taumod.specs.Volume.{Violates}
 
 -- n/d is a time of the leg, and both parts of the volume hold at that one time
-pub record IsHit (leg : Leg) (vol : Volume) (n d : ℤ) : Type 0 where
+pub record IsHit (leg : Leg) (volume : Volume) (n d : ℤ) : Type 0 where
   pub time : IsTime leg.secs n d
-  pub violates : Violates leg vol n d
+  pub violates : Violates leg volume n d

@@ -77,7 +77,7 @@ fn is_tau_within(motion: &Motion, point: &Point, secs: u32) -> bool
     ensures { IsTrue result ↔ IsTauWithin motion.now secs point.now.num point.now.den }
 {
     let rate = rate_at(motion, point);
-    let later = rate + gained(motion, point, secs);
+    let later = rate + rate_gain(motion, point, secs);
     rate as i128 * later as i128 <= (point.den * point.den) as i128 * motion.margin
 }
 
@@ -89,11 +89,11 @@ fn is_closest_within(motion: &Motion, point: &Point, secs: u32) -> bool
         ↔ (neg_ℤ (rate_of motion.now point.now.num point.now.den) ≤ℤ
         (pos secs *ℤ point.now.den *ℤ motion.now.speed_squared)) }
 {
-    -rate_at(motion, point) <= gained(motion, point, secs)
+    -rate_at(motion, point) <= rate_gain(motion, point, secs)
 }
 
 /// What the rate gains in `secs` seconds, times the time's denominator: `secs (v.v)`.
-fn gained(motion: &Motion, point: &Point, secs: u32) -> i64
+fn rate_gain(motion: &Motion, point: &Point, secs: u32) -> i64
     requires small { HasSmallNumbers point.now }
     requires secs { secs ≤ 120 }
     ensures { result ≡ pos secs *ℤ point.now.den *ℤ motion.now.speed_squared }

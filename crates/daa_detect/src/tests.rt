@@ -238,7 +238,7 @@ fn violates_at_one_of_three(leg: &Leg, volume: &Volume) -> bool
 }
 
 /// What `hits` answers, where the body without the box test and the plain one answer the same.
-fn agreed(leg: &Leg, volume: &Volume) -> Option<bool>
+fn agree(leg: &Leg, volume: &Volume) -> Option<bool>
     requires leg { IsLegInRange leg.now }
     requires volume { IsVolumeInRange volume.now }
 {
@@ -255,22 +255,22 @@ fn agreed(leg: &Leg, volume: &Volume) -> Option<bool>
 // there.
 #[test]
 fn box_test_changes_no_answer(rt: HostRuntime) -> Result<(), Fail> {
-    assert!(rt; agreed(&leg(&solid(23760, 0, 0), &STILL, 1), &CYLINDER) == Some(true));
-    assert!(rt; agreed(&leg(&solid(23761, 0, 0), &STILL, 1), &CYLINDER) == Some(false));
-    assert!(rt; agreed(&leg(&solid(-23760, 0, 0), &STILL, 1), &CYLINDER) == Some(true));
-    assert!(rt; agreed(&leg(&solid(-23761, 0, 0), &STILL, 1), &CYLINDER) == Some(false));
-    assert!(rt; agreed(&leg(&solid(0, 23760, 0), &STILL, 1), &CYLINDER) == Some(true));
-    assert!(rt; agreed(&leg(&solid(0, 23761, 0), &STILL, 1), &CYLINDER) == Some(false));
-    assert!(rt; agreed(&leg(&solid(0, -23760, 0), &STILL, 1), &CYLINDER) == Some(true));
-    assert!(rt; agreed(&leg(&solid(0, -23761, 0), &STILL, 1), &CYLINDER) == Some(false));
+    assert!(rt; agree(&leg(&solid(23760, 0, 0), &STILL, 1), &CYLINDER) == Some(true));
+    assert!(rt; agree(&leg(&solid(23761, 0, 0), &STILL, 1), &CYLINDER) == Some(false));
+    assert!(rt; agree(&leg(&solid(-23760, 0, 0), &STILL, 1), &CYLINDER) == Some(true));
+    assert!(rt; agree(&leg(&solid(-23761, 0, 0), &STILL, 1), &CYLINDER) == Some(false));
+    assert!(rt; agree(&leg(&solid(0, 23760, 0), &STILL, 1), &CYLINDER) == Some(true));
+    assert!(rt; agree(&leg(&solid(0, 23761, 0), &STILL, 1), &CYLINDER) == Some(false));
+    assert!(rt; agree(&leg(&solid(0, -23760, 0), &STILL, 1), &CYLINDER) == Some(true));
+    assert!(rt; agree(&leg(&solid(0, -23761, 0), &STILL, 1), &CYLINDER) == Some(false));
     let ahead = Volume {
         tthr: 10,
         ..CYLINDER
     };
-    assert!(rt; agreed(&leg(&solid(0, -51407, 0), &NORTHWARD, 1), &ahead) == Some(true));
-    assert!(rt; agreed(&leg(&solid(0, -51409, 0), &NORTHWARD, 1), &ahead) == Some(false));
-    assert!(rt; agreed(&leg(&solid(0, -63360, 0), &NORTHWARD, 1), &ahead) == Some(false));
-    assert!(rt; agreed(&leg(&solid(0, -63361, 0), &NORTHWARD, 1), &ahead) == Some(false));
+    assert!(rt; agree(&leg(&solid(0, -51407, 0), &NORTHWARD, 1), &ahead) == Some(true));
+    assert!(rt; agree(&leg(&solid(0, -51409, 0), &NORTHWARD, 1), &ahead) == Some(false));
+    assert!(rt; agree(&leg(&solid(0, -63360, 0), &NORTHWARD, 1), &ahead) == Some(false));
+    assert!(rt; agree(&leg(&solid(0, -63361, 0), &NORTHWARD, 1), &ahead) == Some(false));
     Ok(())
 }
 
@@ -293,16 +293,16 @@ fn climbing(east: i64, north: i64) -> Leg
 // farther.
 #[test]
 fn nearest_time_of_the_window_decides(rt: HostRuntime) -> Result<(), Fail> {
-    assert!(rt; agreed(&climbing(0, 20880), &HUNDRED_FEET) == Some(true));
-    assert!(rt; agreed(&climbing(0, 20881), &HUNDRED_FEET) == Some(false));
-    assert!(rt; agreed(&climbing(0, -41040), &HUNDRED_FEET) == Some(true));
-    assert!(rt; agreed(&climbing(0, -41041), &HUNDRED_FEET) == Some(false));
-    assert!(rt; agreed(&climbing(23760, -7200), &HUNDRED_FEET) == Some(true));
-    assert!(rt; agreed(&climbing(23761, -7200), &HUNDRED_FEET) == Some(false));
-    assert!(rt; agreed(&climbing(23760, -2880), &HUNDRED_FEET) == Some(true));
-    assert!(rt; agreed(&climbing(23760, -2879), &HUNDRED_FEET) == Some(false));
-    assert!(rt; agreed(&climbing(23760, -17280), &HUNDRED_FEET) == Some(true));
-    assert!(rt; agreed(&climbing(23760, -17281), &HUNDRED_FEET) == Some(false));
+    assert!(rt; agree(&climbing(0, 20880), &HUNDRED_FEET) == Some(true));
+    assert!(rt; agree(&climbing(0, 20881), &HUNDRED_FEET) == Some(false));
+    assert!(rt; agree(&climbing(0, -41040), &HUNDRED_FEET) == Some(true));
+    assert!(rt; agree(&climbing(0, -41041), &HUNDRED_FEET) == Some(false));
+    assert!(rt; agree(&climbing(23760, -7200), &HUNDRED_FEET) == Some(true));
+    assert!(rt; agree(&climbing(23761, -7200), &HUNDRED_FEET) == Some(false));
+    assert!(rt; agree(&climbing(23760, -2880), &HUNDRED_FEET) == Some(true));
+    assert!(rt; agree(&climbing(23760, -2879), &HUNDRED_FEET) == Some(false));
+    assert!(rt; agree(&climbing(23760, -17280), &HUNDRED_FEET) == Some(true));
+    assert!(rt; agree(&climbing(23760, -17281), &HUNDRED_FEET) == Some(false));
     assert!(rt; is_at(hits(&climbing(23760, -7200), &HUNDRED_FEET), 2, 1));
     assert!(rt; is_at(hits(&climbing(23760, -17280), &HUNDRED_FEET), 24, 5));
     Ok(())
@@ -320,11 +320,11 @@ fn time_ahead_at_the_end_of_the_window(rt: HostRuntime) -> Result<(), Fail> {
         tthr: 10,
         ..HUNDRED_FEET
     };
-    assert!(rt; agreed(&climbing(23760, -20880), &second) == Some(true));
-    assert!(rt; agreed(&climbing(23760, -20881), &second) == Some(false));
-    assert!(rt; agreed(&climbing(23761, -20880), &second) == Some(false));
-    assert!(rt; agreed(&climbing(11880, -53281), &ten) == Some(true));
-    assert!(rt; agreed(&climbing(11880, 30000), &ten) == Some(false));
+    assert!(rt; agree(&climbing(23760, -20880), &second) == Some(true));
+    assert!(rt; agree(&climbing(23760, -20881), &second) == Some(false));
+    assert!(rt; agree(&climbing(23761, -20880), &second) == Some(false));
+    assert!(rt; agree(&climbing(11880, -53281), &ten) == Some(true));
+    assert!(rt; agree(&climbing(11880, 30000), &ten) == Some(false));
     let closest_second = Volume {
         model: Model::Tcpa,
         ..second
@@ -333,12 +333,12 @@ fn time_ahead_at_the_end_of_the_window(rt: HostRuntime) -> Result<(), Fail> {
         model: Model::Tcpa,
         ..ten
     };
-    assert!(rt; agreed(&climbing(23760, -20880), &closest_second) == Some(true));
-    assert!(rt; agreed(&climbing(23760, -20881), &closest_second) == Some(false));
-    assert!(rt; agreed(&climbing(23761, -20880), &closest_second) == Some(false));
-    assert!(rt; agreed(&climbing(11880, -53280), &closest_ten) == Some(true));
-    assert!(rt; agreed(&climbing(11880, -53281), &closest_ten) == Some(false));
-    assert!(rt; agreed(&climbing(11880, 30000), &closest_ten) == Some(false));
+    assert!(rt; agree(&climbing(23760, -20880), &closest_second) == Some(true));
+    assert!(rt; agree(&climbing(23760, -20881), &closest_second) == Some(false));
+    assert!(rt; agree(&climbing(23761, -20880), &closest_second) == Some(false));
+    assert!(rt; agree(&climbing(11880, -53280), &closest_ten) == Some(true));
+    assert!(rt; agree(&climbing(11880, -53281), &closest_ten) == Some(false));
+    assert!(rt; agree(&climbing(11880, 30000), &closest_ten) == Some(false));
     Ok(())
 }
 
@@ -350,12 +350,12 @@ fn no_horizontal_speed_and_one_instant(rt: HostRuntime) -> Result<(), Fail> {
         tthr: 35,
         ..HUNDRED_FEET
     };
-    assert!(rt; agreed(&leg(&solid(16800, 16800, -8400), &straight_up, 10), &ahead) == Some(true));
-    assert!(rt; agreed(&leg(&solid(16801, 16801, -8400), &straight_up, 10), &ahead) == Some(false));
+    assert!(rt; agree(&leg(&solid(16800, 16800, -8400), &straight_up, 10), &ahead) == Some(true));
+    assert!(rt; agree(&leg(&solid(16801, 16801, -8400), &straight_up, 10), &ahead) == Some(false));
     let slower = solid(0, 3600, 2400);
-    assert!(rt; agreed(&leg(&solid(0, 20160, -8400), &slower, 1), &HUNDRED_FEET) == Some(true));
-    assert!(rt; agreed(&leg(&solid(0, 20161, -8400), &slower, 1), &HUNDRED_FEET) == Some(false));
-    assert!(rt; agreed(&leg(&solid(0, -27360, -8400), &slower, 1), &HUNDRED_FEET) == Some(true));
-    assert!(rt; agreed(&leg(&solid(0, -27361, -8400), &slower, 1), &HUNDRED_FEET) == Some(false));
+    assert!(rt; agree(&leg(&solid(0, 20160, -8400), &slower, 1), &HUNDRED_FEET) == Some(true));
+    assert!(rt; agree(&leg(&solid(0, 20161, -8400), &slower, 1), &HUNDRED_FEET) == Some(false));
+    assert!(rt; agree(&leg(&solid(0, -27360, -8400), &slower, 1), &HUNDRED_FEET) == Some(true));
+    assert!(rt; agree(&leg(&solid(0, -27361, -8400), &slower, 1), &HUNDRED_FEET) == Some(false));
     Ok(())
 }

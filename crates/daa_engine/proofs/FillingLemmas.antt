@@ -11,7 +11,7 @@ use Rattle.daa_fixed.specs.Mask.{HasLevel, IsMaskOf}
 use Rattle.daa_bands.specs.Board.{HasLevelOn, IsBoardOf}
 use Rattle.daa_state.specs.Picture.{aircraft_of}
 use Rattle.daa_state.specs.declared.word.Picture.{Picture}
-use Rattle.daa_scan.specs.Situation.{Situation, MeetsAt}
+use Rattle.daa_scan.specs.SceneState.{SceneState, MeetsAt}
 use Rattle.daa_engine.specs.Covered.{CoveredAt, scene_of}
 use Rattle.daa_engine.proofs.Covered.{CoveredBelow}
 use Rattle.daa_engine.specs.Inside.Filling.{AddsAircraft}
@@ -19,7 +19,7 @@ use Rattle.daa_engine.proofs.LevelLemmas.{either, left, right, along, nothing_se
 
 -- ---- one candidate more
 
-pub mark_more : (scene : Situation) (place index mask : ℕ) (first old new : List ℕ) → AddsAircraft scene place index first old
+pub mark_more : (scene : SceneState) (place index mask : ℕ) (first old new : List ℕ) → AddsAircraft scene place index first old
     → IsMaskOf (MeetsAt scene index place) (length scene.settings.levels) mask
     → slice_index new index ≡ bit_or (slice_index old index) mask
     → ((i : ℕ) → i ≢ index → slice_index new i ≡ slice_index old i)
@@ -31,11 +31,11 @@ mark_more scene place index mask first old new h k marked others = record {
   outside = λ i le. others i (omega arith) ∙ h.outside i (omega arith);
 }
 
-pub mark_none : (scene : Situation) (place : ℕ) (first : List ℕ) → AddsAircraft scene place 0 first first
+pub mark_none : (scene : SceneState) (place : ℕ) (first : List ℕ) → AddsAircraft scene place 0 first first
 mark_none scene place first = record { inside = λ i lt. absurd (omega arith); outside = λ i le. refl }
 
 -- an aircraft that no candidate meets adds no level
-pub mark_nothing : (scene : Situation) (place count : ℕ) (board : List ℕ) → ((index l : ℕ) → MeetsAt scene index place l → ⊥)
+pub mark_nothing : (scene : SceneState) (place count : ℕ) (board : List ℕ) → ((index l : ℕ) → MeetsAt scene index place l → ⊥)
     → AddsAircraft scene place count board board
 mark_nothing scene place count board never = record {
   inside = λ i lt. (0, none i, sym (or_zero_r (slice_index board i)));
@@ -53,7 +53,7 @@ mark_nothing scene place count board never = record {
 
 -- ---- one aircraft more
 
-module _ (scene : Situation) (n : ℕ) (old new : List ℕ) (board : IsBoardOf (CoveredBelow scene n) scene.settings old)
+module _ (scene : SceneState) (n : ℕ) (old new : List ℕ) (board : IsBoardOf (CoveredBelow scene n) scene.settings old)
     (adds : AddsAircraft scene n (length (candidates_of scene.settings)) old new) where
   covered : (index l : ℕ) → index < length (candidates_of scene.settings) → 1 ≤ l → l ≤ length scene.settings.levels → HasLevelOn new index l → CoveredBelow scene (n + 1) index l
   covered index l in' low high h =
@@ -92,7 +92,7 @@ module _ (scene : Situation) (n : ℕ) (old new : List ℕ) (board : IsBoardOf (
 
 -- ---- from none to all
 
-pub aircraft_none : (scene : Situation) (n : ℕ) → IsBoardOf (CoveredBelow scene 0) scene.settings (replicate n 0)
+pub aircraft_none : (scene : SceneState) (n : ℕ) → IsBoardOf (CoveredBelow scene 0) scene.settings (replicate n 0)
 aircraft_none scene n = record {
   each = λ index l in' low high. ((λ h. absurd (nothing_set n index l h)), λ x. absurd (let lt = x.1 in omega arith));
   no_level_above = λ index l high h. nothing_set n index l h;

@@ -31,11 +31,11 @@ use Rattle.daa_resolve.specs.declared.side.Side.{Side}
 use Rattle.daa_resolve.specs.declared.side.Side.TheVariants.{Lower, Upper}
 use Rattle.daa_recovery.specs.Recovery.{IsRecovery}
 use Rattle.daa_recovery.specs.declared.recovery.Recovery.{Recovery}
-use Rattle.daa_report.specs.Lines.{Text, kind_word, lower_word, upper_word, first_text, answer_text, moment_line, now_line, alert_line, band_line, resolve_line, recover_line, found_text, number_field, done_line}
+use Rattle.daa_report.specs.Lines.{Text, kind_word, lower_word, upper_word, first_text, resolution_text, moment_line, now_line, alert_line, band_line, resolve_line, recover_line, found_text, number_field, done_line}
 use Rattle.daa_engine.specs.Covered.{CoveredAt}
 use Rattle.daa_engine.specs.Longest.{longest_moment}
 use Rattle.daa_bands.specs.Parts.{SplitsByEach}
-use Rattle.daa_engine.specs.MomentText.{AreAircraftLines, AreBandLines, AreAnswers, IsRecoveryLine, IsRecoveryText, IsMomentText, line_of, of_each, told_of, wants_recovery}
+use Rattle.daa_engine.specs.MomentText.{AreAircraftLines, AreBandLines, AreResolutions, IsRecoveryLine, IsRecoveryText, IsMomentText, line_of, of_each, found_of, wants_recovery}
 
 -- ---- numbers
 
@@ -88,10 +88,10 @@ first_short : (first : Option ℕ) → ((leg : ℕ) → first ≡ Some leg → l
 first_short None h = omega arith
 first_short (Some leg) h = few_digits leg (h leg refl)
 
-answer_short : (answer : Resolution) → ((z : ℤ) → answer ≡ To z → IsValue z) → length (answer_text answer) ≤ 12
-answer_short Keep h = omega arith
-answer_short (To z) h = few_signed z (h z refl)
-answer_short Nothing h = omega arith
+resolution_short : (resolution : Resolution) → ((z : ℤ) → resolution ≡ To z → IsValue z) → length (resolution_text resolution) ≤ 12
+resolution_short Keep h = omega arith
+resolution_short (To z) h = few_signed z (h z refl)
+resolution_short Nothing h = omega arith
 
 pub moment_short : (time : ℕ) → time < 2 ^ 32 → length (moment_line time) ≤ 64
 unfolding moment_line
@@ -152,15 +152,15 @@ resolve_short : (kind : Kind) (lower upper : Resolution) → ((z : ℤ) → lowe
     → length (resolve_line kind lower upper) ≤ 64
 unfolding resolve_line
 resolve_short kind lower upper l u =
-    let k = kind_word kind in let w = lower_word kind in let a = answer_text lower in let v = upper_word kind in let b = answer_text upper in
+    let k = kind_word kind in let w = lower_word kind in let a = resolution_text lower in let v = upper_word kind in let b = resolution_text upper in
     let r = codes "resolve" in let s = codes " " in
     omega (
       arith,
       word_of_kind kind,
       lower_of_kind kind,
       upper_of_kind kind,
-      answer_short lower l,
-      answer_short upper u,
+      resolution_short lower l,
+      resolution_short upper u,
       length-append r s,
       length-append (r ++ s) k,
       length-append (r ++ s ++ k) s,
@@ -305,26 +305,26 @@ module _ (s : Settings) (p : Picture) (ok : IsAccepted s) where
         marks_few values are.levels,
       )
 
-  answer_in : (kind : Kind) (side : Side) (answer : Resolution) → IsResolution (CoveredAt s p) s p.own kind side answer → (z : ℤ) → answer ≡ To z → IsValue z
-  answer_in kind side Keep h z e = absurd (subst IsNotTo e tt)
-  answer_in kind side (To y) h z e = value_in kind h.1.0 z (h.1.1.value_is ∙ ap (λ (r : Resolution). Some (value_or r y)) e)
-  answer_in kind side Nothing h z e = absurd (subst IsNotTo e tt)
+  resolution_in : (kind : Kind) (side : Side) (resolution : Resolution) → IsResolution (CoveredAt s p) s p.own kind side resolution → (z : ℤ) → resolution ≡ To z → IsValue z
+  resolution_in kind side Keep h z e = absurd (subst IsNotTo e tt)
+  resolution_in kind side (To y) h z e = value_in kind h.1.0 z (h.1.1.value_is ∙ ap (λ (r : Resolution). Some (value_or r y)) e)
+  resolution_in kind side Nothing h z e = absurd (subst IsNotTo e tt)
 
-  answers_short : (kind : Kind) (lower upper : Resolution) → AreAnswers s p kind lower upper → length (resolve_line kind lower upper) ≤ 64
-  answers_short kind lower upper h = resolve_short kind lower upper (answer_in kind Lower lower h.lower_is) (answer_in kind Upper upper h.upper_is)
+  resolutions_short : (kind : Kind) (lower upper : Resolution) → AreResolutions s p kind lower upper → length (resolve_line kind lower upper) ≤ 64
+  resolutions_short kind lower upper h = resolve_short kind lower upper (resolution_in kind Lower lower h.lower_is) (resolution_in kind Upper upper h.upper_is)
 
-  recovery_in : (kind : Kind) (found : Option Recovery) → IsRecovery s p kind found → (pair : ℕ × ℤ) → option_map told_of found ≡ Some pair → IsFoundShort pair
+  recovery_in : (kind : Kind) (found : Option Recovery) → IsRecovery s p kind found → (pair : ℕ × ℤ) → option_map found_of found ≡ Some pair → IsFoundShort pair
   recovery_in kind None is pair e = absurd (cc e)
   recovery_in kind (Some r) is pair e =
       let least = is.found in
       let a = is.ahead in
       let few = (ok.level a.number a.level a.closes.there).lookahead_most in
       let soon : r.after < 2 ^ 32 = let b = least.before in let e' = a.reached in omega arith in
-      let short : IsFoundShort (told_of r) = record { soon = soon; fits = value_in kind least.place r.value least.recovers.there } in
+      let short : IsFoundShort (found_of r) = record { soon = soon; fits = value_in kind least.place r.value least.recovers.there } in
       subst IsFoundShort (ap (λ (o : Option (ℕ × ℤ)). unwrap_or o pair) e) short
 
   recovery_line_short : (kind : Kind) (text : Text) → IsRecoveryLine s p kind text → length text ≤ 64
-  recovery_line_short kind text (found, is, e) = omega (arith, ap length e, recover_short kind (option_map told_of found) (recovery_in kind found is))
+  recovery_line_short kind text (found, is, e) = omega (arith, ap length e, recover_short kind (option_map found_of found) (recovery_in kind found is))
 
   recovery_short : (kind : Kind) (lower upper : Resolution) (text : Text) → IsRecoveryText s p kind lower upper text → length text ≤ 64
   recovery_short kind lower upper text is = by_wish (wants_recovery s lower upper) refl
@@ -363,9 +363,9 @@ module _ (s : Settings) (p : Picture) (ok : IsAccepted s) where
   pub text_short : IsPictureInRange p → p.time < 2 ^ 32 → (text : Text) → IsMomentText s p text → length text ≤ longest_moment
   text_short r t text is =
       let alerts = is.alerts in let bands = is.bands in let lower = is.lower in let upper = is.upper in let recoveries = is.recoveries in
-      let answers : Kind → Text = λ kind. resolve_line kind (lower kind) (upper kind) in
+      let resolutions : Kind → Text = λ kind. resolve_line kind (lower kind) (upper kind) in
       let bt = bands Track in let bs = bands Speed in let bc = bands Climb in let bh = bands Height in
-      let at = answers Track in let as' = answers Speed in let ac = answers Climb in let ah = answers Height in
+      let at = resolutions Track in let as' = resolutions Speed in let ac = resolutions Climb in let ah = resolutions Height in
       let rt = recoveries Track in let rs = recoveries Speed in let rc = recoveries Climb in let rh = recoveries Height in
       let m = moment_line p.time in let d = done_line p.time in
       omega (
@@ -379,10 +379,10 @@ module _ (s : Settings) (p : Picture) (ok : IsAccepted s) where
         kind_short Speed bs (is.bands_are Speed),
         kind_short Climb bc (is.bands_are Climb),
         kind_short Height bh (is.bands_are Height),
-        answers_short Track (lower Track) (upper Track) (is.answers_are Track),
-        answers_short Speed (lower Speed) (upper Speed) (is.answers_are Speed),
-        answers_short Climb (lower Climb) (upper Climb) (is.answers_are Climb),
-        answers_short Height (lower Height) (upper Height) (is.answers_are Height),
+        resolutions_short Track (lower Track) (upper Track) (is.resolutions_are Track),
+        resolutions_short Speed (lower Speed) (upper Speed) (is.resolutions_are Speed),
+        resolutions_short Climb (lower Climb) (upper Climb) (is.resolutions_are Climb),
+        resolutions_short Height (lower Height) (upper Height) (is.resolutions_are Height),
         recovery_short Track (lower Track) (upper Track) rt (is.recoveries_are Track),
         recovery_short Speed (lower Speed) (upper Speed) rs (is.recoveries_are Speed),
         recovery_short Climb (lower Climb) (upper Climb) rc (is.recoveries_are Climb),
@@ -395,10 +395,10 @@ module _ (s : Settings) (p : Picture) (ok : IsAccepted s) where
         few_of_kind s Speed ok,
         few_of_kind s Climb ok,
         few_of_kind s Height ok,
-        length-append m (alerts ++ (of_each bands ++ (of_each answers ++ (of_each recoveries ++ d)))),
-        length-append alerts (of_each bands ++ (of_each answers ++ (of_each recoveries ++ d))),
-        length-append (of_each bands) (of_each answers ++ (of_each recoveries ++ d)),
-        length-append (of_each answers) (of_each recoveries ++ d),
+        length-append m (alerts ++ (of_each bands ++ (of_each resolutions ++ (of_each recoveries ++ d)))),
+        length-append alerts (of_each bands ++ (of_each resolutions ++ (of_each recoveries ++ d))),
+        length-append (of_each bands) (of_each resolutions ++ (of_each recoveries ++ d)),
+        length-append (of_each resolutions) (of_each recoveries ++ d),
         length-append (of_each recoveries) d,
         length-append bt (bs ++ (bc ++ bh)),
         length-append bs (bc ++ bh),

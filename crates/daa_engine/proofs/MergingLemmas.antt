@@ -9,7 +9,7 @@ use Rattle.daa_config.specs.Candidates.{candidates_of}
 use Rattle.daa_fixed.specs.Mask.{HasLevel, IsMaskOf}
 use Rattle.daa_config.specs.Packing.{group_size, mask_in}
 use Rattle.daa_bands.specs.Board.{HasLevelOn, IsBoardOf, AddsWord}
-use Rattle.daa_scan.specs.Situation.{Situation, MeetsAt}
+use Rattle.daa_scan.specs.SceneState.{SceneState, MeetsAt}
 use Rattle.daa_scan.specs.Reach.{NoneIsMetOutOfReach}
 use Rattle.daa_scan.specs.Units.{group_count, AreWordsOf}
 use Rattle.daa_engine.specs.Covered.{CoveredAt}
@@ -70,7 +70,7 @@ module _ (groups : ℕ) (words : List ℕ) where
 
 -- ---- all words
 
-module _ (s : Situation) (words board : List ℕ) (are : AreWordsOf s words) (reach : NoneIsMetOutOfReach s)
+module _ (s : SceneState) (words board : List ℕ) (are : AreWordsOf s words) (reach : NoneIsMetOutOfReach s)
     (merged : IsMerged (group_count s.settings) words (length words) board) where
   -- what a word says is so
   mask_of : (index l : ℕ) (x : SaysLevel (group_count s.settings) words (length words) index l)

@@ -38,7 +38,7 @@ module _ (s : Settings) (p : Picture) (unasked : s.recovery ≡ None) where
     upper = h.upper;
     alerts_are = h.alerts_are;
     bands_are = h.bands_are;
-    answers_are = h.answers_are;
+    resolutions_are = h.resolutions_are;
     text_is = h.text_is ∙ with_none h.alerts h.bands h.lower h.upper (of_each h.recoveries) (none_each h.recoveries (λ kind. (h.recoveries_are kind).none (unwanted (h.lower kind) (h.upper kind))));
   }
 
@@ -51,7 +51,7 @@ module _ (s : Settings) (p : Picture) (unasked : s.recovery ≡ None) where
     recoveries = λ kind. [];
     alerts_are = h.alerts_are;
     bands_are = h.bands_are;
-    answers_are = h.answers_are;
+    resolutions_are = h.resolutions_are;
     recoveries_are = λ kind. record {
       line = λ t. let u = unwanted (h.lower kind) (h.upper kind) in absurd (cc (t, u));
       none = λ _. refl;

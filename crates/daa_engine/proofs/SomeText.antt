@@ -11,9 +11,9 @@ use Rattle.daa_state.specs.InRange.{IsTrafficInRange, IsPictureInRange}
 use Rattle.daa_state.specs.Picture.{aircraft_of}
 use Rattle.daa_state.specs.declared.word.Picture.{Picture}
 use Rattle.daa_state.specs.declared.word.Traffic.{Traffic}
-use Rattle.daa_scan.specs.Situation.{MeetsAt}
-use Rattle.daa_fixed.proofs.Telling.{IsTold}
-use Rattle.daa_scan.proofs.Telling.{on_told, alerts_told, now_told, met_at_told}
+use Rattle.daa_scan.specs.SceneState.{MeetsAt}
+use Rattle.daa_fixed.proofs.Decidable.{IsDecidable}
+use Rattle.daa_scan.proofs.DecidableMeetings.{on_decided, alerts_decided, now_decided, met_at_decided}
 use Rattle.daa_alert.proofs.SomeAlert.{some_greatest, some_now, some_alert}
 use Rattle.daa_fixed.specs.One.{HasOne}
 use Rattle.daa_bands.specs.KindBands.{AreKindBands}
@@ -21,22 +21,22 @@ use Rattle.daa_bands.proofs.SomeBands.{one_kind_list}
 use Rattle.daa_resolve.specs.Resolution.{IsResolution}
 use Rattle.daa_resolve.specs.declared.side.Side.{Side}
 use Rattle.daa_resolve.specs.declared.side.Side.TheVariants.{Lower, Upper}
-use Rattle.daa_resolve.proofs.SomeLemmas.{one_resolution}
+use Rattle.daa_resolve.proofs.SomeResolution.{one_resolution}
 use Rattle.daa_config.specs.declared.candidate.Resolution.{Resolution}
-use Rattle.daa_recovery.proofs.Some.{one_recovery}
+use Rattle.daa_recovery.proofs.SomeRecovery.{one_recovery}
 use Rattle.daa_report.specs.Lines.{Text, now_line, alert_line, resolve_line, recover_line, moment_line, done_line}
 use Rattle.daa_engine.specs.Covered.{CoveredAt, scene_of}
 use Rattle.daa_engine.proofs.Covered.{CoveredBelow}
 use Rattle.daa_bands.specs.Parts.{SplitsByEach}
-use Rattle.daa_engine.specs.MomentText.{AreAircraftLines, IsRecoveryText, IsMomentText, line_of, of_each, are_nothing, wants_recovery, told_of}
-use Rattle.daa_engine.proofs.OnlyLemmas.{text_only}
+use Rattle.daa_engine.specs.MomentText.{AreAircraftLines, IsRecoveryText, IsMomentText, line_of, of_each, are_nothing, wants_recovery, found_of}
+use Rattle.daa_engine.proofs.OneText.{text_only}
 
 module _ (s : Settings) (p : Picture) (a : IsAccepted s) (r : IsPictureInRange p) where
-  -- ---- what is covered can be told
+  -- ---- what is covered can be decided
 
-  covered_below : (index l n : ℕ) → IsTold (CoveredBelow (scene_of s p) n index l)
+  covered_below : (index l n : ℕ) → IsDecidable (CoveredBelow (scene_of s p) n index l)
   covered_below index l zero = inr (λ (place, lt, m). omega arith)
-  covered_below index l (suc n) = go (covered_below index l n) (met_at_told (scene_of s p) a r index n l)
+  covered_below index l (suc n) = go (covered_below index l n) (met_at_decided (scene_of s p) a r index n l)
     where
       none : (CoveredBelow (scene_of s p) n index l → ⊥) → (MeetsAt (scene_of s p) index n l → ⊥) → CoveredBelow (scene_of s p) (suc n) index l → ⊥
       none before here (place, lt, m) = ⊎_elim
@@ -44,15 +44,15 @@ module _ (s : Settings) (p : Picture) (a : IsAccepted s) (r : IsPictureInRange p
           (λ ge. let e : place ≡ n = omega (arith, lt, ge) in here (subst (λ (i : ℕ). MeetsAt (scene_of s p) index i l) e m))
           (cases_lt place n)
 
-      go : IsTold (CoveredBelow (scene_of s p) n index l) → IsTold (MeetsAt (scene_of s p) index n l) → IsTold (CoveredBelow (scene_of s p) (suc n) index l)
+      go : IsDecidable (CoveredBelow (scene_of s p) n index l) → IsDecidable (MeetsAt (scene_of s p) index n l) → IsDecidable (CoveredBelow (scene_of s p) (suc n) index l)
       go (inl (place, lt, m)) t = inl (place, omega arith, m)
       go (inr before) (inl m) = inl (n, omega arith, m)
       go (inr before) (inr here) = inr (none before here)
 
-  covered_told : (index l : ℕ) → IsTold (CoveredAt s p index l)
-  covered_told index l = go (covered_below index l (length (aircraft_of p)))
+  covered_decided : (index l : ℕ) → IsDecidable (CoveredAt s p index l)
+  covered_decided index l = go (covered_below index l (length (aircraft_of p)))
     where
-      go : IsTold (CoveredBelow (scene_of s p) (length (aircraft_of p)) index l) → IsTold (CoveredAt s p index l)
+      go : IsDecidable (CoveredBelow (scene_of s p) (length (aircraft_of p)) index l) → IsDecidable (CoveredAt s p index l)
       go (inl (place, lt, m)) = inl (place, m)
       go (inr none) = inr (λ (place, m). none (place, slice_get_within (aircraft_of p) place m.aircraft m.there, m))
 
@@ -60,8 +60,8 @@ module _ (s : Settings) (p : Picture) (a : IsAccepted s) (r : IsPictureInRange p
 
   aircraft_lines : (t : Traffic) → IsTrafficInRange t → (text : Text) × AreAircraftLines s p t text
   aircraft_lines t in' =
-      let now = some_now s p.own t (now_told s p.own t a r.own in') in
-      let alert = some_alert s p.own t (on_told s p.own t a r.own in') (alerts_told s p.own t a r.own in') in
+      let now = some_now s p.own t (now_decided s p.own t a r.own in') in
+      let alert = some_alert s p.own t (on_decided s p.own t a r.own in') (alerts_decided s p.own t a r.own in') in
       (now_line t.id now.0 ++ alert_line t.id alert.0.level alert.0.first, record { now = now.0; alert = alert.0; now_is = now.1; alert_is = alert.1; text_is = refl })
 
   alert_lines : (ts : List Traffic) → AllByRecursion IsTrafficInRange ts → (text : Text) × SplitsByEach (AreAircraftLines s p) ts text
@@ -72,10 +72,10 @@ module _ (s : Settings) (p : Picture) (a : IsAccepted s) (r : IsPictureInRange p
       (first.0 ++ rest.0, record { first = first.0; second = rest.0; first_is = first.1; second_is = rest.1; joined = refl })
 
   bands : (kind : Kind) → HasOne (AreKindBands (CoveredAt s p) (length s.levels) s kind)
-  bands kind = one_kind_list (CoveredAt s p) (length s.levels) s kind (λ index. some_greatest (CoveredAt s p index) (covered_told index) (length s.levels))
+  bands kind = one_kind_list (CoveredAt s p) (length s.levels) s kind (λ index. some_greatest (CoveredAt s p index) (covered_decided index) (length s.levels))
 
-  answer : (kind : Kind) (side : Side) → HasOne (IsResolution (CoveredAt s p) s p.own kind side)
-  answer kind side = one_resolution (CoveredAt s p) covered_told s p.own kind side a
+  resolution : (kind : Kind) (side : Side) → HasOne (IsResolution (CoveredAt s p) s p.own kind side)
+  resolution kind side = one_resolution (CoveredAt s p) covered_decided s p.own kind side a
 
   recovery_texts : (kind : Kind) (lower upper : Resolution) → (text : Text) × IsRecoveryText s p kind lower upper text
   recovery_texts kind lower upper = by_wish (is_some s.recovery) (are_nothing lower upper) refl refl
@@ -91,7 +91,7 @@ module _ (s : Settings) (p : Picture) (a : IsAccepted s) (r : IsPictureInRange p
       by_wish true true e f =
           let f1 = one_recovery s a p kind r (asked s.recovery e) in
           let t : wants_recovery s lower upper ≡ true = cc (e, f) in
-          (recover_line kind (option_map told_of f1.one), record { line = λ _. (f1.one, f1.is, refl); none = λ g. absurd (cc (t, g)) })
+          (recover_line kind (option_map found_of f1.one), record { line = λ _. (f1.one, f1.is, refl); none = λ g. absurd (cc (t, g)) })
       by_wish false n e f = silent (cc e)
       by_wish true false e f = silent (cc (e, f))
 
@@ -99,8 +99,8 @@ module _ (s : Settings) (p : Picture) (a : IsAccepted s) (r : IsPictureInRange p
   some_text =
       let alerts = alert_lines (aircraft_of p) (recursion_from_All IsTrafficInRange (aircraft_of p) r.traffic) in
       let band_text = λ (kind : Kind). flat_map (line_of kind) (bands kind).one in
-      let lower = λ (kind : Kind). (answer kind Lower).one in
-      let upper = λ (kind : Kind). (answer kind Upper).one in
+      let lower = λ (kind : Kind). (resolution kind Lower).one in
+      let upper = λ (kind : Kind). (resolution kind Upper).one in
       let answer_text = λ (kind : Kind). resolve_line kind (lower kind) (upper kind) in
       let recovery_text = λ (kind : Kind). (recovery_texts kind (lower kind) (upper kind)).0 in (
         moment_line p.time ++ (alerts.0 ++ (of_each band_text ++ (of_each answer_text ++ (of_each recovery_text ++ done_line p.time)))),
@@ -112,7 +112,7 @@ module _ (s : Settings) (p : Picture) (a : IsAccepted s) (r : IsPictureInRange p
           recoveries = recovery_text;
           alerts_are = alerts.1;
           bands_are = λ kind. ((bands kind).one, (bands kind).is, refl);
-          answers_are = λ kind. record { lower_is = (answer kind Lower).is; upper_is = (answer kind Upper).is };
+          resolutions_are = λ kind. record { lower_is = (resolution kind Lower).is; upper_is = (resolution kind Upper).is };
           recoveries_are = λ kind. (recovery_texts kind (lower kind) (upper kind)).1;
           text_is = refl;
         },

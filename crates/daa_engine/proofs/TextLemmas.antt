@@ -25,7 +25,7 @@ use Rattle.daa_engine.specs.declared.rescue.Rescue.TheVariants.{Silent, Said}
 use Rattle.daa_engine.specs.declared.rescue.Rescues.{Rescues}
 use Rattle.daa_engine.specs.Inside.Findings.{IsAircraftAlert, AreAircraftAlerts, AreSides, IsAdvice, IsRescue, AreRescues}
 use Rattle.daa_bands.specs.Parts.{SplitsByEach}
-use Rattle.daa_engine.specs.MomentText.{AreAircraftLines, AreBandLines, AreAnswers, IsRecoveryText, IsMomentText}
+use Rattle.daa_engine.specs.MomentText.{AreAircraftLines, AreBandLines, AreResolutions, IsRecoveryText, IsMomentText}
 use Rattle.daa_engine.specs.Inside.Written.{aircraft_text, alerts_text, bands_text, bands_texts, sides_of, advice_text, rescue_text, rescue_of, rescues_text, written}
 
 -- ---- aircraft
@@ -61,8 +61,8 @@ module _ (s : Settings) (p : Picture) (board : List ℕ) (is : IsBoardOf (Covere
   unfolding bands_text
   band_lines kind = (bands_left board s kind 0, bands_covered (CoveredAt s p) s board ok is kind (bands_left board s kind 0) (all_bands board s kind), refl)
 
-  answers_are : (kind : Kind) (sides : Sides) → AreSides (HasLevelOn board) s p.own kind sides → AreAnswers s p kind sides.lower sides.upper
-  answers_are kind sides h = record {
+  resolutions_are : (kind : Kind) (sides : Sides) → AreSides (HasLevelOn board) s p.own kind sides → AreResolutions s p kind sides.lower sides.upper
+  resolutions_are kind sides h = record {
     lower_is = resolved (CoveredAt s p) s board ok is p.own kind Lower sides.lower h.lower;
     upper_is = resolved (CoveredAt s p) s board ok is p.own kind Upper sides.upper h.upper;
   }
@@ -78,16 +78,16 @@ module _ (s : Settings) (p : Picture) (board : List ℕ) (is : IsBoardOf (Covere
     recoveries = λ kind. rescue_text kind (rescue_of rescues kind);
     alerts_are = alert_lines_are s p (aircraft_of p) alerts w.many w.each;
     bands_are = band_lines;
-    answers_are = answers;
+    resolutions_are = resolutions;
     recoveries_are = recoveries;
     text_is = refl;
   }
     where
-      answers : (kind : Kind) → AreAnswers s p kind (sides_of advice kind).lower (sides_of advice kind).upper
-      answers Track = answers_are Track advice.track a.track
-      answers Speed = answers_are Speed advice.speed a.speed
-      answers Climb = answers_are Climb advice.climb a.climb
-      answers Height = answers_are Height advice.height a.height
+      resolutions : (kind : Kind) → AreResolutions s p kind (sides_of advice kind).lower (sides_of advice kind).upper
+      resolutions Track = resolutions_are Track advice.track a.track
+      resolutions Speed = resolutions_are Speed advice.speed a.speed
+      resolutions Climb = resolutions_are Climb advice.climb a.climb
+      resolutions Height = resolutions_are Height advice.height a.height
 
       recoveries : (kind : Kind) → IsRecoveryText s p kind (sides_of advice kind).lower (sides_of advice kind).upper (rescue_text kind (rescue_of rescues kind))
       recoveries Track = rescue_line s p Track advice.track rescues.track r.track

@@ -2,10 +2,10 @@
 use Rattle.std.specs.Prelude.{ℕ}
 use Rattle.daa_config.specs.Settings.{Settings}
 use Rattle.daa_state.specs.declared.word.Picture.{Picture}
-use Rattle.daa_scan.specs.Situation.{Situation, MeetsAt}
+use Rattle.daa_scan.specs.SceneState.{SceneState, MeetsAt}
 
 -- the scene of a configuration and a picture
-abbrev pub scene_of : Settings → Picture → Situation
+abbrev pub scene_of : Settings → Picture → SceneState
 scene_of settings picture = record { settings = settings; picture = picture }
 
 -- the candidate at an index of the whole list is covered at level l: it meets some aircraft of the picture at that level

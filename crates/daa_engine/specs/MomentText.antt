@@ -40,8 +40,8 @@ abbrev pub wants_recovery : Settings → Resolution → Resolution → Bool
 wants_recovery settings lower upper = is_some settings.recovery && are_nothing lower upper
 
 -- the numbers on the line of a recovery: after how many seconds, and the value
-abbrev pub told_of : Recovery → ℕ × ℤ
-told_of r = (r.after, r.value)
+abbrev pub found_of : Recovery → ℕ × ℤ
+found_of r = (r.after, r.value)
 
 module _ (settings : Settings) (picture : Picture) where
   -- the two lines of an aircraft: its level now, and its alert with the first leg
@@ -59,13 +59,13 @@ module _ (settings : Settings) (picture : Picture) where
       × (text ≡ flat_map (line_of kind) bands)
 
   -- the answers on the two sides of a kind
-  pub record AreAnswers (kind : Kind) (lower upper : Resolution) : Type 0 where
+  pub record AreResolutions (kind : Kind) (lower upper : Resolution) : Type 0 where
     pub lower_is : IsResolution (CoveredAt settings picture) settings picture.own kind Lower lower
     pub upper_is : IsResolution (CoveredAt settings picture) settings picture.own kind Upper upper
 
   -- the line of a kind's recovery
   abbrev pub IsRecoveryLine : Kind → Text → Type 0
-  IsRecoveryLine kind text = (found : Option Recovery) × IsRecovery settings picture kind found × (text ≡ recover_line kind (option_map told_of found))
+  IsRecoveryLine kind text = (found : Option Recovery) × IsRecovery settings picture kind found × (text ≡ recover_line kind (option_map found_of found))
 
   -- that line where the kind, with these answers, has one; else no text
   pub record IsRecoveryText (kind : Kind) (lower upper : Resolution) (text : Text) : Type 0 where
@@ -82,7 +82,7 @@ module _ (settings : Settings) (picture : Picture) where
     pub recoveries : Kind → Text
     pub alerts_are : SplitsByEach AreAircraftLines (aircraft_of picture) alerts
     pub bands_are : (kind : Kind) → AreBandLines kind (bands kind)
-    pub answers_are : (kind : Kind) → AreAnswers kind (lower kind) (upper kind)
+    pub resolutions_are : (kind : Kind) → AreResolutions kind (lower kind) (upper kind)
     pub recoveries_are : (kind : Kind) → IsRecoveryText kind (lower kind) (upper kind) (recoveries kind)
     pub text_is : text ≡ moment_line picture.time
         ++ (alerts ++ (of_each bands ++ (of_each (λ kind. resolve_line kind (lower kind) (upper kind)) ++ (of_each recoveries ++ done_line picture.time))))

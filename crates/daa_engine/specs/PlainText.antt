@@ -7,7 +7,7 @@ use Rattle.daa_state.specs.Picture.{aircraft_of}
 use Rattle.daa_state.specs.declared.word.Picture.{Picture}
 use Rattle.daa_bands.specs.Parts.{SplitsByEach}
 use Rattle.daa_report.specs.Lines.{Text, moment_line, resolve_line, done_line}
-use Rattle.daa_engine.specs.MomentText.{of_each, AreAircraftLines, AreBandLines, AreAnswers}
+use Rattle.daa_engine.specs.MomentText.{of_each, AreAircraftLines, AreBandLines, AreResolutions}
 
 -- its first line, those of the aircraft in the order of the input, the bands and then the answers of each kind, and its last line
 pub record IsPlainText (settings : Settings) (picture : Picture) (text : Text) : Type 0 where
@@ -17,6 +17,6 @@ pub record IsPlainText (settings : Settings) (picture : Picture) (text : Text) :
   pub upper : Kind → Resolution
   pub alerts_are : SplitsByEach (AreAircraftLines settings picture) (aircraft_of picture) alerts
   pub bands_are : (kind : Kind) → AreBandLines settings picture kind (bands kind)
-  pub answers_are : (kind : Kind) → AreAnswers settings picture kind (lower kind) (upper kind)
+  pub resolutions_are : (kind : Kind) → AreResolutions settings picture kind (lower kind) (upper kind)
   pub text_is : text ≡ moment_line picture.time
       ++ (alerts ++ (of_each bands ++ (of_each (λ kind. resolve_line kind (lower kind) (upper kind)) ++ done_line picture.time)))

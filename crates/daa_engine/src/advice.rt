@@ -29,15 +29,15 @@ pub(crate) fn advise(board: &Board, config: &Config, own: &Own) -> Advice
     ensures { IsAdvice (HasLevelOn board.now) config.now own.now result }
 {
     Advice {
-        track: answers(board, config, own, Kind::Track),
-        speed: answers(board, config, own, Kind::Speed),
-        climb: answers(board, config, own, Kind::Climb),
-        height: answers(board, config, own, Kind::Height),
+        track: both_sides(board, config, own, Kind::Track),
+        speed: both_sides(board, config, own, Kind::Speed),
+        climb: both_sides(board, config, own, Kind::Climb),
+        height: both_sides(board, config, own, Kind::Height),
     }
 }
 
-/// What they answer on both sides of a kind.
-fn answers(board: &Board, config: &Config, own: &Own, kind: Kind) -> Sides
+/// The resolutions on both sides of a kind.
+fn both_sides(board: &Board, config: &Config, own: &Own, kind: Kind) -> Sides
     ensures { AreSides (HasLevelOn board.now) config.now own.now kind result }
 {
     Sides {

@@ -23,56 +23,62 @@ ghost use Rattle.daa_engine.specs.PlainText.{IsPlainText};
 /// Under a configuration that is accepted exactly one text is that of a picture in range. This
 /// holds of the definitions alone, whatever a program does: no memory or sink is in it.
 pub fn every_picture_has_one_text()
-    ensures { (s : Settings) (p : Picture) → IsAccepted s → IsPictureInRange p
-        → HasOne (IsMomentText s p) }
+    ensures { (settings : Settings) (picture : Picture) → IsAccepted settings
+        → IsPictureInRange picture
+        → HasOne (IsMomentText settings picture) }
 {}
 
 /// Under a configuration that is accepted a picture has no two texts, in range or not.
 pub fn has_one_text()
-    ensures { (s : Settings) (p : Picture) (a b : Text) → IsAccepted s → IsMomentText s p a
-        → IsMomentText s p b → a ≡ b }
+    ensures { (settings : Settings) (picture : Picture) (a b : Text) → IsAccepted settings
+        → IsMomentText settings picture a
+        → IsMomentText settings picture b → a ≡ b }
 {}
 
 /// A picture has at most one board: two boards of the covered candidates have the same levels.
 /// So the workers' board is that of one thread.
 pub fn has_one_board()
-    ensures { (s : Settings) (p : Picture) (a b : List ℕ) (index l : ℕ)
-        → IsBoardOf (CoveredAt s p) s a → IsBoardOf (CoveredAt s p) s b → 1 ≤ l
+    ensures { (settings : Settings) (picture : Picture) (a b : List ℕ) (index l : ℕ)
+        → IsBoardOf (CoveredAt settings picture) settings a
+        → IsBoardOf (CoveredAt settings picture) settings b → 1 ≤ l
         → HasLevelOn a index l → HasLevelOn b index l }
 {}
 
 /// What a board shows is what aircraft do: over a board that stands for what is covered, the bands
 /// of a kind, the answer on a side and the level of a candidate are those over what is covered.
-pub fn boards_tell_what_is_covered()
-    ensures bands { (s : Settings) (p : Picture) (board : List ℕ) (kind : Kind) (bands : List Band)
-        → IsAccepted s
-        → IsBoardOf (CoveredAt s p) s board
-        → AreKindBands (HasLevelOn board) mask_levels s kind bands
-        → AreKindBands (CoveredAt s p) (length s.levels) s kind bands }
-    ensures answers { (s : Settings) (p : Picture) (board : List ℕ) (kind : Kind) (side : Side)
-        (answer : Resolution) → IsAccepted s
-        → IsBoardOf (CoveredAt s p) s board
-        → IsResolution (HasLevelOn board) s p.own kind side answer
-        → IsResolution (CoveredAt s p) s p.own kind side answer }
-    ensures levels { (s : Settings) (p : Picture) (board : List ℕ) (index level : ℕ)
-        → IsAccepted s
-        → IsBoardOf (CoveredAt s p) s board
-        → index < length (candidates_of s)
+pub fn boards_show_what_is_covered()
+    ensures bands { (settings : Settings) (picture : Picture) (board : List ℕ) (kind : Kind)
+        (bands : List Band)
+        → IsAccepted settings
+        → IsBoardOf (CoveredAt settings picture) settings board
+        → AreKindBands (HasLevelOn board) mask_levels settings kind bands
+        → AreKindBands (CoveredAt settings picture) (length settings.levels) settings kind bands }
+    ensures resolutions { (settings : Settings) (picture : Picture) (board : List ℕ) (kind : Kind)
+        (side : Side)
+        (resolution : Resolution) → IsAccepted settings
+        → IsBoardOf (CoveredAt settings picture) settings board
+        → IsResolution (HasLevelOn board) settings picture.own kind side resolution
+        → IsResolution (CoveredAt settings picture) settings picture.own kind side resolution }
+    ensures levels { (settings : Settings) (picture : Picture) (board : List ℕ) (index level : ℕ)
+        → IsAccepted settings
+        → IsBoardOf (CoveredAt settings picture) settings board
+        → index < length (candidates_of settings)
         → IsGreatestLevel (HasLevelOn board index) mask_levels level
-        → IsGreatestLevel (CoveredAt s p index) (length s.levels) level }
+        → IsGreatestLevel (CoveredAt settings picture index) (length settings.levels) level }
 {}
 
 /// Under a configuration without a table of recovery the text is that of the lines that there are
 /// without recoveries.
 pub fn texts_without_a_recovery_are_as_before()
-    ensures { (s : Settings) (p : Picture) (text : Text) → s.recovery ≡ None
-        → IsMomentText s p text ↔ IsPlainText s p text }
+    ensures { (settings : Settings) (picture : Picture) (text : Text) → settings.recovery ≡ None
+        → IsMomentText settings picture text ↔ IsPlainText settings picture text }
 {}
 
 /// The text of a picture in range, whose time is a `u32`, has at most 130176 bytes: at most 64 for
 /// each of its lines. So a sheet of one byte more is never full.
 pub fn texts_are_short()
-    ensures { (s : Settings) (p : Picture) (text : Text) → IsAccepted s → IsPictureInRange p
-        → p.time < 2 ^ 32 → IsMomentText s p text
+    ensures { (settings : Settings) (picture : Picture) (text : Text) → IsAccepted settings
+        → IsPictureInRange picture
+        → picture.time < 2 ^ 32 → IsMomentText settings picture text
         → length text ≤ longest_moment }
 {}

@@ -17,7 +17,7 @@ pub use alone::{decide_in, report_in, say_moment};
 pub use daa_schedule::NoMemory;
 pub use engine::Engine;
 pub use laws::{
-    boards_tell_what_is_covered, every_picture_has_one_text, has_one_board, has_one_text,
+    boards_show_what_is_covered, every_picture_has_one_text, has_one_board, has_one_text,
     texts_are_short, texts_without_a_recovery_are_as_before,
 };
 

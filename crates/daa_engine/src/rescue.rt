@@ -3,7 +3,7 @@
 ghost use Rattle.std.specs.Prelude.{◌≡◌, ◌≢◌, ◌&&◌, option_map, None};
 ghost use Rattle.daa_state.specs.InRange.{IsPictureInRange};
 ghost use Rattle.daa_engine.specs.Inside.Findings.{IsRescue, AreRescues};
-ghost use Rattle.daa_engine.specs.MomentText.{are_nothing, told_of};
+ghost use Rattle.daa_engine.specs.MomentText.{are_nothing, found_of};
 
 use crate::advice::{Advice, Sides};
 use daa_config::{Config, Kind, Resolution};
@@ -45,15 +45,15 @@ fn find_rescue(config: &Config, picture: &Picture, kind: Kind, sides: &Sides) ->
     requires { IsPictureInRange picture.now }
     ensures { IsRescue config.now picture.now kind sides.now result }
 {
-    if config.recovery().is_some() && have_no_answer(sides) {
-        Rescue::Said(told(least(config, picture, kind)))
+    if config.recovery().is_some() && have_no_resolution(sides) {
+        Rescue::Said(found_numbers(least(config, picture, kind)))
     } else {
         Rescue::Silent
     }
 }
 
 /// Whether neither side has an answer.
-fn have_no_answer(sides: &Sides) -> bool
+fn have_no_resolution(sides: &Sides) -> bool
     ensures { result ≡ are_nothing sides.now.lower sides.now.upper }
 {
     match (sides.lower, sides.upper) {
@@ -63,8 +63,8 @@ fn have_no_answer(sides: &Sides) -> bool
 }
 
 /// The numbers of a recovery on a line.
-fn told(found: Option<Recovery>) -> Option<(u32, i32)>
-    ensures { result ≡ option_map told_of found }
+fn found_numbers(found: Option<Recovery>) -> Option<(u32, i32)>
+    ensures { result ≡ option_map found_of found }
 {
     match found {
         Some(recovery) => Some((recovery.after, recovery.value)),

@@ -3,7 +3,7 @@
 ghost use Rattle.std.specs.Prelude.{◌≡◌, length};
 ghost use Rattle.daa_state.specs.Picture.{aircraft_of};
 ghost use Rattle.daa_report.specs.Says.{Says};
-ghost use Rattle.daa_report.specs.PageSays.{PageSays};
+ghost use Rattle.daa_report.specs.Page.{PageSays};
 ghost use Rattle.daa_report.specs.Lines.{moment_line, now_line, alert_line, done_line};
 ghost use Rattle.daa_engine.specs.MomentText.{line_of};
 ghost use Rattle.daa_engine.specs.Inside.Written.{aircraft_text, alerts_text, bands_text, bands_texts, sides_text, advice_text, rescue_text, rescues_text, written};

@@ -4,7 +4,7 @@ use Rattle.std.proofs.lemmas.Int.{ints, to_z_pos, to_z-of_z}
 use mir.Val.{to_z, of_z}
 use Rattle.rand_pcg.specs.Lcg.{Lcg, next_state, state_after}
 use Rattle.rand_pcg.specs.Pcg.{multiplier_64, pcg32}
-use Rattle.daa_state.specs.Ranges.{Range}
+use Rattle.daa_state.specs.Ranges.{Bounds}
 use Rattle.daa_exercise.specs.Outputs.{outputs_from, picked}
 use Rattle.daa_exercise.specs.Inside.Drawing.{after}
 use Rattle.daa_exercise.specs.Moments.{own_altitudes, own_tracks, own_ground_speeds, drawn_vertical_speeds, drawn_positions, heights_above, drawn_speeds, own_at, aircraft_at, name_of}
@@ -72,7 +72,7 @@ pub next_after : (k : ℕ) (g h i : Lcg) → h ≡ after k g → i ≡ after 1 h
 next_after k g h i e f = f ∙ ap (after 1) e ∙ after_after k 1 g
 
 -- what the next output picks is what the output at that place picks
-pub picks_at : (k : ℕ) (g h : Lcg) (range : Range) (z : ℤ) → h ≡ after k g → z ≡ picked range (outputs_from h 0) → z ≡ picked range (outputs_from g (k + 0))
+pub picks_at : (k : ℕ) (g h : Lcg) (range : Bounds) (z : ℤ) → h ≡ after k g → z ≡ picked range (outputs_from h 0) → z ≡ picked range (outputs_from g (k + 0))
 picks_at k g h range z e f = f ∙ ap (λ (x : Lcg). picked range (outputs_from x 0)) e ∙ ap (picked range) (outputs_after k 0 g)
 
 abbrev pub own_of : (x y alt trk gs vs : ℤ) → Own

@@ -5,5 +5,5 @@ pub mod TakenLemmas
 pub mod TallyLemmas
 pub mod CountLemmas
 pub mod SumLemmas
-pub mod OneLemmas
+pub mod OneSummary
 pub mod ExampleLemmas

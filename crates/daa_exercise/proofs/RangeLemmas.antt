@@ -6,7 +6,7 @@ use Rattle.std.proofs.lemmas.Int.{ints}
 use Rattle.std.proofs.lemmas.List.FromFn.{get_or-map-range_with_len}
 use Rattle.daa_state.specs.Id.{is_id}
 use Rattle.daa_state.specs.InRange.{IsWithin, IsOwnInRange, IsTrafficInRange, IsPictureInRange}
-use Rattle.daa_state.specs.Ranges.{Range, positions, altitudes, tracks, ground_speeds, speeds, vertical_speeds}
+use Rattle.daa_state.specs.Ranges.{Bounds, positions, altitudes, tracks, ground_speeds, speeds, vertical_speeds}
 use Rattle.daa_state.specs.declared.word.Traffic.{Traffic}
 use Rattle.daa_exercise.specs.Moments.{own_altitudes, own_tracks, own_ground_speeds, drawn_vertical_speeds, aircraft_counts, drawn_positions, heights_above, drawn_speeds, name_of, own_at, count_at, aircraft_at, traffic_at, moment_at}
 use Rattle.daa_exercise.specs.Outputs.{Outputs, picked}
@@ -24,7 +24,7 @@ left_over : (output size : ℕ) → output % (size + 1) < size + 1
 left_over output size = omega arith
 
 -- and so in every range around it
-pub picks : (range outer : Range) (output : ℕ) → outer.low ≤ℤ range.low → range.low ≤ℤ range.high → range.high ≤ℤ outer.high → IsWithin outer (picked range output)
+pub picks : (range outer : Bounds) (output : ℕ) → outer.low ≤ℤ range.low → range.low ≤ℤ range.high → range.high ≤ℤ outer.high → IsWithin outer (picked range output)
 picks range outer output low ordered high =
     let n = output % (nat_abs (range.high -ℤ range.low) + 1) in
     let a = least range.low range.high n in

@@ -10,7 +10,7 @@ use Rattle.std.proofs.lemmas.List.Elements.{All-append, All-cons, All-from_recur
 use Rattle.std.proofs.lemmas.List.Folds.{list_any_none}
 use Rattle.std.proofs.lemmas.List.FromFn.{map-range_with_len_more}
 use Rattle.daa_state.specs.InRange.{IsWithin, IsPictureInRange, IsWordInRange}
-use Rattle.daa_state.specs.MomentStep.{State, Stepped, step, stepped, begun_moment, with_own, with_traffic, ended_picture, has_id, empty_moment}
+use Rattle.daa_state.specs.MomentStep.{MomentsState, Stepped, step, stepped, begun_moment, with_own, with_traffic, ended_picture, has_id, empty_moment}
 use Rattle.daa_state.specs.Fault.{Checked, ◌>>=◌}
 use Rattle.daa_state.specs.Ranges.{times}
 use Rattle.daa_state.specs.declared.moments.Moment.{Moment}
@@ -62,7 +62,7 @@ begun None (Some last) time e h = rw (later last h) refl
     later : (l : ℕ) → l < time → nat_le time l ≡ false
     later l lt = grind (arith, nat_tests)
 
-begins : (state : State) (time : ℕ) → state.moment ≡ None → IfSome state.last (λ l. l < time)
+begins : (state : MomentsState) (time : ℕ) → state.moment ≡ None → IfSome state.last (λ l. l < time)
     → step state (says.Moment time) ≡ Ok (stepped (record state { moment = Some (empty_moment time) }) None)
 unfolding step
 begins state time e h = rw (begun state.moment state.last time e h) refl
@@ -159,7 +159,7 @@ words_in_range picture ok =
 in_time : (time : ℕ) → time < 2 ^ 32 → IsWithin times (pos time)
 in_time time lt = (omega (arith, ints), omega (arith, ints))
 
-module _ (output : Outputs) (time at : ℕ) (state : State) (closed : state.moment ≡ None) (earlier : IfSome state.last (λ last. last < time)) where
+module _ (output : Outputs) (time at : ℕ) (state : MomentsState) (closed : state.moment ≡ None) (earlier : IfSome state.last (λ last. last < time)) where
   all_accepted : steps (stepped state None) (moment_words (moment_at output time at)) ≡ Ok (stepped (record state { moment = None; last = Some time }) (Some (moment_at output time at)))
   unfolding moment_at
   all_accepted =

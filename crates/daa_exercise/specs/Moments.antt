@@ -2,7 +2,7 @@
 -- those of the moment before end.
 use Rattle.std.specs.Prelude.{ℕ, zero, suc, ℤ, pos, neg_ℤ, nat_abs, ◌+◌, ◌*◌, ◌+ℤ◌, List, ◌++◌, map, codes, decimal}
 use Rattle.std.specs.List.{range_with_len}
-use Rattle.daa_state.specs.Ranges.{Range}
+use Rattle.daa_state.specs.Ranges.{Bounds}
 use Rattle.daa_state.specs.declared.word.Own.{Own}
 use Rattle.daa_state.specs.declared.word.Traffic.{Traffic}
 use Rattle.daa_state.specs.declared.word.Picture.{Picture}
@@ -11,35 +11,35 @@ use Rattle.daa_exercise.specs.Outputs.{Outputs, picked}
 -- ---- what is drawn, both ends of a range in it
 
 -- feet
-abbrev pub own_altitudes : Range
+abbrev pub own_altitudes : Bounds
 own_altitudes = record { low = pos 0; high = pos 20000 }
 
 -- degrees clockwise from north
-abbrev pub own_tracks : Range
+abbrev pub own_tracks : Bounds
 own_tracks = record { low = pos 0; high = pos 359 }
 
 -- tenths of a knot
-abbrev pub own_ground_speeds : Range
+abbrev pub own_ground_speeds : Bounds
 own_ground_speeds = record { low = pos 500; high = pos 5000 }
 
 -- feet per minute, of the ownship and of aircraft
-abbrev pub drawn_vertical_speeds : Range
+abbrev pub drawn_vertical_speeds : Bounds
 drawn_vertical_speeds = record { low = neg_ℤ (pos 2000); high = pos 2000 }
 
 -- how many aircraft a moment has
-abbrev pub aircraft_counts : Range
+abbrev pub aircraft_counts : Bounds
 aircraft_counts = record { low = pos 0; high = pos 8 }
 
 -- east or north, in thousandths of a nautical mile
-abbrev pub drawn_positions : Range
+abbrev pub drawn_positions : Bounds
 drawn_positions = record { low = neg_ℤ (pos 8000); high = pos 8000 }
 
 -- feet above the ownship
-abbrev pub heights_above : Range
+abbrev pub heights_above : Bounds
 heights_above = record { low = neg_ℤ (pos 2000); high = pos 2000 }
 
 -- east or north, in tenths of a knot
-abbrev pub drawn_speeds : Range
+abbrev pub drawn_speeds : Bounds
 drawn_speeds = record { low = neg_ℤ (pos 5000); high = pos 5000 }
 
 -- ---- a moment

@@ -3,7 +3,7 @@ use Rattle.std.specs.Prelude.{ℕ, ℤ, pos, nat_abs, ◌+◌, ◌%◌, ◌+ℤ�
 use Rattle.rand_core.specs.Pcg32Seed.{pcg32_seed}
 use Rattle.rand_pcg.specs.Lcg.{Lcg, advance}
 use Rattle.rand_pcg.specs.Pcg.{multiplier_64, pcg32, pcg32_of_seed}
-use Rattle.daa_state.specs.Ranges.{Range}
+use Rattle.daa_state.specs.Ranges.{Bounds}
 
 -- outputs of 32 bits, numbered from 0
 abbrev pub Outputs : Type 0
@@ -22,9 +22,9 @@ abbrev pub outputs_of : ℕ → Outputs
 outputs_of seed = outputs_from (generator_of seed)
 
 -- how many numbers are in a range, both ends counted
-abbrev pub size_of : Range → ℕ
+abbrev pub size_of : Bounds → ℕ
 size_of range = nat_abs (range.high -ℤ range.low) + 1
 
 -- the number of the range that an output picks: the least plus the output's remainder by the size
-abbrev pub picked : Range → ℕ → ℤ
+abbrev pub picked : Bounds → ℕ → ℤ
 picked range output = range.low +ℤ pos (output % size_of range)

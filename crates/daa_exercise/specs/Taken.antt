@@ -2,7 +2,7 @@
 use Rattle.std.specs.Prelude.{◌≡◌, pos, List, [], ◌∷◌, ◌++◌, map, All, Some, None, Ok}
 use Rattle.daa_state.specs.Fault.{Checked, ◌>>=◌}
 use Rattle.daa_state.specs.InRange.{IsWithin, IsWordInRange}
-use Rattle.daa_state.specs.MomentStep.{State, Stepped, step, stepped}
+use Rattle.daa_state.specs.MomentStep.{MomentsState, Stepped, step, stepped}
 use Rattle.daa_state.specs.Picture.{aircraft_of}
 use Rattle.daa_state.specs.Ranges.{times}
 use Rattle.daa_state.specs.declared.word.Picture.{Picture}
@@ -23,7 +23,7 @@ steps now (word ∷ words) = do
 
 -- a moment whose numbers are in range and of which no word is refused: its end gives the moment itself, and its time is then
 -- the last
-pub record IsTaken (state : State) (moment : Picture) : Type 0 where
+pub record IsTaken (state : MomentsState) (moment : Picture) : Type 0 where
   pub time : IsWithin times (pos moment.time)
   pub in_range : All IsWordInRange (moment_words moment)
   pub accepted : steps (stepped state None) (moment_words moment) ≡ Ok (stepped (record state { moment = None; last = Some moment.time }) (Some moment))

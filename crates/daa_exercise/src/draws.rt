@@ -3,7 +3,7 @@
 
 ghost use Rattle.std.specs.Prelude.{◌≡◌, ◌≤◌, ◌+◌, ◌*◌, ◌≤ℤ◌, nat_abs, pos};
 ghost use Rattle.daa_state.specs.InRange.{IsPictureInRange};
-ghost use Rattle.daa_exercise.specs.Inside.Drawing.{after, range_of, IsSpan};
+ghost use Rattle.daa_exercise.specs.Inside.Drawing.{after, bounds_of, AreBounds};
 ghost use Rattle.daa_exercise.specs.Moments.{aircraft_counts, name_of, own_at, aircraft_at, traffic_at, draws_at, moment_at};
 ghost use Rattle.daa_exercise.specs.Outputs.{generator_of, picked, outputs_from};
 
@@ -15,43 +15,43 @@ use rand_pcg::Lcg64Xsh32;
 use std::marker::Model;
 
 /// The numbers from one up to another, both ends counted.
-pub(crate) struct Span {
+pub(crate) struct Bounds {
     low: i32,
     high: i32,
 }
 
 // Feet, degrees, tenths of a knot, feet per minute.
-const OWN_ALTITUDES: Span = Span {
+const OWN_ALTITUDES: Bounds = Bounds {
     low: 0,
     high: 20000,
 };
 
-const OWN_TRACKS: Span = Span { low: 0, high: 359 };
+const OWN_TRACKS: Bounds = Bounds { low: 0, high: 359 };
 
-const OWN_GROUND_SPEEDS: Span = Span {
+const OWN_GROUND_SPEEDS: Bounds = Bounds {
     low: 500,
     high: 5000,
 };
 
-const VERTICAL_SPEEDS: Span = Span {
+const VERTICAL_SPEEDS: Bounds = Bounds {
     low: -2000,
     high: 2000,
 };
 
-const AIRCRAFT_COUNTS: Span = Span { low: 0, high: 8 };
+const AIRCRAFT_COUNTS: Bounds = Bounds { low: 0, high: 8 };
 
 // Thousandths of a nautical mile, feet above the ownship, tenths of a knot.
-const POSITIONS: Span = Span {
+const POSITIONS: Bounds = Bounds {
     low: -8000,
     high: 8000,
 };
 
-const HEIGHTS_ABOVE: Span = Span {
+const HEIGHTS_ABOVE: Bounds = Bounds {
     low: -2000,
     high: 2000,
 };
 
-const SPEEDS: Span = Span {
+const SPEEDS: Bounds = Bounds {
     low: -5000,
     high: 5000,
 };
@@ -82,16 +82,16 @@ impl Draws {
     }
 
     /// The number that the next output picks.
-    fn pick(&mut self, span: &Span) -> i32
-        requires { IsSpan span.now }
-        ensures value { result ≡ picked (range_of span.now) (outputs_from self.old 0) }
-        ensures least { span.now.low ≤ℤ result }
-        ensures most { result ≤ℤ span.now.high }
+    fn pick(&mut self, bounds: &Bounds) -> i32
+        requires { AreBounds bounds.now }
+        ensures value { result ≡ picked (bounds_of bounds.now) (outputs_from self.old 0) }
+        ensures least { bounds.now.low ≤ℤ result }
+        ensures most { result ≤ℤ bounds.now.high }
         ensures rest { self.new ≡ after 1 self.old }
     {
         let output = self.generator.next_word();
-        let size = (span.high - span.low) as u32 + 1;
-        span.low + (output % size) as i32
+        let size = (bounds.high - bounds.low) as u32 + 1;
+        bounds.low + (output % size) as i32
     }
 
     /// The ownship of the next four outputs.

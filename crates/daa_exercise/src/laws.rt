@@ -8,7 +8,7 @@ ghost use Rattle.daa_fixed.specs.One.{HasOne};
 ghost use Rattle.daa_config.specs.Settings.{IsAccepted, Settings};
 ghost use Rattle.daa_config.specs.declared.kind.Kind.{Kind};
 ghost use Rattle.daa_state.specs.InRange.{IsPictureInRange};
-ghost use Rattle.daa_state.specs.MomentStep.{State};
+ghost use Rattle.daa_state.specs.MomentStep.{MomentsState};
 ghost use Rattle.daa_exercise.specs.Levels.{AreLevels, HasAlerts, HasShown, aircraft_in, counts_of};
 ghost use Rattle.daa_exercise.specs.Moments.{aircraft_at, begin_of, moment_of, own_at};
 ghost use Rattle.daa_exercise.specs.Summary.{IsSummaryOf};
@@ -18,8 +18,8 @@ ghost use Rattle.daa_exercise.specs.Outputs.{Outputs, generator_of, outputs_of};
 /// Under a configuration that is accepted exactly one text is the summary of a seed and a number of
 /// moments. This holds of the definitions alone, whatever a program does.
 pub fn every_exercise_has_one_summary()
-    ensures { (s : Settings) (seed moments : ℕ) → IsAccepted s
-        → HasOne (IsSummaryOf s seed moments) }
+    ensures { (settings : Settings) (seed moments : ℕ) → IsAccepted settings
+        → HasOne (IsSummaryOf settings seed moments) }
 {}
 
 /// Every moment that is drawn is in range, whatever the outputs are.
@@ -31,7 +31,8 @@ pub fn drawn_moments_are_in_range()
 /// there is one, is earlier, each word that says the moment is accepted, and its end gives the
 /// moment. So the moments of the times 0, 1, .. are accepted one after the other.
 pub fn drawn_moments_are_taken()
-    ensures { (output : Outputs) (time : ℕ) (state : State) → time < 2 ^ 32 → state.moment ≡ None
+    ensures { (output : Outputs) (time : ℕ) (state : MomentsState) → time < 2 ^ 32
+        → state.moment ≡ None
         → IfSome state.last (λ last. last < time)
         → IsTaken state (moment_of output time) }
 {}
@@ -39,12 +40,14 @@ pub fn drawn_moments_are_taken()
 /// How often each level was an alert level adds up to the number of aircraft, and how often each
 /// was shown for a kind to the number of moments times that of the kind's candidates.
 pub fn counts_add_up()
-    ensures alerts { (s : Settings) (output : Outputs) (moments : ℕ) (levels : List ℕ)
-        → AreLevels (HasAlerts s) output moments levels
-        → sum (counts_of (length s.levels) levels) ≡ aircraft_in output moments }
-    ensures shown { (s : Settings) (kind : Kind) (output : Outputs) (moments : ℕ) (levels : List ℕ)
-        → AreLevels (λ picture. HasShown s picture kind) output moments levels
-        → sum (counts_of (length s.levels) levels) ≡ moments * length (values_of kind s) }
+    ensures alerts { (settings : Settings) (output : Outputs) (moments : ℕ) (levels : List ℕ)
+        → AreLevels (HasAlerts settings) output moments levels
+        → sum (counts_of (length settings.levels) levels) ≡ aircraft_in output moments }
+    ensures shown { (settings : Settings) (kind : Kind) (output : Outputs) (moments : ℕ)
+        (levels : List ℕ)
+        → AreLevels (λ picture. HasShown settings picture kind) output moments levels
+        → sum (counts_of (length settings.levels) levels)
+        ≡ moments * length (values_of kind settings) }
 {}
 
 /// Worked examples: the first outputs of the seed 7, its first ownship and first aircraft, the

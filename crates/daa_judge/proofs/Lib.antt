@@ -1,2 +1,2 @@
 pub mod JudgedLemmas
-pub mod MatchedLemmas
+pub mod MatchingLemmas

@@ -1,5 +1,5 @@
 pub mod Judged
-pub mod Finding
-pub mod Matched
-pub mod Sheets
+pub mod Found
+pub mod Matching
+pub mod Sheet
 pub mod Inside

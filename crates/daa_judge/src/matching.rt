@@ -3,9 +3,9 @@
 ghost use Rattle.std.specs.Prelude.{◌≡◌, ◌≤◌, ◌<◌, ◌^◌, [], ℕ, drop, length};
 ghost use Rattle.daa_ahead.specs.Bytes.{Bytes, StreamState, stream_state};
 ghost use Rattle.daa_ahead.specs.Next.{ReadsMore};
-ghost use Rattle.daa_judge.specs.Finding.{Finds};
+ghost use Rattle.daa_judge.specs.Found.{Finds};
 ghost use Rattle.daa_judge.specs.Judged.{longest_read};
-ghost use Rattle.daa_judge.specs.Matched.{Compares, HasRoom, IsMatched};
+ghost use Rattle.daa_judge.specs.Matching.{Compares, HasRoom, IsMatched};
 ghost use Rattle.daa_judge.specs.Inside.Stepping.{Steps, found_at};
 
 use crate::found::Found;

@@ -1,7 +1,7 @@
 //! A sink of fixed room, which fails only where it is full.
 
 ghost use Rattle.std.specs.Prelude.{◌≡◌, ◌≤◌, ◌<◌, ◌+◌, ◌++◌, [], IfOk, length, take};
-ghost use Rattle.daa_judge.specs.Sheets.{IsSheet};
+ghost use Rattle.daa_judge.specs.Sheet.{IsSheet};
 
 use daa_outside::{Failed, Sink};
 use std::alloc::Global;
@@ -26,7 +26,7 @@ pub struct Sheet {
 
 impl Model for Sheet {
     ghost use Rattle.std.specs.Prelude.{◌≡◌, ◌≤◌, ◌<◌, take, vec_len};
-    ghost use Rattle.daa_judge.specs.Sheets.{IsSheet, SheetState, sheet_room};
+    ghost use Rattle.daa_judge.specs.Sheet.{IsSheet, SheetState, sheet_room};
 
     ghost Value = { SheetState };
 

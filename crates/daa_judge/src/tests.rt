@@ -9,7 +9,7 @@ use std::test::Fail;
 
 /// What is found of these bytes, handed out in pieces of this size, if the report is two texts and
 /// `most` bytes may be read.
-fn found<R: AllocGlobal>(
+fn find_in<R: AllocGlobal>(
     rt: &R,
     bytes: &[u8],
     size: usize,
@@ -59,7 +59,7 @@ static CASES: [(&[u8], u64, u64, Found); 12] = [
 fn what_is_found(rt: HostRuntime) -> Result<(), Fail> {
     for (bytes, fail, most, what) in &CASES {
         for size in [1, 2, 9] {
-            let one = found(&rt, bytes, size, &[*fail], [b"a\nb", b"c\n"], *most)?;
+            let one = find_in(&rt, bytes, size, &[*fail], [b"a\nb", b"c\n"], *most)?;
             assert!(rt; one == *what, "{size}");
         }
     }

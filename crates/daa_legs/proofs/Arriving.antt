@@ -6,7 +6,7 @@ use Rattle.std.proofs.lemmas.Int.{ints, int_min_is, by_lt_z}
 use Rattle.daa_fixed.specs.Size.{IsFrom}
 use Rattle.daa_legs.specs.Turn.{right_angle, turned}
 use Rattle.daa_fixed.proofs.Bounds.{le_test}
-use Rattle.daa_legs.proofs.Steady.{rem_small}
+use Rattle.daa_legs.proofs.ClosedForms.{rem_small}
 use Rattle.daa_legs.proofs.Turns.{turned_right, turned_left}
 
 -- one turn back, and one turn on

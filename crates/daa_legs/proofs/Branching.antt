@@ -16,7 +16,7 @@ use Rattle.daa_legs.specs.declared.own_leg.OwnLeg.{OwnLeg}
 use Rattle.daa_legs.specs.Motion.{velocity_on, vertical_speed_on, ground_speed_on, track_on}
 use Rattle.daa_heading.specs.Heading.{velocity_of}
 use Rattle.daa_config.specs.declared.candidate.Candidate.TheVariants.{Height}
-use Rattle.daa_legs.specs.OwnLegs.{own_place, place_on, own_leg}
+use Rattle.daa_legs.specs.OwnLeg.{own_place, place_on, own_leg}
 use Rattle.daa_legs.specs.Relative.{relative_for}
 use Rattle.daa_legs.specs.Runs.{IsRunOf, MeetsBetween}
 use Rattle.daa_legs.specs.Meeting.{relative_leg, ViolatesOn, MeetsWithin}

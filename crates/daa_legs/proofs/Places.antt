@@ -11,9 +11,9 @@ use Rattle.daa_config.specs.Settings.{AreRatesInRange, IsCandidateInRange}
 use Rattle.daa_state.specs.declared.word.Own.{Own}
 use Rattle.daa_state.specs.InRange.{IsOwnInRange}
 use Rattle.daa_legs.specs.Motion.{track_on, ground_speed_on, velocity_on}
-use Rattle.daa_legs.specs.OwnLegs.{place_on}
+use Rattle.daa_legs.specs.OwnLeg.{place_on}
 use Rattle.daa_legs.proofs.StateRanges.{own_x, own_y, own_altitude}
-use Rattle.daa_legs.proofs.Cases.{ground_speed_on-in_range, vertical_speed_on-within}
+use Rattle.daa_legs.proofs.CandidateCases.{ground_speed_on-in_range, vertical_speed_on-within}
 
 -- each axis is at most m in size
 pub record IsSolidWithin (m : ℕ) (x : Solid) : Type 0 where

@@ -9,7 +9,7 @@ use Rattle.daa_legs.proofs.StateRanges.{traffic_x, traffic_y, traffic_altitude, 
 use Rattle.daa_state.specs.declared.word.Traffic.{Traffic}
 use Rattle.daa_state.specs.InRange.{IsTrafficInRange}
 use Rattle.daa_legs.specs.declared.own_leg.OwnLeg.{OwnLeg}
-use Rattle.daa_legs.specs.OwnLegs.{IsOwnLegInRange}
+use Rattle.daa_legs.specs.OwnLeg.{IsOwnLegInRange}
 use Rattle.daa_legs.specs.Relative.{relative_for}
 
 -- how far the other gets

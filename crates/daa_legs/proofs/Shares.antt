@@ -21,13 +21,13 @@ use Rattle.daa_state.specs.declared.word.Own.{Own}
 use Rattle.daa_state.specs.declared.word.Traffic.{Traffic}
 use Rattle.daa_legs.specs.declared.own_leg.OwnRun.{OwnRun}
 use Rattle.daa_legs.specs.Motion.{track_on, ground_speed_on, vertical_speed_on, velocity_on}
-use Rattle.daa_legs.specs.OwnLegs.{own_leg, place_on}
+use Rattle.daa_legs.specs.OwnLeg.{own_leg, place_on}
 use Rattle.daa_legs.specs.Relative.{relative_for, traffic_place, traffic_velocity}
 use Rattle.daa_legs.specs.Runs.{IsRunOf}
 use Rattle.daa_legs.specs.Meeting.{relative_leg, MeetsWithin}
 use Rattle.daa_legs.proofs.SharedWords.{in_height}
 use Rattle.daa_legs.specs.Inside.Shared.{in_plane}
-use Rattle.daa_legs.proofs.Holds.{hold_run}
+use Rattle.daa_legs.proofs.StraightHold.{hold_run}
 use Rattle.daa_legs.proofs.Stretches.{violates_moved, out_second, short_place, short_height, short_velocity}
 
 -- ---- of flights
@@ -75,32 +75,32 @@ module _ (own : Own) (rates : Rates) where
 nothing : (n d : ℤ) → d *ℤ pos 0 +ℤ n *ℤ pos 0 ≡ pos 0
 nothing n d = omega (arith, ints)
 
-module _ (leg : Leg) (vol : Volume) (n d : ℤ) (d1 : pos 1 ≤ℤ d) where
+module _ (leg : Leg) (volume : Volume) (n d : ℤ) (d1 : pos 1 ≤ℤ d) where
   still : place_at (in_height leg) n d ≡ record { east = pos 0; north = pos 0 }
   still = λ i. record { east = nothing n d i; north = nothing n d i }
 
-  heights_kept : ViolatesVertically leg vol n d → ViolatesVertically (in_height leg) vol n d
+  heights_kept : ViolatesVertically leg volume n d → ViolatesVertically (in_height leg) volume n d
   heights_kept (inl x) = inl x
   heights_kept (inr x) = inr (record { nearing = x.nearing; soon = x.soon })
 
-  soon_kept : (w : Model) → IsSoon w leg vol n d → IsSoon w (in_plane leg) vol n d
+  soon_kept : (w : Model) → IsSoon w leg volume n d → IsSoon w (in_plane leg) volume n d
   soon_kept Taumod s = s
   soon_kept Tcpa s = s
 
-  way_kept : ViolatesHorizontally leg vol n d → ViolatesHorizontally (in_plane leg) vol n d
+  way_kept : ViolatesHorizontally leg volume n d → ViolatesHorizontally (in_plane leg) volume n d
   way_kept (inl x) = inl x
-  way_kept (inr x) = inr (record { nearing = x.nearing; soon = soon_kept vol.model x.soon; near = x.near })
+  way_kept (inr x) = inr (record { nearing = x.nearing; soon = soon_kept volume.model x.soon; near = x.near })
 
-  pub violates_in_height : Violates leg vol n d → Violates (in_height leg) vol n d
+  pub violates_in_height : Violates leg volume n d → Violates (in_height leg) volume n d
   violates_in_height v = record {
-    horizontal = inl (subst (λ (s : Flat). (s.east *ℤ s.east +ℤ s.north *ℤ s.north) ≤ℤ square_of (pos vol.dthr *ℤ d)) (sym still) (square_nonneg (pos vol.dthr *ℤ d)));
+    horizontal = inl (subst (λ (s : Flat). (s.east *ℤ s.east +ℤ s.north *ℤ s.north) ≤ℤ square_of (pos volume.dthr *ℤ d)) (sym still) (square_nonneg (pos volume.dthr *ℤ d)));
     vertical = heights_kept v.vertical;
   }
 
-  pub violates_in_plane : Violates leg vol n d → Violates (in_plane leg) vol n d
+  pub violates_in_plane : Violates leg volume n d → Violates (in_plane leg) volume n d
   violates_in_plane v = record {
     horizontal = way_kept v.horizontal;
-    vertical = inl (subst (λ (z : ℤ). pos (unsigned_abs z) ≤ℤ (pos vol.zthr *ℤ d)) (sym (nothing n d)) (mul_nonneg (pos vol.zthr) d (omega (arith, ints)) (omega (arith, ints, d1))));
+    vertical = inl (subst (λ (z : ℤ). pos (unsigned_abs z) ≤ℤ (pos volume.zthr *ℤ d)) (sym (nothing n d)) (mul_nonneg (pos volume.zthr) d (omega (arith, ints)) (omega (arith, ints, d1))));
   }
 
 -- ---- of meetings

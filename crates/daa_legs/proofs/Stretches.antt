@@ -20,40 +20,40 @@ use Rattle.daa_state.specs.declared.word.Own.{Own}
 use Rattle.daa_state.specs.declared.word.Traffic.{Traffic}
 use Rattle.daa_legs.specs.declared.own_leg.OwnRun.{OwnRun}
 use Rattle.daa_legs.specs.Motion.{velocity_on}
-use Rattle.daa_legs.specs.OwnLegs.{place_on}
+use Rattle.daa_legs.specs.OwnLeg.{place_on}
 use Rattle.daa_legs.specs.Relative.{relative_for}
 use Rattle.daa_legs.specs.Meeting.{relative_leg, ViolatesOn}
 use Rattle.daa_legs.specs.Runs.{first_leg_of, IsRunOf, MeetsBetween}
 use Rattle.daa_legs.proofs.Places.{place-next}
 
 -- ---- the volume depends on the place and the velocity alone
-module _ (l m : Leg) (vol : Volume) (n o d : ℤ) (p : place_at l n d ≡ place_at m o d) (h : height_at l n d ≡ height_at m o d) (v : l.velocity ≡ m.velocity) where
+module _ (l m : Leg) (volume : Volume) (n o d : ℤ) (p : place_at l n d ≡ place_at m o d) (h : height_at l n d ≡ height_at m o d) (v : l.velocity ≡ m.velocity) where
   carry : (P : Flat → Flat → Type 0) → P (place_at l n d) l.velocity.flat → P (place_at m o d) m.velocity.flat
   carry P x = subst (λ (w : Flat). P (place_at m o d) w) (ap (λ (w : Solid). w.flat) v) (subst (λ (w : Flat). P w l.velocity.flat) p x)
 
   carry_up : (P : ℤ → ℤ → Type 0) → P (height_at l n d) l.velocity.up → P (height_at m o d) m.velocity.up
   carry_up P x = subst (λ (w : ℤ). P (height_at m o d) w) (ap (λ (w : Solid). w.up) v) (subst (λ (w : ℤ). P w l.velocity.up) h x)
 
-  soon_moved : (w : Model) → IsSoon w l vol n d → IsSoon w m vol o d
-  soon_moved Taumod s = carry (λ (s u : Flat). (dot_of s s +ℤ pos vol.tthr *ℤ d *ℤ dot_of s u) ≤ℤ square_of (pos vol.dthr *ℤ d)) s
-  soon_moved Tcpa s = carry (λ (s u : Flat). neg_ℤ (dot_of s u) ≤ℤ (pos vol.tthr *ℤ d *ℤ dot_of u u)) s
+  soon_moved : (w : Model) → IsSoon w l volume n d → IsSoon w m volume o d
+  soon_moved Taumod s = carry (λ (s u : Flat). (dot_of s s +ℤ pos volume.tthr *ℤ d *ℤ dot_of s u) ≤ℤ square_of (pos volume.dthr *ℤ d)) s
+  soon_moved Tcpa s = carry (λ (s u : Flat). neg_ℤ (dot_of s u) ≤ℤ (pos volume.tthr *ℤ d *ℤ dot_of u u)) s
 
-  flat_moved : ViolatesHorizontally l vol n d → ViolatesHorizontally m vol o d
-  flat_moved (inl x) = inl (carry (λ (s u : Flat). dot_of s s ≤ℤ square_of (pos vol.dthr *ℤ d)) x)
+  flat_moved : ViolatesHorizontally l volume n d → ViolatesHorizontally m volume o d
+  flat_moved (inl x) = inl (carry (λ (s u : Flat). dot_of s s ≤ℤ square_of (pos volume.dthr *ℤ d)) x)
   flat_moved (inr x) = inr (record {
     nearing = carry (λ (s u : Flat). dot_of s u <ℤ pos 0) x.nearing;
-    soon = soon_moved vol.model x.soon;
-    near = carry (λ (s u : Flat). square_of (cross_of s u) ≤ℤ (square_of (pos vol.dthr *ℤ d) *ℤ dot_of u u)) x.near;
+    soon = soon_moved volume.model x.soon;
+    near = carry (λ (s u : Flat). square_of (cross_of s u) ≤ℤ (square_of (pos volume.dthr *ℤ d) *ℤ dot_of u u)) x.near;
   })
 
-  up_moved : ViolatesVertically l vol n d → ViolatesVertically m vol o d
-  up_moved (inl x) = inl (carry_up (λ (z w : ℤ). pos (unsigned_abs z) ≤ℤ (pos vol.zthr *ℤ d)) x)
+  up_moved : ViolatesVertically l volume n d → ViolatesVertically m volume o d
+  up_moved (inl x) = inl (carry_up (λ (z w : ℤ). pos (unsigned_abs z) ≤ℤ (pos volume.zthr *ℤ d)) x)
   up_moved (inr x) = inr (record {
     nearing = carry_up (λ (z w : ℤ). (z *ℤ w) <ℤ pos 0) x.nearing;
-    soon = carry_up (λ (z w : ℤ). pos (unsigned_abs z) ≤ℤ (pos vol.tcoa *ℤ d *ℤ pos (unsigned_abs w))) x.soon;
+    soon = carry_up (λ (z w : ℤ). pos (unsigned_abs z) ≤ℤ (pos volume.tcoa *ℤ d *ℤ pos (unsigned_abs w))) x.soon;
   })
 
-  pub violates_moved : Violates l vol n d → Violates m vol o d
+  pub violates_moved : Violates l volume n d → Violates m volume o d
   violates_moved x = record { horizontal = flat_moved x.horizontal; vertical = up_moved x.vertical }
 
 -- ---- a time of a long leg lies on one of its seconds

@@ -12,8 +12,8 @@ use Rattle.daa_legs.specs.Turn.{right_angle, turned}
 use Rattle.daa_legs.specs.Branch.{lead_of, FliesAs, FliesOn}
 use Rattle.daa_legs.specs.Inside.Branch.{IsWholeLegs}
 use Rattle.daa_legs.proofs.Arriving.{rem_back, rem_on, turned-arrives}
-use Rattle.daa_legs.proofs.Leading.{within, track_same, track_settled}
-use Rattle.daa_legs.proofs.Steady.{rem_range, rem_small}
+use Rattle.daa_legs.proofs.LeadingFlights.{within, track_same, track_settled}
+use Rattle.daa_legs.proofs.ClosedForms.{rem_range, rem_small}
 use Rattle.daa_legs.proofs.Turns.{turned_right, turned_left}
 
 le_true : (x y : ℤ) → x ≤ℤ y → int_le x y ≡ true

@@ -1,4 +1,4 @@
 -- Cited by private functions, tests and proofs alone; believe only what docs/PROVED.md names here.
-pub mod FlightProgress
+pub mod FlightState
 pub mod Shared
 pub mod Branch

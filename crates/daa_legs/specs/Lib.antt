@@ -1,12 +1,12 @@
 pub mod Turn
 pub mod Motion
-pub mod OwnLegs
-pub mod FlightProgress
+pub mod OwnLeg
+pub mod FlightState
 pub mod Relative
 pub mod Meeting
 pub mod Runs
 pub mod Alerts
 pub mod Branch
-pub mod Kept
+pub mod Trunk
 pub mod Table
 pub mod Inside

@@ -9,7 +9,7 @@ use Rattle.daa_config.specs.declared.level.Level.{Level}
 use Rattle.daa_config.specs.Settings.{Settings, IsLevelAt, rates_of}
 use Rattle.daa_state.specs.declared.word.Own.{Own}
 use Rattle.daa_state.specs.declared.word.Traffic.{Traffic}
-use Rattle.daa_legs.specs.OwnLegs.{own_leg}
+use Rattle.daa_legs.specs.OwnLeg.{own_leg}
 use Rattle.daa_legs.specs.Relative.{relative_for}
 
 module _ (settings : Settings) (own : Own) (candidate : Candidate) (aircraft : Traffic) where

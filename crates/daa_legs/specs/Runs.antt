@@ -8,7 +8,7 @@ use Rattle.daa_state.specs.declared.word.Own.{Own}
 use Rattle.daa_state.specs.declared.word.Traffic.{Traffic}
 use Rattle.daa_legs.specs.declared.own_leg.OwnLeg.{OwnLeg}
 use Rattle.daa_legs.specs.declared.own_leg.OwnRun.{OwnRun}
-use Rattle.daa_legs.specs.OwnLegs.{place_on, IsOwnLegInRange}
+use Rattle.daa_legs.specs.OwnLeg.{place_on, IsOwnLegInRange}
 use Rattle.daa_legs.specs.Motion.{velocity_on}
 use Rattle.daa_legs.specs.Meeting.{ViolatesOn}
 

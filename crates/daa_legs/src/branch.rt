@@ -131,16 +131,16 @@ fn parting_of(own: &Own, rates: &Rates, candidate: Candidate) -> Parting
             leaves: 0,
             settles: 0,
         },
-        Candidate::Track(c) => beside(turn_away(own.trk, c, rates.turn)),
-        Candidate::Speed(g) => beside(way_to(i64::from(own.gs), i64::from(g), rates.gs)),
-        Candidate::Climb(w) => beside(way_to(i64::from(own.vs), i64::from(w), rates.vs)),
-        Candidate::Height(a) => short_of(way_to(feet(own.alt), feet(a), rates.alt)),
+        Candidate::Track(c) => parting_after(turn_away(own.trk, c, rates.turn)),
+        Candidate::Speed(g) => parting_after(way_to(i64::from(own.gs), i64::from(g), rates.gs)),
+        Candidate::Climb(w) => parting_after(way_to(i64::from(own.vs), i64::from(w), rates.vs)),
+        Candidate::Height(a) => parting_short_of(way_to(feet(own.alt), feet(a), rates.alt)),
     }
 }
 
 /// A track or a speed is that of the leading flight also on the leg after the whole seconds, and
 /// then the candidate's.
-fn beside(way: Way) -> Parting
+fn parting_after(way: Way) -> Parting
     requires { way.legs ≤ 7200000 }
     ensures { result ≡ record { upper = way.upper; leaves = way.legs + 1; settles = way.legs + 1 } }
 {
@@ -152,7 +152,7 @@ fn beside(way: Way) -> Parting
 }
 
 /// On the leg after the whole seconds an altitude is reached, by a rise of its own.
-fn short_of(way: Way) -> Parting
+fn parting_short_of(way: Way) -> Parting
     requires { way.legs ≤ 7200000 }
     ensures { result ≡ record { upper = way.upper; leaves = way.legs; settles = way.legs + 1 } }
 {

@@ -9,7 +9,7 @@ ghost use Rattle.daa_config.specs.declared.candidate.Candidate.{Candidate};
 ghost use Rattle.daa_config.specs.Settings.{Settings, rates_of};
 ghost use Rattle.daa_state.specs.InRange.{IsTrafficInRange};
 ghost use Rattle.daa_state.specs.declared.word.Own.{Own};
-ghost use Rattle.daa_legs.specs.OwnLegs.{IsOwnLegInRange};
+ghost use Rattle.daa_legs.specs.OwnLeg.{IsOwnLegInRange};
 ghost use Rattle.daa_legs.specs.Runs.{first_leg_of, IsRunOf, IsOwnRunInRange, MeetsBetween};
 ghost use Rattle.daa_legs.specs.Relative.{relative_for};
 

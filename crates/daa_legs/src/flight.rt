@@ -5,7 +5,7 @@ ghost use Rattle.daa_fixed.specs.Leg.{plus, IsSolidBelow};
 ghost use Rattle.daa_config.specs.Settings.{IsCandidateInRange, rates_of};
 ghost use Rattle.daa_state.specs.InRange.{IsOwnInRange};
 ghost use Rattle.daa_legs.specs.Motion.{velocity_on};
-ghost use Rattle.daa_legs.specs.OwnLegs.{own_leg, IsOwnLegInRange};
+ghost use Rattle.daa_legs.specs.OwnLeg.{own_leg, IsOwnLegInRange};
 ghost use Rattle.daa_legs.specs.Runs.{IsRunOf, IsLongest, IsOwnRunInRange};
 
 use crate::motion::velocity_from;
@@ -29,10 +29,10 @@ pub struct Flight {
 }
 
 impl Model for Flight {
-    ghost use Rattle.daa_legs.specs.FlightProgress.{FlightProgress};
-    ghost use Rattle.daa_legs.specs.Inside.FlightProgress.{IsFlown};
+    ghost use Rattle.daa_legs.specs.FlightState.{FlightState};
+    ghost use Rattle.daa_legs.specs.Inside.FlightState.{IsFlown};
 
-    ghost Value = { FlightProgress };
+    ghost Value = { FlightState };
 
     ghost view = { λ f. record {
       own = f.own;

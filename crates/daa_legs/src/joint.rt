@@ -2,7 +2,7 @@
 
 ghost use Rattle.std.specs.Prelude.{◌≡◌};
 ghost use Rattle.daa_fixed.specs.Leg.{plus};
-ghost use Rattle.daa_legs.specs.OwnLegs.{IsOwnLegInRange};
+ghost use Rattle.daa_legs.specs.OwnLeg.{IsOwnLegInRange};
 
 use crate::flight::sum;
 use crate::own_leg::OwnLeg;

@@ -13,7 +13,7 @@ ghost use Rattle.daa_state.specs.declared.word.Traffic.{Traffic};
 ghost use Rattle.daa_state.specs.InRange.{IsOwnInRange};
 ghost use Rattle.daa_legs.specs.Turn.{turned};
 ghost use Rattle.daa_legs.specs.Motion.{track_on, ground_speed_on, vertical_speed_on, height_after, velocity_on};
-ghost use Rattle.daa_legs.specs.OwnLegs.{own_place, place_on};
+ghost use Rattle.daa_legs.specs.OwnLeg.{own_place, place_on};
 ghost use Rattle.daa_legs.specs.Relative.{reported_place, traffic_place, traffic_velocity};
 
 /// A flight begins where the ownship is, on leg 0 with the present track and ground speed, and with

@@ -69,17 +69,17 @@ pub(crate) fn velocity_at_end(own: &Own, candidate: Candidate, present: &Flat) -
     ensures { result ≡ velocity_there own.now candidate }
 {
     match candidate {
-        Candidate::Hold => rising(present, own.vs),
-        Candidate::Track(c) => flown(own.gs, c, own.vs),
-        Candidate::Speed(g) => flown(g, own.trk, own.vs),
-        Candidate::Climb(w) => rising(present, w),
-        Candidate::Height(_) => rising(present, 0),
+        Candidate::Hold => solid_velocity(present, own.vs),
+        Candidate::Track(c) => velocity_along(own.gs, c, own.vs),
+        Candidate::Speed(g) => velocity_along(g, own.trk, own.vs),
+        Candidate::Climb(w) => solid_velocity(present, w),
+        Candidate::Height(_) => solid_velocity(present, 0),
     }
 }
 
 /// The velocity of a way over ground of a second and a vertical speed.
 #[inline(always)]
-fn rising(way: &Flat, up: i32) -> Solid
+fn solid_velocity(way: &Flat, up: i32) -> Solid
     ensures { result ≡ record { flat = way.now; up = up } }
 {
     Solid {
@@ -90,12 +90,12 @@ fn rising(way: &Flat, up: i32) -> Solid
 
 /// The velocity of a ground speed, a track and a vertical speed.
 #[inline(always)]
-fn flown(gs: i32, track: i32, up: i32) -> Solid
+fn velocity_along(gs: i32, track: i32, up: i32) -> Solid
     requires gs { IsFrom (pos 0) (pos 10000) gs }
     requires track { IsFrom (pos 0) (pos 359) track }
     ensures { result ≡ record { flat = velocity_of gs track; up = up } }
 {
-    rising(&velocity(gs, track), up)
+    solid_velocity(&velocity(gs, track), up)
 }
 
 /// The track in degrees on leg `k`.
@@ -152,7 +152,7 @@ fn speed_after(now: i32, target: i32, rate: i32, k: u32) -> i64
     requires k { k < 180 }
     ensures { result ≡ toward_of now target (pos k *ℤ rate) }
 {
-    moved(i64::from(now), i64::from(target), rate, k)
+    toward_after(i64::from(now), i64::from(target), rate, k)
 }
 
 /// What second `k` rises, in units, on the way from one altitude to another.
@@ -165,11 +165,11 @@ fn rise(alt: i32, a: i32, rate: i32, k: u32) -> i64
         (pos (k + 1) *ℤ rate) -ℤ toward_of (pos 60 *ℤ alt) (pos 60 *ℤ a) (pos k *ℤ rate) }
     ensures size { IsWithin 10000 result }
 {
-    moved(feet(alt), feet(a), rate, k + 1) - moved(feet(alt), feet(a), rate, k)
+    toward_after(feet(alt), feet(a), rate, k + 1) - toward_after(feet(alt), feet(a), rate, k)
 }
 
 /// A value moved toward another at a rate per second, for `k` seconds.
-fn moved(now: i64, target: i64, rate: i32, k: u32) -> i64
+fn toward_after(now: i64, target: i64, rate: i32, k: u32) -> i64
     requires now { IsWithin 3600000 now }
     requires target { IsWithin 3600000 target }
     requires rate { IsFrom (pos 1) (pos 10000) rate }

@@ -4,7 +4,7 @@
 ghost use Rattle.std.specs.Prelude.{◌≡◌, ◌+◌, ◌<◌};
 ghost use Rattle.daa_config.specs.Settings.{IsCandidateInRange};
 ghost use Rattle.daa_state.specs.InRange.{IsOwnInRange};
-ghost use Rattle.daa_legs.specs.OwnLegs.{IsOwnLegInRange};
+ghost use Rattle.daa_legs.specs.OwnLeg.{IsOwnLegInRange};
 
 use super::*;
 use daa_config::examples::ONE_LEVEL;

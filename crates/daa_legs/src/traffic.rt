@@ -34,15 +34,15 @@ pub(crate) fn place_of(aircraft: &Traffic, k: u32) -> Solid
     let flown = aircraft.age + k;
     Solid {
         flat: Flat {
-            east: after(mils(aircraft.x), aircraft.vx, flown),
-            north: after(mils(aircraft.y), aircraft.vy, flown),
+            east: coordinate_after(mils(aircraft.x), aircraft.vx, flown),
+            north: coordinate_after(mils(aircraft.y), aircraft.vy, flown),
         },
-        up: after(feet(aircraft.alt), aircraft.vs, flown),
+        up: coordinate_after(feet(aircraft.alt), aircraft.vs, flown),
     }
 }
 
 /// A coordinate after `secs` seconds.
-fn after(begin: i64, speed: i32, secs: u32) -> i64
+fn coordinate_after(begin: i64, speed: i32, secs: u32) -> i64
     requires begin { IsWithin 7200000 begin }
     requires speed { IsWithin 10000 speed }
     requires secs { secs < 400 }

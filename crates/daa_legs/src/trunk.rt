@@ -4,7 +4,7 @@ ghost use Rattle.std.specs.Prelude.{◌≡◌, ◌≤◌, ◌<◌, length, slice
 ghost use Rattle.daa_config.specs.Settings.{IsCandidateInRange, AreRatesInRange, rates_of};
 ghost use Rattle.daa_state.specs.InRange.{IsOwnInRange};
 ghost use Rattle.daa_heading.specs.Heading.{velocity_of};
-ghost use Rattle.daa_legs.specs.Kept.{AreLegsOf};
+ghost use Rattle.daa_legs.specs.Trunk.{AreLegsOf};
 ghost use Rattle.daa_legs.specs.Motion.{velocity_on};
 ghost use Rattle.daa_legs.specs.Table.{IsBranchOf};
 ghost use Rattle.daa_legs.specs.declared.own_leg.OwnLeg.{OwnLeg};

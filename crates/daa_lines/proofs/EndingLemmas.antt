@@ -3,10 +3,10 @@ use Rattle.std.proofs.Common.{◌≡◌, ◌≤◌, ℕ, Bool, true, false, List
 use Rattle.std.proofs.lemmas.Bool.{false≢true}
 use Rattle.std.proofs.lemmas.Bool.Decides.{nat_tests}
 use Rattle.daa_lines.specs.LinesOf.{Bytes, long_length, shown}
-use Rattle.daa_lines.specs.Cutting.{Cutting}
-use Rattle.daa_lines.specs.Inside.Cutting.{IsSized}
+use Rattle.daa_lines.specs.LinesState.{LinesState}
+use Rattle.daa_lines.specs.Inside.LinesState.{IsSized}
 use Rattle.daa_lines.specs.Ending.{after_end, stage_at_end}
-use Rattle.daa_lines.specs.Stands.{Stands, standing}
+use Rattle.daa_lines.specs.ComesFrom.{ComesFrom, standing}
 use Rattle.daa_lines.specs.declared.lines.Stage.{Stage}
 use Rattle.daa_lines.specs.declared.lines.Stage.TheVariants.{Open, Whole, Long, Skipping}
 use Rattle.daa_lines.proofs.CutLemmas.{cut, cut_at, last_line, lines_of-cut}
@@ -36,14 +36,14 @@ ending done taken rest line Long size h =
     rw (same_last rest long) h.0
 ending done taken rest line Skipping size h = rw (same_last rest h.1) h.0
 
-if_true : (test : Bool) (a b : Cutting) → test ≡ true → (if test then a else b) ≡ a
+if_true : (test : Bool) (a b : LinesState) → test ≡ true → (if test then a else b) ≡ a
 if_true test a b h = rw h refl
 
-ends : (bytes : Bytes) (taken : List Bytes) (c : Cutting) (ended : Bool) → c.ended ≡ ended → IsSized c.stage c.line
-    → Stands bytes taken c → Stands bytes taken (after_end c)
-ends bytes taken c true over size s = subst (Stands bytes taken) (sym (if_true c.ended c _ over)) s
+ends : (bytes : Bytes) (taken : List Bytes) (c : LinesState) (ended : Bool) → c.ended ≡ ended → IsSized c.stage c.line
+    → ComesFrom bytes taken c → ComesFrom bytes taken (after_end c)
+ends bytes taken c true over size s = subst (ComesFrom bytes taken) (sym (if_true c.ended c _ over)) s
 ends bytes taken c false going size s =
-    let next : Stands bytes taken (record c { ended = true; stage = stage_at_end c.stage c.line }) = record {
+    let next : ComesFrom bytes taken (record c { ended = true; stage = stage_at_end c.stage c.line }) = record {
       fed = s.fed;
       number = s.number;
       lines = ap shown (lines_of-cut bytes true) ∙ ending (cut bytes).whole taken (cut bytes).rest c.line c.stage size (lasts bytes taken c going s);
@@ -52,6 +52,6 @@ ends bytes taken c false going size s =
     rw going next
 
 -- the input is over
-pub stands-end : (bytes : Bytes) (taken : List Bytes) (c : Cutting) → IsSized c.stage c.line
-    → Stands bytes taken c → Stands bytes taken (after_end c)
-stands-end bytes taken c size s = ends bytes taken c _ refl size s
+pub comes-end : (bytes : Bytes) (taken : List Bytes) (c : LinesState) → IsSized c.stage c.line
+    → ComesFrom bytes taken c → ComesFrom bytes taken (after_end c)
+comes-end bytes taken c size s = ends bytes taken c _ refl size s

@@ -4,8 +4,8 @@ use Rattle.std.proofs.lemmas.List.{drop_more}
 use Rattle.std.proofs.lemmas.Bool.Decides.{nat_tests}
 use Rattle.std.proofs.lemmas.Bool.{or_parts}
 use Rattle.daa_lines.specs.LinesOf.{Bytes, line_feed, long_length}
-use Rattle.daa_lines.specs.Cutting.{Cutting, is_standing}
-use Rattle.daa_lines.specs.Inside.Cutting.{IsSized}
+use Rattle.daa_lines.specs.LinesState.{LinesState, is_standing}
+use Rattle.daa_lines.specs.Inside.LinesState.{IsSized}
 use Rattle.daa_lines.specs.Feeding.{bytes_taken}
 use Rattle.daa_lines.specs.Inside.Pushing.{after_byte, at_open, at_stage, is_last}
 use Rattle.daa_lines.specs.declared.lines.Stage.{Stage}
@@ -32,7 +32,7 @@ at_full Skipping line b rest free other stood = absurd (cc (rw other at stood))
 at_full Whole line b rest free other stood = cc
 at_full Long line b rest free other stood = cc
 
-at_last : (c : Cutting) (b : ℕ) (rest : Bytes) (feed : Bool) → (b == line_feed) ≡ feed → is_standing c.stage ≡ false → IsSized c.stage c.line
+at_last : (c : LinesState) (b : ℕ) (rest : Bytes) (feed : Bool) → (b == line_feed) ≡ feed → is_standing c.stage ≡ false → IsSized c.stage c.line
     → (feed || is_standing (at_stage c.stage c.line b).1) ≡ true → bytes_taken c.stage c.line (b ∷ rest) ≡ 1
 at_last c b rest true e free size last = at_feed c.stage c.line b rest free size e
 at_last c b rest false e free size last = at_full c.stage c.line b rest free e last
@@ -53,19 +53,19 @@ at_more Whole line b rest free size other going = cc
 at_more Long line b rest free size other going = cc
 
 -- the byte at this place, and then the others
-split_taken : (c : Cutting) (piece : Bytes) (i whole : ℕ) → i < length piece → whole ≡ i + bytes_taken c.stage c.line (drop i piece)
+split_taken : (c : LinesState) (piece : Bytes) (i whole : ℕ) → i < length piece → whole ≡ i + bytes_taken c.stage c.line (drop i piece)
     → whole ≡ i + bytes_taken c.stage c.line (get_or piece i 0 ∷ drop (i + 1) piece)
 split_taken c piece i whole within sum = sum ∙ ap (λ (p : Bytes). i + bytes_taken c.stage c.line p) (drop_more piece i 0 within)
 
 -- after the last byte no more is taken
-pub taken_last : (c : Cutting) (piece : Bytes) (i whole : ℕ) → i < length piece → is_standing c.stage ≡ false → IsSized c.stage c.line
+pub taken_last : (c : LinesState) (piece : Bytes) (i whole : ℕ) → i < length piece → is_standing c.stage ≡ false → IsSized c.stage c.line
     → is_last c (get_or piece i 0) ≡ true → whole ≡ i + bytes_taken c.stage c.line (drop i piece) → i + 1 ≡ whole
 taken_last c piece i whole within free size last sum =
     let one : bytes_taken c.stage c.line (get_or piece i 0 ∷ drop (i + 1) piece) ≡ 1 = at_last c _ _ _ refl free size last in
     omega (arith, split_taken c piece i whole within sum, one)
 
 -- after any other no line stands, and as many are taken as of the rest
-pub taken_more : (c next : Cutting) (piece : Bytes) (i whole : ℕ) → i < length piece → next ≡ after_byte c (get_or piece i 0)
+pub taken_more : (c next : LinesState) (piece : Bytes) (i whole : ℕ) → i < length piece → next ≡ after_byte c (get_or piece i 0)
     → is_standing c.stage ≡ false → IsSized c.stage c.line → is_last c (get_or piece i 0) ≡ false
     → whole ≡ i + bytes_taken c.stage c.line (drop i piece)
     → (is_standing next.stage ≡ false) × (whole ≡ i + 1 + bytes_taken next.stage next.line (drop (i + 1) piece))

@@ -3,10 +3,10 @@ use Rattle.std.proofs.Common.{◌≡◌, ◌≤◌, ◌<◌, ◌+◌, ◌==◌, 
 use Rattle.std.proofs.lemmas.List.{take-append-le, take_more}
 use Rattle.std.proofs.lemmas.Bool.Decides.{nat_tests}
 use Rattle.daa_lines.specs.LinesOf.{Bytes, line_feed, lines_of, long_length, shown}
-use Rattle.daa_lines.specs.Cutting.{Cutting, is_standing}
-use Rattle.daa_lines.specs.Inside.Cutting.{IsSized}
+use Rattle.daa_lines.specs.LinesState.{LinesState, is_standing}
+use Rattle.daa_lines.specs.Inside.LinesState.{IsSized}
 use Rattle.daa_lines.specs.Inside.Pushing.{after_byte, at_open, at_stage}
-use Rattle.daa_lines.specs.Stands.{Stands, IsRest, standing}
+use Rattle.daa_lines.specs.ComesFrom.{ComesFrom, IsRest, standing}
 use Rattle.daa_lines.specs.declared.lines.Stage.{Stage}
 use Rattle.daa_lines.specs.declared.lines.Stage.TheVariants.{Open, Whole, Long, Skipping}
 use Rattle.daa_lines.proofs.CutLemmas.{Cut, cut, cut_at, cut_more, cut-push, last_line, lines_of-cut, rest_in-cut}
@@ -61,17 +61,17 @@ by_stage p taken Whole line b free size h = cc
 by_stage p taken Long line b free size h = cc
 
 -- the bytes that were fed, cut, while the input goes on
-pub lasts : (bytes : Bytes) (taken : List Bytes) (c : Cutting) → c.ended ≡ false → Stands bytes taken c → Lasts (cut bytes) taken c.stage c.line
+pub lasts : (bytes : Bytes) (taken : List Bytes) (c : LinesState) → c.ended ≡ false → ComesFrom bytes taken c → Lasts (cut bytes) taken c.stage c.line
 lasts bytes taken c going s = (
   ap shown (sym (lines_of-cut bytes false)) ∙ ap (λ (e : Bool). shown (lines_of bytes e)) (sym going) ∙ s.lines,
   subst (IsRest c.stage c.line) (rest_in-cut bytes) (s.rest going),
 )
 
 -- one byte more
-pub stands-push : (bytes : Bytes) (taken : List Bytes) (c : Cutting) (b : ℕ) → is_standing c.stage ≡ false → c.ended ≡ false → IsSized c.stage c.line
-    → Stands bytes taken c → Stands (bytes ++ b ∷ []) taken (after_byte c b)
+pub comes-push : (bytes : Bytes) (taken : List Bytes) (c : LinesState) (b : ℕ) → is_standing c.stage ≡ false → c.ended ≡ false → IsSized c.stage c.line
+    → ComesFrom bytes taken c → ComesFrom (bytes ++ b ∷ []) taken (after_byte c b)
 unfolding after_byte
-stands-push bytes taken c b free going size s =
+comes-push bytes taken c b free going size s =
     let next = by_stage (cut bytes) taken c.stage c.line b free size (lasts bytes taken c going s) in
     record {
       fed = omega (arith, s.fed, length-append bytes (b ∷ []));
@@ -81,12 +81,12 @@ stands-push bytes taken c b free going size s =
     }
 
 -- one byte more of a piece
-pub stands-fed : (bytes piece : Bytes) (taken : List Bytes) (c next : Cutting) (i : ℕ) → i < length piece → next ≡ after_byte c (get_or piece i 0)
+pub comes-fed : (bytes piece : Bytes) (taken : List Bytes) (c next : LinesState) (i : ℕ) → i < length piece → next ≡ after_byte c (get_or piece i 0)
     → is_standing c.stage ≡ false → c.ended ≡ false → IsSized c.stage c.line
-    → Stands (bytes ++ take i piece) taken c → Stands (bytes ++ take (i + 1) piece) taken next
-stands-fed bytes piece taken c next i within value free going size s =
+    → ComesFrom (bytes ++ take i piece) taken c → ComesFrom (bytes ++ take (i + 1) piece) taken next
+comes-fed bytes piece taken c next i within value free going size s =
     let more : bytes ++ take i piece ++ get_or piece i 0 ∷ [] ≡ bytes ++ take (i + 1) piece =
     append_assoc bytes (take i piece) _ ∙ ap (λ (r : Bytes). bytes ++ r) (sym (take_more piece i 0 within)) in
-    let pushed : Stands (bytes ++ take i piece ++ get_or piece i 0 ∷ []) taken next =
-    rw value (stands-push (bytes ++ take i piece) taken c (get_or piece i 0) free going size s) in
-    subst (λ (b : Bytes). Stands b taken next) more pushed
+    let pushed : ComesFrom (bytes ++ take i piece ++ get_or piece i 0 ∷ []) taken next =
+    rw value (comes-push (bytes ++ take i piece) taken c (get_or piece i 0) free going size s) in
+    subst (λ (b : Bytes). ComesFrom b taken next) more pushed

@@ -3,17 +3,17 @@ use Rattle.std.proofs.Common.{◌≡◌, ◌<◌, ℕ, Bool, true, false, List, 
 use Rattle.std.proofs.lemmas.List.{take_all}
 use Rattle.std.proofs.lemmas.Option.{slice_get-map}
 use Rattle.daa_lines.specs.LinesOf.{Bytes, lines_of, long_length}
-use Rattle.daa_lines.specs.Cutting.{Cutting, is_standing}
-use Rattle.daa_lines.specs.Inside.Cutting.{IsSized}
+use Rattle.daa_lines.specs.LinesState.{LinesState, is_standing}
+use Rattle.daa_lines.specs.Inside.LinesState.{IsSized}
 use Rattle.daa_lines.specs.Taking.{IsLineOf, after_taking}
-use Rattle.daa_lines.specs.Stands.{Stands, standing}
+use Rattle.daa_lines.specs.ComesFrom.{ComesFrom, standing}
 use Rattle.daa_lines.specs.declared.lines.Stage.{Stage}
 use Rattle.daa_lines.specs.declared.lines.Stage.TheVariants.{Open, Whole, Long, Skipping}
 use Rattle.daa_lines.specs.declared.lines.Line.TheVariants as result
 
 taking : (bytes : Bytes) (taken : List Bytes) (line : Bytes) (stage : Stage) (ended : Bool) (fed number : ℕ) → IsSized stage line
-    → Stands bytes taken (record { line = line; stage = stage; ended = ended; fed = fed; number = number })
-    → Stands bytes (taken ++ standing stage line) (after_taking (record { line = line; stage = stage; ended = ended; fed = fed; number = number }))
+    → ComesFrom bytes taken (record { line = line; stage = stage; ended = ended; fed = fed; number = number })
+    → ComesFrom bytes (taken ++ standing stage line) (after_taking (record { line = line; stage = stage; ended = ended; fed = fed; number = number }))
 taking bytes taken line Open ended fed number size s =
     record { fed = s.fed; number = rw append-nil s.number; lines = rw (append-nil taken) s.lines; rest = s.rest }
 taking bytes taken line Skipping ended fed number size s =
@@ -34,16 +34,16 @@ taking bytes taken line Long ended fed number size s =
     }
 
 -- the line that stands is taken
-pub stands-take : (bytes : Bytes) (taken : List Bytes) (c : Cutting) → IsSized c.stage c.line
-    → Stands bytes taken c → Stands bytes (taken ++ standing c.stage c.line) (after_taking c)
-stands-take bytes taken c size s = taking bytes taken c.line c.stage c.ended c.fed c.number size s
+pub comes-take : (bytes : Bytes) (taken : List Bytes) (c : LinesState) → IsSized c.stage c.line
+    → ComesFrom bytes taken c → ComesFrom bytes (taken ++ standing c.stage c.line) (after_taking c)
+comes-take bytes taken c size s = taking bytes taken c.line c.stage c.ended c.fed c.number size s
 
 slice_get-append : (taken more : List Bytes) → slice_get (taken ++ more) (length taken) ≡ slice_get more 0
 slice_get-append [] more = refl
 slice_get-append (line ∷ taken) more = slice_get-append taken more
 
 -- the line after those that were taken is the one that stands, if one does
-next_line : (bytes : Bytes) (taken : List Bytes) (c : Cutting) → Stands bytes taken c
+next_line : (bytes : Bytes) (taken : List Bytes) (c : LinesState) → ComesFrom bytes taken c
     → option_map (take long_length) (slice_get (lines_of bytes c.ended) (length taken)) ≡ slice_get (standing c.stage c.line) 0
 next_line bytes taken c s =
     sym (slice_get-map (take long_length) (lines_of bytes c.ended) (length taken))
@@ -69,12 +69,12 @@ none_is None h = tt
 none_is (Some bytes) h = absurd (cc h)
 
 -- what is handed out is the line after those that were taken
-pub whole_line_of : (bytes : Bytes) (taken : List Bytes) (c : Cutting) (given : Bor (List ℕ)) → c.stage ≡ Whole → given.now ≡ c.line → length c.line < long_length
-    → Stands bytes taken c → IsLineOf (slice_get (lines_of bytes c.ended) (length taken)) (result.Whole given)
+pub whole_line_of : (bytes : Bytes) (taken : List Bytes) (c : LinesState) (given : Bor (List ℕ)) → c.stage ≡ Whole → given.now ≡ c.line → length c.line < long_length
+    → ComesFrom bytes taken c → IsLineOf (slice_get (lines_of bytes c.ended) (length taken)) (result.Whole given)
 whole_line_of bytes taken c given stage same size s = whole_is _ c.line given (rw stage at (next_line bytes taken c s)) same size
 
-pub long_line_of : (bytes : Bytes) (taken : List Bytes) (c : Cutting) → c.stage ≡ Long → length c.line ≡ long_length
-    → Stands bytes taken c → IsLineOf (slice_get (lines_of bytes c.ended) (length taken)) result.Long
+pub long_line_of : (bytes : Bytes) (taken : List Bytes) (c : LinesState) → c.stage ≡ Long → length c.line ≡ long_length
+    → ComesFrom bytes taken c → IsLineOf (slice_get (lines_of bytes c.ended) (length taken)) result.Long
 long_line_of bytes taken c stage size s = long_is _ c.line (rw stage at (next_line bytes taken c s)) size
 
 pub standing_one : (stage : Stage) (line : Bytes) → is_standing stage ≡ true → standing stage line ≡ line ∷ []
@@ -89,6 +89,6 @@ standing_none Skipping line h = refl
 standing_none Whole line h = cc
 standing_none Long line h = cc
 
-pub no_line_of : (bytes : Bytes) (taken : List Bytes) (c : Cutting) → is_standing c.stage ≡ false
-    → Stands bytes taken c → IsLineOf (slice_get (lines_of bytes c.ended) (length taken)) result.NotYet
+pub no_line_of : (bytes : Bytes) (taken : List Bytes) (c : LinesState) → is_standing c.stage ≡ false
+    → ComesFrom bytes taken c → IsLineOf (slice_get (lines_of bytes c.ended) (length taken)) result.NotYet
 no_line_of bytes taken c free s = none_is _ (rw (standing_none c.stage c.line free) at (next_line bytes taken c s))

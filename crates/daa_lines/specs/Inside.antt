@@ -1,3 +1,3 @@
 -- Cited by private functions, tests and proofs alone; believe only what docs/PROVED.md names here.
-pub mod Cutting
+pub mod LinesState
 pub mod Pushing

@@ -1,7 +1,7 @@
 pub mod LinesOf
 pub mod Joined
-pub mod Cutting
-pub mod Stands
+pub mod LinesState
+pub mod ComesFrom
 pub mod Feeding
 pub mod Taking
 pub mod Ending

@@ -3,7 +3,7 @@ use Rattle.std.specs.Prelude.{◌≡◌, ◌<◌, ◌≤◌, ◌+◌, false, [],
 use Rattle.std.specs.Borrow.{Fml, MutBor}
 use Rattle.std.specs.Io.BufRead.{Rests}
 use Rattle.daa_lines.specs.LinesOf.{Bytes, long_length}
-use Rattle.daa_lines.specs.Cutting.{Cutting, is_standing}
+use Rattle.daa_lines.specs.LinesState.{LinesState, is_standing}
 use Rattle.daa_lines.specs.declared.lines.Stage.{Stage}
 use Rattle.daa_lines.specs.declared.lines.Stage.TheVariants.{Open, Whole, Long, Skipping}
 use Rattle.daa_lines.specs.declared.lines.Line.{Line}
@@ -17,12 +17,12 @@ stage_after Long = Skipping
 stage_after stage = stage
 
 -- the line that is ready is taken, if there is one
-abbrev pub after_taking : Cutting → Cutting
+abbrev pub after_taking : LinesState → LinesState
 after_taking c = if is_standing c.stage
     then record c { line = []; stage = stage_after c.stage; number = c.number + 1 } else c
 
 -- the line that is handed out is the one that was ready
-abbrev pub IsHanded : Cutting → Line → Type 0
+abbrev pub IsHanded : LinesState → Line → Type 0
 IsHanded c (line.Whole bytes) = (c.stage ≡ Whole) × (bytes.now ≡ c.line) × (length c.line < long_length)
 IsHanded c line.Long = (c.stage ≡ Long) × (length c.line ≡ long_length)
 IsHanded c line.NotYet = is_standing c.stage ≡ false
@@ -35,5 +35,5 @@ IsLineOf None line.NotYet = Unit {0}
 IsLineOf _ _ = ⊥
 
 -- once the line is no longer borrowed, it is taken
-abbrev pub LeavesTaken : MutBor Cutting → Fml
+abbrev pub LeavesTaken : MutBor LinesState → Fml
 LeavesTaken lines = Rests the_row lines (λ new. new ≡ after_taking lines.now)

@@ -3,8 +3,8 @@
 ghost use Rattle.std.specs.Prelude.{◌≡◌, List, true, false, [], ◌∷◌, ◌++◌, All, codes, replicate};
 ghost use Rattle.std.specs.List.{join_with_byte};
 ghost use Rattle.daa_lines.specs.LinesOf.{Bytes, line_feed, stretches_of, lines_of, shown};
-ghost use Rattle.daa_lines.specs.Cutting.{Cutting};
-ghost use Rattle.daa_lines.specs.Stands.{Stands, standing};
+ghost use Rattle.daa_lines.specs.LinesState.{LinesState};
+ghost use Rattle.daa_lines.specs.ComesFrom.{ComesFrom, standing};
 ghost use Rattle.daa_lines.specs.Joined.{HasNoFeed};
 ghost use Rattle.daa_lines.specs.Feeding.{bytes_taken};
 
@@ -31,9 +31,9 @@ pub fn lines_only_grow()
 /// If the same bytes were fed, in any pieces, the same lines were taken, counting the one that is
 /// ready.
 pub fn pieces_do_not_matter()
-    ensures { (bytes : Bytes) (taken taken' : List Bytes) (lines lines' : Cutting)
+    ensures { (bytes : Bytes) (taken taken' : List Bytes) (lines lines' : LinesState)
         → lines.ended ≡ lines'.ended
-        → Stands bytes taken lines → Stands bytes taken' lines'
+        → ComesFrom bytes taken lines → ComesFrom bytes taken' lines'
         → taken ++ standing lines.stage lines.line ≡ taken' ++ standing lines'.stage lines'.line }
 {}
 

@@ -4,9 +4,9 @@
 
 ghost use Rattle.std.specs.Prelude.{◌≡◌, ◌<◌, ◌≤◌, ◌+◌, ◌^◌, ◌↔◌, ◌⊎◌, ◌++◌, [], ◌∷◌, List, ℕ, length, take, false, true, slice_get};
 ghost use Rattle.daa_lines.specs.LinesOf.{lines_of};
-ghost use Rattle.daa_lines.specs.Cutting.{is_standing};
-ghost use Rattle.daa_lines.specs.Inside.Cutting.{IsSized};
-ghost use Rattle.daa_lines.specs.Stands.{Stands, standing};
+ghost use Rattle.daa_lines.specs.LinesState.{is_standing};
+ghost use Rattle.daa_lines.specs.Inside.LinesState.{IsSized};
+ghost use Rattle.daa_lines.specs.ComesFrom.{ComesFrom, standing};
 ghost use Rattle.daa_lines.specs.Feeding.{bytes_taken};
 ghost use Rattle.daa_lines.specs.Ending.{after_end};
 ghost use Rattle.daa_lines.specs.Inside.Pushing.{after_byte, is_last};
@@ -53,10 +53,10 @@ pub struct Lines {
 
 impl Model for Lines {
     ghost use Rattle.std.specs.Prelude.{◌≤◌, ◌≡◌, ◌+◌, true, false};
-    ghost use Rattle.daa_lines.specs.Cutting.{Cutting, held, is_standing};
-    ghost use Rattle.daa_lines.specs.Inside.Cutting.{IsSized, owed};
+    ghost use Rattle.daa_lines.specs.LinesState.{LinesState, held, is_standing};
+    ghost use Rattle.daa_lines.specs.Inside.LinesState.{IsSized, owed};
 
-    ghost Value = { Cutting };
+    ghost Value = { LinesState };
 
     ghost view = { λ s. record {
       line = held s.stale s.line.items;
@@ -77,7 +77,7 @@ impl Lines {
 
     /// The lines of an input of which nothing was fed yet.
     pub fn new() -> Self
-        ensures stands { Stands [] [] result }
+        ensures comes_from { ComesFrom [] [] result }
         ensures free { is_standing result.stage ≡ false }
         ensures going { result.ended ≡ false }
     {
@@ -118,11 +118,11 @@ impl Lines {
             }
         }
         self.fed += 1;
-        byte == b'\n' || self.stands()
+        byte == b'\n' || self.has_line()
     }
 
     /// Whether a line is ready that is not taken yet.
-    fn stands(&self) -> bool
+    fn has_line(&self) -> bool
         ensures { result ≡ is_standing self.now.stage }
     {
         matches!(self.stage, Stage::Whole | Stage::Long)
@@ -141,13 +141,13 @@ impl Lines {
         ensures moved { is_standing self.old.stage ≡ false → 0 < length piece.now → 0 < result }
         ensures within { result ≤ length piece.now }
 
-        ensures kept { (bytes : List ℕ) (taken : List (List ℕ)) → Stands bytes taken self.old
-            → Stands (bytes ++ take result piece.now) taken self.new }
+        ensures kept { (bytes : List ℕ) (taken : List (List ℕ)) → ComesFrom bytes taken self.old
+            → ComesFrom (bytes ++ take result piece.now) taken self.new }
         ensures fed { self.new.fed ≡ self.old.fed + result }
         ensures number { self.new.number ≡ self.old.number }
         ensures going { self.new.ended ≡ false }
     {
-        if self.stands() {
+        if self.has_line() {
             return 0;
         }
         for (i, byte) in piece.iter().enumerate() {
@@ -165,10 +165,10 @@ impl Lines {
         ensures handed { IsHanded self.old result }
         ensures long { (result ≡ Line.Long) ↔ (self.old.stage ≡ Stage.Long) }
         ensures not_yet { (result ≡ Line.NotYet) ↔ (is_standing self.old.stage ≡ false) }
-        ensures line { (bytes : List ℕ) (taken : List (List ℕ)) → Stands bytes taken self.old
+        ensures line { (bytes : List ℕ) (taken : List (List ℕ)) → ComesFrom bytes taken self.old
             → IsLineOf (slice_get (lines_of bytes self.old.ended) (length taken)) result }
-        ensures kept { (bytes : List ℕ) (taken : List (List ℕ)) → Stands bytes taken self.old
-            → Stands bytes (taken ++ standing self.old.stage self.old.line)
+        ensures kept { (bytes : List ℕ) (taken : List (List ℕ)) → ComesFrom bytes taken self.old
+            → ComesFrom bytes (taken ++ standing self.old.stage self.old.line)
             (after_taking self.old) }
     {
         match self.stage {
@@ -206,8 +206,8 @@ impl Lines {
     /// line that was taken becomes none, and a second call changes nothing.
     pub fn end(&mut self)
         ensures value { self.new ≡ after_end self.old }
-        ensures kept { (bytes : List ℕ) (taken : List (List ℕ)) → Stands bytes taken self.old
-            → Stands bytes taken self.new }
+        ensures kept { (bytes : List ℕ) (taken : List (List ℕ)) → ComesFrom bytes taken self.old
+            → ComesFrom bytes taken self.new }
         ensures ended { self.new.ended ≡ true }
         ensures fed { self.new.fed ≡ self.old.fed }
         ensures number { self.new.number ≡ self.old.number }

@@ -25,35 +25,35 @@ use Rattle.daa_vwindow.proofs.Bands.{IsMax, IsMin, max_is, min_is, ends_are, win
 use Rattle.daa_vwindow.proofs.Heights.{retarget, rising, falling, standing}
 use Rattle.daa_detect.specs.Hit.{IsHit}
 use Rattle.daa_detect.proofs.Distance.{HasDistance, distance}
-use Rattle.daa_detect.proofs.Nearest.{time_between, vertex_small, none_elsewhere}
-use Rattle.daa_meet.specs.Trying.{is_soon, is_near, passes_near, is_closing, is_near_in_height, is_co_altitude_soon, is_violated, is_violated_at, is_violated_sometime}
-use Rattle.daa_meet.proofs.Trying.{le_is, lt_is, both_is, either_is, some_is}
+use Rattle.daa_detect.proofs.NearestTimes.{time_between, vertex_small, none_elsewhere}
+use Rattle.daa_meet.specs.Trials.{is_soon, is_near, passes_near, is_closing, is_near_in_height, is_co_altitude_soon, is_violated, is_violated_at, is_violated_sometime}
+use Rattle.daa_meet.proofs.TrialLemmas.{le_is, lt_is, both_is, either_is, some_is}
 
 -- ---- the volume at n/d
-soon_is : (m : Model) (leg : Leg) (vol : Volume) (n d : ℤ) → IsTrue (is_soon m leg vol n d) ↔ IsSoon m leg vol n d
-soon_is Taumod leg vol n d = le_is _ _
-soon_is Tcpa leg vol n d = le_is _ _
+soon_is : (m : Model) (leg : Leg) (volume : Volume) (n d : ℤ) → IsTrue (is_soon m leg volume n d) ↔ IsSoon m leg volume n d
+soon_is Taumod leg volume n d = le_is _ _
+soon_is Tcpa leg volume n d = le_is _ _
 
-closing_is : (leg : Leg) (vol : Volume) (n d : ℤ) → IsTrue (is_closing leg vol n d) ↔ IsClosing leg vol n d
-closing_is leg vol n d =
-    let e = both_is _ _ (lt_is _ _) (both_is (is_soon vol.model leg vol n d) (passes_near leg vol n d) (soon_is vol.model leg vol n d) (le_is _ _)) in (
+closing_is : (leg : Leg) (volume : Volume) (n d : ℤ) → IsTrue (is_closing leg volume n d) ↔ IsClosing leg volume n d
+closing_is leg volume n d =
+    let e = both_is _ _ (lt_is _ _) (both_is (is_soon volume.model leg volume n d) (passes_near leg volume n d) (soon_is volume.model leg volume n d) (le_is _ _)) in (
       (λ t. let p = e.0 t in record { nearing = p.0; soon = p.1.0; near = p.1.1 }),
       (λ c. e.1 (c.nearing, (c.soon, c.near))),
     )
 
-co_altitude_soon_is : (leg : Leg) (vol : Volume) (n d : ℤ) → IsTrue (is_co_altitude_soon leg vol n d) ↔ IsCoAltitudeSoon leg vol n d
-co_altitude_soon_is leg vol n d =
+co_altitude_soon_is : (leg : Leg) (volume : Volume) (n d : ℤ) → IsTrue (is_co_altitude_soon leg volume n d) ↔ IsCoAltitudeSoon leg volume n d
+co_altitude_soon_is leg volume n d =
     let e = both_is _ _ (lt_is _ _) (le_is _ _) in (
       (λ t. let p = e.0 t in record { nearing = p.0; soon = p.1 }),
       (λ c. e.1 (c.nearing, c.soon)),
     )
 
-pub violated_is : (leg : Leg) (vol : Volume) (n d : ℤ) → IsTrue (is_violated leg vol n d) ↔ Violates leg vol n d
+pub violated_is : (leg : Leg) (volume : Volume) (n d : ℤ) → IsTrue (is_violated leg volume n d) ↔ Violates leg volume n d
 unfolding is_violated
-violated_is leg vol n d =
+violated_is leg volume n d =
     let e = both_is _ _
-    (either_is (is_near leg vol n d) (is_closing leg vol n d) (le_is _ _) (closing_is leg vol n d))
-    (either_is (is_near_in_height leg vol n d) (is_co_altitude_soon leg vol n d) (le_is _ _) (co_altitude_soon_is leg vol n d)) in (
+    (either_is (is_near leg volume n d) (is_closing leg volume n d) (le_is _ _) (closing_is leg volume n d))
+    (either_is (is_near_in_height leg volume n d) (is_co_altitude_soon leg volume n d) (le_is _ _) (co_altitude_soon_is leg volume n d)) in (
       (λ t. let p = e.0 t in record { horizontal = p.0; vertical = p.1 }),
       (λ v. e.1 (v.horizontal, v.vertical)),
     )
@@ -86,9 +86,9 @@ level secs h high short = by_lt_z high (pos (unsigned_abs h))
     let q : Point = record { num = pos secs; den = pos 1; not_negative = omega (arith, ints); num_bound = omega (arith, ints); positive = omega (arith, ints); den_bound = omega (arith, ints) } in
     record { ends = Some (p, q); is = level_window secs h high b.0 b.1 p q refl refl refl refl })
 
-module _ (leg : Leg) (vol : Volume) (r : IsLegInRange leg) where
-  moved : (P : ℤ → ℤ → Type 0) → ((n d : ℤ) → IsTime leg.secs n d → (P n d ↔ ViolatesVertically leg vol n d)) → HasWindow leg.secs P → HasWindow leg.secs (ViolatesVertically leg vol)
-  moved P same w = record { ends = w.ends; is = retarget leg.secs P (ViolatesVertically leg vol) w.ends same w.is }
+module _ (leg : Leg) (volume : Volume) (r : IsLegInRange leg) where
+  moved : (P : ℤ → ℤ → Type 0) → ((n d : ℤ) → IsTime leg.secs n d → (P n d ↔ ViolatesVertically leg volume n d)) → HasWindow leg.secs P → HasWindow leg.secs (ViolatesVertically leg volume)
+  moved P same w = record { ends = w.ends; is = retarget leg.secs P (ViolatesVertically leg volume) w.ends same w.is }
 
   slow_up : (a : ℤ) → unsigned_abs a < 40000 → a ≤ℤ pos 40000
   slow_up a h = omega (arith, ints)
@@ -96,12 +96,12 @@ module _ (leg : Leg) (vol : Volume) (r : IsLegInRange leg) where
   slow_down : (a : ℤ) → unsigned_abs a < 40000 → neg_ℤ a ≤ℤ pos 40000
   slow_down a h = omega (arith, ints)
 
-  vertical : HasWindow leg.secs (ViolatesVertically leg vol)
+  vertical : HasWindow leg.secs (ViolatesVertically leg volume)
   vertical = by_lt_z leg.velocity.up (pos 0)
-      (λ down. moved _ (falling leg vol _ down (max_is _ _ refl)) (passage leg.secs (neg_ℤ leg.place.up) (neg_ℤ leg.velocity.up) (int_max (pos vol.zthr) (pos vol.tcoa *ℤ neg_ℤ leg.velocity.up)) (pos vol.zthr) r.short (turn leg.velocity.up down) (slow_down leg.velocity.up r.up_speed)))
+      (λ down. moved _ (falling leg volume _ down (max_is _ _ refl)) (passage leg.secs (neg_ℤ leg.place.up) (neg_ℤ leg.velocity.up) (int_max (pos volume.zthr) (pos volume.tcoa *ℤ neg_ℤ leg.velocity.up)) (pos volume.zthr) r.short (turn leg.velocity.up down) (slow_down leg.velocity.up r.up_speed)))
       (λ not_down. by_lt_z (pos 0) leg.velocity.up
-      (λ up. moved _ (rising leg vol _ (one leg.velocity.up up) (max_is _ _ refl)) (passage leg.secs leg.place.up leg.velocity.up (int_max (pos vol.zthr) (pos vol.tcoa *ℤ leg.velocity.up)) (pos vol.zthr) r.short (one leg.velocity.up up) (slow_up leg.velocity.up r.up_speed)))
-      (λ not_up. moved _ (standing leg vol (still leg.velocity.up not_down not_up)) (level leg.secs leg.place.up (pos vol.zthr) r.short)))
+      (λ up. moved _ (rising leg volume _ (one leg.velocity.up up) (max_is _ _ refl)) (passage leg.secs leg.place.up leg.velocity.up (int_max (pos volume.zthr) (pos volume.tcoa *ℤ leg.velocity.up)) (pos volume.zthr) r.short (one leg.velocity.up up) (slow_up leg.velocity.up r.up_speed)))
+      (λ not_up. moved _ (standing leg volume (still leg.velocity.up not_down not_up)) (level leg.secs leg.place.up (pos volume.zthr) r.short)))
     where
       turn : (a : ℤ) → a <ℤ pos 0 → pos 1 ≤ℤ neg_ℤ a
       turn a h = omega (arith, ints)
@@ -149,37 +149,37 @@ least_between secs q p r short last in_order =
     same x = omega (arith, ints)
 
 -- ---- the leg
-record IsDecided (leg : Leg) (vol : Volume) : Type 0 where
+record IsDecided (leg : Leg) (volume : Volume) : Type 0 where
   hit : Option Point
-  is : MatchOption hit (HoldsNever leg.secs (Violates leg vol)) (λ p. IsHit leg vol p.num p.den)
+  is : MatchOption hit (HoldsNever leg.secs (Violates leg volume)) (λ p. IsHit leg volume p.num p.den)
 
-decided : (leg : Leg) (vol : Volume) → IsLegInRange leg → IsVolumeInRange vol → IsDecided leg vol
-decided leg vol r v = let w = vertical leg vol r in by_window w.ends w.is
+decided : (leg : Leg) (volume : Volume) → IsLegInRange leg → IsVolumeInRange volume → IsDecided leg volume
+decided leg volume r v = let w = vertical leg volume r in by_window w.ends w.is
   where
-    by_nearest : (p q : Point) → IsWindow leg.secs (ViolatesVertically leg vol) p q → (d : HasDistance leg vol) → (m : HasLeast d.quad p q) → (b : Bool) → IsTrue b ↔ Violates leg vol m.at.num m.at.den → IsDecided leg vol
+    by_nearest : (p q : Point) → IsWindow leg.secs (ViolatesVertically leg volume) p q → (d : HasDistance leg volume) → (m : HasLeast d.quad p q) → (b : Bool) → IsTrue b ↔ Violates leg volume m.at.num m.at.den → IsDecided leg volume
     by_nearest p q w d m true h = record {
       hit = Some m.at;
       is = record { time = time_between leg.secs p q m.at.num m.at.den q.positive w.last m.at.not_negative m.between; violates = h.0 refl };
     }
     by_nearest p q w d m false h = record {
       hit = None;
-      is = none_elsewhere leg vol d.quad d.is p q m.at w p.positive q.positive m.at.not_negative m.at.positive m.between m.least (λ x. absurd (cc (h.1 x)));
+      is = none_elsewhere leg volume d.quad d.is p q m.at w p.positive q.positive m.at.not_negative m.at.positive m.between m.least (λ x. absurd (cc (h.1 x)));
     }
 
-    by_window : (ends : Option (Point × Point)) → MatchOption ends (HoldsNever leg.secs (ViolatesVertically leg vol)) (λ (p, q). IsWindow leg.secs (ViolatesVertically leg vol) p q) → IsDecided leg vol
+    by_window : (ends : Option (Point × Point)) → MatchOption ends (HoldsNever leg.secs (ViolatesVertically leg volume)) (λ (p, q). IsWindow leg.secs (ViolatesVertically leg volume) p q) → IsDecided leg volume
     by_window None h = record { hit = None; is = λ n d t x. h n d t x.vertical }
     by_window (Some e) w =
         let p : Point = e.0 in
         let q : Point = e.1 in
-        let d = distance leg vol r v in
+        let d = distance leg volume r v in
         let m = least_between leg.secs d.quad p q r.short w.last (((w.exact q.num q.den w.last).0 w.holds_last).from) in
-        by_nearest p q w d m _ (violated_is leg vol m.at.num m.at.den)
+        by_nearest p q w d m _ (violated_is leg volume m.at.num m.at.den)
 
-module _ (leg : Leg) (vol : Volume) where
-  tried : (d n : ℕ) → IsTrue (is_violated_at leg vol d n) ↔ ((pos n ≤ℤ (pos leg.secs *ℤ pos (suc d))) × Violates leg vol (pos n) (pos (suc d)))
-  tried d n = both_is _ _ (le_is _ _) (violated_is leg vol (pos n) (pos (suc d)))
+module _ (leg : Leg) (volume : Volume) where
+  tried : (d n : ℕ) → IsTrue (is_violated_at leg volume d n) ↔ ((pos n ≤ℤ (pos leg.secs *ℤ pos (suc d))) × Violates leg volume (pos n) (pos (suc d)))
+  tried d n = both_is _ _ (le_is _ _) (violated_is leg volume (pos n) (pos (suc d)))
 
-  at_point : (n d : ℤ) → pos 0 ≤ℤ n → n ≤ℤ pos (2 ^ 41) → pos 1 ≤ℤ d → d ≤ℤ pos (2 ^ 33) → n ≤ℤ (pos leg.secs *ℤ d) → Violates leg vol n d → IsTrue (is_violated_sometime leg vol)
+  at_point : (n d : ℤ) → pos 0 ≤ℤ n → n ≤ℤ pos (2 ^ 41) → pos 1 ≤ℤ d → d ≤ℤ pos (2 ^ 33) → n ≤ℤ (pos leg.secs *ℤ d) → Violates leg volume n d → IsTrue (is_violated_sometime leg volume)
   unfolding is_violated_sometime
   at_point (pos n) (pos (suc d)) n0 n1 d0 d1 upto v = (some_is _ _).1 (record {
     number = d;
@@ -190,7 +190,7 @@ module _ (leg : Leg) (vol : Volume) where
   at_point (pos n) (negsuc d) n0 n1 d0 d1 upto v = absurd (omega (arith, ints))
   at_point (negsuc n) d n0 n1 d0 d1 upto v = absurd (omega (arith, ints))
 
-  found : IsTrue (is_violated_sometime leg vol) → HoldsSometime leg.secs (Violates leg vol)
+  found : IsTrue (is_violated_sometime leg volume) → HoldsSometime leg.secs (Violates leg volume)
   unfolding is_violated_sometime
   found t =
       let d = (some_is _ _).0 t in
@@ -203,9 +203,9 @@ module _ (leg : Leg) (vol : Volume) where
         holds = v.1;
       }
 
-  by_hit : (hit : Option Point) → MatchOption hit (HoldsNever leg.secs (Violates leg vol)) (λ p. IsHit leg vol p.num p.den) → HoldsSometime leg.secs (Violates leg vol) → IsTrue (is_violated_sometime leg vol)
+  by_hit : (hit : Option Point) → MatchOption hit (HoldsNever leg.secs (Violates leg volume)) (λ p. IsHit leg volume p.num p.den) → HoldsSometime leg.secs (Violates leg volume) → IsTrue (is_violated_sometime leg volume)
   by_hit None h s = absurd (h s.num s.den s.time s.holds)
   by_hit (Some p) h s = at_point p.num p.den p.not_negative p.num_bound p.positive p.den_bound h.time.upto h.violates
 
-  pub sometime_is : IsLegInRange leg → IsVolumeInRange vol → IsTrue (is_violated_sometime leg vol) ↔ HoldsSometime leg.secs (Violates leg vol)
-  sometime_is r v = let d = decided leg vol r v in (found, by_hit d.hit d.is)
+  pub sometime_is : IsLegInRange leg → IsVolumeInRange volume → IsTrue (is_violated_sometime leg volume) ↔ HoldsSometime leg.secs (Violates leg volume)
+  sometime_is r v = let d = decided leg volume r v in (found, by_hit d.hit d.is)

@@ -15,8 +15,8 @@ use Rattle.daa_state.specs.declared.word.Traffic.{Traffic}
 use Rattle.daa_state.specs.InRange.{IsOwnInRange}
 use Rattle.daa_legs.specs.declared.own_leg.OwnLeg.{OwnLeg}
 use Rattle.daa_legs.specs.Branch.{FliesOn}
-use Rattle.daa_legs.specs.Kept.{AreLegsOf}
-use Rattle.daa_legs.specs.OwnLegs.{place_on, own_leg, IsOwnLegInRange}
+use Rattle.daa_legs.specs.Trunk.{AreLegsOf}
+use Rattle.daa_legs.specs.OwnLeg.{place_on, own_leg, IsOwnLegInRange}
 use Rattle.daa_legs.specs.Relative.{relative_for}
 use Rattle.daa_legs.specs.Runs.{IsRunOf, MeetsBetween}
 use Rattle.daa_legs.specs.Meeting.{ViolatesOn}

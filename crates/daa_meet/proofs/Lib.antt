@@ -1,4 +1,4 @@
-pub mod Trying
+pub mod TrialLemmas
 pub mod Deciding
 pub mod Meetings
 pub mod Walking

@@ -6,7 +6,7 @@ ghost use Rattle.daa_taumod.specs.Volume.{IsVolumeInRange};
 ghost use Rattle.daa_config.specs.Settings.{IsCandidateInRange, rates_of};
 ghost use Rattle.daa_state.specs.InRange.{IsOwnInRange, IsTrafficInRange};
 ghost use Rattle.daa_legs.specs.Branch.{FliesOn};
-ghost use Rattle.daa_legs.specs.Kept.{AreLegsOf};
+ghost use Rattle.daa_legs.specs.Trunk.{AreLegsOf};
 ghost use Rattle.daa_legs.specs.Meeting.{ViolatesOn};
 ghost use Rattle.daa_legs.specs.Runs.{MeetsBetween};
 

@@ -3,7 +3,7 @@ use Rattle.std.specs.Prelude.{ℕ, List, Option, option_and_then, position, slic
 use Rattle.std.specs.Str.{bytes_eq}
 
 -- names and the texts at their places, which calls fail, how many calls were made, and how many failed
-pub record ShelfInMemory : Type 0 where
+pub record MemShelfState : Type 0 where
   pub names : List (List ℕ)
   pub texts : List (List ℕ)
   pub fails : List ℕ

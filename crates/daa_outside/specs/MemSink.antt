@@ -2,7 +2,7 @@
 use Rattle.std.specs.Prelude.{ℕ, List}
 
 -- the bytes taken, how many more fit, how many each call takes at most, which calls fail, how many calls were made, and how many failed
-pub record SinkInMemory : Type 0 where
+pub record MemSinkState : Type 0 where
   pub taken : List ℕ
   pub room : ℕ
   pub pieces : List ℕ

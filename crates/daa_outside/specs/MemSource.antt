@@ -2,7 +2,7 @@
 use Rattle.std.specs.Prelude.{ℕ, List}
 
 -- the bytes that are left, how many each call gives at most, which calls fail, how many calls were made, and how many failed
-pub record SourceInMemory : Type 0 where
+pub record MemSourceState : Type 0 where
   pub left : List ℕ
   pub pieces : List ℕ
   pub fails : List ℕ

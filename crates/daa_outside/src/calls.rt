@@ -3,7 +3,7 @@
 ghost use Rattle.std.specs.Prelude.{◌≡◌, ◌≤◌, ◌↔◌, Contains, IsErr, IfOk, OnOk, OnErr};
 ghost use Rattle.daa_outside.specs.Faults.{one_more};
 
-use crate::faults::{Failed, counted};
+use crate::faults::{Failed, count_up};
 
 /// Calls, numbered from 0, of which the ones named in `fails` fail.
 #[derive(Drop)]
@@ -34,8 +34,8 @@ impl Calls {
         ensures never_falls { self.old.faults ≤ self.new.faults }
         ensures same_fails { self.new.fails ≡ self.old.fails }
     {
-        self.made = counted(self.made);
-        self.faults = counted(self.faults);
+        self.made = count_up(self.made);
+        self.faults = count_up(self.faults);
         Failed
     }
 
@@ -53,7 +53,7 @@ impl Calls {
         if self.fails.contains(&call) {
             return Err(self.fail());
         }
-        self.made = counted(call);
+        self.made = count_up(call);
         Ok(call)
     }
 }

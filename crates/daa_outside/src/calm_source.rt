@@ -2,7 +2,7 @@
 
 ghost use Rattle.std.specs.Prelude.{◌≡◌};
 
-use crate::faults::{Failed, counted};
+use crate::faults::{Failed, count_up};
 use crate::pieces::hand_out;
 use crate::source::Source;
 use std::marker::Model;
@@ -18,9 +18,9 @@ pub struct CalmSource {
 
 impl Model for CalmSource {
     ghost use Rattle.std.specs.Prelude.{◌≤◌, drop, vec_len};
-    ghost use Rattle.daa_outside.specs.CalmSource.{CalmSourceInMemory};
+    ghost use Rattle.daa_outside.specs.CalmSource.{CalmSourceState};
 
-    ghost Value = { CalmSourceInMemory };
+    ghost Value = { CalmSourceState };
 
     ghost view = { λ s. record {
       left = drop s.at s.bytes.items;
@@ -74,7 +74,7 @@ impl Source for CalmSource {
     {
         let n = hand_out(&self.bytes, self.at, &self.pieces, self.calls, buf);
         self.at += n;
-        self.calls = counted(self.calls);
+        self.calls = count_up(self.calls);
         Ok(n)
     }
 }

@@ -11,7 +11,7 @@ use thiserror::Error;
 pub struct Failed;
 
 /// The counter after one more, which stops at the greatest number.
-pub(crate) fn counted(count: u64) -> u64
+pub(crate) fn count_up(count: u64) -> u64
     ensures { result ≡ one_more count }
 {
     count.saturating_add(1)

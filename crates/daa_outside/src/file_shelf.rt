@@ -4,7 +4,7 @@ ghost use Rattle.std.specs.Prelude.{◌≡◌, ◌≢◌, ◌≤◌, ◌<◌, �
 ghost use Rattle.std.specs.IoError.{error_kind};
 ghost use Rattle.daa_outside.specs.Shelf.{longest_text};
 
-use crate::faults::counted;
+use crate::faults::count_up;
 use crate::shelf::{FetchFault, LONGEST_TEXT, Shelf};
 use std::alloc::Global;
 use std::io::{ErrorKind, Read};
@@ -58,7 +58,7 @@ impl<R: Files> Shelf for FileShelf<R> {
             Err(_) => Err(FetchFault::Failed),
         };
         if let Err(FetchFault::Failed) = answer {
-            self.faults = counted(self.faults);
+            self.faults = count_up(self.faults);
         }
         answer
     }

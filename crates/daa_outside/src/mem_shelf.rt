@@ -19,9 +19,9 @@ pub struct MemShelf {
 
 impl Model for MemShelf {
     ghost use Rattle.std.specs.Prelude.{map, string_bytes, vec_items};
-    ghost use Rattle.daa_outside.specs.MemShelf.{ShelfInMemory};
+    ghost use Rattle.daa_outside.specs.MemShelf.{MemShelfState};
 
-    ghost Value = { ShelfInMemory };
+    ghost Value = { MemShelfState };
 
     ghost view = { λ s. record {
       names = map string_bytes s.names.items;

@@ -4,7 +4,7 @@ ghost use Rattle.std.specs.Prelude.{◌≡◌, ◌≤◌, ◌+◌, ◌++◌, [],
 
 use crate::calls::Calls;
 use crate::faults::Failed;
-use crate::pieces::moved;
+use crate::pieces::moved_count;
 use crate::sink::Sink;
 use std::marker::Model;
 
@@ -20,9 +20,9 @@ pub struct MemSink {
 
 impl Model for MemSink {
     ghost use Rattle.std.specs.Prelude.{◌≤◌, ◌-◌, take, vec_len};
-    ghost use Rattle.daa_outside.specs.MemSink.{SinkInMemory};
+    ghost use Rattle.daa_outside.specs.MemSink.{MemSinkState};
 
-    ghost Value = { SinkInMemory };
+    ghost Value = { MemSinkState };
 
     ghost view = { λ s. record {
       taken = take s.used s.space.items;
@@ -104,7 +104,7 @@ impl Sink for MemSink {
             return Err(self.calls.fail());
         }
         let call = self.calls.begin()?;
-        let n = moved(&self.pieces, call, piece.len().min(room));
+        let n = moved_count(&self.pieces, call, piece.len().min(room));
         write_at(&mut self.space, self.used, &piece[..n]);
         self.used += n;
         Ok(n)

@@ -19,9 +19,9 @@ pub struct MemSource {
 
 impl Model for MemSource {
     ghost use Rattle.std.specs.Prelude.{◌≤◌, drop, vec_len};
-    ghost use Rattle.daa_outside.specs.MemSource.{SourceInMemory};
+    ghost use Rattle.daa_outside.specs.MemSource.{MemSourceState};
 
-    ghost Value = { SourceInMemory };
+    ghost Value = { MemSourceState };
 
     ghost view = { λ s. record {
       left = drop s.at s.bytes.items;

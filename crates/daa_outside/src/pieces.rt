@@ -5,7 +5,7 @@ ghost use Rattle.daa_outside.specs.Pieces.{moved_by};
 
 /// How many of `count` bytes the call moves: at most its size in the list, where 0 counts as 1.
 /// Past the end of the list there is no bound.
-pub(crate) fn moved(pieces: &[usize], call: u64, count: usize) -> usize
+pub(crate) fn moved_count(pieces: &[usize], call: u64, count: usize) -> usize
     ensures { result ≡ moved_by pieces.now call count }
 {
     match pieces.get(call as usize) {
@@ -31,7 +31,7 @@ pub(crate) fn hand_out(
     ensures rest { drop result buf.new ≡ drop result buf.old }
 {
     let (_, rest) = bytes.split_at(at);
-    let n = moved(pieces, call, buf.len().min(rest.len()));
+    let n = moved_count(pieces, call, buf.len().min(rest.len()));
     copy_front(buf, &rest[..n]);
     n
 }

@@ -3,7 +3,7 @@
 ghost use Rattle.std.specs.Prelude.{◌≤◌, ℕ, length, take, IfOk, OnErr};
 ghost use Rattle.std.specs.Io.KnownBytes.{Appends};
 
-use crate::faults::{Failed, counted};
+use crate::faults::{Failed, count_up};
 use crate::sink::Sink;
 use std::io;
 use std::io::Write;
@@ -59,7 +59,7 @@ impl<W: Write> Sink for StdSink<W> {
         match write_and_flush(&mut self.writer, piece) {
             Ok(n) if n > 0 || piece.is_empty() => Ok(n),
             _ => {
-                self.faults = counted(self.faults);
+                self.faults = count_up(self.faults);
                 Err(Failed)
             }
         }

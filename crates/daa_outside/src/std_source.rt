@@ -1,6 +1,6 @@
 //! A source over standard input.
 
-use crate::faults::{Failed, counted};
+use crate::faults::{Failed, count_up};
 use crate::source::Source;
 use std::io::Read;
 
@@ -54,7 +54,7 @@ impl<R: Read> Source for StdSource<R> {
         match self.reader.read(buf) {
             Ok(n) => Ok(n),
             Err(_) => {
-                self.faults = counted(self.faults);
+                self.faults = count_up(self.faults);
                 Err(Failed)
             }
         }

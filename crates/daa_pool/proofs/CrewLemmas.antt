@@ -32,12 +32,12 @@ module _ (p : Pool) (xs : List Seat) (answers : List ℕ) (opening : AreOpening 
     all_done i d h = let w = worked i d (omega arith) in w.done
 
     all_answers : HaveAnswers answers ys
-    all_answers i d h = let low : i < length xs = omega arith in let w = worked i d low in let o = (at i d low).1 in let place = w.place in place.answers ∙ o.answers_are
+    all_answers i d h = let low : i < length xs = omega arith in let w = worked i d low in let o = (at i d low).1 in let same_seat = w.same_seat in same_seat.answers ∙ o.answers_are
 
     -- every number is that of the seat at its place
     all_numbers : (d : Seat) → AreAll (workers_of p) ys
-    all_numbers d n h = let e = opening.count_is in let low : n < length xs = omega arith in let w = worked n d low in let o = (at n d low).1 in let place = w.place in
-        let s : Seat = get_or ys n d in (s, (n, omega arith, get_or_default ys n s d (omega arith)), place.number ∙ o.number_is)
+    all_numbers d n h = let e = opening.count_is in let low : n < length xs = omega arith in let w = worked n d low in let o = (at n d low).1 in let same_seat = w.same_seat in
+        let s : Seat = get_or ys n d in (s, (n, omega arith, get_or_default ys n s d (omega arith)), same_seat.number ∙ o.number_is)
 
     worked_gatherable : 0 < workers_of p → AreGatherable p answers ys
     worked_gatherable some = record { done = all_done; all = all_numbers (some_seat ys (let e = opening.count_is in omega arith)); answers_are = all_answers }

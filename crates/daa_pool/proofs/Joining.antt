@@ -27,7 +27,7 @@ use Rattle.daa_pool.specs.History.{IsPartOf, IsOneHistory}
 use Rattle.daa_pool.specs.Seat.{IsOver}
 use Rattle.daa_pool.proofs.Lists.{Contains-cons_cases, found_at, total_set, sum_alone}
 use Rattle.daa_pool.proofs.Views.{not_blank}
-use Rattle.daa_pool.proofs.Frame.{seated_anew}
+use Rattle.daa_pool.proofs.StepDuties.{seated_anew}
 
 -- the parts and the numbers of a seat that took in another
 pub joined_left : (v w : View) (part : Part) → Contains v.joined part → Contains (gathered v w).joined part
@@ -246,10 +246,10 @@ read_at k slots id me i u e alive over all low s (inr r) size at tiny = let v : 
 
     found : word_at s.words i ≡ slice_index me.0.answers (i - me.0.workers)
     found = let sh = r.shows in let c = o.crew in
-        let place : i - me.0.workers ≡ u = omega arith in
+        let index : i - me.0.workers ≡ u = omega arith in
         let low' : u < length r.core.answers = subst (λ (xs : List ℕ). u < length xs) o.answers low in
         (ap (λ (n : ℕ). word_at s.words n) e ∙ sym (sh.board u low'))
-        ∙ (ap (λ (xs : List ℕ). slice_index xs u) (all_answered r.core (r.shaped, r.whole) all_over ∙ sym o.answers) ∙ ap (λ (n : ℕ). slice_index me.0.answers n) (sym place))
+        ∙ (ap (λ (xs : List ℕ). slice_index xs u) (all_answered r.core (r.shaped, r.whole) all_over ∙ sym o.answers) ∙ ap (λ (n : ℕ). slice_index me.0.answers n) (sym index))
 
     once : (u : ℕ) → times u me.0.settled ≡ once_below u (length me.0.answers)
     once u = let t = sum_alone (λ (x : View). times u x.settled) s.views id me.0 at (λ j x e' n. ap (λ (y : View). times u y.settled) (alone k.workers s r id me.0 at alive all j x e' n)) in

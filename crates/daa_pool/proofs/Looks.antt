@@ -6,7 +6,7 @@ use Rattle.std.proofs.lemmas.Bool.Decides.{nat_tests}
 use Rattle.std.proofs.lemmas.List.{append-nil}
 use Rattle.std.proofs.lemmas.List.Sums.{sum_by-append, sum_by-cons}
 use Rattle.std.proofs.lemmas.List.Elements.{Contains-append_left, Contains-append_right, Contains-append_cases, Contains-push, Contains-push_cases}
-use Rattle.daa_range.specs.Range.{span, span_len, times_in}
+use Rattle.daa_range.specs.Range.{range_of, range_len, times_in}
 use Rattle.daa_range.specs.Word.{unpacked}
 use Rattle.daa_range.proofs.Ranges.{times_in_cut}
 use Rattle.daa_schedule.specs.declared.step.Step.{Step}
@@ -18,20 +18,20 @@ use Rattle.daa_pool.specs.Seat.{IsFree, HasPiece}
 use Rattle.daa_pool.specs.Claim.{IsLater, AreFresh, SawEmpty, IsBare, looks_at, IsBrief, GoesRound, IsTaking, EndsShort, GetsShorter, Claims, FindsNothing}
 use Rattle.daa_pool.specs.Inside.Tour.{IsSeeking, TakesFrom, Toured, AreElsewhere, SeeksWell, SeeksInVain}
 use Rattle.daa_pool.proofs.Lists.{Contains-nil}
-use Rattle.daa_pool.proofs.Shorter.{IsAtMost, at_most_one, at_most_more, shorter_one, shorter_more, shorter_after, shorter_away, both_away}
+use Rattle.daa_pool.proofs.ShorterLooks.{IsAtMost, at_most_one, at_most_more, shorter_one, shorter_more, shorter_after, shorter_away, both_away}
 use Rattle.daa_pool.proofs.Rounds.{AtHome, turn_none, turn_one, turn_again, turn_more, home_one, home_more, round_up, round_both, round_home, round_after, round_before}
 
 pub later_same : (v : View) → IsLater v v [] []
 later_same v = record {
-  place = record { number = refl; workers = refl; answers = refl; joined = refl; carries = refl; made = refl };
+  same_seat = record { number = refl; workers = refl; answers = refl; joined = refl; carries = refl; made = refl };
   settled = refl;
   looks = sym (append-nil v.looks);
   moves = sym (append-nil v.moves);
 }
 
 pub later_trans : (u v w : View) (xs ys : List Look) (ms ns : List Step) → IsLater u v xs ms → IsLater v w ys ns → IsLater u w (xs ++ ys) (ms ++ ns)
-later_trans u v w xs ys ms ns a b = let p = a.place in let q = b.place in record {
-  place = record { number = q.number ∙ p.number; workers = q.workers ∙ p.workers; answers = q.answers ∙ p.answers; joined = q.joined ∙ p.joined; carries = q.carries ∙ p.carries; made = q.made ∙ p.made };
+later_trans u v w xs ys ms ns a b = let p = a.same_seat in let q = b.same_seat in record {
+  same_seat = record { number = q.number ∙ p.number; workers = q.workers ∙ p.workers; answers = q.answers ∙ p.answers; joined = q.joined ∙ p.joined; carries = q.carries ∙ p.carries; made = q.made ∙ p.made };
   settled = b.settled ∙ a.settled;
   looks = b.looks ∙ (ap (λ (ls : List Look). ls ++ ys) a.looks ∙ append_assoc u.looks xs ys);
   moves = b.moves ∙ (ap (λ (ls : List Step). ls ++ ns) a.moves ∙ append_assoc u.moves ms ns);
@@ -40,7 +40,7 @@ later_trans u v w xs ys ms ns a b = let p = a.place in let q = b.place in record
 -- one look
 pub looked_later : (v : View) (worker word : ℕ) → IsLater v (looked v worker word) (look v worker word ∷ []) []
 looked_later v worker word = record {
-  place = record { number = refl; workers = refl; answers = refl; joined = refl; carries = refl; made = refl };
+  same_seat = record { number = refl; workers = refl; answers = refl; joined = refl; carries = refl; made = refl };
   settled = refl;
   looks = refl;
   moves = sym (append-nil v.moves);
@@ -48,7 +48,7 @@ looked_later v worker word = record {
 
 pub looked_home_later : (v : View) (word : ℕ) → IsLater v (looked_home v word) (look v v.number word ∷ []) []
 looked_home_later v word = record {
-  place = record { number = refl; workers = refl; answers = refl; joined = refl; carries = refl; made = refl };
+  same_seat = record { number = refl; workers = refl; answers = refl; joined = refl; carries = refl; made = refl };
   settled = refl;
   looks = refl;
   moves = sym (append-nil v.moves);
@@ -57,10 +57,10 @@ looked_home_later v word = record {
 looks_at-append : (worker : ℕ) (xs ys : List Look) → looks_at worker (xs ++ ys) ≡ looks_at worker xs + looks_at worker ys
 looks_at-append worker xs ys = sum_by-append (λ (l : Look). cond (eqb l.worker worker) 1 0) xs ys
 
-looks_at-one : (v : View) (worker o word : ℕ) → looks_at worker (look v o word ∷ []) ≡ times_in worker (span o (o + 1))
+looks_at-one : (v : View) (worker o word : ℕ) → looks_at worker (look v o word ∷ []) ≡ times_in worker (range_of o (o + 1))
 looks_at-one v worker o word = sum_by-cons (λ (l : Look). cond (eqb l.worker worker) 1 0) (look v o word) [] ∙ same
   where
-    same : cond (eqb o worker) 1 0 + 0 ≡ times_in worker (span o (o + 1))
+    same : cond (eqb o worker) 1 0 + 0 ≡ times_in worker (range_of o (o + 1))
     same = grind (arith, nat_tests)
 
 looks_at-not : (v : View) (worker o word : ℕ) → worker ≢ o → looks_at worker (look v o word ∷ []) ≡ 0
@@ -112,7 +112,7 @@ toured_more u v w first mid upto low high a b = record {
 
 -- a round that takes something after it found nothing
 pub takes_more : (u v w : View) (first mid last upto unit : ℕ) → first ≤ mid → mid ≤ last → last ≤ upto → Toured u v first mid → TakesFrom v w mid last unit → TakesFrom u w first upto unit
-takes_more u v w first mid last upto unit low high end a b = let l = a.later in let p = l.place in record {
+takes_more u v w first mid last upto unit low high end a b = let l = a.later in let p = l.same_seat in record {
   seen = a.seen ++ b.seen;
   steps = b.steps;
   later = later_trans u v w a.seen b.seen [] b.steps a.later b.later;
@@ -124,7 +124,7 @@ takes_more u v w first mid last upto unit low high end a b = let l = a.later in 
 }
 
 -- one other worker, whose range is short
-pub short : (v : View) (other word : ℕ) → IsSeeking v → span_len (unpacked word) < 2 → Toured v (looked v other word) other (other + 1)
+pub short : (v : View) (other word : ℕ) → IsSeeking v → range_len (unpacked word) < 2 → Toured v (looked v other word) other (other + 1)
 short v other word s few = let f = s.free in record {
   seen = look v other word ∷ [];
   later = looked_later v other word;
@@ -174,14 +174,14 @@ pub record LooksHome (before after : View) : Type 0 where
   pub fresh : AreFresh before seen
   pub home : (other : ℕ) → other ≢ before.number → looks_at other seen ≡ 0
   pub own : AtHome before.number seen
-  pub least : IsAtMost (span_len after.bound) seen
+  pub least : IsAtMost (range_len after.bound) seen
   pub shorter : GetsShorter before.number seen
 
 pub looks_home_first : (v : View) (word : ℕ) → LooksHome v (looked_home v word)
 looks_home_first v word = record { seen = look v v.number word ∷ []; later = looked_home_later v word; fresh = fresh_one v v.number word; home = λ o n. looks_at-not v o v.number word n; own = home_one v word; least = at_most_one v word; shorter = shorter_one v.number (look v v.number word) }
 
-pub looks_home_more : (u v : View) (word : ℕ) → LooksHome u v → span_len (unpacked word) < span_len v.bound → LooksHome u (looked_home v word)
-looks_home_more u v word a fewer = let l = a.later in let p = l.place in record {
+pub looks_home_more : (u v : View) (word : ℕ) → LooksHome u v → range_len (unpacked word) < range_len v.bound → LooksHome u (looked_home v word)
+looks_home_more u v word a fewer = let l = a.later in let p = l.same_seat in record {
   seen = a.seen ++ look v v.number word ∷ [];
   later = later_trans u v (looked_home v word) a.seen (look v v.number word ∷ []) [] [] a.later (looked_home_later v word);
   fresh = fresh_more u v a.seen (look v v.number word ∷ []) a.later a.fresh (fresh_one v v.number word);
@@ -193,7 +193,7 @@ looks_home_more u v word a fewer = let l = a.later in let p = l.place in record 
 
 -- the own range's first unit is claimed
 pub claims_home : (u v w : View) (unit : ℕ) (steps : List Step) → LooksHome u v → IsLater v w [] steps → IsTaking v.number steps → HasPiece w unit → Claims u w unit
-claims_home u v w unit steps a later taking piece = let l = a.later in let p = l.place in record {
+claims_home u v w unit steps a later taking piece = let l = a.later in let p = l.same_seat in record {
   seen = a.seen ++ [];
   steps = steps;
   later = later_trans u v w a.seen [] [] steps a.later later;
@@ -207,7 +207,7 @@ claims_home u v w unit steps a later taking piece = let l = a.later in let p = l
 pub claimed_home : (u v : View) → LooksHome u v → IsFree v → v.bound.first < length v.answers → Claims u (claimed v) v.bound.first
 claimed_home u v a free below = claims_home u v (claimed v) v.bound.first (by.Claim v.number ∷ []) a
     (record {
-      place = record { number = refl; workers = refl; answers = refl; joined = refl; carries = refl; made = refl };
+      same_seat = record { number = refl; workers = refl; answers = refl; joined = refl; carries = refl; made = refl };
       settled = refl;
       looks = sym (append-nil v.looks);
       moves = refl;
@@ -220,7 +220,7 @@ after_home u v a ys brief xs home same = λ o n. let x = home o n in let y = bri
 
 -- what a call does after looks at the own range
 pub claims_after : (u v w : View) (unit : ℕ) → LooksHome u v → SeeksWell v w unit → Claims u w unit
-claims_after u v w unit a well = let b : Claims v w unit = well.claim in let l = a.later in let p = l.place in record {
+claims_after u v w unit a well = let b : Claims v w unit = well.claim in let l = a.later in let p = l.same_seat in record {
   seen = a.seen ++ b.seen;
   steps = b.steps;
   later = later_trans u v w a.seen b.seen [] b.steps a.later b.later;
@@ -232,7 +232,7 @@ claims_after u v w unit a well = let b : Claims v w unit = well.claim in let l =
 }
 
 pub nothing_after : (u v w : View) → LooksHome u v → SeeksInVain v w → FindsNothing u w
-nothing_after u v w a vain = let b : FindsNothing v w = vain.claim in let s : EndsShort v.number b.seen = b.shorter in let l = a.later in let p = l.place in record {
+nothing_after u v w a vain = let b : FindsNothing v w = vain.claim in let s : EndsShort v.number b.seen = b.shorter in let l = a.later in let p = l.same_seat in record {
   seen = a.seen ++ b.seen;
   later = subst (λ (n : ℕ). IsLater u w (a.seen ++ b.seen) (by.End n ∷ [])) p.number (later_trans u v w a.seen b.seen [] (by.End v.number ∷ []) a.later b.later);
   fresh = fresh_more u v a.seen b.seen a.later a.fresh b.fresh;
@@ -260,7 +260,7 @@ none_after None u v w a h = nothing_after u v w a h
 none_after (Some unit) u v w a h = tt
 
 -- a number is in one of the two rounds at most
-apart : (o number workers : ℕ) → o ≢ number → times_in o (span (number + 1) workers) + times_in o (span 0 number) ≤ 1
+apart : (o number workers : ℕ) → o ≢ number → times_in o (range_of (number + 1) workers) + times_in o (range_of 0 number) ≤ 1
 apart o number workers n = grind (arith, nat_tests)
 
 -- what the first round takes
@@ -281,7 +281,7 @@ seeks_first v w number workers unit en ew a = let turn = a.turn in let away : Ar
 
 -- what the second round takes
 pub seeks_second : (v w x : View) (number workers unit : ℕ) → v.number ≡ number → v.workers ≡ workers → Toured v w (number + 1) workers → TakesFrom w x 0 number unit → SeeksWell v x unit
-seeks_second v w x number workers unit en ew a b = let l = a.later in let p = l.place in let away : AreElsewhere v.number (a.seen ++ b.seen) = both_away v.number number workers a.seen b.seen en a.turn b.turn in record {
+seeks_second v w x number workers unit en ew a b = let l = a.later in let p = l.same_seat in let away : AreElsewhere v.number (a.seen ++ b.seen) = both_away v.number number workers a.seen b.seen en a.turn b.turn in record {
   claim = record {
     seen = a.seen ++ b.seen;
     steps = b.steps;
@@ -296,12 +296,12 @@ seeks_second v w x number workers unit en ew a b = let l = a.later in let p = l.
 }
 
 -- two rounds that take nothing, and then the end
-pub seeks_nothing : (v w x : View) (word number workers : ℕ) → v.number ≡ number → v.workers ≡ workers → Toured v w (number + 1) workers → Toured w x 0 number → span_len (unpacked word) ≡ 0 → length x.settled ≤ length x.answers → SeeksInVain v (ended x word)
+pub seeks_nothing : (v w x : View) (word number workers : ℕ) → v.number ≡ number → v.workers ≡ workers → Toured v w (number + 1) workers → Toured w x 0 number → range_len (unpacked word) ≡ 0 → length x.settled ≤ length x.answers → SeeksInVain v (ended x word)
 seeks_nothing v w x word number workers en ew a b empty few =
-    let t : IsLater v x (a.seen ++ b.seen) [] = later_trans v w x a.seen b.seen [] [] a.later b.later in let place = t.place in let s : IsSeeking x = b.seeking in let f = s.free in
+    let t : IsLater v x (a.seen ++ b.seen) [] = later_trans v w x a.seen b.seen [] [] a.later b.later in let same_seat = t.same_seat in let s : IsSeeking x = b.seeking in let f = s.free in
     let l : List Look = look x x.number word ∷ [] in
     let e : IsLater x (ended x word) l (by.End x.number ∷ []) = record {
-      place = record { number = refl; workers = refl; answers = refl; joined = refl; carries = refl; made = refl };
+      same_seat = record { number = refl; workers = refl; answers = refl; joined = refl; carries = refl; made = refl };
       settled = refl;
       looks = refl;
       moves = refl;
@@ -309,17 +309,17 @@ seeks_nothing v w x word number workers en ew a b empty few =
     let away : AreElsewhere v.number (a.seen ++ b.seen) = both_away v.number number workers a.seen b.seen en a.turn b.turn in record {
       claim = record {
         seen = (a.seen ++ b.seen) ++ l;
-        later = subst (λ (n : ℕ). IsLater v (ended x word) ((a.seen ++ b.seen) ++ l) (by.End n ∷ [])) place.number (later_trans v x (ended x word) (a.seen ++ b.seen) l [] (by.End x.number ∷ []) t e);
+        later = subst (λ (n : ℕ). IsLater v (ended x word) ((a.seen ++ b.seen) ++ l) (by.End n ∷ [])) same_seat.number (later_trans v x (ended x word) (a.seen ++ b.seen) l [] (by.End x.number ∷ []) t e);
         fresh = fresh_more v x (a.seen ++ b.seen) l t (fresh_more v w a.seen b.seen a.later a.fresh b.fresh) (fresh_one x x.number word);
         over = record { hand = f.hand; over = refl };
-        empty = (look x x.number word, Contains-append_right (a.seen ++ b.seen) l (look x x.number word) (Contains-push [] (look x x.number word)), place.number, empty);
+        empty = (look x x.number word, Contains-append_right (a.seen ++ b.seen) l (look x x.number word) (Contains-push [] (look x x.number word)), same_seat.number, empty);
         others = λ o lo ne. bare_left (a.seen ++ b.seen) l o (go o lo ne (cases_lt o number));
-        shorter = record { early = a.seen ++ b.seen; last = look x x.number word; all = refl; own = place.number; shorter = shorter_away v.number (a.seen ++ b.seen) away };
+        shorter = record { early = a.seen ++ b.seen; last = look x x.number word; all = refl; own = same_seat.number; shorter = shorter_away v.number (a.seen ++ b.seen) away };
         brief = λ o n. let p = a.brief o in let q = b.brief o in let y = apart o number workers (λ e. n (e ∙ sym en)) in
-            let z = looks_at-append o a.seen b.seen in let z' = looks_at-append o (a.seen ++ b.seen) l in let h = looks_at-not x o x.number word (λ e. n (e ∙ place.number)) in omega arith;
+            let z = looks_at-append o a.seen b.seen in let z' = looks_at-append o (a.seen ++ b.seen) l in let h = looks_at-not x o x.number word (λ e. n (e ∙ same_seat.number)) in omega arith;
         round = round_before v.number v.workers (a.seen ++ b.seen) l
             (subst (λ (t : ℕ × ℕ). GoesRound t.0 t.1 (a.seen ++ b.seen)) (λ i. (sym en i, sym ew i)) (round_both number workers a.seen b.seen a.turn b.turn))
-            (subst (λ (n : ℕ). AtHome n l) place.number (home_one x word));
+            (subst (λ (n : ℕ). AtHome n l) same_seat.number (home_one x word));
         few = few;
       };
       away = away;

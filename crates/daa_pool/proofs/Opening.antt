@@ -5,7 +5,7 @@ use Rattle.std.proofs.lemmas.List.{set-get_or, length-replicate}
 use mathlib.Core.Option.{Option, none, some, some-injective, some-ne-none}
 use lib.ListN.{get_elem?}
 use Rattle.atomic_table.specs.Table.{step, keeps, Allows}
-use Rattle.daa_range.specs.Range.{span}
+use Rattle.daa_range.specs.Range.{range_of}
 use Rattle.daa_range.specs.Word.{packed, unpacked, IsInOrder}
 use Rattle.daa_schedule.specs.CoreState.{CoreState, no_units, range_at, opened}
 use Rattle.daa_schedule.specs.Answers.{AreAnswers}
@@ -30,23 +30,23 @@ module _ (workers units : ℕ) (answers : List ℕ) (some_workers : 0 < workers)
   zeros = replicate (workers + units) 0
 
   wide : length ws ≡ workers + units
-  wide = length-set zeros 0 (packed (span 0 units)) ∙ length-replicate (workers + units) 0
+  wide = length-set zeros 0 (packed (range_of 0 units)) ∙ length-replicate (workers + units) 0
 
-  first_word : word_at ws 0 ≡ packed (span 0 units)
-  first_word = let e = length-replicate {A = ℕ} (workers + units) 0 in get_or-set_same zeros 0 (packed (span 0 units)) 0 (omega arith)
+  first_word : word_at ws 0 ≡ packed (range_of 0 units)
+  first_word = let e = length-replicate {A = ℕ} (workers + units) 0 in get_or-set_same zeros 0 (packed (range_of 0 units)) 0 (omega arith)
 
   other_word : (i : ℕ) → i ≢ 0 → word_at ws i ≡ 0
-  other_word i n = get_or-set_other zeros 0 i (packed (span 0 units)) 0 n ∙ same_at {A = ℕ} (workers + units) 0 i
+  other_word i n = get_or-set_other zeros 0 i (packed (range_of 0 units)) 0 n ∙ same_at {A = ℕ} (workers + units) 0 i
 
-  whole_word : unpacked (word_at ws 0) ≡ span 0 (length answers)
-  whole_word = word_is (word_at ws 0) (span 0 units) first_word (omega arith) small ∙ ap (λ (n : ℕ). span 0 n) (sym long)
+  whole_word : unpacked (word_at ws 0) ≡ range_of 0 (length answers)
+  whole_word = word_is (word_at ws 0) (range_of 0 units) first_word (omega arith) small ∙ ap (λ (n : ℕ). range_of 0 n) (sym long)
 
   ranges_shown : (w : ℕ) → range_at c w ≡ unpacked (word_at ws w)
   ranges_shown zero = sym whole_word
   ranges_shown (suc w) = same_at (workers - 1) no_units w ∙ ap unpacked (sym (other_word (suc w) (λ e. absurd (omega arith))))
 
   in_order : (w : ℕ) → IsInOrder (word_at ws w)
-  in_order zero = subst IsInOrder (sym first_word) (packed_in_order (span 0 units) (omega arith) small)
+  in_order zero = subst IsInOrder (sym first_word) (packed_in_order (range_of 0 units) (omega arith) small)
   in_order (suc w) = subst IsInOrder (sym (other_word (suc w) (λ e. absurd (omega arith)))) (omega arith)
 
   shows : Shows ws workers c

@@ -8,7 +8,7 @@ use Rattle.std.proofs.lemmas.Bool.{true≢false}
 use Rattle.std.proofs.lemmas.List.Sums.{sum_by_push}
 use Rattle.atomic_table.specs.Table.{Splits}
 use Rattle.atomic_table.proofs.Lists.{at_set, set_here, set_else, at_longer, at_last}
-use Rattle.daa_range.specs.Range.{Span}
+use Rattle.daa_range.specs.Range.{RangeState}
 use Rattle.daa_range.specs.Word.{unpacked}
 use Rattle.daa_schedule.specs.CoreState.{range_at, hand_at, has_ended, opened}
 use Rattle.daa_schedule.specs.Runs.{steps_of}
@@ -19,7 +19,7 @@ use Rattle.daa_pool.specs.Inside.View.{left_behind, next_seat, HasNumber}
 use Rattle.daa_pool.specs.Inside.Rule.{Pools, IsSeated, IsHeld, Ruled, Holds}
 use Rattle.daa_pool.proofs.Lists.{Contains-nil, at_end, found_at, total_set}
 use Rattle.daa_pool.proofs.Views.{not_blank}
-use Rattle.daa_pool.proofs.Frame.{seated_anew}
+use Rattle.daa_pool.proofs.StepDuties.{seated_anew}
 use Rattle.daa_pool.proofs.History.{never_looked}
 
 module _ (workers : ℕ) (s : Pools) (r : Ruled workers s) (id : ℕ) (v : View) (at : get_elem? s.views id ≡ some v) (alive : v.live ≡ true)
@@ -71,8 +71,8 @@ module _ (workers : ℕ) (s : Pools) (r : Ruled workers s) (id : ℕ) (v : View)
         over = ap (λ (n : ℕ). has_ended r.core n) made_is ∙ u.going;
         part = record { moves = ap (λ (n : ℕ). steps_of n r.log) made_is ∙ u.moves; looks = never_looked (opened r.core.answers workers) r.log v.made };
         joined = λ part h. absurd (Contains-nil part h);
-        first = ap (λ (n : ℕ). (range_at r.core n).first) made_is ∙ ap (λ (x : Span). x.first) range;
-        upto = subst (λ (n : ℕ). (range_at r.core n).upto ≤ 0) (sym made_is) (let a = ap (λ (x : Span). x.upto) range in omega arith);
+        first = ap (λ (n : ℕ). (range_at r.core n).first) made_is ∙ ap (λ (x : RangeState). x.first) range;
+        upto = subst (λ (n : ℕ). (range_at r.core n).upto ≤ 0) (sym made_is) (let a = ap (λ (x : RangeState). x.upto) range in omega arith);
       }
 
   old : (j : ℕ) (x : View) (b : Bool) → (b ≡ true → ⊥) → IsSeated r.core r.log workers r.made r.carrier r.holder j x → IsSeated r.core r.log workers (r.made + 1) last holder' j (record x { carries = b })

@@ -4,23 +4,23 @@ use mathlib.Core.Logic.{dite}
 use native.Mathlib.Decide.{ℕ_discrete}
 use Rattle.std.proofs.lemmas.List.Sums.{sum_by-cons, sum_by_push}
 use Rattle.std.proofs.lemmas.Bool.Decides.{nat_tests}
-use Rattle.daa_range.specs.Range.{Span}
+use Rattle.daa_range.specs.Range.{RangeState}
 use Rattle.daa_range.specs.Word.{packed, unpacked, IsInOrder}
 use Rattle.daa_range.proofs.Words.{first_part-packed, upto_part-packed, unpacked-packed}
 use Rattle.daa_schedule.specs.CoreState.{CoreState, no_units, times_on}
 use Rattle.daa_pool.specs.View.{times}
 use Rattle.daa_pool.specs.Inside.Rule.{word_at, Shows}
 
-pub packed_in_order : (r : Span) → r.first ≤ r.upto → r.upto < 2 ^ 32 → IsInOrder (packed r)
+pub packed_in_order : (r : RangeState) → r.first ≤ r.upto → r.upto < 2 ^ 32 → IsInOrder (packed r)
 packed_in_order r le lt = let a = first_part-packed r lt in let b = upto_part-packed r lt in omega arith
 
 -- a word that is this range, packed
-pub word_is : (word : ℕ) (r : Span) → word ≡ packed r → r.first ≤ r.upto → r.upto < 2 ^ 32 → unpacked word ≡ r
+pub word_is : (word : ℕ) (r : RangeState) → word ≡ packed r → r.first ≤ r.upto → r.upto < 2 ^ 32 → unpacked word ≡ r
 word_is word r e le lt = ap unpacked e ∙ unpacked-packed r le lt
 
 module _ (words : List ℕ) (workers : ℕ) (c : CoreState) (shows : Shows words workers c) where
   -- one range has changed, and its word with it
-  pub shows_range : (n word : ℕ) (x : Span) (hands : List Span) → n < workers → IsInOrder word → x ≡ unpacked word
+  pub shows_range : (n word : ℕ) (x : RangeState) (hands : List RangeState) → n < workers → IsInOrder word → x ≡ unpacked word
       → Shows (set words n word) workers (record c { ranges = set c.ranges n x; hands = hands })
   shows_range n word x hands known order is = let crew = shows.crew in let wide = shows.wide in record {
     wide = length-set words n word ∙ wide;
@@ -36,7 +36,7 @@ module _ (words : List ℕ) (workers : ℕ) (c : CoreState) (shows : Shows words
   }
 
   -- one unit's word has changed, and the board with it
-  pub shows_board : (f word : ℕ) (hands : List Span) → f < length c.answers → length c.board ≡ length c.answers
+  pub shows_board : (f word : ℕ) (hands : List RangeState) → f < length c.answers → length c.board ≡ length c.answers
       → Shows (set words (workers + f) word) workers (record c { hands = hands; board = set c.board f word })
   shows_board f word hands known long = let crew = shows.crew in let wide = shows.wide in record {
     wide = length-set words (workers + f) word ∙ wide;

@@ -1,17 +1,17 @@
 -- What one call of `claim` does: it takes a unit, or it shows why there is none to take.
 use Rattle.std.specs.Prelude.{◌≡◌, ◌≢◌, ℕ, ◌+◌, ◌-◌, ◌<◌, ◌≤◌, ◌==◌, nat_lt, List, [], ◌∷◌, ◌++◌, length, ◌⊎◌, if◌then◌else◌}
 use Rattle.std.specs.List.{AllPairs, Contains, sum_by}
-use Rattle.daa_range.specs.Range.{span_len}
+use Rattle.daa_range.specs.Range.{range_len}
 use Rattle.daa_range.specs.Word.{unpacked}
 use Rattle.daa_schedule.specs.declared.step.Step.{Step}
 use Rattle.daa_schedule.specs.declared.step.Step.TheVariants.{Claim, Steal, Keep, End}
 use Rattle.daa_pool.specs.declared.view.View.{View}
 use Rattle.daa_pool.specs.declared.view.Look.{Look}
-use Rattle.daa_pool.specs.Seat.{IsSamePlace, HasPiece, IsOver}
+use Rattle.daa_pool.specs.Seat.{IsSameSeat, HasPiece, IsOver}
 
 -- from the one view to the other these looks and these steps of the core were made, and nothing was settled
 pub record IsLater (before after : View) (seen : List Look) (steps : List Step) : Type 0 where
-  pub place : IsSamePlace before after
+  pub same_seat : IsSameSeat before after
   pub settled : after.settled ≡ before.settled
   pub looks : after.looks ≡ before.looks ++ seen
   pub moves : after.moves ≡ before.moves ++ steps
@@ -22,11 +22,11 @@ AreFresh view seen = (look : Look) → Contains seen look → look.moves ≡ len
 
 -- a look found the worker's range empty
 abbrev pub SawEmpty : List Look → ℕ → Type 0
-SawEmpty seen worker = (look : Look) × Contains seen look × (look.worker ≡ worker) × (span_len (unpacked look.word) ≡ 0)
+SawEmpty seen worker = (look : Look) × Contains seen look × (look.worker ≡ worker) × (range_len (unpacked look.word) ≡ 0)
 
 -- a look found fewer than two units in the worker's range
 abbrev pub SawShort : List Look → ℕ → Type 0
-SawShort seen worker = (look : Look) × Contains seen look × (look.worker ≡ worker) × (span_len (unpacked look.word) < 2)
+SawShort seen worker = (look : Look) × Contains seen look × (look.worker ≡ worker) × (range_len (unpacked look.word) < 2)
 
 -- two looks at the worker's range differ
 abbrev pub SawChange : List Look → ℕ → Type 0
@@ -54,7 +54,7 @@ GoesRound number workers seen = AllPairs (λ look next. look.worker ≢ number �
 
 -- of two looks at the worker's range the later one found fewer units
 abbrev pub GetsShorter : ℕ → List Look → Type 0
-GetsShorter worker seen = AllPairs (λ look next. look.worker ≡ worker → next.worker ≡ worker → span_len (unpacked next.word) < span_len (unpacked look.word)) seen
+GetsShorter worker seen = AllPairs (λ look next. look.worker ≡ worker → next.worker ≡ worker → range_len (unpacked next.word) < range_len (unpacked look.word)) seen
 
 -- the last look is at the worker's range, by the End, and of two looks before it the later one found fewer units
 pub record EndsShort (worker : ℕ) (seen : List Look) : Type 0 where

@@ -1,6 +1,6 @@
 -- What contracts say of one seat of a pool.
 use Rattle.std.specs.Prelude.{◌≡◌, ℕ, ◌+◌, ◌<◌, true, false, List, [], length}
-use Rattle.daa_range.specs.Range.{span}
+use Rattle.daa_range.specs.Range.{range_of}
 use Rattle.daa_schedule.specs.CoreState.{no_units, opened, range_at}
 use Rattle.daa_pool.specs.declared.view.View.{View}
 use Rattle.daa_pool.specs.declared.seat.Seat.{Seat}
@@ -26,7 +26,7 @@ pub record IsSeatOf (pool : Pool) (seat : Seat) : Type 0 where
   pub units : length (view seat).answers ≡ units_of pool
 
 -- the seat's number, its pool's workers and answers, what was joined to it, and the count of seats made: what no claim and no answer changes
-pub record IsSamePlace (before after : View) : Type 0 where
+pub record IsSameSeat (before after : View) : Type 0 where
   pub number : after.number ≡ before.number
   pub workers : after.workers ≡ before.workers
   pub answers : after.answers ≡ before.answers
@@ -41,7 +41,7 @@ pub record IsFree (view : View) : Type 0 where
 
 -- the seat holds the piece of this unit, and nothing else is in its hand
 pub record HasPiece (view : View) (unit : ℕ) : Type 0 where
-  pub hand : view.hand ≡ span unit (unit + 1)
+  pub hand : view.hand ≡ range_of unit (unit + 1)
   pub below : unit < length view.answers
   pub going : view.over ≡ false
 

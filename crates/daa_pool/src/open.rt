@@ -7,7 +7,7 @@ ghost use Rattle.daa_pool.specs.Pool.{AreOpening};
 ghost use Rattle.daa_pool.specs.Inside.Dealing.{IsLast};
 
 use crate::pool::{Pool, Size};
-use crate::rule::{Begin, PoolRule, SplitSeat, Telling};
+use crate::rule::{Begin, Briefing, PoolRule, SplitSeat};
 use crate::seat::Seat;
 use crate::view::View;
 use atomic_table::{Shared, Table};
@@ -37,7 +37,7 @@ impl Pool {
         words[0] = pack(Range::new(0, units));
         let size = Size { workers, units };
         let (table, mut seat) = Table::of_words(alloc, words.as_slice(), &size)?;
-        told(&table.shared, &mut seat, answers, workers);
+        brief(&table.shared, &mut seat, answers, workers);
         let pool = Pool { table, workers };
         let first = Seat {
             seat,
@@ -85,7 +85,7 @@ impl Pool {
 }
 
 /// Gives the first seat the answers and the number of workers.
-fn told<A: Answers>(
+fn brief<A: Answers>(
     shared: &Shared<(), View, Size, PoolRule>,
     seat: &mut atomic_table::Seat<(), View>,
     answers: &A,
@@ -103,7 +103,7 @@ fn told<A: Answers>(
 }
 
 /// The same, where `J` names the answers and the number of workers.
-fn begin<J: Telling, A: Answers>(
+fn begin<J: Briefing, A: Answers>(
     shared: &Shared<(), View, Size, PoolRule>,
     seat: &mut atomic_table::Seat<(), View>,
     answers: &A,

@@ -22,7 +22,7 @@ impl TableRule<(), View, Size> for PoolRule {
 }
 
 /// What the first seat is given. Each call of a program picks it.
-pub(crate) trait Telling {
+pub(crate) trait Briefing {
     /// The number of workers.
     ghost workers: { ℕ };
 
@@ -30,7 +30,7 @@ pub(crate) trait Telling {
     ghost answers: { List ℕ };
 }
 
-impl Telling for Brand {
+impl Briefing for Brand {
     ghost workers = { 0 };
 
     ghost answers = { [] };
@@ -40,7 +40,7 @@ pub(crate) struct Begin<J> {
     marker: PhantomData<J>,
 }
 
-impl<J: Telling> Play<(), View> for Begin<J> {
+impl<J: Briefing> Play<(), View> for Begin<J> {
     ghost then = { λ step before found after. begins J.workers J.answers step before found after };
 }
 

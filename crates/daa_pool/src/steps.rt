@@ -2,7 +2,7 @@
 //! unit's word, and the one that ends a worker, is one step of the core; the others change nothing.
 
 ghost use Rattle.std.specs.Prelude.{◌≡◌, ◌≢◌, ℕ, ◌<◌, ◌≤◌, ◌^◌, false, length, slice_index};
-ghost use Rattle.daa_range.specs.Range.{span_len};
+ghost use Rattle.daa_range.specs.Range.{range_len};
 ghost use Rattle.daa_range.specs.Word.{packed, unpacked, IsInOrder};
 ghost use Rattle.daa_schedule.specs.CoreState.{once_below};
 ghost use Rattle.daa_pool.specs.View.{settled, times};
@@ -35,7 +35,7 @@ impl Pool {
     pub(crate) fn try_claim(&self, seat: &mut Seat, own: Range) -> u64
         requires pool { IsSeatOf self.now seat.old }
         requires free { IsFree (view seat.old) }
-        requires own { (own ≡ (view seat.old).bound) × (0 < span_len own) }
+        requires own { (own ≡ (view seat.old).bound) × (0 < range_len own) }
         ensures pool { IsSeatOf self.now seat.new }
         ensures claimed { result ≡ packed own → (view seat.new ≡ claimed (view seat.old))
             × (own.first < length (view seat.old).answers) }
@@ -68,9 +68,9 @@ impl Pool {
     /// which is that range where the upper half is stolen.
     pub(crate) fn try_steal(&self, seat: &mut Seat, other: u32, range: Range) -> u64
         requires pool { IsSeatOf self.now seat.old }
-        requires free { IsFree (view seat.old) × (span_len (view seat.old).bound ≡ 0) }
+        requires free { IsFree (view seat.old) × (range_len (view seat.old).bound ≡ 0) }
         requires other { (other < workers_of self.now) × (other ≢ (view seat.old).number) }
-        requires range { (2 ≤ span_len range) × (range.upto < 2 ^ 32) }
+        requires range { (2 ≤ range_len range) × (range.upto < 2 ^ 32) }
         ensures pool { IsSeatOf self.now seat.new }
         ensures stolen { result ≡ packed range
             → (view seat.new ≡ stolen (view seat.old) other range)
@@ -89,8 +89,9 @@ impl Pool {
     /// Stores all but the first unit of the hand into the own range, which is empty.
     pub(crate) fn keep(&self, seat: &mut Seat, hand: Range)
         requires pool { IsSeatOf self.now seat.old }
-        requires hand { ((view seat.old).hand ≡ hand) × (2 ≤ span_len hand) × (hand.upto < 2 ^ 32) }
-        requires going { ((view seat.old).over ≡ false) × (span_len (view seat.old).bound ≡ 0) }
+        requires hand { ((view seat.old).hand ≡ hand) × (2 ≤ range_len hand)
+            × (hand.upto < 2 ^ 32) }
+        requires going { ((view seat.old).over ≡ false) × (range_len (view seat.old).bound ≡ 0) }
         ensures pool { IsSeatOf self.now seat.new }
         ensures view { view seat.new ≡ kept (view seat.old) }
     {
@@ -108,19 +109,19 @@ impl Pool {
         ensures view { view seat.new ≡ settled (view seat.old) word }
         ensures few { length (view seat.new).settled ≤ length (view seat.old).answers }
     {
-        let place = self.workers as usize + unit as usize;
+        let index = self.workers as usize + unit as usize;
         self.table
             .shared
-            .store::<Settle>(&mut seat.seat, place, word)
+            .store::<Settle>(&mut seat.seat, index, word)
     }
 
     /// Looks at the own range, which is empty, and marks the seat over.
     pub(crate) fn end(&self, seat: &mut Seat) -> u64
         requires pool { IsSeatOf self.now seat.old }
-        requires free { IsFree (view seat.old) × (span_len (view seat.old).bound ≡ 0) }
+        requires free { IsFree (view seat.old) × (range_len (view seat.old).bound ≡ 0) }
         ensures pool { IsSeatOf self.now seat.new }
         ensures view { view seat.new ≡ ended (view seat.old) result }
-        ensures empty { span_len (unpacked result) ≡ 0 }
+        ensures empty { range_len (unpacked result) ≡ 0 }
         ensures few { length (view seat.new).settled ≤ length (view seat.old).answers }
     {
         let found = self
@@ -145,7 +146,7 @@ impl Pool {
         ensures history { IsOneHistory (view seat.old).answers (view seat.old).workers
             (HasPart (view seat.old)) }
     {
-        let place = self.workers as usize + unit;
-        self.table.shared.load::<Read>(&mut seat.seat, place)
+        let index = self.workers as usize + unit;
+        self.table.shared.load::<Read>(&mut seat.seat, index)
     }
 }

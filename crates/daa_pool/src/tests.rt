@@ -1,7 +1,7 @@
 ghost use Rattle.std.specs.Prelude.{◌≡◌, ℕ, ◌<◌, ◌≤◌, IfOk, OnOk, length};
 ghost use Rattle.std.specs.Thread.{IsSync};
 ghost use Rattle.daa_pool.specs.Inside.Numbers.{numbers};
-ghost use Rattle.daa_pool.specs.Seat.{view, workers_of, units_of, IsSeatOf, IsSamePlace, IsFree, HasPiece, IsReady, IsDone};
+ghost use Rattle.daa_pool.specs.Seat.{view, workers_of, units_of, IsSeatOf, IsSameSeat, IsFree, HasPiece, IsReady, IsDone};
 ghost use Rattle.daa_pool.specs.Inside.Pool.{AllReady, AllWorked, IsWorked};
 
 use crate::{Look, NoMemory, Part, Piece, Pool, Seat, View, answer_all, unit};
@@ -122,7 +122,7 @@ fn claim_unit(rt: &impl Abort, pool: &Pool, seat: &mut Seat, wanted: u32) -> Pie
     requires free { IsFree (view seat.old) }
     ensures pool { IsSeatOf pool.now seat.new }
     ensures piece { HasPiece (view seat.new) result }
-    ensures place { IsSamePlace (view seat.old) (view seat.new) }
+    ensures same_seat { IsSameSeat (view seat.old) (view seat.new) }
 {
     let Some(piece) = pool.claim(seat) else {
         panic!(rt; "no unit was claimed")
@@ -137,7 +137,7 @@ fn answer_unit(pool: &Pool, seat: &mut Seat, given: &Numbers, piece: Piece)
     requires answers { (view seat.old).answers ≡ numbers given.now.units }
     ensures pool { IsSeatOf pool.now seat.new }
     ensures free { IsFree (view seat.new) }
-    ensures place { IsSamePlace (view seat.old) (view seat.new) }
+    ensures same_seat { IsSameSeat (view seat.old) (view seat.new) }
 {
     let word = given.word(unit(&piece));
     pool.settle(seat, piece, word);
@@ -146,7 +146,7 @@ fn answer_unit(pool: &Pool, seat: &mut Seat, given: &Numbers, piece: Piece)
 fn answer_the_rest(pool: &Pool, seat: &mut Seat, given: &Numbers)
     requires { IsReady pool.now seat.old (numbers given.now.units) }
     ensures done { IsDone pool.now seat.new }
-    ensures place { IsSamePlace (view seat.old) (view seat.new) }
+    ensures same_seat { IsSameSeat (view seat.old) (view seat.new) }
 {
     pool.work(seat, given, &Open);
 }

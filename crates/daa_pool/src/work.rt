@@ -2,7 +2,7 @@
 
 ghost use Rattle.std.specs.Prelude.{◌≡◌, ◌≤◌, length, slice_index};
 ghost use Rattle.daa_pool.specs.View.{settled};
-ghost use Rattle.daa_pool.specs.Seat.{view, IsSeatOf, IsSamePlace, HasPiece, IsReady, IsDone};
+ghost use Rattle.daa_pool.specs.Seat.{view, IsSeatOf, IsSameSeat, HasPiece, IsReady, IsDone};
 ghost use Rattle.daa_pool.specs.Work.{SettlesMore, GivesUp};
 
 use crate::pool::Pool;
@@ -37,7 +37,7 @@ impl Pool {
     pub fn work<A: Answers, G: Gate>(&self, seat: &mut Seat, answers: &A, gate: &G)
         requires ready { IsReady self.now seat.old (A.answers answers.now) }
         ensures done { IsDone self.now seat.new }
-        ensures place { IsSamePlace (view seat.old) (view seat.new) }
+        ensures same_seat { IsSameSeat (view seat.old) (view seat.new) }
         ensures settles { SettlesMore (view seat.old) (view seat.new) }
         ensures gives_up { GivesUp (view seat.old) (view seat.new) }
     {

@@ -1,16 +1,16 @@
 -- A range that is packed, and a word that is read.
 use Rattle.std.proofs.Common.{◌≡◌, ℕ, ◌^◌, ◌<◌, arith}
 use Rattle.std.proofs.lemmas.Bool.Decides.{nat_tests}
-use Rattle.daa_range.specs.Range.{Span, span, IsOrdered}
+use Rattle.daa_range.specs.Range.{RangeState, range_of, IsOrdered}
 use Rattle.daa_range.specs.Word.{packed, first_part, upto_part, IsInOrder, unpacked}
 
-pub first_part-packed : (range : Span) → range.upto < 2 ^ 32 → first_part (packed range) ≡ range.first
+pub first_part-packed : (range : RangeState) → range.upto < 2 ^ 32 → first_part (packed range) ≡ range.first
 first_part-packed range h = omega arith
 
-pub upto_part-packed : (range : Span) → range.upto < 2 ^ 32 → upto_part (packed range) ≡ range.upto
+pub upto_part-packed : (range : RangeState) → range.upto < 2 ^ 32 → upto_part (packed range) ≡ range.upto
 upto_part-packed range h = omega arith
 
-pub unpacked-packed : (range : Span) → IsOrdered range → range.upto < 2 ^ 32 → unpacked (packed range) ≡ range
+pub unpacked-packed : (range : RangeState) → IsOrdered range → range.upto < 2 ^ 32 → unpacked (packed range) ≡ range
 unpacked-packed range order h = grind (arith, nat_tests)
 
 pub packed-unpacked : (word : ℕ) → IsInOrder word → packed (unpacked word) ≡ word
@@ -20,5 +20,5 @@ packed-unpacked word h = grind (arith, nat_tests)
 pub IsOrdered-unpacked : (word : ℕ) → IsOrdered (unpacked word)
 IsOrdered-unpacked word = grind (arith, nat_tests)
 
-pub unpacked-in_order : (word : ℕ) → IsInOrder word → unpacked word ≡ span (first_part word) (upto_part word)
+pub unpacked-in_order : (word : ℕ) → IsInOrder word → unpacked word ≡ range_of (first_part word) (upto_part word)
 unpacked-in_order word h = grind (arith, nat_tests)

@@ -4,7 +4,8 @@ ghost use Rattle.std.specs.Prelude.{◌≡◌, ◌+◌, ◌-◌, ◌/◌, ◌<�
 
 use std::marker::Model;
 
-/// The units from `first` on, below `upto`, with `first <= upto`. Contracts see it as a `Span`.
+/// The units from `first` on, below `upto`, with `first <= upto`. Contracts see it as a
+/// `RangeState`.
 #[derive(Clone, Copy, PartialEq, Eq, Debug)]
 pub struct Range {
     /// The first unit, if there is one.
@@ -15,9 +16,9 @@ pub struct Range {
 
 impl Model for Range {
     ghost use Rattle.std.specs.Prelude.{◌≤◌};
-    ghost use Rattle.daa_range.specs.Range.{Span};
+    ghost use Rattle.daa_range.specs.Range.{RangeState};
 
-    ghost Value = { Span };
+    ghost Value = { RangeState };
 
     ghost view = { λ r. record { first = r.first; upto = r.upto } };
 
@@ -27,19 +28,19 @@ impl Model for Range {
 }
 
 impl Range {
-    ghost use Rattle.daa_range.specs.Range.{span, span_len, IsOrdered, middle_of, lower_of, upper_of, first_unit_of, rest_of};
+    ghost use Rattle.daa_range.specs.Range.{range_of, range_len, IsOrdered, middle_of, lower_of, upper_of, first_unit_of, rest_of};
 
     /// The units from `first` on, below `upto`.
     pub fn new(first: u32, upto: u32) -> Range
         requires { first ≤ upto }
-        ensures { result ≡ span first upto }
+        ensures { result ≡ range_of first upto }
     {
         Range { first, upto }
     }
 
     /// How many units the range has.
     pub fn len(self) -> u32
-        ensures len { result ≡ span_len self }
+        ensures len { result ≡ range_len self }
         ensures ordered { IsOrdered self }
     {
         self.upto - self.first
@@ -47,14 +48,14 @@ impl Range {
 
     /// Whether the range has no units.
     pub fn is_empty(self) -> bool
-        ensures { result ≡ (span_len self == 0) }
+        ensures { result ≡ (range_len self == 0) }
     {
         self.len() == 0
     }
 
     /// The range of the first unit alone, if there is one.
     pub fn first_unit(self) -> Range
-        requires { 0 < span_len self }
+        requires { 0 < range_len self }
         ensures { result ≡ first_unit_of self }
     {
         Range {
@@ -65,7 +66,7 @@ impl Range {
 
     /// All but the first unit, if there is one.
     pub fn rest(self) -> Range
-        requires { 0 < span_len self }
+        requires { 0 < range_len self }
         ensures { result ≡ rest_of self }
     {
         Range {

@@ -20,18 +20,18 @@ high : (a d x b : ℤ) → a ≤ℤ (pos 0 *ℤ d *ℤ x) → pos 0 ≤ℤ b →
 high a d x b h k = let e = no_part d x in omega (arith, ints, e, h, k)
 
 module _ (leg : Leg) (dthr zthr : ℕ) (n d : ℤ) (one : pos 1 ≤ℤ d) where
-  abbrev vol : Volume
-  vol = record { dthr = dthr; zthr = zthr; tthr = 0; tcoa = 0; model = Taumod }
+  abbrev volume : Volume
+  volume = record { dthr = dthr; zthr = zthr; tthr = 0; tcoa = 0; model = Taumod }
 
-  horizontally : ViolatesHorizontally leg vol n d → dot_of (place_at leg n d) (place_at leg n d) ≤ℤ square_of (pos dthr *ℤ d)
+  horizontally : ViolatesHorizontally leg volume n d → dot_of (place_at leg n d) (place_at leg n d) ≤ℤ square_of (pos dthr *ℤ d)
   horizontally (inl near) = near
   horizontally (inr closing) = far _ d _ _ closing.soon
 
-  vertically : ViolatesVertically leg vol n d → pos (unsigned_abs (height_at leg n d)) ≤ℤ (pos zthr *ℤ d)
+  vertically : ViolatesVertically leg volume n d → pos (unsigned_abs (height_at leg n d)) ≤ℤ (pos zthr *ℤ d)
   vertically (inl near) = near
   vertically (inr soon) = high _ d _ _ soon.soon (mul_nonneg (pos zthr) d (omega (arith, ints)) (omega (arith, ints, one)))
 
-  pub cylinder : Violates leg vol n d ↔ ((dot_of (place_at leg n d) (place_at leg n d) ≤ℤ square_of (pos dthr *ℤ d)) × (pos (unsigned_abs (height_at leg n d)) ≤ℤ (pos zthr *ℤ d)))
+  pub cylinder : Violates leg volume n d ↔ ((dot_of (place_at leg n d) (place_at leg n d) ≤ℤ square_of (pos dthr *ℤ d)) × (pos (unsigned_abs (height_at leg n d)) ≤ℤ (pos zthr *ℤ d)))
   cylinder = (
     (λ v. (horizontally v.horizontal, vertically v.vertical)),
     (λ h. record { horizontal = inl h.0; vertical = inl h.1 }),

@@ -6,8 +6,8 @@ use Rattle.std.proofs.lemmas.Option.{slice_get_within}
 use Rattle.daa_config.specs.declared.level.Level.{Level}
 use Rattle.daa_config.specs.Settings.{Settings, IsAccepted, IsLevelAt}
 use Rattle.daa_legs.proofs.AtLevel.{one_level}
-use Rattle.daa_recovery.specs.Prospect.{Closes, IsHorizon, Prospect}
-use Rattle.daa_recovery.specs.Inside.Prospect.{IsProspect}
+use Rattle.daa_recovery.specs.OutlookState.{Closes, IsHorizon, OutlookState}
+use Rattle.daa_recovery.specs.Inside.OutlookState.{IsOutlook}
 
 -- the greatest lookahead of the levels that close up to the number last
 pub record IsHorizonUpTo (settings : Settings) (last m : ℕ) : Type 0 where

@@ -1,7 +1,7 @@
 pub mod Horizons
-pub mod Lasting
-pub mod Closing
+pub mod LaterSeconds
+pub mod ClosingLevels
 pub mod Searching
-pub mod Some
-pub mod Only
+pub mod SomeRecovery
+pub mod OneRecovery
 pub mod Cylinders

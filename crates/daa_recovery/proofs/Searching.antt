@@ -6,13 +6,13 @@ use Rattle.std.proofs.lemmas.Option.{same_Some, slice_get_within}
 use Rattle.daa_config.specs.declared.candidate.Candidate.{Candidate}
 use Rattle.daa_config.specs.declared.kind.Kind.{Kind}
 use Rattle.daa_config.specs.Candidates.{values_of, candidate_to}
-use Rattle.daa_recovery.specs.Prospect.{Prospect}
+use Rattle.daa_recovery.specs.OutlookState.{OutlookState}
 use Rattle.daa_recovery.specs.Recovery.{Recovers, RecoversAt, IsLeast, IsFound}
 use Rattle.daa_recovery.specs.Inside.Search.{bound_of, IsFirst, IsFirstFound, IsFoundBelow, IsLeastAt, IsLeastTime}
 use Rattle.daa_recovery.specs.declared.recovery.Recovery.{Recovery}
-use Rattle.daa_recovery.proofs.Lasting.{lasts}
+use Rattle.daa_recovery.proofs.LaterSeconds.{lasts}
 
-module _ (p : Prospect) (candidate : Candidate) where
+module _ (p : OutlookState) (candidate : Candidate) where
   -- ---- the least time of a candidate
 
   -- what does not recover at a time recovers at none before
@@ -51,7 +51,7 @@ module _ (p : Prospect) (candidate : Candidate) where
 
 -- ---- value by value
 
-module _ (p : Prospect) (kind : Kind) where
+module _ (p : OutlookState) (kind : Kind) where
   pub found_first : IsFoundBelow p kind 0 None
   found_first = record { first = tt; none_sooner = λ m one lt i value h. absurd (omega (arith, h)) }
 
@@ -62,7 +62,7 @@ module _ (p : Prospect) (kind : Kind) where
   first_kept : (count : ℕ) (found : Option Recovery) → IsFirstFound p kind count found → IsFirstFound p kind (count + 1) found
   first_kept count None h = tt
   first_kept count (Some r) h = record {
-    place = h.place;
+    index = h.index;
     below = omega (arith, h.below);
     some = h.some;
     before = h.before;
@@ -70,34 +70,34 @@ module _ (p : Prospect) (kind : Kind) where
     none_earlier = h.none_earlier;
   }
 
-  module _ (place : ℕ) (value : ℤ) (there : slice_get (values_of kind p.settings) place ≡ Some value) where
-    -- a value at the place is this one
-    here : (i m : ℕ) (v : ℤ) → i ≡ place → RecoversAt p kind i m v → Recovers p (candidate_to kind value) m
+  module _ (index : ℕ) (value : ℤ) (there : slice_get (values_of kind p.settings) index ≡ Some value) where
+    -- a value at the index is this one
+    here : (i m : ℕ) (v : ℤ) → i ≡ index → RecoversAt p kind i m v → Recovers p (candidate_to kind value) m
     here i m v same r =
-        let at : slice_get (values_of kind p.settings) place ≡ Some v = subst (λ (j : ℕ). slice_get (values_of kind p.settings) j ≡ Some v) same r.there in
+        let at : slice_get (values_of kind p.settings) index ≡ Some v = subst (λ (j : ℕ). slice_get (values_of kind p.settings) j ≡ Some v) same r.there in
         subst (λ (z : ℤ). Recovers p (candidate_to kind z) m) (same_Some v value (sym at ∙ there)) r.recovers
 
-    sooner : (bound : ℕ) → ((m : ℕ) → 1 ≤ m → m < bound → (i : ℕ) (v : ℤ) → i < place → ¬ RecoversAt p kind i m v)
+    sooner : (bound : ℕ) → ((m : ℕ) → 1 ≤ m → m < bound → (i : ℕ) (v : ℤ) → i < index → ¬ RecoversAt p kind i m v)
         → ((m : ℕ) → 1 ≤ m → m < bound → ¬ Recovers p (candidate_to kind value) m)
-        → (m : ℕ) → 1 ≤ m → m < bound → (i : ℕ) (v : ℤ) → i < place + 1 → ¬ RecoversAt p kind i m v
+        → (m : ℕ) → 1 ≤ m → m < bound → (i : ℕ) (v : ℤ) → i < index + 1 → ¬ RecoversAt p kind i m v
     sooner bound before none m one lt i v h r = ⊎_elim
         (λ l. before m one lt i v l r)
         (λ ge. none m one lt (here i m v (omega (arith, h, ge)) r))
-        (cases_lt i place)
+        (cases_lt i index)
 
     -- the value recovers no sooner
-    pub found_kept : (found : Option Recovery) → IsFoundBelow p kind place found → IsLeastTime p (candidate_to kind value) (bound_of p found) None → IsFoundBelow p kind (place + 1) found
-    found_kept found h none = record { first = first_kept place found h.first; none_sooner = sooner (bound_of p found) h.none_sooner none }
+    pub found_kept : (found : Option Recovery) → IsFoundBelow p kind index found → IsLeastTime p (candidate_to kind value) (bound_of p found) None → IsFoundBelow p kind (index + 1) found
+    found_kept found h none = record { first = first_kept index found h.first; none_sooner = sooner (bound_of p found) h.none_sooner none }
 
     -- the value recovers sooner
-    pub found_sooner : (found : Option Recovery) (after : ℕ) → IsFoundBelow p kind place found → IsLeastAt p (candidate_to kind value) (bound_of p found) after
-        → IsFoundBelow p kind (place + 1) (Some (record { after = after; value = value }))
+    pub found_sooner : (found : Option Recovery) (after : ℕ) → IsFoundBelow p kind index found → IsLeastAt p (candidate_to kind value) (bound_of p found) after
+        → IsFoundBelow p kind (index + 1) (Some (record { after = after; value = value }))
     found_sooner found after h l =
-        let w = bound_within place found h.first in
+        let w = bound_within index found h.first in
         let b = l.below in
         record {
           first = record {
-            place = place;
+            index = index;
             below = omega arith;
             some = l.some;
             before = omega (arith, w, b);
@@ -109,10 +109,10 @@ module _ (p : Prospect) (kind : Kind) where
 
   -- all values were tried
   pub found_all : (count : ℕ) (found : Option Recovery) → length (values_of kind p.settings) ≤ count → IsFoundBelow p kind count found → IsFound p kind found
-  found_all count None all h = λ m one lt place value r.
-      let w = slice_get_within (values_of kind p.settings) place value r.there in h.none_sooner m one lt place value (omega (arith, w, all)) r
+  found_all count None all h = λ m one lt index value r.
+      let w = slice_get_within (values_of kind p.settings) index value r.there in h.none_sooner m one lt index value (omega (arith, w, all)) r
   found_all count (Some x) all h = record {
-    place = h.first.place;
+    index = h.first.index;
     some = h.first.some;
     before = h.first.before;
     recovers = h.first.recovers;

@@ -1,3 +1,3 @@
 -- Cited by private functions, tests and proofs alone; believe only what docs/PROVED.md names here.
-pub mod Prospect
+pub mod OutlookState
 pub mod Search

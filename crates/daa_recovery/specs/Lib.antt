@@ -1,3 +1,3 @@
-pub mod Prospect
+pub mod OutlookState
 pub mod Recovery
 pub mod Inside

@@ -11,10 +11,10 @@ use Rattle.daa_state.specs.declared.word.Traffic.{Traffic}
 use Rattle.daa_state.specs.Picture.{aircraft_of}
 use Rattle.daa_legs.specs.Meeting.{MeetsWithin}
 use Rattle.daa_legs.specs.Runs.{MeetsBetween}
-use Rattle.daa_recovery.specs.Prospect.{Closes, IsHorizon, Prospect}
+use Rattle.daa_recovery.specs.OutlookState.{Closes, IsHorizon, OutlookState}
 use Rattle.daa_recovery.specs.declared.recovery.Recovery.{Recovery}
 
-module _ (p : Prospect) (candidate : Candidate) where
+module _ (p : OutlookState) (candidate : Candidate) where
   -- the aircraft violates a level that closes at some time of a leg from m on, before the level's lookahead
   pub record IsClosedFrom (m : ℕ) (aircraft : Traffic) : Type 0 where
     pub number : ℕ
@@ -35,24 +35,24 @@ module _ (p : Prospect) (candidate : Candidate) where
   abbrev pub Recovers : ℕ → Type 0
   Recovers m = (place : ℕ) (aircraft : Traffic) → slice_get (aircraft_of p.picture) place ≡ Some aircraft → IsClear m aircraft
 
-module _ (p : Prospect) (kind : Kind) where
-  -- the value at a place of the kind's rising list recovers at m
-  pub record RecoversAt (place m : ℕ) (value : ℤ) : Type 0 where
-    pub there : slice_get (values_of kind p.settings) place ≡ Some value
+module _ (p : OutlookState) (kind : Kind) where
+  -- the value at an index of the kind's rising list recovers at m
+  pub record RecoversAt (index m : ℕ) (value : ℤ) : Type 0 where
+    pub there : slice_get (values_of kind p.settings) index ≡ Some value
     pub recovers : Recovers p (candidate_to kind value) m
 
   -- no value of the kind recovers at m
   abbrev pub NoneRecovers : ℕ → Type 0
-  NoneRecovers m = (place : ℕ) (value : ℤ) → ¬ RecoversAt place m value
+  NoneRecovers m = (index : ℕ) (value : ℤ) → ¬ RecoversAt index m value
 
   -- the least time from 1 on, before the horizon, at which some value of the kind recovers, and the first value that does then
   pub record IsLeast (r : Recovery) : Type 0 where
-    pub place : ℕ
+    pub index : ℕ
     pub some : 1 ≤ r.after
     pub before : r.after < p.horizon
-    pub recovers : RecoversAt place r.after r.value
+    pub recovers : RecoversAt index r.after r.value
     pub none_sooner : (m : ℕ) → 1 ≤ m → m < r.after → NoneRecovers m
-    pub none_earlier : (i : ℕ) (value : ℤ) → i < place → ¬ RecoversAt i r.after value
+    pub none_earlier : (i : ℕ) (value : ℤ) → i < index → ¬ RecoversAt i r.after value
 
   -- that, or None: no value recovers at any time from 1 on before the horizon
   abbrev pub IsFound : Option Recovery → Type 0

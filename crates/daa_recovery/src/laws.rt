@@ -12,19 +12,20 @@ ghost use Rattle.daa_fixed.specs.One.{HasOne};
 ghost use Rattle.daa_config.specs.Settings.{Settings, IsAccepted};
 ghost use Rattle.daa_state.specs.declared.word.Picture.{Picture};
 ghost use Rattle.daa_state.specs.InRange.{IsPictureInRange};
-ghost use Rattle.daa_recovery.specs.Prospect.{Prospect};
+ghost use Rattle.daa_recovery.specs.OutlookState.{OutlookState};
 ghost use Rattle.daa_recovery.specs.Recovery.{Recovers, IsRecovery};
 
 /// Under an accepted configuration that asks for it, a kind has exactly one recovery.
 pub fn has_one_recovery()
-    ensures { (s : Settings) (p : Picture) (kind : Kind) → IsAccepted s → IsPictureInRange p
-        → s.recovery ≢ None
-        → HasOne (IsRecovery s p kind) }
+    ensures { (settings : Settings) (p : Picture) (kind : Kind) → IsAccepted settings
+        → IsPictureInRange p
+        → settings.recovery ≢ None
+        → HasOne (IsRecovery settings p kind) }
 {}
 
 /// What recovers at a second recovers at each later one.
 pub fn recovering_lasts()
-    ensures { (p : Prospect) (candidate : Candidate) (m n : ℕ) → m ≤ n → Recovers p candidate m
+    ensures { (p : OutlookState) (candidate : Candidate) (m n : ℕ) → m ≤ n → Recovers p candidate m
         → Recovers p candidate n }
 {}
 

@@ -7,8 +7,8 @@ ghost use Rattle.daa_taumod.specs.Volume.{IsVolumeInRange};
 ghost use Rattle.daa_legs.specs.Runs.{MeetsBetween};
 ghost use Rattle.daa_state.specs.InRange.{IsPictureInRange, IsTrafficInRange};
 ghost use Rattle.daa_state.specs.Picture.{aircraft_of};
-ghost use Rattle.daa_recovery.specs.Prospect.{IsHorizon};
-ghost use Rattle.daa_recovery.specs.Inside.Prospect.{IsProspect};
+ghost use Rattle.daa_recovery.specs.OutlookState.{IsHorizon};
+ghost use Rattle.daa_recovery.specs.Inside.OutlookState.{IsOutlook};
 ghost use Rattle.daa_recovery.specs.Recovery.{IsClosedFrom, IsInCylinder, IsClear, Recovers, IsFound};
 ghost use Rattle.daa_recovery.specs.Inside.Search.{IsCourse, IsFoundBelow, bound_of, IsLeastTime};
 
@@ -22,7 +22,7 @@ use daa_taumod::Volume;
 use std::marker::Model;
 
 /// A configuration with a moment and the cylinder that a recovery stays out of, and how many
-/// seconds ahead it looks. Contracts see it as a `Prospect`.
+/// seconds ahead it looks. Contracts see it as an `OutlookState`.
 #[derive(Drop)]
 pub(crate) struct Outlook<'a> {
     config: &'a Config,
@@ -32,10 +32,10 @@ pub(crate) struct Outlook<'a> {
 }
 
 impl<'a> Model for Outlook<'a> {
-    ghost use Rattle.daa_recovery.specs.Prospect.{Prospect};
-    ghost use Rattle.daa_recovery.specs.Inside.Prospect.{IsProspect};
+    ghost use Rattle.daa_recovery.specs.OutlookState.{OutlookState};
+    ghost use Rattle.daa_recovery.specs.Inside.OutlookState.{IsOutlook};
 
-    ghost Value = { Prospect };
+    ghost Value = { OutlookState };
 
     ghost view = { λ o. record {
       settings = o.config.now;
@@ -44,7 +44,7 @@ impl<'a> Model for Outlook<'a> {
       horizon = o.horizon;
     } };
 
-    ghost invariant = { λ o. IsProspect (record {
+    ghost invariant = { λ o. IsOutlook (record {
       settings = o.config.now;
       picture = o.picture.now;
       cylinder = o.cylinder.now;
@@ -80,22 +80,22 @@ impl<'a> Outlook<'a> {
         ensures { IsFound self.now kind result }
     {
         let mut found = None;
-        for place in 0..self.config.count(kind) {
-            found = self.better(kind, place, found);
+        for index in 0..self.config.count(kind) {
+            found = self.try_value(kind, index, found);
         }
         found
     }
 
-    /// The best of the candidates of a kind up to the one at a place; `found` is the best of those
+    /// The best of the candidates of a kind up to the one at an index; `found` is the best of those
     /// before it.
-    fn better(&self, kind: Kind, place: u32, found: Option<Recovery>) -> Option<Recovery>
-        requires place { place < length (values_of kind self.now.settings) }
-        requires found { IsFoundBelow self.now kind place found }
-        ensures { IsFoundBelow self.now kind (place + 1) result }
+    fn try_value(&self, kind: Kind, index: u32, found: Option<Recovery>) -> Option<Recovery>
+        requires index { index < length (values_of kind self.now.settings) }
+        requires found { IsFoundBelow self.now kind index found }
+        ensures { IsFoundBelow self.now kind (index + 1) result }
     {
-        let value = self.config.value(kind, place);
-        let candidate = going(kind, &value);
-        match self.sooner(candidate, self.bound(&found)) {
+        let value = self.config.value(kind, index);
+        let candidate = candidate_going_to(kind, &value);
+        match self.sooner_time(candidate, self.bound(&found)) {
             Some(after) => Some(Recovery { after, value }),
             None => found,
         }
@@ -112,7 +112,7 @@ impl<'a> Outlook<'a> {
     }
 
     /// The least time below a bound at which the candidate recovers, if there is one.
-    fn sooner(&self, candidate: Candidate, bound: u32) -> Option<u32>
+    fn sooner_time(&self, candidate: Candidate, bound: u32) -> Option<u32>
         requires { IsCandidateInRange candidate }
         ensures { IsLeastTime self.now candidate bound result }
     {
@@ -123,7 +123,7 @@ impl<'a> Outlook<'a> {
         if !self.recovers(&course, bound - 1) {
             return None;
         }
-        Some(self.earliest(&course, bound - 1))
+        Some(self.earliest_time(&course, bound - 1))
     }
 
     /// The candidate's flight as far as the horizon.
@@ -144,7 +144,7 @@ impl<'a> Outlook<'a> {
     }
 
     /// The least time up to one at which the candidate recovers.
-    fn earliest(&self, course: &Course, time: u32) -> u32
+    fn earliest_time(&self, course: &Course, time: u32) -> u32
         requires course { IsCourse self.now course.now }
         requires some { 1 ≤ time }
         requires recovers { Recovers self.now course.now.candidate time }
@@ -266,7 +266,7 @@ fn horizon_of(config: &Config) -> u32
 }
 
 /// The candidate of a kind that goes to a value.
-fn going(kind: Kind, value: &i32) -> Candidate
+fn candidate_going_to(kind: Kind, value: &i32) -> Candidate
     ensures { result ≡ to_value kind value.now }
 {
     match kind {

@@ -6,7 +6,7 @@ use Rattle.daa_state.specs.Current.{IsCurrentWord, IsCurrentState, IsCurrentPict
 use Rattle.daa_state.specs.Fault.{Checked, ◌>>=◌}
 use Rattle.daa_state.specs.FourWords.{is_format_line}
 use Rattle.daa_state.specs.Laws.{is_format_word}
-use Rattle.daa_state.specs.MomentStep.{State, Stepped, start, step}
+use Rattle.daa_state.specs.MomentStep.{MomentsState, Stepped, start, step}
 use Rattle.daa_state.specs.WordOf.{word_of}
 use Rattle.daa_state.specs.declared.word.Word.{Word}
 use Rattle.daa_state.proofs.AgeLaws.{word_of-current, step-current}
@@ -16,21 +16,21 @@ use Rattle.daa_replay.specs.FourWordLines.{HasNoAges}
 use Rattle.daa_replay.proofs.PictureLemmas.{Leaves, each_picture}
 
 -- the format is 1, and the aircraft of the open moment are so
-record IsFirstFormat (state : State) : Type 0 where
+record IsFirstFormat (state : MomentsState) : Type 0 where
   pub format : state.format ≡ 1
   pub current : IsCurrentState state
 
-both : (state : State) (next : Checked Stepped) → state.format ≡ 1 → IfOk next IsCurrentStep → IfOk next (λ n. n.state.format ≡ state.format)
+both : (state : MomentsState) (next : Checked Stepped) → state.format ≡ 1 → IfOk next IsCurrentStep → IfOk next (λ n. n.state.format ≡ state.format)
     → IfOk next (Leaves IsFirstFormat IsCurrentPicture)
 both state (Ok next) one h k = record { state = record { format = k ∙ one; current = h.state }; picture = h.picture }
 both state (Err fault) one h k = tt
 
-word_leaves : (state : State) (word : Checked Word) → IsFirstFormat state → IfOk word IsCurrentWord → IfOk word (λ w. is_format_word w ≡ false)
+word_leaves : (state : MomentsState) (word : Checked Word) → IsFirstFormat state → IfOk word IsCurrentWord → IfOk word (λ w. is_format_word w ≡ false)
     → IfOk (word >>= step state) (Leaves IsFirstFormat IsCurrentPicture)
 word_leaves state (Ok word) h k other = both state (step state word) h.format (step-current state word h.current k) (step-format state word other)
 word_leaves state (Err fault) h k other = tt
 
-line_leaves : (state : State) (line : Bytes) → is_format_line line ≡ false → IsFirstFormat state
+line_leaves : (state : MomentsState) (line : Bytes) → is_format_line line ≡ false → IsFirstFormat state
     → IfOk (line_step state line) (Leaves IsFirstFormat IsCurrentPicture)
 line_leaves state line other h =
     word_leaves state (word_of line state.format) h

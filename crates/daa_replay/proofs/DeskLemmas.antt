@@ -5,7 +5,7 @@ use Rattle.std.specs.Borrow.{Bor, MutBor}
 use Rattle.std.proofs.lemmas.List.Folds.{concat-append}
 use Rattle.daa_ahead.specs.Bytes.{StreamState, ToldBytes}
 use Rattle.daa_ahead.specs.Moves.{Moves, wants_more}
-use Rattle.daa_ahead.specs.Takes.{CanTake, StopsAfter, Takes, TakesAll, TakesBytes}
+use Rattle.daa_ahead.specs.Taker.{CanTake, StopsAfter, Takes, TakesAll, TakesBytes}
 use Rattle.daa_ahead.specs.declared.taker.Calls.{Calls}
 use Rattle.daa_ahead.specs.declared.ended.Ended.{Ended}
 use Rattle.daa_config.specs.Settings.{Settings}

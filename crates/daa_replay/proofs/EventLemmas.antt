@@ -4,14 +4,14 @@ use Rattle.daa_lines.specs.LinesOf.{Bytes, lines_of, shown}
 use Rattle.daa_lines.proofs.GrowsLemmas.{Begins, lines_begin, lines_end}
 use Rattle.daa_state.specs.Fault.{Checked, ◌>>=◌}
 use Rattle.daa_state.specs.declared.word.Word.{Word}
-use Rattle.daa_state.specs.MomentStep.{State, Stepped, start, step, finished}
+use Rattle.daa_state.specs.MomentStep.{MomentsState, Stepped, start, step, finished}
 use Rattle.daa_state.proofs.WordLaws.{word_of-take}
 use Rattle.daa_replay.specs.declared.lines.Event.{Event}
 use Rattle.daa_replay.specs.Inside.Lines.{state_after}
 use Rattle.daa_replay.specs.Lines.{line_step, next_state, line_event, end_event, events_from, events_of}
 
 -- the events of lines are those of the first ones, and then those of the others
-pub events_from-append : (state : State) (number : ℕ) (ended : Bool) (xs ys : List Bytes) →
+pub events_from-append : (state : MomentsState) (number : ℕ) (ended : Bool) (xs ys : List Bytes) →
     events_from state number ended (xs ++ ys)
     ≡ events_from state number false xs ++ events_from (state_after state xs) (number + length xs) ended ys
 events_from-append state number ended [] ys = ap (λ (n : ℕ). events_from state n ended ys) (omega arith)
@@ -26,12 +26,12 @@ events_from-append state number ended (line ∷ xs) ys =
     ∙ sym (append_assoc first middle last)
     ∙ ap (λ (n : ℕ). (first ++ middle) ++ events_from (state_after next xs) n ended ys) same
 
-pub state_after-append : (state : State) (xs ys : List Bytes) → state_after state (xs ++ ys) ≡ state_after (state_after state xs) ys
+pub state_after-append : (state : MomentsState) (xs ys : List Bytes) → state_after state (xs ++ ys) ≡ state_after (state_after state xs) ys
 state_after-append state [] ys = refl
 state_after-append state (line ∷ xs) ys = state_after-append (next_state state (line_step state line)) xs ys
 
 -- one line more adds its event
-pub events_from-push : (state : State) (number : ℕ) (xs : List Bytes) (line : Bytes) →
+pub events_from-push : (state : MomentsState) (number : ℕ) (xs : List Bytes) (line : Bytes) →
     events_from state number false (xs ++ line ∷ [])
     ≡ events_from state number false xs ++ line_event (number + length xs) (line_step (state_after state xs) line)
 events_from-push state number xs line =
@@ -39,13 +39,13 @@ events_from-push state number xs line =
     ∙ ap (λ (l : List Event). events_from state number false xs ++ l) (append-nil _)
 
 -- the end of the input adds its event
-pub events_from-end : (state : State) (number : ℕ) (xs : List Bytes) →
+pub events_from-end : (state : MomentsState) (number : ℕ) (xs : List Bytes) →
     events_from state number true xs ≡ events_from state number false xs ++ end_event (number + length xs) (finished (state_after state xs))
 events_from-end state number xs =
     ap (events_from state number true) (sym (append-nil xs)) ∙ events_from-append state number true xs []
 
 -- the events need 256 bytes of a line alone
-pub events_from-shown : (state : State) (number : ℕ) (ended : Bool) (lines : List Bytes) →
+pub events_from-shown : (state : MomentsState) (number : ℕ) (ended : Bool) (lines : List Bytes) →
     events_from state number ended (shown lines) ≡ events_from state number ended lines
 events_from-shown state number true [] = refl
 events_from-shown state number false [] = refl

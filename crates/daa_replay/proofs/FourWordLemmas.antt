@@ -6,14 +6,14 @@ use Rattle.daa_state.specs.Fault.{Checked, ◌>>=◌}
 use Rattle.daa_state.specs.WordOf.{word_of}
 use Rattle.daa_state.specs.FourWords.{is_format_line}
 use Rattle.daa_state.specs.Laws.{is_format_word}
-use Rattle.daa_state.specs.MomentStep.{State, Stepped, start, step}
+use Rattle.daa_state.specs.MomentStep.{MomentsState, Stepped, start, step}
 use Rattle.daa_state.specs.declared.word.Word.{Word}
 use Rattle.daa_state.proofs.FormatLaws.{only_format_lines_say_formats, word_of-four, step-format}
 use Rattle.daa_replay.specs.declared.lines.Event.{Event}
 use Rattle.daa_replay.specs.Lines.{line_step, next_state, line_event, events_from, events_of}
 use Rattle.daa_replay.specs.FourWordLines.{four_line_step, four_events_from, four_events_of, ReadsAsFourWords}
 
-format_kept : (state : State) (word : Checked Word) → IfOk word (λ w. is_format_word w ≡ false)
+format_kept : (state : MomentsState) (word : Checked Word) → IfOk word (λ w. is_format_word w ≡ false)
     → (next_state state (word >>= step state)).format ≡ state.format
 format_kept state (Err fault) h = refl
 format_kept state (Ok word) h = go (step state word) (step-format state word h)
@@ -22,7 +22,7 @@ format_kept state (Ok word) h = go (step state word) (step-format state word h)
     go (Ok n) k = k
     go (Err fault) k = refl
 
-same_from : (state : State) (number : ℕ) (ended : Bool) (lines : List Bytes) → state.format ≡ 1
+same_from : (state : MomentsState) (number : ℕ) (ended : Bool) (lines : List Bytes) → state.format ≡ 1
     → All (λ line. is_format_line line ≡ false) lines
     → events_from state number ended lines ≡ four_events_from state number ended lines
 same_from state number true [] one none = refl

@@ -4,16 +4,16 @@ use Rattle.std.specs.Prelude.{IfErr, OnOk}
 use Rattle.daa_ahead.specs.Bytes.{StreamState}
 use Rattle.daa_fixed.specs.One.{HasOne}
 use Rattle.daa_config.specs.Settings.{Settings, IsAccepted}
-use Rattle.daa_judge.specs.Finding.{Finds}
-use Rattle.daa_judge.specs.Matched.{IsMatched, Compares}
+use Rattle.daa_judge.specs.Found.{Finds}
+use Rattle.daa_judge.specs.Matching.{IsMatched, Compares}
 use Rattle.daa_judge.specs.declared.found.Found.{Found}
 use Rattle.daa_judge.specs.declared.found.Found.TheVariants as found
 use Rattle.daa_judge.specs.declared.matching.Matching.{Matching}
 use Rattle.daa_lines.specs.LinesOf.{Bytes}
-use Rattle.daa_lines.specs.Cutting.{Cutting}
-use Rattle.daa_lines.specs.Stands.{Stands}
+use Rattle.daa_lines.specs.LinesState.{LinesState}
+use Rattle.daa_lines.specs.ComesFrom.{ComesFrom}
 use Rattle.daa_report.specs.Lines.{Text}
-use Rattle.daa_state.specs.MomentStep.{State}
+use Rattle.daa_state.specs.MomentStep.{MomentsState}
 use Rattle.daa_replay.specs.declared.lines.Event.{Event}
 use Rattle.daa_replay.specs.declared.replay.Progress.{Progress}
 use Rattle.daa_replay.specs.Inside.Judge.{IsJudged, IsWhole, StopsIn, ComparesSome, found_in}
@@ -23,7 +23,7 @@ use Rattle.daa_replay.specs.Judge.{Judged}
 use Rattle.daa_replay.specs.Moment.{IsEventText, IsReportOf}
 use Rattle.daa_replay.specs.Inside.Replay.{Reports, ReportsAll}
 use Rattle.daa_replay.proofs.EventLemmas.{events_end}
-use Rattle.daa_replay.proofs.OneText.{front_begins}
+use Rattle.daa_replay.proofs.OneReport.{front_begins}
 use Rattle.daa_replay.proofs.ReportLemmas.{reports-event, reports-lines, reports-part, stops-line, stops-part, stops-end, whole-none, whole-event}
 use Rattle.daa_replay.proofs.TextLemmas.{begins-more}
 use Rattle.daa_replay.proofs.SomeReport.{one_report}
@@ -63,7 +63,7 @@ module _ {settings : Settings} (most : ℕ) (first : StreamState) (bytes : Bytes
   }
 
   -- comparing ended within it
-  pub stopped-line : (old : Progress) (lines : Cutting) (moments : State) (event : Event) (m n : Matching) (s t : StreamState) (result : Found)
+  pub stopped-line : (old : Progress) (lines : LinesState) (moments : MomentsState) (event : Event) (m n : Matching) (s t : StreamState) (result : Found)
       → ((b : Bytes) (g : List Event) → Follows b g old.lines old.moments → Follows b (g ++ event ∷ []) lines moments)
       → lines.ended ≡ old.lines.ended → result ≢ found.Alike
       → (s' : Settings) → s' ≡ settings → ComparesSome (IsEventText s' event) result m n s t
@@ -74,12 +74,12 @@ module _ {settings : Settings} (most : ℕ) (first : StreamState) (bytes : Bytes
     finds = finds_of result other most first j.text c.text n t (c.compares most first j.text j.matched);
   }
 
-  pub judged-lines : (old : Progress) (lines : Cutting) (m : Matching) (s : StreamState) → ((b : Bytes) (t : List Bytes) → Stands b t old.lines → Stands b t lines)
+  pub judged-lines : (old : Progress) (lines : LinesState) (m : Matching) (s : StreamState) → ((b : Bytes) (t : List Bytes) → ComesFrom b t old.lines → ComesFrom b t lines)
       → IsJudged settings most first bytes old m s → IsJudged settings most first bytes (record old { lines = lines }) m s
   judged-lines old lines m s kept j = record { text = j.text; reports = reports-lines (Some []) (Some j.text) bytes old lines kept j.reports; matched = j.matched }
 
-  pub judged-part : (piece : Bytes) (old : Progress) (lines : Cutting) (done n : ℕ) (m : Matching) (s : StreamState) → n ≤ length piece - done
-      → ((b : Bytes) (t : List Bytes) → Stands b t old.lines → Stands (b ++ take n (take (length piece - done) (drop done piece))) t lines)
+  pub judged-part : (piece : Bytes) (old : Progress) (lines : LinesState) (done n : ℕ) (m : Matching) (s : StreamState) → n ≤ length piece - done
+      → ((b : Bytes) (t : List Bytes) → ComesFrom b t old.lines → ComesFrom (b ++ take n (take (length piece - done) (drop done piece))) t lines)
       → IsJudged settings most first (bytes ++ take done piece) old m s → IsJudged settings most first (bytes ++ take (done + n) piece) (record old { lines = lines }) m s
   judged-part piece old lines done n m s within kept j = record {
     text = j.text;

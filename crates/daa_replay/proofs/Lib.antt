@@ -5,7 +5,7 @@ pub mod ReportLemmas
 pub mod DeskLemmas
 pub mod ReplayLemmas
 pub mod FourWordLemmas
-pub mod OneText
+pub mod OneReport
 pub mod CompleteLemmas
 pub mod OpeningLemmas
 pub mod PictureLemmas

@@ -13,7 +13,7 @@ use Rattle.daa_config.specs.ConfigOf.{config_of}
 use Rattle.daa_report.specs.Lines.{Text}
 use Rattle.daa_report.specs.Says.{Says}
 use Rattle.daa_replay.specs.declared.status.Status.{Status}
-use Rattle.daa_replay.specs.declared.status.Status.TheVariants.{WriteFault}
+use Rattle.daa_replay.specs.declared.status.Status.TheVariants.{SinkFault}
 use Rattle.daa_ahead.specs.Bytes.{StreamState}
 use Rattle.daa_config.specs.Settings.{Settings}
 use Rattle.daa_engine.specs.EngineState.{EngineState}
@@ -71,7 +71,7 @@ pub no_engine : (texts : Option Texts) (asked : Asked) (why : Unready) → Fetch
 no_engine texts asked unready.NotTaken h = h
 no_engine texts asked (unready.Refused fault) h = h
 no_engine texts asked unready.StatesLong h = absurd h
-no_engine texts asked unready.FetchFault h = tt
+no_engine texts asked unready.ShelfFault h = tt
 no_engine texts asked unready.NoMemory h = tt
 
 -- an engine was made, and no work
@@ -80,7 +80,7 @@ pub no_work : (texts now : Option Texts) (asked : Asked) (settings : Settings) (
 no_work texts now asked settings unready.NotTaken e f h = h
 no_work texts now asked settings (unready.Refused fault) e f h = absurd h
 no_work texts now asked settings unready.StatesLong e f h = (settings, f, subst (λ (x : Option Texts). PreparesAs x asked.task (Err unready.StatesLong)) e h)
-no_work texts now asked settings unready.FetchFault e f h = tt
+no_work texts now asked settings unready.ShelfFault e f h = tt
 no_work texts now asked settings unready.NoMemory e f h = tt
 
 pub made : (texts now : Option Texts) (asked : Asked) (engine : EngineState) (w : Work) → now ≡ texts → FetchesAs texts asked.config (Ok engine.settings)
@@ -100,12 +100,12 @@ opened_by words texts asked (Err (unready.Refused fault)) taken (text, held, rea
     (reads.0, record { asked = asked; taken = taken; text = text; held = held; fault = fault; refused = reads.1; numbered = reads.2 }, reads.2)
 opened_by words texts asked (Err unready.StatesLong) taken (settings, fetched, (name, is, long)) =
     record { name = name; settings = settings; opens = opens_here words texts asked (Judge name) settings taken is fetched; long = long }
-opened_by words texts asked (Err unready.FetchFault) taken h = (asked, taken)
+opened_by words texts asked (Err unready.ShelfFault) taken h = (asked, taken)
 opened_by words texts asked (Err unready.NoMemory) taken h = tt
 
 -- a line was written, or the sink failed within it
 pub writes : {E : Type 0} (old new : StreamState) (text : Text) (r : Result (Unit {0}) E) (said result : Status)
-    → Says old.bytes new.bytes old.faults new.faults text r → OnOk r (result ≡ said) → OnErr r (result ≡ WriteFault)
+    → Says old.bytes new.bytes old.faults new.faults text r → OnOk r (result ≡ said) → OnErr r (result ≡ SinkFault)
     → WritesLine said old new text result
 writes old new text (Ok x) said result s whole broken = inl (whole, record { taken = s.whole; calm = s.cause.steady })
 writes old new text (Err e) said result s whole broken = inr (broken, record { risen = s.cause.risen; later = s.cause.later; front = s.front })

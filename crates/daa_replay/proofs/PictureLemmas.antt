@@ -4,20 +4,20 @@ use Rattle.std.specs.Prelude.{All, IfOk, IfSome}
 use Rattle.std.proofs.lemmas.List.Elements.{All-nil, All-cons, All-append}
 use Rattle.daa_lines.specs.LinesOf.{Bytes}
 use Rattle.daa_state.specs.Fault.{Checked}
-use Rattle.daa_state.specs.MomentStep.{State, Stepped, finished}
+use Rattle.daa_state.specs.MomentStep.{MomentsState, Stepped, finished}
 use Rattle.daa_state.specs.declared.word.Picture.{Picture}
 use Rattle.daa_replay.specs.declared.lines.Event.TheVariants as event
 use Rattle.daa_replay.specs.Lines.{line_step, next_state, picture_event, line_event, end_event, events_from, OfPicture}
 
 -- what a line leaves: a state that is so, and, where it ends a moment, a picture of which P holds
-pub record Leaves (IsSo : State → Type 0) (P : Picture → Type 0) (next : Stepped) : Type 0 where
+pub record Leaves (IsSo : MomentsState → Type 0) (P : Picture → Type 0) (next : Stepped) : Type 0 where
   pub state : IsSo next.state
   pub picture : IfSome next.picture P
 
 -- where each line that is so, after a state that is so, leaves such a state and such a picture
-module _ (IsLine : Bytes → Type 0) (IsSo : State → Type 0) (P : Picture → Type 0)
-    (leaves : (state : State) (line : Bytes) → IsLine line → IsSo state → IfOk (line_step state line) (Leaves IsSo P)) where
-  next_so : (state : State) (next : Checked Stepped) → IsSo state → IfOk next (Leaves IsSo P) → IsSo (next_state state next)
+module _ (IsLine : Bytes → Type 0) (IsSo : MomentsState → Type 0) (P : Picture → Type 0)
+    (leaves : (state : MomentsState) (line : Bytes) → IsLine line → IsSo state → IfOk (line_step state line) (Leaves IsSo P)) where
+  next_so : (state : MomentsState) (next : Checked Stepped) → IsSo state → IfOk next (Leaves IsSo P) → IsSo (next_state state next)
   next_so state (Ok next) h k = k.state
   next_so state (Err fault) h k = h
 
@@ -33,7 +33,7 @@ module _ (IsLine : Bytes → Type 0) (IsSo : State → Type 0) (P : Picture → 
   of_end number (Ok over) = All-nil (OfPicture P)
   of_end number (Err fault) = All-cons (OfPicture P) (event.Refused number fault) [] tt (All-nil (OfPicture P))
 
-  pub each_picture : (state : State) (number : ℕ) (ended : Bool) (lines : List Bytes) → IsSo state → All IsLine lines
+  pub each_picture : (state : MomentsState) (number : ℕ) (ended : Bool) (lines : List Bytes) → IsSo state → All IsLine lines
       → All (OfPicture P) (events_from state number ended lines)
   each_picture state number false [] h ls = All-nil (OfPicture P)
   each_picture state number true [] h ls = of_end number (finished state)

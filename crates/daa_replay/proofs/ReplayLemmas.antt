@@ -6,7 +6,7 @@ use Rattle.daa_bands.specs.Parts.{SplitsByEach}
 use Rattle.daa_config.specs.Settings.{Settings, IsAccepted}
 use Rattle.daa_outside.specs.Faults.{HasRisen}
 use Rattle.daa_lines.specs.LinesOf.{Bytes}
-use Rattle.daa_lines.specs.Cutting.{is_standing}
+use Rattle.daa_lines.specs.LinesState.{is_standing}
 use Rattle.daa_replay.specs.declared.lines.Event.{Event}
 use Rattle.daa_replay.specs.declared.replay.Progress.{Progress}
 use Rattle.daa_replay.specs.declared.status.Status.{Status}
@@ -80,9 +80,9 @@ module _ {settings : Settings} (places most taken : ℕ) (within : taken ≤ mos
   pub replays_over : IsAccepted settings → (end : Status) (p : Progress) (now : ToldBytes) → Ends end → IsOver settings old.source.bytes new.source.bytes taken old.sink.bytes p now
       → (end ≡ status.Accepted → (first : ToldBytes) (bytes : Bytes) → Reports settings first bytes p now → ReportsAll settings first bytes false new.sink.bytes)
       → (end ≡ status.Refused → (first : ToldBytes) (bytes : Bytes) → Reports settings first bytes p now → ReportsAll settings first bytes true new.sink.bytes)
-      → (end ≡ status.WriteFault → (first : ToldBytes) (bytes : Bytes) → Reports settings first bytes p now → TakesFront settings first new.sink.bytes bytes true)
-      → (end ≡ status.WriteFault → HasRisen old.sink.faults new.sink.faults)
-      → IsCalm old.source new.source → old.sink.faults ≤ new.sink.faults → (end ≢ status.WriteFault → IsCalm old.sink new.sink)
+      → (end ≡ status.SinkFault → (first : ToldBytes) (bytes : Bytes) → Reports settings first bytes p now → TakesFront settings first new.sink.bytes bytes true)
+      → (end ≡ status.SinkFault → HasRisen old.sink.faults new.sink.faults)
+      → IsCalm old.source new.source → old.sink.faults ≤ new.sink.faults → (end ≢ status.SinkFault → IsCalm old.sink new.sink)
       → Replays settings most (code_of end) old new places
   replays_over ok status.Accepted p now ends o whole refused stops risen calm k quiet = record {
     named = inl refl;
@@ -104,7 +104,7 @@ module _ {settings : Settings} (places most taken : ℕ) (within : taken ≤ mos
     reads = omega (arith, calm);
     writes = k;
   }
-  replays_over ok status.WriteFault p now ends o whole refused stops risen calm k quiet = record {
+  replays_over ok status.SinkFault p now ends o whole refused stops risen calm k quiet = record {
     named = inr (inr (inr (inl refl)));
     accepted = λ e. absurd (omega (arith, e));
     refused = λ e. absurd (omega (arith, e));
@@ -117,8 +117,8 @@ module _ {settings : Settings} (places most taken : ℕ) (within : taken ≤ mos
   replays_over ok status.NotTaken p now ends o whole refused stops risen calm k quiet = absurd ends
   replays_over ok status.BadConfiguration p now ends o whole refused stops risen calm k quiet = absurd ends
   replays_over ok status.NoMemory p now ends o whole refused stops risen calm k quiet = absurd ends
-  replays_over ok status.FetchFault p now ends o whole refused stops risen calm k quiet = absurd ends
-  replays_over ok status.ReadFault p now ends o whole refused stops risen calm k quiet = absurd ends
+  replays_over ok status.ShelfFault p now ends o whole refused stops risen calm k quiet = absurd ends
+  replays_over ok status.SourceFault p now ends o whole refused stops risen calm k quiet = absurd ends
   replays_over ok status.Limit p now ends o whole refused stops risen calm k quiet = absurd ends
   replays_over ok status.StatesLong p now ends o whole refused stops risen calm k quiet = absurd ends
 

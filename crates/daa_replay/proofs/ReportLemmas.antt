@@ -9,9 +9,9 @@ use Rattle.std.proofs.lemmas.List.Folds.{list_any-append}
 use Rattle.daa_bands.specs.Parts.{SplitsByEach}
 use Rattle.daa_config.specs.Settings.{Settings}
 use Rattle.daa_lines.specs.LinesOf.{Bytes}
-use Rattle.daa_lines.specs.Cutting.{Cutting}
-use Rattle.daa_lines.specs.Stands.{Stands}
-use Rattle.daa_state.specs.MomentStep.{State}
+use Rattle.daa_lines.specs.LinesState.{LinesState}
+use Rattle.daa_lines.specs.ComesFrom.{ComesFrom}
+use Rattle.daa_state.specs.MomentStep.{MomentsState}
 use Rattle.daa_report.specs.Lines.{Text}
 use Rattle.daa_report.specs.Says.{AppendsFront}
 use Rattle.daa_replay.specs.declared.lines.Event.{Event}
@@ -83,7 +83,7 @@ module _ {settings : Settings} where
   }
 
   -- the same for an event that a line gave
-  pub stops-line : (first before now : ToldBytes) (bytes : Bytes) (old : Progress) (lines : Cutting) (moments : State) (event : Event) (text : Text)
+  pub stops-line : (first before now : ToldBytes) (bytes : Bytes) (old : Progress) (lines : LinesState) (moments : MomentsState) (event : Event) (text : Text)
       → ((b : Bytes) (g : List Event) → Follows b g old.lines old.moments → Follows b (g ++ event ∷ []) lines moments)
       → lines.ended ≡ old.lines.ended
       → IsEventText settings event text → AppendsFront before now text
@@ -112,8 +112,8 @@ module _ {settings : Settings} where
       }
 
   -- the lines in hand changed, and stand for the same bytes and lines
-  pub reports-lines : (first now : ToldBytes) (bytes : Bytes) (old : Progress) (lines : Cutting)
-      → ((b : Bytes) (t : List Bytes) → Stands b t old.lines → Stands b t lines)
+  pub reports-lines : (first now : ToldBytes) (bytes : Bytes) (old : Progress) (lines : LinesState)
+      → ((b : Bytes) (t : List Bytes) → ComesFrom b t old.lines → ComesFrom b t lines)
       → Reports settings first bytes old now → Reports settings first bytes (record old { lines = lines }) now
   reports-lines first now bytes old lines kept r = record {
     given = r.given;
@@ -125,8 +125,8 @@ module _ {settings : Settings} where
   }
 
   -- n bytes more were fed, of a piece of which `done` were fed before
-  pub reports-part : (first now : ToldBytes) (bytes piece : Bytes) (old : Progress) (lines : Cutting) (done n : ℕ) → n ≤ length piece - done
-      → ((b : Bytes) (t : List Bytes) → Stands b t old.lines → Stands (b ++ take n (take (length piece - done) (drop done piece))) t lines)
+  pub reports-part : (first now : ToldBytes) (bytes piece : Bytes) (old : Progress) (lines : LinesState) (done n : ℕ) → n ≤ length piece - done
+      → ((b : Bytes) (t : List Bytes) → ComesFrom b t old.lines → ComesFrom (b ++ take n (take (length piece - done) (drop done piece))) t lines)
       → Reports settings first (bytes ++ take done piece) old now → Reports settings first (bytes ++ take (done + n) piece) (record old { lines = lines }) now
   reports-part first now bytes piece old lines done n within kept r =
       let part = take n (take (length piece - done) (drop done piece)) in

@@ -17,7 +17,7 @@ use Rattle.daa_replay.specs.declared.opening.Work.{Work}
 use Rattle.daa_replay.specs.declared.opening.Work.TheVariants as work
 use Rattle.daa_replay.specs.declared.opening.Unready.{Unready}
 use Rattle.daa_replay.specs.declared.opening.Unready.TheVariants as unready
-use Rattle.daa_replay.specs.declared.status.Status.TheVariants.{Accepted, WriteFault}
+use Rattle.daa_replay.specs.declared.status.Status.TheVariants.{Accepted, SinkFault}
 use Rattle.daa_replay.specs.declared.status.Status.TheVariants as status
 use Rattle.daa_replay.specs.Judge.{Judged}
 use Rattle.daa_replay.specs.Opening.{usage_line, long_line, Opens, OpensLong, IsRefused, IsHeld}
@@ -37,7 +37,7 @@ by_work most status settings work known old new e h = subst (λ (t : Work). Perf
 -- `same` was written, or the sink failed within it
 pub same_written : {E : Type 0} (settings : Settings) (states : Bytes) (most : ℕ) (old new : Outside) (r : Result (Unit {0}) E) (result : Status)
     → Judged settings states most found.Alike old.source new.source → old.source.faults ≤ new.source.faults → Says old.sink.bytes new.sink.bytes old.sink.faults new.sink.faults same_line r
-    → OnOk r (result ≡ Accepted) → OnErr r (result ≡ WriteFault) → Judges settings most (code_of result) old new states
+    → OnOk r (result ≡ Accepted) → OnErr r (result ≡ SinkFault) → Judges settings most (code_of result) old new states
 same_written settings states most old new (Ok x) result j f s whole broken =
     let steady = s.cause.steady in
     subst (λ (st : Status). Judges settings most (code_of st) old new states) (sym whole) (record {
@@ -65,7 +65,7 @@ same_written settings states most old new (Err x) result j f s whole broken =
 -- the number of the first line that differs was written, or the sink failed within it
 pub difference_written : {E : Type 0} (settings : Settings) (states : Bytes) (most number : ℕ) (old new : Outside) (r : Result (Unit {0}) E) (result : Status)
     → Judged settings states most (found.Differs number) old.source new.source → old.source.faults ≤ new.source.faults → Says old.sink.bytes new.sink.bytes old.sink.faults new.sink.faults (differs_line number) r
-    → OnOk r (result ≡ status.Refused) → OnErr r (result ≡ WriteFault) → Judges settings most (code_of result) old new states
+    → OnOk r (result ≡ status.Refused) → OnErr r (result ≡ SinkFault) → Judges settings most (code_of result) old new states
 difference_written settings states most number old new (Ok x) result j f s whole broken =
     let steady = s.cause.steady in
     subst (λ (st : Status). Judges settings most (code_of st) old new states) (sym whole) (record {
@@ -120,7 +120,7 @@ limit_written settings states most before after so sn k j f = record {
 -- the summary was written, or the sink failed within it
 pub exercised : {E : Type 0} (settings : Settings) (most seed moments : ℕ) (before after : ShelfState) (so ko kn : StreamState) (text : Text) (r : Result (Unit {0}) E) (result : Status)
     → IsSummaryOf settings seed moments text → Says ko.bytes kn.bytes ko.faults kn.faults text r
-    → OnOk r (result ≡ Accepted) → OnErr r (result ≡ WriteFault) → Exercises settings most (code_of result) (outside before so ko) (outside after so kn) seed moments
+    → OnOk r (result ≡ Accepted) → OnErr r (result ≡ SinkFault) → Exercises settings most (code_of result) (outside before so ko) (outside after so kn) seed moments
 exercised settings most seed moments before after so ko kn text (Ok x) result i s whole broken =
     let steady = s.cause.steady in
     subst (λ (st : Status). Exercises settings most (code_of st) (outside before so ko) (outside after so kn) seed moments) (sym whole) (record {
@@ -391,28 +391,28 @@ module _ (most : ℕ) (words : List Text) (old new : Outside) (source : new.sour
 
   usage_runs : (result : Status) → order_of words ≡ None → new.shelf.faults ≡ old.shelf.faults → WritesLine status.NotTaken old.sink new.sink usage_line result → Runs most words (code_of result) old new
   usage_runs result none calm (inl w) = by_code result status.NotTaken w.0 (usage_written none calm w.1)
-  usage_runs result none calm (inr w) = by_code result WriteFault w.0 (not_written
+  usage_runs result none calm (inr w) = by_code result SinkFault w.0 (not_written
       (record { risen = w.1.risen; so = inl (record { source = source; text = usage_line; is = inl (none, refl); begun = w.1.front }) }) calm w.1.later)
 
   code_runs : (result : Status) (code : ℕ) → IsRefused words old.shelf.texts code → new.shelf.faults ≡ old.shelf.faults → WritesLine status.BadConfiguration old.sink new.sink (config_line code) result
       → Runs most words (code_of result) old new
   code_runs result code refused calm (inl w) = by_code result status.BadConfiguration w.0 (code_written code refused calm w.1)
-  code_runs result code refused calm (inr w) = by_code result WriteFault w.0 (not_written
+  code_runs result code refused calm (inr w) = by_code result SinkFault w.0 (not_written
       (record { risen = w.1.risen; so = inl (record { source = source; text = config_line code; is = inr (inl (code, refused, refl)); begun = w.1.front }) }) calm w.1.later)
 
   long_runs : (result : Status) → OpensLong words old.shelf.texts → new.shelf.faults ≡ old.shelf.faults → WritesLine status.StatesLong old.sink new.sink long_line result
       → Runs most words (code_of result) old new
   long_runs result opens calm (inl w) = by_code result status.StatesLong w.0 (long_written opens calm w.1)
-  long_runs result opens calm (inr w) = by_code result WriteFault w.0 (not_written
+  long_runs result opens calm (inr w) = by_code result SinkFault w.0 (not_written
       (record { risen = w.1.risen; so = inl (record { source = source; text = long_line; is = inr (inr (opens, refl)); begun = w.1.front }) }) calm w.1.later)
 
   pub reason_runs : (why : Unready) (result : Status) → OpensAs words old.shelf.texts (Err why) → WritesReason why old.sink new.sink result
-      → (why ≡ unready.FetchFault → HasRisen old.shelf.faults new.shelf.faults) → (why ≢ unready.FetchFault → new.shelf.faults ≡ old.shelf.faults)
+      → (why ≡ unready.ShelfFault → HasRisen old.shelf.faults new.shelf.faults) → (why ≢ unready.ShelfFault → new.shelf.faults ≡ old.shelf.faults)
       → Runs most words (code_of result) old new
   reason_runs unready.NotTaken result opens tells risen calm = usage_runs result opens (calm (λ e. cc)) tells
   reason_runs (unready.Refused fault) result (code, refused, is) tells risen calm =
       code_runs result code refused (calm (λ e. cc))
       (subst (λ (o : Option ℕ). WritesCode o old.sink new.sink result) is tells)
   reason_runs unready.StatesLong result opens tells risen calm = long_runs result opens (calm (λ e. cc)) tells
-  reason_runs unready.FetchFault result opens tells risen calm = by_code result status.FetchFault tells.0 (fetch_written opens.0 opens.1 (risen refl) tells.1)
+  reason_runs unready.ShelfFault result opens tells risen calm = by_code result status.ShelfFault tells.0 (fetch_written opens.0 opens.1 (risen refl) tells.1)
   reason_runs unready.NoMemory result opens tells risen calm = by_code result status.NoMemory tells.0 (no_memory_written (calm (λ e. cc)) tells.1)

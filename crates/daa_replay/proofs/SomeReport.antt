@@ -8,7 +8,7 @@ use Rattle.daa_config.specs.Settings.{Settings, IsAccepted}
 use Rattle.daa_lines.specs.LinesOf.{Bytes, lines_of}
 use Rattle.daa_state.specs.Fault.{Checked, code_of}
 use Rattle.daa_state.specs.InRange.{IsWordInRange, IsPictureInRange}
-use Rattle.daa_state.specs.MomentStep.{State, Stepped, start, step, finished}
+use Rattle.daa_state.specs.MomentStep.{MomentsState, Stepped, start, step, finished}
 use Rattle.daa_state.specs.WordOf.{word_of}
 use Rattle.daa_state.specs.declared.word.Picture.{Picture}
 use Rattle.daa_state.proofs.CheckedLemmas.{IfOk-with}
@@ -22,11 +22,11 @@ use Rattle.daa_replay.specs.Lines.{line_step, next_state, picture_event, line_ev
 use Rattle.daa_replay.specs.Moment.{IsEventText, IsReportOf, IsReportFront}
 use Rattle.daa_replay.specs.Inside.Moment.{IsBegun}
 use Rattle.daa_replay.proofs.PictureLemmas.{Leaves, each_picture}
-use Rattle.daa_replay.proofs.OneText.{report_once, front_begins}
+use Rattle.daa_replay.proofs.OneReport.{report_once, front_begins}
 
 -- ---- events in range
 
-line_leaves : (state : State) (line : Bytes) → Unit {0} → IsStateInRange state → IfOk (line_step state line) (Leaves IsStateInRange IsPictureInRange)
+line_leaves : (state : MomentsState) (line : Bytes) → Unit {0} → IsStateInRange state → IfOk (line_step state line) (Leaves IsStateInRange IsPictureInRange)
 line_leaves state line any h =
     IfOk-with IsWordInRange (Leaves IsStateInRange IsPictureInRange) (word_of line state.format) (step state) (word_of-range line state.format)
     (λ word w. IfOk-weaker (step state word) _ _ (λ next n. record { state = n.state; picture = n.picture }) (step-range state word h w))

@@ -5,16 +5,16 @@ use Rattle.daa_lines.specs.LinesOf.{Bytes, lines_of}
 use Rattle.daa_state.specs.Current.{IsCurrentPicture}
 use Rattle.daa_state.specs.Fault.{Checked, ◌>>=◌}
 use Rattle.daa_state.specs.FourWords.{four_word_of, is_format_line}
-use Rattle.daa_state.specs.MomentStep.{State, Stepped, start, step, finished}
+use Rattle.daa_state.specs.MomentStep.{MomentsState, Stepped, start, step, finished}
 use Rattle.daa_replay.specs.declared.lines.Event.{Event}
 use Rattle.daa_replay.specs.Lines.{next_state, line_event, end_event, events_of, OfPicture}
 
 -- a line is read as one of the four words, and its word changes the state
-abbrev pub four_line_step : State → Bytes → Checked Stepped
+abbrev pub four_line_step : MomentsState → Bytes → Checked Stepped
 four_line_step state line = four_word_of line >>= step state
 
 -- the events of lines that are read so, the first of which has the number
-abbrev pub four_events_from : State → ℕ → Bool → List Bytes → List Event
+abbrev pub four_events_from : MomentsState → ℕ → Bool → List Bytes → List Event
 four_events_from state number false [] = []
 four_events_from state number true [] = end_event number (finished state)
 four_events_from state number ended (line ∷ lines) =

@@ -4,7 +4,7 @@ use Rattle.daa_outside.specs.Faults.{HasRisen}
 use Rattle.daa_ahead.specs.Bytes.{StreamState}
 use Rattle.daa_fixed.specs.One.{HasOne}
 use Rattle.daa_config.specs.Settings.{Settings}
-use Rattle.daa_judge.specs.Finding.{Finds}
+use Rattle.daa_judge.specs.Found.{Finds}
 use Rattle.daa_judge.specs.declared.found.Found.{Found}
 use Rattle.daa_judge.specs.declared.found.Found.TheVariants as found
 use Rattle.daa_lines.specs.LinesOf.{Bytes}

@@ -4,18 +4,18 @@ use Rattle.daa_lines.specs.LinesOf.{Bytes, lines_of}
 use Rattle.daa_state.specs.Fault.{Checked, ◌>>=◌}
 use Rattle.daa_state.specs.InRange.{IsPictureInRange}
 use Rattle.daa_state.specs.WordOf.{word_of}
-use Rattle.daa_state.specs.MomentStep.{State, Stepped, start, step, finished}
+use Rattle.daa_state.specs.MomentStep.{MomentsState, Stepped, start, step, finished}
 use Rattle.daa_state.specs.declared.word.Word.{Word}
 use Rattle.daa_state.specs.declared.word.Picture.{Picture}
 use Rattle.daa_replay.specs.declared.lines.Event.{Event}
 use Rattle.daa_replay.specs.declared.lines.Event.TheVariants as event
 
 -- a line is read in the format of the state before it, and its word steps the state
-abbrev pub line_step : State → Bytes → Checked Stepped
+abbrev pub line_step : MomentsState → Bytes → Checked Stepped
 line_step state line = word_of line state.format >>= step state
 
 -- a refused line leaves the state unchanged
-abbrev pub next_state : State → Checked Stepped → State
+abbrev pub next_state : MomentsState → Checked Stepped → MomentsState
 next_state state (Ok next) = next.state
 next_state state (Err fault) = state
 
@@ -37,7 +37,7 @@ end_event number (Err fault) = event.Refused number fault ∷ []
 
 -- the events of lines, the first of which has the number; if these are all lines, the event of the
 -- end follows
-abbrev pub events_from : State → ℕ → Bool → List Bytes → List Event
+abbrev pub events_from : MomentsState → ℕ → Bool → List Bytes → List Event
 events_from state number false [] = []
 events_from state number true [] = end_event number (finished state)
 events_from state number ended (line ∷ lines) =

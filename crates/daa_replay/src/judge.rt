@@ -3,9 +3,9 @@
 ghost use Rattle.std.specs.Prelude.{◌≡◌, ◌≢◌, ◌<◌, ◌≤◌, ◌+◌, ◌^◌, ◌++◌, ℕ, [], IfErr, OnOk, false, true, length};
 ghost use Rattle.daa_ahead.specs.Bytes.{StreamState, stream_state};
 ghost use Rattle.daa_config.specs.Settings.{Settings};
-ghost use Rattle.daa_judge.specs.Matched.{HasRoom, IsMatched};
+ghost use Rattle.daa_judge.specs.Matching.{HasRoom, IsMatched};
 ghost use Rattle.daa_lines.specs.LinesOf.{Bytes};
-ghost use Rattle.daa_lines.specs.Cutting.{is_standing};
+ghost use Rattle.daa_lines.specs.LinesState.{is_standing};
 ghost use Rattle.daa_replay.specs.Inside.Judge.{AfterMatch, ComparesSome, IsJudged, IsWhole, Stops, StopsIn, found_in};
 ghost use Rattle.daa_replay.specs.Lines.{IsEventInRange};
 ghost use Rattle.daa_replay.specs.Judge.{Judged};
@@ -271,7 +271,7 @@ pub(crate) fn run_judge<R: Threads + Sync, S: Source, K: Sink, G: Gate>(
     match judge_all(tools, engine, sheet, source, states, most) {
         Found::Alike => status_of(same(sink), Status::Accepted),
         Found::Differs(line) => status_of(differs(sink, line), Status::Refused),
-        Found::Fault => Status::ReadFault,
+        Found::Fault => Status::SourceFault,
         Found::Limit => Status::Limit,
     }
 }

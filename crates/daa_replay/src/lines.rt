@@ -2,8 +2,8 @@
 
 ghost use Rattle.std.specs.Prelude.{◌≡◌, ◌<◌, ◌^◌, ◌↔◌, ◌++◌, ◌+◌, List, true, false, IsSome, IfSome, IfOk, ◌∷◌, []};
 ghost use Rattle.daa_lines.specs.LinesOf.{Bytes};
-ghost use Rattle.daa_lines.specs.Cutting.{is_standing};
-ghost use Rattle.daa_lines.specs.Stands.{Stands, standing};
+ghost use Rattle.daa_lines.specs.LinesState.{is_standing};
+ghost use Rattle.daa_lines.specs.ComesFrom.{ComesFrom, standing};
 ghost use Rattle.daa_lines.specs.Taking.{after_taking};
 ghost use Rattle.daa_state.specs.WordOf.{word_of};
 ghost use Rattle.daa_state.specs.InRange.{IsFormat, IsWordInRange};
@@ -28,8 +28,8 @@ fn take_word(lines: &mut Lines, format: u32) -> Option<Result<Word, LineFault>>
     ensures word { IfSome result (λ word. word ≡ word_of lines.old.line format) }
     ensures range { IfSome result (λ word. IfOk word IsWordInRange) }
     ensures after { lines.new ≡ after_taking lines.old }
-    ensures kept { (bytes : Bytes) (taken : List Bytes) → Stands bytes taken lines.old
-        → Stands bytes (taken ++ standing lines.old.stage lines.old.line) lines.new }
+    ensures kept { (bytes : Bytes) (taken : List Bytes) → ComesFrom bytes taken lines.old
+        → ComesFrom bytes (taken ++ standing lines.old.stage lines.old.line) lines.new }
 {
     match lines.take_line() {
         Line::Whole(bytes) => Some(read_line(bytes, format)),

@@ -44,7 +44,7 @@ pub(crate) enum Unready {
     /// The states are too long.
     StatesLong,
     /// The shelf failed, or holds nothing under a name.
-    FetchFault,
+    ShelfFault,
     /// There was no memory.
     NoMemory,
 }
@@ -75,7 +75,7 @@ fn cause_of_fetch(fault: FetchFault, long: Unready) -> Unready
 {
     match fault {
         FetchFault::TooLong => long,
-        FetchFault::Failed => Unready::FetchFault,
+        FetchFault::Failed => Unready::ShelfFault,
         FetchFault::NoMemory => Unready::NoMemory,
     }
 }
@@ -83,10 +83,10 @@ fn cause_of_fetch(fault: FetchFault, long: Unready) -> Unready
 /// The configuration that the shelf holds under the name.
 fn fetch<F: Shelf>(alloc: Global, shelf: &mut F, name: &str) -> Result<Config, Unready>
     ensures fetched { FetchesAs (F.texts shelf.old) name.now result }
-    ensures risen { result ≡ Err Unready.FetchFault
+    ensures risen { result ≡ Err Unready.ShelfFault
         → HasRisen (F.faults shelf.old) (F.faults shelf.new) }
     ensures never_falls { F.faults shelf.old ≤ F.faults shelf.new }
-    ensures no_fault { result ≢ Err Unready.FetchFault → F.faults shelf.new ≡ F.faults shelf.old }
+    ensures no_fault { result ≢ Err Unready.ShelfFault → F.faults shelf.new ≡ F.faults shelf.old }
     ensures kept { F.texts shelf.new ≡ F.texts shelf.old }
 {
     match shelf.fetch(alloc, name) {
@@ -105,10 +105,10 @@ fn fetch_engine<F: Shelf>(
     requires { IsWorkerCount workers }
     ensures fetched { FetchesAs (F.texts shelf.old) name.now (settings_in result) }
     ensures workers { IfOk result (λ engine. engine.workers ≡ workers) }
-    ensures risen { result ≡ Err Unready.FetchFault
+    ensures risen { result ≡ Err Unready.ShelfFault
         → HasRisen (F.faults shelf.old) (F.faults shelf.new) }
     ensures never_falls { F.faults shelf.old ≤ F.faults shelf.new }
-    ensures no_fault { result ≢ Err Unready.FetchFault → F.faults shelf.new ≡ F.faults shelf.old }
+    ensures no_fault { result ≢ Err Unready.ShelfFault → F.faults shelf.new ≡ F.faults shelf.old }
     ensures kept { F.texts shelf.new ≡ F.texts shelf.old }
 {
     match fetch(alloc, shelf, name) {
@@ -123,10 +123,10 @@ fn fetch_engine<F: Shelf>(
 /// A comparison with the report of the states that the shelf holds under the name.
 fn fetch_states<F: Shelf>(alloc: Global, shelf: &mut F, name: &str) -> Result<Work, Unready>
     ensures prepared { PreparesAs (F.texts shelf.old) (Judge name.now) result }
-    ensures risen { result ≡ Err Unready.FetchFault
+    ensures risen { result ≡ Err Unready.ShelfFault
         → HasRisen (F.faults shelf.old) (F.faults shelf.new) }
     ensures never_falls { F.faults shelf.old ≤ F.faults shelf.new }
-    ensures no_fault { result ≢ Err Unready.FetchFault → F.faults shelf.new ≡ F.faults shelf.old }
+    ensures no_fault { result ≢ Err Unready.ShelfFault → F.faults shelf.new ≡ F.faults shelf.old }
     ensures kept { F.texts shelf.new ≡ F.texts shelf.old }
 {
     match shelf.fetch(alloc, name) {
@@ -143,10 +143,10 @@ fn prepare<F: Shelf>(alloc: Global, shelf: &mut F, task: &Task<'_>) -> Result<Wo
     requires { TaskIsInRange (task_of task.now) }
     ensures prepared { PreparesAs (F.texts shelf.old) (task_of task.now) result }
     ensures in_range { IfOk result WorkIsInRange }
-    ensures risen { result ≡ Err Unready.FetchFault
+    ensures risen { result ≡ Err Unready.ShelfFault
         → HasRisen (F.faults shelf.old) (F.faults shelf.new) }
     ensures never_falls { F.faults shelf.old ≤ F.faults shelf.new }
-    ensures no_fault { result ≢ Err Unready.FetchFault → F.faults shelf.new ≡ F.faults shelf.old }
+    ensures no_fault { result ≢ Err Unready.ShelfFault → F.faults shelf.new ≡ F.faults shelf.old }
     ensures kept { F.texts shelf.new ≡ F.texts shelf.old }
 {
     match task {
@@ -166,10 +166,10 @@ fn make_ready<F: Shelf>(alloc: Global, order: &Order<'_>, shelf: &mut F) -> Resu
     ensures made { MakesReady (F.texts shelf.old) (meaning order.now) result }
     ensures in_range { IfOk result (λ ready. WorkIsInRange ready.work) }
     ensures workers { IfOk result (λ ready. ready.engine.workers ≡ order.now.workers) }
-    ensures risen { result ≡ Err Unready.FetchFault
+    ensures risen { result ≡ Err Unready.ShelfFault
         → HasRisen (F.faults shelf.old) (F.faults shelf.new) }
     ensures never_falls { F.faults shelf.old ≤ F.faults shelf.new }
-    ensures no_fault { result ≢ Err Unready.FetchFault → F.faults shelf.new ≡ F.faults shelf.old }
+    ensures no_fault { result ≢ Err Unready.ShelfFault → F.faults shelf.new ≡ F.faults shelf.old }
     ensures kept { F.texts shelf.new ≡ F.texts shelf.old }
 {
     let engine = fetch_engine(alloc, shelf, order.config, order.workers)?;
@@ -188,10 +188,10 @@ pub(crate) fn open<F: Shelf>(
 ) -> Result<Ready, Unready>
     ensures opened { OpensAs (map string_bytes words.now) (F.texts shelf.old) result }
     ensures in_range { IfOk result (λ ready. WorkIsInRange ready.work) }
-    ensures risen { result ≡ Err Unready.FetchFault
+    ensures risen { result ≡ Err Unready.ShelfFault
         → HasRisen (F.faults shelf.old) (F.faults shelf.new) }
     ensures never_falls { F.faults shelf.old ≤ F.faults shelf.new }
-    ensures no_fault { result ≢ Err Unready.FetchFault → F.faults shelf.new ≡ F.faults shelf.old }
+    ensures no_fault { result ≢ Err Unready.ShelfFault → F.faults shelf.new ≡ F.faults shelf.old }
     ensures kept { F.texts shelf.new ≡ F.texts shelf.old }
 {
     match read_words(alloc, words) {

@@ -3,13 +3,13 @@
 ghost use Rattle.std.specs.Prelude.{◌≡◌, ◌<◌, ◌+◌, ◌^◌, ◌++◌, ◌||◌, [], IfOk, length, false, true, OnOk, OnErr, ◌≤◌, ◌≢◌};
 ghost use Rattle.daa_config.specs.Settings.{Settings};
 ghost use Rattle.daa_lines.specs.LinesOf.{Bytes};
-ghost use Rattle.daa_lines.specs.Cutting.{is_standing};
+ghost use Rattle.daa_lines.specs.LinesState.{is_standing};
 ghost use Rattle.daa_report.specs.Says.{HasCause};
 ghost use Rattle.daa_replay.specs.Lines.{is_refusal};
 ghost use Rattle.daa_ahead.specs.Bytes.{ToldBytes, stream_state};
 ghost use Rattle.daa_replay.specs.Inside.Replay.{AfterReport, Reports, ReportsAll, TakesFront, CanReport, IsBetween, Steps, desk};
 ghost use Rattle.daa_ahead.specs.Moves.{Moves, wants_more};
-ghost use Rattle.daa_ahead.specs.Takes.{CanTake, TakesBytes};
+ghost use Rattle.daa_ahead.specs.Taker.{CanTake, TakesBytes};
 ghost use Rattle.daa_outside.specs.Faults.{HasRisen};
 ghost use Rattle.daa_replay.specs.Outside.{ShelfState, outside};
 ghost use Rattle.daa_replay.specs.Inside.Run.{Replays};
@@ -238,17 +238,17 @@ fn write_rest<R: Threads + Sync, K: Sink, G: Gate>(
     ensures refused { result ≡ Status.Refused
         → AfterReport engine.old.settings progress.old (K.taken sink.old)
         (λ settings first bytes. ReportsAll settings first bytes true (K.taken sink.new)) }
-    ensures stopped { result ≡ Status.WriteFault
+    ensures stopped { result ≡ Status.SinkFault
         → AfterReport engine.old.settings progress.old (K.taken sink.old)
         (λ settings first bytes. TakesFront settings first (K.taken sink.new) bytes true) }
-    ensures write { result ≡ Status.WriteFault → HasRisen (K.faults sink.old) (K.faults sink.new) }
+    ensures write { result ≡ Status.SinkFault → HasRisen (K.faults sink.old) (K.faults sink.new) }
     ensures writes { K.faults sink.old ≤ K.faults sink.new }
-    ensures write_steady { result ≢ Status.WriteFault → K.faults sink.new ≡ K.faults sink.old }
+    ensures write_steady { result ≢ Status.SinkFault → K.faults sink.new ≡ K.faults sink.old }
 {
     match write_end(tools, engine, progress, sink) {
         Ok(false) => Status::Accepted,
         Ok(true) => Status::Refused,
-        Err(_) => Status::WriteFault,
+        Err(_) => Status::SinkFault,
     }
 }
 
@@ -276,8 +276,8 @@ pub(crate) fn run_replay<R: Threads + Sync, S: Source + Send, K: Sink + Send, G:
     let mut progress = begin();
     match write_all(tools, engine, source, sink, &mut progress, places, most) {
         Ended::End => write_rest(tools, engine, &mut progress, sink),
-        Ended::Fault => Status::ReadFault,
+        Ended::Fault => Status::SourceFault,
         Ended::Limit => Status::Limit,
-        Ended::Stopped => Status::WriteFault,
+        Ended::Stopped => Status::SinkFault,
     }
 }

@@ -23,13 +23,13 @@ pub(crate) enum Status {
     /// The configuration is refused.
     BadConfiguration,
     /// The source failed.
-    ReadFault,
+    SourceFault,
     /// The sink failed.
-    WriteFault,
+    SinkFault,
     /// There was no memory for the start-up.
     NoMemory,
     /// The shelf failed, or holds nothing under a name.
-    FetchFault,
+    ShelfFault,
     /// The limit of bytes was read, and there was one more.
     Limit,
     /// The states are too long.
@@ -46,10 +46,10 @@ impl Status {
             Status::Refused => 1,
             Status::NotTaken => 2,
             Status::BadConfiguration => 3,
-            Status::ReadFault => 4,
-            Status::WriteFault => 5,
+            Status::SourceFault => 4,
+            Status::SinkFault => 5,
             Status::NoMemory => 6,
-            Status::FetchFault => 7,
+            Status::ShelfFault => 7,
             Status::Limit => 8,
             Status::StatesLong => 9,
         }
@@ -59,11 +59,11 @@ impl Status {
 /// This status if a text was written, and a fault of the sink if it was not.
 pub(crate) fn status_of(written: Result<(), SinkFault>, status: Status) -> Status
     ensures whole { OnOk written (result ≡ status) }
-    ensures broken { OnErr written (result ≡ Status.WriteFault) }
+    ensures broken { OnErr written (result ≡ Status.SinkFault) }
 {
     match written {
         Ok(()) => status,
-        Err(SinkFault) => Status::WriteFault,
+        Err(SinkFault) => Status::SinkFault,
     }
 }
 
@@ -97,7 +97,7 @@ pub(crate) fn write_reason<K: Sink>(why: Unready, sink: &mut K) -> Status
         Unready::NotTaken => status_of(put(sink, USAGE), Status::NotTaken),
         Unready::Refused(fault) => write_code(fault, sink),
         Unready::StatesLong => status_of(put(sink, LONG), Status::StatesLong),
-        Unready::FetchFault => Status::FetchFault,
+        Unready::ShelfFault => Status::ShelfFault,
         Unready::NoMemory => Status::NoMemory,
     }
 }

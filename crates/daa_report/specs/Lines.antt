@@ -34,10 +34,10 @@ first_text None = codes "-"
 first_text (Some leg) = decimal leg
 
 -- a candidate's value, `keep` or `none`
-abbrev pub answer_text : Resolution → Text
-answer_text Keep = codes "keep"
-answer_text (To value) = signed_decimal value
-answer_text Nothing = codes "none"
+abbrev pub resolution_text : Resolution → Text
+resolution_text Keep = codes "keep"
+resolution_text (To value) = signed_decimal value
+resolution_text Nothing = codes "none"
 
 -- the line of this number was refused, with this code
 unfoldable pub refused_line : ℕ → ℕ → Text
@@ -63,8 +63,8 @@ band_line kind from upto level =
 -- the line of the answers on the two sides of a kind
 unfoldable pub resolve_line : Kind → Resolution → Resolution → Text
 resolve_line kind lower upper =
-    codes "resolve" ++ codes " " ++ kind_word kind ++ codes " " ++ lower_word kind ++ codes " " ++ answer_text lower
-    ++ codes " " ++ upper_word kind ++ codes " " ++ answer_text upper ++ codes "\n"
+    codes "resolve" ++ codes " " ++ kind_word kind ++ codes " " ++ lower_word kind ++ codes " " ++ resolution_text lower
+    ++ codes " " ++ upper_word kind ++ codes " " ++ resolution_text upper ++ codes "\n"
 
 -- a blank and a number
 abbrev pub number_field : ℕ → Text

@@ -3,7 +3,7 @@
 ghost use Rattle.std.specs.Prelude.{◌≡◌, ◌≤◌, ◌+◌, ◌*◌, ◌++◌, length, codes, decimal};
 ghost use Rattle.std.specs.Fmt.{signed_decimal};
 ghost use Rattle.arrayvec.specs.ArrayVec.{array_vec_len};
-ghost use Rattle.daa_report.specs.Lines.{first_text, answer_text, found_text, number_field};
+ghost use Rattle.daa_report.specs.Lines.{first_text, resolution_text, found_text, number_field};
 ghost use Rattle.std.specs.List.{flat_map};
 
 use crate::line::MOST_BYTES;
@@ -62,12 +62,12 @@ pub(crate) fn add_first(line: &mut ArrayVec<u8, MOST_BYTES>, first: Option<u32>)
 }
 
 /// Adds what is answered on a side.
-pub(crate) fn add_answer(line: &mut ArrayVec<u8, MOST_BYTES>, answer: &Resolution)
+pub(crate) fn add_resolution(line: &mut ArrayVec<u8, MOST_BYTES>, resolution: &Resolution)
     requires { array_vec_len line.old + 11 ≤ 64 }
-    ensures items { line.new.items ≡ line.old.items ++ answer_text answer.now }
+    ensures items { line.new.items ≡ line.old.items ++ resolution_text resolution.now }
     ensures len { array_vec_len line.new ≤ array_vec_len line.old + 11 }
 {
-    match answer {
+    match resolution {
         Resolution::Keep => add(line, "keep"),
         Resolution::To(value) => add_signed(line, value),
         Resolution::Nothing => add(line, "none"),
@@ -95,13 +95,13 @@ pub(crate) fn add_signed_field(line: &mut ArrayVec<u8, MOST_BYTES>, number: &i32
 }
 
 /// Adds a blank and what is answered on a side.
-pub(crate) fn add_answer_field(line: &mut ArrayVec<u8, MOST_BYTES>, answer: &Resolution)
+pub(crate) fn add_resolution_field(line: &mut ArrayVec<u8, MOST_BYTES>, resolution: &Resolution)
     requires { array_vec_len line.old + 12 ≤ 64 }
-    ensures items { line.new.items ≡ line.old.items ++ codes " " ++ answer_text answer.now }
+    ensures items { line.new.items ≡ line.old.items ++ codes " " ++ resolution_text resolution.now }
     ensures len { array_vec_len line.new ≤ array_vec_len line.old + 12 }
 {
     add(line, " ");
-    add_answer(line, answer);
+    add_resolution(line, resolution);
 }
 
 /// Adds a blank and a number of at most ten digits.

@@ -4,8 +4,8 @@ ghost use Rattle.std.specs.Prelude.{◌≡◌, ◌≤◌, ◌+◌, ◌*◌, leng
 ghost use Rattle.daa_report.specs.Lines.{alert_line, band_line, config_line, differs_line, done_line, moment_line, now_line, numbers_line, recover_line, refused_line, resolve_line, same_line};
 
 use crate::adding::{
-    add, add_answer_field, add_bytes, add_field, add_first, add_found, add_number,
-    add_number_fields, add_signed_field,
+    add, add_bytes, add_field, add_first, add_found, add_number, add_number_fields,
+    add_resolution_field, add_signed_field,
 };
 use crate::kind_words::{kind_word, lower_word, upper_word};
 use arrayvec::ArrayVec;
@@ -133,9 +133,9 @@ impl Line {
         add(&mut line, "resolve");
         add_field(&mut line, kind_word(kind));
         add_field(&mut line, lower_word(kind));
-        add_answer_field(&mut line, &lower);
+        add_resolution_field(&mut line, &lower);
         add_field(&mut line, upper_word(kind));
-        add_answer_field(&mut line, &upper);
+        add_resolution_field(&mut line, &upper);
         add(&mut line, "\n");
         Line { bytes: line }
     }

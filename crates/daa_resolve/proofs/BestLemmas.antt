@@ -1,4 +1,4 @@
--- The best of one place more.
+-- The best of one index more.
 use Rattle.std.proofs.Common.{◌≡◌, ◌<◌, ◌+◌, ◌∙◌, ℕ, ℤ, ◌≤ℤ◌, Option, Some, None, length, slice_get, subst, arith, below_more, Bool, true, false, w64, FitsSigned, to_z, of_z}
 use lib.Signed.{le_z}
 use Rattle.std.proofs.lemmas.Int.{ints, to_z-of_z}
@@ -20,7 +20,7 @@ module _ (Covered : ℕ → ℕ → Type 0) (s : Settings) (own : Own) (kind : K
   abbrev far : ℤ → ℤ
   far v = distance_to Covered s own kind side v
 
-  -- a value open at place n is v
+  -- a value open at index n is v
   same_value : (v w : ℤ) → Open n v → Open n w → v ≡ w
   same_value v w a b = let x = a.value_is in let y = b.value_is in cc
 
@@ -48,11 +48,11 @@ module _ (Covered : ℕ → ℕ → Type 0) (s : Settings) (own : Own) (kind : K
   pub nothing : (IsOpen Covered s 0 → ⊥) → IsBest Covered s own kind side (length (values_of kind s)) None → IsResolution Covered s own kind side Nothing
   nothing closed h = (closed, λ p v c. h p v (slice_get_within (values_of kind s) p v c.value_is) c)
 
-  pub going : (IsOpen Covered s 0 → ⊥) → (place : ℕ) (value : ℤ) → IsBest Covered s own kind side (length (values_of kind s)) (Some place)
-      → slice_get (values_of kind s) place ≡ Some value → IsResolution Covered s own kind side (To value)
-  going closed place value (v, k, c, near) e =
+  pub going : (IsOpen Covered s 0 → ⊥) → (index : ℕ) (value : ℤ) → IsBest Covered s own kind side (length (values_of kind s)) (Some index)
+      → slice_get (values_of kind s) index ≡ Some value → IsResolution Covered s own kind side (To value)
+  going closed index value (v, k, c, near) e =
       let f : v ≡ value = (let x = c.value_is in cc) in
-      (closed, subst (IsNearest Covered s own kind side) f (place, c, λ p w d. near p w (slice_get_within (values_of kind s) p w d.value_is) d))
+      (closed, subst (IsNearest Covered s own kind side) f (index, c, λ p w d. near p w (slice_get_within (values_of kind s) p w d.value_is) d))
 
 -- what a comparison of two distances says
 compared : (a b x y : ℤ) (r : Bool) → FitsSigned w64 a → FitsSigned w64 b → a ≡ x → b ≡ y

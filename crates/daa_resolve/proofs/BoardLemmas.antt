@@ -28,8 +28,8 @@ module _ (Covered : ℕ → ℕ → Type 0) (s : Settings) (board : List ℕ) (o
   some_candidate = omega (arith, length_candidates s)
 
   module _ (own : Own) (kind : Kind) (side : Side) where
-    listed_at : (place : ℕ) (v : ℤ) → slice_get (values_of kind s) place ≡ Some v → start_of kind s + place < length (candidates_of s)
-    listed_at place v e = let w = kind_within kind s in let x = slice_get_within (values_of kind s) place v e in omega arith
+    listed_at : (index : ℕ) (v : ℤ) → slice_get (values_of kind s) index ≡ Some v → start_of kind s + index < length (candidates_of s)
+    listed_at index v e = let w = kind_within kind s in let x = slice_get_within (values_of kind s) index v e in omega arith
 
     to_covered : (p : ℕ) (v : ℤ) → IsOpenOnSide (HasLevelOn board) s own kind side p v → IsOpenOnSide Covered s own kind side p v
     to_covered p v c = record { value_is = c.value_is; on_side = c.on_side; is_open = opened (start_of kind s + p) (listed_at p v c.value_is) c.is_open }
@@ -37,7 +37,7 @@ module _ (Covered : ℕ → ℕ → Type 0) (s : Settings) (board : List ℕ) (o
     to_board : (p : ℕ) (v : ℤ) → IsOpenOnSide Covered s own kind side p v → IsOpenOnSide (HasLevelOn board) s own kind side p v
     to_board p v c = record { value_is = c.value_is; on_side = c.on_side; is_open = shut (start_of kind s + p) (listed_at p v c.value_is) c.is_open }
 
-    pub resolved : (answer : Resolution) → IsResolution (HasLevelOn board) s own kind side answer → IsResolution Covered s own kind side answer
+    pub resolved : (resolution : Resolution) → IsResolution (HasLevelOn board) s own kind side resolution → IsResolution Covered s own kind side resolution
     resolved Keep h = opened 0 some_candidate h
     resolved (To value) h =
         ((λ o. h.0 (shut 0 some_candidate o)), (h.1.0, to_covered h.1.0 value h.1.1, λ p v c. h.1.2 p v (to_board p v c)))

@@ -1,5 +1,5 @@
 pub mod BestLemmas
 pub mod OpenOnSideLemmas
-pub mod OnlyLemmas
-pub mod SomeLemmas
+pub mod OneResolution
+pub mod SomeResolution
 pub mod BoardLemmas

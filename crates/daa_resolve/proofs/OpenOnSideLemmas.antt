@@ -1,4 +1,4 @@
--- The two tests of a place tell whether its value is open on the side.
+-- The two tests of an index show whether its value is open on the side.
 use Rattle.std.proofs.Common.{◌≡◌, ◌+◌, ◌↔◌, ◌∙◌, ℕ, ℤ, Bool, true, false, Some, slice_get, IsTrue, refl, sym, ap, subst, w32, FitsSigned, to_z, of_z}
 use Rattle.std.proofs.lemmas.Int.{to_z-of_z}
 use Rattle.daa_config.specs.Candidates.{values_of, start_of}

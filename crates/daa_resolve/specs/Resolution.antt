@@ -10,12 +10,12 @@ use Rattle.daa_resolve.specs.Open.{IsOpen}
 use Rattle.daa_resolve.specs.Side.{present_of, distance_of, IsOnSide}
 use Rattle.daa_resolve.specs.declared.side.Side.{Side}
 
-module _ (Covered : ℕ → ℕ → Type 0) (s : Settings) (own : Own) (kind : Kind) (side : Side) where
-  -- the value at a place of the kind's list is on the side of the present one, and its candidate is open
-  pub record IsOpenOnSide (place : ℕ) (value : ℤ) : Type 0 where
-    pub value_is : slice_get (values_of kind s) place ≡ Some value
+module _ (Covered : ℕ → ℕ → Type 0) (settings : Settings) (own : Own) (kind : Kind) (side : Side) where
+  -- the value at an index of the kind's list is on the side of the present one, and its candidate is open
+  pub record IsOpenOnSide (index : ℕ) (value : ℤ) : Type 0 where
+    pub value_is : slice_get (values_of kind settings) index ≡ Some value
     pub on_side : IsOnSide kind side (present_of kind own) value
-    pub is_open : IsOpen Covered s (start_of kind s + place)
+    pub is_open : IsOpen Covered settings (start_of kind settings + index)
 
   -- how far a value is from the present one on the side
   abbrev pub distance_to : ℤ → ℤ
@@ -24,11 +24,11 @@ module _ (Covered : ℕ → ℕ → Type 0) (s : Settings) (own : Own) (kind : K
   -- the value is open on the side, and no other open value there is nearer
   abbrev pub IsNearest : ℤ → Type 0
   IsNearest value =
-      (place : ℕ) × IsOpenOnSide place value
+      (index : ℕ) × IsOpenOnSide index value
       × ((p : ℕ) (v : ℤ) → IsOpenOnSide p v → distance_to value ≤ℤ distance_to v)
 
   -- keep if Hold, the candidate at index 0, is open; else the nearest value, or nothing if none is
   abbrev pub IsResolution : Resolution → Type 0
-  IsResolution Keep = IsOpen Covered s 0
-  IsResolution (To value) = (IsOpen Covered s 0 → ⊥) × IsNearest value
-  IsResolution Nothing = (IsOpen Covered s 0 → ⊥) × ((p : ℕ) (v : ℤ) → IsOpenOnSide p v → ⊥)
+  IsResolution Keep = IsOpen Covered settings 0
+  IsResolution (To value) = (IsOpen Covered settings 0 → ⊥) × IsNearest value
+  IsResolution Nothing = (IsOpen Covered settings 0 → ⊥) × ((p : ℕ) (v : ℤ) → IsOpenOnSide p v → ⊥)

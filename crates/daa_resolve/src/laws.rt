@@ -16,18 +16,20 @@ ghost use Rattle.daa_resolve.specs.Side.{distance_of, IsOnSide};
 /// Each side of each kind has exactly one answer: there is one, and no two candidates of a side are
 /// equally far.
 pub fn has_one_answer()
-    ensures { (board : List ℕ) (s : Settings) (own : Own) (kind : Kind) (side : Side) → IsAccepted s
-        → HasOne (IsResolution (HasLevelOn board) s own kind side) }
+    ensures { (board : List ℕ) (settings : Settings) (own : Own) (kind : Kind) (side : Side)
+        → IsAccepted settings
+        → HasOne (IsResolution (HasLevelOn board) settings own kind side) }
 {}
 
 /// If a board marks exactly the covered candidates, the answers over the board are those over the
 /// covered candidates.
 pub fn board_answers_for_what_is_covered()
-    ensures { (covered : ℕ → ℕ → Bool) (board : List ℕ) (s : Settings) (own : Own) (kind : Kind)
-        (side : Side) (answer : Resolution)
-        → IsAccepted s → IsBoardOf (λ index l. IsTrue (covered index l)) s board
-        → IsResolution (HasLevelOn board) s own kind side answer
-        → IsResolution (λ index l. IsTrue (covered index l)) s own kind side answer }
+    ensures { (covered : ℕ → ℕ → Bool) (board : List ℕ) (settings : Settings) (own : Own)
+        (kind : Kind)
+        (side : Side) (resolution : Resolution)
+        → IsAccepted settings → IsBoardOf (λ index l. IsTrue (covered index l)) settings board
+        → IsResolution (HasLevelOn board) settings own kind side resolution
+        → IsResolution (λ index l. IsTrue (covered index l)) settings own kind side resolution }
 {}
 
 /// Worked examples: from track 45 the track 0 is 45 degrees to the left, 90 is 45 to the right, 180

@@ -25,78 +25,78 @@ pub fn nearest(board: &Board, config: &Config, own: &Own, kind: Kind, side: Side
     if is_open(board, config, 0) {
         return Resolution::Keep;
     }
-    match best(board, config, own, kind, side) {
-        Some(place) => Resolution::To(config.value(kind, place)),
+    match best_index(board, config, own, kind, side) {
+        Some(index) => Resolution::To(config.value(kind, index)),
         None => Resolution::Nothing,
     }
 }
 
-/// The place of the nearest of all.
-fn best(board: &Board, config: &Config, own: &Own, kind: Kind, side: Side) -> Option<u32>
+/// The index of the nearest of all.
+fn best_index(board: &Board, config: &Config, own: &Own, kind: Kind, side: Side) -> Option<u32>
     ensures { IsBest (HasLevelOn board.now) config.now own.now kind side
         (length (values_of kind config.now)) result }
 {
     let mut best = None;
-    for place in 0..config.count(kind) {
-        best = better(board, config, own, kind, side, best, place);
+    for index in 0..config.count(kind) {
+        best = better_index(board, config, own, kind, side, best, index);
     }
     best
 }
 
 /// The nearer of the nearest so far and the next value, if that is open and on the side.
-fn better(
+fn better_index(
     board: &Board,
     config: &Config,
     own: &Own,
     kind: Kind,
     side: Side,
     best: Option<u32>,
-    place: u32,
+    index: u32,
 ) -> Option<u32>
-    requires place { place < length (values_of kind config.now) }
-    requires best { IsBest (HasLevelOn board.now) config.now own.now kind side place best }
-    ensures { IsBest (HasLevelOn board.now) config.now own.now kind side (place + 1) result }
+    requires index { index < length (values_of kind config.now) }
+    requires best { IsBest (HasLevelOn board.now) config.now own.now kind side index best }
+    ensures { IsBest (HasLevelOn board.now) config.now own.now kind side (index + 1) result }
 {
-    if !is_open_on_side(board, config, own, kind, side, place) {
+    if !is_open_on_side(board, config, own, kind, side, index) {
         return best;
     }
     match best {
-        None => Some(place),
+        None => Some(index),
         Some(other) => {
             if distance_at(config, own, kind, side, other)
-                <= distance_at(config, own, kind, side, place)
+                <= distance_at(config, own, kind, side, index)
             {
                 return Some(other);
             }
-            Some(place)
+            Some(index)
         }
     }
 }
 
-/// Whether the value at a place is on the side and its candidate open.
+/// Whether the value at an index is on the side and its candidate open.
 fn is_open_on_side(
     board: &Board,
     config: &Config,
     own: &Own,
     kind: Kind,
     side: Side,
-    place: u32,
+    index: u32,
 ) -> bool
-    requires { place < length (values_of kind config.now) }
+    requires { index < length (values_of kind config.now) }
     ensures { IsTrue result
         ↔ ((value : ℤ) × IsOpenOnSide
-        (HasLevelOn board.now) config.now own.now kind side place value) }
+        (HasLevelOn board.now) config.now own.now kind side index value) }
 {
-    let value = config.value(kind, place);
-    let index = config.start(kind) + place;
-    is_on_side(kind, side, &present(own, kind), &value) && is_open(board, config, index)
+    let value = config.value(kind, index);
+    let candidate = config.start(kind) + index;
+    is_on_side(kind, side, &present(own, kind), &value) && is_open(board, config, candidate)
 }
 
-/// How far the value at a place is on a side.
-fn distance_at(config: &Config, own: &Own, kind: Kind, side: Side, place: u32) -> i64
-    requires { place < length (values_of kind config.now) }
-    ensures { (value : ℤ) → slice_get (values_of kind config.now) place ≡ Some value
+/// How far the value at an index is on a side.
+fn distance_at(config: &Config, own: &Own, kind: Kind, side: Side, index: u32) -> i64
+    requires { index < length (values_of kind config.now) }
+    ensures { (value : ℤ) → slice_get (values_of kind config.now) index ≡ Some value
         → result ≡ distance_of kind side (present_of kind own.now) value }
 {
-    distance(kind, side, &present(own, kind), &config.value(kind, place))
+    distance(kind, side, &present(own, kind), &config.value(kind, index))
 }

@@ -23,7 +23,7 @@ use Rattle.daa_legs.proofs.AtLevel.{meets_at}
 use Rattle.daa_scan.specs.Inside.Marking.{AreMarked, AreMasks}
 use Rattle.daa_scan.specs.Inside.Nesting.{LiesWithin}
 use Rattle.daa_scan.proofs.Masks.{mask_start, mask_set, mask_keep}
-use Rattle.daa_scan.proofs.Nested.{meets_outer}
+use Rattle.daa_scan.proofs.NestedLevels.{meets_outer}
 
 module _ (settings : Settings) (own : Own) (candidate : Candidate) (aircraft : Traffic) (l mask : ℕ) (is : IsMaskOf (Meets settings own candidate aircraft) l mask) where
   -- the level before is not met, and what meets this one meets that one

@@ -16,10 +16,10 @@ use Rattle.daa_state.specs.declared.word.Traffic.{Traffic}
 use Rattle.daa_state.specs.InRange.{IsOwnInRange, IsTrafficInRange, IsPictureInRange}
 use Rattle.daa_state.specs.Picture.{aircraft_of}
 use Rattle.daa_legs.specs.Meeting.{Meets}
-use Rattle.daa_scan.specs.Situation.{Situation, MeetsAt}
+use Rattle.daa_scan.specs.SceneState.{SceneState, MeetsAt}
 use Rattle.daa_scan.specs.Packed.{mask_of, entry_for, entry_at}
-use Rattle.daa_scan.proofs.Listed.{listed}
-use Rattle.daa_meet.specs.Trying.{is_met_within}
+use Rattle.daa_scan.proofs.ListedCandidates.{listed}
+use Rattle.daa_meet.specs.Trials.{is_met_within}
 use Rattle.daa_meet.proofs.Meetings.{within_is}
 
 -- ---- bits
@@ -142,7 +142,7 @@ pub at_place : {X : Type 0} (P : X → Type 0) (xs : List X) (i : ℕ) (x : X) �
 at_place P xs i x h e = subst P (get_or_from_slice_get xs i x x e) (h i x (slice_get_within xs i x e))
 
 -- what is met at two places of their lists is what stands there meeting
-pub met_at : (s : Situation) (index at l : ℕ) (candidate : Candidate) (aircraft : Traffic) → slice_get (candidates_of s.settings) index ≡ Some candidate → slice_get (aircraft_of s.picture) at ≡ Some aircraft
+pub met_at : (s : SceneState) (index at l : ℕ) (candidate : Candidate) (aircraft : Traffic) → slice_get (candidates_of s.settings) index ≡ Some candidate → slice_get (aircraft_of s.picture) at ≡ Some aircraft
     → Meets s.settings s.picture.own candidate aircraft l ↔ MeetsAt s index at l
 met_at s index at l candidate aircraft ec ea = (
   (λ m. record { candidate = candidate; aircraft = aircraft; listed = ec; there = ea; meets = m }),
@@ -150,7 +150,7 @@ met_at s index at l candidate aircraft ec ea = (
       (subst (λ (t : Traffic). Meets s.settings s.picture.own m.candidate t l) (same_Some m.aircraft aircraft (sym m.there ∙ ea)) m.meets)),
 )
 
-entry-some : (s : Situation) (at index : ℕ) (candidate : Candidate) (aircraft : Traffic) → slice_get (candidates_of s.settings) index ≡ Some candidate → slice_get (aircraft_of s.picture) at ≡ Some aircraft
+entry-some : (s : SceneState) (at index : ℕ) (candidate : Candidate) (aircraft : Traffic) → slice_get (candidates_of s.settings) index ≡ Some candidate → slice_get (aircraft_of s.picture) at ≡ Some aircraft
     → entry_at s at index ≡ 1 + 2 * mask_of s.settings s.picture.own candidate aircraft s.settings.levels
 unfolding entry_at
 entry-some s at index candidate aircraft ec ea = λ i. entry_for s (ec i) (ea i)
@@ -163,7 +163,7 @@ four (suc (suc (suc zero))) h = omega arith
 four (suc (suc (suc (suc zero)))) h = omega arith
 four (suc (suc (suc (suc (suc n))))) h = absurd (omega (arith, h))
 
-module _ (s : Situation) (a : IsAccepted s.settings) (p : IsPictureInRange s.picture) where
+module _ (s : SceneState) (a : IsAccepted s.settings) (p : IsPictureInRange s.picture) where
   -- an entry where the list has the candidate
   pub record IsEntry (at index entry : ℕ) : Type 0 where
     pub mask : ℕ
@@ -198,9 +198,9 @@ module _ (s : Situation) (a : IsAccepted s.settings) (p : IsPictureInRange s.pic
       let same : m ≡ e.mask = same_bits 8 m e.mask small (omega (arith, e.small)) (same_mask _ _ m e.mask h e.met) in
       ap (λ (n : ℕ). 1 + 2 * n) same ∙ sym e.is
 
-past : (s : Situation) (at : ℕ) (c : Option Candidate) → c ≡ None → entry_for s c (slice_get (aircraft_of s.picture) at) ≡ 0
+past : (s : SceneState) (at : ℕ) (c : Option Candidate) → c ≡ None → entry_for s c (slice_get (aircraft_of s.picture) at) ≡ 0
 past s at c e = ap (λ (o : Option Candidate). entry_for s o (slice_get (aircraft_of s.picture) at)) e
 
-pub entry_past : (s : Situation) (at index : ℕ) → length (candidates_of s.settings) ≤ index → entry_at s at index ≡ 0
+pub entry_past : (s : SceneState) (at index : ℕ) → length (candidates_of s.settings) ≤ index → entry_at s at index ≡ 0
 unfolding entry_at
 entry_past s at index h = past s at _ (slice_get_past (candidates_of s.settings) index h)

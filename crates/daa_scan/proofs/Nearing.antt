@@ -15,7 +15,7 @@ use Rattle.daa_taumod.specs.declared.Model.TheVariants.{Taumod, Tcpa}
 use Rattle.daa_taumod.specs.declared.Volume.{Volume}
 use Rattle.daa_taumod.specs.Volume.{place_at, height_at, IsSoon, IsClosing, ViolatesHorizontally, ViolatesVertically}
 
-module _ (leg : Leg) (vol : Volume) (n d speed : ℤ) (d1 : pos 1 ≤ℤ d) (s0 : pos 0 ≤ℤ speed) (slow : dot_of leg.velocity.flat leg.velocity.flat ≤ℤ (speed *ℤ speed)) where
+module _ (leg : Leg) (volume : Volume) (n d speed : ℤ) (d1 : pos 1 ≤ℤ d) (s0 : pos 0 ≤ℤ speed) (slow : dot_of leg.velocity.flat leg.velocity.flat ≤ℤ (speed *ℤ speed)) where
   abbrev place : Flat
   place = place_at leg n d
 
@@ -23,33 +23,33 @@ module _ (leg : Leg) (vol : Volume) (n d speed : ℤ) (d1 : pos 1 ≤ℤ d) (s0 
   v = leg.velocity.flat
 
   abbrev a : ℤ
-  a = pos vol.dthr *ℤ d
+  a = pos volume.dthr *ℤ d
 
   abbrev b : ℤ
-  b = pos vol.tthr *ℤ d *ℤ speed
+  b = pos volume.tthr *ℤ d *ℤ speed
 
   d0 : pos 0 ≤ℤ d
   d0 = omega (arith, ints)
 
   a0 : pos 0 ≤ℤ a
-  a0 = mul_nonneg (pos vol.dthr) d (omega (arith, ints)) d0
+  a0 = mul_nonneg (pos volume.dthr) d (omega (arith, ints)) d0
 
-  td0 : pos 0 ≤ℤ (pos vol.tthr *ℤ d)
-  td0 = mul_nonneg (pos vol.tthr) d (omega (arith, ints)) d0
+  td0 : pos 0 ≤ℤ (pos volume.tthr *ℤ d)
+  td0 = mul_nonneg (pos volume.tthr) d (omega (arith, ints)) d0
 
   b0 : pos 0 ≤ℤ b
-  b0 = mul_nonneg (pos vol.tthr *ℤ d) speed td0 s0
+  b0 = mul_nonneg (pos volume.tthr *ℤ d) speed td0 s0
 
-  tau_soon : (w : Model) → IsSoon w leg vol n d → dot_of place v <ℤ pos 0 → (cross_of place v *ℤ cross_of place v) ≤ℤ (a *ℤ a *ℤ dot_of v v) → (dot_of place place +ℤ pos vol.tthr *ℤ d *ℤ dot_of place v) ≤ℤ (a *ℤ a)
+  tau_soon : (w : Model) → IsSoon w leg volume n d → dot_of place v <ℤ pos 0 → (cross_of place v *ℤ cross_of place v) ≤ℤ (a *ℤ a *ℤ dot_of v v) → (dot_of place place +ℤ pos volume.tthr *ℤ d *ℤ dot_of place v) ≤ℤ (a *ℤ a)
   tau_soon Taumod s h near = s
-  tau_soon Tcpa s h near = tau_from_closest (dot_of v v) (cross_of place v) (dot_of place place) (dot_of place v) a (pos vol.tthr *ℤ d) (nearing_moves place v h) h (lagrange place v) near s
+  tau_soon Tcpa s h near = tau_from_closest (dot_of v v) (cross_of place v) (dot_of place place) (dot_of place v) a (pos volume.tthr *ℤ d) (nearing_moves place v h) h (lagrange place v) near s
 
-  closing_near : IsClosing leg vol n d → dot_of place place ≤ℤ ((a +ℤ b) *ℤ (a +ℤ b))
+  closing_near : IsClosing leg volume n d → dot_of place place ≤ℤ ((a +ℤ b) *ℤ (a +ℤ b))
   closing_near c =
-      let t : ℤ = pos vol.tthr *ℤ d in
+      let t : ℤ = pos volume.tthr *ℤ d in
       let y : ℤ = neg_ℤ (dot_of place v) in
       let y0 : pos 0 ≤ℤ y = omega (arith, ints, c.nearing) in
-      let soon = tau_soon vol.model c.soon c.nearing c.near in
+      let soon = tau_soon volume.model c.soon c.nearing c.near in
       not_far a b (dot_of place place) (t *ℤ y) a0 b0 (mul_nonneg t y td0 y0)
       (by_rest _ _ _ (turn (dot_of place place) t (dot_of place v) (a *ℤ a)) (rest _ _ soon))
       (by_rest _ _ _ (spread t (dot_of place v) speed (dot_of place place))
@@ -71,7 +71,7 @@ module _ (leg : Leg) (vol : Volume) (n d speed : ℤ) (d1 : pos 1 ≤ℤ d) (s0 
           left x y = omega (arith, ints)
 
   -- the square of the place
-  pub flat_near : ViolatesHorizontally leg vol n d → dot_of place place ≤ℤ ((a +ℤ b) *ℤ (a +ℤ b))
+  pub flat_near : ViolatesHorizontally leg volume n d → dot_of place place ≤ℤ ((a +ℤ b) *ℤ (a +ℤ b))
   flat_near (inl h) = le_trans_ℤ (dot_of place place) (a *ℤ a) ((a +ℤ b) *ℤ (a +ℤ b)) h (wider a b a0 b0)
     where
       wider : (a b : ℤ) → pos 0 ≤ℤ a → pos 0 ≤ℤ b → (a *ℤ a) ≤ℤ ((a +ℤ b) *ℤ (a +ℤ b))
@@ -90,24 +90,24 @@ module _ (leg : Leg) (vol : Volume) (n d speed : ℤ) (d1 : pos 1 ≤ℤ d) (s0 
       part : (x y z : ℤ) → pos 0 ≤ℤ y → (x +ℤ y) ≤ℤ z → x ≤ℤ z
       part x y z h k = omega (arith, ints)
 
-  pub east_near : ViolatesHorizontally leg vol n d → IsFrom (neg_ℤ (a +ℤ b)) (a +ℤ b) place.east
+  pub east_near : ViolatesHorizontally leg volume n d → IsFrom (neg_ℤ (a +ℤ b)) (a +ℤ b) place.east
   east_near h = reached place.east place.north (flat_near h)
 
-  pub north_near : ViolatesHorizontally leg vol n d → IsFrom (neg_ℤ (a +ℤ b)) (a +ℤ b) place.north
+  pub north_near : ViolatesHorizontally leg volume n d → IsFrom (neg_ℤ (a +ℤ b)) (a +ℤ b) place.north
   north_near h = reached place.north place.east (subst (λ (z : ℤ). z ≤ℤ ((a +ℤ b) *ℤ (a +ℤ b))) (swap (place.east *ℤ place.east) (place.north *ℤ place.north)) (flat_near h))
     where
       swap : (x y : ℤ) → x +ℤ y ≡ y +ℤ x
       swap x y = omega (arith, ints)
 
 -- the height
-pub up_near : (leg : Leg) (vol : Volume) (n d speed : ℤ) → pos 1 ≤ℤ d → pos 0 ≤ℤ speed → pos (unsigned_abs leg.velocity.up) ≤ℤ speed → ViolatesVertically leg vol n d → IsFrom (neg_ℤ (pos vol.zthr *ℤ d +ℤ pos vol.tcoa *ℤ d *ℤ speed)) (pos vol.zthr *ℤ d +ℤ pos vol.tcoa *ℤ d *ℤ speed) (height_at leg n d)
-up_near leg vol n d speed d1 s0 slow h = both (height_at leg n d) _ (⊎_elim
-    (λ l. grow_left _ _ _ (mul_nonneg (pos vol.tcoa *ℤ d) speed cd0 s0) l)
-    (λ l. grow_right _ _ _ (mul_nonneg (pos vol.zthr) d (omega (arith, ints)) (omega (arith, ints))) (le_trans_ℤ _ _ _ l.soon (mul_le_left (pos vol.tcoa *ℤ d) _ _ cd0 slow)))
+pub up_near : (leg : Leg) (volume : Volume) (n d speed : ℤ) → pos 1 ≤ℤ d → pos 0 ≤ℤ speed → pos (unsigned_abs leg.velocity.up) ≤ℤ speed → ViolatesVertically leg volume n d → IsFrom (neg_ℤ (pos volume.zthr *ℤ d +ℤ pos volume.tcoa *ℤ d *ℤ speed)) (pos volume.zthr *ℤ d +ℤ pos volume.tcoa *ℤ d *ℤ speed) (height_at leg n d)
+up_near leg volume n d speed d1 s0 slow h = both (height_at leg n d) _ (⊎_elim
+    (λ l. grow_left _ _ _ (mul_nonneg (pos volume.tcoa *ℤ d) speed cd0 s0) l)
+    (λ l. grow_right _ _ _ (mul_nonneg (pos volume.zthr) d (omega (arith, ints)) (omega (arith, ints))) (le_trans_ℤ _ _ _ l.soon (mul_le_left (pos volume.tcoa *ℤ d) _ _ cd0 slow)))
     h)
   where
-    cd0 : pos 0 ≤ℤ (pos vol.tcoa *ℤ d)
-    cd0 = mul_nonneg (pos vol.tcoa) d (omega (arith, ints)) (omega (arith, ints))
+    cd0 : pos 0 ≤ℤ (pos volume.tcoa *ℤ d)
+    cd0 = mul_nonneg (pos volume.tcoa) d (omega (arith, ints)) (omega (arith, ints))
 
     both : (x y : ℤ) → pos (unsigned_abs x) ≤ℤ y → IsFrom (neg_ℤ y) y x
     both x y h = record { least = omega (arith, ints); most = omega (arith, ints) }

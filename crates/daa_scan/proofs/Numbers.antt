@@ -11,10 +11,10 @@ use Rattle.daa_state.specs.declared.word.Own.{Own}
 use Rattle.daa_state.specs.declared.word.Traffic.{Traffic}
 use Rattle.daa_state.specs.Picture.{aircraft_of}
 use Rattle.daa_scan.specs.Reach.{place_now, horizontal_speed, vertical_speed, CanEnter, IsInReach, IsInReachAt}
-use Rattle.daa_scan.specs.Situation.{Situation}
+use Rattle.daa_scan.specs.SceneState.{SceneState}
 use Rattle.daa_scan.specs.Units.{AreInReach}
 use Rattle.daa_scan.specs.Packed.{enters, is_reached, is_reached_at, numbers_below, places_in_reach}
-use Rattle.daa_meet.proofs.Trying.{le_is, both_is, either_is}
+use Rattle.daa_meet.proofs.TrialLemmas.{le_is, both_is, either_is}
 
 -- ---- one more number
 pub taken : (f : ℕ → Bool) (n : ℕ) → IsTrue (f n) → numbers_below f (suc n) ≡ numbers_below f n ++ (n ∷ [])
@@ -152,7 +152,7 @@ module _ (settings : Settings) (own : Own) (aircraft : Traffic) where
         (λ r. o.1 (record { place = r.number - 1; level = r.level; there = r.there.there; enters = r.enters })),
       )
 
-module _ (s : Situation) where
+module _ (s : SceneState) where
   by_item : (at : ℕ) (o : Option Traffic) → slice_get (aircraft_of s.picture) at ≡ o → IsTrue (is_reached s.settings s.picture.own o) ↔ IsInReachAt s at
   unfolding is_reached
   by_item at None e = ((λ t. absurd (cc t)), (λ r. let x = r.there in absurd (cc (x, e))))
@@ -185,7 +185,7 @@ count_small f (suc n) = ⊎_elim
     (λ t. let p = ap length (passed f n t) in let h = count_small f n in omega (arith, p, h))
     (cases_Bool (f n))
 
-module _ (s : Situation) (n : ℕ) (b : Bool) (is : IsTrue b ↔ IsInReachAt s n) where
+module _ (s : SceneState) (n : ℕ) (b : Bool) (is : IsTrue b ↔ IsInReachAt s n) where
   reached_here : b ≡ true → IsTrue (is_reached_at s n)
   reached_here t = (reached_is s n).1 (is.0 t)
 
@@ -199,7 +199,7 @@ module _ (s : Situation) (n : ℕ) (b : Bool) (is : IsTrue b ↔ IsInReachAt s n
   passed_here t = let e : suc n ≡ n + 1 = omega arith in sym (passed (is_reached_at s) n (not_reached_here t)) ∙ ap (numbers_below (is_reached_at s)) e
 
 -- the test of the aircraft that stands there
-module _ (s : Situation) (n : ℕ) (aircraft : Traffic) (there : slice_get (aircraft_of s.picture) n ≡ Some aircraft) (b : Bool) (is : IsTrue b ↔ IsInReach s.settings s.picture.own aircraft) where
+module _ (s : SceneState) (n : ℕ) (aircraft : Traffic) (there : slice_get (aircraft_of s.picture) n ≡ Some aircraft) (b : Bool) (is : IsTrue b ↔ IsInReach s.settings s.picture.own aircraft) where
   pub tested_here : IsTrue b ↔ IsInReachAt s n
   tested_here = (
     (λ t. record { aircraft = aircraft; there = there; reached = is.0 t }),

@@ -13,7 +13,7 @@ use Rattle.daa_config.specs.Settings.{Settings, IsAccepted}
 use Rattle.daa_config.proofs.CandidateLemmas.{length_candidates, few_candidates}
 use Rattle.daa_state.specs.InRange.{IsPictureInRange}
 use Rattle.daa_state.specs.Picture.{aircraft_of}
-use Rattle.daa_scan.specs.Situation.{Situation, MeetsAt}
+use Rattle.daa_scan.specs.SceneState.{SceneState, MeetsAt}
 use Rattle.daa_scan.specs.Units.{group_count, index_in, IsWordOf, AreWordsOf, IsWordOfUnit}
 use Rattle.daa_scan.specs.Packed.{entry_at, packed_from, packed_word, at_least_one, word_of, values_from, words_of, places_in_reach}
 use Rattle.daa_scan.proofs.Masking.{IsEntry, entry_there, entry_past}
@@ -125,7 +125,7 @@ module _ (f : ℕ → ℕ) (small : (i : ℕ) → f i < 32) where
       halved e r h = omega (arith, h)
 
 -- ---- the word of a group and an aircraft
-module _ (s : Situation) (a : IsAccepted s.settings) (p : IsPictureInRange s.picture) (at : ℕ) (here : at < length (aircraft_of s.picture)) where
+module _ (s : SceneState) (a : IsAccepted s.settings) (p : IsPictureInRange s.picture) (at : ℕ) (here : at < length (aircraft_of s.picture)) where
   pub entry_small : (index : ℕ) → entry_at s at index < 32
   entry_small index = ⊎_elim
       (λ l. let e = entry_there s a p at index l here in let is = e.is in let small = e.small in omega (arith, is, small))
@@ -223,29 +223,29 @@ value_at f i (suc n) (suc k) h = let e : suc i + k ≡ i + suc k = omega arith i
 pub some_group : (settings : Settings) → 1 ≤ group_count settings
 some_group settings = let l = length_candidates settings in omega (arith, l)
 
-pub word_at : (s : Situation) (unit : ℕ) → unit < group_count s.settings * length (places_in_reach s) → slice_index (words_of s) unit ≡ word_of s unit
+pub word_at : (s : SceneState) (unit : ℕ) → unit < group_count s.settings * length (places_in_reach s) → slice_index (words_of s) unit ≡ word_of s unit
 unfolding words_of
 word_at s unit h =
     let e : 0 + unit ≡ unit = omega arith in value_at (word_of s) 0 (group_count s.settings * length (places_in_reach s)) unit h ∙ ap (word_of s) e
 
-pub word_shown : (s : Situation) (unit : ℕ) → word_of s unit ≡ at_least_one (packed_word s (slice_index (places_in_reach s) (unit / group_count s.settings)) (unit % group_count s.settings))
+pub word_shown : (s : SceneState) (unit : ℕ) → word_of s unit ≡ at_least_one (packed_word s (slice_index (places_in_reach s) (unit / group_count s.settings)) (unit % group_count s.settings))
 unfolding word_of
 word_shown s unit = refl
 
-pub words_count : (s : Situation) → length (words_of s) ≡ group_count s.settings * length (places_in_reach s)
+pub words_count : (s : SceneState) → length (words_of s) ≡ group_count s.settings * length (places_in_reach s)
 unfolding words_of
 words_count s = length-values (word_of s) 0 (group_count s.settings * length (places_in_reach s))
 
-pub unit_place : (s : Situation) (unit : ℕ) → unit < group_count s.settings * length (places_in_reach s) → unit / group_count s.settings < length (places_in_reach s)
+pub unit_place : (s : SceneState) (unit : ℕ) → unit < group_count s.settings * length (places_in_reach s) → unit / group_count s.settings < length (places_in_reach s)
 unit_place s unit h =
     let g = some_group s.settings in
     let e : group_count s.settings * length (places_in_reach s) ≡ length (places_in_reach s) * group_count s.settings = omega arith in
     (div-lt_iff_lt-mul (omega (arith, g))).1 (subst (λ (n : ℕ). unit < n) e h)
 
-pub unit_group : (s : Situation) (unit : ℕ) → unit % group_count s.settings < group_count s.settings
+pub unit_group : (s : SceneState) (unit : ℕ) → unit % group_count s.settings < group_count s.settings
 unit_group s unit = let g = some_group s.settings in mod-lt unit (omega (arith, g))
 
-pub are_words : (s : Situation) → IsAccepted s.settings → IsPictureInRange s.picture → AreWordsOf s (words_of s)
+pub are_words : (s : SceneState) → IsAccepted s.settings → IsPictureInRange s.picture → AreWordsOf s (words_of s)
 are_words s a p = record {
   places = places_in_reach s;
   in_reach = are_in_reach s;
@@ -261,7 +261,7 @@ pub few_groups : (settings : Settings) → IsAccepted settings → group_count s
 few_groups settings a = let l = few_candidates settings a in omega (arith, l)
 
 -- the word of a unit
-pub word_found : (s : Situation) → IsAccepted s.settings → IsPictureInRange s.picture → (unit at group : ℕ) → unit < length (words_of s) → at ≡ slice_index (places_in_reach s) (unit / group_count s.settings) → group ≡ unit % group_count s.settings
+pub word_found : (s : SceneState) → IsAccepted s.settings → IsPictureInRange s.picture → (unit at group : ℕ) → unit < length (words_of s) → at ≡ slice_index (places_in_reach s) (unit / group_count s.settings) → group ≡ unit % group_count s.settings
     → packed_word s at group ≡ slice_index (words_of s) unit
 word_found s a p unit at group h ea eg =
     let l : unit < group_count s.settings * length (places_in_reach s) = subst (λ (n : ℕ). unit < n) (words_count s) h in
@@ -271,13 +271,13 @@ word_found s a p unit at group h ea eg =
     sym (word_kept s a p at here group inside) ∙ (λ i. at_least_one (packed_word s (ea i) (eg i))) ∙ sym (word_at s unit l ∙ word_shown s unit)
 
 -- the same, told by the list and by the field
-pub word_told : (own s : Situation) → own ≡ s → IsAccepted own.settings → IsPictureInRange own.picture → (groups unit at word : ℕ) → groups ≡ group_count own.settings
+pub word_told : (own s : SceneState) → own ≡ s → IsAccepted own.settings → IsPictureInRange own.picture → (groups unit at word : ℕ) → groups ≡ group_count own.settings
     → unit < length (words_of s) → at ≡ slice_index (places_in_reach s) (unit / groups) → word ≡ packed_word s at (unit % groups)
     → (word ≡ slice_index (words_of s) unit) × IsWordOfUnit s unit word
 word_told own s same a p groups unit at word counted h ea ew =
-    let a' : IsAccepted s.settings = subst (λ (t : Situation). IsAccepted t.settings) same a in
-    let p' : IsPictureInRange s.picture = subst (λ (t : Situation). IsPictureInRange t.picture) same p in
-    let g : groups ≡ group_count s.settings = counted ∙ ap (λ (t : Situation). group_count t.settings) same in
+    let a' : IsAccepted s.settings = subst (λ (t : SceneState). IsAccepted t.settings) same a in
+    let p' : IsPictureInRange s.picture = subst (λ (t : SceneState). IsPictureInRange t.picture) same p in
+    let g : groups ≡ group_count s.settings = counted ∙ ap (λ (t : SceneState). group_count t.settings) same in
     let e : word ≡ slice_index (words_of s) unit = ew ∙ word_found s a' p' unit at (unit % groups) h (ea ∙ ap (λ (n : ℕ). slice_index (places_in_reach s) (unit / n)) g) (ap (λ (n : ℕ). unit % n) g) in
     let l : unit < group_count s.settings * length (places_in_reach s) = subst (λ (n : ℕ). unit < n) (words_count s) h in
     let i = unit_place s unit l in

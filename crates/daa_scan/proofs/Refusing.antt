@@ -17,7 +17,7 @@ use Rattle.daa_config.specs.Settings.{Settings, IsLevelAt, rates_of}
 use Rattle.daa_state.specs.declared.word.Own.{Own}
 use Rattle.daa_state.specs.declared.word.Traffic.{Traffic}
 use Rattle.daa_legs.specs.Meeting.{ViolatesOn}
-use Rattle.daa_legs.specs.OwnLegs.{own_leg}
+use Rattle.daa_legs.specs.OwnLeg.{own_leg}
 use Rattle.daa_legs.specs.Relative.{relative_for}
 use Rattle.daa_legs.proofs.SharedWords.{in_height}
 use Rattle.daa_legs.specs.Inside.Shared.{in_plane}

@@ -17,7 +17,7 @@ use Rattle.daa_state.specs.declared.word.Own.{Own}
 use Rattle.daa_state.specs.declared.word.Traffic.{Traffic}
 use Rattle.daa_legs.specs.declared.own_leg.OwnLeg.{OwnLeg}
 use Rattle.daa_legs.specs.Branch.{lead_of}
-use Rattle.daa_legs.specs.Kept.{AreLegsOf}
+use Rattle.daa_legs.specs.Trunk.{AreLegsOf}
 use Rattle.daa_legs.specs.Meeting.{ViolatesOn}
 use Rattle.daa_legs.proofs.AtLevel.{one_level}
 use Rattle.daa_scan.specs.declared.refusal.Seconds.{Seconds}
@@ -26,7 +26,7 @@ use Rattle.daa_scan.specs.declared.marking.Trails.{Trails}
 use Rattle.daa_scan.specs.Inside.Marking.{AreTrailsOf}
 use Rattle.daa_scan.specs.Inside.Refusal.{AreSecondsOf}
 use Rattle.daa_scan.specs.Inside.Sharing.{IsTrailOf}
-use Rattle.daa_scan.specs.Trunks.{place_of, trunk_in, is_needed, AreLeads}
+use Rattle.daa_scan.specs.Trunks.{trunk_index, trunk_in, is_needed, AreLeads}
 use Rattle.daa_scan.specs.declared.needs.Needs.{Needs}
 use Rattle.daa_scan.proofs.TrunksWords.{AreLeadsBelow}
 use Rattle.daa_scan.specs.Inside.Trunks.{IsAhead}
@@ -46,35 +46,35 @@ pub none_led : (settings : Settings) (own : Own) (needs : Needs) (most : ℕ) (t
 none_led settings own needs most trunks room = record { room = room; each = λ kind upper z b n. absurd (omega (arith, b)) }
 
 -- the next
-pub next_led : (settings : Settings) (own : Own) (needs : Needs) (most place : ℕ) (trunks : List (List OwnLeg)) (legs : List OwnLeg) → place < 8 → AreLeadsBelow settings own needs place most trunks
-    → ((kind : Kind) (upper : Bool) (z : ℤ) → place ≡ place_of kind upper → IsTrue (is_needed needs kind) → AreLegsOf own (rates_of settings) (lead_of own (candidate_to kind z) upper) most legs)
-    → AreLeadsBelow settings own needs (place + 1) most (set trunks place legs)
-next_led settings own needs most place trunks legs inside h is = record {
-  room = length-set trunks place legs ∙ h.room;
+pub next_led : (settings : Settings) (own : Own) (needs : Needs) (most index : ℕ) (trunks : List (List OwnLeg)) (legs : List OwnLeg) → index < 8 → AreLeadsBelow settings own needs index most trunks
+    → ((kind : Kind) (upper : Bool) (z : ℤ) → index ≡ trunk_index kind upper → IsTrue (is_needed needs kind) → AreLegsOf own (rates_of settings) (lead_of own (candidate_to kind z) upper) most legs)
+    → AreLeadsBelow settings own needs (index + 1) most (set trunks index legs)
+next_led settings own needs most index trunks legs inside h is = record {
+  room = length-set trunks index legs ∙ h.room;
   each = λ kind upper z b needed. ⊎_elim
-      (λ e. subst (λ (ls : List OwnLeg). AreLegsOf own (rates_of settings) (lead_of own (candidate_to kind z) upper) most ls) (sym (ap (λ (i : ℕ). slice_index_or (set trunks place legs) i []) e ∙ get_or-set_same trunks place legs [] (omega (arith, inside, h.room)))) (is kind upper z (sym e) needed))
-      (λ n. subst (λ (ls : List OwnLeg). AreLegsOf own (rates_of settings) (lead_of own (candidate_to kind z) upper) most ls) (sym (get_or-set_other trunks place (place_of kind upper) legs [] n)) (h.each kind upper z (below (place_of kind upper) b n) needed))
-      (cases_eq (place_of kind upper) place);
+      (λ e. subst (λ (ls : List OwnLeg). AreLegsOf own (rates_of settings) (lead_of own (candidate_to kind z) upper) most ls) (sym (ap (λ (i : ℕ). slice_index_or (set trunks index legs) i []) e ∙ get_or-set_same trunks index legs [] (omega (arith, inside, h.room)))) (is kind upper z (sym e) needed))
+      (λ n. subst (λ (ls : List OwnLeg). AreLegsOf own (rates_of settings) (lead_of own (candidate_to kind z) upper) most ls) (sym (get_or-set_other trunks index (trunk_index kind upper) legs [] n)) (h.each kind upper z (below (trunk_index kind upper) b n) needed))
+      (cases_eq (trunk_index kind upper) index);
 }
   where
-    below : (i : ℕ) → i < place + 1 → (i ≡ place → ⊥) → i < place
-    below i b n = ⊎_elim (λ k. k) (λ k. absurd (n (omega (arith, b, k)))) (cases_lt i place)
+    below : (i : ℕ) → i < index + 1 → (i ≡ index → ⊥) → i < index
+    below i b n = ⊎_elim (λ k. k) (λ k. absurd (n (omega (arith, b, k)))) (cases_lt i index)
 
-place_small : (kind : Kind) (upper : Bool) → place_of kind upper < 8
-place_small Track true = omega arith
-place_small Track false = omega arith
-place_small Speed true = omega arith
-place_small Speed false = omega arith
-place_small Climb true = omega arith
-place_small Climb false = omega arith
-place_small Height true = omega arith
-place_small Height false = omega arith
+trunk_index_small : (kind : Kind) (upper : Bool) → trunk_index kind upper < 8
+trunk_index_small Track true = omega arith
+trunk_index_small Track false = omega arith
+trunk_index_small Speed true = omega arith
+trunk_index_small Speed false = omega arith
+trunk_index_small Climb true = omega arith
+trunk_index_small Climb false = omega arith
+trunk_index_small Height true = omega arith
+trunk_index_small Height false = omega arith
 
 -- all of them lead
-pub all_led : (settings : Settings) (own : Own) (needs : Needs) (most place : ℕ) (trunks : List (List OwnLeg)) → 8 ≤ place → IsAhead settings (length settings.levels) most → AreLeadsBelow settings own needs place most trunks → AreLeads settings own needs trunks
-all_led settings own needs most place trunks all ahead h l level at kind upper z needed =
+pub all_led : (settings : Settings) (own : Own) (needs : Needs) (most index : ℕ) (trunks : List (List OwnLeg)) → 8 ≤ index → IsAhead settings (length settings.levels) most → AreLeadsBelow settings own needs index most trunks → AreLeads settings own needs trunks
+all_led settings own needs most index trunks all ahead h l level at kind upper z needed =
     let w = slice_get_within settings.levels (l - 1) level at.there in
-    let s = place_small kind upper in
+    let s = trunk_index_small kind upper in
     fewer_legs own (rates_of settings) (lead_of own (candidate_to kind z) upper) most level.lookahead (trunk_in trunks kind upper) (ahead l level (omega (arith, w)) at) (h.each kind upper z (omega (arith, s, all)) needed)
 
 module _ (own : Own) (kind : Kind) (upper : Bool) (lead : Candidate) (is : (z : ℤ) → lead ≡ lead_of own (candidate_to kind z) upper) where

@@ -23,9 +23,9 @@ use Rattle.daa_state.specs.declared.word.Own.{Own}
 use Rattle.daa_state.specs.InRange.{IsOwnInRange}
 use Rattle.daa_legs.specs.Turn.{right_angle, turned}
 use Rattle.daa_legs.specs.Motion.{track_on, ground_speed_on, vertical_speed_on, velocity_on}
-use Rattle.daa_legs.proofs.Cases.{product_nonneg, height_step}
+use Rattle.daa_legs.proofs.CandidateCases.{product_nonneg, height_step}
 use Rattle.daa_legs.proofs.StateRanges as state
-use Rattle.daa_legs.proofs.Steady.{rem_range}
+use Rattle.daa_legs.proofs.ClosedForms.{rem_range}
 
 -- no ground speed of a listed candidate is greater
 abbrev pub top_of : Settings → Own → ℤ

@@ -20,8 +20,8 @@ use Rattle.daa_fixed.specs.Leg.{IsSolidBelow}
 use Rattle.daa_legs.specs.declared.branch.Branch.{Branch}
 use Rattle.daa_legs.specs.Branch.{lead_of, velocity_there, FliesAs, FliesOn}
 use Rattle.daa_legs.specs.Table.{IsBranchOf}
-use Rattle.daa_legs.specs.Kept.{AreLegsOf}
-use Rattle.daa_legs.specs.OwnLegs.{own_leg, place_on}
+use Rattle.daa_legs.specs.Trunk.{AreLegsOf}
+use Rattle.daa_legs.specs.OwnLeg.{own_leg, place_on}
 use Rattle.daa_legs.specs.Runs.{IsRunOf, IsOwnRunInRange, MeetsBetween}
 use Rattle.daa_legs.specs.Meeting.{ViolatesOn, MeetsWithin}
 use Rattle.daa_legs.proofs.Branching.{place_alike, by_branch}

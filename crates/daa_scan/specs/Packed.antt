@@ -10,9 +10,9 @@ use Rattle.daa_config.specs.Settings.{Settings}
 use Rattle.daa_state.specs.declared.word.Own.{Own}
 use Rattle.daa_state.specs.declared.word.Traffic.{Traffic}
 use Rattle.daa_state.specs.Picture.{aircraft_of}
-use Rattle.daa_meet.specs.Trying.{is_met_within}
+use Rattle.daa_meet.specs.Trials.{is_met_within}
 use Rattle.daa_scan.specs.Reach.{size_of, place_now, horizontal_speed, vertical_speed}
-use Rattle.daa_scan.specs.Situation.{Situation}
+use Rattle.daa_scan.specs.SceneState.{SceneState}
 use Rattle.daa_scan.specs.Units.{group_count, index_in}
 
 -- ---- masks
@@ -43,22 +43,22 @@ numbers_below f zero = []
 numbers_below f (suc n) = if f n then numbers_below f n ++ (n ∷ []) else numbers_below f n
 
 -- whether the aircraft at a place is in reach
-unfoldable pub is_reached_at : Situation → ℕ → Bool
+unfoldable pub is_reached_at : SceneState → ℕ → Bool
 is_reached_at s at = is_reached s.settings s.picture.own (slice_get (aircraft_of s.picture) at)
 
 -- the places of the aircraft in reach
-abbrev pub places_in_reach : Situation → List ℕ
+abbrev pub places_in_reach : SceneState → List ℕ
 places_in_reach s = numbers_below (is_reached_at s) (length (aircraft_of s.picture))
 
 -- ---- words
 
 -- presence, and the mask above it
-abbrev pub entry_for : Situation → Option Candidate → Option Traffic → ℕ
+abbrev pub entry_for : SceneState → Option Candidate → Option Traffic → ℕ
 entry_for s (Some candidate) (Some aircraft) = 1 + 2 * mask_of s.settings s.picture.own candidate aircraft s.settings.levels
 entry_for s _ _ = 0
 
 -- the entry of the candidate at an index, for the aircraft at a place
-unfoldable pub entry_at : Situation → (at index : ℕ) → ℕ
+unfoldable pub entry_at : SceneState → (at index : ℕ) → ℕ
 entry_at s at index = entry_for s (slice_get (candidates_of s.settings) index) (slice_get (aircraft_of s.picture) at)
 
 -- n entries from number j on, five bits each, the first the lowest
@@ -67,7 +67,7 @@ packed_from f j zero = 0
 packed_from f j (suc n) = f j + 32 * packed_from f (suc j) n
 
 -- the entries of a group's candidates, for the aircraft at a place
-unfoldable pub packed_word : Situation → (at group : ℕ) → ℕ
+unfoldable pub packed_word : SceneState → (at group : ℕ) → ℕ
 packed_word s at group = packed_from (λ j. entry_at s at (index_in group j)) 0 group_size
 
 -- no word is 0, whatever the situation
@@ -76,7 +76,7 @@ at_least_one zero = 1
 at_least_one (suc n) = suc n
 
 -- the word of a unit
-unfoldable pub word_of : Situation → ℕ → ℕ
+unfoldable pub word_of : SceneState → ℕ → ℕ
 word_of s unit = at_least_one (packed_word s (slice_index (places_in_reach s) (unit / group_count s.settings)) (unit % group_count s.settings))
 
 -- f at n numbers from i on
@@ -85,5 +85,5 @@ values_from f i zero = []
 values_from f i (suc n) = f i ∷ values_from f (suc i) n
 
 -- the words in order of units
-unfoldable pub words_of : Situation → List ℕ
+unfoldable pub words_of : SceneState → List ℕ
 words_of s = values_from (word_of s) 0 (group_count s.settings * length (places_in_reach s))

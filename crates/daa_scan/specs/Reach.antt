@@ -10,9 +10,9 @@ use Rattle.daa_config.specs.Settings.{Settings, IsLevelAt}
 use Rattle.daa_state.specs.declared.word.Own.{Own}
 use Rattle.daa_state.specs.declared.word.Traffic.{Traffic}
 use Rattle.daa_state.specs.Picture.{aircraft_of}
-use Rattle.daa_legs.specs.OwnLegs.{own_place}
+use Rattle.daa_legs.specs.OwnLeg.{own_place}
 use Rattle.daa_legs.specs.Relative.{traffic_place}
-use Rattle.daa_scan.specs.Situation.{Situation, MeetsAt}
+use Rattle.daa_scan.specs.SceneState.{SceneState, MeetsAt}
 
 -- how large a number is, its sign left aside
 abbrev pub size_of : ℤ → ℤ
@@ -50,11 +50,11 @@ pub record IsInReach (settings : Settings) (own : Own) (aircraft : Traffic) : Ty
   pub enters : CanEnter level (place_now own aircraft) (horizontal_speed settings own aircraft) (vertical_speed settings own aircraft)
 
 -- the aircraft at the place `at` of the moment's list is in reach
-pub record IsInReachAt (s : Situation) (at : ℕ) : Type 0 where
+pub record IsInReachAt (s : SceneState) (at : ℕ) : Type 0 where
   pub aircraft : Traffic
   pub there : slice_get (aircraft_of s.picture) at ≡ Some aircraft
   pub reached : IsInReach s.settings s.picture.own aircraft
 
 -- an aircraft that is not in reach is met by no candidate at any level, within the level's lookahead
-abbrev pub NoneIsMetOutOfReach : Situation → Type 0
+abbrev pub NoneIsMetOutOfReach : SceneState → Type 0
 NoneIsMetOutOfReach s = (index at l : ℕ) → MeetsAt s index at l → IsInReachAt s at

@@ -10,7 +10,7 @@ use Rattle.daa_state.specs.declared.word.Own.{Own}
 use Rattle.daa_legs.specs.declared.branch.Branch.{Branch}
 use Rattle.daa_legs.specs.declared.own_leg.OwnLeg.{OwnLeg}
 use Rattle.daa_legs.specs.Branch.{lead_of}
-use Rattle.daa_legs.specs.Kept.{AreLegsOf}
+use Rattle.daa_legs.specs.Trunk.{AreLegsOf}
 use Rattle.daa_legs.specs.Meeting.{MeetsWithin}
 use Rattle.daa_legs.specs.Table.{IsBranchOf}
 use Rattle.daa_state.specs.declared.word.Picture.{Picture}
@@ -27,19 +27,19 @@ is_needed needs Climb = needs.climbs
 is_needed needs Height = needs.climbs
 
 -- where the legs of a side of a kind are kept
-abbrev pub place_of : Kind → (upper : Bool) → ℕ
-place_of Track true = 0
-place_of Track false = 1
-place_of Speed true = 2
-place_of Speed false = 3
-place_of Climb true = 4
-place_of Climb false = 5
-place_of Height true = 6
-place_of Height false = 7
+abbrev pub trunk_index : Kind → (upper : Bool) → ℕ
+trunk_index Track true = 0
+trunk_index Track false = 1
+trunk_index Speed true = 2
+trunk_index Speed false = 3
+trunk_index Climb true = 4
+trunk_index Climb false = 5
+trunk_index Height true = 6
+trunk_index Height false = 7
 
 -- the legs kept for a side of a kind
 abbrev pub trunk_in : List (List OwnLeg) → Kind → (upper : Bool) → List OwnLeg
-trunk_in trunks kind upper = slice_index_or trunks (place_of kind upper) []
+trunk_in trunks kind upper = slice_index_or trunks (trunk_index kind upper) []
 
 -- those of the kinds that are needed are the flights that lead, as far as any level looks ahead
 abbrev pub AreLeads : Settings → Own → Needs → (trunks : List (List OwnLeg)) → Type 0

@@ -12,7 +12,7 @@ ghost use Rattle.daa_vwindow.specs.Window.{HasSmallNumbers};
 ghost use Rattle.daa_config.specs.Settings.{rates_of};
 ghost use Rattle.daa_state.specs.InRange.{IsOwnInRange, IsTrafficInRange};
 ghost use Rattle.daa_legs.specs.Meeting.{MeetsWithin};
-ghost use Rattle.daa_legs.specs.OwnLegs.{own_leg};
+ghost use Rattle.daa_legs.specs.OwnLeg.{own_leg};
 ghost use Rattle.daa_legs.specs.Relative.{relative_for};
 ghost use Rattle.daa_legs.specs.Inside.Shared.{in_plane};
 ghost use Rattle.daa_scan.specs.Inside.Refusal.{AreSecondsInHeight};

@@ -7,7 +7,7 @@ ghost use Rattle.daa_config.specs.Settings.{IsAccepted};
 ghost use Rattle.daa_state.specs.InRange.{IsPictureInRange};
 ghost use Rattle.daa_state.specs.Picture.{aircraft_of};
 ghost use Rattle.daa_scan.specs.Reach.{IsInReachAt};
-ghost use Rattle.daa_scan.specs.Situation.{MeetsAt};
+ghost use Rattle.daa_scan.specs.SceneState.{MeetsAt};
 ghost use Rattle.daa_scan.specs.Trunks.{AreFlightsOf};
 ghost use Rattle.daa_scan.specs.Units.{group_count, most_groups};
 ghost use Rattle.daa_scan.specs.Packed.{places_in_reach, packed_word, entry_at};
@@ -27,7 +27,7 @@ use std::marker::Model;
 /// How many candidates a word has.
 const PLACES: usize = 12;
 
-/// A configuration with a moment. Contracts see it as a `Situation`.
+/// A configuration with a moment. Contracts see it as a `SceneState`.
 #[derive(Drop)]
 pub struct Scene<'a> {
     config: &'a Config,
@@ -39,10 +39,10 @@ pub struct Scene<'a> {
 }
 
 impl<'a> Model for Scene<'a> {
-    ghost use Rattle.daa_scan.specs.Situation.{Situation};
+    ghost use Rattle.daa_scan.specs.SceneState.{SceneState};
     ghost use Rattle.daa_scan.specs.Inside.Scene.{IsScene};
 
-    ghost Value = { Situation };
+    ghost Value = { SceneState };
 
     ghost view = { λ s. record { settings = s.config.now; picture = s.picture.now } };
 
@@ -149,13 +149,13 @@ impl<'a> Scene<'a> {
     }
 
     /// The place, in the moment's list, of the aircraft whose index among those in reach is
-    /// `place`.
-    fn place_in_list(&self, place: u32) -> u32
-        requires { place < length (places_in_reach self.now) }
-        ensures value { result ≡ slice_index (places_in_reach self.now) place }
+    /// `index`.
+    fn place_in_list(&self, index: u32) -> u32
+        requires { index < length (places_in_reach self.now) }
+        ensures value { result ≡ slice_index (places_in_reach self.now) index }
         ensures there { result < length (aircraft_of self.now.picture) }
     {
-        self.places.as_slice()[place as usize]
+        self.places.as_slice()[index as usize]
     }
 
     /// The word of a group of candidates and an aircraft.

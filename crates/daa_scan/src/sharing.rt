@@ -8,9 +8,9 @@ ghost use Rattle.daa_state.specs.InRange.{IsOwnInRange, IsTrafficInRange};
 ghost use Rattle.daa_config.specs.declared.candidate.Candidate.{Candidate};
 ghost use Rattle.daa_legs.specs.Branch.{FliesOn, lead_of, velocity_there};
 ghost use Rattle.daa_legs.specs.Table.{IsBranchOf};
-ghost use Rattle.daa_legs.specs.Kept.{AreLegsOf};
+ghost use Rattle.daa_legs.specs.Trunk.{AreLegsOf};
 ghost use Rattle.daa_legs.specs.Meeting.{MeetsWithin, ViolatesOn};
-ghost use Rattle.daa_legs.specs.OwnLegs.{place_on};
+ghost use Rattle.daa_legs.specs.OwnLeg.{place_on};
 ghost use Rattle.daa_legs.specs.Runs.{MeetsBetween};
 ghost use Rattle.daa_scan.specs.Inside.Sharing.{IsTrailOf};
 

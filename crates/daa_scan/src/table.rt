@@ -54,10 +54,10 @@ fn fill_kind(
     if !needs.has(kind) {
         return;
     }
-    for place in 0..config.count(kind) {
-        let candidate = candidate_in(config, kind, place);
+    for index in 0..config.count(kind) {
+        let candidate = candidate_in(config, kind, index);
         keep(
-            &mut branches[(start + place) as usize],
+            &mut branches[(start + index) as usize],
             own,
             &rates,
             candidate,
@@ -79,14 +79,14 @@ fn keep(branch: &mut Branch, own: &Own, rates: &Rates, candidate: Candidate, pre
     *branch = branch_from(own, rates, candidate, present);
 }
 
-/// The candidate at a place of a kind.
-fn candidate_in(config: &Config, kind: Kind, place: u32) -> Candidate
-    requires { place < length (values_of kind config.now) }
+/// The candidate at an index of a kind's list.
+fn candidate_in(config: &Config, kind: Kind, index: u32) -> Candidate
+    requires { index < length (values_of kind config.now) }
     ensures value { slice_get (candidates_of config.now)
-        (start_of kind config.now + place) ≡ Some result }
+        (start_of kind config.now + index) ≡ Some result }
     ensures in_range { IsCandidateInRange result }
 {
-    let value = config.value(kind, place);
+    let value = config.value(kind, index);
     match kind {
         Kind::Track => Candidate::Track(value),
         Kind::Speed => Candidate::Speed(value),

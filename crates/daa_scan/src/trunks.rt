@@ -8,10 +8,10 @@ ghost use Rattle.daa_config.specs.declared.kind.Kind.{Kind};
 ghost use Rattle.daa_config.specs.declared.level.Level.{Level};
 ghost use Rattle.daa_state.specs.InRange.{IsOwnInRange};
 ghost use Rattle.daa_legs.specs.Branch.{lead_of};
-ghost use Rattle.daa_legs.specs.Kept.{AreLegsOf};
+ghost use Rattle.daa_legs.specs.Trunk.{AreLegsOf};
 ghost use Rattle.daa_legs.specs.declared.branch.Branch.{Branch};
 ghost use Rattle.daa_legs.specs.declared.own_leg.OwnLeg.{OwnLeg};
-ghost use Rattle.daa_scan.specs.Trunks.{place_of, trunk_in, is_needed, AreLeads};
+ghost use Rattle.daa_scan.specs.Trunks.{trunk_index, trunk_in, is_needed, AreLeads};
 ghost use Rattle.daa_scan.specs.Inside.Trunks.{IsAhead};
 
 use crate::needs::Needs;
@@ -76,7 +76,7 @@ impl<'a> Trunks<'a> {
     pub(crate) fn trunk(&self, kind: Kind, upper: bool) -> &Trunk
         ensures { result.now ≡ trunk_in self.now.trunks kind upper }
     {
-        &self.trunks[place_of(kind, upper) as usize]
+        &self.trunks[trunk_index(kind, upper) as usize]
     }
 
     /// The branch of the candidate at an index of the whole list.
@@ -97,14 +97,14 @@ pub(crate) fn fill_trunks(trunks: &mut [Trunk], own: &Own, config: &Config, need
     ensures room { length trunks.new ≡ 8 }
 {
     let most = most_lookahead(config);
-    for place in 0..LEADS {
-        keep(&mut trunks[place as usize], own, config, needs, place, most);
+    for index in 0..LEADS {
+        keep(&mut trunks[index as usize], own, config, needs, index, most);
     }
 }
 
 /// Where the flight that leads on a side of a kind is kept.
-fn place_of(kind: Kind, upper: bool) -> u32
-    ensures value { result ≡ place_of kind upper }
+fn trunk_index(kind: Kind, upper: bool) -> u32
+    ensures value { result ≡ trunk_index kind upper }
     ensures within { result < 8 }
 {
     match kind {
@@ -115,12 +115,12 @@ fn place_of(kind: Kind, upper: bool) -> u32
     }
 }
 
-/// The kind whose side has this place.
-fn kind_at(place: u32) -> Kind
-    requires { place < 8 }
-    ensures { (kind : Kind) (upper : Bool) → place ≡ place_of kind upper → result ≡ kind }
+/// The kind whose side has this index.
+fn kind_at(index: u32) -> Kind
+    requires { index < 8 }
+    ensures { (kind : Kind) (upper : Bool) → index ≡ trunk_index kind upper → result ≡ kind }
 {
-    match place / 2 {
+    match index / 2 {
         0 => Kind::Track,
         1 => Kind::Speed,
         2 => Kind::Climb,
@@ -145,18 +145,18 @@ pub(crate) fn lead_to(own: &Own, kind: Kind, upper: bool) -> Candidate
 
 /// Keeps so many legs of the flight that leads on the side with this place, where its kind is
 /// needed.
-fn keep(trunk: &mut Trunk, own: &Own, config: &Config, needs: &Needs, place: u32, most: u32)
+fn keep(trunk: &mut Trunk, own: &Own, config: &Config, needs: &Needs, index: u32, most: u32)
     requires own { IsOwnInRange own.now }
-    requires place { place < 8 }
+    requires index { index < 8 }
     requires most { most ≤ 180 }
-    ensures { (kind : Kind) (upper : Bool) (z : ℤ) → place ≡ place_of kind upper
+    ensures { (kind : Kind) (upper : Bool) (z : ℤ) → index ≡ trunk_index kind upper
         → IsTrue (is_needed needs.now kind)
         → AreLegsOf own.now (rates_of config.now) (lead_of own.now (candidate_to kind z) upper) most
         trunk.new }
 {
-    let kind = kind_at(place);
+    let kind = kind_at(index);
     if needs.has(kind) {
-        let lead = lead_to(own, kind, place % 2 == 0);
+        let lead = lead_to(own, kind, index % 2 == 0);
         trunk.fill(own, config, lead, most);
     }
 }

@@ -2,7 +2,7 @@
 use Rattle.std.proofs.Common.{◌≡◌, ◌≢◌, ℕ, ◌<◌, ◌≤◌, Bool, true, false, leb, ltb, eqb, not, cond, List, [], ◌∷◌, length, Option, Some, None, slice_index, refl, arith}
 use Rattle.std.proofs.lemmas.Bool.{or_parts}
 use Rattle.std.proofs.lemmas.Bool.Decides.{nat_tests}
-use Rattle.daa_range.specs.Range.{span_len}
+use Rattle.daa_range.specs.Range.{range_len}
 use Rattle.daa_schedule.specs.CoreState.{CoreState, range_at, hand_at, has_ended}
 use Rattle.daa_schedule.specs.Step.{first_fault, fault_of, checks}
 use Rattle.daa_schedule.specs.declared.step.StepFault.{StepFault}
@@ -35,8 +35,8 @@ at_least n k e = grind (arith, nat_tests)
 pub record Claims (c : CoreState) (by : ℕ) : Type 0 where
   pub known : by < length c.ranges
   pub going : has_ended c by ≡ false
-  pub free : span_len (hand_at c by) ≡ 0
-  pub some : 0 < span_len (range_at c by)
+  pub free : range_len (hand_at c by) ≡ 0
+  pub some : 0 < range_len (range_at c by)
 
 pub claims : (c : CoreState) (by : ℕ) → fault_of c (Claim by) ≡ None → Claims c by
 claims c by e = let t = all_false (checks c (Claim by)) e in
@@ -47,9 +47,9 @@ pub record Steals (c : CoreState) (by other : ℕ) : Type 0 where
   pub other_known : other < length c.ranges
   pub going : has_ended c by ≡ false
   pub apart : by ≢ other
-  pub free : span_len (hand_at c by) ≡ 0
-  pub none : span_len (range_at c by) ≡ 0
-  pub two : 2 ≤ span_len (range_at c other)
+  pub free : range_len (hand_at c by) ≡ 0
+  pub none : range_len (range_at c by) ≡ 0
+  pub two : 2 ≤ range_len (range_at c other)
 
 apart_from : (a b : ℕ) → eqb a b ≡ false → a ≢ b
 apart_from a b e = grind (arith, nat_tests)
@@ -61,7 +61,7 @@ steals c by other e = let t = all_false (checks c (Steal by other)) e in let k =
 pub record Keeps (c : CoreState) (by : ℕ) : Type 0 where
   pub known : by < length c.ranges
   pub going : has_ended c by ≡ false
-  pub two : 2 ≤ span_len (hand_at c by)
+  pub two : 2 ≤ range_len (hand_at c by)
 
 pub keeps : (c : CoreState) (by : ℕ) → fault_of c (Keep by) ≡ None → Keeps c by
 keeps c by e = let t = all_false (checks c (Keep by)) e in
@@ -70,7 +70,7 @@ keeps c by e = let t = all_false (checks c (Keep by)) e in
 pub record Settles (c : CoreState) (by word : ℕ) : Type 0 where
   pub known : by < length c.ranges
   pub going : has_ended c by ≡ false
-  pub one : span_len (hand_at c by) ≡ 1
+  pub one : range_len (hand_at c by) ≡ 1
   pub right : word ≡ slice_index c.answers (hand_at c by).first
 
 one_left : (n : ℕ) → eqb n 0 ≡ false → ltb 1 n ≡ false → n ≡ 1
@@ -85,8 +85,8 @@ settles c by word e = let t = all_false (checks c (Settle by word)) e in
 
 pub record Ends (c : CoreState) (by : ℕ) : Type 0 where
   pub known : by < length c.ranges
-  pub free : span_len (hand_at c by) ≡ 0
-  pub none : span_len (range_at c by) ≡ 0
+  pub free : range_len (hand_at c by) ≡ 0
+  pub none : range_len (range_at c by) ≡ 0
 
 pub ends : (c : CoreState) (by : ℕ) → fault_of c (End by) ≡ None → Ends c by
 ends c by e = let t = all_false (checks c (End by)) e in

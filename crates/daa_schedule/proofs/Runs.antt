@@ -5,7 +5,7 @@ use Rattle.std.proofs.lemmas.List.{ext_get_or, length-replicate}
 use Rattle.std.proofs.lemmas.List.Sums.{sum_by-cons}
 use Rattle.std.proofs.lemmas.List.Folds.{sum_by-replicate}
 use Rattle.std.proofs.lemmas.Bool.Decides.{nat_tests}
-use Rattle.daa_range.specs.Range.{Span, span, span_len, times_in}
+use Rattle.daa_range.specs.Range.{RangeState, range_of, range_len, times_in}
 use Rattle.daa_schedule.specs.Answers.{AreAnswers}
 use Rattle.daa_schedule.specs.CoreState.{CoreState, no_units, range_at, hand_at, has_ended, opened, times_on, times_held, once_below, IsSoundWorker, IsWhole, hand_left, left_of}
 use Rattle.daa_schedule.specs.Inside.CoreState.{IsShaped}
@@ -59,17 +59,17 @@ opened_workers answers workers w = rw (same_at workers no_units w, same_at worke
   where
     first : (w : ℕ) → IsSoundWorker (range_at (opened answers workers) w) no_units false
     first zero = record { range_order = omega arith; hand_order = omega arith; stolen = λ more. absurd (omega arith); ended = λ e. cc }
-    first (suc w) = subst (λ (x : Span). IsSoundWorker x no_units false) (sym (same_at (workers - 1) no_units w)) fair_none
+    first (suc w) = subst (λ (x : RangeState). IsSoundWorker x no_units false) (sym (same_at (workers - 1) no_units w)) fair_none
 
 opened_once : (answers : List ℕ) (workers u : ℕ) → times_held u (opened answers workers) ≡ once_below u (length answers)
 opened_once answers workers u =
     let n : ℕ = length answers in
-    let a = sum_by-cons (times_in u) (span 0 n) (replicate (workers - 1) no_units) in
+    let a = sum_by-cons (times_in u) (range_of 0 n) (replicate (workers - 1) no_units) in
     let b = sum_by-replicate (times_in u) (workers - 1) no_units in
     let d = sum_by-replicate (times_in u) workers no_units in
     let z : times_in u no_units ≡ 0 = times_in_none u no_units (omega arith) refl in
     let o : times_on u (replicate n 0) ≡ 0 = grind (arith, nat_tests, same_at {A = ℕ} n 0 u) in
-    let all : times_in u (span 0 n) ≡ once_below u n = grind (arith, nat_tests) in
+    let all : times_in u (range_of 0 n) ≡ once_below u n = grind (arith, nat_tests) in
     rw (a, b, d, z, o, all) (omega arith)
 
 pub opened_good : (answers : List ℕ) (workers : ℕ) → 0 < workers → AreAnswers answers → Good (opened answers workers)
@@ -87,7 +87,7 @@ opened_good answers workers some real = (
   },
 )
 
-none_held : (u : ℕ) (xs : List Span) → ((w : ℕ) → w < length xs → times_in u (get_or xs w no_units) ≡ 0) → sum_by (times_in u) xs ≡ 0
+none_held : (u : ℕ) (xs : List RangeState) → ((w : ℕ) → w < length xs → times_in u (get_or xs w no_units) ≡ 0) → sum_by (times_in u) xs ≡ 0
 none_held u [] h = refl
 none_held u (x ∷ xs) h = let a = sum_by-cons (times_in u) x xs in let b = none_held u xs (λ w l. h (suc w) (omega arith)) in let d = h 0 (omega arith) in omega arith
 
@@ -117,9 +117,9 @@ accepted_left c (s ∷ ss) g = let a = counted c s (fault_of c s) refl g in let 
 pub opened_left : (answers : List ℕ) (workers : ℕ) → left_of (opened answers workers) ≡ 3 * length answers
 opened_left answers workers =
     let n : ℕ = length answers in
-    let a = sum_by-cons span_len (span 0 n) (replicate (workers - 1) no_units) in
-    let b = sum_by-replicate span_len (workers - 1) no_units in
-    let d = sum_by-replicate (λ h. hand_left (span_len h)) workers no_units in
+    let a = sum_by-cons range_len (range_of 0 n) (replicate (workers - 1) no_units) in
+    let b = sum_by-replicate range_len (workers - 1) no_units in
+    let d = sum_by-replicate (λ h. hand_left (range_len h)) workers no_units in
     rw (a, b, d) (omega (arith, left_none 0 refl))
 
 moved_answers : (c : CoreState) (s : Step) → (moved c s).answers ≡ c.answers

@@ -5,7 +5,7 @@ use native.Mathlib.Decide.{ℕ_discrete}
 use Rattle.std.specs.List.{sum_by}
 use Rattle.std.proofs.lemmas.List.Sums.{sum_by-set, get_or-le-sum_by}
 use Rattle.std.proofs.lemmas.Bool.Decides.{nat_tests}
-use Rattle.daa_range.specs.Range.{Span, span_len, times_in, middle_of, lower_of, upper_of, first_unit_of, rest_of}
+use Rattle.daa_range.specs.Range.{RangeState, range_len, times_in, middle_of, lower_of, upper_of, first_unit_of, rest_of}
 use Rattle.daa_range.proofs.Ranges.{times_in_cut, times_in_none, times_in_first, times_in_inside}
 use Rattle.daa_schedule.specs.CoreState.{CoreState, no_units, range_at, hand_at, has_ended, times_on, times_held, once_below, IsSoundWorker, IsWhole, hand_left, left_of}
 use Rattle.daa_schedule.specs.Inside.CoreState.{IsShaped}
@@ -14,10 +14,10 @@ use Rattle.daa_schedule.specs.declared.step.Step.TheVariants.{Claim, Steal, Keep
 use Rattle.daa_schedule.proofs.Workers.{both_set, one_set}
 use Rattle.daa_schedule.proofs.Faults.{Claims, Steals, Keeps, Settles, Ends}
 
-pub held_here : (h : Span) → span_len h ≡ 1 → times_in h.first h ≡ 1
+pub held_here : (h : RangeState) → range_len h ≡ 1 → times_in h.first h ≡ 1
 held_here h one = times_in_inside h.first h (omega arith) (omega arith)
 
-held_not : (u : ℕ) (h : Span) → span_len h ≡ 1 → u ≢ h.first → times_in u h ≡ 0
+held_not : (u : ℕ) (h : RangeState) → range_len h ≡ 1 → u ≢ h.first → times_in u h ≡ 0
 held_not u h one n = grind (arith, nat_tests)
 
 on_none : (u : ℕ) (board : List ℕ) → slice_index board u ≡ 0 → times_on u board ≡ 0
@@ -43,13 +43,13 @@ module _ (c : CoreState) (s : IsShaped c) (w : IsWhole c) where
   hands_known by h = let e = s.hands in omega arith
 
   -- the totals after one worker's range and hand have changed
-  totals : (u i j : ℕ) (r h : Span) → i < length c.ranges → j < length c.ranges
+  totals : (u i j : ℕ) (r h : RangeState) → i < length c.ranges → j < length c.ranges
       → (sum_by (times_in u) (set c.ranges i r) + times_in u (range_at c i) ≡ sum_by (times_in u) c.ranges + times_in u r)
       × (sum_by (times_in u) (set c.hands j h) + times_in u (hand_at c j) ≡ sum_by (times_in u) c.hands + times_in u h)
   totals u i j r h a b = (sum_by-set (times_in u) c.ranges i r no_units a, sum_by-set (times_in u) c.hands j h no_units (hands_known j b))
 
   -- ranges and hands that hold what they held
-  same_once : (d : CoreState) (i j : ℕ) (r h : Span) → i < length c.ranges → j < length c.ranges
+  same_once : (d : CoreState) (i j : ℕ) (r h : RangeState) → i < length c.ranges → j < length c.ranges
       → d.ranges ≡ set c.ranges i r → d.hands ≡ set c.hands j h → d.board ≡ c.board → d.answers ≡ c.answers
       → ((u : ℕ) → times_in u r + times_in u h ≡ times_in u (range_at c i) + times_in u (hand_at c j))
       → (u : ℕ) → times_held u d ≡ once_below u (length d.answers)
@@ -58,7 +58,7 @@ module _ (c : CoreState) (s : IsShaped c) (w : IsWhole c) where
       rw (er, eh, eb, ea) (omega arith)
 
   pub claim_whole : (by : ℕ) → Claims c by → IsWhole (moved c (Claim by))
-  claim_whole by k = let r : Span = range_at c by in let h : Span = hand_at c by in let f = w.workers by in
+  claim_whole by k = let r : RangeState = range_at c by in let h : RangeState = hand_at c by in let f = w.workers by in
       record {
         once = same_once (moved c (Claim by)) by by (rest_of r) (first_unit_of r) k.known k.known refl refl refl refl
             (λ u. let p = times_in_first u r k.some in let q = times_in_none u h f.hand_order k.free in omega arith);
@@ -69,7 +69,7 @@ module _ (c : CoreState) (s : IsShaped c) (w : IsWhole c) where
       }
 
   pub steal_whole : (by other : ℕ) → Steals c by other → IsWhole (moved c (Steal by other))
-  steal_whole by other k = let r : Span = range_at c other in let h : Span = hand_at c by in let f = w.workers by in let g = w.workers other in let two = k.two in
+  steal_whole by other k = let r : RangeState = range_at c other in let h : RangeState = hand_at c by in let f = w.workers by in let g = w.workers other in let two = k.two in
       let order : r.first ≤ r.upto = g.range_order in
       let low : r.first ≤ middle_of r = omega arith in let high : middle_of r ≤ r.upto = omega arith in
       record {
@@ -77,7 +77,7 @@ module _ (c : CoreState) (s : IsShaped c) (w : IsWhole c) where
             (λ u. let p = times_in_cut u r.first (middle_of r) r.upto low high in let q = times_in_none u h f.hand_order k.free in omega arith);
         answered = w.answered;
         workers = λ v. one_set (λ v x. IsSoundWorker x (get_or (set c.hands by (upper_of r)) v no_units) (has_ended c v)) c.ranges other (lower_of r) no_units k.other_known
-            (subst (λ (x : Span). IsSoundWorker (lower_of r) x (has_ended c other)) (sym (get_or-set_other c.hands by other (upper_of r) no_units (λ e. k.apart (sym e))))
+            (subst (λ (x : RangeState). IsSoundWorker (lower_of r) x (has_ended c other)) (sym (get_or-set_other c.hands by other (upper_of r) no_units (λ e. k.apart (sym e))))
             (record { range_order = low; hand_order = g.hand_order; stolen = λ more. absurd (let z = g.stolen more in omega arith); ended = λ e. absurd (let z = g.ended e in omega arith) }))
             (one_set (λ v x. IsSoundWorker (range_at c v) x (has_ended c v)) c.hands by (upper_of r) no_units (hands_known by k.known)
             (record { range_order = f.range_order; hand_order = high; stolen = λ _. k.none; ended = λ e. cc k.going })
@@ -85,7 +85,7 @@ module _ (c : CoreState) (s : IsShaped c) (w : IsWhole c) where
       }
 
   pub keep_whole : (by : ℕ) → Keeps c by → IsWhole (moved c (Keep by))
-  keep_whole by k = let r : Span = range_at c by in let h : Span = hand_at c by in let f = w.workers by in let two = k.two in let none = f.stolen (omega arith) in
+  keep_whole by k = let r : RangeState = range_at c by in let h : RangeState = hand_at c by in let f = w.workers by in let two = k.two in let none = f.stolen (omega arith) in
       record {
         once = same_once (moved c (Keep by)) by by (rest_of h) (first_unit_of h) k.known k.known refl refl refl refl
             (λ u. let p = times_in_first u h (omega arith) in let q = times_in_none u r f.range_order none in omega arith);
@@ -108,7 +108,7 @@ module _ (c : CoreState) (s : IsShaped c) (w : IsWhole c) where
       grind (arith, nat_tests)
 
   pub settle_whole : (by word : ℕ) → Settles c by word → IsWhole (moved c (Settle by word))
-  settle_whole by word k = let h : Span = hand_at c by in let f : ℕ = h.first in let fair = w.workers by in
+  settle_whole by word k = let h : RangeState = hand_at c by in let f : ℕ = h.first in let fair = w.workers by in
       let here = in_hand by f k.known (held_here h k.one) in
       let low : f < length c.board = (let e = s.board in let b = here.0 in omega arith) in
       let real : word ≢ 0 = (λ z. s.answers f 0 here.0 (sym k.right ∙ z)) in
@@ -155,27 +155,27 @@ module _ (c : CoreState) (s : IsShaped c) (w : IsWhole c) where
   end_shaped by = record { hands = s.hands; ended = length-set c.ended _ _ ∙ s.ended; board = s.board; answers = s.answers }
 
   -- what is left after one worker's range and hand have changed
-  left_totals : (i j : ℕ) (r h : Span) → i < length c.ranges → j < length c.ranges
-      → (sum_by span_len (set c.ranges i r) + span_len (range_at c i) ≡ sum_by span_len c.ranges + span_len r)
-      × (sum_by (λ x. hand_left (span_len x)) (set c.hands j h) + hand_left (span_len (hand_at c j)) ≡ sum_by (λ x. hand_left (span_len x)) c.hands + hand_left (span_len h))
-  left_totals i j r h a b = (sum_by-set span_len c.ranges i r no_units a, sum_by-set (λ x. hand_left (span_len x)) c.hands j h no_units (hands_known j b))
+  left_totals : (i j : ℕ) (r h : RangeState) → i < length c.ranges → j < length c.ranges
+      → (sum_by range_len (set c.ranges i r) + range_len (range_at c i) ≡ sum_by range_len c.ranges + range_len r)
+      × (sum_by (λ x. hand_left (range_len x)) (set c.hands j h) + hand_left (range_len (hand_at c j)) ≡ sum_by (λ x. hand_left (range_len x)) c.hands + hand_left (range_len h))
+  left_totals i j r h a b = (sum_by-set range_len c.ranges i r no_units a, sum_by-set (λ x. hand_left (range_len x)) c.hands j h no_units (hands_known j b))
 
   pub claim_lowers : (by : ℕ) → Claims c by → left_of (moved c (Claim by)) < left_of c
-  claim_lowers by k = let r : Span = range_at c by in let some = k.some in
+  claim_lowers by k = let r : RangeState = range_at c by in let some = k.some in
       let t = left_totals by by (rest_of r) (first_unit_of r) k.known k.known in
-      let p = left_none _ k.free in let q = left_one (span_len (first_unit_of r)) (omega arith) in omega arith
+      let p = left_none _ k.free in let q = left_one (range_len (first_unit_of r)) (omega arith) in omega arith
 
   pub steal_lowers : (by other : ℕ) → Steals c by other → left_of (moved c (Steal by other)) < left_of c
-  steal_lowers by other k = let r : Span = range_at c other in let two = k.two in
+  steal_lowers by other k = let r : RangeState = range_at c other in let two = k.two in
       let t = left_totals other by (lower_of r) (upper_of r) k.other_known k.known in
-      let p = left_none _ k.free in let q = left_some (span_len (upper_of r)) (omega arith) in omega arith
+      let p = left_none _ k.free in let q = left_some (range_len (upper_of r)) (omega arith) in omega arith
 
   pub keep_lowers : (by : ℕ) → Keeps c by → left_of (moved c (Keep by)) < left_of c
-  keep_lowers by k = let h : Span = hand_at c by in let two = k.two in let fair = w.workers by in let none = fair.stolen (omega arith) in
+  keep_lowers by k = let h : RangeState = hand_at c by in let two = k.two in let fair = w.workers by in let none = fair.stolen (omega arith) in
       let t = left_totals by by (rest_of h) (first_unit_of h) k.known k.known in
-      let p = left_more _ two in let q = left_one (span_len (first_unit_of h)) (omega arith) in omega arith
+      let p = left_more _ two in let q = left_one (range_len (first_unit_of h)) (omega arith) in omega arith
 
   pub settle_lowers : (by word : ℕ) → Settles c by word → left_of (moved c (Settle by word)) < left_of c
   settle_lowers by word k =
-      let t = sum_by-set (λ x. hand_left (span_len x)) c.hands by no_units no_units (hands_known by k.known) in
+      let t = sum_by-set (λ x. hand_left (range_len x)) c.hands by no_units no_units (hands_known by k.known) in
       let p = left_one _ k.one in let q = left_none 0 refl in omega arith

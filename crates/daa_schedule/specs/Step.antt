@@ -1,6 +1,6 @@
 -- The steps of the schedule: what each does, and what refuses it.
 use Rattle.std.specs.Prelude.{ℕ, Bool, true, ◌==◌, nat_lt, nat_le, not, ◌||◌, List, [], ◌∷◌, slice_index, slice_set, Option, Some, None, Result, Ok, Err, if◌then◌else◌}
-use Rattle.daa_range.specs.Range.{span_len, lower_of, upper_of, first_unit_of, rest_of}
+use Rattle.daa_range.specs.Range.{range_len, lower_of, upper_of, first_unit_of, rest_of}
 use Rattle.daa_schedule.specs.CoreState.{CoreState, worker_count, no_units, range_at, hand_at, has_ended}
 use Rattle.daa_schedule.specs.declared.step.Step.{Step}
 use Rattle.daa_schedule.specs.declared.step.Step.TheVariants.{Claim, Steal, Keep, Settle, End}
@@ -29,35 +29,35 @@ abbrev pub checks : CoreState → Step → List (Bool × StepFault)
 checks core (Claim by) =
     (is_stranger core by, NoSuchWorker)
     ∷ (has_ended core by, Ended)
-    ∷ (nat_lt 0 (span_len (hand_at core by)), HandFull)
-    ∷ (span_len (range_at core by) == 0, RangeEmpty)
+    ∷ (nat_lt 0 (range_len (hand_at core by)), HandFull)
+    ∷ (range_len (range_at core by) == 0, RangeEmpty)
     ∷ []
 checks core (Steal by other) =
     (is_stranger core by || is_stranger core other, NoSuchWorker)
     ∷ (has_ended core by, Ended)
     ∷ (by == other, Own)
-    ∷ (nat_lt 0 (span_len (hand_at core by)), HandFull)
-    ∷ (nat_lt 0 (span_len (range_at core by)), RangeLeft)
-    ∷ (nat_lt (span_len (range_at core other)) 2, TooShort)
+    ∷ (nat_lt 0 (range_len (hand_at core by)), HandFull)
+    ∷ (nat_lt 0 (range_len (range_at core by)), RangeLeft)
+    ∷ (nat_lt (range_len (range_at core other)) 2, TooShort)
     ∷ []
 checks core (Keep by) =
     (is_stranger core by, NoSuchWorker)
     ∷ (has_ended core by, Ended)
-    ∷ (span_len (hand_at core by) == 0, HandEmpty)
-    ∷ (nat_lt (span_len (hand_at core by)) 2, TooShort)
+    ∷ (range_len (hand_at core by) == 0, HandEmpty)
+    ∷ (nat_lt (range_len (hand_at core by)) 2, TooShort)
     ∷ []
 checks core (Settle by word) =
     (is_stranger core by, NoSuchWorker)
     ∷ (has_ended core by, Ended)
-    ∷ (span_len (hand_at core by) == 0, HandEmpty)
-    ∷ (nat_lt 1 (span_len (hand_at core by)), Stolen)
+    ∷ (range_len (hand_at core by) == 0, HandEmpty)
+    ∷ (nat_lt 1 (range_len (hand_at core by)), Stolen)
     ∷ (not (word == slice_index core.answers (hand_at core by).first), NotAnswer word (slice_index core.answers (hand_at core by).first))
     ∷ []
 checks core (End by) =
     (is_stranger core by, NoSuchWorker)
     ∷ (has_ended core by, Ended)
-    ∷ (nat_lt 0 (span_len (hand_at core by)), HandFull)
-    ∷ (nat_lt 0 (span_len (range_at core by)), RangeLeft)
+    ∷ (nat_lt 0 (range_len (hand_at core by)), HandFull)
+    ∷ (nat_lt 0 (range_len (range_at core by)), RangeLeft)
     ∷ []
 
 -- the fault of the first test that is true

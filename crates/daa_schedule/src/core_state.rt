@@ -2,7 +2,7 @@
 //! on the board.
 
 ghost use Rattle.std.specs.Prelude.{◌≡◌, ℕ, ◌+◌, ◌<◌, ◌≤◌, ◌^◌, IfOk, None, length, slice_index};
-ghost use Rattle.daa_range.specs.Range.{span_len};
+ghost use Rattle.daa_range.specs.Range.{range_len};
 ghost use Rattle.daa_schedule.specs.Answers.{AreAnswers};
 ghost use Rattle.daa_schedule.specs.CoreState.{worker_count, unit_count, opened, range_at, hand_at, has_ended, word_on};
 ghost use Rattle.daa_schedule.specs.Step.{fault_of, is_stranger, moved};
@@ -61,7 +61,7 @@ impl Core {
     pub fn range(&self, worker: u32) -> Range
         requires { worker < worker_count self.now }
         ensures range { result ≡ range_at self.now worker }
-        ensures units { 0 < span_len result → result.upto ≤ unit_count self.now }
+        ensures units { 0 < range_len result → result.upto ≤ unit_count self.now }
     {
         self.ranges[worker as usize]
     }
@@ -70,7 +70,7 @@ impl Core {
     pub fn hand(&self, worker: u32) -> Range
         requires { worker < worker_count self.now }
         ensures hand { result ≡ hand_at self.now worker }
-        ensures units { 0 < span_len result → result.upto ≤ unit_count self.now }
+        ensures units { 0 < range_len result → result.upto ≤ unit_count self.now }
     {
         self.hands[worker as usize]
     }

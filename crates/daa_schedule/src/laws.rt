@@ -2,7 +2,7 @@
 //! that the core steps as these laws' `stepped`.
 
 ghost use Rattle.std.specs.Prelude.{◌≡◌, ℕ, ◌+◌, ◌*◌, ◌<◌, ◌≤◌, List, [], ◌∷◌, false, None, length};
-ghost use Rattle.daa_range.specs.Range.{span};
+ghost use Rattle.daa_range.specs.Range.{range_of};
 ghost use Rattle.daa_schedule.specs.Answers.{AreAnswers};
 ghost use Rattle.daa_schedule.specs.CoreState.{IsWhole, opened, range_at, hand_at, left_of};
 ghost use Rattle.daa_schedule.specs.Example.{five_for_two_after};
@@ -50,8 +50,8 @@ pub fn accepted_steps_are_few()
 pub fn what_is_left_of_five_units_for_two_workers()
     ensures opening { left_of (five_for_two_after []) ≡ 15 }
     ensures stolen { left_of (five_for_two_after (Step.Steal 1 0 ∷ [])) ≡ 14 }
-    ensures range { range_at (five_for_two_after (Step.Steal 1 0 ∷ [])) 0 ≡ span 0 3 }
-    ensures hand { hand_at (five_for_two_after (Step.Steal 1 0 ∷ [])) 1 ≡ span 3 5 }
+    ensures range { range_at (five_for_two_after (Step.Steal 1 0 ∷ [])) 0 ≡ range_of 0 3 }
+    ensures hand { hand_at (five_for_two_after (Step.Steal 1 0 ∷ [])) 1 ≡ range_of 3 5 }
     ensures refused { five_for_two_after (Step.Steal 1 0 ∷ Step.Steal 1 0 ∷ []) ≡ five_for_two_after
         (Step.Steal 1 0 ∷ []) }
     ensures kept { left_of (five_for_two_after (Step.Steal 1 0 ∷ Step.Keep 1 ∷ [])) ≡ 13 }

@@ -13,14 +13,14 @@ const FIVE: [u64; 5] = [11, 12, 13, 14, 15];
 
 // How many steps may still be accepted, at most: 3 for each unit in a range, 1 for a hand of one
 // unit, and 3m - 1 for one of m units.
-fn left(core: &Core) -> u64
+fn units_left(core: &Core) -> u64
     requires { worker_count core.now ≡ 2 }
 {
     let in_ranges = u64::from(core.range(0).len()) + u64::from(core.range(1).len());
-    3 * in_ranges + left_in(core.hand(0)) + left_in(core.hand(1))
+    3 * in_ranges + units_left_in(core.hand(0)) + units_left_in(core.hand(1))
 }
 
-fn left_in(hand: Range) -> u64
+fn units_left_in(hand: Range) -> u64
     ensures { result ≤ 3 * 2 ^ 32 }
 {
     match u64::from(hand.len()) {
@@ -59,7 +59,7 @@ fn a_core_opens_with_all_units_at_worker_0(rt: HostRuntime) -> Result<(), Fail> 
     assert!(rt; core.hand(0).is_empty() && core.hand(1).is_empty());
     assert!(rt; !core.ended(0) && !core.ended(1));
     assert!(rt; core.board(0) == 0 && core.board(4) == 0);
-    assert!(rt; left(&core) == 15);
+    assert!(rt; units_left(&core) == 15);
     Ok(())
 }
 
@@ -70,17 +70,17 @@ fn two_workers_share_five_units(rt: HostRuntime) -> Result<(), Fail> {
     let settle = Step::Settle { by: 1, word: 14 };
     assert!(rt; code_at(&mut core, steal) == 0);
     assert!(rt; core.range(0) == Range::new(0, 3) && core.hand(1) == Range::new(3, 5));
-    assert!(rt; left(&core) == 14);
+    assert!(rt; units_left(&core) == 14);
     assert!(rt; code_at(&mut core, steal) == 2);
     assert!(rt; code_at(&mut core, settle) == 9);
-    assert!(rt; left(&core) == 14);
+    assert!(rt; units_left(&core) == 14);
     assert!(rt; code_at(&mut core, Step::Keep { by: 1 }) == 0);
     assert!(rt; core.hand(1) == Range::new(3, 4) && core.range(1) == Range::new(4, 5));
-    assert!(rt; left(&core) == 13);
+    assert!(rt; units_left(&core) == 13);
     assert!(rt; code_at(&mut core, Step::End { by: 1 }) == 2);
-    assert!(rt; left(&core) == 13);
+    assert!(rt; units_left(&core) == 13);
     assert!(rt; code_at(&mut core, settle) == 0);
-    assert!(rt; left(&core) == 12);
+    assert!(rt; units_left(&core) == 12);
     rest_is_settled(&rt, core);
     Ok(())
 }
@@ -96,7 +96,7 @@ fn rest_is_settled(rt: &impl Abort, mut core: Core)
     claim_and_settle(rt, &mut core, 0, 2);
     assert!(rt; code_at(&mut core, Step::End { by: 0 }) == 0);
     assert!(rt; code_at(&mut core, Step::End { by: 1 }) == 0);
-    assert!(rt; core.ended(0) && core.ended(1) && left(&core) == 0);
+    assert!(rt; core.ended(0) && core.ended(1) && units_left(&core) == 0);
     let board = [
         core.board(0),
         core.board(1),

@@ -5,7 +5,7 @@ use Rattle.std.proofs.lemmas.List.Elements.{All-push, All-from_recursion}
 use Rattle.std.specs.Prelude.{IfOk, IfSome, is_some, nat_le, if◌then◌else◌}
 use Rattle.daa_state.specs.InRange.{IsOwnInRange, IsTrafficInRange, IsWordInRange, IsPictureInRange}
 use Rattle.daa_state.specs.Inside.InRange.{IsMomentInRange}
-use Rattle.daa_state.specs.MomentStep.{State, Stepped, step, empty_moment, begun_moment, with_own, with_traffic, has_id, picture_with, ended_picture}
+use Rattle.daa_state.specs.MomentStep.{MomentsState, Stepped, step, empty_moment, begun_moment, with_own, with_traffic, has_id, picture_with, ended_picture}
 use Rattle.daa_state.specs.declared.moments.Moment.{Moment}
 use Rattle.daa_state.specs.declared.word.Own.{Own}
 use Rattle.daa_state.specs.declared.word.Traffic.{Traffic}
@@ -20,7 +20,7 @@ pub record IsOpenInRange (moment : Moment) : Type 0 where
   pub few : length moment.traffic.items ≤ 64
 
 -- the open moment is in range, if there is one
-abbrev pub IsStateInRange : State → Type 0
+abbrev pub IsStateInRange : MomentsState → Type 0
 IsStateInRange state = IfSome state.moment IsOpenInRange
 
 -- what a step leaves
@@ -74,7 +74,7 @@ unfolding ended_picture
 ended_picture-range None h = tt
 ended_picture-range (Some moment) h = picture_with-range moment moment.own h h.numbers.own
 
-pub step-range : (state : State) (word : Word) → IsStateInRange state → IsWordInRange word → IfOk (step state word) IsSteppedInRange
+pub step-range : (state : MomentsState) (word : Word) → IsStateInRange state → IsWordInRange word → IfOk (step state word) IsSteppedInRange
 unfolding step
 step-range state (says.Moment time) h k =
     IfOk-with IsOpenInRange IsSteppedInRange (begun_moment state.moment state.last time) _ (begun_moment-range state.moment state.last time) (λ moment m. record { state = m; picture = tt })

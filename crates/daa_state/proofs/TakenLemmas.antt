@@ -6,10 +6,10 @@ use Rattle.std.proofs.lemmas.Option.{slice_get_within, slice_get-get_or}
 use Rattle.std.proofs.lemmas.List.{take_more, take_all, drop_more, drop_all}
 use Rattle.std.proofs.lemmas.Bool.{lt-ltb, le-ltb}
 use Rattle.std.proofs.lemmas.List.Elements.{All-nil, All-from_get_or}
-use Rattle.daa_state.specs.Checked.{range_of, is_within, outside, first_outside, own_numbers, traffic_numbers, IsTakenAt, AreTaken, fault_at, earlier, fault_from, own_fault, picture_fault_of}
+use Rattle.daa_state.specs.Checked.{bounds_of, is_within, outside, first_outside, own_numbers, traffic_numbers, IsTakenAt, AreTaken, fault_at, earlier, fault_from, own_fault, picture_fault_of}
 use Rattle.daa_state.specs.Id.{is_id}
 use Rattle.daa_state.specs.InRange.{IsWithin, IsOwnInRange, IsTrafficInRange}
-use Rattle.daa_state.specs.Ranges.{Range}
+use Rattle.daa_state.specs.Ranges.{Bounds}
 use Rattle.daa_state.specs.declared.checked.Number.{Number}
 use Rattle.daa_state.specs.declared.checked.OutOfRange.{OutOfRange}
 use Rattle.daa_state.specs.declared.checked.PictureFault.{PictureFault}
@@ -41,7 +41,7 @@ taken-range (first ∷ others) taken =
 
 -- ---- numbers
 
-is-within : (range : Range) (n : ℤ) → is_within range n ≡ true → IsWithin range n
+is-within : (range : Bounds) (n : ℤ) → is_within range n ≡ true → IsWithin range n
 is-within range n = go (int_le range.low n) (int_le n range.high) refl refl
   where
     go : (a b : Bool) → int_le range.low n ≡ a → int_le n range.high ≡ b → a && b ≡ true → IsWithin range n
@@ -51,18 +51,18 @@ is-within range n = go (int_le range.low n) (int_le n range.high) refl refl
 
 abbrev AreWithin : List Number → Type 0
 AreWithin [] = Unit {0}
-AreWithin (n ∷ others) = IsWithin (range_of n.field) n.number × AreWithin others
+AreWithin (n ∷ others) = IsWithin (bounds_of n.field) n.number × AreWithin others
 
-first-within : (n : Number) (others : List Number) (b : Bool) → is_within (range_of n.field) n.number ≡ b
-    → (if b then first_outside others else Some (outside n.field)) ≡ None → IsWithin (range_of n.field) n.number × (first_outside others ≡ None)
-first-within n others true e none = (is-within (range_of n.field) n.number e, none)
+first-within : (n : Number) (others : List Number) (b : Bool) → is_within (bounds_of n.field) n.number ≡ b
+    → (if b then first_outside others else Some (outside n.field)) ≡ None → IsWithin (bounds_of n.field) n.number × (first_outside others ≡ None)
+first-within n others true e none = (is-within (bounds_of n.field) n.number e, none)
 first-within n others false e none = absurd (cc none)
 
 none-outside : (numbers : List Number) → first_outside numbers ≡ None → AreWithin numbers
 unfolding first_outside
 none-outside [] none = tt
 none-outside (n ∷ others) none =
-    let parts = first-within n others (is_within (range_of n.field) n.number) refl none in
+    let parts = first-within n others (is_within (bounds_of n.field) n.number) refl none in
     (parts.0, none-outside others parts.1)
 
 pub own_range : (own : Own) → first_outside (own_numbers own) ≡ None → IsOwnInRange own

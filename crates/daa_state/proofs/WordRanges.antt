@@ -8,14 +8,14 @@ use Rattle.daa_state.specs.Fields.{Bytes, fields_of}
 use Rattle.daa_state.specs.Id.{is_id}
 use Rattle.daa_state.specs.InRange.{IsWithin, IsPosition, IsAltitude, IsTrack, IsGroundSpeed, IsSpeed, IsVerticalSpeed, IsAge, IsFormat, IsOwnInRange, IsTrafficInRange, IsWordInRange}
 use Rattle.daa_state.specs.Number.{number, within, number_in, count_in}
-use Rattle.daa_state.specs.Ranges.{Range, positions, altitudes, tracks, ground_speeds, speeds, vertical_speeds, ages, formats, times}
+use Rattle.daa_state.specs.Ranges.{Bounds, positions, altitudes, tracks, ground_speeds, speeds, vertical_speeds, ages, formats, times}
 use Rattle.daa_state.specs.WordOf.{identifier, is_comment, word_of, word_of_fields, word_of_name, moment_of, own_of, ownship, traffic_of, aged_traffic_of, aircraft, format_of, end_of}
 use Rattle.daa_state.specs.declared.fault.LineFault.TheVariants.{OutOfRange, BadId}
 use Rattle.daa_state.proofs.CheckedLemmas.{IfOk-with, IfOk-if, IfOk-any}
 
 -- ---- numbers
 
-within-range : (range : Range) (n : ℤ) → IfOk (within range n) (IsWithin range)
+within-range : (range : Bounds) (n : ℤ) → IfOk (within range n) (IsWithin range)
 within-range range n = go (int_le range.low n) (int_le n range.high) refl refl
   where
     go : (a b : Bool) → int_le range.low n ≡ a → int_le n range.high ≡ b → IfOk (if a && b then Ok n else Err OutOfRange) (IsWithin range)
@@ -23,7 +23,7 @@ within-range range n = go (int_le range.low n) (int_le n range.high) refl refl
     go true false e f = tt
     go false b e f = tt
 
-number_in-range : (range : Range) (field : Bytes) → IfOk (number_in range field) (IsWithin range)
+number_in-range : (range : Bounds) (field : Bytes) → IfOk (number_in range field) (IsWithin range)
 unfolding number_in
 number_in-range range field = IfOk-any _ (number field) _ (within-range range)
 

@@ -2,7 +2,7 @@
 use Rattle.std.specs.Prelude.{◌≡◌, ◌+◌, ℕ, ℤ, pos, true, false, Bool, ◌&&◌, int_le, nat_lt, List, [], ◌∷◌, length, take, slice_get, Option, Some, None, if◌then◌else◌}
 use Rattle.daa_state.specs.InRange.{IsTrafficInRange}
 use Rattle.daa_state.specs.MomentStep.{has_id}
-use Rattle.daa_state.specs.Ranges.{Range, positions, altitudes, tracks, ground_speeds, speeds, vertical_speeds, ages}
+use Rattle.daa_state.specs.Ranges.{Bounds, positions, altitudes, tracks, ground_speeds, speeds, vertical_speeds, ages}
 use Rattle.daa_state.specs.declared.checked.Field.{Field}
 use Rattle.daa_state.specs.declared.checked.Field.TheVariants.{East, North, Altitude, Track, GroundSpeed, VerticalSpeed, SpeedEast, SpeedNorth, Age}
 use Rattle.daa_state.specs.declared.checked.Number.{Number}
@@ -12,25 +12,25 @@ use Rattle.daa_state.specs.declared.checked.PictureFault.TheVariants as says
 use Rattle.daa_state.specs.declared.word.Own.{Own}
 use Rattle.daa_state.specs.declared.word.Traffic.{Traffic}
 
--- the range of the numbers that a field names
-abbrev pub range_of : Field → Range
-range_of East = positions
-range_of North = positions
-range_of Altitude = altitudes
-range_of Track = tracks
-range_of GroundSpeed = ground_speeds
-range_of VerticalSpeed = vertical_speeds
-range_of SpeedEast = speeds
-range_of SpeedNorth = speeds
-range_of Age = ages
+-- the bounds of the numbers that a field names
+abbrev pub bounds_of : Field → Bounds
+bounds_of East = positions
+bounds_of North = positions
+bounds_of Altitude = altitudes
+bounds_of Track = tracks
+bounds_of GroundSpeed = ground_speeds
+bounds_of VerticalSpeed = vertical_speeds
+bounds_of SpeedEast = speeds
+bounds_of SpeedNorth = speeds
+bounds_of Age = ages
 
 -- whether a number is in a range
-abbrev pub is_within : Range → ℤ → Bool
+abbrev pub is_within : Bounds → ℤ → Bool
 is_within range n = int_le range.low n && int_le n range.high
 
 -- the report of a number that is out of range
 abbrev pub outside : Field → OutOfRange
-outside field = record { field = field; least = (range_of field).low; greatest = (range_of field).high }
+outside field = record { field = field; least = (bounds_of field).low; greatest = (bounds_of field).high }
 
 -- a number, and what it is
 abbrev pub number_of : Field → ℤ → Number
@@ -39,7 +39,7 @@ number_of field number = record { field = field; number = number }
 -- the report of the first of them that is out of its range
 unfoldable pub first_outside : List Number → Option OutOfRange
 first_outside [] = None
-first_outside (n ∷ others) = if is_within (range_of n.field) n.number then first_outside others else Some (outside n.field)
+first_outside (n ∷ others) = if is_within (bounds_of n.field) n.number then first_outside others else Some (outside n.field)
 
 -- the numbers of an ownship, in the order of its fields
 abbrev pub own_numbers : Own → List Number

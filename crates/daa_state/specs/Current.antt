@@ -1,6 +1,6 @@
 -- Aircraft whose reports have age 0.
 use Rattle.std.specs.Prelude.{◌≡◌, All, IfSome}
-use Rattle.daa_state.specs.MomentStep.{State, Stepped}
+use Rattle.daa_state.specs.MomentStep.{MomentsState, Stepped}
 use Rattle.daa_state.specs.Picture.{aircraft_of}
 use Rattle.daa_state.specs.declared.moments.Moment.{Moment}
 use Rattle.daa_state.specs.declared.word.Picture.{Picture}
@@ -26,7 +26,7 @@ abbrev pub IsCurrentMoment : Moment → Type 0
 IsCurrentMoment moment = All IsCurrent moment.traffic.items
 
 -- each aircraft of the open moment has age 0, if a moment is open
-abbrev pub IsCurrentState : State → Type 0
+abbrev pub IsCurrentState : MomentsState → Type 0
 IsCurrentState state = IfSome state.moment IsCurrentMoment
 
 -- what a step leaves has ages 0, and so has the picture of the moment that it ends

@@ -1,7 +1,7 @@
 -- Words, moments and pictures whose numbers are in range.
 use Rattle.std.specs.Prelude.{ℕ, ◌≡◌, ◌≤◌, ℤ, ◌≤ℤ◌, unsigned_abs, true, length, All}
 use Rattle.daa_state.specs.Id.{is_id}
-use Rattle.daa_state.specs.Ranges.{Range, positions, altitudes, tracks, ground_speeds, speeds, vertical_speeds, ages, formats}
+use Rattle.daa_state.specs.Ranges.{Bounds, positions, altitudes, tracks, ground_speeds, speeds, vertical_speeds, ages, formats}
 use Rattle.daa_state.specs.Picture.{aircraft_of}
 use Rattle.daa_state.specs.declared.word.Own.{Own}
 use Rattle.daa_state.specs.declared.word.Traffic.{Traffic}
@@ -11,7 +11,7 @@ use Rattle.daa_state.specs.declared.word.Word.TheVariants as says
 use Rattle.daa_state.specs.declared.moments.Moment.{Moment}
 
 -- the number is in the range; both ends belong to it
-abbrev pub IsWithin : Range → ℤ → Type 0
+abbrev pub IsWithin : Bounds → ℤ → Type 0
 IsWithin range n = (range.low ≤ℤ n) × (n ≤ℤ range.high)
 
 -- a place east or north is in its range

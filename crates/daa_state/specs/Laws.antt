@@ -4,7 +4,7 @@ use Rattle.daa_state.specs.Fields.{Bytes}
 use Rattle.daa_state.specs.WordOf.{word_of}
 use Rattle.daa_state.specs.FourWords.{is_format_line, four_word_of}
 use Rattle.daa_state.specs.Current.{IsCurrentWord, IsCurrentState, IsCurrentStep}
-use Rattle.daa_state.specs.MomentStep.{State, step}
+use Rattle.daa_state.specs.MomentStep.{MomentsState, step}
 use Rattle.daa_state.specs.declared.word.Word.{Word}
 use Rattle.daa_state.specs.declared.word.Word.TheVariants as says
 use Rattle.daa_state.specs.declared.fault.LineFault.TheVariants.{LongLine}
@@ -33,7 +33,7 @@ ReadsAsFourWords = (line : Bytes) → is_format_line line ≡ false → word_of 
 
 -- a word other than a format word does not change the format
 abbrev pub OtherWordsLeaveTheFormat : Type 0
-OtherWordsLeaveTheFormat = (state : State) (word : Word) → is_format_word word ≡ false
+OtherWordsLeaveTheFormat = (state : MomentsState) (word : Word) → is_format_word word ≡ false
     → IfOk (step state word) (λ next. next.state.format ≡ state.format)
 
 -- in format 1 the aircraft of a word has age 0
@@ -43,5 +43,5 @@ Format1SaysNoAges = (line : Bytes) → IfOk (word_of line 1) IsCurrentWord
 -- if all aircraft of the open moment and of the word have age 0, so have all aircraft of the open
 -- moment or of the picture after the step
 abbrev pub NoAgesLeaveNoAges : Type 0
-NoAgesLeaveNoAges = (state : State) (word : Word) → IsCurrentState state → IsCurrentWord word
+NoAgesLeaveNoAges = (state : MomentsState) (word : Word) → IsCurrentState state → IsCurrentWord word
     → IfOk (step state word) IsCurrentStep

@@ -12,22 +12,22 @@ use Rattle.daa_state.specs.declared.word.Word.TheVariants as says
 use Rattle.daa_state.specs.declared.fault.LineFault.TheVariants.{NoMoment, MomentOpen, NotLater, OwnTwice, SameId, Full, NoOwn, Unfinished}
 
 -- the open moment, the time of the last ended moment, and the format of the lines
-pub record State : Type 0 where
+pub record MomentsState : Type 0 where
   pub moment : Option Moment
   pub last : Option ℕ
   pub format : ℕ
 
 -- no moment is open, none was ended, and the format is 1
-abbrev pub start : State
+abbrev pub start : MomentsState
 start = record { moment = None; last = None; format = 1 }
 
 -- a new state, and the picture of the moment that was ended
 pub record Stepped : Type 0 where
-  pub state : State
+  pub state : MomentsState
   pub picture : Option Picture
 
 -- these two as one
-abbrev pub stepped : State → Option Picture → Stepped
+abbrev pub stepped : MomentsState → Option Picture → Stepped
 stepped state picture = record { state = state; picture = picture }
 
 -- a moment of this time, without an ownship and aircraft
@@ -68,13 +68,13 @@ ended_picture None = Err NoMoment
 ended_picture (Some moment) = picture_with moment moment.own
 
 -- what was made of the open moment takes its place, unless the word is refused
-abbrev pub with_moment : State → Checked Moment → Checked Stepped
+abbrev pub with_moment : MomentsState → Checked Moment → Checked Stepped
 with_moment state made = do
   moment ← made
   Ok (stepped (record state { moment = Some moment }) None)
 
 -- what a word makes of a state, or why it is refused; then the state stays
-unfoldable pub step : State → Word → Checked Stepped
+unfoldable pub step : MomentsState → Word → Checked Stepped
 step state (says.Moment time) = with_moment state (begun_moment state.moment state.last time)
 step state (says.Own own) = with_moment state (with_own state.moment own)
 step state (says.Traffic traffic) = with_moment state (with_traffic state.moment traffic)
@@ -86,5 +86,5 @@ step state says.End = do
 step state says.Skip = Ok (stepped state None)
 
 -- the end of the input: a moment that is open is unfinished
-abbrev pub finished : State → Checked (Unit {0})
+abbrev pub finished : MomentsState → Checked (Unit {0})
 finished state = if is_some state.moment then Err Unfinished else Ok tt

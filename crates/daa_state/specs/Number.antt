@@ -5,7 +5,7 @@ use Rattle.std.specs.Char.{is_ascii_digit}
 use Rattle.std.specs.Int.Digits.{number_from_digits}
 use Rattle.daa_state.specs.Fault.{Checked, ◌>>=◌}
 use Rattle.daa_state.specs.Fields.{Bytes}
-use Rattle.daa_state.specs.Ranges.{Range}
+use Rattle.daa_state.specs.Ranges.{Bounds}
 use Rattle.daa_state.specs.declared.fault.LineFault.TheVariants.{BadNumber, OutOfRange}
 
 -- a plus or a minus
@@ -43,17 +43,17 @@ number field =
     else Err BadNumber
 
 -- a number of a range
-abbrev pub within : Range → ℤ → Checked ℤ
+abbrev pub within : Bounds → ℤ → Checked ℤ
 within range n = if int_le range.low n && int_le n range.high then Ok n else Err OutOfRange
 
 -- the number of a range that a field spells: first its spelling is looked at, then its range
-unfoldable pub number_in : Range → Bytes → Checked ℤ
+unfoldable pub number_in : Bounds → Bytes → Checked ℤ
 number_in range field = do
   n ← number field
   within range n
 
 -- the same, of a range without numbers below 0
-unfoldable pub count_in : Range → Bytes → Checked ℕ
+unfoldable pub count_in : Bounds → Bytes → Checked ℕ
 count_in range field = do
   n ← number_in range field
   Ok (unsigned_abs n)

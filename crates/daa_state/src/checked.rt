@@ -2,7 +2,7 @@
 //! numbers is out of its range.
 
 ghost use Rattle.std.specs.Prelude.{◌≡◌, ◌<◌, length, true, false, slice_get, Some, None, IfOk, IfErr, OnOk, pos};
-ghost use Rattle.daa_state.specs.Checked.{range_of, is_within, outside, first_outside, number_of, own_numbers, traffic_numbers, IsTakenAt, AreTaken, fault_at, picture_fault_of};
+ghost use Rattle.daa_state.specs.Checked.{bounds_of, is_within, outside, first_outside, number_of, own_numbers, traffic_numbers, IsTakenAt, AreTaken, fault_at, picture_fault_of};
 ghost use Rattle.daa_state.specs.InRange.{IsOwnInRange, IsTrafficInRange, IsPictureInRange};
 ghost use Rattle.daa_state.specs.MomentStep.{has_id};
 ghost use Rattle.daa_state.specs.Picture.{aircraft_of};
@@ -47,7 +47,7 @@ pub struct OutOfRange {
 }
 
 /// Why an ownship and aircraft are no picture: the first of the faults that are there, in the order
-/// that [`Picture::checked`] tells. Places are counted from 0.
+/// that [`Picture::check`] tells. Places are counted from 0.
 #[derive(Clone, Copy, Debug, PartialEq, Eq)]
 pub enum PictureFault {
     /// There are more than 64 aircraft.
@@ -63,7 +63,7 @@ pub enum PictureFault {
 impl Field {
     /// The least number that it may be.
     fn least(self) -> i32
-        ensures { result ≡ (range_of self).low }
+        ensures { result ≡ (bounds_of self).low }
     {
         match self {
             Field::East | Field::North => -200_000,
@@ -75,7 +75,7 @@ impl Field {
 
     /// The greatest number that it may be.
     fn greatest(self) -> i32
-        ensures { result ≡ (range_of self).high }
+        ensures { result ≡ (bounds_of self).high }
     {
         match self {
             Field::East | Field::North => 200_000,
@@ -112,9 +112,9 @@ struct Number {
 
 /// Whether a number is in the range of its field.
 fn test(number: &Number) -> Result<(), OutOfRange>
-    ensures within { OnOk result (is_within (range_of number.now.field) number.now.number ≡ true) }
+    ensures within { OnOk result (is_within (bounds_of number.now.field) number.now.number ≡ true) }
     ensures beyond { IfErr result
-        (λ fault. (is_within (range_of number.now.field) number.now.number ≡ false)
+        (λ fault. (is_within (bounds_of number.now.field) number.now.number ≡ false)
         × (fault ≡ outside number.now.field)) }
 {
     let least = number.field.least();
@@ -195,7 +195,7 @@ impl Own {
     /// The same ownship, if each of its numbers is in its range; else the first that is not, in
     /// the order of the fields.
     #[tactic(auto, using(crate::proofs::TakenLemmas::own_range))]
-    pub fn checked(self) -> Result<Own, OutOfRange>
+    pub fn check(self) -> Result<Own, OutOfRange>
         ensures value { IfOk result (λ own. own ≡ self) }
         ensures range { IfOk result IsOwnInRange }
         ensures sound { IfOk result (λ own. first_outside (own_numbers self) ≡ None) }
@@ -210,7 +210,7 @@ impl Traffic {
     /// The same aircraft, if each of its numbers is in its range; else the first that is not, in
     /// the order of the fields.
     #[tactic(auto, using(crate::proofs::TakenLemmas::traffic_range))]
-    pub fn checked(self) -> Result<Traffic, OutOfRange>
+    pub fn check(self) -> Result<Traffic, OutOfRange>
         ensures value { IfOk result (λ aircraft. aircraft ≡ self) }
         ensures range { IfOk result IsTrafficInRange }
         ensures sound { IfOk result (λ aircraft. first_outside (traffic_numbers self) ≡ None) }
@@ -243,7 +243,7 @@ fn test_aircraft(traffic: &[Traffic], place: usize) -> Result<(), PictureFault>
         → fault_at traffic.now place t ≡ Some fault) }
 {
     let aircraft = traffic[place];
-    match aircraft.checked() {
+    match aircraft.check() {
         Err(fault) => Err(PictureFault::Traffic(place, fault)),
         Ok(aircraft) => {
             if is_among(&traffic[..place], &aircraft.id) {
@@ -260,7 +260,7 @@ impl Picture {
     /// numbers is in its range and there are at most 64 aircraft of different identifiers; else why
     /// it is none. Of several faults it is the first: too many aircraft, then the ownship's first
     /// number, then the aircraft by their places, of each its first number before its identifier.
-    pub fn checked(time: u32, own: Own, traffic: &[Traffic]) -> Result<Picture, PictureFault>
+    pub fn check(time: u32, own: Own, traffic: &[Traffic]) -> Result<Picture, PictureFault>
         ensures time { IfOk result (λ picture. picture.time ≡ time) }
         ensures own { IfOk result (λ picture. picture.own ≡ own) }
         ensures traffic { IfOk result (λ picture. aircraft_of picture ≡ traffic.now) }
@@ -273,7 +273,7 @@ impl Picture {
         if traffic.len() > MOST_AIRCRAFT {
             return Err(PictureFault::TooMany);
         }
-        let own = match own.checked() {
+        let own = match own.check() {
             Ok(own) => own,
             Err(fault) => return Err(PictureFault::Own(fault)),
         };

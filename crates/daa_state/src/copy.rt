@@ -8,7 +8,7 @@ use arrayvec::ArrayVec;
 impl Picture {
     /// An exact copy: the same time, ownship and aircraft, in the same order. It takes no memory,
     /// so it can't fail.
-    pub fn copied(&self) -> Picture
+    pub fn copy(&self) -> Picture
         ensures { result ≡ self.now }
     {
         let mut traffic = ArrayVec::new();

@@ -32,11 +32,11 @@ pub struct Moments {
 
 impl Model for Moments {
     ghost use Rattle.std.specs.Prelude.{IfSome};
-    ghost use Rattle.daa_state.specs.MomentStep.{State};
+    ghost use Rattle.daa_state.specs.MomentStep.{MomentsState};
     ghost use Rattle.daa_state.specs.InRange.{IsFormat};
     ghost use Rattle.daa_state.specs.Inside.InRange.{IsMomentInRange};
 
-    ghost Value = { State };
+    ghost Value = { MomentsState };
 
     ghost view = { λ m. record { moment = m.moment; last = m.last; format = m.format } };
 

@@ -311,7 +311,7 @@ fn a_copy_has_the_same_aircraft(rt: HostRuntime) -> Result<(), Fail> {
         .ok()
         .flatten()
         .ok_or("no picture")?;
-    let copy = picture.copied();
+    let copy = picture.copy();
     assert_eq!(rt; copy.time, 7);
     assert_eq!(rt; copy.own, OWN);
     assert_eq!(rt; copy.traffic.len(), 2);

@@ -36,17 +36,17 @@ cross_at leg n d =
     (D ⊗ (E ⊗ V ⊖ N ⊗ U))
     tt
 
-module _ (leg : Leg) (vol : Volume) where
+module _ (leg : Leg) (volume : Volume) where
   abbrev vv : ℤ
   vv = dot_of leg.velocity.flat leg.velocity.flat
 
   abbrev miss : ℤ
   miss = cross_of leg.place.flat leg.velocity.flat
 
-  pub passes_near-always : (n d : ℤ) → pos 1 ≤ℤ d → (square_of miss ≤ℤ (square_of (pos vol.dthr) *ℤ vv)) ↔ PassesNear leg vol n d
+  pub passes_near-always : (n d : ℤ) → pos 1 ≤ℤ d → (square_of miss ≤ℤ (square_of (pos volume.dthr) *ℤ vv)) ↔ PassesNear leg volume n d
   passes_near-always n d h = (
-    (λ k. subst (λ (x : ℤ). square_of x ≤ℤ (square_of (pos vol.dthr *ℤ d) *ℤ vv)) (sym (cross_at leg n d)) (scaled vv miss (pos vol.dthr) d k)),
-    (λ k. unscaled vv miss (pos vol.dthr) d (omega (arith, ints)) (subst (λ (x : ℤ). square_of x ≤ℤ (square_of (pos vol.dthr *ℤ d) *ℤ vv)) (cross_at leg n d) k)),
+    (λ k. subst (λ (x : ℤ). square_of x ≤ℤ (square_of (pos volume.dthr *ℤ d) *ℤ vv)) (sym (cross_at leg n d)) (scaled vv miss (pos volume.dthr) d k)),
+    (λ k. unscaled vv miss (pos volume.dthr) d (omega (arith, ints)) (subst (λ (x : ℤ). square_of x ≤ℤ (square_of (pos volume.dthr *ℤ d) *ℤ vv)) (cross_at leg n d) k)),
   )
 
 -- ---- the law of the two models
@@ -63,23 +63,23 @@ tau_from_closest a c p u r t a1 u1 e near soon =
     ∙ ring ρ (R ⊗ R ⊗ A ⊖ T ⊗ U ⊗ A ⊖ P ⊗ A) (A ⊗ (R ⊗ R ⊖ (P ⊕ T ⊗ U))) tt)
     (sum_nonneg _ _ (rest _ _ near) (mul_nonneg (neg_ℤ u) _ (omega (arith, ints)) (rest _ _ soon)))))
 
-horizontal_by_tau : (leg : Leg) (vol : Volume) (n d : ℤ) → ViolatesHorizontally leg (with_model Tcpa vol) n d → ViolatesHorizontally leg (with_model Taumod vol) n d
-horizontal_by_tau leg vol n d (inl h) = inl h
-horizontal_by_tau leg vol n d (inr h) =
+horizontal_by_tau : (leg : Leg) (volume : Volume) (n d : ℤ) → ViolatesHorizontally leg (with_model Tcpa volume) n d → ViolatesHorizontally leg (with_model Taumod volume) n d
+horizontal_by_tau leg volume n d (inl h) = inl h
+horizontal_by_tau leg volume n d (inr h) =
     let s : Flat = place_at leg n d in
     let v : Flat = leg.velocity.flat in
     inr (record {
       nearing = h.nearing;
-      soon = tau_from_closest (dot_of v v) (cross_of s v) (dot_of s s) (dot_of s v) (pos vol.dthr *ℤ d) (pos vol.tthr *ℤ d) (nearing_moves s v h.nearing) h.nearing (lagrange s v) h.near h.soon;
+      soon = tau_from_closest (dot_of v v) (cross_of s v) (dot_of s s) (dot_of s v) (pos volume.dthr *ℤ d) (pos volume.tthr *ℤ d) (nearing_moves s v h.nearing) h.nearing (lagrange s v) h.near h.soon;
       near = h.near;
     })
 
-vertical_by_tau : (leg : Leg) (vol : Volume) (n d : ℤ) → ViolatesVertically leg (with_model Tcpa vol) n d → ViolatesVertically leg (with_model Taumod vol) n d
-vertical_by_tau leg vol n d (inl h) = inl h
-vertical_by_tau leg vol n d (inr h) = inr (record { nearing = h.nearing; soon = h.soon })
+vertical_by_tau : (leg : Leg) (volume : Volume) (n d : ℤ) → ViolatesVertically leg (with_model Tcpa volume) n d → ViolatesVertically leg (with_model Taumod volume) n d
+vertical_by_tau leg volume n d (inl h) = inl h
+vertical_by_tau leg volume n d (inr h) = inr (record { nearing = h.nearing; soon = h.soon })
 
-pub violates_by_tau : (leg : Leg) (vol : Volume) (n d : ℤ) → Violates leg (with_model Tcpa vol) n d → Violates leg (with_model Taumod vol) n d
-violates_by_tau leg vol n d h = record {
-  horizontal = horizontal_by_tau leg vol n d h.horizontal;
-  vertical = vertical_by_tau leg vol n d h.vertical;
+pub violates_by_tau : (leg : Leg) (volume : Volume) (n d : ℤ) → Violates leg (with_model Tcpa volume) n d → Violates leg (with_model Taumod volume) n d
+violates_by_tau leg volume n d h = record {
+  horizontal = horizontal_by_tau leg volume n d h.horizontal;
+  vertical = vertical_by_tau leg volume n d h.vertical;
 }

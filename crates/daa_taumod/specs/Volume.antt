@@ -10,15 +10,15 @@ use Rattle.daa_taumod.specs.declared.Model.TheVariants.{Taumod, Tcpa}
 use Rattle.daa_taumod.specs.declared.Volume.{Volume}
 
 -- thresholds as large as a configuration's: 10 nautical miles, 10000 feet, 120 seconds
-pub record IsVolumeInRange (vol : Volume) : Type 0 where
-  pub dthr : vol.dthr ≤ 360000
-  pub zthr : vol.zthr ≤ 600000
-  pub tthr : vol.tthr ≤ 120
-  pub tcoa : vol.tcoa ≤ 120
+pub record IsVolumeInRange (volume : Volume) : Type 0 where
+  pub dthr : volume.dthr ≤ 360000
+  pub zthr : volume.zthr ≤ 600000
+  pub tthr : volume.tthr ≤ 120
+  pub tcoa : volume.tcoa ≤ 120
 
 -- the same thresholds by another model
 abbrev pub with_model : Model → Volume → Volume
-with_model model vol = record vol { model = model }
+with_model model volume = record volume { model = model }
 
 -- d times the horizontal place at n/d
 abbrev pub place_at : Leg → ℤ → ℤ → Flat
@@ -33,44 +33,44 @@ height_at leg n d = d *ℤ leg.place.up +ℤ n *ℤ leg.velocity.up
 
 -- the distance is at most dthr
 abbrev pub IsNear : Leg → Volume → ℤ → ℤ → Type 0
-IsNear leg vol n d = dot_of (place_at leg n d) (place_at leg n d) ≤ℤ square_of (pos vol.dthr *ℤ d)
+IsNear leg volume n d = dot_of (place_at leg n d) (place_at leg n d) ≤ℤ square_of (pos volume.dthr *ℤ d)
 
 -- the straight line has a distance of at most dthr at its closest approach
 abbrev pub PassesNear : Leg → Volume → ℤ → ℤ → Type 0
-PassesNear leg vol n d =
-    square_of (cross_of (place_at leg n d) leg.velocity.flat) ≤ℤ (square_of (pos vol.dthr *ℤ d) *ℤ dot_of leg.velocity.flat leg.velocity.flat)
+PassesNear leg volume n d =
+    square_of (cross_of (place_at leg n d) leg.velocity.flat) ≤ℤ (square_of (pos volume.dthr *ℤ d) *ℤ dot_of leg.velocity.flat leg.velocity.flat)
 
 -- where the distance falls: modified tau, or the time to the closest approach, is at most tthr
 abbrev pub IsSoon : Model → Leg → Volume → ℤ → ℤ → Type 0
-IsSoon Taumod leg vol n d =
-    (dot_of (place_at leg n d) (place_at leg n d) +ℤ pos vol.tthr *ℤ d *ℤ dot_of (place_at leg n d) leg.velocity.flat) ≤ℤ square_of (pos vol.dthr *ℤ d)
-IsSoon Tcpa leg vol n d =
-    neg_ℤ (dot_of (place_at leg n d) leg.velocity.flat) ≤ℤ (pos vol.tthr *ℤ d *ℤ dot_of leg.velocity.flat leg.velocity.flat)
+IsSoon Taumod leg volume n d =
+    (dot_of (place_at leg n d) (place_at leg n d) +ℤ pos volume.tthr *ℤ d *ℤ dot_of (place_at leg n d) leg.velocity.flat) ≤ℤ square_of (pos volume.dthr *ℤ d)
+IsSoon Tcpa leg volume n d =
+    neg_ℤ (dot_of (place_at leg n d) leg.velocity.flat) ≤ℤ (pos volume.tthr *ℤ d *ℤ dot_of leg.velocity.flat leg.velocity.flat)
 
 -- the distance falls, soon, and to at most dthr
-pub record IsClosing (leg : Leg) (vol : Volume) (n d : ℤ) : Type 0 where
+pub record IsClosing (leg : Leg) (volume : Volume) (n d : ℤ) : Type 0 where
   pub nearing : dot_of (place_at leg n d) leg.velocity.flat <ℤ pos 0
-  pub soon : IsSoon vol.model leg vol n d
-  pub near : PassesNear leg vol n d
+  pub soon : IsSoon volume.model leg volume n d
+  pub near : PassesNear leg volume n d
 
 -- the difference in height is at most zthr
 abbrev pub IsNearInHeight : Leg → Volume → ℤ → ℤ → Type 0
-IsNearInHeight leg vol n d = pos (unsigned_abs (height_at leg n d)) ≤ℤ (pos vol.zthr *ℤ d)
+IsNearInHeight leg volume n d = pos (unsigned_abs (height_at leg n d)) ≤ℤ (pos volume.zthr *ℤ d)
 
 -- the difference in height falls, and the time to co-altitude is at most tcoa
-pub record IsCoAltitudeSoon (leg : Leg) (vol : Volume) (n d : ℤ) : Type 0 where
+pub record IsCoAltitudeSoon (leg : Leg) (volume : Volume) (n d : ℤ) : Type 0 where
   pub nearing : (height_at leg n d *ℤ leg.velocity.up) <ℤ pos 0
-  pub soon : pos (unsigned_abs (height_at leg n d)) ≤ℤ (pos vol.tcoa *ℤ d *ℤ pos (unsigned_abs leg.velocity.up))
+  pub soon : pos (unsigned_abs (height_at leg n d)) ≤ℤ (pos volume.tcoa *ℤ d *ℤ pos (unsigned_abs leg.velocity.up))
 
 -- horizontally: the distance is at most dthr, or soon will be
 abbrev pub ViolatesHorizontally : Leg → Volume → ℤ → ℤ → Type 0
-ViolatesHorizontally leg vol n d = IsNear leg vol n d ⊎ IsClosing leg vol n d
+ViolatesHorizontally leg volume n d = IsNear leg volume n d ⊎ IsClosing leg volume n d
 
 -- vertically: the difference in height is at most zthr, or co-altitude is near in time
 abbrev pub ViolatesVertically : Leg → Volume → ℤ → ℤ → Type 0
-ViolatesVertically leg vol n d = IsNearInHeight leg vol n d ⊎ IsCoAltitudeSoon leg vol n d
+ViolatesVertically leg volume n d = IsNearInHeight leg volume n d ⊎ IsCoAltitudeSoon leg volume n d
 
 -- the volume is violated at n/d: both parts hold at that one time
-pub record Violates (leg : Leg) (vol : Volume) (n d : ℤ) : Type 0 where
-  pub horizontal : ViolatesHorizontally leg vol n d
-  pub vertical : ViolatesVertically leg vol n d
+pub record Violates (leg : Leg) (volume : Volume) (n d : ℤ) : Type 0 where
+  pub horizontal : ViolatesHorizontally leg volume n d
+  pub vertical : ViolatesVertically leg volume n d

@@ -6,7 +6,7 @@ ghost use Rattle.daa_fixed.specs.Leg.{IsLegInRange};
 ghost use Rattle.daa_taumod.specs.Volume.{IsVolumeInRange, ViolatesHorizontally, IsNear, IsClosing, IsSoon, PassesNear, place_at};
 
 use crate::place::place_then;
-use crate::threshold::{scaled, scaled_square};
+use crate::threshold::{scaled_square, scaled_threshold};
 use crate::{Model, Volume};
 use daa_fixed::{Leg, Point, cross, dot, square};
 
@@ -66,7 +66,7 @@ fn is_tau_soon(leg: &Leg, volume: &Volume, point: &Point) -> bool
     ensures { IsTrue result ↔ IsSoon Model.Taumod leg.now volume.now point.now.num point.now.den }
 {
     let place = place_then(leg, point);
-    square(&place) + scaled(volume.tthr, point) * dot(&place, &leg.velocity.flat)
+    square(&place) + scaled_threshold(volume.tthr, point) * dot(&place, &leg.velocity.flat)
         <= scaled_square(volume.dthr, point)
 }
 
@@ -77,7 +77,8 @@ fn is_closest_soon(leg: &Leg, volume: &Volume, point: &Point) -> bool
     ensures { IsTrue result ↔ IsSoon Model.Tcpa leg.now volume.now point.now.num point.now.den }
 {
     let place = place_then(leg, point);
-    -dot(&place, &leg.velocity.flat) <= scaled(volume.tthr, point) * square(&leg.velocity.flat)
+    -dot(&place, &leg.velocity.flat)
+        <= scaled_threshold(volume.tthr, point) * square(&leg.velocity.flat)
 }
 
 /// Whether the straight line comes within `dthr` at its closest approach. The answer is the same at

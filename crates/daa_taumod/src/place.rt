@@ -15,8 +15,8 @@ pub(crate) fn place_then(leg: &Leg, point: &Point) -> Flat
     ensures short { IsShort result }
 {
     Flat {
-        east: moved(leg.place.flat.east, leg.velocity.flat.east, point),
-        north: moved(leg.place.flat.north, leg.velocity.flat.north, point),
+        east: scaled_position(leg.place.flat.east, leg.velocity.flat.east, point),
+        north: scaled_position(leg.place.flat.north, leg.velocity.flat.north, point),
     }
 }
 
@@ -26,11 +26,11 @@ pub(crate) fn height_then(leg: &Leg, point: &Point) -> i64
     ensures value { result ≡ height_at leg.now point.now.num point.now.den }
     ensures size { IsWithin (2 ^ 59) result }
 {
-    moved(leg.place.up, leg.velocity.up, point)
+    scaled_position(leg.place.up, leg.velocity.up, point)
 }
 
 /// What begins at `begin` and moves at `speed`.
-fn moved(begin: i64, speed: i64, point: &Point) -> i64
+fn scaled_position(begin: i64, speed: i64, point: &Point) -> i64
     requires begin { IsWithin 40000000 begin }
     requires speed { IsWithin 40000 speed }
     ensures value { result ≡ point.now.den *ℤ begin +ℤ point.now.num *ℤ speed }

@@ -6,7 +6,7 @@ ghost use Rattle.daa_taumod.specs.Volume.{IsVolumeInRange, ViolatesVertically, I
 
 use crate::Volume;
 use crate::place::height_then;
-use crate::threshold::scaled;
+use crate::threshold::scaled_threshold;
 use daa_fixed::{Leg, Point};
 
 /// Whether the vertical part of the volume holds at a time.
@@ -24,7 +24,7 @@ fn is_near_in_height(leg: &Leg, volume: &Volume, point: &Point) -> bool
     requires volume { IsVolumeInRange volume.now }
     ensures { IsTrue result ↔ IsNearInHeight leg.now volume.now point.now.num point.now.den }
 {
-    height_then(leg, point).abs() as i128 <= scaled(volume.zthr, point)
+    height_then(leg, point).abs() as i128 <= scaled_threshold(volume.zthr, point)
 }
 
 /// Whether the difference in height falls, and the time to co-altitude is at most `tcoa`.
@@ -54,5 +54,5 @@ fn is_within_tcoa(leg: &Leg, volume: &Volume, point: &Point) -> bool
         *ℤ pos (unsigned_abs leg.now.velocity.up))) }
 {
     let speed = leg.velocity.up.abs() as i128;
-    height_then(leg, point).abs() as i128 <= scaled(volume.tcoa, point) * speed
+    height_then(leg, point).abs() as i128 <= scaled_threshold(volume.tcoa, point) * speed
 }

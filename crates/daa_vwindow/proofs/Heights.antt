@@ -80,10 +80,10 @@ as_band h a m high ahead n d ha hd x =
           (record { least = subst (λ (w : ℤ). w ≤ℤ z) (neg-times m d) b.above; most = b.below })),
     )
 
-module _ (leg : Leg) (vol : Volume) where
-  pub rising : (m : ℤ) → pos 1 ≤ℤ leg.velocity.up → IsMax m (pos vol.zthr) (pos vol.tcoa *ℤ leg.velocity.up) → (n d : ℤ) → IsTime leg.secs n d → IsInBand leg.place.up leg.velocity.up m (pos vol.zthr) n d ↔ ViolatesVertically leg vol n d
+module _ (leg : Leg) (volume : Volume) where
+  pub rising : (m : ℤ) → pos 1 ≤ℤ leg.velocity.up → IsMax m (pos volume.zthr) (pos volume.tcoa *ℤ leg.velocity.up) → (n d : ℤ) → IsTime leg.secs n d → IsInBand leg.place.up leg.velocity.up m (pos volume.zthr) n d ↔ ViolatesVertically leg volume n d
   rising m ha x n d t =
-      let same = as_band leg.place.up leg.velocity.up m vol.zthr vol.tcoa n d ha t.fraction x in
+      let same = as_band leg.place.up leg.velocity.up m volume.zthr volume.tcoa n d ha t.fraction x in
       let size : pos (unsigned_abs leg.velocity.up) ≡ leg.velocity.up = abs-pos leg.velocity.up ha in (
         (λ b. ⊎_elim inl (λ e. inr (record { nearing = e.nearing; soon = rw size e.soon })) (same.1 b)),
         (λ v. same.0 (⊎_elim inl (λ e. inr (record { nearing = e.nearing; soon = rw size at e.soon })) v)),
@@ -102,10 +102,10 @@ module _ (leg : Leg) (vol : Volume) where
       let H = # 0 in let W = # 1 in let N = # 2 in let D = # 3 in
       ring (leg.place.up ∷ leg.velocity.up ∷ n ∷ d ∷ []) ((D ⊗ ⊝ H ⊕ N ⊗ ⊝ W) ⊗ ⊝ W) ((D ⊗ H ⊕ N ⊗ W) ⊗ W) tt
 
-  pub falling : (m : ℤ) → leg.velocity.up <ℤ pos 0 → IsMax m (pos vol.zthr) (pos vol.tcoa *ℤ neg_ℤ leg.velocity.up) → (n d : ℤ) → IsTime leg.secs n d → IsInBand (neg_ℤ leg.place.up) (neg_ℤ leg.velocity.up) m (pos vol.zthr) n d ↔ ViolatesVertically leg vol n d
+  pub falling : (m : ℤ) → leg.velocity.up <ℤ pos 0 → IsMax m (pos volume.zthr) (pos volume.tcoa *ℤ neg_ℤ leg.velocity.up) → (n d : ℤ) → IsTime leg.secs n d → IsInBand (neg_ℤ leg.place.up) (neg_ℤ leg.velocity.up) m (pos volume.zthr) n d ↔ ViolatesVertically leg volume n d
   falling m ha x n d t =
       let a1 : pos 1 ≤ℤ neg_ℤ leg.velocity.up = omega (arith, ints) in
-      let same = as_band (neg_ℤ leg.place.up) (neg_ℤ leg.velocity.up) m vol.zthr vol.tcoa n d a1 t.fraction x in
+      let same = as_band (neg_ℤ leg.place.up) (neg_ℤ leg.velocity.up) m volume.zthr volume.tcoa n d a1 t.fraction x in
       let size : pos (unsigned_abs leg.velocity.up) ≡ neg_ℤ leg.velocity.up = ap pos (sym (abs-neg leg.velocity.up)) ∙ abs-pos (neg_ℤ leg.velocity.up) a1 in (
         (λ b. ⊎_elim
             (λ l. inl (rw (mirror_size n d) at l))
@@ -117,12 +117,12 @@ module _ (leg : Leg) (vol : Volume) where
             v)),
       )
 
-  pub standing : leg.velocity.up ≡ pos 0 → (n d : ℤ) → IsTime leg.secs n d → IsInBand leg.place.up (pos 0) (pos vol.zthr) (pos vol.zthr) n d ↔ ViolatesVertically leg vol n d
+  pub standing : leg.velocity.up ≡ pos 0 → (n d : ℤ) → IsTime leg.secs n d → IsInBand leg.place.up (pos 0) (pos volume.zthr) (pos volume.zthr) n d ↔ ViolatesVertically leg volume n d
   standing e n d t =
       let z : height_at leg n d ≡ d *ℤ leg.place.up +ℤ n *ℤ pos 0 = ap (λ (w : ℤ). d *ℤ leg.place.up +ℤ n *ℤ w) e in (
-        (λ b. inl (rw z (size_in (d *ℤ leg.place.up +ℤ n *ℤ pos 0) (pos vol.zthr *ℤ d) (rw (← neg-times (pos vol.zthr) d) b.above) b.below))),
+        (λ b. inl (rw z (size_in (d *ℤ leg.place.up +ℤ n *ℤ pos 0) (pos volume.zthr *ℤ d) (rw (← neg-times (pos volume.zthr) d) b.above) b.below))),
         (λ v. ⊎_elim
-            (λ l. let s = size_out (d *ℤ leg.place.up +ℤ n *ℤ pos 0) (pos vol.zthr *ℤ d) (rw z at l) in record { above = rw (neg-times (pos vol.zthr) d) s.0; below = s.1 })
+            (λ l. let s = size_out (d *ℤ leg.place.up +ℤ n *ℤ pos 0) (pos volume.zthr *ℤ d) (rw z at l) in record { above = rw (neg-times (pos volume.zthr) d) s.0; below = s.1 })
             (λ l. absurd (no_turn (height_at leg n d) leg.velocity.up e l.nearing))
             v),
       )

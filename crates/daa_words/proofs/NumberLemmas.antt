@@ -14,7 +14,7 @@ use Rattle.clap.specs.ValueTests.{accepts, is_unsigned_in}
 use Rattle.clap.specs.Walk.{Row, Rule, Text, rows_of}
 use Rattle.clap.specs.declared.builder.value_parser.ValueParser.TheVariants.{Signed, Unsigned}
 use Rattle.daa_words.specs.Order.{number_at, number_of}
-use Rattle.daa_words.proofs.Levels.{HasText}
+use Rattle.daa_words.proofs.LevelOptions.{HasText}
 
 -- ---- a text
 

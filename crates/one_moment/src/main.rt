@@ -40,7 +40,7 @@ const OWN: Own = Own {
 fn encounter(amber: Id, bravo: Id) -> Result<Picture, PictureFault>
     ensures { IfOk result IsPictureInRange }
 {
-    Picture::checked(
+    Picture::check(
         0,
         OWN,
         &[

@@ -2,17 +2,17 @@
 use Rattle.std.specs.Prelude.{ℕ, List, [], ◌∷◌, ◌++◌, fold, Option, None, Some, Ok}
 use Rattle.std.specs.Str.Lines.{lines}
 use Rattle.daa_state.specs.Fault.{Checked, ◌>>=◌}
-use Rattle.daa_state.specs.MomentStep.{State, Stepped, start, step, finished}
+use Rattle.daa_state.specs.MomentStep.{MomentsState, Stepped, start, step, finished}
 use Rattle.daa_state.specs.WordOf.{word_of}
 use Rattle.daa_state.specs.declared.word.Picture.{Picture}
 
 -- what stands after some lines: the state of the moments, and the pictures so far
 pub record Read : Type 0 where
-  pub state : State
+  pub state : MomentsState
   pub pictures : List Picture
 
 -- these two as one
-abbrev pub read : State → List Picture → Read
+abbrev pub read : MomentsState → List Picture → Read
 read state pictures = record { state = state; pictures = pictures }
 
 -- the picture of the moment that ended, if one did, stands behind the others
@@ -21,7 +21,7 @@ with_ended pictures None = pictures
 with_ended pictures (Some picture) = pictures ++ picture ∷ []
 
 -- a line is read in the format of the state before it, and its word steps the state
-abbrev pub line_step : State → List ℕ → Checked Stepped
+abbrev pub line_step : MomentsState → List ℕ → Checked Stepped
 line_step state line = do
   word ← word_of line state.format
   step state word

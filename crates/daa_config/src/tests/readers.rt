@@ -149,14 +149,14 @@ fn second_model(rt: HostRuntime) -> Result<(), Fail> {
 }
 
 /// A configuration may be sent to another thread and shared by several.
-fn shared<T: Send + Sync>(value: &T) -> &T {
+fn share<T: Send + Sync>(value: &T) -> &T {
     value
 }
 
 #[test]
 fn is_shared(rt: HostRuntime) -> Result<(), Fail> {
     let config = read(rt.alloc(), ONE_LEVEL.as_bytes())?;
-    assert_eq!(rt; shared(&config).total(), 8);
+    assert_eq!(rt; share(&config).total(), 8);
     Ok(())
 }
 

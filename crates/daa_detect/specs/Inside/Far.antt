@@ -13,6 +13,6 @@ StaysBeyond begin speed secs radius = IsBeyond begin (begin +ℤ pos secs *ℤ s
 
 -- the leg, flown on for tthr seconds, stays more than dthr off to the east, the west, the north or the south
 abbrev pub IsFar : Leg → Volume → Type 0
-IsFar leg vol =
-    StaysBeyond leg.place.flat.east leg.velocity.flat.east (leg.secs + vol.tthr) vol.dthr
-    ⊎ StaysBeyond leg.place.flat.north leg.velocity.flat.north (leg.secs + vol.tthr) vol.dthr
+IsFar leg volume =
+    StaysBeyond leg.place.flat.east leg.velocity.flat.east (leg.secs + volume.tthr) volume.dthr
+    ⊎ StaysBeyond leg.place.flat.north leg.velocity.flat.north (leg.secs + volume.tthr) volume.dthr

@@ -6,10 +6,10 @@ use Rattle.daa_taumod.specs.declared.Volume.{Volume}
 use Rattle.daa_detect.specs.declared.motion.Motion.{Motion}
 
 -- v.v, s.v and dthr^2 (v.v) - (s x v)^2
-pub record IsMotion (leg : Leg) (vol : Volume) (m : Motion) : Type 0 where
+pub record IsMotion (leg : Leg) (volume : Volume) (m : Motion) : Type 0 where
   pub speed_squared : m.speed_squared ≡ dot_of leg.velocity.flat leg.velocity.flat
   pub rate : m.rate ≡ dot_of leg.place.flat leg.velocity.flat
-  pub margin : m.margin ≡ square_of (pos vol.dthr) *ℤ dot_of leg.velocity.flat leg.velocity.flat -ℤ square_of (cross_of leg.place.flat leg.velocity.flat)
+  pub margin : m.margin ≡ square_of (pos volume.dthr) *ℤ dot_of leg.velocity.flat leg.velocity.flat -ℤ square_of (cross_of leg.place.flat leg.velocity.flat)
 
 -- the closest approach lies ahead, and its time is a point in range
 pub record IsAhead (m : Motion) : Type 0 where

@@ -14,7 +14,7 @@ use Rattle.daa_engine.specs.declared.advice.Sides.{Sides}
 use Rattle.daa_engine.specs.declared.advice.Advice.{Advice}
 use Rattle.daa_recovery.specs.Recovery.{IsRecovery}
 use Rattle.daa_recovery.specs.declared.recovery.Recovery.{Recovery}
-use Rattle.daa_engine.specs.MomentText.{wants_recovery, told_of}
+use Rattle.daa_engine.specs.MomentText.{wants_recovery, found_of}
 use Rattle.daa_engine.specs.declared.rescue.Rescue.{Rescue}
 use Rattle.daa_engine.specs.declared.rescue.Rescue.TheVariants.{Silent, Said}
 use Rattle.daa_engine.specs.declared.rescue.Rescues.{Rescues}
@@ -47,7 +47,7 @@ abbrev pub IsRescue : Settings → Picture → Kind → Sides → Rescue → Typ
 IsRescue settings picture kind sides Silent = wants_recovery settings sides.lower sides.upper ≡ false
 IsRescue settings picture kind sides (Said found) =
     IsTrue (wants_recovery settings sides.lower sides.upper)
-    × ((r : Option Recovery) × IsRecovery settings picture kind r × (found ≡ option_map told_of r))
+    × ((r : Option Recovery) × IsRecovery settings picture kind r × (found ≡ option_map found_of r))
 
 -- and of all kinds
 pub record AreRescues (settings : Settings) (picture : Picture) (advice : Advice) (rescues : Rescues) : Type 0 where

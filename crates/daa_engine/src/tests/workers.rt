@@ -31,19 +31,20 @@ impl Counter {
         }
     }
 
-    fn passed(&self, unit: u32) -> &AtomicU64 {
+    fn passes_of(&self, unit: u32) -> &AtomicU64 {
         self.passes.get(unit as usize).unwrap_or(&self.others)
     }
 
     /// Each of the four units was passed for so often, and no other.
     fn counts(&self, times: u64) -> bool {
-        (0..4).all(|unit| self.passed(unit).load(SeqCst) == times) && self.others.load(SeqCst) == 0
+        (0..4).all(|unit| self.passes_of(unit).load(SeqCst) == times)
+            && self.others.load(SeqCst) == 0
     }
 }
 
 impl Gate for Counter {
     fn pass(&self, _worker: u32, unit: u32) {
-        self.passed(unit).fetch_add(1, SeqCst);
+        self.passes_of(unit).fetch_add(1, SeqCst);
     }
 }
 

@@ -1,8 +1,8 @@
 -- What one read gives of a comparison.
 use Rattle.std.specs.Prelude.{ℕ, ◌≢◌, ◌<◌, ◌≤◌, ◌++◌, length, take}
 use Rattle.daa_ahead.specs.Bytes.{Bytes, StreamState}
-use Rattle.daa_judge.specs.Finding.{Finds}
-use Rattle.daa_judge.specs.Matched.{IsMatched}
+use Rattle.daa_judge.specs.Found.{Finds}
+use Rattle.daa_judge.specs.Matching.{IsMatched}
 use Rattle.daa_ahead.specs.declared.ended.Ended.{Ended}
 use Rattle.daa_ahead.specs.declared.ended.Ended.TheVariants.{End, Fault, Limit, Stopped}
 use Rattle.daa_judge.specs.declared.found.Found.{Found}

@@ -1,7 +1,7 @@
 -- What one byte makes of a `Lines`.
 use Rattle.std.specs.Prelude.{ℕ, Bool, ◌||◌, [], ◌∷◌, ◌++◌, ◌==◌, ◌+◌, length, if◌then◌else◌}
 use Rattle.daa_lines.specs.LinesOf.{Bytes, line_feed, long_length}
-use Rattle.daa_lines.specs.Cutting.{Cutting, is_standing}
+use Rattle.daa_lines.specs.LinesState.{LinesState, is_standing}
 use Rattle.daa_lines.specs.declared.lines.Stage.{Stage}
 use Rattle.daa_lines.specs.declared.lines.Stage.TheVariants.{Open, Whole, Long, Skipping}
 
@@ -19,7 +19,7 @@ at_stage Whole line byte = (line, Whole)
 at_stage Long line byte = (line, Long)
 
 -- a `Lines` after one byte more was fed
-unfoldable pub after_byte : Cutting → ℕ → Cutting
+unfoldable pub after_byte : LinesState → ℕ → LinesState
 after_byte c byte = record c {
   line = (at_stage c.stage c.line byte).0;
   stage = (at_stage c.stage c.line byte).1;
@@ -27,5 +27,5 @@ after_byte c byte = record c {
 }
 
 -- whether it is the last byte that is taken for now: a line feed, or the byte that makes a line long
-abbrev pub is_last : Cutting → ℕ → Bool
+abbrev pub is_last : LinesState → ℕ → Bool
 is_last c byte = (byte == line_feed) || is_standing (at_stage c.stage c.line byte).1

@@ -4,7 +4,7 @@ use Rattle.std.specs.List.{sum_by, Contains}
 use mathlib.Core.Option.{some}
 use lib.ListN.{get_elem?}
 use Rattle.atomic_table.specs.Table.{State}
-use Rattle.daa_range.specs.Range.{span}
+use Rattle.daa_range.specs.Range.{range_of}
 use Rattle.daa_range.specs.Word.{packed, unpacked, IsInOrder}
 use Rattle.daa_schedule.specs.CoreState.{CoreState, worker_count, unit_count, no_units, range_at, hand_at, has_ended, word_on, opened, times_on, IsWhole}
 use Rattle.daa_schedule.specs.Inside.CoreState.{IsShaped}
@@ -23,7 +23,7 @@ Pools = State (Unit {0}) View
 
 -- the word at a place of the table
 abbrev pub word_at : List ℕ → ℕ → ℕ
-word_at words place = slice_index words place
+word_at words index = slice_index words index
 
 -- the words show the core's ranges and its board: first a word for each worker, which is its range, and then a word for each unit
 pub record Shows (words : List ℕ) (workers : ℕ) (core : CoreState) : Type 0 where
@@ -88,7 +88,7 @@ pub record Ruled (workers : ℕ) (table : Pools) : Type 0 where
 
 -- the words at the opening: the first has the range of all units, and all others are 0
 abbrev pub opening_words : ℕ → ℕ → List ℕ
-opening_words workers units = slice_set (replicate (workers + units) 0) 0 (packed (span 0 units))
+opening_words workers units = slice_set (replicate (workers + units) 0) 0 (packed (range_of 0 units))
 
 -- before the first seat is given the answers
 pub record IsBlank (workers units : ℕ) (table : Pools) : Type 0 where

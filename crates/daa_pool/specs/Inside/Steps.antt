@@ -1,7 +1,7 @@
 -- What each atomic step shows its seat. The number found is the word as it was before the step.
 use Rattle.std.specs.Prelude.{◌≡◌, ◌≢◌, ℕ, ◌-◌, ◌<◌, ◌≤◌, List, length, slice_index}
 use Rattle.atomic_table.specs.Table.{Step, Me}
-use Rattle.daa_range.specs.Range.{span_len}
+use Rattle.daa_range.specs.Range.{range_len}
 use Rattle.daa_range.specs.Word.{first_part, upto_part, unpacked, IsInOrder}
 use Rattle.daa_schedule.specs.CoreState.{once_below}
 use Rattle.daa_pool.specs.declared.view.View.{View}
@@ -57,7 +57,7 @@ settles step before found after = Becomes before (settled before.0 step.first) a
 
 -- the worker ends; its own range is empty
 abbrev pub ends : Step (Unit {0}) → Sat → ℕ → Sat → Type 0
-ends step before found after = Becomes before (ended before.0 found) after × (span_len (unpacked found) ≡ 0) × (length before.0.settled ≤ length before.0.answers)
+ends step before found after = Becomes before (ended before.0 found) after × (range_len (unpacked found) ≡ 0) × (length before.0.settled ≤ length before.0.answers)
 
 -- a seat with all numbers, each ended, reads an answer; each unit was settled once, in one history
 abbrev pub reads : Step (Unit {0}) → Sat → ℕ → Sat → Type 0

@@ -1,7 +1,7 @@
 -- Within one call of `claim`: the round through the other workers.
 use Rattle.std.specs.Prelude.{◌≡◌, ◌≢◌, ℕ, ◌*◌, ◌<◌, ◌≤◌, List, []}
 use Rattle.std.specs.List.{AllPairs, Contains}
-use Rattle.daa_range.specs.Range.{span, span_len, times_in}
+use Rattle.daa_range.specs.Range.{range_of, range_len, times_in}
 use Rattle.daa_schedule.specs.declared.step.Step.{Step}
 use Rattle.daa_pool.specs.declared.view.View.{View}
 use Rattle.daa_pool.specs.declared.view.Look.{Look}
@@ -11,7 +11,7 @@ use Rattle.daa_pool.specs.Claim.{IsLater, IsTaking, AreFresh, IsBare, looks_at, 
 -- the seat goes on to other ranges: it is free, and its own range is empty, as the last look showed
 pub record IsSeeking (view : View) : Type 0 where
   pub free : IsFree view
-  pub bare : span_len view.bound ≡ 0
+  pub bare : range_len view.bound ≡ 0
 
 -- the looks are at workers from `first` on, below `upto`, one after the other
 pub record InTurn (first upto : ℕ) (seen : List Look) : Type 0 where
@@ -25,7 +25,7 @@ pub record TakesFrom (before after : View) (first upto : ℕ) (unit : ℕ) : Typ
   pub later : IsLater before after seen steps
   pub taking : IsTaking before.number steps
   pub piece : HasPiece after unit
-  pub brief : (other : ℕ) → looks_at other seen ≤ 2 * times_in other (span first upto)
+  pub brief : (other : ℕ) → looks_at other seen ≤ 2 * times_in other (range_of first upto)
   pub turn : InTurn first upto seen
 
 -- the workers from `first` on, below `upto`, have nothing to take: each was looked at, at most twice, and nobody else was
@@ -35,7 +35,7 @@ pub record Toured (before after : View) (first upto : ℕ) : Type 0 where
   pub fresh : AreFresh before seen
   pub seeking : IsSeeking after
   pub bare : (other : ℕ) → first ≤ other → other < upto → IsBare seen other
-  pub brief : (other : ℕ) → looks_at other seen ≤ 2 * times_in other (span first upto)
+  pub brief : (other : ℕ) → looks_at other seen ≤ 2 * times_in other (range_of first upto)
   pub turn : InTurn first upto seen
 
 -- none of the looks is at the worker's range

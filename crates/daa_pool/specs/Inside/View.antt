@@ -1,7 +1,7 @@
 -- How each step changes what a seat knows of its pool.
 use Rattle.std.specs.Prelude.{◌≡◌, ℕ, ◌+◌, true, false, List, [], ◌∷◌, ◌++◌, length, if◌then◌else◌, ◌⊎◌}
 use Rattle.std.specs.List.{Contains}
-use Rattle.daa_range.specs.Range.{Span, span, upper_of, first_unit_of, rest_of}
+use Rattle.daa_range.specs.Range.{RangeState, range_of, upper_of, first_unit_of, rest_of}
 use Rattle.daa_range.specs.Word.{unpacked}
 use Rattle.daa_schedule.specs.CoreState.{no_units}
 use Rattle.daa_schedule.specs.declared.step.Step.TheVariants.{Claim, Steal, Keep, End}
@@ -50,7 +50,7 @@ blank = record spent { carries = true }
 
 -- the first seat, which has the range of all units and the count of seats made
 abbrev pub opener : ℕ → List ℕ → View
-opener workers answers = record (newcomer 0 workers answers) { bound = span 0 (length answers); carries = true; made = 1 }
+opener workers answers = record (newcomer 0 workers answers) { bound = range_of 0 (length answers); carries = true; made = 1 }
 
 -- after a look at a worker's range
 abbrev pub looked : View → ℕ → ℕ → View
@@ -65,7 +65,7 @@ abbrev pub claimed : View → View
 claimed view = record view { bound = rest_of view.bound; hand = first_unit_of view.bound; moves = view.moves ++ Claim view.number ∷ [] }
 
 -- after a Steal: the upper half of the other range is in the hand
-abbrev pub stolen : View → ℕ → Span → View
+abbrev pub stolen : View → ℕ → RangeState → View
 stolen view other range = record view { hand = upper_of range; moves = view.moves ++ Steal view.number other ∷ [] }
 
 -- after a Keep: the hand has its first unit, and the own range the rest

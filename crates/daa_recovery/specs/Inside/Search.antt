@@ -4,32 +4,32 @@ use Rattle.daa_config.specs.declared.candidate.Candidate.{Candidate}
 use Rattle.daa_config.specs.declared.kind.Kind.{Kind}
 use Rattle.daa_config.specs.Settings.{IsCandidateInRange, rates_of}
 use Rattle.daa_legs.specs.Branch.{FliesOn}
-use Rattle.daa_legs.specs.Kept.{AreLegsOf}
-use Rattle.daa_recovery.specs.Prospect.{Prospect}
+use Rattle.daa_legs.specs.Trunk.{AreLegsOf}
+use Rattle.daa_recovery.specs.OutlookState.{OutlookState}
 use Rattle.daa_recovery.specs.Recovery.{Recovers, RecoversAt}
 use Rattle.daa_recovery.specs.declared.recovery.Recovery.{Recovery}
 use Rattle.daa_recovery.specs.declared.course.Course.{Course}
 
 -- its legs up to the horizon are kept, and from leg `settles` on it keeps one velocity
-pub record IsCourse (p : Prospect) (course : Course) : Type 0 where
+pub record IsCourse (p : OutlookState) (course : Course) : Type 0 where
   pub in_range : IsCandidateInRange course.candidate
   pub legs : AreLegsOf p.picture.own (rates_of p.settings) course.candidate p.horizon course.legs
   pub straight : FliesOn p.picture.own (rates_of p.settings) course.candidate course.settles
 
 -- the time that the next candidate has to be below
-abbrev pub bound_of : Prospect → Option Recovery → ℕ
+abbrev pub bound_of : OutlookState → Option Recovery → ℕ
 bound_of p (Some r) = r.after
 bound_of p None = p.horizon
 
-module _ (p : Prospect) (kind : Kind) where
+module _ (p : OutlookState) (kind : Kind) where
   -- the index of the value is below count, it recovers, and none before it does at that time
   pub record IsFirst (count : ℕ) (r : Recovery) : Type 0 where
-    pub place : ℕ
-    pub below : place < count
+    pub index : ℕ
+    pub below : index < count
     pub some : 1 ≤ r.after
     pub before : r.after < p.horizon
-    pub recovers : RecoversAt p kind place r.after r.value
-    pub none_earlier : (i : ℕ) (value : ℤ) → i < place → ¬ RecoversAt p kind i r.after value
+    pub recovers : RecoversAt p kind index r.after r.value
+    pub none_earlier : (i : ℕ) (value : ℤ) → i < index → ¬ RecoversAt p kind i r.after value
 
   -- what was found, if anything, is the first value that recovers at its time
   abbrev pub IsFirstFound : (count : ℕ) → Option Recovery → Type 0
@@ -42,7 +42,7 @@ module _ (p : Prospect) (kind : Kind) where
     pub none_sooner : (m : ℕ) → 1 ≤ m → m < bound_of p found → (i : ℕ) (value : ℤ) → i < count → ¬ RecoversAt p kind i m value
 
 -- the least time from 1 on below a bound at which the candidate recovers, or that there is none
-module _ (p : Prospect) (candidate : Candidate) (bound : ℕ) where
+module _ (p : OutlookState) (candidate : Candidate) (bound : ℕ) where
   -- the candidate recovers at this time, below the bound, and at no earlier one
   pub record IsLeastAt (after : ℕ) : Type 0 where
     pub some : 1 ≤ after

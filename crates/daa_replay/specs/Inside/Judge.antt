@@ -2,8 +2,8 @@
 use Rattle.std.specs.Prelude.{ℕ, ◌++◌, Bool, true, [], Some, Result, Ok, Err, ◌≡◌, ◌≢◌, IfErr}
 use Rattle.daa_ahead.specs.Bytes.{StreamState}
 use Rattle.daa_config.specs.Settings.{Settings}
-use Rattle.daa_judge.specs.Finding.{Finds}
-use Rattle.daa_judge.specs.Matched.{IsMatched, Compares}
+use Rattle.daa_judge.specs.Found.{Finds}
+use Rattle.daa_judge.specs.Matching.{IsMatched, Compares}
 use Rattle.daa_judge.specs.declared.found.Found.{Found}
 use Rattle.daa_judge.specs.declared.found.Found.TheVariants as found
 use Rattle.daa_judge.specs.declared.matching.Matching.{Matching}

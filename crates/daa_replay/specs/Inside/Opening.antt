@@ -14,7 +14,7 @@ use Rattle.daa_words.specs.Order.{Asked, order_of}
 use Rattle.daa_words.specs.Task.{Task, Replay, Exercise, Judge}
 use Rattle.daa_replay.specs.declared.opening.Ready.{Ready}
 use Rattle.daa_replay.specs.declared.opening.Unready.{Unready}
-use Rattle.daa_replay.specs.declared.opening.Unready.TheVariants.{NotTaken, Refused, StatesLong, FetchFault, NoMemory}
+use Rattle.daa_replay.specs.declared.opening.Unready.TheVariants.{NotTaken, Refused, StatesLong, ShelfFault, NoMemory}
 use Rattle.daa_replay.specs.declared.opening.Work.{Work}
 use Rattle.daa_replay.specs.declared.opening.Work.TheVariants as work
 use Rattle.daa_replay.specs.Opening.{IsHeld, IsHeldLong, Opens, OpensLong, IsRefused}
@@ -27,7 +27,7 @@ unready_of fault = option_map_or (λ code. Refused fault) (code_of fault) NoMemo
 -- run `long`
 abbrev pub cause_of_fetch : Unready → fetch_fault.FetchFault → Unready
 cause_of_fetch long fetch.TooLong = long
-cause_of_fetch long fetch.Failed = FetchFault
+cause_of_fetch long fetch.Failed = ShelfFault
 cause_of_fetch long fetch.NoMemory = NoMemory
 
 -- the text is the configuration, or is refused for the fault
@@ -37,7 +37,7 @@ ReadsAs text (Err NotTaken) = ⊥
 ReadsAs text (Err (Refused fault)) = (code : ℕ) × (config_of text ≡ Err fault)
     × (code_of fault ≡ Some code)
 ReadsAs text (Err StatesLong) = ⊥
-ReadsAs text (Err FetchFault) = ⊥
+ReadsAs text (Err ShelfFault) = ⊥
 ReadsAs text (Err NoMemory) = Unit {0}
 
 -- the same of the text that the shelf holds under the name
@@ -48,7 +48,7 @@ FetchesAs texts name (Err NotTaken) = ⊥
 FetchesAs texts name (Err (Refused fault)) = (text : Text) × IsHeld texts name text
     × ReadsAs text (Err (Refused fault))
 FetchesAs texts name (Err StatesLong) = ⊥
-FetchesAs texts name (Err FetchFault) = Unit {0}
+FetchesAs texts name (Err ShelfFault) = Unit {0}
 FetchesAs texts name (Err NoMemory) = Unit {0}
 
 -- the work is what the task asks for; the states are those that the shelf holds under the name
@@ -65,7 +65,7 @@ PreparesAs texts task (Ok ready) = IsWork texts task ready
 PreparesAs texts task (Err NotTaken) = ⊥
 PreparesAs texts task (Err (Refused fault)) = ⊥
 PreparesAs texts task (Err StatesLong) = (name : Text) × (task ≡ Judge name) × IsHeldLong texts name
-PreparesAs texts task (Err FetchFault) = Unit {0}
+PreparesAs texts task (Err ShelfFault) = Unit {0}
 PreparesAs texts task (Err NoMemory) = Unit {0}
 
 -- the same of the words and the shelf
@@ -76,7 +76,7 @@ OpensAs words texts (Err NotTaken) = order_of words ≡ None
 OpensAs words texts (Err (Refused fault)) = (code : ℕ) × IsRefused words texts code
     × (code_of fault ≡ Some code)
 OpensAs words texts (Err StatesLong) = OpensLong words texts
-OpensAs words texts (Err FetchFault) = (asked : Asked) × (order_of words ≡ Some asked)
+OpensAs words texts (Err ShelfFault) = (asked : Asked) × (order_of words ≡ Some asked)
 OpensAs words texts (Err NoMemory) = Unit {0}
 
 -- the configuration that is ready and the task's work, as the shelf gives them for what is asked
@@ -88,7 +88,7 @@ MakesReady texts asked (Err (Refused fault)) = FetchesAs texts asked.config (Err
 MakesReady texts asked (Err StatesLong) =
     (settings : Settings) × FetchesAs texts asked.config (Ok settings)
     × PreparesAs texts asked.task (Err StatesLong)
-MakesReady texts asked (Err FetchFault) = Unit {0}
+MakesReady texts asked (Err ShelfFault) = Unit {0}
 MakesReady texts asked (Err NoMemory) = Unit {0}
 
 -- the configuration of an engine, where there is one

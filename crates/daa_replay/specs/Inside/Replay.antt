@@ -14,7 +14,7 @@ use Rattle.daa_replay.specs.Inside.Moment.{IsBegun}
 use Rattle.daa_replay.specs.Inside.Lines.{Follows}
 use Rattle.daa_ahead.specs.Bytes.{ToldBytes}
 use Rattle.daa_replay.specs.Outside.{TakesSome}
-use Rattle.daa_lines.specs.Cutting.{is_standing}
+use Rattle.daa_lines.specs.LinesState.{is_standing}
 use Rattle.daa_outside.specs.Faults.{HasRisen}
 
 -- these bytes were fed; the sink, which had taken `first`, took the texts of the events given so

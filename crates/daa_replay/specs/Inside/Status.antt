@@ -1,7 +1,7 @@
 -- The status of a run, and what is left where a run without a configuration says why.
 use Rattle.std.specs.Prelude.{ℕ, Option, None, Some, ◌≡◌, ◌≤◌, ◌⊎◌}
 use Rattle.daa_replay.specs.declared.status.Status.{Status}
-use Rattle.daa_replay.specs.declared.status.Status.TheVariants.{Accepted, Refused, NotTaken, BadConfiguration, ReadFault, WriteFault, NoMemory, FetchFault, Limit, StatesLong}
+use Rattle.daa_replay.specs.declared.status.Status.TheVariants.{Accepted, Refused, NotTaken, BadConfiguration, SourceFault, SinkFault, NoMemory, ShelfFault, Limit, StatesLong}
 use Rattle.daa_config.specs.Fault as config
 use Rattle.daa_outside.specs.Faults.{HasRisen}
 use Rattle.daa_report.specs.Lines.{Text, config_line}
@@ -19,10 +19,10 @@ code_of Accepted = 0
 code_of Refused = 1
 code_of NotTaken = 2
 code_of BadConfiguration = 3
-code_of ReadFault = 4
-code_of WriteFault = 5
+code_of SourceFault = 4
+code_of SinkFault = 5
 code_of NoMemory = 6
-code_of FetchFault = 7
+code_of ShelfFault = 7
 code_of Limit = 8
 code_of StatesLong = 9
 
@@ -32,10 +32,10 @@ Ends Accepted = Unit {0}
 Ends Refused = Unit {0}
 Ends NotTaken = ⊥
 Ends BadConfiguration = ⊥
-Ends ReadFault = ⊥
-Ends WriteFault = Unit {0}
+Ends SourceFault = ⊥
+Ends SinkFault = Unit {0}
 Ends NoMemory = ⊥
-Ends FetchFault = ⊥
+Ends ShelfFault = ⊥
 Ends Limit = ⊥
 Ends StatesLong = ⊥
 
@@ -49,7 +49,7 @@ pub record BreaksLine (old new : StreamState) (text : Text) : Type 0 where
 abbrev pub WritesLine : Status → StreamState → StreamState → Text → Status → Type 0
 WritesLine said old new text result =
     ((result ≡ said) × Takes old new text)
-    ⊎ ((result ≡ status.WriteFault) × BreaksLine old new text)
+    ⊎ ((result ≡ status.SinkFault) × BreaksLine old new text)
 
 -- the code of the configuration was written; where there is none, there was no memory
 abbrev pub WritesCode : Option ℕ → StreamState → StreamState → Status → Type 0
@@ -64,5 +64,5 @@ WritesReason (unready.Refused fault) old new result =
     WritesCode (config.code_of fault) old new result
 WritesReason unready.StatesLong old new result =
     WritesLine status.StatesLong old new long_line result
-WritesReason unready.FetchFault old new result = (result ≡ status.FetchFault) × (new ≡ old)
+WritesReason unready.ShelfFault old new result = (result ≡ status.ShelfFault) × (new ≡ old)
 WritesReason unready.NoMemory old new result = WritesCode None old new result

@@ -6,10 +6,10 @@ use Rattle.daa_state.specs.declared.word.Own.{Own}
 use Rattle.daa_resolve.specs.Resolution.{IsOpenOnSide, distance_to}
 use Rattle.daa_resolve.specs.declared.side.Side.{Side}
 
--- the place is that of a value open on the side, and none of the first count places has a nearer one; or none has one
+-- the index is that of a value open on the side, and none of the first count places has a nearer one; or none has one
 abbrev pub IsBest : (ℕ → ℕ → Type 0) → Settings → Own → Kind → Side → ℕ → Option ℕ → Type 0
 IsBest Covered s own kind side count None = (p : ℕ) (v : ℤ) → p < count → IsOpenOnSide Covered s own kind side p v → ⊥
-IsBest Covered s own kind side count (Some place) =
-    (value : ℤ) × (place < count) × IsOpenOnSide Covered s own kind side place value
+IsBest Covered s own kind side count (Some index) =
+    (value : ℤ) × (index < count) × IsOpenOnSide Covered s own kind side index value
     × ((p : ℕ) (v : ℤ) → p < count → IsOpenOnSide Covered s own kind side p v
     → distance_to Covered s own kind side value ≤ℤ distance_to Covered s own kind side v)

@@ -3,14 +3,14 @@ use Rattle.std.specs.Prelude.{◌≡◌, ℕ, List}
 use Rattle.daa_config.specs.Settings.{IsAccepted}
 use Rattle.daa_state.specs.InRange.{IsPictureInRange}
 use Rattle.daa_scan.specs.Packed.{places_in_reach}
-use Rattle.daa_scan.specs.Situation.{Situation}
+use Rattle.daa_scan.specs.SceneState.{SceneState}
 use Rattle.daa_scan.specs.Trunks.{AreFlightsOf}
 use Rattle.daa_scan.specs.Inside.Trunks.{Shared}
 use Rattle.daa_scan.specs.Units.{group_count}
 
 -- its configuration was accepted, its moment is in range, its groups are counted, the aircraft in reach are found, and the flights that
 -- lead on the sides of each kind and the candidates' branches are kept where they are needed
-pub record IsScene (s : Situation) (groups : ℕ) (places : List ℕ) (trunks : Shared) : Type 0 where
+pub record IsScene (s : SceneState) (groups : ℕ) (places : List ℕ) (trunks : Shared) : Type 0 where
   pub accepted : IsAccepted s.settings
   pub picture : IsPictureInRange s.picture
   pub counted : groups ≡ group_count s.settings

@@ -81,7 +81,7 @@ static KINDS: [Settings; 11] = [
 ];
 
 /// One of `many` numbers, from `least` on.
-fn drawn(draws: &mut Lcg64Xsh32, least: i32, many: u32) -> i64
+fn draw(draws: &mut Lcg64Xsh32, least: i32, many: u32) -> i64
     requires { 1 ≤ many }
 {
     i64::from(least) + i64::from(draws.next_word() % many)
@@ -93,22 +93,22 @@ fn drawn_aircraft(
     draws: &mut Lcg64Xsh32,
     name: &str,
 ) -> Result<String, Fail> {
-    let x = drawn(draws, -5000, 10001);
-    let y = drawn(draws, -5000, 10001);
-    let alt = drawn(draws, 3500, 3001);
-    let vx = drawn(draws, -4000, 8001);
-    let vy = drawn(draws, -4000, 8001);
-    let vs = drawn(draws, -2000, 4001);
-    let age = drawn(draws, 0, 61);
+    let x = draw(draws, -5000, 10001);
+    let y = draw(draws, -5000, 10001);
+    let alt = draw(draws, 3500, 3001);
+    let vx = draw(draws, -4000, 8001);
+    let vy = draw(draws, -4000, 8001);
+    let vs = draw(draws, -2000, 4001);
+    let age = draw(draws, 0, 61);
     Ok(format!(in rt.alloc(); "traffic {name} {x} {y} {alt} {vx} {vy} {vs} {age}")?)
 }
 
 /// The line of the ownship.
 fn drawn_own(rt: &impl AllocGlobal, draws: &mut Lcg64Xsh32) -> Result<String, Fail> {
-    let alt = drawn(draws, 4500, 1001);
-    let trk = drawn(draws, 0, 360);
-    let gs = drawn(draws, 0, 6001);
-    let vs = drawn(draws, -2000, 4001);
+    let alt = draw(draws, 4500, 1001);
+    let trk = draw(draws, 0, 360);
+    let gs = draw(draws, 0, 6001);
+    let vs = draw(draws, -2000, 4001);
     Ok(format!(in rt.alloc(); "own 30 -70 {alt} {trk} {gs} {vs}")?)
 }
 

@@ -1,4 +1,4 @@
-use Rattle.daa_alert.proofs.Alerted.{alert_here, alert_none}
+use Rattle.daa_alert.proofs.AlertLemmas.{alert_here, alert_none}
 use Rattle.daa_alert.proofs.alerting.alert.Goals as goal
 
 pub returns-then-is_some : goal.returns-then-is_some

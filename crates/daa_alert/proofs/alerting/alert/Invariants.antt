@@ -1,6 +1,6 @@
 use Rattle.std.proofs.Common.{length}
 use Rattle.daa_legs.specs.Alerts.{Alerts}
-use Rattle.daa_alert.proofs.Greatest.{IsNoneAbove}
+use Rattle.daa_alert.proofs.GreatestLevels.{IsNoneAbove}
 use Rattle.daa_alert.proofs.alerting.alert.Given as goal
 
 abbrev pub invariant-loop-l : goal.invariant-loop-l

@@ -1,5 +1,5 @@
 use Rattle.std.proofs.Common.{arith}
-use Rattle.daa_alert.proofs.Halves.{halved_start, halved_least}
+use Rattle.daa_alert.proofs.HalvingLemmas.{halved_start, halved_least}
 use Rattle.daa_alert.proofs.halving.least_leg.Goals as goal
 
 pub loop-high-init : goal.loop-high-init

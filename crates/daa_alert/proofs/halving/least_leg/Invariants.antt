@@ -1,5 +1,5 @@
 use Rattle.std.proofs.Common.{◌-◌}
-use Rattle.daa_alert.proofs.Halves.{IsHalved}
+use Rattle.daa_alert.proofs.HalvingLemmas.{IsHalved}
 use Rattle.daa_alert.proofs.halving.least_leg.Given as goal
 
 abbrev pub invariant-loop-high : goal.invariant-loop-high

@@ -4,7 +4,7 @@ use Rattle.daa_fixed.specs.declared.Leg.{Leg}
 use Rattle.daa_taumod.specs.Volume.{Violates}
 use Rattle.daa_legs.specs.Alerts.{ViolatesNow}
 use Rattle.daa_legs.proofs.AtLevel.{violates_now_at}
-use Rattle.daa_alert.proofs.Greatest.{none_start, none_next, greatest_here, greatest_none}
+use Rattle.daa_alert.proofs.GreatestLevels.{none_start, none_next, greatest_here, greatest_none}
 use Rattle.daa_alert.proofs.now.now_level.Goals as goal
 use Rattle.daa_alert.proofs.now.now_level.Goals.{After-violates}
 

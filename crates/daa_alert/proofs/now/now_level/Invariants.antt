@@ -1,6 +1,6 @@
 use Rattle.std.proofs.Common.{length}
 use Rattle.daa_legs.specs.Alerts.{ViolatesNow}
-use Rattle.daa_alert.proofs.Greatest.{IsNoneAbove}
+use Rattle.daa_alert.proofs.GreatestLevels.{IsNoneAbove}
 use Rattle.daa_alert.proofs.now.now_level.Given as goal
 
 abbrev pub invariant-loop-l : goal.invariant-loop-l

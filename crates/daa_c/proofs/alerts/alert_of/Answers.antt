@@ -1,6 +1,6 @@
 use Rattle.std.proofs.Common.{◌≡◌, ap, ◌∙◌, Option, Some, None}
 use Rattle.daa_state.specs.Checked.{earlier}
-use Rattle.daa_c.specs.Faults.{own_refusal, traffic_refusal, refusal_of_own}
+use Rattle.daa_c.specs.Refusal.{own_refusal, traffic_refusal, refusal_of_own}
 use Rattle.daa_c.specs.Numbers.{settings_by}
 use Rattle.daa_c.specs.declared.refusal.Refusal.{Refusal}
 use Rattle.daa_c.specs.declared.refusal.Refusal.TheVariants as refuses

@@ -6,8 +6,8 @@ use Rattle.daa_c.specs.Numbers.{settings_by}
 use Rattle.daa_c.proofs.RefusalLemmas.{accepted_alone}
 use Rattle.daa_c.proofs.bands.daa_bands.Goals as goal
 
-pub returns-clause-told : goal.returns-clause-told
-returns-clause-told c = λ (_ : pos 0 ≡ pos 0).
+pub returns-clause-filled : goal.returns-clause-filled
+returns-clause-filled c = λ (_ : pos 0 ≡ pos 0).
     let fits : FitsSigned w32 c.args.kind = search rules in
     record {
       settings = c.in-Ok.config;

@@ -22,9 +22,9 @@ loop-band-preserved c =
     let within : c.loop-band.count < length c.loop-band.bands = omega (arith, c.loop-band.invariant.counted, c.loop-band.invariant.same_size, room) in
     record {
       split = next_split _ c.loop-band.yielded c.loop-band.band-iterator c.next.new.self c.in-Some.band c.loop-band.invariant.split c.in-Some.ensures.steps;
-      same_size = length-set c.loop-band.bands c.loop-band.count c.told.result ∙ c.loop-band.invariant.same_size;
-      within = omega (arith, within, length-set c.loop-band.bands c.loop-band.count c.told.result);
+      same_size = length-set c.loop-band.bands c.loop-band.count c.band_numbers.result ∙ c.loop-band.invariant.same_size;
+      within = omega (arith, within, length-set c.loop-band.bands c.loop-band.count c.band_numbers.result);
       counted = omega (arith, c.loop-band.invariant.counted, length-append c.loop-band.yielded (c.in-Some.band ∷ []));
-      past = set_past c.loop-band.bands c.args.bands.now c.loop-band.count c.told.result c.loop-band.invariant.past;
-      filled = next_filled c.loop-band.bands c.loop-band.count c.told.result c.loop-band.yielded c.in-Some.band within c.loop-band.invariant.filled c.told.ensures;
+      past = set_past c.loop-band.bands c.args.bands.now c.loop-band.count c.band_numbers.result c.loop-band.invariant.past;
+      filled = next_filled c.loop-band.bands c.loop-band.count c.band_numbers.result c.loop-band.yielded c.in-Some.band within c.loop-band.invariant.filled c.band_numbers.ensures;
     }

@@ -1,5 +1,5 @@
 use Rattle.std.proofs.Common.{Some}
-use Rattle.daa_c.specs.Faults.{states_refusal}
+use Rattle.daa_c.specs.Refusal.{states_refusal}
 use Rattle.daa_c.specs.Numbers.{settings_by}
 use Rattle.daa_c.proofs.RefusalLemmas.{config_first, config_passed}
 use Rattle.daa_c.proofs.deciding.board_of.Goals as goal

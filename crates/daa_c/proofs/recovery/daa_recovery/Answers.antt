@@ -1,6 +1,6 @@
 use Rattle.std.proofs.Common.{◌∙◌, sym, Some, None, rules, w32, FitsSigned}
 use Rattle.std.proofs.lemmas.Int.{to_z-of_z}
-use Rattle.daa_c.specs.Faults.{states_refusal}
+use Rattle.daa_c.specs.Refusal.{states_refusal}
 use Rattle.daa_c.specs.Numbers.{settings_by}
 use Rattle.daa_c.specs.declared.refusal.Refusal.TheVariants as refuses
 use Rattle.daa_c.proofs.RefusalLemmas.{config_first, config_passed}

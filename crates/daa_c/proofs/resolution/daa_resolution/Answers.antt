@@ -4,14 +4,14 @@ use Rattle.daa_bands.specs.Board.{HasLevelOn}
 use Rattle.daa_resolve.specs.Resolution.{IsResolution}
 use Rattle.daa_state.specs.InRange.{IsOwnInRange}
 use Rattle.daa_state.specs.declared.word.Own.{Own}
-use Rattle.daa_c.specs.Faults.{own_refusal}
+use Rattle.daa_c.specs.Refusal.{own_refusal}
 use Rattle.daa_c.specs.Numbers.{settings_by}
 use Rattle.daa_c.specs.declared.refusal.Refusal.TheVariants as refuses
 use Rattle.daa_c.proofs.RefusalLemmas.{config_first, config_passed}
 use Rattle.daa_c.proofs.resolution.daa_resolution.Goals as goal
 
-pub returns-clause-told : goal.returns-clause-told
-returns-clause-told c = λ (_ : pos 0 ≡ pos 0).
+pub returns-clause-filled : goal.returns-clause-filled
+returns-clause-filled c = λ (_ : pos 0 ≡ pos 0).
     let s = c.in-Ok.config in let k = c.in-Some.kind in let side = c.in-Some-side_in.side in let answer = c.nearest.result in
     let fits : FitsSigned w32 c.args.kind = search rules in let side_fits : FitsSigned w32 c.args.side = search rules in
     let same = c.in-Ok-checked_own.ensures.value in
@@ -26,7 +26,7 @@ returns-clause-told c = λ (_ : pos 0 ≡ pos 0).
       answer = answer;
       is = subst (λ (own : Own). IsResolution (HasLevelOn c.args.board.now.masks) s own k side answer) same
           (subst (λ (board : List ℕ). IsResolution (HasLevelOn board) s c.in-Ok-checked_own.own k side answer) c.of.ensures c.nearest.ensures);
-      told = c.told.ensures;
+      filled = c.resolution_numbers.ensures;
     }
 
 pub returns-in-Err-clause-refused : goal.returns-in-Err-clause-refused

@@ -1,5 +1,5 @@
 use Rattle.std.proofs.Common.{◌≡◌, Bool, true, false, IsTrue, refl}
-use Rattle.daa_c.specs.Faults.{bad_id_from}
+use Rattle.daa_c.specs.Refusal.{bad_id_from}
 use Rattle.daa_c.proofs.RefusalLemmas.{bad_found, bad_passed, bad_past}
 use Rattle.daa_c.proofs.TrafficLemmas.{next_all}
 use Rattle.daa_c.proofs.states.all_aircraft.Goals as goal

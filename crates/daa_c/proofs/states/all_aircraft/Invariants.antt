@@ -1,5 +1,5 @@
 use Rattle.std.proofs.Common.{◌≡◌, map, take, drop}
-use Rattle.daa_c.specs.Faults.{bad_id_from}
+use Rattle.daa_c.specs.Refusal.{bad_id_from}
 use Rattle.daa_c.specs.States.{traffic_of}
 use Rattle.daa_c.proofs.states.all_aircraft.Given as goal
 

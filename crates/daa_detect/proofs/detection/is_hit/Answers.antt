@@ -1,4 +1,4 @@
-use Rattle.daa_detect.proofs.Sometimes.{found_sometime}
+use Rattle.daa_detect.proofs.FoundTimes.{found_sometime}
 use Rattle.daa_detect.proofs.detection.is_hit.Goals as goal
 
 pub returns : goal.returns

@@ -4,7 +4,7 @@ use Rattle.daa_fixed.specs.Leg.{IsLegInRange}
 use Rattle.daa_taumod.specs.Volume.{IsVolumeInRange}
 use Rattle.daa_detect.specs.Inside.Motion.{rate_of}
 use Rattle.daa_detect.proofs.Sizes.{IsMotionInRange, margin-kept}
-use Rattle.daa_detect.proofs.Ends.{missed, first_decides, last_decides, is_ahead, approach_hits}
+use Rattle.daa_detect.proofs.DecidingTimes.{missed, first_decides, last_decides, is_ahead, approach_hits}
 use Rattle.daa_detect.proofs.detection.nearest_hit.Goals as goal
 
 pub returns-then-motion-lt0 : goal.returns-then-motion-lt0

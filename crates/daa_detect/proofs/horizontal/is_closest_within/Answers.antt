@@ -12,8 +12,8 @@ returns c =
     let t : IsPointInRange c.args.point.now = search rules in
     let u = size.small t c.requires.small in
     let w : IsWithin most_rate c.rate_at.result = as_within c.rate_at.ensures (size.rate s u) in
-    let g : IsWithin (120 * 40000 * 3200000000) c.gained.result = as_within c.gained.ensures (size.gain s u c.requires.secs) in
+    let g : IsWithin (120 * 40000 * 3200000000) c.rate_gain.result = as_within c.rate_gain.ensures (size.gain s u c.requires.secs) in
     let f1 = fits w64 w (lit< tt) in
     let f2 = fits w64 g (lit< tt) in
     let f3 = fits w64 (zero_less-within c.rate_at.result w) (lit< tt) in
-    simp to_z-of_z (le_test _ _ _ _ (zero_less c.rate_at.result ∙ ap neg_ℤ c.rate_at.ensures) c.gained.ensures)
+    simp to_z-of_z (le_test _ _ _ _ (zero_less c.rate_at.result ∙ ap neg_ℤ c.rate_at.ensures) c.rate_gain.ensures)

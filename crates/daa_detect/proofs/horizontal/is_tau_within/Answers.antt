@@ -13,7 +13,7 @@ overflow_add-later c =
     let t : IsPointInRange c.args.point.now = search rules in
     let u = size.small t c.requires.small in
     let w : IsWithin most_rate c.rate_at-rate.result = as_within c.rate_at-rate.ensures (size.rate s u) in
-    let g : IsWithin (120 * 40000 * 3200000000) c.gained.result = as_within c.gained.ensures (size.gain s u c.requires.secs) in
+    let g : IsWithin (120 * 40000 * 3200000000) c.rate_gain.result = as_within c.rate_gain.ensures (size.gain s u c.requires.secs) in
     let f1 = fits w64 w (lit< tt) in
     let f2 = fits w64 g (lit< tt) in
     simp to_z-of_z (fits w64 (plus w g) (lit< tt))
@@ -24,7 +24,7 @@ overflow_mul-result c =
     let t : IsPointInRange c.args.point.now = search rules in
     let u = size.small t c.requires.small in
     let w : IsWithin most_rate c.rate_at-rate.result = as_within c.rate_at-rate.ensures (size.rate s u) in
-    let g : IsWithin (120 * 40000 * 3200000000) c.gained.result = as_within c.gained.ensures (size.gain s u c.requires.secs) in
+    let g : IsWithin (120 * 40000 * 3200000000) c.rate_gain.result = as_within c.rate_gain.ensures (size.gain s u c.requires.secs) in
     let f1 = fits w64 w (lit< tt) in
     let f2 = fits w64 g (lit< tt) in
     let f3 = fits w64 (plus w g) (lit< tt) in
@@ -45,11 +45,11 @@ returns c =
     let t : IsPointInRange c.args.point.now = search rules in
     let u = size.small t c.requires.small in
     let w : IsWithin most_rate c.rate_at-rate.result = as_within c.rate_at-rate.ensures (size.rate s u) in
-    let g : IsWithin (120 * 40000 * 3200000000) c.gained.result = as_within c.gained.ensures (size.gain s u c.requires.secs) in
+    let g : IsWithin (120 * 40000 * 3200000000) c.rate_gain.result = as_within c.rate_gain.ensures (size.gain s u c.requires.secs) in
     let f1 = fits w64 w (lit< tt) in
     let f2 = fits w64 g (lit< tt) in
     let f3 = fits w64 (plus w g) (lit< tt) in
     let f4 = fits w128 w (lit< tt) in
     let f5 = fits w128 (plus w g) (lit< tt) in
     let f6 = fits w128 (times w (plus w g)) (lit< tt) in
-    simp (to_z-of_z, of_motion) (le_test _ _ _ _ (λ i. c.rate_at-rate.ensures i *ℤ (c.rate_at-rate.ensures i +ℤ c.gained.ensures i)) refl)
+    simp (to_z-of_z, of_motion) (le_test _ _ _ _ (λ i. c.rate_at-rate.ensures i *ℤ (c.rate_at-rate.ensures i +ℤ c.rate_gain.ensures i)) refl)

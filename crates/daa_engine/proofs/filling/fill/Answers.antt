@@ -1,7 +1,7 @@
 use Rattle.std.proofs.Common.{ℕ, List, length, sym, subst, arith}
 use Rattle.daa_bands.specs.Board.{IsBoardOf}
 use Rattle.daa_config.specs.Candidates.{candidates_of}
-use Rattle.daa_scan.specs.Situation.{Situation}
+use Rattle.daa_scan.specs.SceneState.{SceneState}
 use Rattle.daa_engine.specs.Covered.{scene_of}
 use Rattle.daa_engine.proofs.Covered.{CoveredBelow}
 use Rattle.daa_engine.specs.Inside.Filling.{AddsAircraft}
@@ -19,7 +19,7 @@ loop-place-preserved c =
     let place : ℕ = c.loop-place.place in
     let old : List ℕ = c.loop-place.board in
     let new : List ℕ = c.mark_aircraft.new.board in
-    let adds = subst (λ (x : Situation). AddsAircraft x place (length (candidates_of x.settings)) old new) c.of-scene.ensures c.mark_aircraft.ensures in
+    let adds = subst (λ (x : SceneState). AddsAircraft x place (length (candidates_of x.settings)) old new) c.of-scene.ensures c.mark_aircraft.ensures in
     aircraft_more (scene_of c.args.config.now c.args.picture.now) place old new c.loop-place.invariant adds
 
 pub returns : goal.returns

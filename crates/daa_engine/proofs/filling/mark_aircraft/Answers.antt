@@ -3,7 +3,7 @@ use Rattle.std.specs.Prelude.{slice_index}
 use Rattle.daa_config.specs.Candidates.{candidates_of}
 use Rattle.daa_fixed.specs.Mask.{IsMaskOf}
 use Rattle.daa_config.specs.Settings.{Settings}
-use Rattle.daa_scan.specs.Situation.{MeetsAt}
+use Rattle.daa_scan.specs.SceneState.{MeetsAt}
 use Rattle.daa_engine.proofs.FillingLemmas.{mark_more, mark_nothing}
 use Rattle.daa_engine.proofs.filling.mark_aircraft.Goals as goal
 

@@ -1,4 +1,4 @@
-use Rattle.daa_engine.proofs.OnlyLemmas.{same_level}
+use Rattle.daa_engine.proofs.OneText.{same_level}
 use Rattle.daa_engine.proofs.laws.has_one_board.Goals as goal
 
 pub returns : goal.returns

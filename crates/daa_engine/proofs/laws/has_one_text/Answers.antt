@@ -1,4 +1,4 @@
-use Rattle.daa_engine.proofs.OnlyLemmas.{text_only}
+use Rattle.daa_engine.proofs.OneText.{text_only}
 use Rattle.daa_engine.proofs.laws.has_one_text.Goals as goal
 
 pub returns : goal.returns

@@ -1,6 +1,6 @@
 use Rattle.std.proofs.Common.{take, Ok}
 use Rattle.std.specs.List.{flat_map, zip}
-use Rattle.daa_report.specs.PageSays.{PageSays}
+use Rattle.daa_report.specs.Page.{PageSays}
 use Rattle.daa_report.specs.declared.writers.SinkFault.{SinkFault}
 use Rattle.daa_engine.specs.Inside.Written.{aircraft_text}
 use Rattle.daa_engine.proofs.say.say_alerts.Given as goal

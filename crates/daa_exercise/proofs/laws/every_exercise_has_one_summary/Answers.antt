@@ -1,4 +1,4 @@
-use Rattle.daa_exercise.proofs.OneLemmas.{one_summary}
+use Rattle.daa_exercise.proofs.OneSummary.{one_summary}
 use Rattle.daa_exercise.proofs.laws.every_exercise_has_one_summary.Goals as goal
 
 pub returns : goal.returns

@@ -5,16 +5,16 @@ use Rattle.daa_config.specs.declared.candidate.Candidate.TheVariants.{Track, Spe
 use Rattle.daa_config.specs.Settings.{IsCandidateInRange}
 use Rattle.daa_legs.specs.Branch.{lead_of, FliesAs, FliesOn}
 use Rattle.daa_legs.proofs.StateRanges.{own_track}
-use Rattle.daa_legs.proofs.Leading.{speed_branch, climb_branch, height_branch, hold_on}
+use Rattle.daa_legs.proofs.LeadingFlights.{speed_branch, climb_branch, height_branch, hold_on}
 use Rattle.daa_legs.proofs.Turning.{track_branch}
 use Rattle.daa_legs.proofs.Branching.{before_is, after_is, near_is, none_own}
 use Rattle.daa_legs.proofs.branch.parting_of.Goals as goal
-use Rattle.daa_legs.proofs.branch.parting_of.Goals.{After-beside, After-beside-in-Speed, After-beside-in-Climb, After-short_of}
+use Rattle.daa_legs.proofs.branch.parting_of.Goals.{After-parting_after, After-parting_after-in-Speed, After-parting_after-in-Climb, After-parting_short_of}
 
 pub returns-in-Hold-clause-after : goal.returns-in-Hold-clause-after
 returns-in-Hold-clause-after c = subst (λ (x : Candidate). FliesOn c.args.own.now c.args.rates.now x 0) (sym c.in-Hold.is) (hold_on c.args.own.now c.args.rates.now)
 
-tracks : (c : After-beside) → FliesAs c.args.own.now c.args.rates.now (Track c.in-Track.c) (lead_of c.args.own.now (Track c.in-Track.c) c.turn_away.result.upper) (c.turn_away.result.legs + 1) × FliesOn c.args.own.now c.args.rates.now (Track c.in-Track.c) (c.turn_away.result.legs + 1)
+tracks : (c : After-parting_after) → FliesAs c.args.own.now c.args.rates.now (Track c.in-Track.c) (lead_of c.args.own.now (Track c.in-Track.c) c.turn_away.result.upper) (c.turn_away.result.legs + 1) × FliesOn c.args.own.now c.args.rates.now (Track c.in-Track.c) (c.turn_away.result.legs + 1)
 tracks c =
     let f1 : FitsSigned w32 c.args.own.now.trk = search rules in
     let f2 : FitsSigned w32 c.in-Track.c = search rules in
@@ -23,15 +23,15 @@ tracks c =
     track_branch c.args.own.now c.args.rates.now c.in-Track.c c.turn_away.result.upper c.turn_away.result.legs (omega (arith, ints, c.requires.rates.turn.least)) (own_track c.requires.own) (subst (λ (x : Candidate). IsCandidateInRange x) c.in-Track.is c.requires.candidate) e.right e.left e.right_legs e.left_legs
 
 pub returns-in-Track-clause-before : goal.returns-in-Track-clause-before
-returns-in-Track-clause-before c = before_is c.args.own.now c.args.rates.now _ _ _ _ c.in-Track.is c.beside.ensures (tracks c).0
+returns-in-Track-clause-before c = before_is c.args.own.now c.args.rates.now _ _ _ _ c.in-Track.is c.parting_after.ensures (tracks c).0
 
 pub returns-in-Track-clause-after : goal.returns-in-Track-clause-after
-returns-in-Track-clause-after c = after_is c.args.own.now c.args.rates.now _ _ _ _ c.in-Track.is c.beside.ensures (tracks c).1
+returns-in-Track-clause-after c = after_is c.args.own.now c.args.rates.now _ _ _ _ c.in-Track.is c.parting_after.ensures (tracks c).1
 
 pub returns-in-Track-clause-near : goal.returns-in-Track-clause-near
-returns-in-Track-clause-near c = near_is _ _ c.beside.ensures (omega arith) (omega arith)
+returns-in-Track-clause-near c = near_is _ _ c.parting_after.ensures (omega arith) (omega arith)
 
-speeds : (c : After-beside-in-Speed) → FliesAs c.args.own.now c.args.rates.now (Speed c.in-Speed.g) (lead_of c.args.own.now (Speed c.in-Speed.g) c.way_to.result.upper) (c.way_to.result.legs + 1) × FliesOn c.args.own.now c.args.rates.now (Speed c.in-Speed.g) (c.way_to.result.legs + 1)
+speeds : (c : After-parting_after-in-Speed) → FliesAs c.args.own.now c.args.rates.now (Speed c.in-Speed.g) (lead_of c.args.own.now (Speed c.in-Speed.g) c.way_to.result.upper) (c.way_to.result.legs + 1) × FliesOn c.args.own.now c.args.rates.now (Speed c.in-Speed.g) (c.way_to.result.legs + 1)
 speeds c =
     let n1 : FitsSigned w32 c.args.own.now.gs = search rules in
     let n2 : FitsSigned w32 c.in-Speed.g = search rules in
@@ -46,15 +46,15 @@ speeds c =
     speed_branch c.args.own.now c.args.rates.now c.in-Speed.g c.way_to.result.upper c.way_to.result.legs (omega (arith, ints, c.requires.rates.gs.least)) (subst (λ (x : Candidate). IsCandidateInRange x) c.in-Speed.is c.requires.candidate) e.up e.down e.up_legs e.down_legs
 
 pub returns-in-Speed-clause-before : goal.returns-in-Speed-clause-before
-returns-in-Speed-clause-before c = before_is c.args.own.now c.args.rates.now _ _ _ _ c.in-Speed.is c.beside-in-Speed.ensures (speeds c).0
+returns-in-Speed-clause-before c = before_is c.args.own.now c.args.rates.now _ _ _ _ c.in-Speed.is c.parting_after-in-Speed.ensures (speeds c).0
 
 pub returns-in-Speed-clause-after : goal.returns-in-Speed-clause-after
-returns-in-Speed-clause-after c = after_is c.args.own.now c.args.rates.now _ _ _ _ c.in-Speed.is c.beside-in-Speed.ensures (speeds c).1
+returns-in-Speed-clause-after c = after_is c.args.own.now c.args.rates.now _ _ _ _ c.in-Speed.is c.parting_after-in-Speed.ensures (speeds c).1
 
 pub returns-in-Speed-clause-near : goal.returns-in-Speed-clause-near
-returns-in-Speed-clause-near c = near_is _ _ c.beside-in-Speed.ensures (omega arith) (omega arith)
+returns-in-Speed-clause-near c = near_is _ _ c.parting_after-in-Speed.ensures (omega arith) (omega arith)
 
-climbs : (c : After-beside-in-Climb) → FliesAs c.args.own.now c.args.rates.now (Climb c.in-Climb.w) (lead_of c.args.own.now (Climb c.in-Climb.w) c.way_to-in-Climb.result.upper) (c.way_to-in-Climb.result.legs + 1) × FliesOn c.args.own.now c.args.rates.now (Climb c.in-Climb.w) (c.way_to-in-Climb.result.legs + 1)
+climbs : (c : After-parting_after-in-Climb) → FliesAs c.args.own.now c.args.rates.now (Climb c.in-Climb.w) (lead_of c.args.own.now (Climb c.in-Climb.w) c.way_to-in-Climb.result.upper) (c.way_to-in-Climb.result.legs + 1) × FliesOn c.args.own.now c.args.rates.now (Climb c.in-Climb.w) (c.way_to-in-Climb.result.legs + 1)
 climbs c =
     let n1 : FitsSigned w32 c.args.own.now.vs = search rules in
     let n2 : FitsSigned w32 c.in-Climb.w = search rules in
@@ -69,15 +69,15 @@ climbs c =
     climb_branch c.args.own.now c.args.rates.now c.in-Climb.w c.way_to-in-Climb.result.upper c.way_to-in-Climb.result.legs (omega (arith, ints, c.requires.rates.vs.least)) (subst (λ (x : Candidate). IsCandidateInRange x) c.in-Climb.is c.requires.candidate) e.up e.down e.up_legs e.down_legs
 
 pub returns-in-Climb-clause-before : goal.returns-in-Climb-clause-before
-returns-in-Climb-clause-before c = before_is c.args.own.now c.args.rates.now _ _ _ _ c.in-Climb.is c.beside-in-Climb.ensures (climbs c).0
+returns-in-Climb-clause-before c = before_is c.args.own.now c.args.rates.now _ _ _ _ c.in-Climb.is c.parting_after-in-Climb.ensures (climbs c).0
 
 pub returns-in-Climb-clause-after : goal.returns-in-Climb-clause-after
-returns-in-Climb-clause-after c = after_is c.args.own.now c.args.rates.now _ _ _ _ c.in-Climb.is c.beside-in-Climb.ensures (climbs c).1
+returns-in-Climb-clause-after c = after_is c.args.own.now c.args.rates.now _ _ _ _ c.in-Climb.is c.parting_after-in-Climb.ensures (climbs c).1
 
 pub returns-in-Climb-clause-near : goal.returns-in-Climb-clause-near
-returns-in-Climb-clause-near c = near_is _ _ c.beside-in-Climb.ensures (omega arith) (omega arith)
+returns-in-Climb-clause-near c = near_is _ _ c.parting_after-in-Climb.ensures (omega arith) (omega arith)
 
-heights : (c : After-short_of) → FliesAs c.args.own.now c.args.rates.now (Height c.in-Height.a) (lead_of c.args.own.now (Height c.in-Height.a) c.way_to-in-Height.result.upper) c.way_to-in-Height.result.legs × FliesOn c.args.own.now c.args.rates.now (Height c.in-Height.a) (c.way_to-in-Height.result.legs + 1)
+heights : (c : After-parting_short_of) → FliesAs c.args.own.now c.args.rates.now (Height c.in-Height.a) (lead_of c.args.own.now (Height c.in-Height.a) c.way_to-in-Height.result.upper) c.way_to-in-Height.result.legs × FliesOn c.args.own.now c.args.rates.now (Height c.in-Height.a) (c.way_to-in-Height.result.legs + 1)
 heights c =
     let n1 : FitsSigned w32 c.args.own.now.alt = search rules in
     let n2 : FitsSigned w32 c.in-Height.a = search rules in
@@ -92,22 +92,22 @@ heights c =
     height_branch c.args.own.now c.args.rates.now c.in-Height.a c.way_to-in-Height.result.upper c.way_to-in-Height.result.legs (omega (arith, ints, c.requires.rates.alt.least)) (subst (λ (x : Candidate). IsCandidateInRange x) c.in-Height.is c.requires.candidate) e.up e.down e.up_legs e.down_legs
 
 pub returns-in-Height-clause-before : goal.returns-in-Height-clause-before
-returns-in-Height-clause-before c = before_is c.args.own.now c.args.rates.now _ _ _ _ c.in-Height.is c.short_of.ensures (heights c).0
+returns-in-Height-clause-before c = before_is c.args.own.now c.args.rates.now _ _ _ _ c.in-Height.is c.parting_short_of.ensures (heights c).0
 
 pub returns-in-Height-clause-after : goal.returns-in-Height-clause-after
-returns-in-Height-clause-after c = after_is c.args.own.now c.args.rates.now _ _ _ _ c.in-Height.is c.short_of.ensures (heights c).1
+returns-in-Height-clause-after c = after_is c.args.own.now c.args.rates.now _ _ _ _ c.in-Height.is c.parting_short_of.ensures (heights c).1
 
 pub returns-in-Height-clause-near : goal.returns-in-Height-clause-near
-returns-in-Height-clause-near c = near_is _ _ c.short_of.ensures (omega arith) (omega arith)
+returns-in-Height-clause-near c = near_is _ _ c.parting_short_of.ensures (omega arith) (omega arith)
 
 pub returns-in-Track-clause-level : goal.returns-in-Track-clause-level
-returns-in-Track-clause-level c h = absurd (none_own _ _ c.beside.ensures (omega arith) h)
+returns-in-Track-clause-level c h = absurd (none_own _ _ c.parting_after.ensures (omega arith) h)
 
 pub returns-in-Speed-clause-level : goal.returns-in-Speed-clause-level
-returns-in-Speed-clause-level c h = absurd (none_own _ _ c.beside-in-Speed.ensures (omega arith) h)
+returns-in-Speed-clause-level c h = absurd (none_own _ _ c.parting_after-in-Speed.ensures (omega arith) h)
 
 pub returns-in-Climb-clause-level : goal.returns-in-Climb-clause-level
-returns-in-Climb-clause-level c h = absurd (none_own _ _ c.beside-in-Climb.ensures (omega arith) h)
+returns-in-Climb-clause-level c h = absurd (none_own _ _ c.parting_after-in-Climb.ensures (omega arith) h)
 
 pub returns-in-Height-clause-level : goal.returns-in-Height-clause-level
 returns-in-Height-clause-level c h = (_, c.in-Height.is)

@@ -1,5 +1,5 @@
 use Rattle.std.proofs.Common.{refl, FitsSigned, w32, w64, to_z-of_z}
-use Rattle.daa_legs.proofs.Leading.{whole_z}
+use Rattle.daa_legs.proofs.LeadingFlights.{whole_z}
 use Rattle.daa_legs.proofs.branch.whole_legs.Goals as goal
 
 pub returns-clause-legs : goal.returns-clause-legs

@@ -1,5 +1,5 @@
 use Rattle.std.proofs.Common.{to_z-of_z, lit<}
-use Rattle.daa_legs.proofs.Fits.{fits_words, difference_fits}
+use Rattle.daa_legs.proofs.VectorSizes.{fits_words, difference_fits}
 use Rattle.daa_legs.proofs.encounter.difference.Goals as goal
 
 pub returns : goal.returns

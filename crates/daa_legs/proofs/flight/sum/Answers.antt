@@ -1,5 +1,5 @@
 use Rattle.std.proofs.Common.{to_z-of_z, lit<}
-use Rattle.daa_legs.proofs.Fits.{fits_words, sum_fits}
+use Rattle.daa_legs.proofs.VectorSizes.{fits_words, sum_fits}
 use Rattle.daa_legs.proofs.flight.sum.Goals as goal
 
 pub returns : goal.returns

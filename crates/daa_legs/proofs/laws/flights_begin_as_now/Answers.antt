@@ -1,7 +1,7 @@
 use Rattle.std.proofs.Common.{refl, sym}
-use Rattle.daa_legs.specs.OwnLegs.{own_place}
+use Rattle.daa_legs.specs.OwnLeg.{own_place}
 use Rattle.daa_legs.proofs.Places.{place-start}
-use Rattle.daa_legs.proofs.Steady.{track-first, ground_speed-first, vertical_speed-first, hold-velocity}
+use Rattle.daa_legs.proofs.ClosedForms.{track-first, ground_speed-first, vertical_speed-first, hold-velocity}
 use Rattle.daa_legs.proofs.laws.flights_begin_as_now.Goals as goal
 
 pub returns : goal.returns

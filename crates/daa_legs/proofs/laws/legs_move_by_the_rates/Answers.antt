@@ -1,4 +1,4 @@
-use Rattle.daa_legs.proofs.Steady.{ground_speed-next, vertical_speed-next, height-next}
+use Rattle.daa_legs.proofs.ClosedForms.{ground_speed-next, vertical_speed-next, height-next}
 use Rattle.daa_legs.proofs.laws.legs_move_by_the_rates.Goals as goal
 
 pub returns : goal.returns

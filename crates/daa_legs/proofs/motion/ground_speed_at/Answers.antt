@@ -4,7 +4,7 @@ use Rattle.daa_fixed.proofs.Bounds.{fits}
 use Rattle.daa_fixed.proofs.Towards.{from_within}
 use Rattle.daa_legs.specs.Motion.{ground_speed_on}
 use Rattle.daa_legs.proofs.StateRanges.{own_speed}
-use Rattle.daa_legs.proofs.Cases.{speed-case, speed-other, ground_speed_on-in_range}
+use Rattle.daa_legs.proofs.CandidateCases.{speed-case, speed-other, ground_speed_on-in_range}
 use Rattle.daa_legs.proofs.motion.ground_speed_at.Goals as goal
 
 known : (c : goal.After-speed_after) → c.speed_after.result ≡ ground_speed_on c.args.own.now c.args.rates.now c.args.candidate c.args.k

@@ -4,7 +4,7 @@ use Rattle.daa_fixed.specs.Size.{IsWithin, IsFrom}
 use Rattle.daa_fixed.specs.Toward.{toward_of}
 use Rattle.daa_fixed.proofs.Bounds.{fits}
 use Rattle.daa_fixed.proofs.Towards.{toward_of-step}
-use Rattle.daa_legs.proofs.Cases.{next_product, product_nonneg}
+use Rattle.daa_legs.proofs.CandidateCases.{next_product, product_nonneg}
 use Rattle.daa_legs.proofs.motion.rise.Goals as goal
 
 -- what the two calls give, and that their difference is small
@@ -21,7 +21,7 @@ risen alt a rate x y k r p q = record {
       record { size = omega (arith, ints, s.least, s.most, r.most) };
 }
 
-known : (c : goal.After-moved-2) → Risen c.args.alt c.args.a c.args.rate c.moved.result c.moved-2.result c.args.k
+known : (c : goal.After-toward_after-2) → Risen c.args.alt c.args.a c.args.rate c.toward_after.result c.toward_after-2.result c.args.k
 known c =
     let f1 : FitsSigned w32 c.args.alt = search rules in
     let f2 : FitsSigned w32 c.args.a = search rules in
@@ -34,29 +34,29 @@ known c =
     let h2 : c.feet-2.result ≡ pos 60 *ℤ c.args.a = simp to_z-of_z at c.feet-2.ensures in
     let h3 : c.feet-3.result ≡ pos 60 *ℤ c.args.alt = simp to_z-of_z at c.feet-3.ensures in
     let h4 : c.feet-4.result ≡ pos 60 *ℤ c.args.a = simp to_z-of_z at c.feet-4.ensures in
-    risen c.args.alt c.args.a c.args.rate c.moved.result c.moved-2.result c.args.k c.requires.rate
-    ((simp to_z-of_z at c.moved.ensures) ∙ (λ i. toward_of (h1 i) (h2 i) (pos (c.args.k + 1) *ℤ c.args.rate)))
-    ((simp to_z-of_z at c.moved-2.ensures) ∙ (λ i. toward_of (h3 i) (h4 i) (pos c.args.k *ℤ c.args.rate)))
+    risen c.args.alt c.args.a c.args.rate c.toward_after.result c.toward_after-2.result c.args.k c.requires.rate
+    ((simp to_z-of_z at c.toward_after.ensures) ∙ (λ i. toward_of (h1 i) (h2 i) (pos (c.args.k + 1) *ℤ c.args.rate)))
+    ((simp to_z-of_z at c.toward_after-2.ensures) ∙ (λ i. toward_of (h3 i) (h4 i) (pos c.args.k *ℤ c.args.rate)))
 
 pub overflow_sub-result : goal.overflow_sub-result
 overflow_sub-result c =
     let r = known c in
-    let f1 : FitsSigned w64 c.moved.result = search rules in
-    let f2 : FitsSigned w64 c.moved-2.result = search rules in
+    let f1 : FitsSigned w64 c.toward_after.result = search rules in
+    let f2 : FitsSigned w64 c.toward_after-2.result = search rules in
     simp to_z-of_z (fits w64 r.size (lit< tt))
 
 pub returns-clause-value : goal.returns-clause-value
 returns-clause-value c =
     let r = known c in
-    let f1 : FitsSigned w64 c.moved.result = search rules in
-    let f2 : FitsSigned w64 c.moved-2.result = search rules in
-    let f3 : FitsSigned w64 (c.moved.result -ℤ c.moved-2.result) = fits w64 r.size (lit< tt) in
+    let f1 : FitsSigned w64 c.toward_after.result = search rules in
+    let f2 : FitsSigned w64 c.toward_after-2.result = search rules in
+    let f3 : FitsSigned w64 (c.toward_after.result -ℤ c.toward_after-2.result) = fits w64 r.size (lit< tt) in
     simp to_z-of_z r.value
 
 pub returns-clause-size : goal.returns-clause-size
 returns-clause-size c =
     let r = known c in
-    let f1 : FitsSigned w64 c.moved.result = search rules in
-    let f2 : FitsSigned w64 c.moved-2.result = search rules in
-    let f3 : FitsSigned w64 (c.moved.result -ℤ c.moved-2.result) = fits w64 r.size (lit< tt) in
+    let f1 : FitsSigned w64 c.toward_after.result = search rules in
+    let f2 : FitsSigned w64 c.toward_after-2.result = search rules in
+    let f3 : FitsSigned w64 (c.toward_after.result -ℤ c.toward_after-2.result) = fits w64 r.size (lit< tt) in
     simp to_z-of_z r.size

@@ -9,7 +9,7 @@ returns c =
     let f3 : FitsSigned w32 c.args.rate = search rules in
     let g1 : FitsSigned w64 c.from.result = search rules in
     let g2 : FitsSigned w64 c.from-2.result = search rules in
-    let g3 : FitsSigned w64 c.moved.result = search rules in
+    let g3 : FitsSigned w64 c.toward_after.result = search rules in
     let h1 : c.from.result ≡ c.args.now = simp to_z-of_z at c.from.ensures in
     let h2 : c.from-2.result ≡ c.args.target = simp to_z-of_z at c.from-2.ensures in
-    simp to_z-of_z ((simp to_z-of_z at c.moved.ensures) ∙ (λ i. toward_of (h1 i) (h2 i) (pos c.args.k *ℤ c.args.rate)))
+    simp to_z-of_z ((simp to_z-of_z at c.toward_after.ensures) ∙ (λ i. toward_of (h1 i) (h2 i) (pos c.args.k *ℤ c.args.rate)))

@@ -5,7 +5,7 @@ use Rattle.daa_fixed.proofs.Bounds.{fits, times}
 use Rattle.daa_fixed.proofs.LegSizes.{natural}
 use Rattle.daa_fixed.proofs.Towards.{from_within}
 use Rattle.daa_legs.proofs.StateRanges.{own_track}
-use Rattle.daa_legs.proofs.Cases.{track-case, track-other, product_nonneg}
+use Rattle.daa_legs.proofs.CandidateCases.{track-case, track-other, product_nonneg}
 use Rattle.daa_legs.proofs.motion.track_at.Goals as goal
 
 small : (k : ℕ) → k ≤ 180 → to_z w32 k ≡ pos k

@@ -7,7 +7,7 @@ pub returns-in-Hold : goal.returns-in-Hold
 unfolding velocity_there
 returns-in-Hold c =
     let f1 : FitsSigned w32 c.args.own.now.vs = search rules in
-    let e : c.rising.result ≡ record { flat = c.args.present.now; up = c.args.own.now.vs } = simp to_z-of_z at c.rising.ensures in
+    let e : c.solid_velocity.result ≡ record { flat = c.args.present.now; up = c.args.own.now.vs } = simp to_z-of_z at c.solid_velocity.ensures in
     e ∙ (λ i. record { flat = c.requires.present i; up = c.args.own.now.vs }) ∙ ap (velocity_there c.args.own.now) (sym c.in-Hold.is)
 
 pub returns-in-Track : goal.returns-in-Track
@@ -16,7 +16,7 @@ returns-in-Track c =
     let f1 : FitsSigned w32 c.args.own.now.gs = search rules in
     let f2 : FitsSigned w32 c.in-Track.c = search rules in
     let f3 : FitsSigned w32 c.args.own.now.vs = search rules in
-    let e : c.flown.result ≡ record { flat = velocity_of c.args.own.now.gs c.in-Track.c; up = c.args.own.now.vs } = simp to_z-of_z at c.flown.ensures in
+    let e : c.velocity_along.result ≡ record { flat = velocity_of c.args.own.now.gs c.in-Track.c; up = c.args.own.now.vs } = simp to_z-of_z at c.velocity_along.ensures in
     e ∙ ap (velocity_there c.args.own.now) (sym c.in-Track.is)
 
 pub returns-in-Speed : goal.returns-in-Speed
@@ -25,18 +25,18 @@ returns-in-Speed c =
     let f1 : FitsSigned w32 c.in-Speed.g = search rules in
     let f2 : FitsSigned w32 c.args.own.now.trk = search rules in
     let f3 : FitsSigned w32 c.args.own.now.vs = search rules in
-    let e : c.flown-in-Speed.result ≡ record { flat = velocity_of c.in-Speed.g c.args.own.now.trk; up = c.args.own.now.vs } = simp to_z-of_z at c.flown-in-Speed.ensures in
+    let e : c.velocity_along-in-Speed.result ≡ record { flat = velocity_of c.in-Speed.g c.args.own.now.trk; up = c.args.own.now.vs } = simp to_z-of_z at c.velocity_along-in-Speed.ensures in
     e ∙ ap (velocity_there c.args.own.now) (sym c.in-Speed.is)
 
 pub returns-in-Climb : goal.returns-in-Climb
 unfolding velocity_there
 returns-in-Climb c =
     let f1 : FitsSigned w32 c.in-Climb.w = search rules in
-    let e : c.rising-in-Climb.result ≡ record { flat = c.args.present.now; up = c.in-Climb.w } = simp to_z-of_z at c.rising-in-Climb.ensures in
+    let e : c.solid_velocity-in-Climb.result ≡ record { flat = c.args.present.now; up = c.in-Climb.w } = simp to_z-of_z at c.solid_velocity-in-Climb.ensures in
     e ∙ (λ i. record { flat = c.requires.present i; up = c.in-Climb.w }) ∙ ap (velocity_there c.args.own.now) (sym c.in-Climb.is)
 
 pub returns-in-Height : goal.returns-in-Height
 unfolding velocity_there
 returns-in-Height c =
-    let e : c.rising-in-Height.result ≡ record { flat = c.args.present.now; up = pos 0 } = c.rising-in-Height.ensures in
+    let e : c.solid_velocity-in-Height.result ≡ record { flat = c.args.present.now; up = pos 0 } = c.solid_velocity-in-Height.ensures in
     e ∙ (λ i. record { flat = c.requires.present i; up = pos 0 }) ∙ ap (velocity_there c.args.own.now) (sym c.in-Height.is)

@@ -1,7 +1,7 @@
 use Rattle.std.proofs.Common.{rules, ◌∙◌, FitsSigned, w64, to_z-of_z}
 use Rattle.daa_heading.specs.Heading.{velocity_of}
 use Rattle.daa_legs.specs.Motion.{velocity_on}
-use Rattle.daa_legs.proofs.Cases.{track-other, speed-other}
+use Rattle.daa_legs.proofs.CandidateCases.{track-other, speed-other}
 use Rattle.daa_legs.proofs.motion.velocity_from.Goals as goal
 
 pub returns-in_default : goal.returns-in_default

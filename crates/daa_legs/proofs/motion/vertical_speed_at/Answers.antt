@@ -3,7 +3,7 @@ use Rattle.daa_fixed.proofs.Bounds.{as_within}
 use Rattle.daa_fixed.proofs.Towards.{from_within}
 use Rattle.daa_legs.specs.Motion.{vertical_speed_on}
 use Rattle.daa_legs.proofs.StateRanges.{own_climb}
-use Rattle.daa_legs.proofs.Cases.{climb-case, height-case, climb-other, vertical_speed_on-within}
+use Rattle.daa_legs.proofs.CandidateCases.{climb-case, height-case, climb-other, vertical_speed_on-within}
 use Rattle.daa_legs.proofs.motion.vertical_speed_at.Goals as goal
 
 known : (c : goal.After-speed_after) → c.speed_after.result ≡ vertical_speed_on c.args.own.now c.args.rates.now c.args.candidate c.args.k

@@ -1,4 +1,4 @@
-use Rattle.daa_recovery.proofs.Some.{one_recovery}
+use Rattle.daa_recovery.proofs.SomeRecovery.{one_recovery}
 use Rattle.daa_recovery.proofs.laws.has_one_recovery.Goals as goal
 
 pub returns : goal.returns

@@ -1,4 +1,4 @@
-use Rattle.daa_recovery.proofs.Lasting.{lasts}
+use Rattle.daa_recovery.proofs.LaterSeconds.{lasts}
 use Rattle.daa_recovery.proofs.laws.recovering_lasts.Goals as goal
 
 pub returns : goal.returns

@@ -1,6 +1,6 @@
 use Rattle.std.proofs.Common.{subst, sym}
 use Rattle.daa_ahead.specs.Bytes.{StreamState, stream_state}
-use Rattle.daa_judge.specs.Matched.{Compares}
+use Rattle.daa_judge.specs.Matching.{Compares}
 use Rattle.daa_judge.specs.declared.found.Found.{Found}
 use Rattle.daa_report.specs.Lines.{Text}
 use Rattle.daa_replay.specs.Moment.{IsEventText}

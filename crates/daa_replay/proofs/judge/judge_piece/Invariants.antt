@@ -1,9 +1,9 @@
 use Rattle.std.proofs.Common.{◌≡◌, ◌≤◌, ◌+◌, ◌-◌, ◌++◌, ℕ, length, take, false}
 use Rattle.daa_ahead.specs.Bytes.{StreamState, stream_state}
 use Rattle.daa_config.specs.Settings.{Settings}
-use Rattle.daa_judge.specs.Matched.{HasRoom}
+use Rattle.daa_judge.specs.Matching.{HasRoom}
 use Rattle.daa_lines.specs.LinesOf.{Bytes}
-use Rattle.daa_lines.specs.Cutting.{is_standing}
+use Rattle.daa_lines.specs.LinesState.{is_standing}
 use Rattle.daa_replay.specs.Inside.Judge.{IsJudged}
 use Rattle.daa_replay.proofs.judge.judge_piece.Given as goal
 

@@ -1,5 +1,5 @@
 use Rattle.std.proofs.Common.{◌++◌}
-use Rattle.daa_replay.proofs.OneText.{report_once}
+use Rattle.daa_replay.proofs.OneReport.{report_once}
 use Rattle.daa_replay.proofs.laws.fronts_begin_reports.Goals as goal
 
 pub returns : goal.returns

@@ -1,5 +1,5 @@
 use Rattle.std.proofs.Common.{◌≡◌, ◌∙◌, ap, true, rules}
-use Rattle.daa_lines.specs.Cutting.{is_standing}
+use Rattle.daa_lines.specs.LinesState.{is_standing}
 use Rattle.daa_state.specs.WordOf.{word_of}
 use Rattle.daa_replay.proofs.FollowsLemmas.{follows-event}
 use Rattle.daa_replay.proofs.lines.take_event.Goals as goal

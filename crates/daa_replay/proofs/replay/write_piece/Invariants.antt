@@ -1,7 +1,7 @@
 use Rattle.std.proofs.Common.{◌≡◌, ◌≤◌, ◌+◌, ◌-◌, ◌++◌, length, take, false}
 use Rattle.daa_config.specs.Settings.{Settings}
 use Rattle.daa_lines.specs.LinesOf.{Bytes}
-use Rattle.daa_lines.specs.Cutting.{is_standing}
+use Rattle.daa_lines.specs.LinesState.{is_standing}
 use Rattle.daa_ahead.specs.Bytes.{ToldBytes}
 use Rattle.daa_replay.specs.Inside.Replay.{Reports}
 use Rattle.daa_replay.proofs.replay.write_piece.Given as goal

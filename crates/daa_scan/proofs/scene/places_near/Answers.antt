@@ -4,7 +4,7 @@ use Rattle.std.proofs.lemmas.Option.{slice_get_read}
 use Rattle.daa_state.specs.declared.word.Traffic.{Traffic}
 use Rattle.daa_state.specs.Picture.{aircraft_of}
 use Rattle.daa_scan.specs.Packed.{is_reached_at, numbers_below}
-use Rattle.daa_scan.specs.Situation.{Situation}
+use Rattle.daa_scan.specs.SceneState.{SceneState}
 use Rattle.daa_scan.proofs.Numbers.{none_below, count_small, tested_here, listed_here, passed_here}
 use Rattle.daa_scan.proofs.scene.places_near.Goals as goal
 use Rattle.daa_scan.proofs.scene.places_near.Goals.{then-is_in_reach, else-is_in_reach}
@@ -20,7 +20,7 @@ loop-place-init c = c.new-places.ensures ∙ sym (none_below _)
 
 pub loop-place-preserved : goal.loop-place-preserved
 loop-place-preserved c =
-    let s : Situation = record { settings = c.args.config.now; picture = c.args.picture.now } in
+    let s : SceneState = record { settings = c.args.config.now; picture = c.args.picture.now } in
     let n : ℕ = c.loop-place.place in
     let in_list : n < length (aircraft_of s.picture) = omega (arith, c.loop-place-test.true, c.len-place-end.ensures.value) in
     let at : c.index-deref-place.result ≡ slice_index_or (aircraft_of s.picture) n c.index-deref-place.result = c.index-deref-place.is ∙ ap (λ (ts : List Traffic). slice_index_or ts n c.index-deref-place.result) c.deref.ensures.0 in

@@ -4,7 +4,7 @@ use Rattle.daa_config.specs.declared.config.Rates.{Rates}
 use Rattle.daa_config.specs.Settings.{AreRatesInRange, rates_of}
 use Rattle.daa_legs.specs.declared.own_leg.OwnLeg.{OwnLeg}
 use Rattle.daa_legs.specs.Branch.{FliesOn}
-use Rattle.daa_legs.specs.OwnLegs.{IsOwnLegInRange}
+use Rattle.daa_legs.specs.OwnLeg.{IsOwnLegInRange}
 use Rattle.daa_legs.proofs.Branching.{from_next}
 use Rattle.daa_legs.proofs.Places.{place-next}
 use Rattle.daa_scan.proofs.Trails.{own_by_branch, own_leg-in_range, leg_tested}

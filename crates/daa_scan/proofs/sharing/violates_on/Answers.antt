@@ -2,7 +2,7 @@ use Rattle.std.proofs.Common.{sym, subst, arith}
 use Rattle.daa_config.specs.declared.config.Rates.{Rates}
 use Rattle.daa_config.specs.Settings.{AreRatesInRange, rates_of}
 use Rattle.daa_legs.specs.declared.own_leg.OwnLeg.{OwnLeg}
-use Rattle.daa_legs.specs.OwnLegs.{IsOwnLegInRange}
+use Rattle.daa_legs.specs.OwnLeg.{IsOwnLegInRange}
 use Rattle.daa_scan.proofs.Trails.{kept_is, own_leg-in_range, leg_tested}
 use Rattle.daa_scan.proofs.sharing.violates_on.Goals as goal
 

@@ -2,5 +2,5 @@ use Rattle.daa_scan.proofs.TrunksWords.{AreLeadsBelow}
 use Rattle.daa_scan.proofs.trunks.fill_trunks.Given as goal
 
 -- the flights of the places so far are kept
-abbrev pub invariant-loop-place : goal.invariant-loop-place
-invariant-loop-place l = AreLeadsBelow l.config l.own l.needs l.place l.most l.trunks
+abbrev pub invariant-loop-index : goal.invariant-loop-index
+invariant-loop-index l = AreLeadsBelow l.config l.own l.needs l.index l.most l.trunks

@@ -23,7 +23,7 @@ overflow_mul-result c =
     let r : IsLegInRange c.args.leg.now = search rules in
     let t : IsPointInRange c.args.point.now = search rules in
     let tthr : c.args.volume.now.tthr ≤ 120 = search rules in
-    let wt : IsWithin (120 * 2 ^ 33) c.scaled.result = as_within c.scaled.ensures (times (natural 120 c.args.volume.now.tthr tthr) (point.d t)) in
+    let wt : IsWithin (120 * 2 ^ 33) c.scaled_threshold.result = as_within c.scaled_threshold.ensures (times (natural 120 c.args.volume.now.tthr tthr) (point.d t)) in
     let wv : IsWithin 3200000000 c.square.result = as_within c.square.ensures (size.vv r) in
     let f1 = fits w128 wt (lit< tt) in
     let f2 = fits w128 wv (lit< tt) in
@@ -34,7 +34,7 @@ returns c =
     let r : IsLegInRange c.args.leg.now = search rules in
     let t : IsPointInRange c.args.point.now = search rules in
     let tthr : c.args.volume.now.tthr ≤ 120 = search rules in
-    let wt : IsWithin (120 * 2 ^ 33) c.scaled.result = as_within c.scaled.ensures (times (natural 120 c.args.volume.now.tthr tthr) (point.d t)) in
+    let wt : IsWithin (120 * 2 ^ 33) c.scaled_threshold.result = as_within c.scaled_threshold.ensures (times (natural 120 c.args.volume.now.tthr tthr) (point.d t)) in
     let wv : IsWithin 3200000000 c.square.result = as_within c.square.ensures (size.vv r) in
     let wd : IsWithin (room * 40000 + room * 40000) c.dot.result = as_within c.dot.ensures (size.rate r c.place_then-place.ensures.short) in
     let f1 = fits w128 wt (lit< tt) in
@@ -43,4 +43,4 @@ returns c =
     let f4 = fits w128 wd (lit< tt) in
     let f5 = fits w128 (zero_less-within c.dot.result wd) (lit< tt) in
     let turned = c.dot.ensures ∙ ap (λ (p : Flat). dot_of p c.args.leg.now.velocity.flat) c.place_then-place.ensures.value in
-    simp to_z-of_z (le_test _ _ _ _ (zero_less c.dot.result ∙ ap neg_ℤ turned) (λ i. c.scaled.ensures i *ℤ c.square.ensures i))
+    simp to_z-of_z (le_test _ _ _ _ (zero_less c.dot.result ∙ ap neg_ℤ turned) (λ i. c.scaled_threshold.ensures i *ℤ c.square.ensures i))

@@ -7,8 +7,8 @@ use Rattle.daa_taumod.specs.Volume.{IsSoon}
 use Rattle.daa_taumod.proofs.horizontal.is_soon.Goals as goal
 
 -- the test of the volume's own model
-own_model : (model asked : Model) (leg : Leg) (vol : Volume) (n d : ℤ) (answer : Bool) → model ≡ asked → (IsTrue answer ↔ IsSoon asked leg vol n d) → IsTrue answer ↔ IsSoon model leg vol n d
-own_model model asked leg vol n d answer e h = subst (λ (w : Model). IsTrue answer ↔ IsSoon w leg vol n d) (sym e) h
+own_model : (model asked : Model) (leg : Leg) (volume : Volume) (n d : ℤ) (answer : Bool) → model ≡ asked → (IsTrue answer ↔ IsSoon asked leg volume n d) → IsTrue answer ↔ IsSoon model leg volume n d
+own_model model asked leg volume n d answer e h = subst (λ (w : Model). IsTrue answer ↔ IsSoon w leg volume n d) (sym e) h
 
 pub returns-in-Taumod : goal.returns-in-Taumod
 returns-in-Taumod c = own_model _ _ c.args.leg.now c.args.volume.now c.args.point.now.num c.args.point.now.den _ c.in-Taumod.is (search rules)

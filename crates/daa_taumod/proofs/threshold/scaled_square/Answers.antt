@@ -11,14 +11,14 @@ use Rattle.daa_taumod.proofs.threshold.scaled_square.Goals as goal
 pub overflow_mul-result : goal.overflow_mul-result
 overflow_mul-result c =
     let t : IsPointInRange c.args.point.now = search rules in
-    let s : IsWithin (360000 * 2 ^ 33) c.scaled-size.result = as_within c.scaled-size.ensures (times (natural 360000 c.args.threshold c.requires) (size.d t)) in
+    let s : IsWithin (360000 * 2 ^ 33) c.scaled_threshold-size.result = as_within c.scaled_threshold-size.ensures (times (natural 360000 c.args.threshold c.requires) (size.d t)) in
     let f1 = fits w128 s (lit< tt) in
     simp to_z-of_z (fits w128 (times s s) (lit< tt))
 
 pub returns : goal.returns
 returns c =
     let t : IsPointInRange c.args.point.now = search rules in
-    let s : IsWithin (360000 * 2 ^ 33) c.scaled-size.result = as_within c.scaled-size.ensures (times (natural 360000 c.args.threshold c.requires) (size.d t)) in
+    let s : IsWithin (360000 * 2 ^ 33) c.scaled_threshold-size.result = as_within c.scaled_threshold-size.ensures (times (natural 360000 c.args.threshold c.requires) (size.d t)) in
     let f1 = fits w128 s (lit< tt) in
     let f2 = fits w128 (times s s) (lit< tt) in
-    simp to_z-of_z (ap square_of c.scaled-size.ensures)
+    simp to_z-of_z (ap square_of c.scaled_threshold-size.ensures)

@@ -1,4 +1,4 @@
-use Rattle.daa_words.proofs.Taken.{taken_words_ask}
+use Rattle.daa_words.proofs.TakenWords.{taken_words_ask}
 use Rattle.daa_words.proofs.WordsLemmas.{taken_by_order}
 use Rattle.daa_words.proofs.laws.taken_words_give_an_order.Goals as goal
 

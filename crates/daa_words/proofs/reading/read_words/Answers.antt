@@ -1,7 +1,7 @@
 use Rattle.std.proofs.Common.{map, string_bytes}
 use Rattle.clap.specs.Simple.{subcommand_rows_of}
 use Rattle.daa_words.specs.Order.{meaning}
-use Rattle.daa_words.proofs.Taken.{read_in_range}
+use Rattle.daa_words.proofs.TakenWords.{read_in_range}
 use Rattle.daa_words.proofs.reading.read_words.Goals as goal
 
 pub returns-in-Some-clause-in_range : goal.returns-in-Some-clause-in_range

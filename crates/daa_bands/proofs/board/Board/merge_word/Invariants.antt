@@ -4,5 +4,5 @@ use Rattle.daa_bands.proofs.MergeLemmas.{Merged}
 use Rattle.daa_bands.proofs.board.Board.merge_word.Given as goal
 
 -- the places before have got their levels, and nothing else has changed
-abbrev pub invariant-loop-place : goal.invariant-loop-place
-invariant-loop-place l = Merged (group_size * l.group) l.place l.word l.initial.self l.self
+abbrev pub invariant-loop-index : goal.invariant-loop-index
+invariant-loop-index l = Merged (group_size * l.group) l.index l.word l.initial.self l.self

@@ -5,14 +5,14 @@ use Rattle.daa_config.proofs.config.Config.candidate.Goals as goal
 pub returns-then-index-start-clause-value : goal.returns-then-index-start-clause-value
 returns-then-index-start-clause-value c = hold_first c.args.self.now c.args.index (omega arith)
 
-pub going-requires : goal.going-requires
-going-requires c = omega (arith, (begins c.args.self.now).speed)
+pub candidate_in-requires : goal.candidate_in-requires
+candidate_in-requires c = omega (arith, (begins c.args.self.now).speed)
 
-pub going-requires-then-index-start-3 : goal.going-requires-then-index-start-3
-going-requires-then-index-start-3 c = omega (arith, (begins c.args.self.now).climb)
+pub candidate_in-requires-then-index-start-3 : goal.candidate_in-requires-then-index-start-3
+candidate_in-requires-then-index-start-3 c = omega (arith, (begins c.args.self.now).climb)
 
-pub going-requires-then-index-start-4 : goal.going-requires-then-index-start-4
-going-requires-then-index-start-4 c = omega (arith, (begins c.args.self.now).height)
+pub candidate_in-requires-then-index-start-4 : goal.candidate_in-requires-then-index-start-4
+candidate_in-requires-then-index-start-4 c = omega (arith, (begins c.args.self.now).height)
 
-pub going-requires-2 : goal.going-requires-2
-going-requires-2 c = omega (arith, whole_ends c.args.self.now)
+pub candidate_in-requires-2 : goal.candidate_in-requires-2
+candidate_in-requires-2 c = omega (arith, whole_ends c.args.self.now)

@@ -1,5 +1,5 @@
 use Rattle.std.proofs.Common.{ap, arith, length, length-drop, take, ◌++◌}
-use Rattle.daa_judge.proofs.MatchedLemmas.{next_matched, whole_matched, compares_to}
+use Rattle.daa_judge.proofs.MatchingLemmas.{next_matched, whole_matched, compares_to}
 use Rattle.daa_judge.proofs.matching.Matching.compare.Goals as goal
 
 pub loop-done-preserved : goal.loop-done-preserved

@@ -1,6 +1,6 @@
 use Rattle.std.proofs.Common.{length, ◌-◌, ◌≤◌, ◌++◌, take, ℕ}
 use Rattle.daa_ahead.specs.Bytes.{Bytes, StreamState, stream_state}
-use Rattle.daa_judge.specs.Matched.{HasRoom, IsMatched}
+use Rattle.daa_judge.specs.Matching.{HasRoom, IsMatched}
 use Rattle.daa_judge.proofs.matching.Matching.compare.Given as goal
 
 abbrev pub invariant-loop-done : goal.invariant-loop-done

@@ -1,5 +1,5 @@
 use Rattle.std.proofs.Common.{arith}
-use Rattle.daa_judge.proofs.MatchedLemmas.{beyond}
+use Rattle.daa_judge.proofs.MatchingLemmas.{beyond}
 use Rattle.daa_judge.proofs.matching.Matching.end.Goals as goal
 
 pub returns-in-Piece-clause-finds : goal.returns-in-Piece-clause-finds

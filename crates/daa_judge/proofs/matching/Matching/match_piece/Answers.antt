@@ -1,6 +1,6 @@
 use Rattle.std.proofs.Common.{arith, take, length-take}
 use Rattle.daa_judge.proofs.JudgedLemmas.{feeds-few}
-use Rattle.daa_judge.proofs.MatchedLemmas.{all_matched, no_match, parted_there}
+use Rattle.daa_judge.proofs.MatchingLemmas.{all_matched, no_match, parted_there}
 use Rattle.daa_judge.proofs.matching.Matching.match_piece.Goals as goal
 
 pub overflow_add-line : goal.overflow_add-line

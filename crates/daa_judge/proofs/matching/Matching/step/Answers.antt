@@ -1,4 +1,4 @@
-use Rattle.daa_judge.proofs.MatchedLemmas.{over_there, stops_at}
+use Rattle.daa_judge.proofs.MatchingLemmas.{over_there, stops_at}
 use Rattle.daa_judge.proofs.matching.Matching.step.Goals as goal
 
 pub returns-in-Over-clause-steps : goal.returns-in-Over-clause-steps

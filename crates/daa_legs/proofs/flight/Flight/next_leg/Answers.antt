@@ -1,4 +1,4 @@
-use Rattle.daa_legs.proofs.Flying.{flown-place}
+use Rattle.daa_legs.proofs.FlightLemmas.{flown-place}
 use Rattle.daa_legs.proofs.flight.Flight.next_leg.Goals as goal
 
 pub returns-clause-in_range : goal.returns-clause-in_range

@@ -1,4 +1,4 @@
-use Rattle.daa_legs.proofs.Running.{IsRunning}
+use Rattle.daa_legs.proofs.RunLemmas.{IsRunning}
 use Rattle.daa_legs.proofs.flight.Flight.next_run.Given as goal
 
 abbrev pub invariant-loop-secs : goal.invariant-loop-secs

@@ -1,4 +1,4 @@
-use Rattle.daa_legs.proofs.Flying.{flown-velocity}
+use Rattle.daa_legs.proofs.FlightLemmas.{flown-velocity}
 use Rattle.daa_legs.proofs.flight.Flight.velocity_ahead.Goals as goal
 
 pub returns-clause-size : goal.returns-clause-size

@@ -1,9 +1,9 @@
 use Rattle.std.proofs.Common.{rules, ◌≡◌, ◌≤◌, ℕ, ap, subst, arith, FitsSigned, w32, to_z-of_z}
 use Rattle.daa_config.specs.declared.config.Rates.{Rates}
 use Rattle.daa_config.specs.Settings.{AreRatesInRange, rates_of}
-use Rattle.daa_legs.specs.Kept.{AreLegsOf}
+use Rattle.daa_legs.specs.Trunk.{AreLegsOf}
 use Rattle.daa_legs.specs.declared.own_leg.OwnLeg.{OwnLeg}
-use Rattle.daa_legs.proofs.Keeping.{kept_none, kept_more, next_kept, leg_kept, place_after, place_small, velocity_small}
+use Rattle.daa_legs.proofs.TrunkLemmas.{kept_none, kept_more, next_kept, leg_kept, place_after, place_small, velocity_small}
 use Rattle.daa_legs.proofs.trunk.Trunk.fill.Goals as goal
 
 pub loop-k-init : goal.loop-k-init

@@ -1,7 +1,7 @@
 use Rattle.std.proofs.Common.{◌≡◌}
 use Rattle.daa_config.specs.Settings.{rates_of}
-use Rattle.daa_legs.specs.Kept.{AreLegsOf}
-use Rattle.daa_legs.specs.OwnLegs.{place_on}
+use Rattle.daa_legs.specs.Trunk.{AreLegsOf}
+use Rattle.daa_legs.specs.OwnLeg.{place_on}
 use Rattle.daa_legs.proofs.trunk.Trunk.fill.Given as goal
 
 -- the first k legs are kept, and the place is that of leg k

@@ -1,7 +1,7 @@
 use Rattle.std.proofs.Common.{◌<◌, length, sym, ◌∙◌, arith}
 use Rattle.daa_lines.specs.Inside.Pushing.{after_byte}
 use Rattle.daa_lines.proofs.FeedingLemmas.{taken_last, taken_more}
-use Rattle.daa_lines.proofs.PushingLemmas.{stands-fed}
+use Rattle.daa_lines.proofs.PushingLemmas.{comes-fed}
 use Rattle.daa_lines.proofs.lines.Lines.feed.Goals as goal
 
 pub returns-then-push-clause-taken : goal.returns-then-push-clause-taken
@@ -11,7 +11,7 @@ returns-then-push-clause-taken c =
 
 pub returns-then-push-clause-kept : goal.returns-then-push-clause-kept
 returns-then-push-clause-kept c bytes taken s =
-    stands-fed bytes c.args.piece.now taken c.loop-i.self c.push.new.self c.loop-i.i (omega arith) c.push.ensures.value
+    comes-fed bytes c.args.piece.now taken c.loop-i.self c.push.new.self c.loop-i.i (omega arith) c.push.ensures.value
     c.loop-i.invariant.free c.loop-i.invariant.going c.push.ensures.sized (c.loop-i.invariant.kept bytes taken s)
 
 pub loop-i-preserved : goal.loop-i-preserved
@@ -29,6 +29,6 @@ loop-i-preserved c =
       number = rw c.push.ensures.value c.loop-i.invariant.number;
       taken = more.1;
       kept = λ bytes taken s.
-          stands-fed bytes piece taken c.loop-i.self c.push.new.self i within c.push.ensures.value
+          comes-fed bytes piece taken c.loop-i.self c.push.new.self i within c.push.ensures.value
           c.loop-i.invariant.free c.loop-i.invariant.going c.push.ensures.sized (c.loop-i.invariant.kept bytes taken s);
     }

@@ -1,5 +1,5 @@
 use Rattle.std.proofs.Common.{◌≡◌}
-use Rattle.daa_range.specs.Range.{span_len}
+use Rattle.daa_range.specs.Range.{range_len}
 use Rattle.daa_pool.specs.Seat.{view, IsSeatOf, IsFree}
 use Rattle.daa_pool.proofs.Looks.{LooksHome}
 use Rattle.daa_pool.proofs.pool.Pool.claim.Given as goal
@@ -13,4 +13,4 @@ invariant-loop-own l = record {
 }
 
 abbrev pub decreases-loop-own : goal.decreases-loop-own
-decreases-loop-own l = span_len l.own
+decreases-loop-own l = range_len l.own

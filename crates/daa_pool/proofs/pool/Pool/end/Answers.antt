@@ -1,5 +1,5 @@
 use Rattle.std.proofs.Common.{arith}
-use Rattle.daa_pool.proofs.Home.{end_at}
+use Rattle.daa_pool.proofs.OwnSteps.{end_at}
 use Rattle.daa_pool.proofs.pool.Pool.end.Goals as goal
 
 pub load-found-requires : goal.load-found-requires

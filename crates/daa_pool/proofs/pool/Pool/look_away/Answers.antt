@@ -1,5 +1,5 @@
 use Rattle.std.proofs.Common.{arith}
-use Rattle.daa_pool.proofs.Away.{look_away_at}
+use Rattle.daa_pool.proofs.StealSteps.{look_away_at}
 use Rattle.daa_pool.proofs.pool.Pool.look_away.Goals as goal
 
 pub load-requires : goal.load-requires

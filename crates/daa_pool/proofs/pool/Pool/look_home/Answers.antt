@@ -1,5 +1,5 @@
 use Rattle.std.proofs.Common.{arith}
-use Rattle.daa_pool.proofs.Home.{look_home_at}
+use Rattle.daa_pool.proofs.OwnSteps.{look_home_at}
 use Rattle.daa_pool.proofs.pool.Pool.look_home.Goals as goal
 
 pub load-requires : goal.load-requires

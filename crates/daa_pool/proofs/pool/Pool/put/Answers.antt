@@ -1,5 +1,5 @@
 use Rattle.std.proofs.Common.{arith}
-use Rattle.daa_pool.proofs.Home.{settle_at}
+use Rattle.daa_pool.proofs.OwnSteps.{settle_at}
 use Rattle.daa_pool.proofs.pool.Pool.put.Goals as goal
 
 pub store-requires : goal.store-requires

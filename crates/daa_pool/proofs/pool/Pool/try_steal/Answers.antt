@@ -1,6 +1,6 @@
 use Rattle.std.proofs.Common.{◌∙◌, sym, ap, arith}
 use Rattle.daa_range.specs.Word.{packed}
-use Rattle.daa_pool.proofs.Away.{steal_at}
+use Rattle.daa_pool.proofs.StealSteps.{steal_at}
 use Rattle.daa_pool.proofs.pool.Pool.try_steal.Goals as goal
 
 pub compare_exchange-requires : goal.compare_exchange-requires

@@ -1,5 +1,5 @@
 use Rattle.std.proofs.Common.{◌≡◌, ◌≢◌, ℕ, ◌+◌, ◌<◌, ◌∙◌, sym, ap, subst, arith}
-use Rattle.daa_range.specs.Range.{Span, span_len}
+use Rattle.daa_range.specs.Range.{RangeState, range_len}
 use Rattle.daa_range.specs.Word.{packed}
 use Rattle.daa_range.proofs.Words.{packed-unpacked}
 use Rattle.daa_pool.specs.declared.view.View.{View}
@@ -21,5 +21,5 @@ returns-then-try_steal-pack-clause-claim c =
 pub returns-then-len-lt2-clause-claim : goal.returns-then-len-lt2-clause-claim
 returns-then-len-lt2-clause-claim c =
     let v : View = view c.args.seat.now in let o : ℕ = c.args.other in let m : ℕ = c.look_away.result in
-    let few : span_len c.unpack-range.result < 2 = (let e = c.len.ensures.len in let t = c.if-len-lt2.true in omega arith) in
-    subst (λ (w : View). Toured v w o (o + 1)) (sym c.look_away.ensures.view) (short v o m c.requires.bare (subst (λ (x : Span). span_len x < 2) c.unpack-range.ensures few))
+    let few : range_len c.unpack-range.result < 2 = (let e = c.len.ensures.len in let t = c.if-len-lt2.true in omega arith) in
+    subst (λ (w : View). Toured v w o (o + 1)) (sym c.look_away.ensures.view) (short v o m c.requires.bare (subst (λ (x : RangeState). range_len x < 2) c.unpack-range.ensures few))

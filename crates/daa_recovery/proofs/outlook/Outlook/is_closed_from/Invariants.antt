@@ -1,5 +1,5 @@
 use Rattle.std.proofs.Common.{pos, ◌≤ℤ◌}
-use Rattle.daa_recovery.proofs.Closing.{AreOpenBelow}
+use Rattle.daa_recovery.proofs.ClosingLevels.{AreOpenBelow}
 use Rattle.daa_recovery.proofs.outlook.Outlook.is_closed_from.Given as goal
 
 -- the levels so far that close are not violated

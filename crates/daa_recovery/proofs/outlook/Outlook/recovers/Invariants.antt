@@ -1,4 +1,4 @@
-use Rattle.daa_recovery.proofs.Closing.{AreClearBelow}
+use Rattle.daa_recovery.proofs.ClosingLevels.{AreClearBelow}
 use Rattle.daa_recovery.proofs.outlook.Outlook.recovers.Given as goal
 
 -- the aircraft so far are kept clear of

@@ -3,17 +3,17 @@ use Rattle.std.specs.Prelude.{IsTrue, slice_get}
 use Rattle.std.proofs.lemmas.Option.{same_Some}
 use Rattle.daa_state.specs.declared.word.Traffic.{Traffic}
 use Rattle.daa_state.specs.Picture.{aircraft_of}
-use Rattle.daa_scan.specs.Situation.{Situation, MeetsAt}
+use Rattle.daa_scan.specs.SceneState.{SceneState, MeetsAt}
 use Rattle.daa_scan.specs.Reach.{IsInReach, IsInReachAt}
 use Rattle.daa_scan.proofs.Reaching.{none_is_met_out_of_reach}
 use Rattle.daa_scan.proofs.scene.Scene.in_reach.Goals as goal
 use Rattle.daa_scan.proofs.scene.Scene.in_reach.Goals.{After-is_in_reach}
 
-abbrev shown : After-is_in_reach → Situation
+abbrev shown : After-is_in_reach → SceneState
 shown c = record { settings = c.self.inside.config.now; picture = c.self.inside.picture.now }
 
 there : (c : After-is_in_reach) → slice_get (aircraft_of (shown c).picture) c.args.aircraft ≡ Some c.aircraft.result.now
-there c = subst (λ (s : Situation). slice_get (aircraft_of s.picture) c.args.aircraft ≡ Some c.aircraft.result.now) (sym c.self.view_is) c.aircraft.ensures
+there c = subst (λ (s : SceneState). slice_get (aircraft_of s.picture) c.args.aircraft ≡ Some c.aircraft.result.now) (sym c.self.view_is) c.aircraft.ensures
 
 exact : (c : After-is_in_reach) → IsTrue c.is_in_reach.result ↔ IsInReachAt (shown c) c.args.aircraft
 exact c = (
@@ -25,7 +25,7 @@ meets : (c : After-is_in_reach) (index l : ℕ) → MeetsAt (shown c) index c.ar
 meets c index l m = (exact c).1 (none_is_met_out_of_reach (shown c) c.self.invariant.accepted c.self.invariant.picture index c.args.aircraft l m)
 
 pub returns-clause-exact : goal.returns-clause-exact
-returns-clause-exact c = subst (λ (s : Situation). IsTrue c.is_in_reach.result ↔ IsInReachAt s c.args.aircraft) c.self.view_is (exact c)
+returns-clause-exact c = subst (λ (s : SceneState). IsTrue c.is_in_reach.result ↔ IsInReachAt s c.args.aircraft) c.self.view_is (exact c)
 
 pub returns-clause-meets_in_reach : goal.returns-clause-meets_in_reach
-returns-clause-meets_in_reach c = subst (λ (s : Situation). (index l : ℕ) → MeetsAt s index c.args.aircraft l → IsTrue c.is_in_reach.result) c.self.view_is (meets c)
+returns-clause-meets_in_reach c = subst (λ (s : SceneState). (index l : ℕ) → MeetsAt s index c.args.aircraft l → IsTrue c.is_in_reach.result) c.self.view_is (meets c)

@@ -2,12 +2,12 @@ use Rattle.std.proofs.Common.{◌≡◌, ◌+◌, ◌<◌, ℕ, sym, subst, arit
 use Rattle.std.specs.Prelude.{slice_index}
 use Rattle.daa_config.specs.Candidates.{candidates_of}
 use Rattle.daa_fixed.specs.Mask.{IsMaskOf}
-use Rattle.daa_scan.specs.Situation.{Situation, MeetsAt}
+use Rattle.daa_scan.specs.SceneState.{SceneState, MeetsAt}
 use Rattle.daa_scan.proofs.scene.Scene.levels.Goals as goal
 
 pub levels_from-requires-clause-short : goal.levels_from-requires-clause-short
 levels_from-requires-clause-short c =
-    let i : c.args.index < length (candidates_of c.self.inside.config.now) = subst (λ (s : Situation). c.args.index < length (candidates_of s.settings)) (sym c.self.view_is) c.requires.index in
+    let i : c.args.index < length (candidates_of c.self.inside.config.now) = subst (λ (s : SceneState). c.args.index < length (candidates_of s.settings)) (sym c.self.view_is) c.requires.index in
     omega (arith, i, c.total-total.ensures.value, c.total-total.ensures.few)
 
 pub returns : goal.returns

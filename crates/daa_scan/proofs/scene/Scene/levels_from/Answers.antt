@@ -7,15 +7,15 @@ use Rattle.daa_fixed.specs.Mask.{IsMaskOf}
 use Rattle.daa_state.specs.declared.word.Traffic.{Traffic}
 use Rattle.daa_state.specs.InRange.{IsTrafficInRange}
 use Rattle.daa_state.specs.Picture.{aircraft_of}
-use Rattle.daa_scan.specs.Situation.{Situation, MeetsAt}
+use Rattle.daa_scan.specs.SceneState.{SceneState, MeetsAt}
 use Rattle.daa_scan.specs.Reach.{IsInReachAt}
-use Rattle.daa_scan.proofs.Shown.{masks_at, masks_none, idle_at}
+use Rattle.daa_scan.proofs.SceneMasks.{masks_at, masks_none, idle_at}
 use Rattle.daa_scan.proofs.scene.Scene.levels_from.Goals as goal
 
 pub returns-clause-masks : goal.returns-clause-masks
 returns-clause-masks c =
-    let there : slice_get (aircraft_of c.self.inside.picture.now) c.args.aircraft ≡ Some c.aircraft.result.now = subst (λ (s : Situation). slice_get (aircraft_of s.picture) c.args.aircraft ≡ Some c.aircraft.result.now) (sym c.self.view_is) c.aircraft.ensures in
-    subst (λ (s : Situation). (j : ℕ) → j < length c.mark_levels.new.masks → c.args.first + j < length (candidates_of s.settings) → IsMaskOf (MeetsAt s (c.args.first + j) c.args.aircraft) (length s.settings.levels) (slice_index c.mark_levels.new.masks j)) c.self.view_is
+    let there : slice_get (aircraft_of c.self.inside.picture.now) c.args.aircraft ≡ Some c.aircraft.result.now = subst (λ (s : SceneState). slice_get (aircraft_of s.picture) c.args.aircraft ≡ Some c.aircraft.result.now) (sym c.self.view_is) c.aircraft.ensures in
+    subst (λ (s : SceneState). (j : ℕ) → j < length c.mark_levels.new.masks → c.args.first + j < length (candidates_of s.settings) → IsMaskOf (MeetsAt s (c.args.first + j) c.args.aircraft) (length s.settings.levels) (slice_index c.mark_levels.new.masks j)) c.self.view_is
     (masks_at (record { settings = c.self.inside.config.now; picture = c.self.inside.picture.now }) c.args.aircraft c.args.first (length c.self.inside.config.now.levels) c.aircraft.result.now c.mark_levels.new.masks there c.mark_levels.ensures.masks)
 
 pub returns-then-not-in_reach-clause-masks : goal.returns-then-not-in_reach-clause-masks
@@ -24,13 +24,13 @@ returns-then-not-in_reach-clause-masks c j b there = masks_none c.args.self.now 
 
 pub mark_levels-requires-clause-aircraft : goal.mark_levels-requires-clause-aircraft
 mark_levels-requires-clause-aircraft c =
-    let there : slice_get (aircraft_of c.self.inside.picture.now) c.args.aircraft ≡ Some c.aircraft.result.now = subst (λ (s : Situation). slice_get (aircraft_of s.picture) c.args.aircraft ≡ Some c.aircraft.result.now) (sym c.self.view_is) c.aircraft.ensures in
+    let there : slice_get (aircraft_of c.self.inside.picture.now) c.args.aircraft ≡ Some c.aircraft.result.now = subst (λ (s : SceneState). slice_get (aircraft_of s.picture) c.args.aircraft ≡ Some c.aircraft.result.now) (sym c.self.view_is) c.aircraft.ensures in
     let w = slice_get_within (aircraft_of c.self.inside.picture.now) c.args.aircraft c.aircraft.result.now there in
     subst (λ (t : Traffic). IsTrafficInRange t) (get_or_from_slice_get (aircraft_of c.self.inside.picture.now) c.args.aircraft c.aircraft.result.now c.aircraft.result.now there)
     (All-get_or IsTrafficInRange (aircraft_of c.self.inside.picture.now) c.args.aircraft c.aircraft.result.now w c.self.invariant.picture.traffic)
 
 pub mark_levels-requires-clause-idle : goal.mark_levels-requires-clause-idle
 mark_levels-requires-clause-idle c =
-    let there : slice_get (aircraft_of c.self.inside.picture.now) c.args.aircraft ≡ Some c.aircraft.result.now = subst (λ (s : Situation). slice_get (aircraft_of s.picture) c.args.aircraft ≡ Some c.aircraft.result.now) (sym c.self.view_is) c.aircraft.ensures in
+    let there : slice_get (aircraft_of c.self.inside.picture.now) c.args.aircraft ≡ Some c.aircraft.result.now = subst (λ (s : SceneState). slice_get (aircraft_of s.picture) c.args.aircraft ≡ Some c.aircraft.result.now) (sym c.self.view_is) c.aircraft.ensures in
     idle_at (record { settings = c.self.inside.config.now; picture = c.self.inside.picture.now }) c.self.inside.trunks c.args.aircraft c.aircraft.result.now c.self.invariant.kept there
-    (subst (λ (s : Situation). IsInReachAt s c.args.aircraft) (sym c.self.view_is) (c.in_reach.ensures.exact.0 (cc c.if-not-in_reach.false)))
+    (subst (λ (s : SceneState). IsInReachAt s c.args.aircraft) (sym c.self.view_is) (c.in_reach.ensures.exact.0 (cc c.if-not-in_reach.false)))

@@ -1,6 +1,6 @@
 use Rattle.std.proofs.Common.{◌≡◌, ◌≤◌, ◌*◌, sym, ap, subst, ◌∙◌, arith}
 use Rattle.std.proofs.lemmas.Nat.{mul-le}
-use Rattle.daa_scan.specs.Situation.{Situation}
+use Rattle.daa_scan.specs.SceneState.{SceneState}
 use Rattle.daa_scan.specs.Units.{group_count, AreWordsOf}
 use Rattle.daa_scan.specs.Packed.{words_of}
 use Rattle.daa_scan.specs.Reach.{NoneIsMetOutOfReach}
@@ -21,11 +21,11 @@ returns-clause-few c =
 
 pub returns-clause-value : goal.returns-clause-value
 returns-clause-value c =
-    let g : c.self.inside.groups ≡ group_count c.args.self.now.settings = c.self.invariant.counted ∙ ap (λ (s : Situation). group_count s.settings) c.self.view_is in
+    let g : c.self.inside.groups ≡ group_count c.args.self.now.settings = c.self.invariant.counted ∙ ap (λ (s : SceneState). group_count s.settings) c.self.view_is in
     (λ i. g i * c.count_in_reach.ensures.listed i) ∙ sym (words_count c.args.self.now)
 
 pub returns-clause-words : goal.returns-clause-words
-returns-clause-words c = subst (λ (s : Situation). AreWordsOf s (words_of s)) c.self.view_is (are_words (record { settings = c.self.inside.config.now; picture = c.self.inside.picture.now }) c.self.invariant.accepted c.self.invariant.picture)
+returns-clause-words c = subst (λ (s : SceneState). AreWordsOf s (words_of s)) c.self.view_is (are_words (record { settings = c.self.inside.config.now; picture = c.self.inside.picture.now }) c.self.invariant.accepted c.self.invariant.picture)
 
 pub returns-clause-reach : goal.returns-clause-reach
-returns-clause-reach c = subst (λ (s : Situation). NoneIsMetOutOfReach s) c.self.view_is (none_is_met_out_of_reach (record { settings = c.self.inside.config.now; picture = c.self.inside.picture.now }) c.self.invariant.accepted c.self.invariant.picture)
+returns-clause-reach c = subst (λ (s : SceneState). NoneIsMetOutOfReach s) c.self.view_is (none_is_met_out_of_reach (record { settings = c.self.inside.config.now; picture = c.self.inside.picture.now }) c.self.invariant.accepted c.self.invariant.picture)

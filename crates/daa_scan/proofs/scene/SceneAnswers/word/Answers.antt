@@ -1,5 +1,5 @@
 use Rattle.std.proofs.Common.{◌≡◌, ◌<◌, ◌/◌, ◌%◌, ℕ, sym, ap, subst, ◌∙◌, arith, length}
-use Rattle.daa_scan.specs.Situation.{Situation}
+use Rattle.daa_scan.specs.SceneState.{SceneState}
 use Rattle.daa_scan.specs.Units.{group_count}
 use Rattle.daa_scan.specs.Packed.{places_in_reach}
 use Rattle.daa_scan.proofs.Packs.{few_groups, some_group, words_count, unit_place, unit_group, word_told}
@@ -11,7 +11,7 @@ nonzero_div-unit c = let g = some_group c.self.inside.config.now in omega (arith
 
 pub place_in_list-aircraft-requires : goal.place_in_list-aircraft-requires
 place_in_list-aircraft-requires c =
-    let g : c.self.inside.groups ≡ group_count c.args.self.now.settings = c.self.invariant.counted ∙ ap (λ (s : Situation). group_count s.settings) c.self.view_is in
+    let g : c.self.inside.groups ≡ group_count c.args.self.now.settings = c.self.invariant.counted ∙ ap (λ (s : SceneState). group_count s.settings) c.self.view_is in
     subst (λ (n : ℕ). c.args.unit / n < length (places_in_reach c.args.self.now)) (sym g)
     (unit_place c.args.self.now c.args.unit (subst (λ (n : ℕ). c.args.unit < n) (words_count c.args.self.now) c.requires))
 

@@ -2,7 +2,7 @@ use Rattle.std.proofs.Common.{◌≤◌, ap, sym, subst, arith, length, List}
 use Rattle.std.proofs.lemmas.Bool.Decides.{nat_tests}
 use mathlib.Core.List.{IsPrefix}
 use Rattle.daa_state.specs.declared.word.Picture.{Picture}
-use Rattle.daa_screen.proofs.Kept.{goes_on}
+use Rattle.daa_screen.proofs.KeptPictures.{goes_on}
 use Rattle.daa_screen.proofs.latest.Latest.goes_on_from.Goals as goal
 
 pub returns-clause-begins : goal.returns-clause-begins

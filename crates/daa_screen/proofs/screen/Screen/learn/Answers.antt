@@ -1,4 +1,4 @@
-use Rattle.daa_screen.proofs.Kept.{still_kept}
+use Rattle.daa_screen.proofs.KeptPictures.{still_kept}
 use Rattle.daa_screen.proofs.screen.Screen.learn.Goals as goal
 
 pub invariant_of-self : goal.invariant_of-self

@@ -1,0 +1,18 @@
+-- What recovers at a second recovers at each later one.
+use Rattle.std.proofs.Common.{◌≡◌, ℕ, ◌<◌, ◌≤◌, arith}
+use Rattle.daa_config.specs.declared.candidate.Candidate.{Candidate}
+use Rattle.daa_recovery.specs.OutlookState.{OutlookState}
+use Rattle.daa_recovery.specs.Recovery.{IsClosedFrom, IsClear, Recovers}
+
+pub lasts : (p : OutlookState) (candidate : Candidate) (m n : ℕ) → m ≤ n → Recovers p candidate m → Recovers p candidate n
+lasts p candidate m n le r place aircraft there =
+    let k = r place aircraft there in
+    record {
+      open_levels = λ x. k.open_levels (record {
+        number = x.number;
+        level = x.level;
+        closes = x.closes;
+        meets = record { leg = x.meets.leg; not_before = omega (arith, le, x.meets.not_before); before = x.meets.before; violates = x.meets.violates };
+      });
+      apart = k.apart;
+    }

@@ -1,0 +1,36 @@
+use Rattle.std.proofs.Common.{◌≡◌, ◌∙◌, ℕ, ◌+◌, ℤ, Option, Some, None, rules, sym, ap, subst, w32, FitsSigned, to_z, of_z}
+use Rattle.std.specs.Prelude.{slice_get}
+use Rattle.std.proofs.lemmas.Int.{to_z-of_z}
+use Rattle.daa_config.specs.declared.candidate.Candidate.{Candidate}
+use Rattle.daa_config.specs.Candidates.{values_of, candidate_to}
+use Rattle.daa_recovery.specs.OutlookState.{OutlookState}
+use Rattle.daa_recovery.specs.Inside.Search.{bound_of, IsFoundBelow, IsLeastTime}
+use Rattle.daa_recovery.specs.declared.recovery.Recovery.{Recovery}
+use Rattle.daa_recovery.proofs.Searching.{found_kept, found_sooner}
+use Rattle.daa_recovery.proofs.outlook.Outlook.try_value.Goals as goal
+
+-- the same under other names
+renamed : (p : OutlookState) (c d : Candidate) (b e : ℕ) (t u : Option ℕ) → c ≡ d → b ≡ e → t ≡ u → IsLeastTime p c b t → IsLeastTime p d e u
+renamed p c d b e t u f g h x =
+    subst (IsLeastTime p d e) h (subst (λ (n : ℕ). IsLeastTime p d n t) g (subst (λ (k : Candidate). IsLeastTime p k b t) f x))
+
+pub returns-in-Some : goal.returns-in-Some
+returns-in-Some c =
+    let v : ℤ = c.value-value.result in
+    let f : FitsSigned w32 v = search rules in
+    let back : to_z w32 (of_z w32 v) ≡ v = to_z-of_z w32 v f in
+    let p = c.args.self.now in
+    let there = subst (λ (q : OutlookState). slice_get (values_of c.args.kind q.settings) c.args.index ≡ Some v) c.self.view_is c.value-value.ensures.value in
+    let t = renamed p _ (candidate_to c.args.kind v) _ (bound_of p c.args.found) _ (Some c.in-Some.after) (c.candidate_going_to-candidate.ensures ∙ ap (candidate_to c.args.kind) back) c.bound.ensures c.in-Some.is c.sooner_time.ensures in
+    subst (λ (z : ℤ). IsFoundBelow p c.args.kind (c.args.index + 1) (Some (record { after = c.in-Some.after; value = z }))) (sym back)
+    (found_sooner p c.args.kind c.args.index v there c.args.found c.in-Some.after c.requires.found t)
+
+pub returns-in-None : goal.returns-in-None
+returns-in-None c =
+    let v : ℤ = c.value-value.result in
+    let f : FitsSigned w32 v = search rules in
+    let back : to_z w32 (of_z w32 v) ≡ v = to_z-of_z w32 v f in
+    let p = c.args.self.now in
+    let there = subst (λ (q : OutlookState). slice_get (values_of c.args.kind q.settings) c.args.index ≡ Some v) c.self.view_is c.value-value.ensures.value in
+    let t = renamed p _ (candidate_to c.args.kind v) _ (bound_of p c.args.found) _ None (c.candidate_going_to-candidate.ensures ∙ ap (candidate_to c.args.kind) back) c.bound.ensures c.in-None.is c.sooner_time.ensures in
+    found_kept p c.args.kind c.args.index v there c.args.found c.requires.found t
