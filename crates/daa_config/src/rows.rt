@@ -98,7 +98,11 @@ pub(crate) fn all_fit(rows: &[Row]) -> bool
 
 /// A whole number that must be there, from the least to the greatest.
 fn number(key: &'static str, least: i64, greatest: i64, here: i64) -> Row
-    ensures { result ≡ record { key = key.entry; needed = true; place = Number least greatest here } }
+    ensures { result ≡ record {
+      key = key.entry;
+      needed = true;
+      place = Number least greatest here;
+    } }
 {
     Row {
         key,
