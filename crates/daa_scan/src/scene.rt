@@ -21,7 +21,7 @@ use daa_config::packing::{GROUP, WIDTH};
 use daa_config::{Config, Kind};
 use daa_legs::{Branch, Trunk};
 use daa_schedule::Answers;
-use daa_state::{Picture, Traffic};
+use daa_state::{MOST_AIRCRAFT, Picture, Traffic};
 use std::marker::Model;
 
 /// How many candidates a word has.
@@ -34,7 +34,7 @@ pub struct Scene<'a> {
     picture: &'a Picture,
     groups: u32,
     // the places of the aircraft in reach, in the moment's order
-    places: ArrayVec<u32, 64>,
+    places: ArrayVec<u32, MOST_AIRCRAFT>,
     trunks: Trunks<'a>,
 }
 
@@ -94,7 +94,7 @@ impl<'a> Scene<'a> {
     }
 
     /// The masks of the candidates from number `first` of the whole list on against an aircraft,
-    /// each as `levels` gives it. The masks are 0 before; places past the list stay so.
+    /// each as `levels` gives it. The masks are 0 before. What stands past the list says nothing.
     pub fn levels_from(&self, first: u32, aircraft: u32, masks: &mut [u8])
         requires aircraft { aircraft < length (aircraft_of self.now.picture) }
         requires short { first + length masks.old < 2 ^ 32 }
@@ -238,7 +238,7 @@ impl<'a> Answers for Scene<'a> {
 }
 
 /// The places of the aircraft that are near enough to be met at all, in the moment's order.
-fn places_near(config: &Config, picture: &Picture) -> ArrayVec<u32, 64>
+fn places_near(config: &Config, picture: &Picture) -> ArrayVec<u32, MOST_AIRCRAFT>
     requires { IsPictureInRange picture.now }
     ensures { result.items ≡ places_in_reach
         (record { settings = config.now; picture = picture.now }) }

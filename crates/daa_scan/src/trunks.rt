@@ -143,8 +143,7 @@ pub(crate) fn lead_to(own: &Own, kind: Kind, upper: bool) -> Candidate
     }
 }
 
-/// Keeps so many legs of the flight that leads on the side with this place, where its kind is
-/// needed.
+/// Keeps so many legs of the flight that leads on the side with this index, if its kind is needed.
 fn keep(trunk: &mut Trunk, own: &Own, config: &Config, needs: &Needs, index: u32, most: u32)
     requires own { IsOwnInRange own.now }
     requires index { index < 8 }
