@@ -111,8 +111,9 @@ pub(crate) fn checked_traffic(traffic: &DaaTraffic) -> Result<Traffic, Refusal>
     }
 }
 
-/// The aircraft of these numbers, where their identifiers are allowed.
-fn all_aircraft(traffic: &[DaaTraffic]) -> Result<ArrayVec<Traffic, MOST_AIRCRAFT>, Refusal>
+/// The aircraft of these numbers, where their identifiers are allowed; else the place of the first
+/// whose is not.
+fn all_aircraft(traffic: &[DaaTraffic]) -> Result<ArrayVec<Traffic, MOST_AIRCRAFT>, usize>
     requires { length traffic.now ≤ 64 }
     ensures value { IfOk result (λ all. all.items ≡ map traffic_of traffic.now) }
     ensures sound { OnOk result (bad_id_from 0 traffic.now ≡ None) }
