@@ -147,7 +147,7 @@ fn show(config: &Config, board: &Board, levels: &mut [u8])
     }
 }
 
-/// Fills in the level that each candidate shows, from 0 to the number of levels, in the order of the
+/// Fills in the level that each candidate shows, 0 to the number of levels, in the order of the
 /// whole list, and how many there are. Answers 0, or why nothing was filled in.
 #[unsafe(no_mangle)]
 pub extern "C" fn daa_levels(
