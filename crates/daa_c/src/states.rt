@@ -129,8 +129,8 @@ fn all_aircraft(traffic: &[DaaTraffic]) -> Result<ArrayVec<Traffic, MOST_AIRCRAF
     Ok(all)
 }
 
-/// The picture of these numbers, where the engine takes it. Else the first of: too many aircraft, an
-/// identifier that is not allowed, and why the states are no picture.
+/// The picture of these numbers, where the engine takes it. Else the first of: too many aircraft,
+/// an identifier that is not allowed, and why the states are no picture.
 pub(crate) fn picture(time: u32, own: &DaaOwn, traffic: &[DaaTraffic]) -> Result<Picture, Refusal>
     ensures value { IfOk result (λ p. p ≡ picture_of time own.now traffic.now) }
     ensures taken { IfOk result IsTaken }
