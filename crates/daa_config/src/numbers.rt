@@ -13,9 +13,14 @@ use arrayvec::ArrayVec;
 #[repr(C)]
 #[derive(Clone, Copy, Debug, PartialEq, Eq)]
 pub struct Grid {
+    /// Ground speed 0 to 10000 (0.1 kt), vertical speed -10000 to 10000 (ft/min), altitude -2000 to
+    /// 60000 (ft).
     pub min: i64,
+    /// From `min` on, in the same range.
     pub max: i64,
+    /// 1 up to the width of that range; it gives at most 512 values.
     pub step: i64,
+    /// 1 to 10000.
     pub rate: i64,
 }
 
@@ -25,8 +30,11 @@ pub struct Grid {
 #[repr(C)]
 #[derive(Clone, Copy, Debug, PartialEq, Eq)]
 pub struct Numbers {
+    /// 1 to the number of levels.
     pub resolve: i64,
+    /// 1 to 30.
     pub turn_rate: i64,
+    /// 1 to 90, a divisor of 360.
     pub track_step: i64,
     pub gs: Grid,
     pub vs: Grid,
@@ -38,12 +46,19 @@ pub struct Numbers {
 #[repr(C)]
 #[derive(Clone, Copy, Debug, Default, PartialEq, Eq)]
 pub struct LevelNumbers {
+    /// 1 to 10000.
     pub dthr: i64,
+    /// 0 to 10000.
     pub zthr: i64,
+    /// 0 to 120.
     pub tthr: i64,
+    /// 0 to 120.
     pub tcoa: i64,
+    /// 1 to 180.
     pub lookahead: i64,
+    /// 1 to 180.
     pub alert: i64,
+    /// 0 or 1.
     pub tcpa: i64,
 }
 
@@ -52,12 +67,13 @@ pub struct LevelNumbers {
 #[repr(C)]
 #[derive(Clone, Copy, Debug, PartialEq, Eq)]
 pub struct RecoveryNumbers {
+    /// 1 to 10000.
     pub hdist: i64,
+    /// 0 to 10000.
     pub vdist: i64,
 }
 
-/// All numbers of a configuration as its text has them; the first of the levels is level 1. The
-/// table of keys, units and ranges is in the documentation.
+/// All numbers of a configuration as its text has them; the first of the levels is level 1.
 #[derive(Debug, Drop)]
 pub struct ConfigNumbers {
     pub numbers: Numbers,

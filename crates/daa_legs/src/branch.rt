@@ -24,11 +24,13 @@ use daa_state::Own;
 /// velocity, and rises by `rise`.
 #[derive(Clone, Copy, Debug, PartialEq, Eq)]
 pub struct Branch {
-    /// At which it flies straight on.
+    /// At which it flies straight on: 1/36000 NM and 1/60 foot a second.
     pub velocity: Solid,
     /// In 1/60 foot. Defined if the flight leaves the leading one within 180 seconds.
     pub rise: i64,
+    /// From 180 on it leaves after the last leg that is flown.
     pub leaves: u32,
+    /// `leaves`, or one more.
     pub settles: u32,
     /// To the right or up, else to the left or down.
     pub upper: bool,
