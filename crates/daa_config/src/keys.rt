@@ -100,7 +100,7 @@ fn differs(difference: Difference, rows: &[Row], table: &Table) -> bool
 
 /// Whether there is a table of a kind at the key, and it differs from its rows.
 fn grid_differs(difference: Difference, values: &Bounds, document: &Table, key: &str) -> bool
-    requires { IsFrom (pos 0) (pos 100000) (values.now.1 -ℤ values.now.0) }
+    requires { IsFrom (pos 0) (pos 100000) (values.now.high -ℤ values.now.low) }
     ensures { result ≡ option_map_or
         (λ t. differs_by difference (listed.grid_rows values.now (grid_by (number_in t))) t)
         (found_at (table_view document.now) key.now) false }

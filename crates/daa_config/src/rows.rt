@@ -150,15 +150,15 @@ pub(crate) fn document_rows(n: &Numbers) -> [Row; 8]
 
 /// How far it is from the first to the second.
 fn width(values: &Bounds) -> i64
-    requires { IsFrom (pos 0) (pos 100000) (values.now.1 -ℤ values.now.0) }
-    ensures { result ≡ values.now.1 -ℤ values.now.0 }
+    requires { IsFrom (pos 0) (pos 100000) (values.now.high -ℤ values.now.low) }
+    ensures { result ≡ values.now.high -ℤ values.now.low }
 {
     values.high - values.low
 }
 
 /// The rows of the table of a kind whose values are within these bounds.
 pub(crate) fn grid_rows(values: &Bounds, g: &Grid) -> [Row; 4]
-    requires { IsFrom (pos 0) (pos 100000) (values.now.1 -ℤ values.now.0) }
+    requires { IsFrom (pos 0) (pos 100000) (values.now.high -ℤ values.now.low) }
     ensures { map row_by result ≡ listed.grid_rows values.now g.now }
 {
     [
