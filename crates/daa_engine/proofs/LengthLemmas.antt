@@ -320,7 +320,7 @@ module _ (s : Settings) (p : Picture) (ok : IsAccepted s) where
       let a = is.ahead in
       let few = (ok.level a.number a.level a.closes.there).lookahead_most in
       let soon : r.after < 2 ^ 32 = let b = least.before in let e' = a.reached in omega arith in
-      let short : IsFoundShort (found_of r) = record { soon = soon; fits = value_in kind least.place r.value least.recovers.there } in
+      let short : IsFoundShort (found_of r) = record { soon = soon; fits = value_in kind least.index r.value least.recovers.there } in
       subst IsFoundShort (ap (λ (o : Option (ℕ × ℤ)). unwrap_or o pair) e) short
 
   recovery_line_short : (kind : Kind) (text : Text) → IsRecoveryLine s p kind text → length text ≤ 64
