@@ -31,14 +31,22 @@ pub(crate) fn fill(
 {
     let scene = Scene::of(config, picture, trunks, branches, needs);
     board.clear();
+    // room for what an aircraft adds
+    let mut masks = [0u8; BOARD_MASKS];
     for place in 0..picture.traffic.len() as u32 {
-        mark_aircraft(board, &scene, config, place);
+        mark_aircraft(board, &scene, config, place, &mut masks);
     }
 }
 
 /// Marks the levels at which each candidate meets an aircraft: none where no candidate can reach
-/// it.
-fn mark_aircraft(board: &mut Board, scene: &Scene, config: &Config, place: u32)
+/// it. The masks are room for them.
+fn mark_aircraft(
+    board: &mut Board,
+    scene: &Scene,
+    config: &Config,
+    place: u32,
+    masks: &mut [u8; BOARD_MASKS],
+)
     requires config { scene.now.settings ≡ config.now }
     requires place { place < length (aircraft_of scene.now.picture) }
     ensures { AddsAircraft scene.now place
@@ -47,9 +55,11 @@ fn mark_aircraft(board: &mut Board, scene: &Scene, config: &Config, place: u32)
     if !scene.in_reach(place) {
         return;
     }
-    let mut masks = [0u8; BOARD_MASKS];
-    scene.levels_from(0, place, &mut masks);
-    for index in 0..config.total() {
+    let total = config.total();
+    let masks = &mut masks[..total as usize];
+    masks.fill(0);
+    scene.levels_from(0, place, masks);
+    for index in 0..total {
         board.mark(index, masks[index as usize]);
     }
 }

@@ -44,6 +44,9 @@ module _ (own : Own) (rates : Rates) (candidate known : Candidate) (b c : Partin
   pub after_is : FliesOn own rates known c.settles → FliesOn own rates candidate b.settles
   after_is h = subst (λ (x : Candidate). FliesOn own rates x b.settles) (sym e) (subst (λ (y : Parting). FliesOn own rates known y.settles) (sym is) h)
 
+  pub rise_is : c.rise ≡ vertical_speed_on own rates known c.leaves → b.rise ≡ vertical_speed_on own rates candidate b.leaves
+  rise_is h = subst (λ (x : Candidate). b.rise ≡ vertical_speed_on own rates x b.leaves) (sym e) (subst (λ (y : Parting). y.rise ≡ vertical_speed_on own rates known y.leaves) (sym is) h)
+
 pub near_is : (b c : Parting) → b ≡ c → c.leaves ≤ c.settles → c.settles ≤ c.leaves + 1 → (b.leaves ≤ b.settles) × (b.settles ≤ b.leaves + 1)
 near_is b c is h k = (subst (λ (y : Parting). y.leaves ≤ y.settles) (sym is) h, subst (λ (y : Parting). y.settles ≤ y.leaves + 1) (sym is) k)
 

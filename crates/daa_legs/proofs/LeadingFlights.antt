@@ -1,5 +1,5 @@
 -- A candidate's flight and the one that leads on its side.
-use Rattle.std.proofs.Common.{◌≡◌, ℕ, ◌+◌, ◌/◌, ◌<◌, ◌≤◌, refl, subst, ◌∙◌, ◌-◌, ⊎_elim, arith, Bool, true, false, ℤ, pos, negsuc, ◌+ℤ◌, ◌-ℤ◌, ◌*ℤ◌, ◌≤ℤ◌}
+use Rattle.std.proofs.Common.{◌≡◌, ℕ, ◌+◌, ◌/◌, ◌<◌, ◌≤◌, refl, sym, subst, ◌∙◌, ◌-◌, ◌⊎◌, inl, inr, ⊎_elim, arith, Bool, true, false, ℤ, pos, negsuc, ◌+ℤ◌, ◌-ℤ◌, ◌*ℤ◌, ◌≤ℤ◌}
 use Rattle.std.proofs.lemmas.Bool.{cases_lt}
 use Rattle.std.proofs.lemmas.Int.{ints, int_max_is, int_min_is}
 use Rattle.std.proofs.Math.Nat.{le-div_iff_mul-le}
@@ -36,6 +36,18 @@ toward_as_down x y z r r0 h k l =
 
 pub toward_there : (x y r : ℤ) → (x -ℤ r) ≤ℤ y → y ≤ℤ (x +ℤ r) → toward_of x y r ≡ y
 toward_there x y r h k =
+    let a = int_max_is (x -ℤ r) (int_min (x +ℤ r) y) in
+    let b = int_min_is (x +ℤ r) y in
+    omega (arith, ints)
+
+toward_short : (x y r : ℤ) → pos 0 ≤ℤ r → r ≤ℤ (y -ℤ x) → toward_of x y r ≡ x +ℤ r
+toward_short x y r h k =
+    let a = int_max_is (x -ℤ r) (int_min (x +ℤ r) y) in
+    let b = int_min_is (x +ℤ r) y in
+    omega (arith, ints)
+
+toward_short_down : (x y r : ℤ) → pos 0 ≤ℤ r → r ≤ℤ (x -ℤ y) → toward_of x y r ≡ x -ℤ r
+toward_short_down x y r h k =
     let a = int_max_is (x -ℤ r) (int_min (x +ℤ r) y) in
     let b = int_min_is (x +ℤ r) y in
     omega (arith, ints)
@@ -167,6 +179,31 @@ module _ (own : Own) (rates : Rates) where
       let there : (k : ℕ) → n < k → height_after own rates a k ≡ pos 60 *ℤ a = λ k b. arrived_down (pos 60 *ℤ own.alt) (pos 60 *ℤ a) rates.alt n k r0 h legs b in
       record { there = λ k b. height_settled a k (there k (omega (arith, b))) (there (k + 1) (omega (arith, b))) }
 
+  -- the second after the whole ones rises what is left of the way
+  height_rises : (a : ℤ) (n : ℕ) (before : ℤ) → height_after own rates a n ≡ before → height_after own rates a (n + 1) ≡ pos 60 *ℤ a → vertical_speed_on own rates (Height a) n ≡ pos 60 *ℤ a -ℤ before
+  unfolding vertical_speed_on
+  height_rises a n before e f = λ i. f i -ℤ e i
+
+  rest_up : (a : ℤ) (n : ℕ) → pos 0 ≤ℤ rates.alt → (pos 60 *ℤ own.alt) ≤ℤ (pos 60 *ℤ a) → IsWholeLegs (pos 60 *ℤ a -ℤ pos 60 *ℤ own.alt) rates.alt n
+      → vertical_speed_on own rates (Height a) n ≡ (pos 60 *ℤ a -ℤ pos 60 *ℤ own.alt) -ℤ pos n *ℤ rates.alt
+  rest_up a n r0 h legs =
+      let w = within rates.alt r0 (pos 60 *ℤ a -ℤ pos 60 *ℤ own.alt) n legs (omega (arith, ints, h)) n (omega arith) in
+      let e = height_rises a n _ (toward_short (pos 60 *ℤ own.alt) (pos 60 *ℤ a) (pos n *ℤ rates.alt) (product_nonneg n rates.alt r0) w) (arrived_up (pos 60 *ℤ own.alt) (pos 60 *ℤ a) rates.alt n (n + 1) r0 h legs (omega arith)) in
+      e ∙ parts (pos 60 *ℤ own.alt) (pos 60 *ℤ a) (pos n *ℤ rates.alt)
+    where
+      parts : (x y r : ℤ) → y -ℤ (x +ℤ r) ≡ (y -ℤ x) -ℤ r
+      parts x y r = omega (arith, ints)
+
+  rest_down : (a : ℤ) (n : ℕ) → pos 0 ≤ℤ rates.alt → (pos 60 *ℤ a) ≤ℤ (pos 60 *ℤ own.alt) → IsWholeLegs (pos 60 *ℤ own.alt -ℤ pos 60 *ℤ a) rates.alt n
+      → vertical_speed_on own rates (Height a) n ≡ (pos 60 *ℤ a -ℤ pos 60 *ℤ own.alt) +ℤ pos n *ℤ rates.alt
+  rest_down a n r0 h legs =
+      let w = within rates.alt r0 (pos 60 *ℤ own.alt -ℤ pos 60 *ℤ a) n legs (omega (arith, ints, h)) n (omega arith) in
+      let e = height_rises a n _ (toward_short_down (pos 60 *ℤ own.alt) (pos 60 *ℤ a) (pos n *ℤ rates.alt) (product_nonneg n rates.alt r0) w) (arrived_down (pos 60 *ℤ own.alt) (pos 60 *ℤ a) rates.alt n (n + 1) r0 h legs (omega arith)) in
+      e ∙ parts (pos 60 *ℤ own.alt) (pos 60 *ℤ a) (pos n *ℤ rates.alt)
+    where
+      parts : (x y r : ℤ) → y -ℤ (x -ℤ r) ≡ (y -ℤ x) +ℤ r
+      parts x y r = omega (arith, ints)
+
   -- both sides together
   pub speed_branch : (g : ℤ) (upper : Bool) (n : ℕ) → pos 0 ≤ℤ rates.gs → IsFrom (pos 0) (pos 10000) g
       → (IsTrue upper → own.gs ≤ℤ g) → (upper ≡ false → g ≤ℤ own.gs) → (IsTrue upper → IsWholeLegs (g -ℤ own.gs) rates.gs n) → (upper ≡ false → IsWholeLegs (own.gs -ℤ g) rates.gs n)
@@ -188,6 +225,29 @@ module _ (own : Own) (rates : Rates) where
   unfolding lead_of
   height_branch a true n r0 f up down ul dl = (height_up a n r0 (up refl) f.most (ul refl), height_arrives_up a n r0 (up refl) (ul refl))
   height_branch a false n r0 f up down ul dl = (height_down a n r0 (down refl) f.least (dl refl), height_arrives_down a n r0 (down refl) (dl refl))
+
+  pub height_rest : (a : ℤ) (upper : Bool) (n : ℕ) (rise : ℤ) → pos 0 ≤ℤ rates.alt
+      → (IsTrue upper → (pos 60 *ℤ own.alt) ≤ℤ (pos 60 *ℤ a)) → (upper ≡ false → (pos 60 *ℤ a) ≤ℤ (pos 60 *ℤ own.alt)) → (IsTrue upper → IsWholeLegs (pos 60 *ℤ a -ℤ pos 60 *ℤ own.alt) rates.alt n) → (upper ≡ false → IsWholeLegs (pos 60 *ℤ own.alt -ℤ pos 60 *ℤ a) rates.alt n)
+      → (IsTrue upper → rise ≡ (pos 60 *ℤ a -ℤ pos 60 *ℤ own.alt) -ℤ pos n *ℤ rates.alt) → (upper ≡ false → rise ≡ (pos 60 *ℤ a -ℤ pos 60 *ℤ own.alt) +ℤ pos n *ℤ rates.alt)
+      → rise ≡ vertical_speed_on own rates (Height a) n
+  height_rest a true n rise r0 up down ul dl ur dr = ur refl ∙ sym (rest_up a n r0 (up refl) (ul refl))
+  height_rest a false n rise r0 up down ul dl ur dr = dr refl ∙ sym (rest_down a n r0 (down refl) (dl refl))
+
+  -- where nothing is left, it flies straight on at once
+  level_there : (a : ℤ) (n : ℕ) → vertical_speed_on own rates (Height a) n ≡ pos 0 → velocity_on own rates (Height a) n ≡ velocity_there own (Height a)
+  unfolding velocity_on ground_speed_on track_on velocity_there
+  level_there a n e = λ i. record { flat = velocity_of own.gs own.trk; up = e i }
+
+  pub straight_at_once : (a : ℤ) (n : ℕ) → vertical_speed_on own rates (Height a) n ≡ pos 0 → FliesOn own rates (Height a) (n + 1) → FliesOn own rates (Height a) n
+  straight_at_once a n e on = record {
+    there = λ k b. ⊎_elim
+        (λ same. subst (λ (j : ℕ). velocity_on own rates (Height a) j ≡ velocity_there own (Height a)) same (level_there a n e))
+        (λ later. on.there k later)
+        (first n k b);
+  }
+    where
+      first : (n k : ℕ) → n ≤ k → (n ≡ k) ⊎ (n + 1 ≤ k)
+      first n k b = ⊎_elim (λ l. inr (omega (arith, l))) (λ g. inl (omega (arith, b, g))) (cases_lt n k)
 
   pub hold_on : FliesOn own rates Hold 0
   unfolding velocity_on ground_speed_on track_on vertical_speed_on velocity_there

@@ -1,6 +1,6 @@
 //! How a candidate's flight leaves the one that leads on its side.
 
-ghost use Rattle.std.specs.Prelude.{◌≡◌, ◌≤◌, ◌<◌, ◌+◌, ℤ, ◌≤ℤ◌, ◌-ℤ◌, pos, negsuc, true, false, IsTrue};
+ghost use Rattle.std.specs.Prelude.{◌≡◌, ◌≤◌, ◌<◌, ◌+◌, ℤ, ◌≤ℤ◌, ◌+ℤ◌, ◌-ℤ◌, ◌*ℤ◌, pos, negsuc, true, false, IsTrue};
 ghost use Rattle.daa_fixed.specs.Size.{IsFrom, IsWithin};
 ghost use Rattle.daa_config.specs.Settings.{IsCandidateInRange, AreRatesInRange};
 ghost use Rattle.daa_config.specs.declared.candidate.Candidate.{Candidate};
@@ -12,7 +12,7 @@ ghost use Rattle.daa_legs.specs.Table.{IsBranchOf};
 ghost use Rattle.daa_legs.specs.Motion.{vertical_speed_on};
 ghost use Rattle.daa_legs.specs.Turn.{right_angle};
 
-use crate::motion::{velocity_at_end, vertical_speed_at};
+use crate::motion::velocity_at_end;
 use daa_config::{Candidate, Rates};
 use daa_fixed::{Flat, Solid, feet};
 use daa_heading::velocity;
@@ -60,13 +60,14 @@ pub(crate) struct Way {
     pub(crate) legs: u32,
 }
 
-/// On which side a candidate's flight leaves the leading one, before which leg, and from which leg
-/// on it flies straight on.
+/// On which side a candidate's flight leaves the leading one, before which leg, from which leg on
+/// it flies straight on, and what a leg of its own rises.
 #[derive(Clone, Copy)]
 pub(crate) struct Parting {
     pub(crate) upper: bool,
     pub(crate) leaves: u32,
     pub(crate) settles: u32,
+    pub(crate) rise: i64,
 }
 
 /// Where the candidate's flight leaves the leading one, and how it flies on.
@@ -91,26 +92,10 @@ pub fn branch_from(own: &Own, rates: &Rates, candidate: Candidate, present: &Fla
     let parting = parting_of(own, rates, candidate);
     Branch {
         velocity: velocity_at_end(own, candidate, present),
-        rise: rise_on(own, rates, candidate, &parting),
+        rise: parting.rise,
         leaves: parting.leaves,
         settles: parting.settles,
         upper: parting.upper,
-    }
-}
-
-/// What a leg of the candidate's own rises, where it has one within 180 seconds.
-#[inline(always)]
-fn rise_on(own: &Own, rates: &Rates, candidate: Candidate, parting: &Parting) -> i64
-    requires own { IsOwnInRange own.now }
-    requires rates { AreRatesInRange rates.now }
-    requires candidate { IsCandidateInRange candidate }
-    ensures { parting.now.leaves < parting.now.settles → parting.now.leaves < 180
-        → result ≡ vertical_speed_on own.now rates.now candidate parting.now.leaves }
-{
-    if parting.leaves < parting.settles && parting.leaves < 180 {
-        vertical_speed_at(own, rates, candidate, parting.leaves)
-    } else {
-        0
     }
 }
 
@@ -126,17 +111,30 @@ fn parting_of(own: &Own, rates: &Rates, candidate: Candidate) -> Parting
     ensures near { (result.leaves ≤ result.settles) × (result.settles ≤ result.leaves + 1) }
     ensures level { result.leaves < result.settles
         → (a : ℤ) × (candidate ≡ Candidate.Height a) }
+    ensures rise { result.leaves < result.settles
+        → result.rise ≡ vertical_speed_on own.now rates.now candidate result.leaves }
 {
     match candidate {
         Candidate::Hold => Parting {
             upper: true,
             leaves: 0,
             settles: 0,
+            rise: 0,
         },
         Candidate::Track(c) => parting_after(turn_away(own.trk, c, rates.turn)),
         Candidate::Speed(g) => parting_after(way_to(i64::from(own.gs), i64::from(g), rates.gs)),
         Candidate::Climb(w) => parting_after(way_to(i64::from(own.vs), i64::from(w), rates.vs)),
-        Candidate::Height(a) => parting_short_of(way_to(feet(own.alt), feet(a), rates.alt)),
+        Candidate::Height(a) => {
+            let now = feet(own.alt);
+            let target = feet(a);
+            let way = way_to(now, target, rates.alt);
+            let rise = rest_of(now, target, rates.alt, way);
+            if rise == 0 {
+                parting_at(way)
+            } else {
+                parting_short_of(way, rise)
+            }
+        }
     }
 }
 
@@ -144,24 +142,53 @@ fn parting_of(own: &Own, rates: &Rates, candidate: Candidate) -> Parting
 /// then the candidate's.
 fn parting_after(way: Way) -> Parting
     requires { way.legs ≤ 7200000 }
-    ensures { result ≡ record { upper = way.upper; leaves = way.legs + 1; settles = way.legs + 1 } }
+    ensures { result ≡ record {
+      upper = way.upper;
+      leaves = way.legs + 1;
+      settles = way.legs + 1;
+      rise = pos 0;
+    } }
 {
     Parting {
         upper: way.upper,
         leaves: way.legs + 1,
         settles: way.legs + 1,
+        rise: 0,
     }
 }
 
-/// On the leg after the whole seconds an altitude is reached, by a rise of its own.
-fn parting_short_of(way: Way) -> Parting
+/// An altitude that is reached after whole seconds needs no leg of the candidate's own.
+fn parting_at(way: Way) -> Parting
+    ensures { result ≡ record {
+      upper = way.upper;
+      leaves = way.legs;
+      settles = way.legs;
+      rise = pos 0;
+    } }
+{
+    Parting {
+        upper: way.upper,
+        leaves: way.legs,
+        settles: way.legs,
+        rise: 0,
+    }
+}
+
+/// Any other is reached on the leg after the whole seconds, by a rise of its own.
+fn parting_short_of(way: Way, rise: i64) -> Parting
     requires { way.legs ≤ 7200000 }
-    ensures { result ≡ record { upper = way.upper; leaves = way.legs; settles = way.legs + 1 } }
+    ensures { result ≡ record {
+      upper = way.upper;
+      leaves = way.legs;
+      settles = way.legs + 1;
+      rise = rise;
+    } }
 {
     Parting {
         upper: way.upper,
         leaves: way.legs,
         settles: way.legs + 1,
+        rise,
     }
 }
 
@@ -212,6 +239,23 @@ fn way_to(now: i64, target: i64, rate: i32) -> Way
             upper: false,
             legs: whole_legs(now - target, rate),
         }
+    }
+}
+
+/// What is left of the way from a value to another after its whole seconds.
+fn rest_of(now: i64, target: i64, rate: i32, way: Way) -> i64
+    requires now { IsWithin 3600000 now }
+    requires target { IsWithin 3600000 target }
+    requires rate { IsFrom (pos 1) (pos 10000) rate }
+    requires few { way.legs ≤ 7200000 }
+    ensures up { IsTrue way.upper → result ≡ (target -ℤ now) -ℤ pos way.legs *ℤ rate }
+    ensures down { way.upper ≡ false → result ≡ (target -ℤ now) +ℤ pos way.legs *ℤ rate }
+{
+    let flown = i64::from(way.legs) * i64::from(rate);
+    if way.upper {
+        target - now - flown
+    } else {
+        target - now + flown
     }
 }
 

@@ -129,7 +129,7 @@ fn ground_speed_at(own: &Own, rates: &Rates, candidate: Candidate, k: u32) -> i3
 }
 
 /// The vertical speed in ft/min on leg `k`.
-pub(crate) fn vertical_speed_at(own: &Own, rates: &Rates, candidate: Candidate, k: u32) -> i64
+fn vertical_speed_at(own: &Own, rates: &Rates, candidate: Candidate, k: u32) -> i64
     requires own { IsOwnInRange own.now }
     requires rates { AreRatesInRange rates.now }
     requires candidate { IsCandidateInRange candidate }

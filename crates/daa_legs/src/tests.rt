@@ -237,6 +237,20 @@ fn a_run_is_one_leg(rt: HostRuntime) -> Result<(), Fail> {
     Ok(())
 }
 
+// To 1040 feet there are 2400 units, two whole seconds and 400 more; to 1050 three whole seconds.
+#[test]
+fn a_way_of_whole_seconds_has_no_leg_of_its_own(rt: HostRuntime) -> Result<(), Fail> {
+    let config = read(rt.alloc(), ONE_LEVEL.as_bytes())?;
+    let short = branch_of(&OWN, &config.rates(), Candidate::Height(1040));
+    let whole = branch_of(&OWN, &config.rates(), Candidate::Height(1050));
+    assert!(rt; short.leaves == 2);
+    assert!(rt; short.settles == 3);
+    assert!(rt; short.rise == 400);
+    assert!(rt; whole.leaves == 3);
+    assert!(rt; whole.settles == 3);
+    Ok(())
+}
+
 fn may_be_sent<T: Send>() {}
 
 // The check refuses a type that may not be sent between threads.

@@ -1,6 +1,6 @@
 -- The numbers below n at which a test is true, and the aircraft in reach.
 use Rattle.std.proofs.Common.{◌≡◌, ◌↔◌, inl, inr, ◌⊎◌, refl, sym, ap, subst, ◌∙◌, arith, ⊎_elim, ℕ, zero, suc, ◌+◌, ◌-◌, ◌<◌, ◌≤◌, Bool, true, false, List, [], ◌∷◌, ◌++◌, length, Option, Some, None}
-use Rattle.std.specs.Prelude.{IsTrue, slice_get, slice_index, if◌then◌else◌}
+use Rattle.std.specs.Prelude.{IsTrue, slice_get, slice_index, Contains, if◌then◌else◌}
 use Rattle.std.specs.List.{list_any}
 use Rattle.std.proofs.lemmas.Bool.{cases_lt, cases_Bool, false_from_ne_true}
 use Rattle.std.proofs.lemmas.List.{length-append, get_or_append_left, get_or-append-add}
@@ -173,6 +173,12 @@ module _ (s : SceneState) where
         (e.place, e.within, get_or_from_slice_get (places_in_reach s) e.place (slice_index (places_in_reach s) e.place) at (slice_get-get_or (places_in_reach s) e.place 0 e.within) ∙ e.is);
     in_order = in_order (is_reached_at s) (length (aircraft_of s.picture));
   }
+
+  pub listed_is : (at : ℕ) → Contains (places_in_reach s) at ↔ IsInReachAt s at
+  listed_is at = (
+    (λ (k, h, e). subst (IsInReachAt s) (sym (get_or_from_slice_get (places_in_reach s) k _ at (slice_get-get_or (places_in_reach s) k 0 h)) ∙ e) (are_in_reach.each k h)),
+    (λ r. are_in_reach.every at r),
+  )
 
   pub place_within : (i : ℕ) → i < length (places_in_reach s) → slice_index (places_in_reach s) i < length (aircraft_of s.picture)
   place_within i h = (each_number (is_reached_at s) (length (aircraft_of s.picture)) i h).below

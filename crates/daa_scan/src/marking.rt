@@ -22,7 +22,7 @@ ghost use Rattle.daa_scan.specs.Inside.Refusal.{AreSecondsAt};
 ghost use Rattle.daa_scan.specs.Inside.Sharing.{IsTrailOf};
 ghost use Rattle.daa_scan.specs.Trunks.{trunk_in, is_needed, AreIdle};
 ghost use Rattle.daa_scan.specs.Inside.Trunks.{AreTrunksOf};
-ghost use Rattle.daa_scan.specs.Inside.Marking.{AreTrailsOf, AreMarked, AreMasks};
+ghost use Rattle.daa_scan.specs.Inside.Marking.{AreTrailsOf, AreMarked, AreMasks, IsStretchOf, AreStretchesOf};
 
 use crate::nesting::lies_within;
 use crate::refusal::{Seconds, present_leg, seconds_in_height, seconds_in_plane};
@@ -40,6 +40,23 @@ use daa_state::{Own, Traffic};
 pub(crate) struct Trails {
     pub(crate) upper: Trail,
     pub(crate) lower: Trail,
+}
+
+/// Where the candidates of a kind are in the whole list: the number of the first, and that after
+/// the last.
+#[derive(Clone, Copy)]
+pub(crate) struct Stretch {
+    pub(crate) from: u32,
+    pub(crate) upto: u32,
+}
+
+/// The same of each kind. To find it takes divisions, so that it is found once for all levels.
+#[derive(Clone, Copy)]
+pub(crate) struct Stretches {
+    pub(crate) tracks: Stretch,
+    pub(crate) speeds: Stretch,
+    pub(crate) climbs: Stretch,
+    pub(crate) heights: Stretch,
 }
 
 /// Sets the masks, which are 0, to those of the candidates from number `first` of the whole list
@@ -62,8 +79,32 @@ pub(crate) fn mark_levels(
         (length config.now.levels) masks.new }
     ensures length { length masks.new ≡ length masks.old }
 {
+    let stretches = stretches_of(config);
     for l in 0..config.levels() {
-        mark_level(config, own, trunks, aircraft, l, first, masks);
+        mark_level(config, own, trunks, aircraft, l, &stretches, first, masks);
+    }
+}
+
+/// Where the candidates of each kind are in the whole list.
+fn stretches_of(config: &Config) -> Stretches
+    ensures { AreStretchesOf config.now result }
+{
+    Stretches {
+        tracks: stretch_of(config, Kind::Track),
+        speeds: stretch_of(config, Kind::Speed),
+        climbs: stretch_of(config, Kind::Climb),
+        heights: stretch_of(config, Kind::Height),
+    }
+}
+
+/// Where the candidates of a kind are in the whole list.
+fn stretch_of(config: &Config, kind: Kind) -> Stretch
+    ensures { IsStretchOf config.now kind result }
+{
+    let from = config.start(kind);
+    Stretch {
+        from,
+        upto: from + config.count(kind),
     }
 }
 
@@ -74,6 +115,7 @@ fn mark_level(
     trunks: &Trunks,
     aircraft: &Traffic,
     l: u32,
+    stretches: &Stretches,
     first: u32,
     masks: &mut [u8],
 )
@@ -82,6 +124,7 @@ fn mark_level(
     requires trunks { AreTrunksOf config.now own.now trunks.now }
     requires l { l < length config.now.levels }
     requires few { l < 8 }
+    requires stretches { AreStretchesOf config.now stretches.now }
     requires short { first + length masks.old < 2 ^ 32 }
     requires masks { AreMasks config.now own.now aircraft.now first l masks.old }
     requires idle { AreIdle config.now own.now aircraft.now trunks.now.needs }
@@ -101,6 +144,7 @@ fn mark_level(
         l,
         Kind::Track,
         heights,
+        stretches.tracks,
         first,
         masks,
     );
@@ -112,6 +156,7 @@ fn mark_level(
         l,
         Kind::Speed,
         heights,
+        stretches.speeds,
         first,
         masks,
     );
@@ -123,6 +168,7 @@ fn mark_level(
         l,
         Kind::Climb,
         way,
+        stretches.climbs,
         first,
         masks,
     );
@@ -134,6 +180,7 @@ fn mark_level(
         l,
         Kind::Height,
         way,
+        stretches.heights,
         first,
         masks,
     );
@@ -201,6 +248,7 @@ fn mark_kind(
     l: u32,
     kind: Kind,
     seconds: Seconds,
+    stretch: Stretch,
     first: u32,
     masks: &mut [u8],
 )
@@ -210,6 +258,7 @@ fn mark_kind(
     requires l { l < length config.now.levels }
     requires few { l < 8 }
     requires seconds { AreSecondsAt config.now own.now aircraft.now kind (l + 1) seconds }
+    requires stretch { IsStretchOf config.now kind stretch }
     requires short { first + length masks.old < 2 ^ 32 }
     requires masks { AreMarked config.now own.now aircraft.now first
         (start_of kind config.now) l masks.old }
@@ -235,10 +284,8 @@ fn mark_kind(
         upper: begun,
         lower: begun,
     };
-    let start = config.start(kind);
-    let end = start + config.count(kind);
-    let from = start.max(first);
-    let upto = end.min(first + masks.len() as u32);
+    let from = stretch.from.max(first);
+    let upto = stretch.upto.min(first + masks.len() as u32);
     for index in from..upto {
         let j = (index - first) as usize;
         masks[j] = next_mask(

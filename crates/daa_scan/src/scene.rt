@@ -1,6 +1,6 @@
 //! A configuration with a moment: what the scan answers of it.
 
-ghost use Rattle.std.specs.Prelude.{◌≡◌, ◌<◌, ◌≤◌, ◌↔◌, ◌+◌, ◌^◌, ℕ, IsTrue, length, replicate, slice_get, slice_index, Some};
+ghost use Rattle.std.specs.Prelude.{◌≡◌, ◌<◌, ◌≤◌, ◌↔◌, ◌+◌, ◌^◌, ℕ, IsTrue, length, replicate, slice_get, slice_index, Contains, Some};
 ghost use Rattle.daa_config.specs.Candidates.{candidates_of};
 ghost use Rattle.daa_fixed.specs.Mask.{IsMaskOf};
 ghost use Rattle.daa_config.specs.Settings.{IsAccepted};
@@ -127,7 +127,7 @@ impl<'a> Scene<'a> {
         ensures exact { IsTrue result ↔ IsInReachAt self.now aircraft }
         ensures meets_in_reach { (index l : ℕ) → MeetsAt self.now index aircraft l → IsTrue result }
     {
-        is_in_reach(self.config, &self.picture.own, self.aircraft(aircraft))
+        is_among(aircraft, self.places.as_slice())
     }
 
     /// How many groups of twelve the whole list of candidates has, 1 to 159; the last group may
@@ -250,6 +250,13 @@ fn places_near(config: &Config, picture: &Picture) -> ArrayVec<u32, MOST_AIRCRAF
         }
     }
     places
+}
+
+/// Whether a place is one of these.
+fn is_among(place: u32, places: &[u32]) -> bool
+    ensures { IsTrue result ↔ Contains places.now place }
+{
+    places.contains(&place)
 }
 
 /// How many groups of twelve the candidates have; those that go to an altitude are the last of the

@@ -107,12 +107,13 @@ fn trunk_index(kind: Kind, upper: bool) -> u32
     ensures value { result ≡ trunk_index kind upper }
     ensures within { result < 8 }
 {
-    match kind {
-        Kind::Track => if upper { 0 } else { 1 },
-        Kind::Speed => if upper { 2 } else { 3 },
-        Kind::Climb => if upper { 4 } else { 5 },
-        Kind::Height => if upper { 6 } else { 7 },
-    }
+    let first = match kind {
+        Kind::Track => 0,
+        Kind::Speed => 2,
+        Kind::Climb => 4,
+        Kind::Height => 6,
+    };
+    if upper { first } else { first + 1 }
 }
 
 /// The kind whose side has this index.

@@ -3,7 +3,8 @@ use Rattle.std.specs.Prelude.{◌≡◌, ℕ, ◌+◌, ◌<◌, ◌≤◌, ℤ, 
 use Rattle.daa_taumod.specs.declared.Volume.{Volume}
 use Rattle.daa_config.specs.declared.candidate.Candidate.{Candidate}
 use Rattle.daa_config.specs.declared.kind.Kind.{Kind}
-use Rattle.daa_config.specs.Candidates.{candidate_to, candidates_of}
+use Rattle.daa_config.specs.declared.kind.Kind.TheVariants.{Track, Speed, Climb, Height}
+use Rattle.daa_config.specs.Candidates.{candidate_to, candidates_of, start_of, values_of}
 use Rattle.daa_fixed.specs.Mask.{IsMaskOf}
 use Rattle.daa_config.specs.Settings.{Settings}
 use Rattle.daa_state.specs.declared.word.Own.{Own}
@@ -12,6 +13,21 @@ use Rattle.daa_legs.specs.Branch.{lead_of}
 use Rattle.daa_legs.specs.Meeting.{Meets, ViolatesOn}
 use Rattle.daa_scan.specs.Inside.Sharing.{IsTrailOf}
 use Rattle.daa_scan.specs.declared.marking.Trails.{Trails}
+use Rattle.daa_scan.specs.declared.marking.Stretch.{Stretch}
+use Rattle.daa_scan.specs.declared.marking.Stretches.{Stretches}
+
+module _ (settings : Settings) where
+  -- the candidates of the kind, by their numbers in the whole list
+  pub record IsStretchOf (kind : Kind) (stretch : Stretch) : Type 0 where
+    pub from : stretch.from ≡ start_of kind settings
+    pub upto : stretch.upto ≡ start_of kind settings + length (values_of kind settings)
+    pub within : stretch.upto ≤ length (candidates_of settings)
+
+  pub record AreStretchesOf (stretches : Stretches) : Type 0 where
+    pub tracks : IsStretchOf Track stretches.tracks
+    pub speeds : IsStretchOf Speed stretches.speeds
+    pub climbs : IsStretchOf Climb stretches.climbs
+    pub heights : IsStretchOf Height stretches.heights
 
 module _ (settings : Settings) (own : Own) (aircraft : Traffic) where
   -- both sides of a kind; from a trail's end on no candidate of the kind violates the volume

@@ -15,8 +15,8 @@ returns-then-not-in_reach c =
 pub loop-index-preserved : goal.loop-index-preserved
 loop-index-preserved c =
     let none : 0 + c.loop-index.index ≡ c.loop-index.index = omega arith in
-    let room : c.loop-index.index < length c.levels_from.new.masks = omega (arith, c.loop-index-test.true, c.total-index-end.ensures.few, c.levels_from.ensures.length) in
-    let there : 0 + c.loop-index.index < length (candidates_of c.args.scene.now.settings) = subst (λ (s : Settings). 0 + c.loop-index.index < length (candidates_of s)) (sym c.requires.config) (omega (arith, c.loop-index-test.true, c.total-index-end.ensures.value)) in
+    let room : c.loop-index.index < length c.levels_from.new.masks = omega (arith, c.loop-index-test.true, c.levels_from.ensures.length, c.fill.ensures.len) in
+    let there : 0 + c.loop-index.index < length (candidates_of c.args.scene.now.settings) = subst (λ (s : Settings). 0 + c.loop-index.index < length (candidates_of s)) (sym c.requires.config) (omega (arith, c.loop-index-test.true, c.total-total.ensures.value)) in
     mark_more c.args.scene.now c.args.place c.loop-index.index (slice_index c.levels_from.new.masks c.loop-index.index) c.args.board.now c.loop-index.board c.mark.new.self c.loop-index.invariant
     (subst (λ (n : ℕ). IsMaskOf (MeetsAt c.args.scene.now n c.args.place) (length c.args.scene.now.settings.levels) (slice_index c.levels_from.new.masks c.loop-index.index)) none
     (c.levels_from.ensures.masks c.loop-index.index room there))

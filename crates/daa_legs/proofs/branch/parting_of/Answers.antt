@@ -1,15 +1,18 @@
-use Rattle.std.proofs.Common.{rules, ◌≡◌, ◌+◌, sym, subst, FitsSigned, w32, w64, to_z-of_z, ℤ, pos, ◌*ℤ◌, arith}
+use Rattle.std.proofs.Common.{rules, ◌≡◌, ◌+◌, sym, subst, ◌∙◌, FitsSigned, w32, w64, to_z-of_z, ℤ, pos, negsuc, to_z, ap, ◌*ℤ◌, arith}
 use Rattle.std.proofs.lemmas.Int.{ints}
 use Rattle.daa_config.specs.declared.candidate.Candidate.{Candidate}
 use Rattle.daa_config.specs.declared.candidate.Candidate.TheVariants.{Track, Speed, Climb, Height}
 use Rattle.daa_config.specs.Settings.{IsCandidateInRange}
 use Rattle.daa_legs.specs.Branch.{lead_of, FliesAs, FliesOn}
+use Rattle.daa_legs.specs.Motion.{vertical_speed_on}
+use Rattle.daa_fixed.specs.Size.{IsFrom}
+use Rattle.daa_fixed.proofs.Bounds.{within}
 use Rattle.daa_legs.proofs.StateRanges.{own_track}
-use Rattle.daa_legs.proofs.LeadingFlights.{speed_branch, climb_branch, height_branch, hold_on}
+use Rattle.daa_legs.proofs.LeadingFlights.{speed_branch, climb_branch, height_branch, height_rest, straight_at_once, hold_on}
 use Rattle.daa_legs.proofs.Turning.{track_branch}
-use Rattle.daa_legs.proofs.Branching.{before_is, after_is, near_is, none_own}
+use Rattle.daa_legs.proofs.Branching.{before_is, after_is, near_is, none_own, rise_is}
 use Rattle.daa_legs.proofs.branch.parting_of.Goals as goal
-use Rattle.daa_legs.proofs.branch.parting_of.Goals.{After-parting_after, After-parting_after-in-Speed, After-parting_after-in-Climb, After-parting_short_of}
+use Rattle.daa_legs.proofs.branch.parting_of.Goals.{After-parting_after, After-parting_after-in-Speed, After-parting_after-in-Climb, After-rest_of-rise}
 
 pub returns-in-Hold-clause-after : goal.returns-in-Hold-clause-after
 returns-in-Hold-clause-after c = subst (λ (x : Candidate). FliesOn c.args.own.now c.args.rates.now x 0) (sym c.in-Hold.is) (hold_on c.args.own.now c.args.rates.now)
@@ -77,29 +80,6 @@ returns-in-Climb-clause-after c = after_is c.args.own.now c.args.rates.now _ _ _
 pub returns-in-Climb-clause-near : goal.returns-in-Climb-clause-near
 returns-in-Climb-clause-near c = near_is _ _ c.parting_after-in-Climb.ensures (omega arith) (omega arith)
 
-heights : (c : After-parting_short_of) → FliesAs c.args.own.now c.args.rates.now (Height c.in-Height.a) (lead_of c.args.own.now (Height c.in-Height.a) c.way_to-in-Height.result.upper) c.way_to-in-Height.result.legs × FliesOn c.args.own.now c.args.rates.now (Height c.in-Height.a) (c.way_to-in-Height.result.legs + 1)
-heights c =
-    let n1 : FitsSigned w32 c.args.own.now.alt = search rules in
-    let n2 : FitsSigned w32 c.in-Height.a = search rules in
-    let n3 : FitsSigned w32 c.args.rates.now.alt = search rules in
-    let n4 : FitsSigned w64 c.feet.result = search rules in
-    let n5 : FitsSigned w64 c.feet-in-Height.result = search rules in
-    let now : c.feet.result ≡ pos 60 *ℤ c.args.own.now.alt = simp to_z-of_z at c.feet.ensures in
-    let to : c.feet-in-Height.result ≡ pos 60 *ℤ c.in-Height.a = simp to_z-of_z at c.feet-in-Height.ensures in
-    let n6 : FitsSigned w64 (pos 60 *ℤ c.args.own.now.alt) = subst (λ (z : ℤ). FitsSigned w64 z) now n4 in
-    let n7 : FitsSigned w64 (pos 60 *ℤ c.in-Height.a) = subst (λ (z : ℤ). FitsSigned w64 z) to n5 in
-    let e = simp (now, to, to_z-of_z) at c.way_to-in-Height.ensures in
-    height_branch c.args.own.now c.args.rates.now c.in-Height.a c.way_to-in-Height.result.upper c.way_to-in-Height.result.legs (omega (arith, ints, c.requires.rates.alt.least)) (subst (λ (x : Candidate). IsCandidateInRange x) c.in-Height.is c.requires.candidate) e.up e.down e.up_legs e.down_legs
-
-pub returns-in-Height-clause-before : goal.returns-in-Height-clause-before
-returns-in-Height-clause-before c = before_is c.args.own.now c.args.rates.now _ _ _ _ c.in-Height.is c.parting_short_of.ensures (heights c).0
-
-pub returns-in-Height-clause-after : goal.returns-in-Height-clause-after
-returns-in-Height-clause-after c = after_is c.args.own.now c.args.rates.now _ _ _ _ c.in-Height.is c.parting_short_of.ensures (heights c).1
-
-pub returns-in-Height-clause-near : goal.returns-in-Height-clause-near
-returns-in-Height-clause-near c = near_is _ _ c.parting_short_of.ensures (omega arith) (omega arith)
-
 pub returns-in-Track-clause-level : goal.returns-in-Track-clause-level
 returns-in-Track-clause-level c h = absurd (none_own _ _ c.parting_after.ensures (omega arith) h)
 
@@ -109,5 +89,72 @@ returns-in-Speed-clause-level c h = absurd (none_own _ _ c.parting_after-in-Spee
 pub returns-in-Climb-clause-level : goal.returns-in-Climb-clause-level
 returns-in-Climb-clause-level c h = absurd (none_own _ _ c.parting_after-in-Climb.ensures (omega arith) h)
 
-pub returns-in-Height-clause-level : goal.returns-in-Height-clause-level
-returns-in-Height-clause-level c h = (_, c.in-Height.is)
+heights : (c : After-rest_of-rise) → FliesAs c.args.own.now c.args.rates.now (Height c.in-Height.a) (lead_of c.args.own.now (Height c.in-Height.a) c.way_to-way.result.upper) c.way_to-way.result.legs × FliesOn c.args.own.now c.args.rates.now (Height c.in-Height.a) (c.way_to-way.result.legs + 1) × (c.rest_of-rise.result ≡ vertical_speed_on c.args.own.now c.args.rates.now (Height c.in-Height.a) c.way_to-way.result.legs)
+heights c =
+    let n1 : FitsSigned w32 c.args.own.now.alt = search rules in
+    let n2 : FitsSigned w32 c.in-Height.a = search rules in
+    let n3 : FitsSigned w32 c.args.rates.now.alt = search rules in
+    let n4 : FitsSigned w64 c.feet-now.result = search rules in
+    let n5 : FitsSigned w64 c.feet-target.result = search rules in
+    let now : c.feet-now.result ≡ pos 60 *ℤ c.args.own.now.alt = simp to_z-of_z at c.feet-now.ensures in
+    let to : c.feet-target.result ≡ pos 60 *ℤ c.in-Height.a = simp to_z-of_z at c.feet-target.ensures in
+    let n6 : FitsSigned w64 (pos 60 *ℤ c.args.own.now.alt) = subst (λ (z : ℤ). FitsSigned w64 z) now n4 in
+    let n7 : FitsSigned w64 (pos 60 *ℤ c.in-Height.a) = subst (λ (z : ℤ). FitsSigned w64 z) to n5 in
+    let e = simp (now, to, to_z-of_z) at c.way_to-way.ensures in
+    let r = simp (now, to, to_z-of_z) at c.rest_of-rise.ensures in
+    let b = height_branch c.args.own.now c.args.rates.now c.in-Height.a c.way_to-way.result.upper c.way_to-way.result.legs (omega (arith, ints, c.requires.rates.alt.least)) (subst (λ (x : Candidate). IsCandidateInRange x) c.in-Height.is c.requires.candidate) e.up e.down e.up_legs e.down_legs in
+    (b.0, b.1, height_rest c.args.own.now c.args.rates.now c.in-Height.a c.way_to-way.result.upper c.way_to-way.result.legs c.rest_of-rise.result (omega (arith, ints, c.requires.rates.alt.least)) e.up e.down e.up_legs e.down_legs r.up r.down)
+
+pub rest_of-rise-requires-clause-target : goal.rest_of-rise-requires-clause-target
+rest_of-rise-requires-clause-target c =
+    let n2 : FitsSigned w32 c.in-Height.a = search rules in
+    let n5 : FitsSigned w64 c.feet-target.result = search rules in
+    let to : c.feet-target.result ≡ pos 60 *ℤ c.in-Height.a = simp to_z-of_z at c.feet-target.ensures in
+    let n7 : FitsSigned w64 (pos 60 *ℤ c.in-Height.a) = subst (λ (z : ℤ). FitsSigned w64 z) to n5 in
+    let r : IsFrom (negsuc 1999) (pos 60000) c.in-Height.a = subst (λ (x : Candidate). IsCandidateInRange x) c.in-Height.is c.requires.candidate in
+    simp (to, to_z-of_z) (within 3600000 (pos 60 *ℤ c.in-Height.a) (omega (arith, ints, r.least)) (omega (arith, ints, r.most)))
+
+pub returns-then-rise-eq0-clause-before : goal.returns-then-rise-eq0-clause-before
+returns-then-rise-eq0-clause-before c = before_is c.args.own.now c.args.rates.now _ _ _ _ c.in-Height.is c.parting_at.ensures (heights c.before.before).0
+
+pub returns-then-rise-eq0-clause-after : goal.returns-then-rise-eq0-clause-after
+returns-then-rise-eq0-clause-after c =
+    let n : FitsSigned w64 c.rest_of-rise.result = search rules in
+    let none : c.rest_of-rise.result ≡ pos 0 = sym (to_z-of_z n) ∙ ap (to_z w64) c.if-rise-eq0.true in
+    after_is c.args.own.now c.args.rates.now _ _ _ _ c.in-Height.is c.parting_at.ensures
+    (straight_at_once c.args.own.now c.args.rates.now c.in-Height.a c.way_to-way.result.legs (sym (heights c.before.before).2 ∙ none) (heights c.before.before).1)
+
+pub returns-then-rise-eq0-clause-near : goal.returns-then-rise-eq0-clause-near
+returns-then-rise-eq0-clause-near c = near_is _ _ c.parting_at.ensures (omega arith) (omega arith)
+
+pub returns-then-rise-eq0-clause-level : goal.returns-then-rise-eq0-clause-level
+returns-then-rise-eq0-clause-level c h = absurd (none_own _ _ c.parting_at.ensures (omega arith) h)
+
+pub returns-then-rise-eq0-clause-rise : goal.returns-then-rise-eq0-clause-rise
+returns-then-rise-eq0-clause-rise c h = absurd (none_own _ _ c.parting_at.ensures (omega arith) h)
+
+pub returns-else-rise-eq0-clause-before : goal.returns-else-rise-eq0-clause-before
+returns-else-rise-eq0-clause-before c = before_is c.args.own.now c.args.rates.now _ _ _ _ c.in-Height.is c.parting_short_of.ensures (heights c.before.before).0
+
+pub returns-else-rise-eq0-clause-after : goal.returns-else-rise-eq0-clause-after
+returns-else-rise-eq0-clause-after c = after_is c.args.own.now c.args.rates.now _ _ _ _ c.in-Height.is c.parting_short_of.ensures (heights c.before.before).1
+
+pub returns-else-rise-eq0-clause-near : goal.returns-else-rise-eq0-clause-near
+returns-else-rise-eq0-clause-near c = near_is _ _ c.parting_short_of.ensures (omega arith) (omega arith)
+
+pub returns-else-rise-eq0-clause-level : goal.returns-else-rise-eq0-clause-level
+returns-else-rise-eq0-clause-level c h = (_, c.in-Height.is)
+
+pub returns-else-rise-eq0-clause-rise : goal.returns-else-rise-eq0-clause-rise
+returns-else-rise-eq0-clause-rise c _ =
+    let n : FitsSigned w64 c.rest_of-rise.result = search rules in
+    rise_is c.args.own.now c.args.rates.now _ _ _ _ c.in-Height.is c.parting_short_of.ensures (to_z-of_z n ∙ (heights c.before.before).2)
+
+pub returns-in-Track-clause-rise : goal.returns-in-Track-clause-rise
+returns-in-Track-clause-rise c h = absurd (none_own _ _ c.parting_after.ensures (omega arith) h)
+
+pub returns-in-Speed-clause-rise : goal.returns-in-Speed-clause-rise
+returns-in-Speed-clause-rise c h = absurd (none_own _ _ c.parting_after-in-Speed.ensures (omega arith) h)
+
+pub returns-in-Climb-clause-rise : goal.returns-in-Climb-clause-rise
+returns-in-Climb-clause-rise c h = absurd (none_own _ _ c.parting_after-in-Climb.ensures (omega arith) h)

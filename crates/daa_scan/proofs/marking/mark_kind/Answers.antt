@@ -21,7 +21,7 @@ loop-index-init c = record {
   trails = begun c.args.config.now c.args.own.now c.args.aircraft.now c.level-level.result.now.volume c.args.kind c.level-level.result.now.lookahead c.args.seconds
       (c.requires.seconds c.level-level.result.now c.level-level.ensures.value) (omega (arith, c.if-seconds-level.false));
   masks = marked_on c.args.config.now c.args.own.now c.args.aircraft.now c.args.first c.args.l c.args.masks.now (start_of c.args.kind c.args.config.now) c.max-from.result
-      (λ j b h. omega (arith, c.max-from.ensures, c.start-start.ensures.value, h)) (λ j b h. omega (arith, c.max-from.ensures, c.start-start.ensures.value, h)) c.requires.masks;
+      (λ j b h. omega (arith, c.max-from.ensures, c.requires.stretch.from, h)) (λ j b h. omega (arith, c.max-from.ensures, c.requires.stretch.from, h)) c.requires.masks;
   near = inr refl;
 }
 
@@ -29,9 +29,9 @@ pub next_mask-requires : goal.next_mask-requires
 next_mask-requires c =
     let placed : c.args.first + (c.loop-index.index - c.args.first) ≡ c.loop-index.index = omega (arith, c.max-from.ensures, c.loop-index.auto.index) in
     let inside : (c.loop-index.index - c.args.first) < length c.loop-index.masks = omega (arith, c.max-from.ensures, c.loop-index.auto.index, c.min-upto.ensures, c.loop-index-test.true, c.loop-index.auto.masks) in
-    let from : start_of c.args.kind c.args.config.now ≤ c.loop-index.index = omega (arith, c.max-from.ensures, c.loop-index.auto.index, c.start-start.ensures.value) in
-    let before : c.loop-index.index < start_of c.args.kind c.args.config.now + length (values_of c.args.kind c.args.config.now) = omega (arith, c.min-upto.ensures, c.loop-index-test.true, c.start-start.ensures.value, c.count.ensures.value) in
-    let there : c.loop-index.index < length (candidates_of c.args.config.now) = omega (arith, c.start-start.ensures.value, c.start-start.ensures.within, before) in
+    let from : start_of c.args.kind c.args.config.now ≤ c.loop-index.index = omega (arith, c.max-from.ensures, c.loop-index.auto.index, c.requires.stretch.from) in
+    let before : c.loop-index.index < start_of c.args.kind c.args.config.now + length (values_of c.args.kind c.args.config.now) = omega (arith, c.min-upto.ensures, c.loop-index-test.true, c.requires.stretch.upto) in
+    let there : c.loop-index.index < length (candidates_of c.args.config.now) = omega (arith, c.requires.stretch.upto, c.requires.stretch.within, before) in
     let listed : slice_get (candidates_of c.args.config.now) c.loop-index.index ≡ Some (slice_index_or (candidates_of c.args.config.now) c.loop-index.index Hold) = slice_get-get_or (candidates_of c.args.config.now) c.loop-index.index Hold there in
     let at : slice_get (candidates_of c.args.config.now) (c.args.first + (c.loop-index.index - c.args.first)) ≡ Some (slice_index_or (candidates_of c.args.config.now) c.loop-index.index Hold) = ap (slice_get (candidates_of c.args.config.now)) placed ∙ listed in
     let in_range = of_kind_in_range c.args.kind c.args.config.now c.loop-index.index (slice_index_or (candidates_of c.args.config.now) c.loop-index.index Hold) c.level-level.ensures.accepted from before listed in
@@ -43,9 +43,9 @@ pub loop-index-preserved : goal.loop-index-preserved
 loop-index-preserved c =
     let placed : c.args.first + (c.loop-index.index - c.args.first) ≡ c.loop-index.index = omega (arith, c.max-from.ensures, c.loop-index.auto.index) in
     let inside : (c.loop-index.index - c.args.first) < length c.loop-index.masks = omega (arith, c.max-from.ensures, c.loop-index.auto.index, c.min-upto.ensures, c.loop-index-test.true, c.loop-index.auto.masks) in
-    let from : start_of c.args.kind c.args.config.now ≤ c.loop-index.index = omega (arith, c.max-from.ensures, c.loop-index.auto.index, c.start-start.ensures.value) in
-    let before : c.loop-index.index < start_of c.args.kind c.args.config.now + length (values_of c.args.kind c.args.config.now) = omega (arith, c.min-upto.ensures, c.loop-index-test.true, c.start-start.ensures.value, c.count.ensures.value) in
-    let there : c.loop-index.index < length (candidates_of c.args.config.now) = omega (arith, c.start-start.ensures.value, c.start-start.ensures.within, before) in
+    let from : start_of c.args.kind c.args.config.now ≤ c.loop-index.index = omega (arith, c.max-from.ensures, c.loop-index.auto.index, c.requires.stretch.from) in
+    let before : c.loop-index.index < start_of c.args.kind c.args.config.now + length (values_of c.args.kind c.args.config.now) = omega (arith, c.min-upto.ensures, c.loop-index-test.true, c.requires.stretch.upto) in
+    let there : c.loop-index.index < length (candidates_of c.args.config.now) = omega (arith, c.requires.stretch.upto, c.requires.stretch.within, before) in
     let listed : slice_get (candidates_of c.args.config.now) c.loop-index.index ≡ Some (slice_index_or (candidates_of c.args.config.now) c.loop-index.index Hold) = slice_get-get_or (candidates_of c.args.config.now) c.loop-index.index Hold there in
     let at : slice_get (candidates_of c.args.config.now) (c.args.first + (c.loop-index.index - c.args.first)) ≡ Some (slice_index_or (candidates_of c.args.config.now) c.loop-index.index Hold) = ap (slice_get (candidates_of c.args.config.now)) placed ∙ listed in
     let more : c.args.first + (c.loop-index.index - c.args.first) + 1 ≡ c.loop-index.index + 1 = omega (arith, placed) in
@@ -59,9 +59,9 @@ loop-index-preserved c =
 
 pub returns-clause-masks : goal.returns-clause-masks
 returns-clause-masks c = marked_on c.args.config.now c.args.own.now c.args.aircraft.now c.args.first c.args.l c.loop-index.masks c.loop-index.index (start_of c.args.kind c.args.config.now + length (values_of c.args.kind c.args.config.now))
-    (λ j b h. omega (arith, c.loop-index-test.false, c.min-upto.ensures, c.start-start.ensures.value, c.count.ensures.value, c.loop-index.auto.masks, b, h))
+    (λ j b h. omega (arith, c.loop-index-test.false, c.min-upto.ensures, c.requires.stretch.upto, c.loop-index.auto.masks, b, h))
     (λ j b h. ⊎_elim
-    (λ n. omega (arith, n, c.min-upto.ensures, c.start-start.ensures.value, c.count.ensures.value, h))
-    (λ n. omega (arith, n, c.max-from.ensures, c.start-start.ensures.value, c.count.ensures.value, h))
+    (λ n. omega (arith, n, c.min-upto.ensures, c.requires.stretch.upto, h))
+    (λ n. omega (arith, n, c.max-from.ensures, c.requires.stretch.from, c.requires.stretch.upto, h))
     c.loop-index.invariant.near)
     c.loop-index.invariant.masks
