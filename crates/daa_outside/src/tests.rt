@@ -3,6 +3,7 @@ use crate::file_shelf::text_of;
 use std::alloc::{AllocError, Global};
 use std::error::Error;
 use std::io::ErrorKind;
+use std::process::Abort;
 use std::test::Fail;
 use std::thread::{Threads, join};
 use std::time::{Clock, Duration};
@@ -24,13 +25,52 @@ fn pass<G: Gate>(gate: &G) {
 
 /// How many bytes the text has, and its first one.
 fn fetch<F: Shelf>(
-    rt: &HostRuntime,
+    alloc: Global,
     shelf: &mut F,
     name: &str,
 ) -> Result<(usize, Option<u8>), FetchFault> {
-    let text = shelf.fetch(rt.alloc(), name)?;
+    let text = shelf.fetch(alloc, name)?;
     Ok((text.len(), text.first().copied()))
 }
+
+/// Each read into a buffer of four bytes has this answer, and leaves these bytes there.
+fn expect_reads<S: Source>(
+    rt: &impl Abort,
+    source: &mut S,
+    reads: &[(Result<usize, Failed>, [u8; 4])],
+) {
+    let mut buf = [b'-'; 4];
+    for (answer, handed) in reads {
+        assert!(rt; read(source, &mut buf) == *answer, "before {handed:?}");
+        assert!(rt; buf == *handed, "{buf:?}, not {handed:?}");
+    }
+}
+
+/// Each write of a piece has this answer.
+fn expect_writes<K: Sink>(rt: &impl Abort, sink: &mut K, writes: &[(&str, Result<usize, Failed>)]) {
+    for (piece, answer) in writes {
+        assert!(rt; write(sink, piece.as_bytes()) == *answer, "at {piece}");
+    }
+}
+
+/// Each name has this answer.
+fn expect_fetches<F: Shelf>(
+    rt: &(impl AllocGlobal + Abort),
+    shelf: &mut F,
+    fetches: &[(&str, Result<(usize, Option<u8>), FetchFault>)],
+) {
+    for (name, answer) in fetches {
+        assert!(rt; fetch(rt.alloc(), shelf, name) == *answer, "at {name}");
+    }
+}
+
+static READS: [(Result<usize, Failed>, [u8; 4]); 5] = [
+    (Ok(2), *b"ab--"),
+    (Ok(1), *b"cb--"),
+    (Err(Failed), *b"cb--"),
+    (Ok(3), *b"def-"),
+    (Ok(0), *b"def-"),
+];
 
 #[test]
 fn a_source_hands_out_its_pieces_and_fails_at_the_named_call(rt: HostRuntime) -> Result<(), Fail> {
@@ -38,37 +78,35 @@ fn a_source_hands_out_its_pieces_and_fails_at_the_named_call(rt: HostRuntime) ->
     let pieces = [2, 0].to_vec(rt.alloc())?;
     let fails = [2].to_vec(rt.alloc())?;
     let mut source = MemSource::new(bytes, pieces, fails);
-    let mut buf = [b'-'; 4];
-    for (answer, handed) in [
-        (Ok(2), *b"ab--"),
-        (Ok(1), *b"cb--"),
-        (Err(Failed), *b"cb--"),
-        (Ok(3), *b"def-"),
-        (Ok(0), *b"def-"),
-    ] {
-        assert_eq!(rt; read(&mut source, &mut buf), answer);
-        assert_eq!(rt; buf, handed);
-    }
+    expect_reads(&rt, &mut source, &READS);
     Ok(())
 }
+
+static CALM_READS: [(Result<usize, Failed>, [u8; 4]); 4] = [
+    (Ok(1), *b"a---"),
+    (Ok(2), *b"bc--"),
+    (Ok(3), *b"def-"),
+    (Ok(0), *b"def-"),
+];
 
 #[test]
 fn a_calm_source_hands_out_its_pieces(rt: HostRuntime) -> Result<(), Fail> {
     let bytes = b"abcdef".to_vec(rt.alloc())?;
     let pieces = [0, 2].to_vec(rt.alloc())?;
     let mut source = CalmSource::new(bytes, pieces);
-    let mut buf = [b'-'; 4];
-    for (answer, handed) in [
-        (Ok(1), *b"a---"),
-        (Ok(2), *b"bc--"),
-        (Ok(3), *b"def-"),
-        (Ok(0), *b"def-"),
-    ] {
-        assert_eq!(rt; read(&mut source, &mut buf), answer);
-        assert_eq!(rt; buf, handed);
-    }
+    expect_reads(&rt, &mut source, &CALM_READS);
     Ok(())
 }
+
+static WRITES: [(&str, Result<usize, Failed>); 7] = [
+    ("abc", Ok(2)),
+    ("cd", Ok(1)),
+    ("d", Err(Failed)),
+    ("", Ok(0)),
+    ("defg", Ok(2)),
+    ("fg", Err(Failed)),
+    ("", Err(Failed)),
+];
 
 #[test]
 fn a_sink_takes_pieces_until_it_is_full(rt: HostRuntime) -> Result<(), Fail> {
@@ -76,87 +114,88 @@ fn a_sink_takes_pieces_until_it_is_full(rt: HostRuntime) -> Result<(), Fail> {
     let pieces = [2, 0].to_vec(rt.alloc())?;
     let fails = [2].to_vec(rt.alloc())?;
     let mut sink = MemSink::over(room, pieces, fails);
-    for (piece, answer) in [
-        ("abc", Ok(2)),
-        ("cd", Ok(1)),
-        ("d", Err(Failed)),
-        ("", Ok(0)),
-        ("defg", Ok(2)),
-        ("fg", Err(Failed)),
-        ("", Err(Failed)),
-    ] {
-        assert_eq!(rt; write(&mut sink, piece.as_bytes()), answer, "at {piece}");
-    }
-    assert_eq!(rt; sink.taken(), b"abcde".as_slice());
+    expect_writes(&rt, &mut sink, &WRITES);
+    assert!(rt; sink.taken() == b"abcde".as_slice());
     Ok(())
 }
 
 #[test]
 fn a_void_takes_each_piece_whole(rt: HostRuntime) {
-    assert_eq!(rt; write(&mut Void, b"abc"), Ok(3));
-    assert_eq!(rt; write(&mut Void, b""), Ok(0));
+    expect_writes(&rt, &mut Void, &[("abc", Ok(3)), ("", Ok(0))]);
 }
 
+/// Texts under the names a, b, a and c, and a name without a text; the first call fails, and the
+/// third.
 fn some_shelf(rt: &HostRuntime) -> Result<MemShelf, AllocError> {
-    let mut names = Vec::new(rt.alloc());
+    let alloc = rt.alloc();
+    let mut names = Vec::new(alloc);
     for name in ["a", "b", "a", "c", "d"] {
-        names.push(String::from_str(rt.alloc(), name)?)?;
+        names.push(String::from_str(alloc, name)?)?;
     }
-    let mut texts = Vec::new(rt.alloc());
-    for (byte, count) in [(b'1', 5), (b'2', 65537), (b'3', 5), (b'4', 65536)] {
-        texts.push(vec![in rt.alloc(); byte; count]?)?;
-    }
-    Ok(MemShelf::new(names, texts, [0, 2].to_vec(rt.alloc())?))
+    Ok(MemShelf::new(names, some_texts(alloc)?, [0, 2].to_vec(alloc)?))
 }
+
+fn some_texts(alloc: Global) -> Result<Vec<Vec<u8>>, AllocError> {
+    let mut texts = Vec::new(alloc);
+    for (byte, count) in [(b'1', 5), (b'2', 65537), (b'3', 5), (b'4', 65536)] {
+        texts.push(vec![in alloc; byte; count]?)?;
+    }
+    Ok(texts)
+}
+
+static FETCHES: [(&str, Result<(usize, Option<u8>), FetchFault>); 7] = [
+    ("a", Err(FetchFault::Failed)),
+    ("a", Ok((5, Some(b'1')))),
+    ("b", Err(FetchFault::Failed)),
+    ("b", Err(FetchFault::TooLong)),
+    ("c", Ok((65536, Some(b'4')))),
+    ("d", Err(FetchFault::Failed)),
+    ("e", Err(FetchFault::Failed)),
+];
 
 #[test]
 fn a_shelf_gives_the_text_under_the_name(rt: HostRuntime) -> Result<(), Fail> {
     let mut shelf = some_shelf(&rt)?;
-    for (name, answer) in [
-        ("a", Err(FetchFault::Failed)),
-        ("a", Ok((5, Some(b'1')))),
-        ("b", Err(FetchFault::Failed)),
-        ("b", Err(FetchFault::TooLong)),
-        ("c", Ok((65536, Some(b'4')))),
-        ("d", Err(FetchFault::Failed)),
-        ("e", Err(FetchFault::Failed)),
-    ] {
-        assert_eq!(rt; fetch(&rt, &mut shelf, name), answer, "at {name}");
-    }
+    expect_fetches(&rt, &mut shelf, &FETCHES);
     Ok(())
 }
+
+static CALM_FETCHES: [(&str, Result<(usize, Option<u8>), FetchFault>); 2] = [
+    ("a", Ok((5, Some(b'x')))),
+    ("", Ok((5, Some(b'x')))),
+];
 
 #[test]
 fn a_calm_shelf_gives_its_text_under_every_name(rt: HostRuntime) -> Result<(), Fail> {
     let mut shelf = CalmShelf::of([b'x'; 5].to_vec(rt.alloc())?);
-    assert_eq!(rt; fetch(&rt, &mut shelf, "a"), Ok((5, Some(b'x'))));
-    assert_eq!(rt; fetch(&rt, &mut shelf, ""), Ok((5, Some(b'x'))));
+    expect_fetches(&rt, &mut shelf, &CALM_FETCHES);
     Ok(())
 }
+
+static PIPED: [(Result<usize, Failed>, [u8; 4]); 3] = [
+    (Ok(4), *b"abcd"),
+    (Ok(2), *b"efcd"),
+    (Ok(0), *b"efcd"),
+];
 
 // Real bytes through the system, by a pipe in place of the standard streams.
 #[test]
 fn bytes_pass_from_a_real_sink_to_a_real_source(rt: HostRuntime) -> Result<(), Fail> {
     let (reader, writer) = io::pipe(&rt)?;
     let mut sink = StdSink::new(writer);
-    assert_eq!(rt; write(&mut sink, b"abcdef"), Ok(6));
-    assert_eq!(rt; write(&mut sink, b""), Ok(0));
+    expect_writes(&rt, &mut sink, &[("abcdef", Ok(6)), ("", Ok(0))]);
     drop(sink);
     let mut source = StdSource::new(reader);
-    let mut buf = [b'-'; 4];
-    for (answer, handed) in [(Ok(4), *b"abcd"), (Ok(2), *b"efcd"), (Ok(0), *b"efcd")] {
-        assert_eq!(rt; read(&mut source, &mut buf), answer);
-        assert_eq!(rt; buf, handed);
-    }
+    expect_reads(&rt, &mut source, &PIPED);
     Ok(())
 }
 
 #[test]
 fn errors_of_the_system_are_faults(rt: HostRuntime) -> Result<(), Fail> {
     let mut folder = StdSource::new(fs::open(&rt, ".")?);
-    assert_eq!(rt; read(&mut folder, &mut [0; 4]), Err(Failed));
+    assert!(rt; read(&mut folder, &mut [0; 4]).is_err());
     let mut read_only = StdSink::new(fs::open(&rt, ".")?);
-    assert_eq!(rt; write(&mut read_only, b"a"), Err(Failed));
+    assert!(rt; write(&mut read_only, b"a").is_err());
     Ok(())
 }
 
@@ -213,19 +252,28 @@ impl io::Write for FailsOnce {
 /// One that another try might pass, and one that it might not.
 static KINDS: [ErrorKind; 2] = [ErrorKind::Interrupted, ErrorKind::BrokenPipe];
 
+static BYTE_BY_BYTE: [(Result<usize, Failed>, [u8; 4]); 3] = [
+    (Ok(1), *b"x---"),
+    (Err(Failed), *b"x---"),
+    (Ok(1), *b"x---"),
+];
+
 /// The call that fails returns, and the next one is made when the caller makes it.
 #[test]
 fn a_read_that_fails_is_not_tried_again(rt: HostRuntime) {
     for kind in KINDS {
         let mut reader = FailsOnce::at(1, kind);
         let mut source = StdSource::new(&mut reader);
-        let mut buf = [b'-'; 2];
-        for answer in [Ok(1), Err(Failed), Ok(1)] {
-            assert_eq!(rt; read(&mut source, &mut buf), answer, "at {kind:?}");
-        }
-        assert_eq!(rt; reader.calls, 3, "at {kind:?}");
+        expect_reads(&rt, &mut source, &BYTE_BY_BYTE);
+        assert!(rt; reader.calls == 3, "at {kind:?}");
     }
 }
+
+static ONE_OF_TWO: [(&str, Result<usize, Failed>); 3] = [
+    ("ab", Ok(1)),
+    ("ab", Err(Failed)),
+    ("ab", Ok(1)),
+];
 
 /// A write that is taken is two calls of the writer, the write and the flush.
 #[test]
@@ -234,10 +282,8 @@ fn a_write_that_fails_is_not_tried_again(rt: HostRuntime) {
         for (at, calls) in [(2, 5), (3, 6)] {
             let mut writer = FailsOnce::at(at, kind);
             let mut sink = StdSink::new(&mut writer);
-            for answer in [Ok(1), Err(Failed), Ok(1)] {
-                assert_eq!(rt; write(&mut sink, b"ab"), answer, "at {at}, {kind:?}");
-            }
-            assert_eq!(rt; writer.calls, calls, "at {at}, {kind:?}");
+            expect_writes(&rt, &mut sink, &ONE_OF_TWO);
+            assert!(rt; writer.calls == calls, "at {at}, {kind:?}");
         }
     }
 }
@@ -246,9 +292,11 @@ fn a_write_that_fails_is_not_tried_again(rt: HostRuntime) {
 fn a_write_of_no_bytes_is_a_fault(rt: HostRuntime) {
     let mut room = [0; 1];
     let mut full = StdSink::new(room.as_mut_slice());
-    assert_eq!(rt; write(&mut full, b"ab"), Ok(1));
-    assert_eq!(rt; write(&mut full, b"b"), Err(Failed));
-    assert_eq!(rt; write(&mut full, b""), Ok(0));
+    expect_writes(
+        &rt,
+        &mut full,
+        &[("ab", Ok(1)), ("b", Err(Failed)), ("", Ok(0))],
+    );
 }
 
 /// A writer that can be flushed this many times, and then fails.
@@ -273,43 +321,68 @@ impl io::Write for Flushes {
 fn each_write_is_flushed(rt: HostRuntime) {
     let mut writer = Flushes(2);
     let mut sink = StdSink::new(&mut writer);
-    assert_eq!(rt; write(&mut sink, b"a"), Ok(1));
-    assert_eq!(rt; write(&mut sink, b"b"), Ok(1));
-    assert_eq!(rt; write(&mut sink, b"c"), Err(Failed));
-    assert_eq!(rt; writer.0, 0);
+    expect_writes(
+        &rt,
+        &mut sink,
+        &[("a", Ok(1)), ("b", Ok(1)), ("c", Err(Failed))],
+    );
+    assert!(rt; writer.0 == 0);
 }
+
+/// A file of so many letters x.
+fn write_letters(rt: &HostRuntime, path: &str, count: usize) -> Result<(), Fail> {
+    let text = vec![in rt.alloc(); b'x'; count]?;
+    Ok(fs::write(rt, path, text)?)
+}
+
+/// A count of letters, and what a file of them gives.
+static FILES: [(usize, Result<(usize, Option<u8>), FetchFault>); 4] = [
+    (0, Ok((0, None))),
+    (5, Ok((5, Some(b'x')))),
+    (65536, Ok((65536, Some(b'x')))),
+    (65537, Err(FetchFault::TooLong)),
+];
+
+static NO_FILES: [(&str, Result<(usize, Option<u8>), FetchFault>); 2] = [
+    ("daa_outside_a_text", Err(FetchFault::Failed)),
+    (".", Err(FetchFault::Failed)),
+];
 
 #[test]
 fn a_shelf_of_files_gives_a_files_bytes(rt: HostRuntime) -> Result<(), Fail> {
     const PATH: &str = "daa_outside_a_text";
     let mut shelf = FileShelf::new(&rt);
-    for (count, answer) in [
-        (0, Ok((0, None))),
-        (5, Ok((5, Some(b'x')))),
-        (65536, Ok((65536, Some(b'x')))),
-        (65537, Err(FetchFault::TooLong)),
-    ] {
-        fs::write(&rt, PATH, vec![in rt.alloc(); b'x'; count]?)?;
-        assert_eq!(rt; fetch(&rt, &mut shelf, PATH), answer, "at {count}");
+    for (count, answer) in &FILES {
+        write_letters(&rt, PATH, *count)?;
+        expect_fetches(&rt, &mut shelf, &[(PATH, *answer)]);
     }
     fs::remove_file(&rt, PATH)?;
-    assert_eq!(rt; fetch(&rt, &mut shelf, PATH), Err(FetchFault::Failed));
-    assert_eq!(rt; fetch(&rt, &mut shelf, "."), Err(FetchFault::Failed));
+    expect_fetches(&rt, &mut shelf, &NO_FILES);
     Ok(())
 }
+
+const BLANKS: &str = " daa outside blanks ";
+
+const TRIMMED: &str = "daa outside blanks";
+
+static ONE_FILE: [(&str, Result<(usize, Option<u8>), FetchFault>); 2] = [
+    (BLANKS, Ok((2, Some(b'x')))),
+    (TRIMMED, Err(FetchFault::Failed)),
+];
+
+static BOTH_FILES: [(&str, Result<(usize, Option<u8>), FetchFault>); 2] = [
+    (BLANKS, Ok((2, Some(b'x')))),
+    (TRIMMED, Ok((1, Some(b'x')))),
+];
 
 /// Blanks belong to the name: the file with them is another one than the file without.
 #[test]
 fn a_name_with_blanks_is_the_name_of_a_file(rt: HostRuntime) -> Result<(), Fail> {
-    const BLANKS: &str = " daa outside blanks ";
-    const TRIMMED: &str = "daa outside blanks";
     let mut shelf = FileShelf::new(&rt);
-    fs::write(&rt, BLANKS, b"xy")?;
-    assert_eq!(rt; fetch(&rt, &mut shelf, BLANKS), Ok((2, Some(b'x'))));
-    assert_eq!(rt; fetch(&rt, &mut shelf, TRIMMED), Err(FetchFault::Failed));
-    fs::write(&rt, TRIMMED, b"z")?;
-    assert_eq!(rt; fetch(&rt, &mut shelf, BLANKS), Ok((2, Some(b'x'))));
-    assert_eq!(rt; fetch(&rt, &mut shelf, TRIMMED), Ok((1, Some(b'z'))));
+    write_letters(&rt, BLANKS, 2)?;
+    expect_fetches(&rt, &mut shelf, &ONE_FILE);
+    write_letters(&rt, TRIMMED, 1)?;
+    expect_fetches(&rt, &mut shelf, &BOTH_FILES);
     fs::remove_file(&rt, BLANKS)?;
     fs::remove_file(&rt, TRIMMED)?;
     Ok(())
@@ -322,14 +395,8 @@ fn fault_at(alloc: Global, kind: ErrorKind) -> Option<FetchFault> {
 
 #[test]
 fn want_of_memory_while_a_file_is_read_is_told(rt: HostRuntime) {
-    assert_eq!(rt;
-        fault_at(rt.alloc(), ErrorKind::OutOfMemory),
-        Some(FetchFault::NoMemory)
-    );
-    assert_eq!(rt;
-        fault_at(rt.alloc(), ErrorKind::BrokenPipe),
-        Some(FetchFault::Failed)
-    );
+    assert!(rt; fault_at(rt.alloc(), ErrorKind::OutOfMemory) == Some(FetchFault::NoMemory));
+    assert!(rt; fault_at(rt.alloc(), ErrorKind::BrokenPipe) == Some(FetchFault::Failed));
 }
 
 /// A clock by which nobody sleeps.
@@ -392,23 +459,25 @@ fn text_of_fault<E: Error>(alloc: Global, fault: E) -> Result<String, AllocError
     format!(in alloc; "{fault}")
 }
 
+static SENTENCES: [(FetchFault, &str); 3] = [
+    (
+        FetchFault::Failed,
+        "the shelf failed, or holds no text under the name",
+    ),
+    (
+        FetchFault::TooLong,
+        "the text under the name has more than 65536 bytes",
+    ),
+    (FetchFault::NoMemory, "there was no memory for the text"),
+];
+
 #[test]
 fn each_fault_has_a_sentence(rt: HostRuntime) -> Result<(), Fail> {
     let text = text_of_fault(rt.alloc(), Failed)?;
-    assert_eq!(rt; text.as_str(), "a call to the outside failed");
-    for (fault, sentence) in [
-        (
-            FetchFault::Failed,
-            "the shelf failed, or holds no text under the name",
-        ),
-        (
-            FetchFault::TooLong,
-            "the text under the name has more than 65536 bytes",
-        ),
-        (FetchFault::NoMemory, "there was no memory for the text"),
-    ] {
+    assert!(rt; text.as_str() == "a call to the outside failed");
+    for (fault, sentence) in SENTENCES {
         let text = text_of_fault(rt.alloc(), fault)?;
-        assert_eq!(rt; text.as_str(), sentence);
+        assert!(rt; text.as_str() == sentence, "{text}");
     }
     Ok(())
 }
@@ -433,5 +502,5 @@ fn each_type_may_be_sent_and_a_gate_shared(rt: HostRuntime) {
     may_be_sent::<Open>();
     may_be_shared::<Open>();
     pass(&Open);
-    assert_eq!(rt; write(&mut StdSink::new(rt.stdout()), b""), Ok(0));
+    assert!(rt; write(&mut StdSink::new(rt.stdout()), b"") == Ok(0));
 }

@@ -15,20 +15,30 @@ fn code_of(alloc: Global, text: &[u8]) -> Result<u8, ConfigFault> {
     }
 }
 
-/// Reads the text with one part of it replaced.
+/// The text has this code.
+fn expect_code(rt: &(impl AllocGlobal + Abort), text: &str, wanted: u8) -> Result<(), ConfigFault> {
+    let code = code_of(rt.alloc(), text.as_bytes())?;
+    assert!(rt; code == wanted, "{code}, not {wanted}: {text}");
+    Ok(())
+}
+
+/// The text with one part of it replaced.
+fn edited(alloc: Global, text: &str, old: &str, new: &str) -> Result<String, Fail> {
+    if !text.contains(old) {
+        return Err("a part of the text".into());
+    }
+    Ok(text.replacen(alloc, old, new, 1)?)
+}
+
+/// The text with one part of it replaced has this code.
 fn expect_edited(
     rt: &(impl AllocGlobal + Abort),
     text: &str,
     edit: &(&str, &str, u8),
 ) -> Result<(), Fail> {
     let (old, new, code) = *edit;
-    assert!(rt; text.contains(old), "the text has no {old}");
-    let edited = text.replacen(rt.alloc(), old, new, 1)?;
-    assert_eq!(rt;
-        code_of(rt.alloc(), edited.as_str().as_bytes())?,
-        code,
-        "{old} -> {new}"
-    );
+    let text = edited(rt.alloc(), text, old, new)?;
+    expect_code(rt, text.as_str(), code)?;
     Ok(())
 }
 
@@ -54,46 +64,60 @@ static WHOLE_TEXTS: [(&str, u8); 16] = [
 #[test]
 fn whole_texts(rt: HostRuntime) -> Result<(), Fail> {
     for (text, code) in &WHOLE_TEXTS {
-        assert_eq!(rt; code_of(rt.alloc(), text.as_bytes())?, *code, "{text}");
+        expect_code(&rt, text, *code)?;
     }
-    assert_eq!(rt; code_of(rt.alloc(), b"\xff")?, 2);
-    assert_eq!(rt; code_of(rt.alloc(), b"# \xc3")?, 2);
     Ok(())
+}
+
+static NO_TEXTS: [&[u8]; 2] = [b"\xff", b"# \xc3"];
+
+#[test]
+fn bytes_that_are_no_text(rt: HostRuntime) -> Result<(), Fail> {
+    for bytes in &NO_TEXTS {
+        assert!(rt; code_of(rt.alloc(), bytes)? == 2);
+    }
+    Ok(())
+}
+
+/// An accepted text of this many bytes, more than `ONE_LEVEL` has.
+fn text_of(alloc: Global, length: usize) -> Result<String, AllocError> {
+    let blanks = " ".repeat(alloc, length.saturating_sub(ONE_LEVEL.len() + 1))?;
+    format!(in alloc; "{ONE_LEVEL}#{blanks}")
 }
 
 #[test]
 fn longest_text(rt: HostRuntime) -> Result<(), Fail> {
     for (length, code) in [(65536, 0), (65537, 1)] {
-        let mut text = String::from_str(rt.alloc(), ONE_LEVEL)?;
-        text.push('#')?;
-        for _ in text.len()..length {
-            text.push(' ')?;
-        }
-        assert_eq!(rt; code_of(rt.alloc(), text.as_str().as_bytes())?, code);
+        let text = text_of(rt.alloc(), length)?;
+        assert!(rt; text.len() == length);
+        expect_code(&rt, text.as_str(), code)?;
     }
-    let spaces = vec![in rt.alloc(); b'='; 65537]?;
-    assert_eq!(rt; code_of(rt.alloc(), spaces.as_slice())?, 1);
+    let no_text = "=".repeat(rt.alloc(), 65537)?;
+    expect_code(&rt, no_text.as_str(), 1)?;
     Ok(())
+}
+
+/// A list in a list, and so on.
+fn nested(alloc: Global, depth: usize) -> Result<String, AllocError> {
+    let opening = "[".repeat(alloc, depth)?;
+    let closing = "]".repeat(alloc, depth)?;
+    format!(in alloc; "x = {opening}{closing}")
+}
+
+/// A key of a part and more.
+fn dotted(alloc: Global, more: usize) -> Result<String, AllocError> {
+    let parts = ".x".repeat(alloc, more)?;
+    format!(in alloc; "x{parts} = 1")
 }
 
 /// Lists nested deeper than TOML's reader goes, and a key of more parts than it takes.
 #[test]
 fn deep_texts(rt: HostRuntime) -> Result<(), Fail> {
     for (depth, code) in [(80, 3), (81, 2)] {
-        let mut text = String::from_str(rt.alloc(), "x = ")?;
-        for _ in 0..depth {
-            text.push('[')?;
-        }
-        for _ in 0..depth {
-            text.push(']')?;
-        }
-        assert_eq!(rt; code_of(rt.alloc(), text.as_str().as_bytes())?, code);
-        let mut key = String::from_str(rt.alloc(), "x")?;
-        for _ in 1..depth {
-            key.push_str(".x")?;
-        }
-        key.push_str(" = 1")?;
-        assert_eq!(rt; code_of(rt.alloc(), key.as_str().as_bytes())?, code);
+        expect_code(&rt, nested(rt.alloc(), depth)?.as_str(), code)?;
+    }
+    for (more, code) in [(79, 3), (80, 2)] {
+        expect_code(&rt, dotted(rt.alloc(), more)?.as_str(), code)?;
     }
     Ok(())
 }
@@ -114,17 +138,28 @@ fn least_code(rt: HostRuntime) -> Result<(), Fail> {
     for edit in &OF_THREE_LEVELS {
         expect_edited(&rt, THREE_LEVELS, edit)?;
     }
-    let lacking = THREE_LEVELS.replacen(rt.alloc(), "alert = 25\n", "", 1)?;
-    expect_edited(&rt, lacking.as_str(), &("resolve = 2", "resolve = 9", 4))?;
-    let many = ONE_LEVEL.replacen(
+    let lacking = edited(rt.alloc(), THREE_LEVELS, "alert = 25\n", "")?;
+    expect_edited(&rt, lacking.as_str(), &("resolve = 2", "resolve = 9", 4))
+}
+
+/// Edits of a text with too many altitudes.
+static OF_MANY: [(&str, &str, u8); 3] = [
+    ("resolve = 1", "resolve = 2", 7),
+    ("resolve = 1", "resolve = 1", 8),
+    ("turn_rate = 3", "turn_rate = 31", 6),
+];
+
+#[test]
+fn least_code_beside_too_many_values(rt: HostRuntime) -> Result<(), Fail> {
+    let many = edited(
         rt.alloc(),
-        "max = 1000, step = 1,",
-        "max = 60000, step = 1,",
-        1,
+        ONE_LEVEL,
+        ALTITUDES,
+        "min = 1000, max = 60000, step = 1,",
     )?;
-    expect_edited(&rt, many.as_str(), &("resolve = 1", "resolve = 2", 7))?;
-    expect_edited(&rt, many.as_str(), &("resolve = 1", "resolve = 1", 8))?;
-    expect_edited(&rt, many.as_str(), &("turn_rate = 3", "turn_rate = 31", 6))?;
+    for edit in &OF_MANY {
+        expect_edited(&rt, many.as_str(), edit)?;
+    }
     Ok(())
 }
 
@@ -395,23 +430,49 @@ fn counts(rt: HostRuntime) -> Result<(), Fail> {
     for edit in &COUNTS {
         expect_edited(&rt, ONE_LEVEL, edit)?;
     }
-    let level = "{ dthr = 1, zthr = 1, tthr = 1, tcoa = 1, lookahead = 1, alert = 1 }";
-    let four = format!(in rt.alloc(); "[ {level}, {level}, {level}, {level} ]\n#")?;
-    expect_edited(&rt, ONE_LEVEL, &("[", four.as_str(), 0))?;
-    let five = format!(in rt.alloc(); "[ {level}, {level}, {level}, {level}, {level} ]\n#")?;
-    expect_edited(&rt, ONE_LEVEL, &("[", five.as_str(), 7))?;
-    let highest = ONE_LEVEL.replacen(rt.alloc(), "resolve = 1", "resolve = 4", 1)?;
-    expect_edited(&rt, highest.as_str(), &("[", four.as_str(), 0))?;
-    let out = ONE_LEVEL.replacen(rt.alloc(), "resolve = 1", "resolve = 5", 1)?;
-    expect_edited(&rt, out.as_str(), &("[", "[]\n#", 6))?;
     Ok(())
 }
 
+const FOUR: &str = "[ { dthr = 1, zthr = 1, tthr = 1, tcoa = 1, lookahead = 1, alert = 1 },
+  { dthr = 1, zthr = 1, tthr = 1, tcoa = 1, lookahead = 1, alert = 1 },
+  { dthr = 1, zthr = 1, tthr = 1, tcoa = 1, lookahead = 1, alert = 1 },
+  { dthr = 1, zthr = 1, tthr = 1, tcoa = 1, lookahead = 1, alert = 1 } ]\n#";
+
+const FIVE: &str = "[ { dthr = 1, zthr = 1, tthr = 1, tcoa = 1, lookahead = 1, alert = 1 },
+  { dthr = 1, zthr = 1, tthr = 1, tcoa = 1, lookahead = 1, alert = 1 },
+  { dthr = 1, zthr = 1, tthr = 1, tcoa = 1, lookahead = 1, alert = 1 },
+  { dthr = 1, zthr = 1, tthr = 1, tcoa = 1, lookahead = 1, alert = 1 },
+  { dthr = 1, zthr = 1, tthr = 1, tcoa = 1, lookahead = 1, alert = 1 } ]\n#";
+
+/// A level to resolve, a list of levels, and the code.
+static LISTS: [(&str, &str, u8); 4] = [
+    ("resolve = 1", FOUR, 0),
+    ("resolve = 1", FIVE, 7),
+    ("resolve = 4", FOUR, 0),
+    ("resolve = 5", "[]\n#", 6),
+];
+
+#[test]
+fn counts_of_levels(rt: HostRuntime) -> Result<(), Fail> {
+    for (resolve, list, code) in &LISTS {
+        let text = edited(rt.alloc(), ONE_LEVEL, "resolve = 1", resolve)?;
+        expect_edited(&rt, text.as_str(), &("[", *list, *code))?;
+    }
+    Ok(())
+}
+
+/// A fault and its code.
+static CODES: [(ConfigFault, Option<u8>); 3] = [
+    (ConfigFault::TooLong, Some(1)),
+    (ConfigFault::TooMany, Some(8)),
+    (ConfigFault::NoMemory, None),
+];
+
 #[test]
 fn codes_of_faults(rt: HostRuntime) {
-    assert_eq!(rt; ConfigFault::TooLong.code(), Some(1));
-    assert_eq!(rt; ConfigFault::TooMany.code(), Some(8));
-    assert_eq!(rt; ConfigFault::NoMemory.code(), None);
+    for (fault, code) in CODES {
+        assert!(rt; fault.code() == code);
+    }
 }
 
 /// The sentence of an error, as a caller prints it.
@@ -453,7 +514,7 @@ static SENTENCES: [(ConfigFault, &str); 9] = [
 fn each_fault_has_a_sentence(rt: HostRuntime) -> Result<(), Fail> {
     for (fault, wanted) in SENTENCES {
         let sentence = sentence_of(rt.alloc(), fault)?;
-        assert_eq!(rt; sentence.as_str(), wanted);
+        assert!(rt; sentence.as_str() == wanted, "{sentence}");
     }
     Ok(())
 }

@@ -2,21 +2,22 @@
 
 use crate::examples::{FOUR_LEVELS, LARGEST_VALUES, ONE_LEVEL, THREE_LEVELS};
 use crate::{
-    Candidate, Config, ConfigFault, Kind, Rates, Resolution, accepted_is_in_range, read,
-    read_numbers, values_are_all_steps,
+    Candidate, Config, ConfigFault, ConfigNumbers, Kind, Level, Rates, Resolution, read,
+    read_numbers,
 };
-use daa_taumod::Model;
-use std::process::Abort;
+use daa_taumod::{Model, Volume};
+use std::alloc::Global;
 use std::test::Fail;
 
 /// How many candidates of each kind there are, and how many in all.
-fn expect_counts(rt: &impl Abort, config: &Config, counts: &[u32; 5]) {
-    let [tracks, speeds, climbs, heights, total] = *counts;
-    assert_eq!(rt; config.count(Kind::Track), tracks);
-    assert_eq!(rt; config.count(Kind::Speed), speeds);
-    assert_eq!(rt; config.count(Kind::Climb), climbs);
-    assert_eq!(rt; config.count(Kind::Height), heights);
-    assert_eq!(rt; config.total(), total);
+fn counts_of(config: &Config) -> [u32; 5] {
+    [
+        config.count(Kind::Track),
+        config.count(Kind::Speed),
+        config.count(Kind::Climb),
+        config.count(Kind::Height),
+        config.total(),
+    ]
 }
 
 static COUNTS: [(&str, [u32; 5]); 4] = [
@@ -30,7 +31,7 @@ static COUNTS: [(&str, [u32; 5]); 4] = [
 fn counts(rt: HostRuntime) -> Result<(), Fail> {
     for (text, wanted) in &COUNTS {
         let config = read(rt.alloc(), text.as_bytes())?;
-        expect_counts(&rt, &config, wanted);
+        assert!(rt; counts_of(&config) == *wanted, "{text}");
     }
     Ok(())
 }
@@ -48,102 +49,168 @@ static CANDIDATES: [(u32, Candidate); 10] = [
     (340, Candidate::Height(50000)),
 ];
 
+/// Whether the list has this candidate here.
+fn has_candidate(config: &Config, index: u32, candidate: Candidate) -> bool {
+    index < config.total() && config.candidate(index) == candidate
+}
+
 #[test]
 fn candidates(rt: HostRuntime) -> Result<(), Fail> {
     let config = read(rt.alloc(), THREE_LEVELS.as_bytes())?;
-    assert_eq!(rt; config.total(), 341);
     for (index, candidate) in &CANDIDATES {
-        if *index < config.total() {
-            assert_eq!(rt; config.candidate(*index), *candidate, "at {index}");
-        }
-    }
-    assert_eq!(rt; config.start(Kind::Track), 1);
-    assert_eq!(rt; config.start(Kind::Speed), 73);
-    assert_eq!(rt; config.start(Kind::Climb), 139);
-    assert_eq!(rt; config.start(Kind::Height), 240);
-    assert_eq!(rt; config.least(Kind::Track), 0);
-    assert_eq!(rt; config.greatest(Kind::Track), 355);
-    assert_eq!(rt; config.least(Kind::Climb), -5000);
-    assert_eq!(rt; config.greatest(Kind::Height), 50000);
-    assert_eq!(rt; config.count(Kind::Speed), 66);
-    if config.count(Kind::Speed) > 65 {
-        assert_eq!(rt; config.value(Kind::Speed, 1), 600);
-        assert_eq!(rt; config.value(Kind::Speed, 65), 7000);
+        assert!(rt; has_candidate(&config, *index, *candidate), "at {index}");
     }
     Ok(())
+}
+
+/// Where each kind starts in the list, its least and its greatest value.
+static KINDS: [(Kind, u32, i32, i32); 4] = [
+    (Kind::Track, 1, 0, 355),
+    (Kind::Speed, 73, 500, 7000),
+    (Kind::Climb, 139, -5000, 5000),
+    (Kind::Height, 240, 0, 50000),
+];
+
+/// Whether the kind has this least and this greatest value.
+fn has_ends(config: &Config, kind: Kind, least: i32, greatest: i32) -> bool {
+    config.least(kind) == least && config.greatest(kind) == greatest
+}
+
+/// Whether the kind has this value here.
+fn has_value(config: &Config, kind: Kind, place: u32, value: i32) -> bool {
+    place < config.count(kind) && config.value(kind, place) == value
+}
+
+#[test]
+fn values_of_kinds(rt: HostRuntime) -> Result<(), Fail> {
+    let config = read(rt.alloc(), THREE_LEVELS.as_bytes())?;
+    for (kind, start, least, greatest) in &KINDS {
+        assert!(rt; config.start(*kind) == *start, "from {start}");
+        assert!(rt; has_ends(&config, *kind, *least, *greatest), "from {start}");
+    }
+    assert!(rt; has_value(&config, Kind::Speed, 1, 600));
+    assert!(rt; has_value(&config, Kind::Speed, 65, 7000));
+    Ok(())
+}
+
+/// The configuration of `ONE_LEVEL` with a part of its text replaced.
+fn edited(alloc: Global, old: &str, new: &str) -> Result<Config, Fail> {
+    let text = ONE_LEVEL.replacen(alloc, old, new, 1)?;
+    Ok(read(alloc, text.as_str().as_bytes())?)
 }
 
 /// A greatest value that the steps pass by is not listed.
 #[test]
 fn uneven_steps(rt: HostRuntime) -> Result<(), Fail> {
-    let text = ONE_LEVEL.replacen(
-        rt.alloc(),
-        "min = 1000, max = 1000, step = 1,",
-        "min = 1000, max = 1999, step = 250,",
-        1,
-    )?;
-    let config = read(rt.alloc(), text.as_str().as_bytes())?;
-    assert_eq!(rt; config.count(Kind::Height), 4);
-    assert_eq!(rt; config.greatest(Kind::Height), 1750);
-    assert_eq!(rt; config.greatest(Kind::Track), 270);
+    let steps = "min = 1000, max = 1999, step = 250,";
+    let config = edited(rt.alloc(), "min = 1000, max = 1000, step = 1,", steps)?;
+    assert!(rt; config.count(Kind::Height) == 4);
+    assert!(rt; has_ends(&config, Kind::Height, 1000, 1750));
+    assert!(rt; has_ends(&config, Kind::Track, 0, 270));
     Ok(())
 }
 
+/// The rates of the kinds, asked for one by one.
+fn rates_of(config: &Config) -> Rates {
+    Rates {
+        turn: config.turn_rate(),
+        gs: config.gs_rate(),
+        vs: config.vs_rate(),
+        alt: config.alt_rate(),
+    }
+}
+
+const RATES: Rates = Rates {
+    turn: 3,
+    gs: 20,
+    vs: 500,
+    alt: 2000,
+};
+
 #[test]
-fn numbers_and_levels(rt: HostRuntime) -> Result<(), Fail> {
+fn rates(rt: HostRuntime) -> Result<(), Fail> {
     let config = read(rt.alloc(), THREE_LEVELS.as_bytes())?;
-    assert_eq!(rt; config.resolve(), 2);
-    assert_eq!(rt; config.turn_rate(), 3);
-    assert_eq!(rt; config.gs_rate(), 20);
-    assert_eq!(rt; config.vs_rate(), 500);
-    assert_eq!(rt; config.alt_rate(), 2000);
-    let rates = Rates {
-        turn: 3,
-        gs: 20,
-        vs: 500,
-        alt: 2000,
-    };
-    assert_eq!(rt; config.rates(), rates);
-    assert_eq!(rt; config.levels(), 3);
-    if config.levels() == 3 {
-        let first = *config.level(1);
-        assert_eq!(rt; first.volume.dthr, 23760);
-        assert_eq!(rt; first.volume.zthr, 42000);
-        assert_eq!(rt; first.volume.tthr, 35);
-        assert_eq!(rt; first.volume.tcoa, 0);
-        assert_eq!(rt; first.volume.model, Model::Taumod);
-        assert_eq!(rt; first.lookahead, 75);
-        assert_eq!(rt; first.alert, 55);
-        let third = *config.level(3);
-        assert_eq!(rt; third.volume.zthr, 27000);
-        assert_eq!(rt; third.lookahead, 55);
-        assert_eq!(rt; third.alert, 25);
+    assert!(rt; config.rates() == RATES);
+    assert!(rt; rates_of(&config) == RATES);
+    Ok(())
+}
+
+/// The first and the third level.
+static LEVELS: [(u32, Level); 2] = [
+    (
+        1,
+        Level {
+            volume: Volume {
+                dthr: 23760,
+                zthr: 42000,
+                tthr: 35,
+                tcoa: 0,
+                model: Model::Taumod,
+            },
+            lookahead: 75,
+            alert: 55,
+        },
+    ),
+    (
+        3,
+        Level {
+            volume: Volume {
+                dthr: 23760,
+                zthr: 27000,
+                tthr: 35,
+                tcoa: 0,
+                model: Model::Taumod,
+            },
+            lookahead: 55,
+            alert: 25,
+        },
+    ),
+];
+
+/// Whether the configuration has this level.
+fn has_level(config: &Config, l: u32, level: &Level) -> bool {
+    1 <= l && l <= config.levels() && config.level(l) == level
+}
+
+#[test]
+fn levels(rt: HostRuntime) -> Result<(), Fail> {
+    let config = read(rt.alloc(), THREE_LEVELS.as_bytes())?;
+    assert!(rt; config.resolve() == 2);
+    assert!(rt; config.levels() == 3);
+    for (l, level) in &LEVELS {
+        assert!(rt; has_level(&config, *l, level), "level {l}");
     }
     Ok(())
+}
+
+/// The configuration of kept numbers.
+fn kept_config(kept: &ConfigNumbers) -> Result<Config, ConfigFault> {
+    Config::of(&kept.numbers, &kept.recovery, kept.levels.as_slice())
 }
 
 /// The numbers of a text, kept by a caller, are the text's configuration again.
 #[test]
 fn numbers_that_are_kept(rt: HostRuntime) -> Result<(), Fail> {
     let mut kept = read_numbers(rt.alloc(), THREE_LEVELS.as_bytes())?;
-    assert_eq!(rt; kept.numbers.resolve, 2);
-    assert_eq!(rt; kept.levels.as_slice().len(), 3);
-    let config = Config::of(&kept.numbers, &kept.recovery, kept.levels.as_slice())?;
-    assert_eq!(rt; config.total(), 341);
-    assert_eq!(rt; config.levels(), 3);
+    assert!(rt; kept.numbers.resolve == 2);
+    assert!(rt; kept.levels.as_slice().len() == 3);
+    let config = kept_config(&kept)?;
+    assert!(rt; config.total() == 341);
+    assert!(rt; config.levels() == 3);
     kept.numbers.turn_rate = 31;
-    let refused = Config::of(&kept.numbers, &kept.recovery, kept.levels.as_slice());
-    assert!(rt; refused.is_err());
+    assert!(rt; kept_config(&kept).is_err());
     Ok(())
 }
 
 #[test]
 fn second_model(rt: HostRuntime) -> Result<(), Fail> {
-    for (tcpa, model) in [("tcpa = 0", Model::Taumod), ("tcpa = 1", Model::Tcpa)] {
-        let key = format!(in rt.alloc(); "{tcpa}, tcoa = 0")?;
-        let text = ONE_LEVEL.replacen(rt.alloc(), "tcoa = 0", key.as_str(), 1)?;
-        let config = read(rt.alloc(), text.as_str().as_bytes())?;
-        assert_eq!(rt; config.level(1).volume.model, model);
+    for (key, model) in [
+        ("tcpa = 0, tcoa = 0", Model::Taumod),
+        ("tcpa = 1, tcoa = 0", Model::Tcpa),
+    ] {
+        let config = edited(rt.alloc(), "tcoa = 0", key)?;
+        assert!(rt; config.levels() == 1);
+        assert!(rt; config.level(1).volume.model == model, "{key}");
     }
     Ok(())
 }
@@ -156,45 +223,38 @@ fn share<T: Send + Sync>(value: &T) -> &T {
 #[test]
 fn is_shared(rt: HostRuntime) -> Result<(), Fail> {
     let config = read(rt.alloc(), ONE_LEVEL.as_bytes())?;
-    assert_eq!(rt; share(&config).total(), 8);
+    assert!(rt; share(&config).total() == 8);
     Ok(())
 }
 
 fn may_be_sent<T: Send>() {}
 
-// The check refuses a type that may not be sent between threads.
-#[test]
+/// The check refuses a type that may not be sent between threads.
 fn values_may_be_sent() {
     may_be_sent::<Kind>();
     may_be_sent::<Resolution>();
     may_be_sent::<ConfigFault>();
 }
 
-#[test]
-fn laws() {
-    accepted_is_in_range();
-    values_are_all_steps();
-}
+/// The cylinder of a recovery, in units.
+const CYLINDER: Volume = Volume {
+    dthr: 10800,
+    zthr: 6000,
+    tthr: 0,
+    tcoa: 0,
+    model: Model::Taumod,
+};
 
-/// The cylinder of a recovery, in units, and none where the text asks for none.
+/// There is none where the text asks for none.
 #[test]
 fn the_cylinder(rt: HostRuntime) -> Result<(), Fail> {
     let config = read(rt.alloc(), ONE_LEVEL.as_bytes())?;
     assert!(rt; config.recovery().is_none());
-    let asking = ONE_LEVEL.replacen(
-        rt.alloc(),
-        "turn_rate",
-        "recovery = { hdist = 300, vdist = 100 }\nturn_rate",
-        1,
-    )?;
-    let config = read(rt.alloc(), asking.as_str().as_bytes())?;
+    let asking = "recovery = { hdist = 300, vdist = 100 }\nturn_rate";
+    let config = edited(rt.alloc(), "turn_rate", asking)?;
     let Some(cylinder) = config.recovery() else {
         return Err("a cylinder".into());
     };
-    assert_eq!(rt; cylinder.dthr, 10800);
-    assert_eq!(rt; cylinder.zthr, 6000);
-    assert_eq!(rt; cylinder.tthr, 0);
-    assert_eq!(rt; cylinder.tcoa, 0);
-    assert!(rt; cylinder.model == Model::Taumod);
+    assert!(rt; *cylinder == CYLINDER);
     Ok(())
 }
