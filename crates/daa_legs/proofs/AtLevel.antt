@@ -1,5 +1,6 @@
 -- What holds at a level, told of the one level that has its number.
-use Rattle.std.proofs.Common.{◌≡◌, ◌↔◌, ℕ, pos, sym, subst, ◌∙◌}
+use Rattle.std.proofs.Common.{◌≡◌, ◌↔◌, ◌⊎◌, inl, inr, ℕ, zero, suc, ◌-◌, pos, Option, Some, None, refl, sym, subst, ◌∙◌, arith}
+use Rattle.std.specs.Prelude.{slice_get}
 use Rattle.std.proofs.lemmas.Option.{same_Some}
 use Rattle.daa_taumod.specs.Volume.{Violates}
 use Rattle.daa_config.specs.declared.candidate.Candidate.{Candidate}
@@ -13,6 +14,24 @@ use Rattle.daa_legs.specs.Alerts.{Alerts, ViolatesNow}
 
 pub one_level : (settings : Settings) (l : ℕ) (x y : Level) → IsLevelAt settings l x → IsLevelAt settings l y → x ≡ y
 one_level settings l x y h k = same_Some x y (sym h.there ∙ k.there)
+
+-- what is there, or that there is none
+pub looked : {X : Type 0} (o : Option X) → ((x : X) × (o ≡ Some x)) ⊎ (o ≡ None)
+looked (Some x) = inl (x, refl)
+looked None = inr refl
+
+pub nothing : {X : Type 0} (x : X) (o : Option X) → o ≡ None → o ≡ Some x → ⊥
+nothing x o e f = cc
+
+-- a level that is there, or none of that number
+pub level_at : (settings : Settings) (l : ℕ) → ((level : Level) × IsLevelAt settings l level) ⊎ ((level : Level) → IsLevelAt settings l level → ⊥)
+level_at settings zero = inr (λ level h. let n = h.numbered in omega arith)
+level_at settings (suc l) = go (looked (slice_get settings.levels (suc l - 1)))
+  where
+    go : ((level : Level) × (slice_get settings.levels (suc l - 1) ≡ Some level)) ⊎ (slice_get settings.levels (suc l - 1) ≡ None)
+        → ((level : Level) × IsLevelAt settings (suc l) level) ⊎ ((level : Level) → IsLevelAt settings (suc l) level → ⊥)
+    go (inl (level, e)) = inl (level, record { numbered = omega arith; there = e })
+    go (inr none) = inr (λ level h. nothing level _ none h.there)
 
 module _ (settings : Settings) (own : Own) (aircraft : Traffic) (l : ℕ) (level : Level) (at : IsLevelAt settings l level) where
   pub meets_at : (candidate : Candidate) → MeetsWithin settings own candidate aircraft level.volume level.lookahead ↔ Meets settings own candidate aircraft l

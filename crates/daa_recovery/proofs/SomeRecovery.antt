@@ -1,5 +1,5 @@
 -- A kind has a recovery: what recovers can be decided.
-use Rattle.std.proofs.Common.{◌≡◌, ◌≢◌, ◌⊎◌, inl, inr, ℕ, zero, suc, ◌+◌, ◌-◌, ◌<◌, ◌≤◌, ℤ, pos, ◌+ℤ◌, ◌*ℤ◌, ◌≤ℤ◌, nat_abs, Option, Some, None, List, [], ◌∷◌, length, max, sym, subst, ap, ◌∙◌, arith, ⊎_elim, refl}
+use Rattle.std.proofs.Common.{◌≡◌, ◌≢◌, ◌⊎◌, inl, inr, ℕ, zero, suc, ◌+◌, ◌-◌, ◌<◌, ◌≤◌, ℤ, pos, ◌+ℤ◌, ◌*ℤ◌, ◌≤ℤ◌, nat_abs, Option, Some, None, List, [], ◌∷◌, length, max, sym, subst, ap, arith, ⊎_elim, refl}
 use Rattle.std.specs.Prelude.{IsTrue, int_le, slice_get}
 use Rattle.std.proofs.lemmas.Bool.{cases_lt}
 use Rattle.std.proofs.lemmas.Int.{ints}
@@ -22,7 +22,7 @@ use Rattle.daa_state.specs.declared.word.Traffic.{Traffic}
 use Rattle.daa_state.specs.InRange.{IsTrafficInRange, IsPictureInRange}
 use Rattle.daa_state.specs.Picture.{aircraft_of}
 use Rattle.daa_legs.specs.Runs.{MeetsBetween}
-use Rattle.daa_legs.proofs.AtLevel.{one_level}
+use Rattle.daa_legs.proofs.AtLevel.{one_level, looked, nothing, level_at}
 use Rattle.daa_meet.proofs.TrialLemmas.{le_is}
 use Rattle.daa_meet.proofs.Meetings.{within_decided, between_decided}
 use Rattle.daa_recovery.specs.OutlookState.{Closes, IsHorizon, OutlookState}
@@ -33,24 +33,6 @@ use Rattle.daa_recovery.specs.declared.recovery.Recovery.{Recovery}
 use Rattle.daa_recovery.proofs.Horizons.{IsHorizonUpTo, horizon_first, horizon_more, horizon_all, horizon_short, level_within}
 use Rattle.daa_recovery.proofs.Searching.{found_first, found_kept, found_sooner, found_all}
 use Rattle.daa_recovery.proofs.OneRecovery.{recovery_only}
-
--- what is there, or that there is none
-looked : {X : Type 0} (o : Option X) → ((x : X) × (o ≡ Some x)) ⊎ (o ≡ None)
-looked (Some x) = inl (x, refl)
-looked None = inr refl
-
-nothing : {X : Type 0} (x : X) (o : Option X) → o ≡ None → o ≡ Some x → ⊥
-nothing x o e f = cc
-
--- a level that is there, or none of that number
-level_at : (s : Settings) (l : ℕ) → ((level : Level) × IsLevelAt s l level) ⊎ ((level : Level) → IsLevelAt s l level → ⊥)
-level_at s zero = inr (λ level h. let n = h.numbered in omega arith)
-level_at s (suc l) = go (looked (slice_get s.levels (suc l - 1)))
-  where
-    go : ((level : Level) × (slice_get s.levels (suc l - 1) ≡ Some level)) ⊎ (slice_get s.levels (suc l - 1) ≡ None)
-        → ((level : Level) × IsLevelAt s (suc l) level) ⊎ ((level : Level) → IsLevelAt s (suc l) level → ⊥)
-    go (inl (level, e)) = inl (level, record { numbered = omega arith; there = e })
-    go (inr none) = inr (λ level h. nothing level _ none h.there)
 
 pub at_place : {X : Type 0} (P : X → Type 0) (xs : List X) (i : ℕ) (x : X) → All P xs → slice_get xs i ≡ Some x → P x
 at_place P xs i x h e = subst P (get_or_from_slice_get xs i x x e) (h i x (slice_get_within xs i x e))

@@ -1,5 +1,5 @@
 -- What is met, and what is violated, can be decided.
-use Rattle.std.proofs.Common.{◌≡◌, ◌⊎◌, inl, inr, refl, arith, ℕ, zero, suc, ◌-◌, ◌<◌, Option, Some, None, pos}
+use Rattle.std.proofs.Common.{◌≡◌, ◌⊎◌, inl, inr, arith, ℕ, ◌<◌, Some, None, pos}
 use Rattle.std.specs.Prelude.{slice_get}
 use Rattle.daa_config.specs.declared.candidate.Candidate.{Candidate}
 use Rattle.daa_config.specs.declared.candidate.Candidate.TheVariants.{Hold}
@@ -13,31 +13,13 @@ use Rattle.daa_state.specs.InRange.{IsOwnInRange, IsTrafficInRange, IsPictureInR
 use Rattle.daa_state.specs.Picture.{aircraft_of}
 use Rattle.daa_legs.specs.Meeting.{relative_leg, ViolatesOn, Meets}
 use Rattle.daa_legs.specs.Alerts.{Alerts, ViolatesNow}
-use Rattle.daa_legs.proofs.AtLevel.{meets_at, alerts_at, violates_now_at}
+use Rattle.daa_legs.proofs.AtLevel.{looked, nothing, level_at, meets_at, alerts_at, violates_now_at}
 use Rattle.daa_scan.specs.SceneState.{SceneState, MeetsAt}
 use Rattle.daa_meet.specs.Trials.{is_violated, is_violated_sometime, is_met_within}
 use Rattle.daa_scan.proofs.ListedCandidates.{listed}
 use Rattle.daa_meet.proofs.Deciding.{violated_is}
 use Rattle.daa_meet.proofs.Meetings.{on_is, within_is}
 use Rattle.daa_scan.proofs.Masking.{at_place, met_at}
-
--- what is there, or that there is none
-looked : {X : Type 0} (o : Option X) → ((x : X) × (o ≡ Some x)) ⊎ (o ≡ None)
-looked (Some x) = inl (x, refl)
-looked None = inr refl
-
-nothing : {X : Type 0} (x : X) (o : Option X) → o ≡ None → o ≡ Some x → ⊥
-nothing x o e f = cc
-
--- a level that is there, or none of that number
-level_at : (s : Settings) (l : ℕ) → ((level : Level) × IsLevelAt s l level) ⊎ ((level : Level) → IsLevelAt s l level → ⊥)
-level_at s zero = inr (λ level h. let n = h.numbered in omega arith)
-level_at s (suc l) = go (looked (slice_get s.levels (suc l - 1)))
-  where
-    go : ((level : Level) × (slice_get s.levels (suc l - 1) ≡ Some level)) ⊎ (slice_get s.levels (suc l - 1) ≡ None)
-        → ((level : Level) × IsLevelAt s (suc l) level) ⊎ ((level : Level) → IsLevelAt s (suc l) level → ⊥)
-    go (inl (level, e)) = inl (level, record { numbered = omega arith; there = e })
-    go (inr none) = inr (λ level h. nothing level _ none h.there)
 
 module _ (settings : Settings) (own : Own) (aircraft : Traffic) (a : IsAccepted settings) (o : IsOwnInRange own) (t : IsTrafficInRange aircraft) where
   pub on_decided : (l : ℕ) (level : Level) → IsLevelAt settings l level → (k : ℕ) → k < level.alert → IsDecidable (ViolatesOn settings own Hold aircraft level.volume k)
