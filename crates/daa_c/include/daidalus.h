@@ -225,7 +225,7 @@ int32_t daa_recovery(const struct daa_config *config, const struct daa_own *own,
                      size_t count, int32_t kind, struct daa_recovery *out);
 
 /* Fills in the text of a moment as the program's report has it, and how many bytes it has; time is in seconds. DAA_SHORT if
- * room is less, and only then; 130176 bytes are always enough. */
+ * room is less, and only then; 130176 bytes are always enough. Bytes past the text are unchanged: none ends it. */
 int32_t daa_report(const struct daa_config *config, uint32_t time, const struct daa_own *own, const struct daa_traffic *traffic,
                    size_t count, uint8_t *text, size_t room, size_t *length);
 

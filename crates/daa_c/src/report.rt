@@ -1,6 +1,6 @@
 //! The text of a moment.
 
-ghost use Rattle.std.specs.Prelude.{◌≡◌, ◌≢◌, ◌<◌, ◌≤◌, [], ℕ, List, pos, length, take, IfSome, IfNone};
+ghost use Rattle.std.specs.Prelude.{◌≡◌, ◌≢◌, ◌<◌, ◌≤◌, [], ℕ, List, pos, drop, length, take, IfSome, IfNone};
 ghost use Rattle.daa_bands.specs.Board.{IsBoardOf};
 ghost use Rattle.daa_engine.specs.Covered.{CoveredAt};
 ghost use Rattle.daa_engine.specs.MomentText.{IsMomentText};
@@ -39,6 +39,7 @@ fn fill(config: &Config, picture: &Picture, board: &Board, text: &mut [u8]) -> O
     ensures said { IfSome result
         (λ count. IsMomentText config.now picture.now (take count text.new)) }
     ensures fits { IfSome result (λ count. count ≤ length text.new) }
+    ensures past_kept { IfSome result (λ count. drop count text.new ≡ drop count text.old) }
     ensures short { IfNone result ((said : List ℕ)
         × IsMomentText config.now picture.now said × (length text.old < length said)) }
     ensures kept { IfNone result (text.new ≡ text.old) }
@@ -67,6 +68,7 @@ pub extern "C" fn daa_report(
     ensures said { result ≡ pos 0 → IsReported
         config.now (picture_of time own.now traffic.now) (take count.new text.new) }
     ensures fits { result ≡ pos 0 → count.new ≤ length text.new }
+    ensures past_kept { result ≡ pos 0 → drop count.new text.new ≡ drop count.new text.old }
     ensures text_kept { result ≢ pos 0 → text.new ≡ text.old }
     ensures count_kept { result ≢ pos 0 → count.new ≡ count.old }
     ensures short { result ≡ pos 19 → HasLongerText
