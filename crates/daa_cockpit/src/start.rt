@@ -1,6 +1,7 @@
 //! Making the feed and the displays.
 
-ghost use Rattle.std.specs.Prelude.{◌≡◌, [], IfOk};
+ghost use Rattle.std.specs.Prelude.{◌≡◌, [], IfOk, Ok};
+ghost use Rattle.daa_config.specs.ConfigOf.{config_of};
 
 use crate::display::{Display, blank};
 use crate::flight_deck::FlightDeck;
@@ -22,15 +23,21 @@ pub fn config_text<R: Env + Files + AllocGlobal>(rt: &R) -> Result<String> {
 }
 
 /// An engine of one worker under this configuration.
-fn new_engine(alloc: Global, config: &str) -> Result<Engine> {
+fn new_engine(alloc: Global, config: &str) -> Result<Engine>
+    ensures { IfOk result (λ engine. config_of config.now ≡ Ok engine.settings) }
+{
     match read(alloc, config.as_bytes()) {
         Ok(config) => Engine::new(alloc, config, 1).map_err(|_| anyhow!("no memory")),
         Err(fault) => bail!("the configuration is refused with code {:?}", fault.code()),
     }
 }
 
-/// An engine for each display.
-pub fn new_engines(alloc: Global, config: &str) -> Result<(Engine, Engine, Engine)> {
+/// An engine for each display, each under this configuration.
+pub fn new_engines(alloc: Global, config: &str) -> Result<(Engine, Engine, Engine)>
+    ensures pilot { IfOk result (λ engines. config_of config.now ≡ Ok engines.0.settings) }
+    ensures observer { IfOk result (λ engines. config_of config.now ≡ Ok engines.1.settings) }
+    ensures ground { IfOk result (λ engines. config_of config.now ≡ Ok engines.2.settings) }
+{
     Ok((
         new_engine(alloc, config)?,
         new_engine(alloc, config)?,
@@ -40,7 +47,8 @@ pub fn new_engines(alloc: Global, config: &str) -> Result<(Engine, Engine, Engin
 
 /// A display on which nothing is drawn.
 fn new_display(alloc: Global, screen: Screen, engine: Engine, pace: u32) -> Result<Display>
-    ensures { IfOk result (λ display. display.screen ≡ screen) }
+    ensures screen { IfOk result (λ display. display.screen ≡ screen) }
+    ensures engine { IfOk result (λ display. display.engine ≡ engine) }
 {
     Ok(Display {
         screen,
@@ -59,6 +67,8 @@ fn new_deck(
     ensures pilot { IfOk result (λ deck. deck.pilot.screen ≡ screens.0) }
     ensures observer { IfOk result (λ deck. deck.observer.screen ≡ screens.1) }
     ensures ground { IfOk result (λ deck. deck.ground.screen ≡ screens.2) }
+    ensures engines { IfOk result (λ deck. (deck.pilot.engine ≡ engines.0)
+        × (deck.observer.engine ≡ engines.1) × (deck.ground.engine ≡ engines.2)) }
 {
     Ok(FlightDeck {
         pilot: new_display(alloc, screens.0, engines.0, 1)?,
@@ -67,15 +77,18 @@ fn new_deck(
     })
 }
 
-/// A feed with its three displays.
+/// A feed to which nothing was published, with its three displays, each with its engine.
 pub fn open<W: Wait>(
     rt: &W,
     alloc: Global,
     engines: (Engine, Engine, Engine),
 ) -> Result<(Feed, FlightDeck)>
+    ensures nothing { IfOk result (λ opened. opened.0.story.pictures ≡ []) }
     ensures pilot { IfOk result (λ opened. opened.1.pilot.screen ≡ opened.0.story) }
     ensures observer { IfOk result (λ opened. opened.1.observer.screen ≡ opened.0.story) }
     ensures ground { IfOk result (λ opened. opened.1.ground.screen ≡ opened.0.story) }
+    ensures engines { IfOk result (λ opened. (opened.1.pilot.engine ≡ engines.0)
+        × (opened.1.observer.engine ≡ engines.1) × (opened.1.ground.engine ≡ engines.2)) }
 {
     let Ok((feed, mut screens)) = Feed::open(rt, alloc, 3) else {
         bail!("no memory");
