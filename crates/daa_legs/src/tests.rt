@@ -253,22 +253,11 @@ fn a_way_of_whole_seconds_has_no_leg_of_its_own(rt: HostRuntime) -> Result<(), F
 
 fn may_be_sent<T: Send>() {}
 
-// The check refuses a type that may not be sent between threads.
-#[test]
+/// The check refuses a type that may not be sent between threads.
 fn values_may_be_sent() {
     may_be_sent::<OwnLeg>();
     may_be_sent::<OwnRun>();
     may_be_sent::<Flight>();
     may_be_sent::<Trunk>();
     may_be_sent::<Branch>();
-}
-
-#[test]
-fn laws() {
-    flights_begin_as_now();
-    legs_join();
-    legs_move_by_the_rates();
-    new_reports_stand();
-    turns_arrive();
-    worked_examples();
 }

@@ -9,6 +9,7 @@ use super::*;
 use daa_config::examples::ONE_LEVEL;
 use daa_config::{Candidate, Config, Kind, read};
 use daa_meet::meets_between;
+use daa_state::examples::NORTH;
 use daa_state::{Moments, Picture, read_line};
 use daa_taumod::Volume;
 use std::process::Abort;
@@ -43,8 +44,6 @@ fn picture_in(lines: &[&str]) -> Option<Picture>
     }
     None
 }
-
-const NORTH: &str = "own 0 0 1000 0 3600 0";
 
 const BESIDE: [&str; 4] = ["moment 0", NORTH, "traffic A 400 100 1000 0 0 0 0", "end"];
 
@@ -287,15 +286,7 @@ fn recoveries_are_those_of_a_plain_search(rt: HostRuntime) -> Result<(), Fail> {
 
 fn may_be_sent<T: Send>() {}
 
-// The check refuses a type that may not be sent between threads.
-#[test]
+/// The check refuses a type that may not be sent between threads.
 fn values_may_be_sent() {
     may_be_sent::<Recovery>();
-}
-
-#[test]
-fn laws() {
-    has_one_recovery();
-    recovering_lasts();
-    the_cylinder_is_what_is_near();
 }

@@ -10,9 +10,11 @@ mod opening;
 mod recoveries;
 mod workers;
 
-use super::{Event, ended_moments_are_in_range, every_input_has_one_report, run_within};
+use super::{Event, run, run_within};
 use daa_config::examples::ONE_LEVEL;
-use daa_outside::{CalmShelf, CalmSource, MemShelf, MemSink, MemSource, Open, Void};
+use daa_outside::{
+    CalmShelf, CalmSource, Gate, MemShelf, MemSink, MemSource, Open, Shelf, Sink, Source, Void,
+};
 use std::alloc::AllocError;
 use std::process::Abort;
 use std::test::Fail;
@@ -33,9 +35,12 @@ struct Outside<'a> {
     most: u64,
 }
 
+/// The words of a replay.
+const REPLAY: &[&str] = &["daidalus", "replay", "--config", "c"];
+
 /// A replay under one level; nothing fails, and pieces have any size.
 const PLAIN: Outside<'static> = Outside {
-    words: &["daidalus", "replay", "--config", "c"],
+    words: REPLAY,
     config: ONE_LEVEL,
     fetch_fails: &[],
     read_pieces: &[],
@@ -124,9 +129,10 @@ fn shelf_with<R: AllocGlobal>(rt: &R, config: &str, fails: &[u64]) -> Result<Mem
     Ok(MemShelf::new(strings(rt, &["c"])?, texts, fails.to_vec(alloc)?))
 }
 
-/// The status of a run over this input, and what the sink took.
-fn status_and_text<R: Threads + Sync + AllocGlobal>(
+/// The status of a run over this shelf and this input, and what the sink took.
+fn status_over<R: Threads + Sync + AllocGlobal>(
     rt: &R,
+    mut shelf: MemShelf,
     input: &[u8],
     outside: Outside<'_>,
 ) -> Result<(u8, Vec<u8>), Fail> {
@@ -134,7 +140,6 @@ fn status_and_text<R: Threads + Sync + AllocGlobal>(
         return Err("a limit from 1 to 2^40".into());
     }
     let alloc = rt.alloc();
-    let mut shelf = shelf_with(rt, outside.config, outside.fetch_fails)?;
     let mut source = MemSource::new(
         input.to_vec(alloc)?,
         outside.read_pieces.to_vec(alloc)?,
@@ -159,6 +164,23 @@ fn status_and_text<R: Threads + Sync + AllocGlobal>(
     Ok((status, sink.taken().to_vec(alloc)?))
 }
 
+/// The status of a run over this input, and what the sink took.
+fn status_and_text<R: Threads + Sync + AllocGlobal>(
+    rt: &R,
+    input: &[u8],
+    outside: Outside<'_>,
+) -> Result<(u8, Vec<u8>), Fail> {
+    let shelf = shelf_with(rt, outside.config, outside.fetch_fails)?;
+    status_over(rt, shelf, input, outside)
+}
+
+/// A run ended with this status, and the sink took this text.
+fn expect(rt: &impl Abort, found: &(u8, Vec<u8>), status: u8, text: &[u8]) {
+    let (ended, taken) = found;
+    assert!(rt; *ended == status, "{ended}, not {status}");
+    assert!(rt; taken.as_slice() == text, "{taken:?}");
+}
+
 /// A run over this input ends with this status and this text.
 fn gives<R: Abort + Threads + Sync + AllocGlobal>(
     rt: &R,
@@ -167,30 +189,60 @@ fn gives<R: Abort + Threads + Sync + AllocGlobal>(
     status: u8,
     text: &[u8],
 ) -> Result<(), Fail> {
-    let (ended, taken) = status_and_text(rt, input, outside)?;
-    assert_eq!(rt; ended, status);
-    assert_eq!(rt; taken.as_slice(), text);
+    let found = status_and_text(rt, input, outside)?;
+    expect(rt, &found, status, text);
     Ok(())
+}
+
+/// The sink of a run over this input has room for so many bytes of the text alone, and the run ends
+/// with a fault of the sink.
+fn gives_front<R: Abort + Threads + Sync + AllocGlobal>(
+    rt: &R,
+    input: &[u8],
+    outside: Outside<'_>,
+    text: &[u8],
+    room: usize,
+) -> Result<(), Fail> {
+    let front = text.get(..room).ok_or("a front of the text")?;
+    gives(rt, input, Outside { room, ..outside }, 5, front)
+}
+
+/// The status of a run over these objects. It promises nothing of them, since no test needs it.
+fn status_of<R, F: Shelf, S: Source + Send, K: Sink + Send, G: Gate>(
+    rt: &R,
+    words: &[&str],
+    shelf: &mut F,
+    source: &mut S,
+    sink: &mut K,
+    gate: &G,
+) -> Result<u8, AllocError>
+where
+    R: Threads + Sync + AllocGlobal,
+{
+    let words = strings(rt, words)?;
+    Ok(run(rt, rt.alloc(), words.as_slice(), shelf, source, sink, gate))
+}
+
+/// A source of these bytes, in pieces of any size, that does not fail.
+fn whole_source<R: AllocGlobal>(rt: &R, bytes: &[u8]) -> Result<MemSource, AllocError> {
+    let alloc = rt.alloc();
+    Ok(MemSource::new(bytes.to_vec(alloc)?, Vec::new(alloc), Vec::new(alloc)))
+}
+
+/// A sink of this room that takes each piece whole.
+fn whole_sink<R: AllocGlobal>(rt: &R, room: usize) -> Result<MemSink, AllocError> {
+    let alloc = rt.alloc();
+    Ok(MemSink::over(vec![in alloc; 0; room]?, Vec::new(alloc), Vec::new(alloc)))
 }
 
 #[test]
 fn a_run_reads_to_its_end(rt: HostRuntime) -> Result<(), Fail> {
-    let alloc = rt.alloc();
     let mut shelf = shelf_with(&rt, ONE_LEVEL, &[])?;
-    let mut source = MemSource::new(ONE.to_vec(alloc)?, Vec::new(alloc), Vec::new(alloc));
-    let mut sink = MemSink::over(vec![in alloc; 0; 300]?, Vec::new(alloc), Vec::new(alloc));
-    let words = strings(&rt, PLAIN.words)?;
-    let status = super::run(
-        &rt,
-        alloc,
-        words.as_slice(),
-        &mut shelf,
-        &mut source,
-        &mut sink,
-        &Open,
-    );
-    assert_eq!(rt; status, 0);
-    assert_eq!(rt; sink.taken(), ONE_TEXT);
+    let mut source = whole_source(&rt, ONE)?;
+    let mut sink = whole_sink(&rt, 300)?;
+    let status = status_of(&rt, REPLAY, &mut shelf, &mut source, &mut sink, &Open)?;
+    assert!(rt; status == 0);
+    assert!(rt; sink.taken() == ONE_TEXT);
     Ok(())
 }
 
@@ -200,26 +252,14 @@ fn a_run_without_faults_is_accepted(rt: HostRuntime) -> Result<(), Fail> {
     let alloc = rt.alloc();
     let mut shelf = CalmShelf::of(ONE_LEVEL.as_bytes().to_vec(alloc)?);
     let mut source = CalmSource::new(ONE.to_vec(alloc)?, Vec::new(alloc));
-    let words = strings(&rt, PLAIN.words)?;
-    let status = super::run(
-        &rt,
-        alloc,
-        words.as_slice(),
-        &mut shelf,
-        &mut source,
-        &mut Void,
-        &Open,
-    );
-    assert_eq!(rt; status, 0);
+    let status = status_of(&rt, REPLAY, &mut shelf, &mut source, &mut Void, &Open)?;
+    assert!(rt; status == 0);
     Ok(())
 }
 
 fn may_be_sent<T: Send>() {}
 
-// The check refuses a type that may not be sent between threads.
-#[test]
+/// The check refuses a type that may not be sent between threads.
 fn values_may_be_sent() {
     may_be_sent::<Event>();
-    every_input_has_one_report();
-    ended_moments_are_in_range();
 }

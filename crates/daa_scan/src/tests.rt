@@ -1,9 +1,10 @@
 //! Worked scenes: a configuration, an ownship and aircraft as their lines say them, and what the
 //! scan answers.
 
-ghost use Rattle.std.specs.Prelude.{◌≡◌, ◌≤◌, IfSome, length};
+ghost use Rattle.std.specs.Prelude.{◌≡◌, ◌≤◌, ◌<◌, IfSome, length};
 ghost use Rattle.daa_config.specs.Candidates.{candidates_of};
 ghost use Rattle.daa_state.specs.InRange.{IsPictureInRange};
+ghost use Rattle.daa_state.specs.Picture.{aircraft_of};
 
 mod drawn;
 mod reaching;
@@ -13,7 +14,9 @@ mod words;
 use super::*;
 use daa_config::{Config, read};
 use daa_legs::{Branch, Trunk};
+use daa_schedule::Answers;
 use daa_state::{Moments, Picture, read_line};
+use std::alloc::{AllocError, Global};
 use std::process::Abort;
 use std::test::Fail;
 
@@ -24,6 +27,7 @@ struct Settings {
     edits: &'static [(&'static str, &'static str)],
 }
 
+/// The configuration of the settings.
 fn config_of(rt: &(impl AllocGlobal + Abort), settings: &Settings) -> Result<Config, Fail> {
     let mut text = String::from_str(rt.alloc(), settings.text)?;
     for (old, new) in settings.edits {
@@ -79,15 +83,66 @@ fn eight() -> [Trunk; 8]
     ]
 }
 
-fn may_be_shared<T: Send + Sync>() {}
-
-// The check refuses a type that may not be shared between threads.
-#[test]
-fn scenes_may_be_shared() {
-    may_be_shared::<Scene<'static>>();
+/// The words of the units of a moment.
+fn words_of(alloc: Global, config: &Config, picture: &Picture) -> Result<Vec<u64>, AllocError>
+    requires { IsPictureInRange picture.now }
+{
+    let mut trunks = eight();
+    let mut branches = branches_for(config);
+    let needs = fill_flights(&mut trunks, &mut branches, config, picture);
+    let scene = Scene::of(config, picture, &trunks, &branches, needs);
+    let mut words = Vec::new(alloc);
+    for unit in 0..scene.units() {
+        words.push(scene.word(unit))?;
+    }
+    Ok(words)
 }
 
-#[test]
-fn laws() {
-    worked_examples();
+/// The masks of all candidates against an aircraft, each asked for by itself.
+fn masks_of(
+    alloc: Global,
+    config: &Config,
+    picture: &Picture,
+    place: u32,
+) -> Result<Vec<u8>, AllocError>
+    requires picture { IsPictureInRange picture.now }
+    requires place { place < length (aircraft_of picture.now) }
+{
+    let mut trunks = eight();
+    let mut branches = branches_for(config);
+    let needs = fill_flights(&mut trunks, &mut branches, config, picture);
+    let scene = Scene::of(config, picture, &trunks, &branches, needs);
+    let mut masks = Vec::new(alloc);
+    for index in 0..config.total() {
+        masks.push(scene.levels(index, place))?;
+    }
+    Ok(masks)
+}
+
+/// How many aircraft of a moment are in reach.
+fn count_in_reach(config: &Config, picture: &Picture) -> u32
+    requires { IsPictureInRange picture.now }
+{
+    let mut trunks = eight();
+    let mut branches = branches_for(config);
+    let needs = fill_flights(&mut trunks, &mut branches, config, picture);
+    Scene::of(config, picture, &trunks, &branches, needs).count_in_reach()
+}
+
+/// Whether the first aircraft of a moment is in reach.
+fn is_in_reach(config: &Config, picture: &Picture) -> bool
+    requires picture { IsPictureInRange picture.now }
+    requires some { 0 < length (aircraft_of picture.now) }
+{
+    let mut trunks = eight();
+    let mut branches = branches_for(config);
+    let needs = fill_flights(&mut trunks, &mut branches, config, picture);
+    Scene::of(config, picture, &trunks, &branches, needs).in_reach(0)
+}
+
+fn may_be_shared<T: Send + Sync>() {}
+
+/// The check refuses a type that may not be shared between threads.
+fn scenes_may_be_shared() {
+    may_be_shared::<Scene<'static>>();
 }

@@ -1,9 +1,12 @@
 //! Reading ahead of the report changes no byte and no status.
 
-use super::{ONE, ONE_LEVEL, ONE_TEXT, ONES, Outside, PLAIN, SEVENS, gives, shelf_with, strings};
-use crate::run;
+use super::{
+    ONE, ONE_LEVEL, ONE_TEXT, ONES, Outside, PLAIN, REPLAY, SEVENS, expect, gives, shelf_with,
+    status_of, whole_sink,
+};
 use daa_ahead::examples::HoldingSource;
 use daa_outside::{Failed, Gate, Meeting, MemSink, MemSource, Open, Sink};
+use std::alloc::AllocError;
 use std::process::Abort;
 use std::test::Fail;
 use std::thread::Threads;
@@ -11,7 +14,7 @@ use std::time::Clock;
 
 /// The words that ask for a replay by turns, and for reading ahead by one piece and by four.
 pub(super) static READINGS: [&[&str]; 3] = [
-    &["daidalus", "replay", "--config", "c"],
+    REPLAY,
     &["daidalus", "replay", "--config", "c", "--ahead", "1"],
     &["daidalus", "replay", "--config", "c", "--ahead", "4"],
 ];
@@ -25,20 +28,40 @@ static NINES: [usize; 8] = [9; 8];
 /// `ONE` with three lines more.
 static LONGER: &[u8] = b"moment 0\nown 0 0 1000 0 3600 0\ntraffic A 0 0 1000 0 3600 0\nend\n\n\n\n";
 
+/// Pieces, the most bytes that are read, the status and the text of a replay of `ONE`.
+static LIMITS: [(&[usize], u64, u8, &[u8]); 5] = [
+    (&[], 1 << 40, 0, ONE_TEXT),
+    (&ONES, 62, 8, b""),
+    (&ONES, 63, 0, ONE_TEXT),
+    (&SEVENS, 62, 8, b""),
+    (&SEVENS, 63, 0, ONE_TEXT),
+];
+
 #[test]
 fn reading_ahead_changes_nothing(rt: HostRuntime) -> Result<(), Fail> {
     for words in &READINGS {
-        let plain = Outside { words, ..PLAIN };
-        gives(&rt, ONE, plain, 0, ONE_TEXT)?;
-        for read_pieces in [ONES.as_slice(), SEVENS.as_slice()] {
-            let cut = Outside {
+        for (read_pieces, most, status, text) in &LIMITS {
+            let outside = Outside {
+                words,
                 read_pieces,
-                ..plain
+                most: *most,
+                ..PLAIN
             };
-            gives(&rt, ONE, Outside { most: 62, ..cut }, 8, b"")?;
-            gives(&rt, ONE, Outside { most: 63, ..cut }, 0, ONE_TEXT)?;
+            gives(&rt, ONE, outside, *status, text)?;
         }
-        gives(&rt, b"\n\n\n\n\n", Outside { most: 4, ..plain }, 8, b"")?;
+    }
+    Ok(())
+}
+
+#[test]
+fn reading_ahead_keeps_the_limit_and_goes_far(rt: HostRuntime) -> Result<(), Fail> {
+    for words in &READINGS {
+        let limited = Outside {
+            words,
+            most: 4,
+            ..PLAIN
+        };
+        gives(&rt, b"\n\n\n\n\n", limited, 8, b"")?;
     }
     let farthest = Outside {
         words: FARTHEST,
@@ -61,25 +84,31 @@ static FAULTS: [(u64, u64, u64, u8, &[u8]); 6] = [
 #[test]
 fn a_fault_is_met_in_its_place(rt: HostRuntime) -> Result<(), Fail> {
     for words in &READINGS {
-        let plain = Outside {
-            words,
-            read_pieces: &NINES,
-            ..PLAIN
-        };
         for (read_fails, write_fails, most, status, text) in &FAULTS {
             let outside = Outside {
+                words,
+                read_pieces: &NINES,
                 read_fails: &[*read_fails],
                 write_fails: &[*write_fails],
                 most: *most,
-                ..plain
+                ..PLAIN
             };
             gives(&rt, ONE, outside, *status, text)?;
         }
-        // the sink fails before the limit of bytes is taken, though they are read ahead
+    }
+    Ok(())
+}
+
+/// Though bytes past the limit are read ahead.
+#[test]
+fn a_fault_of_the_sink_comes_before_the_limit(rt: HostRuntime) -> Result<(), Fail> {
+    for words in &READINGS {
         let limited = Outside {
+            words,
+            read_pieces: &NINES,
             write_fails: &[0],
             most: 64,
-            ..plain
+            ..PLAIN
         };
         gives(&rt, LONGER, limited, 5, b"")?;
     }
@@ -113,37 +142,37 @@ impl<G: Gate> Sink for HoldingSink<'_, G> {
     }
 }
 
-/// Whether a replay that reads four pieces ahead reads on while it writes the report of a moment.
-fn reads_on<R: Abort + Threads + Sync + AllocGlobal, C: Clock + Sync + Drop>(
+/// The status of a replay that reads four pieces ahead, and what its sink took. The eighth read and
+/// the first write wait at the gate.
+fn status_held<R: Threads + Sync + AllocGlobal, G: Gate>(
     rt: &R,
-    clock: C,
-) -> Result<bool, Fail> {
+    gate: &G,
+) -> Result<(u8, Vec<u8>), AllocError> {
     let alloc = rt.alloc();
-    let meeting = Meeting::of(clock, 2);
     let mut shelf = shelf_with(rt, ONE_LEVEL, &[])?;
     let mut source = HoldingSource {
         inner: MemSource::new(LONGER.to_vec(alloc)?, NINES.to_vec(alloc)?, Vec::new(alloc)),
         calls: 0,
         waits: 7,
-        gate: &meeting,
+        gate,
     };
     let mut sink = HoldingSink {
-        inner: MemSink::over(vec![in alloc; 0; 1024]?, Vec::new(alloc), Vec::new(alloc)),
+        inner: whole_sink(rt, 1024)?,
         calls: 0,
-        meeting: &meeting,
+        meeting: gate,
     };
-    let words = strings(rt, READINGS[2])?;
-    let status = run(
-        rt,
-        alloc,
-        words.as_slice(),
-        &mut shelf,
-        &mut source,
-        &mut sink,
-        &Open,
-    );
-    assert_eq!(rt; status, 0);
-    assert_eq!(rt; sink.inner.taken(), ONE_TEXT);
+    let status = status_of(rt, READINGS[2], &mut shelf, &mut source, &mut sink, &Open)?;
+    Ok((status, sink.inner.taken().to_vec(alloc)?))
+}
+
+/// Whether a replay that reads four pieces ahead reads on while it writes the report of a moment.
+fn reads_on<R: Abort + Threads + Sync + AllocGlobal, C: Clock + Sync + Drop>(
+    rt: &R,
+    clock: C,
+) -> Result<bool, Fail> {
+    let meeting = Meeting::of(clock, 2);
+    let found = status_held(rt, &meeting)?;
+    expect(rt, &found, 0, ONE_TEXT);
     Ok(meeting.has_met())
 }
 

@@ -1,8 +1,7 @@
 //! Exercises: the summaries of seeds, which another program found from the definitions.
 
 use super::opening::USAGE;
-use super::{ONE_LEVEL, Outside, PLAIN, gives, shelf_with, status_and_text, strings};
-use crate::run;
+use super::{ONE_LEVEL, Outside, PLAIN, gives, gives_front, shelf_with, status_of};
 use daa_config::examples::THREE_LEVELS;
 use daa_outside::{MemSource, Open, Void};
 use std::process::Abort;
@@ -215,7 +214,7 @@ fn words_of_an_exercise_that_are_not_taken(rt: HostRuntime) -> Result<(), Fail> 
     Ok(())
 }
 
-static THREE_MOMENTS: [&str; 8] = [
+const THREE_MOMENTS: [&str; 8] = [
     "daidalus",
     "exercise",
     "--config",
@@ -226,27 +225,32 @@ static THREE_MOMENTS: [&str; 8] = [
     "3",
 ];
 
-/// A sink that fails has taken a beginning, a shelf that fails or a refused configuration ends it
-/// before.
+/// An exercise under one level.
+const EXERCISE: Outside<'static> = Outside {
+    words: &THREE_MOMENTS,
+    ..PLAIN
+};
+
+/// A sink that fails has taken a beginning.
 #[test]
 fn an_exercise_may_fail(rt: HostRuntime) -> Result<(), Fail> {
-    let exercise = Outside {
-        words: &THREE_MOMENTS,
-        ..PLAIN
-    };
     for room in [0, 1, 70] {
-        let (status, taken) = status_and_text(&rt, b"", Outside { room, ..exercise })?;
-        assert_eq!(rt; status, 5);
-        assert_eq!(rt; Some(taken.as_slice()), THREE.get(..room));
+        gives_front(&rt, b"", EXERCISE, THREE, room)?;
     }
+    Ok(())
+}
+
+/// A shelf that fails or a refused configuration ends it before.
+#[test]
+fn an_exercise_needs_a_configuration(rt: HostRuntime) -> Result<(), Fail> {
     let fails = Outside {
         fetch_fails: &[0],
-        ..exercise
+        ..EXERCISE
     };
     gives(&rt, b"", fails, 7, b"")?;
     let refused = Outside {
         config: "x = 1",
-        ..exercise
+        ..EXERCISE
     };
     gives(&rt, b"", refused, 3, b"config 3\n")
 }
@@ -257,16 +261,14 @@ fn an_exercise_reads_nothing(rt: HostRuntime) -> Result<(), Fail> {
     let alloc = rt.alloc();
     let mut shelf = shelf_with(&rt, ONE_LEVEL, &[])?;
     let mut source = MemSource::new(Vec::new(alloc), Vec::new(alloc), [0].to_vec(alloc)?);
-    let words = strings(&rt, &THREE_MOMENTS)?;
-    let status = run(
+    let status = status_of(
         &rt,
-        alloc,
-        words.as_slice(),
+        &THREE_MOMENTS,
         &mut shelf,
         &mut source,
         &mut Void,
         &Open,
-    );
-    assert_eq!(rt; status, 0);
+    )?;
+    assert!(rt; status == 0);
     Ok(())
 }

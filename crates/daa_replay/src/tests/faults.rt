@@ -1,7 +1,9 @@
 //! Limits and faults of the source and the sink.
 
-use super::{ONE, ONE_TEXT, ONES, Outside, PLAIN, gives};
+use super::{ONE, ONE_TEXT, ONES, Outside, PLAIN, gives, gives_front};
+use std::process::Abort;
 use std::test::Fail;
+use std::thread::Threads;
 
 #[test]
 fn the_limit_counts_bytes(rt: HostRuntime) -> Result<(), Fail> {
@@ -16,51 +18,66 @@ fn the_limit_counts_bytes(rt: HostRuntime) -> Result<(), Fail> {
     Ok(())
 }
 
+/// A replay that reads single bytes, and whose read of this number fails before the input's end.
+fn reads_bytes<R: Abort + Threads + Sync + AllocGlobal>(rt: &R, fails: u64) -> Result<(), Fail> {
+    let outside = Outside {
+        read_pieces: &ONES,
+        read_fails: &[fails],
+        ..PLAIN
+    };
+    gives(rt, ONE, outside, 4, b"")
+}
+
+/// Pieces and a read that fails, the status and the text. The end of the input is met once, and
+/// not asked for again.
+static READS: [(&[usize], &[u64], u8, &[u8]); 3] = [
+    (&ONES, &[63], 4, ONE_TEXT),
+    (&ONES, &[64], 0, ONE_TEXT),
+    (&[9, 9], &[1], 4, b""),
+];
+
 #[test]
 fn a_read_that_fails_ends_the_run(rt: HostRuntime) -> Result<(), Fail> {
     for fails in 0..63 {
+        reads_bytes(&rt, fails)?;
+    }
+    for (read_pieces, read_fails, status, text) in &READS {
         let outside = Outside {
-            read_pieces: &ONES,
-            read_fails: &[fails],
+            read_pieces,
+            read_fails,
             ..PLAIN
         };
-        gives(&rt, ONE, outside, 4, b"")?;
+        gives(&rt, ONE, outside, *status, text)?;
     }
-    let last = Outside {
-        read_pieces: &ONES,
-        read_fails: &[63],
+    Ok(())
+}
+
+/// A replay whose sink takes single bytes, and fails after so many of them.
+fn writes_until<R: Abort + Threads + Sync + AllocGlobal>(
+    rt: &R,
+    fails: u64,
+    taken: usize,
+) -> Result<(), Fail> {
+    let outside = Outside {
+        write_pieces: &[1; 213],
+        write_fails: &[fails],
         ..PLAIN
     };
-    gives(&rt, ONE, last, 4, ONE_TEXT)?;
-    // the end of the input is met once, and not asked for again
-    let after = Outside {
-        read_pieces: &ONES,
-        read_fails: &[64],
-        ..PLAIN
-    };
-    gives(&rt, ONE, after, 0, ONE_TEXT)?;
-    let second = Outside {
-        read_pieces: &[9, 9],
-        read_fails: &[1],
-        ..PLAIN
-    };
-    gives(&rt, ONE, second, 4, b"")
+    let front = ONE_TEXT.get(..taken).ok_or("a front of the text")?;
+    gives(rt, ONE, outside, 5, front)
 }
 
 #[test]
 fn a_write_that_fails_ends_the_run(rt: HostRuntime) -> Result<(), Fail> {
-    let bytes = [1; 213];
     for (fails, taken) in (0..213u64).zip(0..213usize) {
-        let outside = Outside {
-            write_pieces: &bytes,
-            write_fails: &[fails],
-            ..PLAIN
-        };
-        let Some(front) = ONE_TEXT.get(..taken) else {
-            return Err("a text of 213 bytes".into());
-        };
-        gives(&rt, ONE, outside, 5, front)?;
+        writes_until(&rt, fails, taken)?;
     }
+    gives_front(&rt, ONE, PLAIN, ONE_TEXT, 212)?;
+    gives(&rt, ONE, Outside { room: 213, ..PLAIN }, 0, ONE_TEXT)
+}
+
+#[test]
+fn nothing_is_written_needlessly(rt: HostRuntime) -> Result<(), Fail> {
     // an input that gives nothing writes nothing, not even a piece of no bytes
     gives(&rt, b"", Outside { room: 0, ..PLAIN }, 0, b"")?;
     // the first write is that of the aircraft's lines
@@ -68,12 +85,7 @@ fn a_write_that_fails_ends_the_run(rt: HostRuntime) -> Result<(), Fail> {
         write_fails: &[1],
         ..PLAIN
     };
-    gives(&rt, ONE, second, 5, b"moment 0\nnow A 1\nalert A 1 0\n")?;
-    let Some(short) = ONE_TEXT.get(..212) else {
-        return Err("a text of 213 bytes".into());
-    };
-    gives(&rt, ONE, Outside { room: 212, ..PLAIN }, 5, short)?;
-    gives(&rt, ONE, Outside { room: 213, ..PLAIN }, 0, ONE_TEXT)
+    gives(&rt, ONE, second, 5, b"moment 0\nnow A 1\nalert A 1 0\n")
 }
 
 #[test]

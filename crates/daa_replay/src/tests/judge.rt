@@ -1,8 +1,8 @@
 //! Reports that are compared with that of states on the shelf.
 
-use super::{ONE, ONE_TEXT, ONES, Outside, PLAIN, SEVENS, strings, whole};
-use crate::run_within;
-use daa_outside::{MemShelf, MemSink, MemSource, Open};
+use super::{ONE, ONE_TEXT, ONES, Outside, PLAIN, SEVENS, expect, status_over, strings, whole};
+use daa_outside::MemShelf;
+use std::alloc::AllocError;
 use std::process::Abort;
 use std::test::Fail;
 use std::thread::Threads;
@@ -16,6 +16,26 @@ const JUDGE: Outside<'static> = Outside {
     ..PLAIN
 };
 
+/// The same under a configuration that is refused.
+const REFUSED: Outside<'static> = Outside {
+    config: "x",
+    ..JUDGE
+};
+
+/// A shelf that holds the configuration under the name `c` and the states under the name `s`.
+fn shelf_of_both<R: AllocGlobal>(
+    rt: &R,
+    states: &[u8],
+    outside: Outside<'_>,
+) -> Result<MemShelf, AllocError> {
+    let alloc = rt.alloc();
+    let mut texts = Vec::new(alloc);
+    texts.push(outside.config.as_bytes().to_vec(alloc)?)?;
+    texts.push(states.to_vec(alloc)?)?;
+    let fails = outside.fetch_fails.to_vec(alloc)?;
+    Ok(MemShelf::new(strings(rt, &["c", "s"])?, texts, fails))
+}
+
 /// A comparison of a report with that of the states, which lie under the name `s`, ends with this
 /// status and this text.
 fn judges<R: Abort + Threads + Sync + AllocGlobal>(
@@ -26,42 +46,23 @@ fn judges<R: Abort + Threads + Sync + AllocGlobal>(
     status: u8,
     text: &[u8],
 ) -> Result<(), Fail> {
-    if outside.most == 0 || outside.most > 1 << 40 {
-        return Err("a limit from 1 to 2^40".into());
-    }
-    let alloc = rt.alloc();
-    let mut texts = Vec::new(alloc);
-    texts.push(outside.config.as_bytes().to_vec(alloc)?)?;
-    texts.push(states.to_vec(alloc)?)?;
-    let mut shelf = MemShelf::new(
-        strings(rt, &["c", "s"])?,
-        texts,
-        outside.fetch_fails.to_vec(alloc)?,
-    );
-    let mut source = MemSource::new(
-        report.to_vec(alloc)?,
-        outside.read_pieces.to_vec(alloc)?,
-        outside.read_fails.to_vec(alloc)?,
-    );
-    let mut sink = MemSink::over(
-        vec![in alloc; 0; outside.room]?,
-        outside.write_pieces.to_vec(alloc)?,
-        outside.write_fails.to_vec(alloc)?,
-    );
-    let words = strings(rt, outside.words)?;
-    let ended = run_within(
-        rt,
-        alloc,
-        words.as_slice(),
-        &mut shelf,
-        &mut source,
-        &mut sink,
-        &Open,
-        outside.most,
-    );
-    assert_eq!(rt; ended, status);
-    assert_eq!(rt; sink.taken(), text);
+    let shelf = shelf_of_both(rt, states, outside)?;
+    let found = status_over(rt, shelf, report, outside)?;
+    expect(rt, &found, status, text);
     Ok(())
+}
+
+/// The same of states of so many letters `x`.
+fn judges_letters<R: Abort + Threads + Sync + AllocGlobal>(
+    rt: &R,
+    letters: usize,
+    report: &[u8],
+    outside: Outside<'_>,
+    status: u8,
+    text: &[u8],
+) -> Result<(), Fail> {
+    let states = vec![in rt.alloc(); b'x'; letters]?;
+    judges(rt, states.as_slice(), report, outside, status, text)
 }
 
 /// The report with another third line.
@@ -71,16 +72,24 @@ alert A 1 1
 track 0 270 1
 ";
 
+/// States, their report, and pieces of it.
+static SAME: [(&[u8], &[u8], &[usize]); 4] = [
+    (ONE, ONE_TEXT, &[]),
+    (ONE, ONE_TEXT, &ONES),
+    (b"", b"", &[]),
+    (b"x\n", b"refused 1 2\n", &[]),
+];
+
 #[test]
 fn the_report_of_the_states_is_the_same(rt: HostRuntime) -> Result<(), Fail> {
-    judges(&rt, ONE, ONE_TEXT, JUDGE, 0, b"same\n")?;
-    let in_ones = Outside {
-        read_pieces: &ONES,
-        ..JUDGE
-    };
-    judges(&rt, ONE, ONE_TEXT, in_ones, 0, b"same\n")?;
-    judges(&rt, b"", b"", JUDGE, 0, b"same\n")?;
-    judges(&rt, b"x\n", b"refused 1 2\n", JUDGE, 0, b"same\n")
+    for (states, report, read_pieces) in &SAME {
+        let outside = Outside {
+            read_pieces,
+            ..JUDGE
+        };
+        judges(&rt, states, report, outside, 0, b"same\n")?;
+    }
+    Ok(())
 }
 
 /// States and their reports under one level: with carriage returns, without a last line end, of
@@ -108,6 +117,18 @@ static REPORTS: [(&[u8], &str); 6] = [
     (b"x\ny", "refused 1 2\nrefused 2 2\n"),
 ];
 
+/// A report that goes on past the end of the states differs in the line after this text.
+fn differs_after<R: Abort + Threads + Sync + AllocGlobal>(
+    rt: &R,
+    states: &[u8],
+    text: &str,
+) -> Result<(), Fail> {
+    let longer = format!(in rt.alloc(); "{text}moment 9\n")?;
+    let line = text.lines().count() + 1;
+    let told = format!(in rt.alloc(); "differs {line}\n")?;
+    judges(rt, states, longer.as_bytes(), JUDGE, 1, told.as_bytes())
+}
+
 #[test]
 fn reports_of_all_kinds_of_states_are_the_same(rt: HostRuntime) -> Result<(), Fail> {
     for (states, text) in &REPORTS {
@@ -119,143 +140,169 @@ fn reports_of_all_kinds_of_states_are_the_same(rt: HostRuntime) -> Result<(), Fa
             };
             judges(&rt, states, text.as_bytes(), outside, 0, b"same\n")?;
         }
-        // it goes on past the end of the states
-        let longer = format!(in rt.alloc(); "{text}moment 9\n")?;
-        let line = text.lines().count() + 1;
-        let told = format!(in rt.alloc(); "differs {line}\n")?;
-        judges(&rt, states, longer.as_bytes(), JUDGE, 1, told.as_bytes())?;
+        differs_after(&rt, states, text.as_str())?;
     }
     Ok(())
 }
 
-#[test]
-fn another_report_differs(rt: HostRuntime) -> Result<(), Fail> {
-    let size = ONE_TEXT.len();
-    judges(&rt, ONE, OTHER, JUDGE, 1, b"differs 3\n")?;
-    // without its last line, without its last line end, and with one more
-    judges(&rt, ONE, &ONE_TEXT[..size - 7], JUDGE, 1, b"differs 12\n")?;
-    judges(&rt, ONE, &ONE_TEXT[..size - 1], JUDGE, 1, b"differs 12\n")?;
+/// The report with one more line end.
+fn longer_text<R: AllocGlobal>(rt: &R) -> Result<Vec<u8>, AllocError> {
     let mut longer = ONE_TEXT.to_vec(rt.alloc())?;
     longer.push(10)?;
-    judges(&rt, ONE, longer.as_slice(), JUDGE, 1, b"differs 13\n")?;
-    judges(&rt, ONE, b"", JUDGE, 1, b"differs 1\n")?;
-    judges(&rt, b"", b"x", JUDGE, 1, b"differs 1\n")
+    Ok(longer)
+}
+
+/// States, another report than theirs, and the line in which it differs.
+static OTHERS: [(&[u8], &[u8], &[u8]); 3] = [
+    (ONE, OTHER, b"differs 3\n"),
+    (ONE, b"", b"differs 1\n"),
+    (b"", b"x", b"differs 1\n"),
+];
+
+#[test]
+fn another_report_differs(rt: HostRuntime) -> Result<(), Fail> {
+    for (states, report, told) in &OTHERS {
+        judges(&rt, states, report, JUDGE, 1, told)?;
+    }
+    // without its last line, without its last line end, and with one more
+    for size in [206, 212] {
+        let front = ONE_TEXT.get(..size).ok_or("a front of the report")?;
+        judges(&rt, ONE, front, JUDGE, 1, b"differs 12\n")?;
+    }
+    judges(
+        &rt,
+        ONE,
+        longer_text(&rt)?.as_slice(),
+        JUDGE,
+        1,
+        b"differs 13\n",
+    )
+}
+
+/// The most bytes that are read of the report and of one with one more line end, the status and
+/// the text.
+static OF_THE_REPORT: [(u64, u8, &[u8]); 2] = [(212, 8, b""), (213, 0, b"same\n")];
+
+static OF_A_LONGER_ONE: [(u64, u8, &[u8]); 2] = [(213, 8, b""), (214, 1, b"differs 13\n")];
+
+/// A comparison of this report reads no more than the limits.
+fn keeps_limits<R: Abort + Threads + Sync + AllocGlobal>(
+    rt: &R,
+    report: &[u8],
+    limits: &[(u64, u8, &[u8])],
+) -> Result<(), Fail> {
+    for (most, status, text) in limits {
+        let outside = Outside {
+            most: *most,
+            ..JUDGE
+        };
+        judges(rt, ONE, report, outside, *status, text)?;
+    }
+    Ok(())
+}
+
+/// A comparison of this report whose read of this number fails.
+fn judges_until<R: Abort + Threads + Sync + AllocGlobal>(
+    rt: &R,
+    report: &[u8],
+    fails: u64,
+    status: u8,
+    text: &[u8],
+) -> Result<(), Fail> {
+    let outside = Outside {
+        read_fails: &[fails],
+        ..JUDGE
+    };
+    judges(rt, ONE, report, outside, status, text)
 }
 
 #[test]
 fn reading_stops_at_a_difference_and_at_the_limit(rt: HostRuntime) -> Result<(), Fail> {
-    let later = Outside {
-        read_fails: &[1],
-        ..JUDGE
-    };
-    judges(&rt, ONE, OTHER, later, 1, b"differs 3\n")?;
-    let first = Outside {
-        read_fails: &[0],
-        ..JUDGE
-    };
-    judges(&rt, ONE, ONE_TEXT, first, 4, b"")?;
-    let mut longer = ONE_TEXT.to_vec(rt.alloc())?;
-    longer.push(10)?;
-    for (most, report, status, text) in [
-        (212, ONE_TEXT, 8, b"".as_slice()),
-        (213, ONE_TEXT, 0, b"same\n".as_slice()),
-        (213, longer.as_slice(), 8, b"".as_slice()),
-        (214, longer.as_slice(), 1, b"differs 13\n".as_slice()),
-        (1, b"x".as_slice(), 1, b"differs 1\n".as_slice()),
-    ] {
-        judges(&rt, ONE, report, Outside { most, ..JUDGE }, status, text)?;
-    }
-    Ok(())
+    judges_until(&rt, OTHER, 1, 1, b"differs 3\n")?;
+    judges_until(&rt, ONE_TEXT, 0, 4, b"")?;
+    keeps_limits(&rt, ONE_TEXT, &OF_THE_REPORT)?;
+    keeps_limits(&rt, longer_text(&rt)?.as_slice(), &OF_A_LONGER_ONE)?;
+    keeps_limits(&rt, b"x", &[(1, 1, b"differs 1\n")])
 }
 
 #[test]
 fn the_configuration_comes_first_and_then_the_states(rt: HostRuntime) -> Result<(), Fail> {
-    let alloc = rt.alloc();
-    let mut long = Vec::new(alloc);
-    long.resize(65536, 120u8)?;
     // the first line has 256 bytes by then
-    judges(&rt, long.as_slice(), b"refused 1 1\n", JUDGE, 0, b"same\n")?;
-    long.push(120)?;
-    judges(
-        &rt,
-        long.as_slice(),
-        b"refused 1 1\n",
-        JUDGE,
-        9,
-        b"states long\n",
-    )?;
-    let refused = Outside {
-        config: "x",
-        ..JUDGE
-    };
-    judges(&rt, long.as_slice(), b"", refused, 3, b"config 2\n")?;
+    judges_letters(&rt, 65536, b"refused 1 1\n", JUDGE, 0, b"same\n")?;
+    judges_letters(&rt, 65537, b"refused 1 1\n", JUDGE, 9, b"states long\n")?;
+    judges_letters(&rt, 65537, b"", REFUSED, 3, b"config 2\n")?;
     let missing = Outside {
         words: MISSING,
         ..JUDGE
     };
-    judges(&rt, ONE, ONE_TEXT, missing, 7, b"")?;
+    judges(&rt, ONE, ONE_TEXT, missing, 7, b"")
+}
+
+#[test]
+fn a_refused_configuration_comes_before_missing_states(rt: HostRuntime) -> Result<(), Fail> {
     let neither = Outside {
-        config: "x",
-        ..missing
+        words: MISSING,
+        ..REFUSED
     };
-    judges(&rt, ONE, ONE_TEXT, neither, 3, b"config 2\n")?;
-    Ok(())
+    judges(&rt, ONE, ONE_TEXT, neither, 3, b"config 2\n")
+}
+
+/// The call of the shelf that fails, the status and the text.
+static FETCHES: [(u64, u8, &[u8]); 3] = [(0, 7, b""), (1, 7, b""), (2, 0, b"same\n")];
+
+/// A comparison of the report, byte by byte, whose read of this number fails.
+fn judges_bytes<R: Abort + Threads + Sync + AllocGlobal>(
+    rt: &R,
+    fails: u64,
+    status: u8,
+    text: &[u8],
+) -> Result<(), Fail> {
+    let outside = Outside {
+        read_pieces: &[1; 213],
+        read_fails: &[fails],
+        ..JUDGE
+    };
+    judges(rt, ONE, ONE_TEXT, outside, status, text)
 }
 
 #[test]
 fn each_fault_has_its_status(rt: HostRuntime) -> Result<(), Fail> {
-    for (fails, status, text) in [(0u64, 7, b"".as_slice()), (1, 7, b""), (2, 0, b"same\n")] {
-        let fetch_fails = [fails];
+    for (fails, status, text) in &FETCHES {
         let outside = Outside {
-            fetch_fails: &fetch_fails,
+            fetch_fails: &[*fails],
             ..JUDGE
         };
-        judges(&rt, ONE, ONE_TEXT, outside, status, text)?;
+        judges(&rt, ONE, ONE_TEXT, outside, *status, text)?;
     }
     // one read for each byte of the report, and one that meets its end
-    let ones = [1; 213];
     for fails in 0..214 {
+        judges_bytes(&rt, fails, 4, b"")?;
+    }
+    judges_bytes(&rt, 214, 0, b"same\n")
+}
+
+/// A comparison whose sink takes single bytes of this line, and fails at each of them in turn.
+fn writes_fronts<R: Abort + Threads + Sync + AllocGlobal>(
+    rt: &R,
+    report: &[u8],
+    line: &[u8],
+) -> Result<(), Fail> {
+    for (fails, taken) in (0..line.len() as u64).zip(0..line.len()) {
         let outside = Outside {
-            read_pieces: &ones,
-            read_fails: &[fails],
+            write_pieces: &ONES,
+            write_fails: &[fails],
             ..JUDGE
         };
-        judges(&rt, ONE, ONE_TEXT, outside, 4, b"")?;
+        let front = line.get(..taken).ok_or("a front of the line")?;
+        judges(rt, ONE, report, outside, 5, front)?;
     }
-    let after = Outside {
-        read_pieces: &ones,
-        read_fails: &[214],
-        ..JUDGE
-    };
-    judges(&rt, ONE, ONE_TEXT, after, 0, b"same\n")
+    Ok(())
 }
 
 #[test]
 fn a_line_that_is_not_written_is_a_write_fault(rt: HostRuntime) -> Result<(), Fail> {
-    for (report, line) in [
-        (ONE_TEXT, b"same\n".as_slice()),
-        (OTHER, b"differs 3\n".as_slice()),
-    ] {
-        for (fails, taken) in (0..line.len() as u64).zip(0..line.len()) {
-            let outside = Outside {
-                write_pieces: &ONES,
-                write_fails: &[fails],
-                ..JUDGE
-            };
-            let Some(front) = line.get(..taken) else {
-                return Err("a front of the line".into());
-            };
-            judges(&rt, ONE, report, outside, 5, front)?;
-        }
-    }
-    let mut long = Vec::new(rt.alloc());
-    long.resize(65537, 120u8)?;
-    judges(
-        &rt,
-        long.as_slice(),
-        b"",
-        Outside { room: 8, ..JUDGE },
-        5,
-        b"states l",
-    )
+    writes_fronts(&rt, ONE_TEXT, b"same\n")?;
+    writes_fronts(&rt, OTHER, b"differs 3\n")?;
+    let short = Outside { room: 8, ..JUDGE };
+    judges_letters(&rt, 65537, b"", short, 5, b"states l")
 }

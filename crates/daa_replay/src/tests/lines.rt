@@ -1,7 +1,7 @@
 //! Lines, their refusals, and the pieces in which they come.
 
 use super::ahead::READINGS;
-use super::{COVERED, ONE, ONE_TEXT, ONES, Outside, PLAIN, SEVENS, gives, whole};
+use super::{COVERED, ONE, ONE_TEXT, ONES, Outside, PLAIN, REPLAY, SEVENS, gives, whole};
 use std::alloc::AllocError;
 use std::test::Fail;
 
@@ -46,7 +46,7 @@ static MOMENTS: [(&str, u8, &str); 7] = [
 fn lines_give_their_refusals_and_moments(rt: HostRuntime) -> Result<(), Fail> {
     for (input, status, text) in &MOMENTS {
         let text = whole(&rt, text)?;
-        for words in [PLAIN.words, &ALONE] {
+        for words in [REPLAY, &ALONE] {
             let outside = Outside { words, ..PLAIN };
             gives(&rt, input.as_bytes(), outside, *status, text.as_bytes())?;
         }
@@ -152,35 +152,49 @@ fn lines_end_at_255_bytes(rt: HostRuntime) -> Result<(), Fail> {
     Ok(())
 }
 
-#[test]
-fn a_moment_has_64_aircraft(rt: HostRuntime) -> Result<(), Fail> {
+/// A moment of 65 aircraft, with a second ownship and identifiers that stand twice.
+fn moment_of_65<R: AllocGlobal>(rt: &R) -> Result<String, AllocError> {
     let alloc = rt.alloc();
     let mut input = String::from_str(
         alloc,
         "moment 0\nown 0 0 1000 0 3600 0\nown 100000 0 1000 0 3600 0\ntraffic A0 660 1000 1000 0 0 0\ntraffic A0 0 0 0 0 0 0\n",
     )?;
-    let mut text = String::from_str(
-        alloc,
-        "refused 3 10\nrefused 5 11\nrefused 69 12\nrefused 70 11\nmoment 0\nnow A0 1\nalert A0 1 0\n",
-    )?;
     for i in 1..65u32 {
         input.push_str(format!(in alloc; "traffic A{i} 660 1000 1000 0 0 0\n")?.as_str())?;
-        if i < 64 {
-            text.push_str(format!(in alloc; "now A{i} 1\nalert A{i} 1 0\n")?.as_str())?;
-        }
     }
     input.push_str("traffic A0 0 0 0 0 0 0\nend\n")?;
+    Ok(input)
+}
+
+/// Its report: the first 64 aircraft are taken.
+fn report_of_64<R: AllocGlobal>(rt: &R) -> Result<String, AllocError> {
+    let alloc = rt.alloc();
+    let mut text = String::from_str(
+        alloc,
+        "refused 3 10\nrefused 5 11\nrefused 69 12\nrefused 70 11\nmoment 0\n",
+    )?;
+    for i in 0..64u32 {
+        text.push_str(format!(in alloc; "now A{i} 1\nalert A{i} 1 0\n")?.as_str())?;
+    }
     text.push_str(COVERED)?;
     text.push_str("done 0\n")?;
-    let ones = vec![in alloc; 1; 4000]?;
+    Ok(text)
+}
+
+#[test]
+fn a_moment_has_64_aircraft(rt: HostRuntime) -> Result<(), Fail> {
+    let input = moment_of_65(&rt)?;
+    let text = report_of_64(&rt)?;
+    let ones = vec![in rt.alloc(); 1; 4000]?;
     for words in &READINGS {
-        let at_once = Outside { words, ..PLAIN };
-        gives(&rt, input.as_bytes(), at_once, 1, text.as_bytes())?;
-        let in_ones = Outside {
-            read_pieces: ones.as_slice(),
-            ..at_once
-        };
-        gives(&rt, input.as_bytes(), in_ones, 1, text.as_bytes())?;
+        for read_pieces in [&[], ones.as_slice()] {
+            let outside = Outside {
+                words,
+                read_pieces,
+                ..PLAIN
+            };
+            gives(&rt, input.as_bytes(), outside, 1, text.as_bytes())?;
+        }
     }
     Ok(())
 }

@@ -1,9 +1,10 @@
 //! Moments and their reports.
 
-use super::{ONE_TEXT, Outside, PLAIN, gives, status_and_text, whole};
+use super::{ONE_TEXT, Outside, PLAIN, expect, gives, status_and_text, whole};
 use daa_config::examples::LARGEST_VALUES;
 use std::alloc::AllocError;
 use std::test::Fail;
+use std::thread::Threads;
 
 /// The candidates of a configuration whose levels follow.
 const CANDIDATES: &str = "turn_rate = 3
@@ -38,6 +39,23 @@ fn moment_with<R: AllocGlobal>(
     format!(in rt.alloc();
         "moment 0\nown 0 0 1000 0 3600 {vertical_speed}\ntraffic {traffic}\nend\n"
     )
+}
+
+/// The status of a replay of a moment with an aircraft under these levels, and what it writes.
+fn decided<R: Threads + Sync + AllocGlobal>(
+    rt: &R,
+    resolve: u32,
+    levels: &str,
+    vertical_speed: i32,
+    traffic: &str,
+) -> Result<(u8, Vec<u8>), Fail> {
+    let config = config_of(rt, resolve, levels)?;
+    let input = moment_with(rt, vertical_speed, traffic)?;
+    let outside = Outside {
+        config: config.as_str(),
+        ..PLAIN
+    };
+    status_and_text(rt, input.as_bytes(), outside)
 }
 
 /// The touch at ten seconds: the track to the west alone is clear.
@@ -139,15 +157,10 @@ static UNDER_ONE_LEVEL: [(&str, i32, &str, &str, &str); 10] = [
 fn moments_give_their_lines(rt: HostRuntime) -> Result<(), Fail> {
     let alloc = rt.alloc();
     for (levels, vertical_speed, traffic, aircraft, rest) in &UNDER_ONE_LEVEL {
-        let config = config_of(&rt, 1, levels)?;
-        let input = moment_with(&rt, *vertical_speed, traffic)?;
+        let found = decided(&rt, 1, levels, *vertical_speed, traffic)?;
         let rest = whole(&rt, rest)?;
         let text = format!(in alloc; "moment 0\n{aircraft}{rest}")?;
-        let outside = Outside {
-            config: config.as_str(),
-            ..PLAIN
-        };
-        gives(&rt, input.as_bytes(), outside, 0, text.as_bytes())?;
+        expect(&rt, &found, 0, text.as_bytes());
     }
     Ok(())
 }
@@ -176,13 +189,8 @@ static UNDER_FOUR_LEVELS: [(&str, &str); 2] = [
 #[test]
 fn the_greatest_of_four_levels_counts(rt: HostRuntime) -> Result<(), Fail> {
     for (levels, text) in &UNDER_FOUR_LEVELS {
-        let config = config_of(&rt, 4, levels)?;
-        let input = moment_with(&rt, 0, "A 660 1000 1000 0 0 0")?;
-        let outside = Outside {
-            config: config.as_str(),
-            ..PLAIN
-        };
-        gives(&rt, input.as_bytes(), outside, 0, text.as_bytes())?;
+        let found = decided(&rt, 4, levels, 0, "A 660 1000 1000 0 0 0")?;
+        expect(&rt, &found, 0, text.as_bytes());
     }
     Ok(())
 }
@@ -216,14 +224,8 @@ static BEGINNINGS: [(&str, &str, &str); 4] = [
 #[test]
 fn reports_begin_with_their_aircraft(rt: HostRuntime) -> Result<(), Fail> {
     for (levels, traffic, begins) in &BEGINNINGS {
-        let config = config_of(&rt, 1, levels)?;
-        let input = moment_with(&rt, 0, traffic)?;
-        let outside = Outside {
-            config: config.as_str(),
-            ..PLAIN
-        };
-        let (status, text) = status_and_text(&rt, input.as_bytes(), outside)?;
-        assert_eq!(rt; status, 0);
+        let (status, text) = decided(&rt, 1, levels, 0, traffic)?;
+        assert!(rt; status == 0);
         assert!(rt; text.starts_with(begins.as_bytes()));
     }
     Ok(())
@@ -238,7 +240,7 @@ fn the_largest_values_are_decided(rt: HostRuntime) -> Result<(), Fail> {
         ..PLAIN
     };
     let (status, text) = status_and_text(&rt, input, outside)?;
-    assert_eq!(rt; status, 0);
+    assert!(rt; status == 0);
     assert!(rt; text.starts_with(b"moment 4294967295\nnow A 0\nalert A 0 -\ntrack 0 "));
     assert!(rt; text.ends_with(b"done 4294967295\n"));
     Ok(())

@@ -1,8 +1,10 @@
 //! Command words and configurations.
 
-use super::{ONE, ONE_TEXT, Outside, PLAIN, gives, status_and_text};
+use super::{ONE, ONE_TEXT, Outside, PLAIN, REPLAY, gives, gives_front};
 use daa_config::examples::{ONE_LEVEL, THREE_LEVELS};
+use std::process::Abort;
 use std::test::Fail;
+use std::thread::Threads;
 
 /// What is written where the words are not taken.
 pub(super) const USAGE: &[u8] =
@@ -23,7 +25,7 @@ static NOT_TAKEN: [&[&str]; 7] = [
 static JOINED: [&str; 3] = ["daidalus", "replay", "--config=c"];
 
 /// A name under which the shelf holds nothing.
-static MISSING: [&str; 4] = ["daidalus", "replay", "--config", "d"];
+const MISSING: [&str; 4] = ["daidalus", "replay", "--config", "d"];
 
 #[test]
 fn words_that_are_not_taken_give_the_usage_line(rt: HostRuntime) -> Result<(), Fail> {
@@ -125,96 +127,98 @@ static OTHER_WORDS: [(&str, &str, &str, &[u8]); 12] = [
     ),
 ];
 
+/// A run under this configuration ends with status 3 and this text.
+fn refuses<R: Abort + Threads + Sync + AllocGlobal>(
+    rt: &R,
+    config: &str,
+    text: &[u8],
+) -> Result<(), Fail> {
+    gives(rt, ONE, Outside { config, ..PLAIN }, 3, text)
+}
+
+static TEXTS: [(&str, &[u8]); 3] = [
+    ("a =", b"config 2\n"),
+    ("x = 1", b"config 3\n"),
+    ("", b"config 4\n"),
+];
+
 #[test]
 fn a_refused_configuration_gives_its_code(rt: HostRuntime) -> Result<(), Fail> {
-    let alloc = rt.alloc();
-    for (config, text) in [
-        ("a =", b"config 2\n".as_slice()),
-        ("x = 1", b"config 3\n"),
-        ("", b"config 4\n"),
-    ] {
-        gives(&rt, ONE, Outside { config, ..PLAIN }, 3, text)?;
+    for (config, text) in &TEXTS {
+        refuses(&rt, config, text)?;
     }
     for (config, words, others, text) in &OTHER_WORDS {
         let config = text_with(&rt, config, words, others)?;
-        let outside = Outside {
-            config: config.as_str(),
-            ..PLAIN
-        };
-        gives(&rt, ONE, outside, 3, text)?;
+        refuses(&rt, config.as_str(), text)?;
     }
-    // a missing key counts before a number out of its range
-    let two_faults = text_with(&rt, THREE_LEVELS, "resolve = 2\n", "resolve = 9\n")?;
-    let two_faults = text_with(&rt, two_faults.as_str(), "alert = 25\n", "")?;
-    let outside = Outside {
-        config: two_faults.as_str(),
-        ..PLAIN
-    };
-    gives(&rt, ONE, outside, 3, b"config 4\n")?;
-    // 512 values may be there, and one more not
-    let many = text_with(
+    Ok(())
+}
+
+#[test]
+fn a_missing_key_counts_before_a_number_out_of_its_range(rt: HostRuntime) -> Result<(), Fail> {
+    let one_fault = text_with(&rt, THREE_LEVELS, "resolve = 2\n", "resolve = 9\n")?;
+    let two_faults = text_with(&rt, one_fault.as_str(), "alert = 25\n", "")?;
+    refuses(&rt, two_faults.as_str(), b"config 4\n")
+}
+
+/// One more is refused: `OTHER_WORDS`.
+#[test]
+fn a_kind_may_have_512_values(rt: HostRuntime) -> Result<(), Fail> {
+    let config = text_with(
         &rt,
         ONE_LEVEL,
         "min = 1000, max = 1000",
         "min = 0, max = 511",
     )?;
     let outside = Outside {
-        config: many.as_str(),
+        config: config.as_str(),
         ..PLAIN
     };
-    gives(&rt, b"", outside, 0, b"")?;
-    // 65536 bytes may be fetched, and one more not
+    gives(&rt, b"", outside, 0, b"")
+}
+
+/// And one more may not.
+#[test]
+fn a_configuration_of_65536_bytes_is_fetched(rt: HostRuntime) -> Result<(), Fail> {
     for (size, text) in [(65536, b"config 2\n".as_slice()), (65537, b"config 1\n")] {
-        let long = "a".repeat(alloc, size)?;
+        let config = "a".repeat(rt.alloc(), size)?;
+        refuses(&rt, config.as_str(), text)?;
+    }
+    Ok(())
+}
+
+/// The calls of the shelf that fail, the words, the status and the text.
+static FETCHES: [(&[u64], &[&str], u8, &[u8]); 3] = [
+    (&[0], REPLAY, 7, b""),
+    (&[1], REPLAY, 0, ONE_TEXT),
+    (&[], &MISSING, 7, b""),
+];
+
+#[test]
+fn a_shelf_that_fails_ends_the_run(rt: HostRuntime) -> Result<(), Fail> {
+    for (fetch_fails, words, status, text) in &FETCHES {
         let outside = Outside {
-            config: long.as_str(),
+            words,
+            fetch_fails,
             ..PLAIN
         };
-        gives(&rt, ONE, outside, 3, text)?;
+        gives(&rt, ONE, outside, *status, text)?;
     }
     Ok(())
 }
 
 #[test]
-fn a_shelf_that_fails_ends_the_run(rt: HostRuntime) -> Result<(), Fail> {
-    let fails = Outside {
-        fetch_fails: &[0],
-        ..PLAIN
-    };
-    gives(&rt, ONE, fails, 7, b"")?;
-    let later = Outside {
-        fetch_fails: &[1],
-        ..PLAIN
-    };
-    gives(&rt, ONE, later, 0, ONE_TEXT)?;
-    gives(
-        &rt,
-        ONE,
-        Outside {
-            words: &MISSING,
-            ..PLAIN
-        },
-        7,
-        b"",
-    )
-}
-
-#[test]
 fn a_line_before_the_report_may_fail_too(rt: HostRuntime) -> Result<(), Fail> {
+    let no_words = Outside {
+        words: NOT_TAKEN[1],
+        ..PLAIN
+    };
     for room in [0, 20] {
-        let outside = Outside {
-            words: NOT_TAKEN[1],
-            room,
-            ..PLAIN
-        };
-        let (status, taken) = status_and_text(&rt, ONE, outside)?;
-        assert_eq!(rt; status, 5);
-        assert_eq!(rt; Some(taken.as_slice()), USAGE.get(..room));
+        gives_front(&rt, ONE, no_words, USAGE, room)?;
     }
     let config = Outside {
         config: "",
-        room: 5,
         ..PLAIN
     };
-    gives(&rt, ONE, config, 5, b"confi")
+    gives_front(&rt, ONE, config, b"config 4\n", 5)
 }

@@ -1,8 +1,7 @@
 //! Several workers: whether they really work side by side, and that they change no byte.
 
-use super::{ONE_LEVEL, shelf_with, strings, whole};
-use crate::run;
-use daa_outside::{Gate, Meeting, MemSink, MemSource, Open};
+use super::{ONE_LEVEL, shelf_with, status_of, whole, whole_sink, whole_source};
+use daa_outside::{Gate, Meeting, Open};
 use std::process::Abort;
 use std::sync::atomic::AtomicU64;
 use std::sync::atomic::Ordering::SeqCst;
@@ -76,22 +75,13 @@ fn expect_four<R: Abort + Threads + Sync + AllocGlobal, G: Gate>(
     words: &[&str],
     gate: &G,
 ) -> Result<(), Fail> {
-    let alloc = rt.alloc();
     let mut shelf = shelf_with(rt, ONE_LEVEL, &[])?;
-    let mut source = MemSource::new(FOUR.to_vec(alloc)?, Vec::new(alloc), Vec::new(alloc));
-    let mut sink = MemSink::over(vec![in alloc; 0; 1024]?, Vec::new(alloc), Vec::new(alloc));
-    let words = strings(rt, words)?;
-    let status = run(
-        rt,
-        alloc,
-        words.as_slice(),
-        &mut shelf,
-        &mut source,
-        &mut sink,
-        gate,
-    );
-    assert_eq!(rt; status, 0);
-    assert_eq!(rt; sink.taken(), whole(rt, FOUR_TEXT)?.as_bytes());
+    let mut source = whole_source(rt, FOUR)?;
+    let mut sink = whole_sink(rt, 1024)?;
+    let status = status_of(rt, words, &mut shelf, &mut source, &mut sink, gate)?;
+    let text = whole(rt, FOUR_TEXT)?;
+    assert!(rt; status == 0);
+    assert!(rt; sink.taken() == text.as_bytes());
     Ok(())
 }
 

@@ -1,8 +1,8 @@
 //! Which aircraft are in reach: the last place that is, and the first that is not.
 
-use super::{Settings, branches_for, config_of, eight, picture_in};
-use crate::{Scene, fill_flights};
+use super::{Settings, config_of, count_in_reach, is_in_reach, picture_in};
 use daa_config::examples::ONE_LEVEL;
+use daa_state::examples::{CLIMBING, NORTH};
 use std::test::Fail;
 
 /// What replaces parts of the configuration, the lines of an ownship and of an
@@ -14,9 +14,6 @@ struct Row {
     aircraft: &'static str,
     in_reach: bool,
 }
-
-/// North at 360 knots, 1000 feet high.
-const NORTH: &str = "own 0 0 1000 0 3600 0";
 
 /// The greatest ground speed of a candidate is 700 knots.
 const FAST: [(&str, &str); 1] = [(
@@ -155,14 +152,14 @@ static ROWS: [Row; 22] = [
     Row {
         shows: "above an ownship that climbs faster than any candidate",
         edits: &[],
-        own: "own 0 0 1000 0 3600 3000",
+        own: CLIMBING,
         aircraft: "traffic A 0 0 1950 0 0 0 0",
         in_reach: true,
     },
     Row {
         shows: "above an ownship that climbs faster than any candidate",
         edits: &[],
-        own: "own 0 0 1000 0 3600 3000",
+        own: CLIMBING,
         aircraft: "traffic A 0 0 1951 0 0 0 0",
         in_reach: false,
     },
@@ -211,18 +208,11 @@ fn the_last_place_in_reach(rt: HostRuntime) -> Result<(), Fail> {
             "the lines of a moment",
         );
         assert!(rt; picture.traffic.len() == 1, "{}", row.shows);
-        let mut trunks = eight();
-        let mut branches = branches_for(&config);
-        let needs = fill_flights(&mut trunks, &mut branches, &config, &picture);
-        let scene = Scene::of(&config, &picture, &trunks, &branches, needs);
+        let in_reach = is_in_reach(&config, &picture);
+        let count = count_in_reach(&config, &picture);
+        assert!(rt; in_reach == row.in_reach, "{}: {}", row.shows, row.aircraft);
         assert!(rt;
-            scene.in_reach(0) == row.in_reach,
-            "{}: {}",
-            row.shows,
-            row.aircraft
-        );
-        assert!(rt;
-            scene.count_in_reach() == u32::from(row.in_reach),
+            count == u32::from(row.in_reach),
             "{}: {}",
             row.shows,
             row.aircraft

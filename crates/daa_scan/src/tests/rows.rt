@@ -3,11 +3,12 @@
 ghost use Rattle.daa_config.specs.Settings.{IsCandidateInRange};
 ghost use Rattle.daa_state.specs.InRange.{IsOwnInRange, IsPictureInRange, IsTrafficInRange};
 
-use super::{Settings, branches_for, config_of, eight, picture_in};
+use super::{Settings, branches_for, config_of, eight, masks_of, picture_in};
 use crate::{Scene, fill_flights};
 use daa_config::examples::{FOUR_LEVELS, ONE_LEVEL, THREE_LEVELS};
 use daa_config::{Candidate, Config};
 use daa_meet::meets_between;
+use daa_state::examples::{ABEAM, CLIMBING, NORTH};
 use daa_state::{Own, Picture, Traffic};
 use std::process::Abort;
 use std::test::Fail;
@@ -22,13 +23,6 @@ struct Row {
     aircraft: &'static str,
     masks: [u8; 8],
 }
-
-/// North at 360 knots.
-const NORTH: &str = "own 0 0 1000 0 3600 0";
-/// The same, climbing at 3000 ft/min.
-const CLIMBING: &str = "own 0 0 1000 0 3600 3000";
-/// 0.66 miles to the right, abeam in 10 seconds.
-const ABEAM: &str = "traffic A 660 1000 1000 0 0 0 0";
 
 static ROWS: [Row; 17] = [
     Row {
@@ -232,20 +226,13 @@ fn worked_rows(rt: HostRuntime) -> Result<(), Fail> {
             &rt,
             "the lines of a moment",
         );
-        let mut trunks = eight();
-        let mut branches = branches_for(&config);
-        let needs = fill_flights(&mut trunks, &mut branches, &config, &picture);
-        let scene = Scene::of(&config, &picture, &trunks, &branches, needs);
-        assert!(rt; config.total() == 8, "{}", row.shows);
         assert!(rt; picture.traffic.len() == 1, "{}", row.shows);
-        for index in 0..config.total() {
-            let mask = scene.levels(index, 0);
-            assert!(rt;
-                Some(&mask) == row.masks.get(index as usize),
-                "{}, candidate {index}",
-                row.shows
-            );
-        }
+        let masks = masks_of(rt.alloc(), &config, &picture, 0)?;
+        assert!(rt;
+            masks.as_slice() == row.masks.as_slice(),
+            "{}: {masks:?}",
+            row.shows
+        );
     }
     Ok(())
 }

@@ -1,14 +1,7 @@
 //! The units of a moment and their words.
 
-ghost use Rattle.std.specs.Prelude.{◌≡◌, ◌<◌, length};
-ghost use Rattle.daa_state.specs.Picture.{aircraft_of};
-
-use super::{Settings, branches_for, config_of, eight, picture_in};
-use crate::{Scene, fill_flights};
-use daa_config::Config;
+use super::{Settings, config_of, count_in_reach, masks_of, picture_in, words_of};
 use daa_config::examples::ONE_LEVEL;
-use daa_schedule::Answers;
-use std::process::Abort;
 use std::test::Fail;
 
 /// An aircraft abeam in 10 seconds, one far away, and one at the ownship's place with its velocity.
@@ -23,6 +16,11 @@ const LINES: [&str; 6] = [
 
 // Of the eight candidates all but the fifth meet A, and all meet C: five bits are 3 where one is
 // met, else 1, so that the words are the sums of 3 or 1 times 32 to the candidate's place.
+const ONE_GROUP: [u64; 2] = [
+    0b00011_00011_00011_00001_00011_00011_00011_00011,
+    0b00011_00011_00011_00011_00011_00011_00011_00011,
+];
+
 #[test]
 fn words_of_one_group(rt: HostRuntime) -> Result<(), Fail> {
     let config = config_of(
@@ -33,36 +31,27 @@ fn words_of_one_group(rt: HostRuntime) -> Result<(), Fail> {
         },
     )?;
     let picture = picture_in(&LINES).expect(&rt, "the lines of a moment");
-    let mut trunks = eight();
-    let mut branches = branches_for(&config);
-    let needs = fill_flights(&mut trunks, &mut branches, &config, &picture);
-    let scene = Scene::of(&config, &picture, &trunks, &branches, needs);
-    assert!(rt; scene.count_in_reach() == 2);
-    assert!(rt; scene.units() == 2);
-    assert!(rt; scene.word(0) == 0b00011_00011_00011_00001_00011_00011_00011_00011);
-    assert!(rt; scene.word(1) == 0b00011_00011_00011_00011_00011_00011_00011_00011);
+    assert!(rt; count_in_reach(&config, &picture) == 2);
+    let words = words_of(rt.alloc(), &config, &picture)?;
+    assert!(rt; words.as_slice() == ONE_GROUP.as_slice());
     Ok(())
 }
 
-/// The word of a group and the first aircraft says what the levels are, candidate by candidate.
-fn expect_levels(rt: &impl Abort, config: &Config, scene: &Scene<'_>, word: u64, group: u32)
-    requires settings { scene.now.settings ≡ config.now }
-    requires aircraft { 0 < length (aircraft_of scene.now.picture) }
-    requires group { group < 2 }
-{
-    for j in 0..12u32 {
-        let index = 12 * group + j;
-        let entry = if index < config.total() {
-            1 + 2 * u64::from(scene.levels(index, 0))
-        } else {
-            0
-        };
-        assert!(rt; word >> (5 * j) & 31 == entry, "group {group}, place {j}");
+// Sixteen candidates are a group of twelve and one of four. All meet C.
+const TWO_GROUPS: [u64; 2] = [
+    0b00011_00011_00011_00011_00011_00011_00011_00011_00011_00011_00011_00011,
+    0b00011_00011_00011_00011,
+];
+
+/// The word of a group, by the masks of its at most twelve candidates.
+fn word_of_masks(masks: &[u8]) -> u64 {
+    let mut word = 0;
+    for mask in masks.iter().rev() {
+        word = word << 5 | (1 + 2 * u64::from(*mask));
     }
-    assert!(rt; word >> 60 == 0, "group {group}");
+    word
 }
 
-// Sixteen candidates are a group of twelve and one of four. All meet C.
 #[test]
 fn words_of_two_groups(rt: HostRuntime) -> Result<(), Fail> {
     let config = config_of(
@@ -76,20 +65,29 @@ fn words_of_two_groups(rt: HostRuntime) -> Result<(), Fail> {
         },
     )?;
     let picture = picture_in(&LINES).expect(&rt, "the lines of a moment");
-    let mut trunks = eight();
-    let mut branches = branches_for(&config);
-    let needs = fill_flights(&mut trunks, &mut branches, &config, &picture);
-    let scene = Scene::of(&config, &picture, &trunks, &branches, needs);
-    assert!(rt; scene.units() == 4);
-    assert!(rt;
-        scene.word(2) == 0b00011_00011_00011_00011_00011_00011_00011_00011_00011_00011_00011_00011
-    );
-    assert!(rt; scene.word(3) == 0b00011_00011_00011_00011);
     assert!(rt; picture.traffic.len() == 3);
-    expect_levels(&rt, &config, &scene, scene.word(0), 0);
-    expect_levels(&rt, &config, &scene, scene.word(1), 1);
+    let words = words_of(rt.alloc(), &config, &picture)?;
+    let masks = masks_of(rt.alloc(), &config, &picture, 0)?;
+    let (first, second) = masks.as_slice().split_at_checked(12).ok_or("two groups")?;
+    let [of_first, of_second, rest @ ..] = words.as_slice() else {
+        return Err("words of two groups".into());
+    };
+    assert!(rt; *of_first == word_of_masks(first));
+    assert!(rt; *of_second == word_of_masks(second));
+    assert!(rt; rest == TWO_GROUPS.as_slice());
     Ok(())
 }
+
+/// A moment whose one aircraft is far away, and one without an aircraft.
+static NOBODY_NEAR: [&[&str]; 2] = [
+    &[
+        "moment 0",
+        "own 0 0 1000 0 3600 0",
+        "traffic B 100000 0 1000 0 0 0 0",
+        "end",
+    ],
+    &["moment 0", "own 0 0 1000 0 3600 0", "end"],
+];
 
 #[test]
 fn no_units_where_none_is_in_reach(rt: HostRuntime) -> Result<(), Fail> {
@@ -100,21 +98,10 @@ fn no_units_where_none_is_in_reach(rt: HostRuntime) -> Result<(), Fail> {
             edits: &[],
         },
     )?;
-    let far = [
-        "moment 0",
-        "own 0 0 1000 0 3600 0",
-        "traffic B 100000 0 1000 0 0 0 0",
-        "end",
-    ];
-    let none = ["moment 0", "own 0 0 1000 0 3600 0", "end"];
-    for lines in [far.as_slice(), none.as_slice()] {
+    for lines in &NOBODY_NEAR {
         let picture = picture_in(lines).expect(&rt, "the lines of a moment");
-        let mut trunks = eight();
-        let mut branches = branches_for(&config);
-        let needs = fill_flights(&mut trunks, &mut branches, &config, &picture);
-        let scene = Scene::of(&config, &picture, &trunks, &branches, needs);
-        assert!(rt; scene.units() == 0);
-        assert!(rt; scene.count_in_reach() == 0);
+        assert!(rt; count_in_reach(&config, &picture) == 0);
+        assert!(rt; words_of(rt.alloc(), &config, &picture)?.is_empty());
     }
     Ok(())
 }
