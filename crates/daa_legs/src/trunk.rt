@@ -66,6 +66,24 @@ impl Trunk {
         requires most { most ≤ 180 }
         ensures { AreLegsOf own.now (rates_of config.now) candidate most self.new }
     {
+        // a copy of the loop for each kind of candidate, so that no leg asks which it is
+        match candidate {
+            Candidate::Hold => self.keep_legs(own, config, Candidate::Hold, most),
+            Candidate::Track(c) => self.keep_legs(own, config, Candidate::Track(c), most),
+            Candidate::Speed(g) => self.keep_legs(own, config, Candidate::Speed(g), most),
+            Candidate::Climb(w) => self.keep_legs(own, config, Candidate::Climb(w), most),
+            Candidate::Height(a) => self.keep_legs(own, config, Candidate::Height(a), most),
+        }
+    }
+
+    /// The same.
+    #[inline(always)]
+    fn keep_legs(&mut self, own: &Own, config: &Config, candidate: Candidate, most: u32)
+        requires own { IsOwnInRange own.now }
+        requires candidate { IsCandidateInRange candidate }
+        requires most { most ≤ 180 }
+        ensures { AreLegsOf own.now (rates_of config.now) candidate most self.new }
+    {
         let rates = config.rates();
         let present = velocity(own.gs, own.trk);
         let branch = branch_from(own, &rates, candidate, &present);

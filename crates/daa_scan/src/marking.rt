@@ -318,6 +318,7 @@ fn is_nested(config: &Config, l: u32) -> bool
 
 /// The mask of the candidate at an index of the whole list, one of a kind, with the level after
 /// level `l`.
+#[inline(always)]
 fn next_mask(
     config: &Config,
     own: &Own,
@@ -379,6 +380,7 @@ fn with_level(mask: u8, l: u32, met: bool) -> u8
 
 /// Whether the candidate of a kind that has this branch meets the aircraft within the level's
 /// lookahead.
+#[inline(always)]
 fn meets_shared(
     config: &Config,
     own: &Own,
@@ -435,6 +437,7 @@ fn meets_shared(
 
 /// Whether the candidate that has this branch, which violates nothing from the trail's end on,
 /// meets the aircraft within the level's lookahead. The trail is walked on as far as is needed.
+#[inline(always)]
 fn meets_along(
     config: &Config,
     own: &Own,

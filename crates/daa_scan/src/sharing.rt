@@ -23,6 +23,7 @@ use daa_state::{Own, Traffic};
 use daa_taumod::Volume;
 
 /// Walks the trail on to leg `upto`, or to a hit.
+#[inline(always)]
 pub(crate) fn walk_on(
     trail: &mut Trail,
     config: &Config,
@@ -86,6 +87,7 @@ fn violates_on(
 
 /// Whether the candidate that has this branch meets the aircraft on the leg on which it leaves the
 /// trunk, or later.
+#[inline(never)]
 fn meets_after(
     config: &Config,
     own: &Own,
@@ -213,6 +215,7 @@ fn meets_on_rest(
 
 /// Whether the candidate that has this branch, which violates nothing from the trail's end on,
 /// meets the aircraft within the level's lookahead.
+#[inline(always)]
 pub(crate) fn meets_by_branch(
     config: &Config,
     own: &Own,

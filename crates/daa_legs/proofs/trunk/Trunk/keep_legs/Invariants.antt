@@ -2,7 +2,7 @@ use Rattle.std.proofs.Common.{◌≡◌}
 use Rattle.daa_config.specs.Settings.{rates_of}
 use Rattle.daa_legs.specs.Trunk.{AreLegsOf}
 use Rattle.daa_legs.specs.OwnLeg.{place_on}
-use Rattle.daa_legs.proofs.trunk.Trunk.fill.Given as goal
+use Rattle.daa_legs.proofs.trunk.Trunk.keep_legs.Given as goal
 
 -- the first k legs are kept, and the place is that of leg k
 abbrev pub invariant-loop-k : goal.invariant-loop-k

@@ -4,7 +4,7 @@ use Rattle.daa_config.specs.Settings.{AreRatesInRange, rates_of}
 use Rattle.daa_legs.specs.Trunk.{AreLegsOf}
 use Rattle.daa_legs.specs.declared.own_leg.OwnLeg.{OwnLeg}
 use Rattle.daa_legs.proofs.TrunkLemmas.{kept_none, kept_more, next_kept, leg_kept, place_after, place_small, velocity_small}
-use Rattle.daa_legs.proofs.trunk.Trunk.fill.Goals as goal
+use Rattle.daa_legs.proofs.trunk.Trunk.keep_legs.Goals as goal
 
 pub loop-k-init : goal.loop-k-init
 loop-k-init c = record {
