@@ -33,13 +33,29 @@ pub fn hits(leg: &Leg, volume: &Volume) -> Option<Point>
     nearest_hit(leg, volume)
 }
 
-/// Whether the leg violates the volume at some time.
+/// Whether the leg violates the volume at some time. Most legs stay far away: the box test is made
+/// where the leg is at hand, and only one that may come near is written to memory.
+#[inline(always)]
 pub fn is_hit(leg: &Leg, volume: &Volume) -> bool
     requires leg { IsLegInRange leg.now }
     requires volume { IsVolumeInRange volume.now }
     ensures { IsTrue result ↔ HoldsSometime leg.now.secs (Violates leg.now volume.now) }
 {
-    hits(leg, volume).is_some()
+    if is_far(leg, volume) {
+        return false;
+    }
+    let near = *leg;
+    has_nearest_hit(&near, volume)
+}
+
+/// The same without the box test.
+#[inline(never)]
+fn has_nearest_hit(leg: &Leg, volume: &Volume) -> bool
+    requires leg { IsLegInRange leg.now }
+    requires volume { IsVolumeInRange volume.now }
+    ensures { IsTrue result ↔ HoldsSometime leg.now.secs (Violates leg.now volume.now) }
+{
+    nearest_hit(leg, volume).is_some()
 }
 
 /// As `hits`, without the box test. Within the vertical window the nearest time decides: the first

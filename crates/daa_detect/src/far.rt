@@ -13,6 +13,7 @@ use daa_taumod::Volume;
 
 /// Whether the leg, flown on for `tthr` seconds, stays more than `dthr` off on one side. It takes
 /// two products of 64 bits.
+#[inline(always)]
 pub(crate) fn is_far(leg: &Leg, volume: &Volume) -> bool
     requires leg { IsLegInRange leg.now }
     requires volume { IsVolumeInRange volume.now }
@@ -34,6 +35,7 @@ pub(crate) fn is_far(leg: &Leg, volume: &Volume) -> bool
 
 /// Whether what begins at `begin` and moves at `speed` stays more than `radius` off on one side for
 /// `secs` seconds.
+#[inline(always)]
 fn stays_beyond(begin: i64, speed: i64, secs: u32, radius: u32) -> bool
     requires begin { IsWithin 40000000 begin }
     requires speed { IsWithin 40000 speed }
@@ -44,6 +46,7 @@ fn stays_beyond(begin: i64, speed: i64, secs: u32, radius: u32) -> bool
 }
 
 /// Whether both are more than `radius`, or both less than `-radius`.
+#[inline(always)]
 fn is_beyond(begin: i64, end: i64, radius: u32) -> bool
     ensures { IsTrue result ↔ IsBeyond begin end radius }
 {

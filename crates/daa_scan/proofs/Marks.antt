@@ -114,6 +114,18 @@ module _ (settings : Settings) (own : Own) (aircraft : Traffic) (first l : ℕ) 
     left = λ j candidate b u there. h.left j candidate b (omega (arith, u)) there;
   }
 
+  -- the level lies within the one before, which none of these meets
+  pub marked_nested : (a b : ℕ) → a ≤ b → 1 ≤ l → ((candidate : Candidate) → Meets settings own candidate aircraft (l + 1) → Meets settings own candidate aircraft l)
+      → ((j : ℕ) → j < length masks → a ≤ first + j → first + j < b → bit_at (slice_index masks j) (l - 1) ≡ 1 → ⊥)
+      → AreMarked settings own aircraft first a l masks → AreMarked settings own aircraft first b l masks
+  marked_nested a b on one down clear h = record {
+    done = λ j candidate k d there. ⊎_elim
+        (λ before. h.done j candidate k before there)
+        (λ within. none_nested settings own candidate aircraft l (slice_index masks j) (h.left j candidate k within there) one (down candidate) (clear j k within d))
+        (cases_lt (first + j) a);
+    left = λ j candidate k u there. h.left j candidate k (omega (arith, on, u)) there;
+  }
+
 pub track_first : (s : Settings) → 1 ≡ start_of Track s
 unfolding start_of
 track_first s = refl

@@ -2,7 +2,7 @@
 //! level is gone through, and at each level the kinds: what the candidates of a side share of their
 //! flights is tested once.
 
-ghost use Rattle.std.specs.Prelude.{◌≡◌, ◌-◌, Bool, ◌<◌, ◌≤◌, ◌^◌, ◌↔◌, ◌+◌, ◌⊎◌, ℕ, ℤ, IsTrue, false, length, bit_or, slice_index, slice_get, Some, replicate};
+ghost use Rattle.std.specs.Prelude.{◌≡◌, ◌≢◌, ◌-◌, Bool, ◌<◌, ◌≤◌, ◌^◌, ◌↔◌, ◌+◌, ◌⊎◌, ℕ, ℤ, IsTrue, false, length, bit_or, slice_index, slice_get, Some, replicate};
 ghost use Rattle.std.specs.Int.{bit_at};
 ghost use Rattle.daa_fixed.specs.Leg.{IsLegInRange};
 ghost use Rattle.daa_fixed.specs.Time.{HoldsSometime};
@@ -275,6 +275,11 @@ fn mark_kind(
         return;
     }
     let nested = is_nested(config, l);
+    let from = stretch.from.max(first);
+    let upto = stretch.upto.min(first + masks.len() as u32);
+    if nested && !some_has_level(masks, first, from, upto, l) {
+        return;
+    }
     let begun = Trail {
         walked: seconds.first,
         end: seconds.end,
@@ -284,8 +289,6 @@ fn mark_kind(
         upper: begun,
         lower: begun,
     };
-    let from = stretch.from.max(first);
-    let upto = stretch.upto.min(first + masks.len() as u32);
     for index in from..upto {
         let j = (index - first) as usize;
         masks[j] = next_mask(
@@ -358,6 +361,23 @@ fn next_mask(
     let branch = trunks.branch(index);
     let met = meets_shared(config, own, trunks, aircraft, level, kind, branch, trails);
     with_level(mask, l, met)
+}
+
+/// Whether some mask of those of the candidates from number `from` to before number `upto` of the
+/// whole list has level `l`, where the first mask is that of candidate `first`.
+fn some_has_level(masks: &[u8], first: u32, from: u32, upto: u32, l: u32) -> bool
+    requires from { first ≤ from }
+    requires upto { upto ≤ first + length masks.now }
+    requires some { 1 ≤ l }
+    requires few { l < 8 }
+    ensures { result ≡ false → (j : ℕ) → from ≤ first + j → first + j < upto
+        → bit_at (slice_index masks.now j) (l - 1) ≢ 1 }
+{
+    let mut all = 0;
+    for index in from..upto {
+        all |= masks[(index - first) as usize];
+    }
+    has_level(all, l)
 }
 
 /// Whether a mask has level `l`.

@@ -4,7 +4,7 @@ use Rattle.std.proofs.lemmas.Option.{slice_get-get_or}
 use Rattle.daa_config.specs.declared.candidate.Candidate.TheVariants.{Hold}
 use Rattle.daa_config.specs.Candidates.{candidates_of, start_of, values_of}
 use Rattle.daa_scan.specs.Inside.Marking.{AreMarked}
-use Rattle.daa_scan.proofs.Marks.{of_kind, of_kind_in_range, marked_past, marked_on, marked_next}
+use Rattle.daa_scan.proofs.Marks.{of_kind, of_kind_in_range, marked_past, marked_nested, marked_on, marked_next}
 use Rattle.daa_scan.proofs.Sides.{begun}
 use Rattle.daa_scan.proofs.marking.mark_kind.Goals as goal
 
@@ -15,6 +15,15 @@ returns-then-not-has-clause-masks c = marked_past c.args.config.now c.args.own.n
 pub returns-then-seconds-level-clause-masks : goal.returns-then-seconds-level-clause-masks
 returns-then-seconds-level-clause-masks c = marked_past c.args.config.now c.args.own.now c.args.aircraft.now c.args.first c.args.l c.args.masks.now c.args.kind c.level-level.result.now c.level-level.ensures.accepted c.level-level.ensures.value
     (λ z m. (c.requires.seconds c.level-level.result.now c.level-level.ensures.value).before z m.leg m.before (omega (arith, m.before, c.if-seconds-level.true)) m.violates) c.requires.masks
+
+pub returns-then-not-some_has_level-clause-masks : goal.returns-then-not-some_has_level-clause-masks
+returns-then-not-some_has_level-clause-masks c = marked_nested c.args.config.now c.args.own.now c.args.aircraft.now c.args.first c.args.l c.args.masks.now
+    (start_of c.args.kind c.args.config.now) (start_of c.args.kind c.args.config.now + length (values_of c.args.kind c.args.config.now)) (omega arith)
+    (c.is_nested-nested.ensures.some c.if-nested.true) (λ candidate m. c.is_nested-nested.ensures.nested c.if-nested.true c.args.own.now candidate c.args.aircraft.now m)
+    (λ j b from before has. c.some_has_level.ensures c.if-not-some_has_level.true j
+    (omega (arith, c.max-from.ensures, c.requires.stretch.from, from))
+    (omega (arith, c.min-upto.ensures, c.requires.stretch.upto, before, b)) has)
+    c.requires.masks
 
 pub loop-index-init : goal.loop-index-init
 loop-index-init c = record {
