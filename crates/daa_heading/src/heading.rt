@@ -24,6 +24,19 @@ pub fn velocity(gs: i32, deg: i32) -> Flat
     ensures { result ≡ velocity_of gs deg }
 {
     let (sine, cosine) = unit(deg);
+    velocity_from_unit(gs, sine, cosine)
+}
+
+/// The same along the track of this sine and cosine, times 10000, as `unit` has them.
+pub fn velocity_from_unit(gs: i32, sine: i32, cosine: i32) -> Flat
+    requires gs { IsFrom (pos 0) (pos 10000) gs }
+    requires sine { IsWithin 10000 sine }
+    requires cosine { IsWithin 10000 cosine }
+    ensures { result ≡ record {
+      east = int_div (gs *ℤ sine) (pos 10000);
+      north = int_div (gs *ℤ cosine) (pos 10000);
+    } }
+{
     Flat {
         east: share(gs, sine),
         north: share(gs, cosine),

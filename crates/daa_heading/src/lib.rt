@@ -4,7 +4,7 @@
 
 mod heading;
 
-pub use heading::{sines_are_near_circle, unit, velocity};
+pub use heading::{sines_are_near_circle, unit, velocity, velocity_from_unit};
 
 #[cfg(test)]
 mod tests;

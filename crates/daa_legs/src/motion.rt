@@ -5,14 +5,14 @@ ghost use Rattle.daa_fixed.specs.Toward.{toward_of};
 ghost use Rattle.daa_fixed.specs.Size.{IsFrom, IsWithin};
 ghost use Rattle.daa_config.specs.Settings.{IsCandidateInRange, AreRatesInRange};
 ghost use Rattle.daa_state.specs.InRange.{IsOwnInRange};
-ghost use Rattle.daa_heading.specs.Heading.{velocity_of};
+ghost use Rattle.daa_heading.specs.Heading.{sine_of, cosine_of, velocity_of};
 ghost use Rattle.daa_legs.specs.Branch.{velocity_there};
 ghost use Rattle.daa_legs.specs.Motion.{track_on, ground_speed_on, vertical_speed_on, velocity_on};
 
 use crate::turn::turn;
 use daa_config::{Candidate, Rates};
 use daa_fixed::{Flat, Solid, feet, toward};
-use daa_heading::velocity;
+use daa_heading::{velocity, velocity_from_unit};
 use daa_state::Own;
 
 /// The velocity on leg `k`.
@@ -29,6 +29,31 @@ pub(crate) fn velocity_at(own: &Own, rates: &Rates, candidate: Candidate, k: u32
             ground_speed_at(own, rates, candidate, k),
             track_at(own, rates, candidate, k),
         ),
+        up: vertical_speed_at(own, rates, candidate, k),
+    }
+}
+
+/// The same of a candidate that keeps the present track, whose sine and cosine are known.
+#[inline(always)]
+pub(crate) fn velocity_on_track(
+    own: &Own,
+    rates: &Rates,
+    candidate: Candidate,
+    k: u32,
+    sine: i32,
+    cosine: i32,
+) -> Solid
+    requires own { IsOwnInRange own.now }
+    requires rates { AreRatesInRange rates.now }
+    requires candidate { IsCandidateInRange candidate }
+    requires k { k < 180 }
+    requires keeps { track_on own.now rates.now candidate k ≡ own.now.trk }
+    requires sine { sine ≡ sine_of own.now.trk }
+    requires cosine { cosine ≡ cosine_of own.now.trk }
+    ensures { result ≡ velocity_on own.now rates.now candidate k }
+{
+    Solid {
+        flat: velocity_from_unit(ground_speed_at(own, rates, candidate, k), sine, cosine),
         up: vertical_speed_at(own, rates, candidate, k),
     }
 }

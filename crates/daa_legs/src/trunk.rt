@@ -3,7 +3,7 @@
 ghost use Rattle.std.specs.Prelude.{◌≡◌, ◌≤◌, ◌<◌, length, slice_index_or};
 ghost use Rattle.daa_config.specs.Settings.{IsCandidateInRange, AreRatesInRange, rates_of};
 ghost use Rattle.daa_state.specs.InRange.{IsOwnInRange};
-ghost use Rattle.daa_heading.specs.Heading.{velocity_of};
+ghost use Rattle.daa_heading.specs.Heading.{sine_of, cosine_of, velocity_of};
 ghost use Rattle.daa_legs.specs.Trunk.{AreLegsOf};
 ghost use Rattle.daa_legs.specs.Motion.{velocity_on};
 ghost use Rattle.daa_legs.specs.Table.{IsBranchOf};
@@ -11,11 +11,11 @@ ghost use Rattle.daa_legs.specs.declared.own_leg.OwnLeg.{OwnLeg};
 
 use crate::branch::{Branch, branch_from};
 use crate::flight::{Flight, sum};
-use crate::motion::velocity_from;
+use crate::motion::{velocity_from, velocity_on_track};
 use crate::own_leg::OwnLeg;
 use daa_config::{Candidate, Config, Rates};
 use daa_fixed::{Flat, Solid};
-use daa_heading::velocity;
+use daa_heading::{unit, velocity};
 use daa_state::Own;
 use std::marker::Model;
 
@@ -85,13 +85,14 @@ impl Trunk {
         ensures { AreLegsOf own.now (rates_of config.now) candidate most self.new }
     {
         let rates = config.rates();
+        let track = unit(own.trk);
         let present = velocity(own.gs, own.trk);
         let branch = branch_from(own, &rates, candidate, &present);
         // the place is a local, since a read of what was just written in halves is slow
         let mut flight = Flight::begin(own, config, candidate);
         let mut place = flight.next_leg().place;
         for k in 0..most {
-            let velocity = velocity_by(own, &rates, candidate, k, &present, &branch);
+            let velocity = velocity_by(own, &rates, candidate, k, track, &present, &branch);
             self.legs[k as usize] = OwnLeg { place, velocity };
             place = sum(&place, &velocity);
         }
@@ -107,14 +108,15 @@ impl Trunk {
     }
 }
 
-/// The velocity on leg `k` of the candidate that has this branch, where the present way over ground
-/// of a second is known.
+/// The velocity on leg `k` of the candidate that has this branch, where the sine and cosine of the
+/// present track and the present way over ground of a second are known.
 #[inline(always)]
 fn velocity_by(
     own: &Own,
     rates: &Rates,
     candidate: Candidate,
     k: u32,
+    track: (i32, i32),
     present: &Flat,
     branch: &Branch,
 ) -> Solid
@@ -122,13 +124,17 @@ fn velocity_by(
     requires rates { AreRatesInRange rates.now }
     requires candidate { IsCandidateInRange candidate }
     requires k { k < 180 }
+    requires sine { track.0 ≡ sine_of own.now.trk }
+    requires cosine { track.1 ≡ cosine_of own.now.trk }
     requires present { present.now ≡ velocity_of own.now.gs own.now.trk }
     requires branch { IsBranchOf own.now rates.now candidate branch.now }
     ensures { result ≡ velocity_on own.now rates.now candidate k }
 {
-    if k < branch.settles {
-        velocity_from(own, rates, candidate, k, present)
-    } else {
-        branch.velocity
+    if k >= branch.settles {
+        return branch.velocity;
+    }
+    match candidate {
+        Candidate::Speed(_) => velocity_on_track(own, rates, candidate, k, track.0, track.1),
+        _ => velocity_from(own, rates, candidate, k, present),
     }
 }

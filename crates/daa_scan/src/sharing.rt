@@ -62,6 +62,7 @@ pub(crate) fn walk_on(
 }
 
 /// Whether a leg of the trunk violates the volume.
+#[inline(always)]
 fn violates_on(
     config: &Config,
     own: &Own,
@@ -121,6 +122,7 @@ fn meets_after(
 
 /// Whether the candidate that has this branch, and which is at this place when it leaves the trunk,
 /// meets the aircraft then or later. It leaves by a leg of its own.
+#[inline(always)]
 fn meets_from_own_leg(
     config: &Config,
     own: &Own,
@@ -179,6 +181,7 @@ fn own_leg_of(branch: &Branch, place: &Solid) -> OwnLeg
 
 /// Whether the candidate, which flies straight on from this place at this velocity, meets the
 /// aircraft on leg `k` or later.
+#[inline(always)]
 fn meets_on_rest(
     config: &Config,
     own: &Own,

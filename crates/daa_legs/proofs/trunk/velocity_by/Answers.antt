@@ -1,5 +1,8 @@
-use Rattle.std.proofs.Common.{◌∙◌, sym, arith}
+use Rattle.std.proofs.Common.{ap}
+use Rattle.daa_config.specs.declared.candidate.Candidate.{Candidate}
+use Rattle.daa_legs.specs.Motion.{track_on}
 use Rattle.daa_legs.proofs.trunk.velocity_by.Goals as goal
 
-pub returns-else-k-branch : goal.returns-else-k-branch
-returns-else-k-branch c = c.requires.branch.velocity ∙ sym (c.requires.branch.after.there c.args.k (omega (arith, c.if-k-branch.false)))
+pub velocity_on_track-requires-clause-keeps : goal.velocity_on_track-requires-clause-keeps
+unfolding track_on
+velocity_on_track-requires-clause-keeps c = ap (λ (d : Candidate). track_on c.args.own.now c.args.rates.now d c.args.k) c.in-Speed.is

@@ -24,6 +24,18 @@ velocity_by-velocity-requires-clause-present c =
     let t : FitsSigned w32 c.args.own.now.trk = search rules in
     simp to_z-of_z at c.velocity-present.ensures
 
+pub velocity_by-velocity-requires-clause-sine : goal.velocity_by-velocity-requires-clause-sine
+velocity_by-velocity-requires-clause-sine c =
+    let t : FitsSigned w32 c.args.own.now.trk = search rules in
+    let s : FitsSigned w32 c.unit-track.result.0 = search rules in
+    simp to_z-of_z at c.unit-track.ensures.sine
+
+pub velocity_by-velocity-requires-clause-cosine : goal.velocity_by-velocity-requires-clause-cosine
+velocity_by-velocity-requires-clause-cosine c =
+    let t : FitsSigned w32 c.args.own.now.trk = search rules in
+    let s : FitsSigned w32 c.unit-track.result.1 = search rules in
+    simp to_z-of_z at c.unit-track.ensures.cosine
+
 pub sum-place-requires-clause-x : goal.sum-place-requires-clause-x
 sum-place-requires-clause-x c = place_small c.args.own.now (rates_of c.args.config.now) c.args.candidate c.requires.own (subst (λ (r : Rates). AreRatesInRange r) c.rates-rates.ensures.value c.rates-rates.ensures.in_range) c.requires.candidate c.loop-k.k c.loop-k.place c.velocity_by-velocity.result
     (omega (arith, c.loop-k-test.true, c.requires.most)) c.loop-k.invariant.at

@@ -1,4 +1,4 @@
-use Rattle.std.proofs.Common.{◌≡◌, ◌↔◌, ◌∙◌, ℕ, List, subst, Contains}
+use Rattle.std.proofs.Common.{◌↔◌, ◌∙◌, ℕ, List, subst, Contains}
 use Rattle.std.specs.Prelude.{IsTrue}
 use Rattle.daa_scan.specs.SceneState.{SceneState, MeetsAt}
 use Rattle.daa_scan.specs.Reach.{IsInReachAt}
