@@ -49,7 +49,7 @@ pub fn unit(deg: i32) -> (i32, i32)
     ensures sine { result.0 ≡ sine_of deg }
     ensures cosine { result.1 ≡ cosine_of deg }
 {
-    (sine(deg), sine((90 - deg).rem_euclid(360)))
+    (sine(deg), cosine(deg))
 }
 
 /// A law of the table: at each of the 360 degrees the squares of sine and cosine add up to
@@ -66,6 +66,18 @@ fn share(gs: i32, part: i32) -> i64
     ensures { result ≡ int_div (gs *ℤ part) (pos 10000) }
 {
     i64::from(gs * part / 10000)
+}
+
+/// The cosine of 0 to 359 degrees, by the sine of the angle to 90 degrees.
+fn cosine(deg: i32) -> i32
+    requires { IsFrom (pos 0) (pos 359) deg }
+    ensures { result ≡ cosine_of deg }
+{
+    if deg <= 90 {
+        sine(90 - deg)
+    } else {
+        sine(450 - deg)
+    }
 }
 
 /// The sine of 0 to 359 degrees.
