@@ -425,6 +425,63 @@ fn each_fault_has_a_sentence(rt: HostRuntime) -> Result<(), Fail> {
     Ok(())
 }
 
+static PICTURE_SENTENCES: [(PictureFault, &str); 4] = [
+    (PictureFault::TooMany, "there are more than 64 aircraft"),
+    (
+        PictureFault::Own(OutOfRange {
+            field: Field::Altitude,
+            least: -2000,
+            greatest: 60000,
+        }),
+        "of the ownship, alt (ft) is not -2000 to 60000",
+    ),
+    (
+        PictureFault::Traffic(
+            63,
+            OutOfRange {
+                field: Field::SpeedEast,
+                least: -10000,
+                greatest: 10000,
+            },
+        ),
+        "of aircraft 63, vx (0.1 kt) is not -10000 to 10000",
+    ),
+    (
+        PictureFault::SameId(1),
+        "aircraft 1 has an earlier one's identifier",
+    ),
+];
+
+static NUMBER_SENTENCES: [(Field, &str); 9] = [
+    (Field::East, "x (0.001 NM) is not -1 to 7"),
+    (Field::North, "y (0.001 NM) is not -1 to 7"),
+    (Field::Altitude, "alt (ft) is not -1 to 7"),
+    (Field::Track, "trk (degrees) is not -1 to 7"),
+    (Field::GroundSpeed, "gs (0.1 kt) is not -1 to 7"),
+    (Field::VerticalSpeed, "vs (ft/min) is not -1 to 7"),
+    (Field::SpeedEast, "vx (0.1 kt) is not -1 to 7"),
+    (Field::SpeedNorth, "vy (0.1 kt) is not -1 to 7"),
+    (Field::Age, "age (s) is not -1 to 7"),
+];
+
+#[test]
+fn each_fault_of_a_picture_has_a_sentence(rt: HostRuntime) -> Result<(), Fail> {
+    for (fault, wanted) in PICTURE_SENTENCES {
+        let sentence = sentence_of(rt.alloc(), fault)?;
+        assert!(rt; sentence.as_str() == wanted, "{sentence}");
+    }
+    for (field, wanted) in NUMBER_SENTENCES {
+        let fault = OutOfRange {
+            field,
+            least: -1,
+            greatest: 7,
+        };
+        let sentence = sentence_of(rt.alloc(), fault)?;
+        assert!(rt; sentence.as_str() == wanted, "{sentence}");
+    }
+    Ok(())
+}
+
 fn may_be_sent<T: Send>() {}
 
 /// The check refuses a type that may not be sent between threads.
@@ -433,5 +490,8 @@ fn values_may_be_sent() {
     may_be_sent::<Picture>();
     may_be_sent::<Word>();
     may_be_sent::<LineFault>();
+    may_be_sent::<PictureFault>();
+    may_be_sent::<OutOfRange>();
+    may_be_sent::<Field>();
     may_be_sent::<Traffic>();
 }
