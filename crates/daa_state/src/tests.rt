@@ -425,33 +425,6 @@ fn each_fault_has_a_sentence(rt: HostRuntime) -> Result<(), Fail> {
     Ok(())
 }
 
-static PICTURE_SENTENCES: [(PictureFault, &str); 4] = [
-    (PictureFault::TooMany, "there are more than 64 aircraft"),
-    (
-        PictureFault::Own(OutOfRange {
-            field: Field::Altitude,
-            least: -2000,
-            greatest: 60000,
-        }),
-        "of the ownship, alt (ft) is not -2000 to 60000",
-    ),
-    (
-        PictureFault::Traffic(
-            63,
-            OutOfRange {
-                field: Field::SpeedEast,
-                least: -10000,
-                greatest: 10000,
-            },
-        ),
-        "of aircraft 63, vx (0.1 kt) is not -10000 to 10000",
-    ),
-    (
-        PictureFault::SameId(1),
-        "aircraft 1 has an earlier one's identifier",
-    ),
-];
-
 static NUMBER_SENTENCES: [(Field, &str); 9] = [
     (Field::East, "x (0.001 NM) is not -1 to 7"),
     (Field::North, "y (0.001 NM) is not -1 to 7"),
@@ -464,21 +437,34 @@ static NUMBER_SENTENCES: [(Field, &str); 9] = [
     (Field::Age, "age (s) is not -1 to 7"),
 ];
 
+/// Of a number that is not -1 to 7.
+fn outside(field: Field) -> OutOfRange {
+    OutOfRange {
+        field,
+        least: -1,
+        greatest: 7,
+    }
+}
+
+#[test]
+fn each_fault_of_a_number_has_a_sentence(rt: HostRuntime) -> Result<(), Fail> {
+    for (field, wanted) in NUMBER_SENTENCES {
+        let sentence = sentence_of(rt.alloc(), outside(field))?;
+        assert!(rt; sentence.as_str() == wanted, "{sentence}");
+    }
+    Ok(())
+}
+
 #[test]
 fn each_fault_of_a_picture_has_a_sentence(rt: HostRuntime) -> Result<(), Fail> {
-    for (fault, wanted) in PICTURE_SENTENCES {
-        let sentence = sentence_of(rt.alloc(), fault)?;
-        assert!(rt; sentence.as_str() == wanted, "{sentence}");
-    }
-    for (field, wanted) in NUMBER_SENTENCES {
-        let fault = OutOfRange {
-            field,
-            least: -1,
-            greatest: 7,
-        };
-        let sentence = sentence_of(rt.alloc(), fault)?;
-        assert!(rt; sentence.as_str() == wanted, "{sentence}");
-    }
+    let many = sentence_of(rt.alloc(), PictureFault::TooMany)?;
+    assert_eq!(rt; many.as_str(), "there are more than 64 aircraft");
+    let own = sentence_of(rt.alloc(), PictureFault::Own(outside(Field::Altitude)))?;
+    assert_eq!(rt; own.as_str(), "of the ownship, alt (ft) is not -1 to 7");
+    let other = sentence_of(rt.alloc(), PictureFault::Traffic(63, outside(Field::Age)))?;
+    assert_eq!(rt; other.as_str(), "of aircraft 63, age (s) is not -1 to 7");
+    let twice = sentence_of(rt.alloc(), PictureFault::SameId(1))?;
+    assert_eq!(rt; twice.as_str(), "aircraft 1 has an earlier one's identifier");
     Ok(())
 }
 
