@@ -464,7 +464,10 @@ fn each_fault_of_a_picture_has_a_sentence(rt: HostRuntime) -> Result<(), Fail> {
     let other = sentence_of(rt.alloc(), PictureFault::Traffic(63, outside(Field::Age)))?;
     assert_eq!(rt; other.as_str(), "of aircraft 63, age (s) is not -1 to 7");
     let twice = sentence_of(rt.alloc(), PictureFault::SameId(1))?;
-    assert_eq!(rt; twice.as_str(), "aircraft 1 has an earlier one's identifier");
+    assert_eq!(rt;
+        twice.as_str(),
+        "aircraft 1 has an earlier one's identifier"
+    );
     Ok(())
 }
 
