@@ -1,13 +1,11 @@
-//! Fills a board with what the candidates of a moment meet, aircraft by aircraft.
+//! Fills a board with what the candidates of a moment meet, aircraft by aircraft. What a board has
+//! already is not looked for again.
 
-ghost use Rattle.std.specs.Prelude.{◌<◌, ◌≡◌, length};
+ghost use Rattle.std.specs.Prelude.{◌≡◌, length};
 ghost use Rattle.daa_bands.specs.Board.{IsBoardOf};
-ghost use Rattle.daa_config.specs.Candidates.{candidates_of};
 ghost use Rattle.daa_state.specs.InRange.{IsPictureInRange};
-ghost use Rattle.daa_state.specs.Picture.{aircraft_of};
 ghost use Rattle.daa_scan.specs.Trunks.{AreFlightsOf};
-ghost use Rattle.daa_engine.specs.Covered.{CoveredAt, scene_of};
-ghost use Rattle.daa_engine.specs.Inside.Filling.{AddsAircraft};
+ghost use Rattle.daa_engine.specs.Covered.{CoveredAt};
 
 use daa_bands::{BOARD_MASKS, Board};
 use daa_config::Config;
@@ -29,37 +27,12 @@ pub(crate) fn fill(
     requires flights { AreFlightsOf config.now picture.now needs trunks.now branches.now }
     ensures { IsBoardOf (CoveredAt config.now picture.now) config.now board.new }
 {
+    // ensures that there is a mask for each candidate
+    let _total = config.total();
     let scene = Scene::of(config, picture, trunks, branches, needs);
-    board.clear();
-    // room for what an aircraft adds
     let mut masks = [0u8; BOARD_MASKS];
     for place in 0..picture.traffic.len() as u32 {
-        mark_aircraft(board, &scene, config, place, &mut masks);
+        scene.add_levels(place, &mut masks);
     }
-}
-
-/// Marks the levels at which each candidate meets an aircraft: none where no candidate can reach
-/// it. The masks are room for them.
-fn mark_aircraft(
-    board: &mut Board,
-    scene: &Scene,
-    config: &Config,
-    place: u32,
-    masks: &mut [u8; BOARD_MASKS],
-)
-    requires config { scene.now.settings ≡ config.now }
-    requires place { place < length (aircraft_of scene.now.picture) }
-    ensures { AddsAircraft scene.now place
-        (length (candidates_of scene.now.settings)) board.old board.new }
-{
-    if !scene.in_reach(place) {
-        return;
-    }
-    let total = config.total();
-    let masks = &mut masks[..total as usize];
-    masks.fill(0);
-    scene.levels_from(0, place, masks);
-    for index in 0..total {
-        board.mark(index, masks[index as usize]);
-    }
+    *board = Board::of(&masks);
 }

@@ -18,6 +18,7 @@ const SINES: [u16; 91] = [
 
 /// The velocity at a ground speed of 0 to 10000 (in 0.1 knot) and a track of 0 to 359 degrees,
 /// clockwise from north. Each axis is the ground speed's share along it, cut toward zero.
+#[inline(always)]
 pub fn velocity(gs: i32, deg: i32) -> Flat
     requires gs { IsFrom (pos 0) (pos 10000) gs }
     requires deg { IsFrom (pos 0) (pos 359) deg }
@@ -28,6 +29,7 @@ pub fn velocity(gs: i32, deg: i32) -> Flat
 }
 
 /// The same along the track of this sine and cosine, times 10000, as `unit` has them.
+#[inline(always)]
 pub fn velocity_from_unit(gs: i32, sine: i32, cosine: i32) -> Flat
     requires gs { IsFrom (pos 0) (pos 10000) gs }
     requires sine { IsWithin 10000 sine }
@@ -44,6 +46,7 @@ pub fn velocity_from_unit(gs: i32, sine: i32, cosine: i32) -> Flat
 }
 
 /// Sine and cosine of 0 to 359 degrees, times 10000, as the table has them.
+#[inline(always)]
 pub fn unit(deg: i32) -> (i32, i32)
     requires { IsFrom (pos 0) (pos 359) deg }
     ensures sine { result.0 ≡ sine_of deg }

@@ -1,7 +1,8 @@
 -- A candidate's flight and the one that leads on its side.
-use Rattle.std.proofs.Common.{◌≡◌, ℕ, ◌+◌, ◌/◌, ◌<◌, ◌≤◌, refl, sym, subst, ◌∙◌, ◌-◌, ◌⊎◌, inl, inr, ⊎_elim, arith, Bool, true, false, ℤ, pos, negsuc, ◌+ℤ◌, ◌-ℤ◌, ◌*ℤ◌, ◌≤ℤ◌}
+use Rattle.std.proofs.Common.{◌≡◌, ℕ, ◌+◌, ◌*◌, ◌/◌, ◌<◌, ◌≤◌, refl, sym, subst, ◌∙◌, ◌-◌, ◌⊎◌, inl, inr, ⊎_elim, arith, Bool, true, false, ℤ, pos, negsuc, ◌+ℤ◌, ◌-ℤ◌, ◌*ℤ◌, ◌≤ℤ◌}
 use Rattle.std.proofs.lemmas.Bool.{cases_lt}
 use Rattle.std.proofs.lemmas.Int.{ints, int_max_is, int_min_is}
+use Rattle.std.proofs.lemmas.Nat.{mul-le}
 use Rattle.std.proofs.Math.Nat.{le-div_iff_mul-le}
 use Rattle.std.specs.Prelude.{IsTrue, nat_abs}
 use Rattle.std.specs.Int.{int_min}
@@ -69,6 +70,18 @@ pub whole_z : (way rate : ℤ) (n : ℕ) → pos 0 ≤ℤ way → pos 1 ≤ℤ r
 whole_z (pos way) (pos rate) n h k e = whole way rate n (omega (arith, ints, k)) e
 whole_z (negsuc way) rate n h k e = absurd (omega (arith, ints, h))
 whole_z (pos way) (negsuc rate) n h k e = absurd (omega (arith, ints, k))
+
+-- the same by what is flown and what is left
+pub whole_near : (way rate n : ℕ) → n * rate ≤ way → way ≤ n * rate + rate → IsWholeLegs (pos way) (pos rate) n
+whole_near way rate n low high = record {
+  before = λ k h. let m = mul-le (k + 1) rate n rate (omega (arith, h)) (omega arith) in omega (arith, ints, m, low);
+  after = λ k h. let m = mul-le (n + 1) rate k rate (omega (arith, h)) (omega arith) in let e : (n + 1) * rate ≡ n * rate + rate = omega arith in omega (arith, ints, m, e, high);
+}
+
+pub whole_near_z : (way rate : ℤ) (n : ℕ) → pos 0 ≤ℤ way → pos 1 ≤ℤ rate → n * nat_abs rate ≤ nat_abs way → nat_abs way ≤ n * nat_abs rate + nat_abs rate → IsWholeLegs way rate n
+whole_near_z (pos way) (pos rate) n h k low high = whole_near way rate n low high
+whole_near_z (negsuc way) rate n h k low high = absurd (omega (arith, ints, h))
+whole_near_z (pos way) (negsuc rate) n h k low high = absurd (omega (arith, ints, k))
 
 -- ---- of flights
 module _ (own : Own) (rates : Rates) where

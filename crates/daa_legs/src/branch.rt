@@ -1,6 +1,6 @@
 //! How a candidate's flight leaves the one that leads on its side.
 
-ghost use Rattle.std.specs.Prelude.{◌≡◌, ◌≤◌, ◌<◌, ◌+◌, ℤ, ◌≤ℤ◌, ◌+ℤ◌, ◌-ℤ◌, ◌*ℤ◌, pos, negsuc, true, false, IsTrue};
+ghost use Rattle.std.specs.Prelude.{◌≡◌, ◌≤◌, ◌<◌, ◌+◌, ◌*◌, ◌^◌, ℤ, ◌≤ℤ◌, ◌+ℤ◌, ◌-ℤ◌, ◌*ℤ◌, pos, negsuc, true, false, IsTrue};
 ghost use Rattle.daa_fixed.specs.Size.{IsFrom, IsWithin};
 ghost use Rattle.daa_config.specs.Settings.{IsCandidateInRange, AreRatesInRange};
 ghost use Rattle.daa_config.specs.declared.candidate.Candidate.{Candidate};
@@ -77,19 +77,27 @@ pub fn branch_of(own: &Own, rates: &Rates, candidate: Candidate) -> Branch
     requires candidate { IsCandidateInRange candidate }
     ensures { IsBranchOf own.now rates.now candidate result }
 {
-    branch_from(own, rates, candidate, &velocity(own.gs, own.trk))
+    branch_from(own, rates, candidate, &velocity(own.gs, own.trk), 0)
 }
 
-/// The same, where the present way over ground of a second is known.
+/// The same, where the present way over ground of a second is known, and how many 2^32nds of a
+/// second a unit of the candidate's kind takes, which saves a division where it is right.
 #[inline(always)]
-pub fn branch_from(own: &Own, rates: &Rates, candidate: Candidate, present: &Flat) -> Branch
+pub fn branch_from(
+    own: &Own,
+    rates: &Rates,
+    candidate: Candidate,
+    present: &Flat,
+    share: u64,
+) -> Branch
     requires own { IsOwnInRange own.now }
     requires rates { AreRatesInRange rates.now }
     requires candidate { IsCandidateInRange candidate }
+    requires share { share ≤ 2 ^ 32 }
     requires present { present.now ≡ velocity_of own.now.gs own.now.trk }
     ensures { IsBranchOf own.now rates.now candidate result }
 {
-    let parting = parting_of(own, rates, candidate);
+    let parting = parting_of(own, rates, candidate, share);
     Branch {
         velocity: velocity_at_end(own, candidate, present),
         rise: parting.rise,
@@ -101,10 +109,11 @@ pub fn branch_from(own: &Own, rates: &Rates, candidate: Candidate, present: &Fla
 
 /// Where the candidate's flight leaves the leading one.
 #[inline(always)]
-fn parting_of(own: &Own, rates: &Rates, candidate: Candidate) -> Parting
+fn parting_of(own: &Own, rates: &Rates, candidate: Candidate, share: u64) -> Parting
     requires own { IsOwnInRange own.now }
     requires rates { AreRatesInRange rates.now }
     requires candidate { IsCandidateInRange candidate }
+    requires share { share ≤ 2 ^ 32 }
     ensures before { FliesAs own.now rates.now candidate
         (lead_of own.now candidate result.upper) result.leaves }
     ensures after { FliesOn own.now rates.now candidate result.settles }
@@ -121,13 +130,17 @@ fn parting_of(own: &Own, rates: &Rates, candidate: Candidate) -> Parting
             settles: 0,
             rise: 0,
         },
-        Candidate::Track(c) => parting_after(turn_away(own.trk, c, rates.turn)),
-        Candidate::Speed(g) => parting_after(way_to(i64::from(own.gs), i64::from(g), rates.gs)),
-        Candidate::Climb(w) => parting_after(way_to(i64::from(own.vs), i64::from(w), rates.vs)),
+        Candidate::Track(c) => parting_after(turn_away(own.trk, c, rates.turn, share)),
+        Candidate::Speed(g) => {
+            parting_after(way_to(i64::from(own.gs), i64::from(g), rates.gs, share))
+        }
+        Candidate::Climb(w) => {
+            parting_after(way_to(i64::from(own.vs), i64::from(w), rates.vs, share))
+        }
         Candidate::Height(a) => {
             let now = feet(own.alt);
             let target = feet(a);
-            let way = way_to(now, target, rates.alt);
+            let way = way_to(now, target, rates.alt, share);
             let rise = rest_of(now, target, rates.alt, way);
             if rise == 0 {
                 parting_at(way)
@@ -193,10 +206,12 @@ fn parting_short_of(way: Way, rise: i64) -> Parting
 }
 
 /// The turn from a track to another.
-fn turn_away(track: i32, c: i32, rate: i32) -> Way
+#[inline(always)]
+fn turn_away(track: i32, c: i32, rate: i32, share: u64) -> Way
     requires track { IsFrom (pos 0) (pos 359) track }
     requires c { IsFrom (pos 0) (pos 359) c }
     requires rate { IsFrom (pos 1) (pos 10000) rate }
+    requires share { share ≤ 2 ^ 32 }
     ensures right { IsTrue result.upper → right_angle track c ≤ℤ pos 180 }
     ensures left { result.upper ≡ false → pos 181 ≤ℤ right_angle track c }
     ensures right_legs { IsTrue result.upper → IsWholeLegs (right_angle track c) rate result.legs }
@@ -208,21 +223,23 @@ fn turn_away(track: i32, c: i32, rate: i32) -> Way
     if right <= 180 {
         Way {
             upper: true,
-            legs: whole_legs(i64::from(right), rate),
+            legs: whole_legs(i64::from(right), rate, share),
         }
     } else {
         Way {
             upper: false,
-            legs: whole_legs(i64::from(360 - right), rate),
+            legs: whole_legs(i64::from(360 - right), rate, share),
         }
     }
 }
 
 /// The way from a value to another.
-fn way_to(now: i64, target: i64, rate: i32) -> Way
+#[inline(always)]
+fn way_to(now: i64, target: i64, rate: i32, share: u64) -> Way
     requires now { IsWithin 3600000 now }
     requires target { IsWithin 3600000 target }
     requires rate { IsFrom (pos 1) (pos 10000) rate }
+    requires share { share ≤ 2 ^ 32 }
     ensures up { IsTrue result.upper → now ≤ℤ target }
     ensures down { result.upper ≡ false → target ≤ℤ now }
     ensures up_legs { IsTrue result.upper → IsWholeLegs (target -ℤ now) rate result.legs }
@@ -232,12 +249,12 @@ fn way_to(now: i64, target: i64, rate: i32) -> Way
     if now <= target {
         Way {
             upper: true,
-            legs: whole_legs(target - now, rate),
+            legs: whole_legs(target - now, rate, share),
         }
     } else {
         Way {
             upper: false,
-            legs: whole_legs(now - target, rate),
+            legs: whole_legs(now - target, rate, share),
         }
     }
 }
@@ -260,11 +277,66 @@ fn rest_of(now: i64, target: i64, rate: i32, way: Way) -> i64
 }
 
 /// How many whole seconds at a rate fit into a way.
-fn whole_legs(way: i64, rate: i32) -> u32
+#[inline(always)]
+fn whole_legs(way: i64, rate: i32, share: u64) -> u32
     requires way { IsFrom (pos 0) (pos 7200000) way }
     requires rate { IsFrom (pos 1) (pos 10000) rate }
+    requires share { share ≤ 2 ^ 32 }
     ensures legs { IsWholeLegs way rate result }
     ensures few { result ≤ 7200000 }
 {
-    way as u32 / rate as u32
+    legs_by_share(way as u32, rate as u32, share)
+}
+
+/// How often a rate fits into a way. What the share says is tried, and only where it is wrong the
+/// way is divided by the rate.
+#[inline(always)]
+fn legs_by_share(way: u32, rate: u32, share: u64) -> u32
+    requires way { way ≤ 7200000 }
+    requires some { 1 ≤ rate }
+    requires rate { rate ≤ 10000 }
+    requires share { share ≤ 2 ^ 32 }
+    ensures below { result * rate ≤ way }
+    ensures above { way ≤ result * rate + rate }
+    ensures few { result ≤ 7200000 }
+{
+    let guess = shared(way, share);
+    if fits(way, rate, guess) {
+        guess
+    } else {
+        divided(way, rate)
+    }
+}
+
+/// A way's share of seconds.
+#[inline(always)]
+fn shared(way: u32, share: u64) -> u32
+    requires way { way ≤ 7200000 }
+    requires share { share ≤ 2 ^ 32 }
+    ensures { result ≤ 7200000 }
+{
+    ((u64::from(way) * share) >> 32) as u32
+}
+
+/// Whether so many whole seconds at a rate fit into a way, and no more.
+#[inline(always)]
+fn fits(way: u32, rate: u32, legs: u32) -> bool
+    requires few { legs ≤ 7200000 }
+    requires rate { rate ≤ 10000 }
+    ensures { IsTrue result → (legs * rate ≤ way) × (way ≤ legs * rate + rate) }
+{
+    let flown = u64::from(legs) * u64::from(rate);
+    flown <= u64::from(way) && u64::from(way) <= flown + u64::from(rate)
+}
+
+/// The same by a division.
+#[inline(never)]
+fn divided(way: u32, rate: u32) -> u32
+    requires way { way ≤ 7200000 }
+    requires some { 1 ≤ rate }
+    ensures below { result * rate ≤ way }
+    ensures above { way ≤ result * rate + rate }
+    ensures few { result ≤ 7200000 }
+{
+    way / rate
 }

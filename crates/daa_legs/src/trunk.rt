@@ -87,7 +87,7 @@ impl Trunk {
         let rates = config.rates();
         let track = unit(own.trk);
         let present = velocity(own.gs, own.trk);
-        let branch = branch_from(own, &rates, candidate, &present);
+        let branch = branch_from(own, &rates, candidate, &present, 0);
         // the place is a local, since a read of what was just written in halves is slow
         let mut flight = Flight::begin(own, config, candidate);
         let mut place = flight.next_leg().place;

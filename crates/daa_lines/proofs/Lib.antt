@@ -6,3 +6,4 @@ pub mod TakingLemmas
 pub mod FeedingLemmas
 pub mod EndingLemmas
 pub mod GrowsLemmas
+pub mod GrowingLemmas

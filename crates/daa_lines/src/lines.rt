@@ -2,7 +2,7 @@
 //! A line ends at a line feed or with the input. One of 256 bytes or more is long: it is ready as
 //! soon as 256 bytes of it were fed, and the rest of it is skipped.
 
-ghost use Rattle.std.specs.Prelude.{◌≡◌, ◌<◌, ◌≤◌, ◌+◌, ◌^◌, ◌↔◌, ◌⊎◌, ◌++◌, [], ◌∷◌, List, ℕ, length, take, false, true, slice_get};
+ghost use Rattle.std.specs.Prelude.{◌≡◌, ◌<◌, ◌≤◌, ◌+◌, ◌^◌, ◌↔◌, ◌⊎◌, ◌++◌, [], ◌∷◌, List, ℕ, IfSome, length, take, drop, false, true, slice_get, slice_index, ◌==◌};
 ghost use Rattle.daa_lines.specs.LinesOf.{lines_of};
 ghost use Rattle.daa_lines.specs.LinesState.{is_standing};
 ghost use Rattle.daa_lines.specs.Inside.LinesState.{IsSized};
@@ -121,6 +121,57 @@ impl Lines {
         byte == b'\n' || self.has_line()
     }
 
+    /// Takes the first bytes of the piece together, where they make an open line longer and do not
+    /// end it: those before its line feed, as long as it stays shorter than 256. Returns how many.
+    fn grow(&mut self, piece: &[u8]) -> usize
+        requires free { is_standing self.old.stage ≡ false }
+        requires going { self.old.ended ≡ false }
+        requires room { self.old.fed + length piece.now < 2 ^ 63 }
+        ensures within { result ≤ length piece.now }
+        ensures free { is_standing self.new.stage ≡ false }
+        ensures going { self.new.ended ≡ false }
+        ensures fed { self.new.fed ≡ self.old.fed + result }
+        ensures number { self.new.number ≡ self.old.number }
+        ensures taken { bytes_taken self.old.stage self.old.line piece.now
+            ≡ result + bytes_taken self.new.stage self.new.line (drop result piece.now) }
+        ensures kept { (bytes : List ℕ) (taken : List (List ℕ)) → ComesFrom bytes taken self.old
+            → ComesFrom (bytes ++ take result piece.now) taken self.new }
+    {
+        if self.stage != Stage::Open {
+            return 0;
+        }
+        let count = growth(piece, 255 - self.line_length());
+        self.append(&piece[..count]);
+        count
+    }
+
+    /// How long the line in hand is.
+    fn line_length(&self) -> usize
+        requires { self.now.stage ≡ Stage.Open }
+        ensures length { result ≡ length self.now.line }
+        ensures short { result < 256 }
+    {
+        if self.stale { 0 } else { self.line.len() }
+    }
+
+    /// Makes an open line longer.
+    fn append(&mut self, bytes: &[u8])
+        requires open { self.old.stage ≡ Stage.Open }
+        requires room { self.old.fed + length bytes.now < 2 ^ 63 }
+        requires short { length self.old.line + length bytes.now < 256 }
+        ensures { self.new ≡ record self.old {
+          line = self.old.line ++ bytes.now;
+          fed = self.old.fed + length bytes.now;
+        } }
+    {
+        if self.stale {
+            self.line.clear();
+            self.stale = false;
+        }
+        let _fits = self.line.try_extend_from_slice(bytes);
+        self.fed += bytes.len() as u64;
+    }
+
     /// Whether a line is ready that is not taken yet.
     fn has_line(&self) -> bool
         ensures { result ≡ is_standing self.now.stage }
@@ -150,12 +201,24 @@ impl Lines {
         if self.has_line() {
             return 0;
         }
-        for (i, byte) in piece.iter().enumerate() {
-            if self.push(*byte) {
+        let grown = self.grow(piece);
+        for i in grown..piece.len() {
+            if self.push(piece[i]) {
                 return i + 1;
             }
         }
         piece.len()
+    }
+
+    /// The bytes of the line that is ready, if there is one of fewer than 256 bytes. It is not taken.
+    pub fn standing_line(&self) -> Option<&[u8]>
+        ensures { IfSome result (λ bytes. (self.now.stage ≡ Stage.Whole)
+            × (bytes.now ≡ self.now.line)) }
+    {
+        match self.stage {
+            Stage::Whole => Some(self.line.as_slice()),
+            _ => None,
+        }
     }
 
     /// Takes the line that is ready, if there is one. It returns `NotYet` exactly if there is none,
@@ -229,4 +292,17 @@ impl Lines {
     {
         self.number
     }
+}
+
+/// How many bytes there are before the first line feed, but at most `most`.
+fn growth(piece: &[u8], most: usize) -> usize
+    ensures within { result ≤ length piece.now }
+    ensures few { result ≤ most }
+    ensures none { (j : ℕ) → j < result → (slice_index piece.now j == 10) ≡ false }
+{
+    let mut count = 0;
+    while count < most && count < piece.len() && piece[count] != b'\n' {
+        count += 1;
+    }
+    count
 }

@@ -1,6 +1,6 @@
 //! The events of lines: each line is a refusal, an ended moment, or nothing.
 
-ghost use Rattle.std.specs.Prelude.{◌≡◌, ◌<◌, ◌^◌, ◌↔◌, ◌++◌, ◌+◌, List, true, false, IsSome, IfSome, IfOk, ◌∷◌, []};
+ghost use Rattle.std.specs.Prelude.{◌≡◌, ◌<◌, ◌^◌, ◌↔◌, ◌++◌, ◌+◌, List, true, false, IsSome, IfSome, IfOk, Ok, ◌∷◌, []};
 ghost use Rattle.daa_lines.specs.LinesOf.{Bytes};
 ghost use Rattle.daa_lines.specs.LinesState.{is_standing};
 ghost use Rattle.daa_lines.specs.ComesFrom.{ComesFrom, standing};
@@ -11,7 +11,7 @@ ghost use Rattle.daa_replay.specs.declared.lines.Event.{Event};
 ghost use Rattle.daa_replay.specs.Inside.Lines.{Follows, given_with, word_step};
 ghost use Rattle.daa_replay.specs.Lines.{IsEventInRange, events_of, line_event, next_state};
 
-use daa_lines::{Line, Lines};
+use daa_lines::{Line, Lines, Stage};
 use daa_state::{LineFault, Moments, Picture, Word, read_line};
 
 /// A line was refused, under its number, or a moment was ended.
@@ -53,6 +53,55 @@ fn step(moments: &mut Moments, number: u64, word: Result<Word, LineFault>) -> Op
             Err(fault) => Some(Event::Refused(number, fault)),
         },
     }
+}
+
+/// The word of the line that is ready, where that is one of fewer than 256 bytes and is accepted,
+/// read in this format; the line is not taken.
+fn standing_word(lines: &Lines, format: u32) -> Option<Word>
+    requires { IsFormat format }
+    ensures word { IfSome result (λ word. (lines.now.stage ≡ Stage.Whole)
+        × (word_of lines.now.line format ≡ Ok word)) }
+    ensures range { IfSome result IsWordInRange }
+{
+    let bytes = lines.standing_line()?;
+    match read_line(bytes, format) {
+        Ok(word) => Some(word),
+        Err(_) => None,
+    }
+}
+
+/// Passes over the line that is ready.
+fn pass_line(lines: &mut Lines)
+    ensures after { lines.new ≡ after_taking lines.old }
+    ensures kept { (bytes : Bytes) (taken : List Bytes) → ComesFrom bytes taken lines.old
+        → ComesFrom bytes (taken ++ standing lines.old.stage lines.old.line) lines.new }
+{
+    match lines.take_line() {
+        Line::Whole(_) => (),
+        Line::Long => (),
+        Line::NotYet => (),
+    }
+}
+
+/// Takes the line that is ready where it adds to the open moment, as most lines do, and else changes
+/// nothing. It has no event then, and no room for one is made ready.
+#[inline(never)]
+pub(crate) fn takes_addition(lines: &mut Lines, moments: &mut Moments) -> bool
+    ensures free { result ≡ true → is_standing lines.new.stage ≡ false }
+    ensures ended { lines.new.ended ≡ lines.old.ended }
+    ensures fed { lines.new.fed ≡ lines.old.fed }
+    ensures kept { result ≡ true → (bytes : Bytes) (given : List Event)
+        → Follows bytes given lines.old moments.old → Follows bytes given lines.new moments.new }
+    ensures unchanged { result ≡ false → (lines.new ≡ lines.old) × (moments.new ≡ moments.old) }
+{
+    let Some(word) = standing_word(lines, moments.format()) else {
+        return false;
+    };
+    if !moments.adds(&word) {
+        return false;
+    }
+    pass_line(lines);
+    true
 }
 
 /// Takes the line that is ready, if there is one, and returns its event, if it has one.

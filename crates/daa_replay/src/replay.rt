@@ -15,7 +15,7 @@ ghost use Rattle.daa_replay.specs.Outside.{ShelfState, outside};
 ghost use Rattle.daa_replay.specs.Inside.Run.{Replays};
 ghost use Rattle.daa_replay.specs.Inside.Status.{Ends, code_of};
 
-use crate::lines::{Event, take_end, take_event};
+use crate::lines::{Event, take_end, take_event, takes_addition};
 use crate::moment::{Tools, write_event};
 use crate::status::Status;
 use daa_ahead::{Calls, Ended, Taker, ahead, in_turn};
@@ -58,6 +58,31 @@ pub(crate) fn any_refusal(before: bool, event: &Event) -> bool
 
 /// Takes the line that is ready, if there is one, and writes the text of its event.
 fn write_line<R: Threads + Sync, K: Sink, G: Gate>(
+    tools: &Tools<'_, R, G>,
+    engine: &mut Engine,
+    progress: &mut Progress,
+    sink: &mut K,
+) -> Result<(), SinkFault>
+    ensures free { is_standing progress.new.lines.stage ≡ false }
+    ensures ended { progress.new.lines.ended ≡ progress.old.lines.ended }
+    ensures fed { progress.new.lines.fed ≡ progress.old.lines.fed }
+    ensures ok { OnOk result (AfterReport engine.old.settings progress.old (K.taken sink.old)
+        (λ settings first bytes. Reports settings first bytes progress.new (K.taken sink.new))) }
+    ensures err { OnErr result (AfterReport engine.old.settings progress.old (K.taken sink.old)
+        (λ settings first bytes. TakesFront settings first
+        (K.taken sink.new) bytes progress.old.lines.ended)) }
+    ensures same { engine.new.settings ≡ engine.old.settings }
+    ensures cause { HasCause (K.faults sink.old) (K.faults sink.new) result }
+{
+    if takes_addition(&mut progress.lines, &mut progress.moments) {
+        return Ok(());
+    }
+    write_next(tools, engine, progress, sink)
+}
+
+/// The same of any line. It has room for a moment, which only the lines that end one need.
+#[inline(never)]
+fn write_next<R: Threads + Sync, K: Sink, G: Gate>(
     tools: &Tools<'_, R, G>,
     engine: &mut Engine,
     progress: &mut Progress,

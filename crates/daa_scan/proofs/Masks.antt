@@ -1,10 +1,11 @@
 -- The bits of a mask, level by level.
-use Rattle.std.proofs.Common.{◌≡◌, ◌≢◌, ℕ, ◌+◌, ◌-◌, ◌^◌, ◌<◌, ◌≤◌, sym, subst, ap, ◌∙◌, arith, ⊎_elim}
+use Rattle.std.proofs.Common.{◌≡◌, ◌≢◌, ◌⊎◌, ℕ, ◌+◌, ◌-◌, ◌^◌, ◌<◌, ◌≤◌, inl, inr, sym, subst, ap, ◌∙◌, arith, ⊎_elim}
 use Rattle.std.specs.Prelude.{bit_or}
 use Rattle.std.specs.Int.{bit_at}
 use Rattle.std.proofs.lemmas.Bool.{cases_eq, cases_lt}
 use Rattle.std.proofs.lemmas.Nat.Bits.{bit_at_or, bit_at-pow_same, bit_at-pow_other, bit_at-zero, bit_at-lt}
-use Rattle.daa_fixed.specs.Mask.{IsMaskOf}
+use Rattle.daa_fixed.specs.Mask.{HasLevel, IsMaskOf}
+use Rattle.daa_scan.specs.Adding.{AddsLevels}
 
 set_same : (a l : ℕ) → bit_at (bit_or a (2 ^ l)) l ≡ 1
 set_same a l = omega (arith, bit_at_or a (2 ^ l) l, bit_at-pow_same l, bit_at-lt a l)
@@ -16,20 +17,19 @@ below : (l j : ℕ) → j ≤ l + 1 → (j ≡ l + 1 → ⊥) → j ≤ l
 below l j h n = ⊎_elim (λ k. omega (arith, k)) (λ k. absurd (n (omega (arith, h, k)))) (cases_lt j (l + 1))
 
 module _ (Holds : ℕ → Type 0) where
-  pub mask_start : IsMaskOf Holds 0 0
-  mask_start = record {
-    each = λ l h k. absurd (omega (arith, h, k));
-    none_above = λ l h b. let z = bit_at-zero (l - 1) in absurd (omega (arith, z, b));
-  }
+  pub add_start : (mask : ℕ) → AddsLevels Holds 0 mask mask
+  add_start mask l one = ((λ b. inl b), (λ s. ⊎_elim (λ b. b) (λ (w, x). absurd (omega (arith, one, w))) s))
 
-  pub mask_set : (l mask : ℕ) → IsMaskOf Holds l mask → Holds (l + 1) → IsMaskOf Holds (l + 1) (bit_or mask (2 ^ l))
-  mask_set l mask h m = record {
-    each = λ j one upto. ⊎_elim
-        (λ e. let here : bit_at (bit_or mask (2 ^ l)) (j - 1) ≡ 1 = ap (bit_at (bit_or mask (2 ^ l))) (before j one e) ∙ set_same mask l in ((λ _. subst Holds (sym e) m), (λ _. here)))
-        (λ n. let o = set_other mask l (j - 1) (apart j one n) in let is = h.each j one (below l j upto n) in ((λ b. is.0 (sym o ∙ b)), (λ x. o ∙ is.1 x)))
-        (cases_eq j (l + 1));
-    none_above = λ j over b. h.none_above j (omega (arith, over)) (sym (set_other mask l (j - 1) (beyond j over)) ∙ b);
-  }
+  wider : (l j old : ℕ) → HasLevel old j ⊎ ((j ≤ l) × Holds j) → HasLevel old j ⊎ ((j ≤ l + 1) × Holds j)
+  wider l j old s = ⊎_elim (λ b. inl b) (λ (w, x). inr (omega (arith, w), x)) s
+
+  pub add_set : (l old mask : ℕ) → AddsLevels Holds l old mask → Holds (l + 1) → AddsLevels Holds (l + 1) old (bit_or mask (2 ^ l))
+  add_set l old mask h m j one = ⊎_elim
+      (λ e. let here : bit_at (bit_or mask (2 ^ l)) (j - 1) ≡ 1 = ap (bit_at (bit_or mask (2 ^ l))) (before j one e) ∙ set_same mask l in
+          ((λ _. inr (omega (arith, e), subst Holds (sym e) m)), (λ _. here)))
+      (λ n. let o = set_other mask l (j - 1) (apart j one n) in let is = h j one in
+          ((λ b. wider l j old (is.0 (sym o ∙ b))), (λ s. o ∙ is.1 (⊎_elim (λ b. inl b) (λ (w, x). inr (below l j w n, x)) s))))
+      (cases_eq j (l + 1))
     where
       before : (j : ℕ) → 1 ≤ j → j ≡ l + 1 → j - 1 ≡ l
       before j h e = omega (arith, h, e)
@@ -37,14 +37,32 @@ module _ (Holds : ℕ → Type 0) where
       apart : (j : ℕ) → 1 ≤ j → (j ≡ l + 1 → ⊥) → j - 1 ≢ l
       apart j h n e = n (omega (arith, h, e))
 
-      beyond : (j : ℕ) → l + 1 < j → j - 1 ≢ l
-      beyond j h e = absurd (omega (arith, h, e))
+  -- the next level is there already if it holds
+  pub add_keep : (l old mask : ℕ) → AddsLevels Holds l old mask → (Holds (l + 1) → HasLevel mask (l + 1)) → AddsLevels Holds (l + 1) old mask
+  add_keep l old mask h k j one = let is = h j one in (
+    (λ b. wider l j old (is.0 b)),
+    (λ s. ⊎_elim
+        (λ b. is.1 (inl b))
+        (λ (w, x). ⊎_elim
+            (λ e. subst (λ (i : ℕ). HasLevel mask i) (sym e) (k (subst Holds e x)))
+            (λ n. is.1 (inr (below l j w n, x)))
+            (cases_eq j (l + 1)))
+        s),
+  )
 
-  pub mask_keep : (l mask : ℕ) → IsMaskOf Holds l mask → ¬ Holds (l + 1) → IsMaskOf Holds (l + 1) mask
-  mask_keep l mask h m = record {
-    each = λ j one upto. ⊎_elim
-        (λ e. ((λ b. absurd (h.none_above j (omega (arith, e)) b)), (λ x. absurd (m (subst Holds e x)))))
-        (λ n. h.each j one (below l j upto n))
-        (cases_eq j (l + 1));
-    none_above = λ j over b. h.none_above j (omega (arith, over)) b;
-  }
+  -- what holds up to a level was added
+  pub was_added : (l old mask : ℕ) → AddsLevels Holds l old mask → 1 ≤ l → Holds l → HasLevel mask l
+  was_added l old mask h one x = (h l one).1 (inr (omega arith, x))
+
+-- what is added to no level
+pub mask_of_added : (Holds : ℕ → Type 0) (top mask : ℕ) → AddsLevels Holds top 0 mask → IsMaskOf Holds top mask
+mask_of_added Holds top mask h = record {
+  each = λ l one upto. (
+    (λ b. ⊎_elim (λ z. absurd (no_level l z)) (λ (w, x). x) ((h l one).0 b)),
+    (λ x. (h l one).1 (inr (upto, x))),
+  );
+  none_above = λ l over b. ⊎_elim (λ z. no_level l z) (λ (w, x). absurd (omega (arith, w, over))) ((h l (omega (arith, over))).0 b);
+}
+  where
+    no_level : (l : ℕ) → HasLevel 0 l → ⊥
+    no_level l b = let z = bit_at-zero (l - 1) in omega (arith, z, b)

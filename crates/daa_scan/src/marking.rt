@@ -2,13 +2,12 @@
 //! level is gone through, and at each level the kinds: what the candidates of a side share of their
 //! flights is tested once.
 
-ghost use Rattle.std.specs.Prelude.{◌≡◌, ◌≢◌, ◌-◌, Bool, ◌<◌, ◌≤◌, ◌^◌, ◌↔◌, ◌+◌, ◌⊎◌, ℕ, ℤ, IsTrue, false, length, bit_or, slice_index, slice_get, Some, replicate};
+ghost use Rattle.std.specs.Prelude.{◌≡◌, ◌≢◌, ◌-◌, Bool, ◌<◌, ◌≤◌, ◌^◌, ◌↔◌, ◌+◌, ◌⊎◌, ℕ, ℤ, IsTrue, List, false, length, bit_or, slice_index, slice_get, Some};
 ghost use Rattle.std.specs.Int.{bit_at};
 ghost use Rattle.daa_fixed.specs.Leg.{IsLegInRange};
 ghost use Rattle.daa_fixed.specs.Time.{HoldsSometime};
 ghost use Rattle.daa_taumod.specs.Volume.{IsVolumeInRange, Violates};
 ghost use Rattle.daa_config.specs.Candidates.{candidate_to, candidates_of, start_of, values_of};
-ghost use Rattle.daa_fixed.specs.Mask.{IsMaskOf};
 ghost use Rattle.daa_config.specs.Settings.{IsCandidateInRange, IsLevelAt, IsLevelInRange, IsInBounds, value_bounds, rates_of};
 ghost use Rattle.daa_config.specs.declared.candidate.Candidate.{Candidate};
 ghost use Rattle.daa_state.specs.declared.word.Own.{Own};
@@ -18,6 +17,7 @@ ghost use Rattle.daa_legs.specs.Branch.{lead_of};
 ghost use Rattle.daa_legs.specs.Table.{IsBranchOf};
 ghost use Rattle.daa_legs.specs.Trunk.{AreLegsOf};
 ghost use Rattle.daa_legs.specs.Meeting.{MeetsWithin, Meets, ViolatesOn};
+ghost use Rattle.daa_scan.specs.Adding.{AddsLevels};
 ghost use Rattle.daa_scan.specs.Inside.Refusal.{AreSecondsAt};
 ghost use Rattle.daa_scan.specs.Inside.Sharing.{IsTrailOf};
 ghost use Rattle.daa_scan.specs.Trunks.{trunk_in, is_needed, AreIdle};
@@ -26,7 +26,7 @@ ghost use Rattle.daa_scan.specs.Inside.Marking.{AreTrailsOf, AreMarked, AreMasks
 
 use crate::nesting::lies_within;
 use crate::refusal::{Seconds, present_leg, seconds_in_height, seconds_in_plane};
-use crate::sharing::{meets_by_branch, walk_on};
+use crate::sharing::{meets_by_branch, walk_ahead};
 use crate::trail::Trail;
 use crate::trunks::{Trunks, lead_to};
 use daa_config::{Candidate, Config, Kind, Level};
@@ -34,6 +34,9 @@ use daa_detect::is_hit;
 use daa_fixed::Leg;
 use daa_legs::{Branch, Trunk};
 use daa_state::{Own, Traffic};
+
+/// So many candidates are passed over by one look at their masks, where none of them is asked.
+const TOGETHER: u32 = 16;
 
 /// How far the flights that lead on both sides of a kind were walked.
 #[derive(Clone, Copy, Debug)]
@@ -59,8 +62,8 @@ pub(crate) struct Stretches {
     pub(crate) heights: Stretch,
 }
 
-/// Sets the masks, which are 0, to those of the candidates from number `first` of the whole list
-/// on. Places past the list are as they were.
+/// Adds to the masks, which are those of the candidates from number `first` of the whole list on,
+/// the levels at which each meets the aircraft. A level that is there already is not tested.
 pub(crate) fn mark_levels(
     config: &Config,
     own: &Own,
@@ -73,10 +76,9 @@ pub(crate) fn mark_levels(
     requires aircraft { IsTrafficInRange aircraft.now }
     requires trunks { AreTrunksOf config.now own.now trunks.now }
     requires short { first + length masks.old < 2 ^ 32 }
-    requires clear { masks.old ≡ replicate (length masks.old) 0 }
     requires idle { AreIdle config.now own.now aircraft.now trunks.now.needs }
     ensures masks { AreMasks config.now own.now aircraft.now first
-        (length config.now.levels) masks.new }
+        (length config.now.levels) masks.old masks.new }
     ensures length { length masks.new ≡ length masks.old }
 {
     let stretches = stretches_of(config);
@@ -126,9 +128,10 @@ fn mark_level(
     requires few { l < 8 }
     requires stretches { AreStretchesOf config.now stretches.now }
     requires short { first + length masks.old < 2 ^ 32 }
-    requires masks { AreMasks config.now own.now aircraft.now first l masks.old }
     requires idle { AreIdle config.now own.now aircraft.now trunks.now.needs }
-    ensures masks { AreMasks config.now own.now aircraft.now first (l + 1) masks.new }
+    ensures masks { (before : List ℕ)
+        → AreMasks config.now own.now aircraft.now first l before masks.old
+        → AreMasks config.now own.now aircraft.now first (l + 1) before masks.new }
     ensures length { length masks.new ≡ length masks.old }
 {
     let level = config.level(l + 1);
@@ -205,8 +208,9 @@ fn mark_present(
     requires seconds { HoldsSometime present.now.secs (Violates present.now level.now.volume)
         ↔ MeetsWithin config.now own.now Candidate.Hold aircraft.now
         level.now.volume level.now.lookahead }
-    requires masks { AreMasks config.now own.now aircraft.now first l masks.old }
-    ensures masks { AreMarked config.now own.now aircraft.now first 1 l masks.new }
+    ensures masks { (before : List ℕ)
+        → AreMasks config.now own.now aircraft.now first l before masks.old
+        → AreMarked config.now own.now aircraft.now first 1 l before masks.new }
     ensures length { length masks.new ≡ length masks.old }
 {
     if first == 0 && masks.len() > 0 {
@@ -231,8 +235,9 @@ fn present_mask(
     requires seconds { HoldsSometime present.now.secs (Violates present.now level.now.volume)
         ↔ MeetsWithin config.now own.now Candidate.Hold aircraft.now
         level.now.volume level.now.lookahead }
-    requires mask { IsMaskOf (Meets config.now own.now Candidate.Hold aircraft.now) l mask }
-    ensures { IsMaskOf (Meets config.now own.now Candidate.Hold aircraft.now) (l + 1) result }
+    ensures { (before : ℕ)
+        → AddsLevels (Meets config.now own.now Candidate.Hold aircraft.now) l before mask
+        → AddsLevels (Meets config.now own.now Candidate.Hold aircraft.now) (l + 1) before result }
 {
     let met = is_hit(present, &level.volume);
     with_level(mask, l, met)
@@ -260,11 +265,12 @@ fn mark_kind(
     requires seconds { AreSecondsAt config.now own.now aircraft.now kind (l + 1) seconds }
     requires stretch { IsStretchOf config.now kind stretch }
     requires short { first + length masks.old < 2 ^ 32 }
-    requires masks { AreMarked config.now own.now aircraft.now first
-        (start_of kind config.now) l masks.old }
     requires idle { AreIdle config.now own.now aircraft.now trunks.now.needs }
-    ensures masks { AreMarked config.now own.now aircraft.now first
-        (start_of kind config.now + length (values_of kind config.now)) l masks.new }
+    ensures masks { (before : List ℕ)
+        → AreMarked config.now own.now aircraft.now first (start_of kind config.now) l before
+        masks.old
+        → AreMarked config.now own.now aircraft.now first
+        (start_of kind config.now + length (values_of kind config.now)) l before masks.new }
     ensures length { length masks.new ≡ length masks.old }
 {
     let level = config.level(l + 1);
@@ -289,21 +295,28 @@ fn mark_kind(
         upper: begun,
         lower: begun,
     };
-    for index in from..upto {
-        let j = (index - first) as usize;
-        masks[j] = next_mask(
-            config,
-            own,
-            trunks,
-            aircraft,
-            l,
-            level,
-            nested,
-            kind,
-            index,
-            &mut trails,
-            masks[j],
-        );
+    let mut at = from;
+    while at < upto {
+        let end = next_end(at, upto);
+        if some_is_open(masks, at - first, end - first, l, nested) {
+            for index in at..end {
+                let j = (index - first) as usize;
+                masks[j] = next_mask(
+                    config,
+                    own,
+                    trunks,
+                    aircraft,
+                    l,
+                    level,
+                    nested,
+                    kind,
+                    index,
+                    &mut trails,
+                    masks[j],
+                );
+            }
+        }
+        at = end;
     }
 }
 
@@ -350,12 +363,16 @@ fn next_mask(
     requires candidate { IsCandidateInRange candidate }
     requires of { (value : ℤ) × (candidate ≡ candidate_to kind value) }
     requires trails { AreTrailsOf config.now own.now aircraft.now level.now.volume kind trails.old }
-    requires mask { IsMaskOf (Meets config.now own.now candidate aircraft.now) l mask }
     requires needed { IsTrue (is_needed trunks.now.needs kind) }
-    ensures mask { IsMaskOf (Meets config.now own.now candidate aircraft.now) (l + 1) result }
+    ensures mask { (before : ℕ)
+        → AddsLevels (Meets config.now own.now candidate aircraft.now) l before mask
+        → AddsLevels (Meets config.now own.now candidate aircraft.now) (l + 1) before result }
     ensures trails { AreTrailsOf config.now own.now aircraft.now level.now.volume kind trails.new }
 {
     if nested && !has_level(mask, l) {
+        return mask;
+    }
+    if has_level(mask, l + 1) {
         return mask;
     }
     let branch = trunks.branch(index);
@@ -380,10 +397,57 @@ fn some_has_level(masks: &[u8], first: u32, from: u32, upto: u32, l: u32) -> boo
     has_level(all, l)
 }
 
+/// The end of those candidates from `at` on that are passed over or gone through together.
+#[inline(always)]
+fn next_end(at: u32, upto: u32) -> u32
+    requires { at < upto }
+    ensures after { at < result }
+    ensures within { result ≤ upto }
+    ensures few { result ≤ at + 16 }
+{
+    if upto - at < TOGETHER {
+        upto
+    } else {
+        at + TOGETHER
+    }
+}
+
+/// Whether the level after level `l` is to be tested for one of the masks from number `at` to
+/// before number `end`, as far as one look tells: where it lies within level `l`, some mask has that
+/// one, and some mask has not the level itself. Fewer than are looked at together are not looked
+/// at.
+#[inline(always)]
+fn some_is_open(masks: &[u8], at: u32, end: u32, l: u32, nested: bool) -> bool
+    requires order { at ≤ end }
+    requires end { end ≤ length masks.now }
+    requires together { end ≤ at + 16 }
+    requires some { IsTrue nested → 1 ≤ l }
+    requires few { l < 8 }
+    ensures { result ≡ false → (j : ℕ) → at ≤ j → j < end
+        → (bit_at (slice_index masks.now j) l ≡ 1)
+        ⊎ (IsTrue nested × (bit_at (slice_index masks.now j) (l - 1) ≢ 1)) }
+{
+    if end - at < TOGETHER {
+        return true;
+    }
+    let mut some = 0;
+    let mut all = 255;
+    for i in 0..TOGETHER {
+        // (a sum of 32 bits would keep the compiler from looking at all of them at once)
+        let mask = masks[at as usize + i as usize];
+        some |= mask;
+        all &= mask;
+    }
+    if nested && !has_level(some, l) {
+        return false;
+    }
+    !has_level(all, l + 1)
+}
+
 /// Whether a mask has level `l`.
 fn has_level(mask: u8, l: u32) -> bool
     requires some { 1 ≤ l }
-    requires few { l < 8 }
+    requires few { l ≤ 8 }
     ensures { IsTrue result ↔ (bit_at mask (l - 1) ≡ 1) }
 {
     mask >> (l - 1) & 1 == 1
@@ -487,13 +551,14 @@ fn meets_along(
     ensures end { trail.new.end ≡ trail.old.end }
 {
     let upto = branch.leaves.min(level.lookahead);
-    walk_on(
+    walk_ahead(
         trail,
         config,
         own,
         lead,
         trunk,
         upto,
+        level.lookahead,
         aircraft,
         &level.volume,
     );

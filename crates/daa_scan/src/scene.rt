@@ -7,6 +7,7 @@ ghost use Rattle.daa_config.specs.Settings.{IsAccepted};
 ghost use Rattle.daa_state.specs.InRange.{IsPictureInRange};
 ghost use Rattle.daa_state.specs.Picture.{aircraft_of};
 ghost use Rattle.daa_scan.specs.Reach.{IsInReachAt};
+ghost use Rattle.daa_scan.specs.Adding.{AddsLevels};
 ghost use Rattle.daa_scan.specs.SceneState.{MeetsAt};
 ghost use Rattle.daa_scan.specs.Trunks.{AreFlightsOf};
 ghost use Rattle.daa_scan.specs.Units.{group_count, most_groups};
@@ -114,6 +115,32 @@ impl<'a> Scene<'a> {
             &self.trunks,
             self.aircraft(aircraft),
             first,
+            masks,
+        );
+    }
+
+    /// Adds to the masks of the candidates from the first of the whole list on the levels at which
+    /// each meets an aircraft: bit l - 1 is then set exactly where it was, or where the candidate's
+    /// flight violates level l's volume round the aircraft at some time within the level's
+    /// lookahead. What is set already is not tested, so that all aircraft of a moment together cost
+    /// less than each alone. Masks past the list stay as they were.
+    pub fn add_levels(&self, aircraft: u32, masks: &mut [u8])
+        requires aircraft { aircraft < length (aircraft_of self.now.picture) }
+        requires short { length masks.old < 2 ^ 32 }
+        ensures masks { (j : ℕ) → j < length masks.new
+            → AddsLevels (MeetsAt self.now j aircraft) (length self.now.settings.levels)
+            (slice_index masks.old j) (slice_index masks.new j) }
+        ensures length { length masks.new ≡ length masks.old }
+    {
+        if !self.in_reach(aircraft) {
+            return;
+        }
+        mark_levels(
+            self.config,
+            &self.picture.own,
+            &self.trunks,
+            self.aircraft(aircraft),
+            0,
             masks,
         );
     }

@@ -22,9 +22,64 @@ use daa_legs::{Branch, OwnLeg, OwnRun, Trunk, end_of, relative, relative_run};
 use daa_state::{Own, Traffic};
 use daa_taumod::Volume;
 
-/// Walks the trail on to leg `upto`, or to a hit.
+/// So many legs of a trunk are walked at least, once a leg is: where the aircraft was is found once
+/// for them.
+const STRIDE: u32 = 16;
+
+/// Walks the trail on to leg `upto`, which is `most` or one before it, or to a hit, where it was not
+/// walked so far. It may be walked some legs farther.
 #[inline(always)]
-pub(crate) fn walk_on(
+pub(crate) fn walk_ahead(
+    trail: &mut Trail,
+    config: &Config,
+    own: &Own,
+    lead: Candidate,
+    trunk: &Trunk,
+    upto: u32,
+    most: u32,
+    aircraft: &Traffic,
+    volume: &Volume,
+)
+    requires own { IsOwnInRange own.now }
+    requires lead { IsCandidateInRange lead }
+    requires most { most ≤ 180 }
+    requires upto { upto ≤ most }
+    requires trunk { AreLegsOf own.now (rates_of config.now) lead most trunk.now }
+    requires aircraft { IsTrafficInRange aircraft.now }
+    requires volume { IsVolumeInRange volume.now }
+    requires trail { IsTrailOf config.now own.now lead aircraft.now volume.now trail.old }
+    ensures trail { IsTrailOf config.now own.now lead aircraft.now volume.now trail.new }
+    ensures done { trail.new.hit ≡ false → upto ≤ trail.new.walked }
+    ensures end { trail.new.end ≡ trail.old.end }
+{
+    if trail.hit || upto <= trail.walked {
+        return;
+    }
+    let far = stride_end(trail.walked, upto, most);
+    walk_on(trail, config, own, lead, trunk, far, aircraft, volume);
+}
+
+/// The leg up to which a trail is walked on, where it has to be walked on to leg `upto`.
+#[inline(always)]
+fn stride_end(walked: u32, upto: u32, most: u32) -> u32
+    requires upto { upto ≤ most }
+    requires most { most ≤ 180 }
+    ensures far { upto ≤ result }
+    ensures within { result ≤ most }
+{
+    if most - upto <= STRIDE {
+        return most;
+    }
+    if upto - upto.min(walked) < STRIDE {
+        upto + STRIDE
+    } else {
+        upto
+    }
+}
+
+/// Walks the trail on to leg `upto`, or to a hit.
+#[inline(never)]
+fn walk_on(
     trail: &mut Trail,
     config: &Config,
     own: &Own,

@@ -1,6 +1,7 @@
 //! The table of the candidates' branches.
 
-ghost use Rattle.std.specs.Prelude.{◌≡◌, ◌<◌, ◌≤◌, ◌+◌, ℤ, length, slice_get, Some};
+ghost use Rattle.std.specs.Prelude.{◌≡◌, ◌<◌, ◌≤◌, ◌+◌, ◌^◌, ℤ, pos, length, slice_get, Some};
+ghost use Rattle.daa_fixed.specs.Size.{IsFrom};
 ghost use Rattle.daa_config.specs.Candidates.{candidate_to, candidates_of, start_of, values_of};
 ghost use Rattle.daa_config.specs.Settings.{IsCandidateInRange, AreRatesInRange};
 ghost use Rattle.daa_state.specs.InRange.{IsOwnInRange};
@@ -25,6 +26,7 @@ pub(crate) fn fill_branches(branches: &mut [Branch], own: &Own, config: &Config,
     ensures length { length branches.new ≡ length branches.old }
 {
     let present = velocity(own.gs, own.trk);
+    // a copy of the loop for each kind, so that no candidate asks which it is
     fill_kind(branches, own, config, needs, &present, Kind::Track);
     fill_kind(branches, own, config, needs, &present, Kind::Speed);
     fill_kind(branches, own, config, needs, &present, Kind::Climb);
@@ -33,6 +35,7 @@ pub(crate) fn fill_branches(branches: &mut [Branch], own: &Own, config: &Config,
 
 /// Keeps those of a kind where it is needed, after those of the kinds before it, where the present
 /// way over ground of a second is known.
+#[inline(always)]
 fn fill_kind(
     branches: &mut [Branch],
     own: &Own,
@@ -54,6 +57,7 @@ fn fill_kind(
     if !needs.has(kind) {
         return;
     }
+    let share = share_of(&rates, kind);
     for index in 0..config.count(kind) {
         let candidate = candidate_in(config, kind, index);
         keep(
@@ -62,24 +66,58 @@ fn fill_kind(
             &rates,
             candidate,
             present,
+            share,
         );
     }
 }
 
 /// Keeps the branch of a candidate. It is written in place, since a read of what was just written
 /// in parts is slow.
-#[inline(never)]
-fn keep(branch: &mut Branch, own: &Own, rates: &Rates, candidate: Candidate, present: &Flat)
+#[inline(always)]
+fn keep(
+    branch: &mut Branch,
+    own: &Own,
+    rates: &Rates,
+    candidate: Candidate,
+    present: &Flat,
+    share: u64,
+)
     requires own { IsOwnInRange own.now }
     requires rates { AreRatesInRange rates.now }
     requires candidate { IsCandidateInRange candidate }
     requires present { present.now ≡ velocity_of own.now.gs own.now.trk }
+    requires share { share ≤ 2 ^ 32 }
     ensures { IsBranchOf own.now rates.now candidate branch.new }
 {
-    *branch = branch_from(own, rates, candidate, present);
+    *branch = branch_from(own, rates, candidate, present, share);
+}
+
+/// How many 2^32nds of a second a unit of the kind takes at its rate, rounded up: the one division
+/// for all its candidates. Nothing rests on its value, since a branch tries what comes of it.
+#[inline(always)]
+fn share_of(rates: &Rates, kind: Kind) -> u64
+    requires { AreRatesInRange rates.now }
+    ensures { result ≤ 2 ^ 32 }
+{
+    let rate = match kind {
+        Kind::Track => rates.turn,
+        Kind::Speed => rates.gs,
+        Kind::Climb => rates.vs,
+        Kind::Height => rates.alt,
+    };
+    share_at(rate)
+}
+
+/// The same at a rate.
+fn share_at(rate: i32) -> u64
+    requires { IsFrom (pos 1) (pos 10000) rate }
+    ensures { result ≤ 2 ^ 32 }
+{
+    u64::from(u32::MAX / rate as u32) + 1
 }
 
 /// The candidate at an index of a kind's list.
+#[inline(always)]
 fn candidate_in(config: &Config, kind: Kind, index: u32) -> Candidate
     requires { index < length (values_of kind config.now) }
     ensures value { slice_get (candidates_of config.now)

@@ -1,6 +1,6 @@
 //! Words to moments.
 
-ghost use Rattle.std.specs.Prelude.{◌≡◌, ◌↔◌, None, IsSome, OnOk, IfSome, IsSomeAnd, OnErr, IfOk, IfErr, Ok, Err, Some, ◌<◌, ◌≤◌, length, ◌++◌, ◌∷◌, []};
+ghost use Rattle.std.specs.Prelude.{◌≡◌, ◌↔◌, None, IsSome, OnOk, IfSome, IsSomeAnd, OnErr, IfOk, IfErr, Ok, Err, Some, true, false, ◌<◌, ◌≤◌, length, ◌++◌, ◌∷◌, []};
 ghost use Rattle.std.specs.Str.{bytes_eq};
 ghost use Rattle.daa_state.specs.InRange.{IsFormat, IsWordInRange, IsOwnInRange, IsTrafficInRange, IsPictureInRange};
 ghost use Rattle.daa_state.specs.Inside.InRange.{IsMomentInRange};
@@ -91,6 +91,28 @@ impl Moments {
                 Ok(Some(picture))
             }
             Word::Skip => Ok(None),
+        }
+    }
+
+    /// Takes a word that adds to the open moment, as `take` does, or says that it is another one or
+    /// refused, and changes nothing then. No room for a picture is made ready, which costs more than
+    /// what most lines add.
+    #[tactic(auto, unfolding(crate::specs::MomentStep::step))]
+    pub fn adds(&mut self, word: &Word) -> bool
+        requires range { IsWordInRange word.now }
+        ensures taken { result ≡ true → step self.old word.now ≡ Ok (stepped self.new None) }
+        ensures unchanged { result ≡ false → self.new ≡ self.old }
+    {
+        match word {
+            Word::Own(own) => match add_own(&mut self.moment, *own) {
+                Ok(()) => true,
+                Err(_) => false,
+            },
+            Word::Traffic(traffic) => match add_traffic(&mut self.moment, *traffic) {
+                Ok(()) => true,
+                Err(_) => false,
+            },
+            _ => false,
         }
     }
 

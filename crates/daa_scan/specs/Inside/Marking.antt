@@ -5,7 +5,7 @@ use Rattle.daa_config.specs.declared.candidate.Candidate.{Candidate}
 use Rattle.daa_config.specs.declared.kind.Kind.{Kind}
 use Rattle.daa_config.specs.declared.kind.Kind.TheVariants.{Track, Speed, Climb, Height}
 use Rattle.daa_config.specs.Candidates.{candidate_to, candidates_of, start_of, values_of}
-use Rattle.daa_fixed.specs.Mask.{IsMaskOf}
+use Rattle.daa_scan.specs.Adding.{AddsLevels}
 use Rattle.daa_config.specs.Settings.{Settings}
 use Rattle.daa_state.specs.declared.word.Own.{Own}
 use Rattle.daa_state.specs.declared.word.Traffic.{Traffic}
@@ -37,15 +37,16 @@ module _ (settings : Settings) (own : Own) (aircraft : Traffic) where
     pub past_upper : (z : ℤ) (k : ℕ) → k < 180 → trails.upper.end ≤ k → ¬ ViolatesOn settings own (candidate_to kind z) aircraft volume k
     pub past_lower : (z : ℤ) (k : ℕ) → k < 180 → trails.lower.end ≤ k → ¬ ViolatesOn settings own (candidate_to kind z) aircraft volume k
 
-  -- the masks are those of the candidates from number `first` on: those of the candidates before number `upto` have l + 1 levels,
-  -- the others l
-  pub record AreMarked (first upto l : ℕ) (masks : List ℕ) : Type 0 where
-    pub done : (j : ℕ) (candidate : Candidate) → j < length masks → first + j < upto → slice_get (candidates_of settings) (first + j) ≡ Some candidate
-        → IsMaskOf (Meets settings own candidate aircraft) (l + 1) (slice_index masks j)
-    pub left : (j : ℕ) (candidate : Candidate) → j < length masks → upto ≤ first + j → slice_get (candidates_of settings) (first + j) ≡ Some candidate
-        → IsMaskOf (Meets settings own candidate aircraft) l (slice_index masks j)
+  -- the candidate at an index of the whole list meets the aircraft at the level
+  abbrev pub MeetsListed : (index l : ℕ) → Type 0
+  MeetsListed index l = (candidate : Candidate) × (slice_get (candidates_of settings) index ≡ Some candidate) × Meets settings own candidate aircraft l
 
-  -- they have l levels
-  abbrev pub AreMasks : (first l : ℕ) (masks : List ℕ) → Type 0
-  AreMasks first l masks = (j : ℕ) (candidate : Candidate) → j < length masks → slice_get (candidates_of settings) (first + j) ≡ Some candidate
-      → IsMaskOf (Meets settings own candidate aircraft) l (slice_index masks j)
+  -- to the masks of the candidates from number `first` on levels were added: l + 1 of them to those before number `upto`, l to the
+  -- others
+  pub record AreMarked (first upto l : ℕ) (old masks : List ℕ) : Type 0 where
+    pub done : (j : ℕ) → j < length masks → first + j < upto → AddsLevels (MeetsListed (first + j)) (l + 1) (slice_index old j) (slice_index masks j)
+    pub left : (j : ℕ) → j < length masks → upto ≤ first + j → AddsLevels (MeetsListed (first + j)) l (slice_index old j) (slice_index masks j)
+
+  -- l levels were added to them
+  abbrev pub AreMasks : (first l : ℕ) (old masks : List ℕ) → Type 0
+  AreMasks first l old masks = (j : ℕ) → j < length masks → AddsLevels (MeetsListed (first + j)) l (slice_index old j) (slice_index masks j)

@@ -1,8 +1,12 @@
+use Rattle.std.proofs.Common.{◌≡◌, length}
 use Rattle.daa_bands.specs.Board.{IsBoardOf}
 use Rattle.daa_engine.specs.Covered.{scene_of}
 use Rattle.daa_engine.proofs.Covered.{CoveredBelow}
 use Rattle.daa_engine.proofs.filling.fill.Given as goal
 
--- the board has the levels at which some aircraft so far meets a candidate
+-- the masks have the levels at which some aircraft so far meets a candidate
 abbrev pub invariant-loop-place : goal.invariant-loop-place
-invariant-loop-place l = IsBoardOf (CoveredBelow (scene_of l.config l.picture) l.place) l.config l.board
+invariant-loop-place l = record {
+  board : IsBoardOf (CoveredBelow (scene_of l.config l.picture) l.place) l.config l.masks;
+  room : length l.masks ≡ 2048;
+}

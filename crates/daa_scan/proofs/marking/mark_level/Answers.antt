@@ -1,4 +1,4 @@
-use Rattle.std.proofs.Common.{ℕ, ◌+◌, sym, subst, arith, length}
+use Rattle.std.proofs.Common.{ℕ, List, ◌+◌, sym, subst, arith, length}
 use Rattle.daa_config.specs.declared.kind.Kind.TheVariants.{Track, Speed, Climb, Height}
 use Rattle.daa_config.specs.Settings.{rates_of}
 use Rattle.daa_config.specs.Candidates.{start_of, values_of}
@@ -9,21 +9,15 @@ use Rattle.daa_scan.proofs.Marks.{track_first, marked_all}
 use Rattle.daa_scan.proofs.Refusing.{at_level, by_heights, by_way}
 use Rattle.daa_scan.proofs.marking.mark_level.Goals as goal
 
-pub mark_kind-requires-clause-masks : goal.mark_kind-requires-clause-masks
-mark_kind-requires-clause-masks c = subst (λ (n : ℕ). AreMarked c.args.config.now c.args.own.now c.args.aircraft.now c.args.first n c.args.l c.mark_present.new.masks) (track_first c.args.config.now) c.mark_present.ensures.masks
-
-pub mark_kind-requires-2-clause-masks : goal.mark_kind-requires-2-clause-masks
-mark_kind-requires-2-clause-masks c = subst (λ (n : ℕ). AreMarked c.args.config.now c.args.own.now c.args.aircraft.now c.args.first n c.args.l c.mark_kind.new.masks) (sym (begins c.args.config.now).speed) c.mark_kind.ensures.masks
-
-pub mark_kind-requires-3-clause-masks : goal.mark_kind-requires-3-clause-masks
-mark_kind-requires-3-clause-masks c = subst (λ (n : ℕ). AreMarked c.args.config.now c.args.own.now c.args.aircraft.now c.args.first n c.args.l c.mark_kind-2.new.masks) (sym (begins c.args.config.now).climb) c.mark_kind-2.ensures.masks
-
-pub mark_kind-requires-4-clause-masks : goal.mark_kind-requires-4-clause-masks
-mark_kind-requires-4-clause-masks c = subst (λ (n : ℕ). AreMarked c.args.config.now c.args.own.now c.args.aircraft.now c.args.first n c.args.l c.mark_kind-3.new.masks) (sym (begins c.args.config.now).height) c.mark_kind-3.ensures.masks
-
 pub returns-clause-masks : goal.returns-clause-masks
-returns-clause-masks c = let w = whole_ends c.args.config.now in
-    marked_all c.args.config.now c.args.own.now c.args.aircraft.now c.args.first c.args.l c.mark_kind-4.new.masks (start_of Height c.args.config.now + length (values_of Height c.args.config.now)) (omega (arith, w)) c.mark_kind-4.ensures.masks
+returns-clause-masks c before h =
+    let w = whole_ends c.args.config.now in
+    let on : (n : ℕ) → (masks : List ℕ) → Type 0 = λ n masks. AreMarked c.args.config.now c.args.own.now c.args.aircraft.now c.args.first n c.args.l before masks in
+    let present = subst (λ (n : ℕ). on n c.mark_present.new.masks) (track_first c.args.config.now) (c.mark_present.ensures.masks before h) in
+    let tracks = subst (λ (n : ℕ). on n c.mark_kind.new.masks) (sym (begins c.args.config.now).speed) (c.mark_kind.ensures.masks before present) in
+    let speeds = subst (λ (n : ℕ). on n c.mark_kind-2.new.masks) (sym (begins c.args.config.now).climb) (c.mark_kind-2.ensures.masks before tracks) in
+    let climbs = subst (λ (n : ℕ). on n c.mark_kind-3.new.masks) (sym (begins c.args.config.now).height) (c.mark_kind-3.ensures.masks before speeds) in
+    marked_all c.args.config.now c.args.own.now c.args.aircraft.now c.args.first c.args.l before c.mark_kind-4.new.masks (start_of Height c.args.config.now + length (values_of Height c.args.config.now)) (omega (arith, w)) (c.mark_kind-4.ensures.masks before climbs)
 
 pub mark_kind-requires-clause-seconds : goal.mark_kind-requires-clause-seconds
 mark_kind-requires-clause-seconds c = at_level c.args.config.now c.args.own.now c.args.aircraft.now Track (c.args.l + 1) c.level-level.result.now c.seconds_in_height-heights.result c.level-level.ensures.value

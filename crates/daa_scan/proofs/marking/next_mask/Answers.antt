@@ -1,15 +1,22 @@
-use Rattle.std.proofs.Common.{◌+◌, subst, arith}
+use Rattle.std.proofs.Common.{◌≡◌, ◌+◌, ◌-◌, ◌∙◌, ap, subst, sym, arith}
 use Rattle.std.proofs.lemmas.Option.{slice_get_within}
+use Rattle.std.specs.Int.{bit_at}
 use Rattle.daa_config.specs.Candidates.{candidates_of}
 use Rattle.daa_config.specs.Settings.{rates_of}
 use Rattle.daa_legs.specs.declared.branch.Branch.{Branch}
 use Rattle.daa_legs.specs.Table.{IsBranchOf}
-use Rattle.daa_scan.proofs.Marks.{none_nested, one_more}
+use Rattle.daa_scan.proofs.Marks.{none_nested, there_already, one_more}
 use Rattle.daa_scan.proofs.marking.next_mask.Goals as goal
 
 pub returns-then-not-has_level-clause-mask : goal.returns-then-not-has_level-clause-mask
-returns-then-not-has_level-clause-mask g c = none_nested c.args.config.now c.args.own.now g.candidate c.args.aircraft.now c.args.l c.args.mask c.requires.1.1.1.1.1.1.1.1.1.1.1.1.0
+returns-then-not-has_level-clause-mask g c before is = none_nested c.args.config.now c.args.own.now g.candidate c.args.aircraft.now c.args.l before c.args.mask is
     (c.requires.1.1.1.1.1.1.0 c.if-nested.true) (c.requires.1.1.1.1.1.1.1.0 c.if-nested.true g.candidate) (λ b. let t = c.has_level.ensures.1 b in cc (t, c.if-not-has_level.true))
+
+pub returns-then-has_level-clause-mask : goal.returns-then-has_level-clause-mask
+returns-then-has_level-clause-mask g c before is =
+    let back : c.args.l + 1 - 1 ≡ c.args.l = omega arith in
+    there_already c.args.config.now c.args.own.now g.candidate c.args.aircraft.now c.args.l before c.args.mask is
+    (sym (ap (bit_at c.args.mask) back) ∙ c.has_level-2.ensures.0 c.if-has_level.true)
 
 pub branch-branch-requires : goal.branch-branch-requires
 branch-branch-requires g c =
@@ -18,9 +25,9 @@ branch-branch-requires g c =
 
 pub meets_shared-met-requires : goal.meets_shared-met-requires
 meets_shared-met-requires g c =
-    let branch = subst (λ (b : Branch). IsBranchOf c.args.own.now (rates_of c.args.config.now) g.candidate b) (c.branch-branch.ensures c.branch-branch.result.now) (c.requires.1.1.1.1.1.0.branches.each c.args.index g.candidate c.branch-branch.result.now c.requires.1.1.1.1.1.1.1.1.0 c.args.kind c.requires.1.1.1.1.1.1.1.1.1.1.0.0 c.requires.1.1.1.1.1.1.1.1.1.1.0.1 c.requires.1.1.1.1.1.1.1.1.1.1.1.1.1) in
-    (c.requires.0, (c.requires.1.0, (c.requires.1.1.1.0, ((λ upper z. c.requires.1.1.1.1.1.0.leads (c.args.l + 1) c.args.level.now c.requires.1.1.1.1.0 c.args.kind upper z c.requires.1.1.1.1.1.1.1.1.1.1.1.1.1), (c.requires.1.1.1.1.1.1.1.1.1.0, (c.requires.1.1.1.1.1.1.1.1.1.1.0, (branch, c.requires.1.1.1.1.1.1.1.1.1.1.1.0)))))))
+    let branch = subst (λ (b : Branch). IsBranchOf c.args.own.now (rates_of c.args.config.now) g.candidate b) (c.branch-branch.ensures c.branch-branch.result.now) (c.requires.1.1.1.1.1.0.branches.each c.args.index g.candidate c.branch-branch.result.now c.requires.1.1.1.1.1.1.1.1.0 c.args.kind c.requires.1.1.1.1.1.1.1.1.1.1.0.0 c.requires.1.1.1.1.1.1.1.1.1.1.0.1 c.requires.1.1.1.1.1.1.1.1.1.1.1.1) in
+    (c.requires.0, (c.requires.1.0, (c.requires.1.1.1.0, ((λ upper z. c.requires.1.1.1.1.1.0.leads (c.args.l + 1) c.args.level.now c.requires.1.1.1.1.0 c.args.kind upper z c.requires.1.1.1.1.1.1.1.1.1.1.1.1), (c.requires.1.1.1.1.1.1.1.1.1.0, (c.requires.1.1.1.1.1.1.1.1.1.1.0, (branch, c.requires.1.1.1.1.1.1.1.1.1.1.1.0)))))))
 
 pub returns-clause-mask : goal.returns-clause-mask
-returns-clause-mask g c = one_more c.args.config.now c.args.own.now g.candidate c.args.aircraft.now c.args.l c.args.mask c.requires.1.1.1.1.1.1.1.1.1.1.1.1.0 c.args.level.now c.requires.1.1.1.1.0 c.meets_shared-met.result c.with_level.result
+returns-clause-mask g c before is = one_more c.args.config.now c.args.own.now g.candidate c.args.aircraft.now c.args.l before c.args.mask is c.args.level.now c.requires.1.1.1.1.0 c.meets_shared-met.result c.with_level.result
     c.meets_shared-met.ensures.met c.with_level.ensures.met c.with_level.ensures.not_met

@@ -1,4 +1,5 @@
-use Rattle.std.proofs.Common.{◌<◌, length, sym, ◌∙◌, arith}
+use Rattle.std.proofs.Common.{◌≡◌, ◌<◌, ◌++◌, ℕ, length, take, sym, subst, ◌∙◌, arith}
+use Rattle.daa_lines.specs.ComesFrom.{ComesFrom}
 use Rattle.daa_lines.specs.Inside.Pushing.{after_byte}
 use Rattle.daa_lines.proofs.FeedingLemmas.{taken_last, taken_more}
 use Rattle.daa_lines.proofs.PushingLemmas.{comes-fed}
@@ -32,3 +33,8 @@ loop-i-preserved c =
           comes-fed bytes piece taken c.loop-i.self c.push.new.self i within c.push.ensures.value
           c.loop-i.invariant.free c.loop-i.invariant.going c.push.ensures.sized (c.loop-i.invariant.kept bytes taken s);
     }
+
+pub returns-clause-kept : goal.returns-clause-kept
+returns-clause-kept c bytes taken s =
+    let all : c.loop-i.i ≡ length c.args.piece.now = omega (arith, c.loop-i-test.false, c.loop-i.auto.i-end, c.grow-grown.ensures.within) in
+    subst (λ (n : ℕ). ComesFrom (bytes ++ take n c.args.piece.now) taken c.loop-i.self) all (c.loop-i.invariant.kept bytes taken s)

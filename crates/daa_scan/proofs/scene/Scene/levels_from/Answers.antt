@@ -9,14 +9,14 @@ use Rattle.daa_state.specs.InRange.{IsTrafficInRange}
 use Rattle.daa_state.specs.Picture.{aircraft_of}
 use Rattle.daa_scan.specs.SceneState.{SceneState, MeetsAt}
 use Rattle.daa_scan.specs.Reach.{IsInReachAt}
-use Rattle.daa_scan.proofs.SceneMasks.{masks_at, masks_none, idle_at}
+use Rattle.daa_scan.proofs.SceneMasks.{masks_alone, masks_none, idle_at}
 use Rattle.daa_scan.proofs.scene.Scene.levels_from.Goals as goal
 
 pub returns-clause-masks : goal.returns-clause-masks
 returns-clause-masks c =
     let there : slice_get (aircraft_of c.self.inside.picture.now) c.args.aircraft ≡ Some c.aircraft.result.now = subst (λ (s : SceneState). slice_get (aircraft_of s.picture) c.args.aircraft ≡ Some c.aircraft.result.now) (sym c.self.view_is) c.aircraft.ensures in
     subst (λ (s : SceneState). (j : ℕ) → j < length c.mark_levels.new.masks → c.args.first + j < length (candidates_of s.settings) → IsMaskOf (MeetsAt s (c.args.first + j) c.args.aircraft) (length s.settings.levels) (slice_index c.mark_levels.new.masks j)) c.self.view_is
-    (masks_at (record { settings = c.self.inside.config.now; picture = c.self.inside.picture.now }) c.args.aircraft c.args.first (length c.self.inside.config.now.levels) c.aircraft.result.now c.mark_levels.new.masks there c.mark_levels.ensures.masks)
+    (λ j b l. masks_alone (record { settings = c.self.inside.config.now; picture = c.self.inside.picture.now }) c.args.aircraft c.args.first (length c.self.inside.config.now.levels) c.aircraft.result.now c.args.masks.now c.mark_levels.new.masks there c.mark_levels.ensures.masks c.requires.clear c.mark_levels.ensures.length j b)
 
 pub returns-then-not-in_reach-clause-masks : goal.returns-then-not-in_reach-clause-masks
 returns-then-not-in_reach-clause-masks c j b there = masks_none c.args.self.now c.args.aircraft c.args.first (length c.args.self.now.settings.levels) c.args.masks.now

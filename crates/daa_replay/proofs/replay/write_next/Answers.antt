@@ -3,7 +3,7 @@ use Rattle.std.proofs.lemmas.Result.{IfOk-weaker, IfErr-weaker}
 use Rattle.daa_config.specs.Settings.{Settings}
 use Rattle.daa_replay.specs.Moment.{IsEventText}
 use Rattle.daa_replay.proofs.ReportLemmas.{reports-event, stops-line}
-use Rattle.daa_replay.proofs.replay.write_line.Goals as goal
+use Rattle.daa_replay.proofs.replay.write_next.Goals as goal
 
 pub returns-in-Some-clause-ok : goal.returns-in-Some-clause-ok
 returns-in-Some-clause-ok g c =
