@@ -1,4 +1,5 @@
 pub mod Covered
+pub mod Beside
 pub mod EngineState
 pub mod MomentText
 pub mod PlainText

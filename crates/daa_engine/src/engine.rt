@@ -32,7 +32,7 @@ use std::thread::Threads;
 const MOST_UNITS: usize = 10176;
 
 /// How many candidates a configuration has at most.
-const MOST_CANDIDATES: usize = 1897;
+pub(crate) const MOST_CANDIDATES: usize = 1897;
 
 /// How many flights lead: on two sides of four kinds.
 const LEADS: usize = 8;
@@ -76,7 +76,7 @@ pub(crate) fn time_of(picture: &Picture) -> u32
 }
 
 /// Room for the flights that lead on the sides of each kind.
-fn trunks_in(alloc: Global) -> Result<Vec<Trunk>, NoMemory>
+pub(crate) fn trunks_in(alloc: Global) -> Result<Vec<Trunk>, NoMemory>
     ensures { IfOk result (λ trunks. length trunks.items ≡ 8) }
 {
     let mut trunks = Vec::new(alloc);
@@ -121,6 +121,14 @@ impl Engine {
         ensures workers { IsWorkerCount self.now.workers }
     {
         &self.config
+    }
+
+    /// The number of workers.
+    pub fn workers(&self) -> u32
+        ensures value { result ≡ self.now.workers }
+        ensures count { IsWorkerCount self.now.workers }
+    {
+        self.workers
     }
 
     /// The board of the latest moment that was decided; no level is on it before the first.

@@ -6,20 +6,24 @@
 mod advice;
 mod alerts;
 mod alone;
+mod beside;
 mod engine;
 mod filling;
 mod laws;
 mod rescue;
+mod room;
 mod say;
 mod together;
 
 pub use alone::{decide_in, report_in, say_moment};
+pub use beside::{Slot, decide_beside};
 pub use daa_schedule::NoMemory;
 pub use engine::Engine;
 pub use laws::{
     boards_show_what_is_covered, every_picture_has_one_text, has_one_board, has_one_text,
     texts_are_short, texts_without_a_recovery_are_as_before,
 };
+pub use room::Room;
 
 #[cfg(test)]
 mod tests;

@@ -1,6 +1,9 @@
 //! Counts the levels of one moment after another.
 
-ghost use Rattle.std.specs.Prelude.{◌≡◌};
+ghost use Rattle.std.specs.Prelude.{◌≡◌, ◌<◌, length, slice_index_or};
+ghost use Rattle.daa_alert.specs.Alert.{IsAlertOf};
+ghost use Rattle.daa_state.specs.Picture.{aircraft_of};
+ghost use Rattle.daa_state.specs.declared.word.Traffic.{Traffic};
 ghost use Rattle.daa_bands.specs.Board.{HasLevelOn, IsBoardOf, mask_levels};
 ghost use Rattle.daa_bands.specs.KindBands.{AreShown};
 ghost use Rattle.daa_engine.specs.Covered.{CoveredAt};
@@ -11,8 +14,9 @@ ghost use Rattle.daa_exercise.specs.Outputs.{Outputs};
 ghost use Rattle.daa_config.specs.Settings.{IsAccepted, Settings};
 
 use crate::tally::Tally;
-use daa_config::Kind;
-use daa_engine::Engine;
+use daa_alert::{Alert, alert};
+use daa_bands::Board;
+use daa_config::{Config, Kind};
 use daa_state::Picture;
 
 /// What is counted of the moments so far: the aircraft, how often each level was an aircraft's
@@ -43,45 +47,54 @@ impl Counts {
         }
     }
 
-    /// Counts a moment that the engine has just decided.
-    pub(crate) fn add(&mut self, engine: &Engine, picture: &Picture)
-        requires accepted { IsAccepted engine.now.settings }
+    /// Counts a moment whose board is decided.
+    pub(crate) fn add(&mut self, config: &Config, picture: &Picture, board: &Board)
+        requires accepted { IsAccepted config.now }
         requires picture { IsPictureInRange picture.now }
-        requires board { IsBoardOf
-            (CoveredAt engine.now.settings picture.now) engine.now.settings engine.now.board }
+        requires board { IsBoardOf (CoveredAt config.now picture.now) config.now board.now }
         requires room { IsRoomy self.old }
-        ensures { CountsPicture engine.now.settings picture.now self.old self.new }
+        ensures { CountsPicture config.now picture.now self.old self.new }
     {
         self.aircraft += picture.traffic.len() as u32;
-        count_alerts(&mut self.alerts, engine, picture);
-        count_shown(&mut self.track, engine, Kind::Track);
-        count_shown(&mut self.speed, engine, Kind::Speed);
-        count_shown(&mut self.climb, engine, Kind::Climb);
-        count_shown(&mut self.height, engine, Kind::Height);
+        count_alerts(&mut self.alerts, config, picture);
+        count_shown(&mut self.track, config, board, Kind::Track);
+        count_shown(&mut self.speed, config, board, Kind::Speed);
+        count_shown(&mut self.climb, config, board, Kind::Climb);
+        count_shown(&mut self.height, config, board, Kind::Height);
     }
 }
 
+/// The alert of the aircraft at a place of a picture's list.
+fn alert_of(config: &Config, picture: &Picture, aircraft: usize) -> Alert
+    requires picture { IsPictureInRange picture.now }
+    requires aircraft { aircraft < length (aircraft_of picture.now) }
+    ensures { (t : Traffic)
+        → IsAlertOf config.now picture.now.own
+        (slice_index_or (aircraft_of picture.now) aircraft t) result }
+{
+    alert(config, &picture.own, &picture.traffic[aircraft])
+}
+
 /// Counts the alert levels of a picture's aircraft.
-fn count_alerts(tally: &mut Tally, engine: &Engine, picture: &Picture)
-    requires accepted { IsAccepted engine.now.settings }
+fn count_alerts(tally: &mut Tally, config: &Config, picture: &Picture)
+    requires accepted { IsAccepted config.now }
     requires picture { IsPictureInRange picture.now }
     requires room { HasRoomFor 64 tally.old }
-    ensures { Adds (HasAlerts engine.now.settings picture.now) tally.old tally.new }
+    ensures { Adds (HasAlerts config.now picture.now) tally.old tally.new }
 {
     for place in 0..picture.traffic.len() {
-        tally.add(engine.alert_of(picture, place).level);
+        tally.add(alert_of(config, picture, place).level);
     }
 }
 
 /// Counts the levels that the board shows of a kind's candidates.
-fn count_shown(tally: &mut Tally, engine: &Engine, kind: Kind)
+fn count_shown(tally: &mut Tally, config: &Config, board: &Board, kind: Kind)
     requires { HasRoomFor 512 tally.old }
     ensures { Adds (AreShown
-        (HasLevelOn engine.now.board) mask_levels engine.now.settings kind) tally.old tally.new }
+        (HasLevelOn board.now) mask_levels config.now kind) tally.old tally.new }
 {
-    let config = engine.config();
     let start = config.start(kind);
     for place in 0..config.count(kind) {
-        tally.add(engine.board().shown(start + place));
+        tally.add(board.shown(start + place));
     }
 }

@@ -149,21 +149,21 @@ impl Gate for Counter {
     }
 }
 
-/// Of the seven aircraft of three moments four are in reach, each of which is one unit of work; one
-/// thread passes no gate.
+/// The first moment has two aircraft, both in reach, each of which is one unit of work. One thread
+/// passes no gate, and neither do moments that are decided beside one another.
 #[test]
-fn the_gate_is_passed_once_for_each_unit(rt: HostRuntime) -> Result<(), Fail> {
-    for (workers, passes) in [(1, 0), (2, 4)] {
-        assert!(rt; 0 < workers && workers <= 16);
+fn the_gate_is_passed_for_a_moment_alone(rt: HostRuntime) -> Result<(), Fail> {
+    for (workers, moments, passes) in [(1, 1, 0), (1, 3, 0), (2, 1, 2), (2, 3, 0)] {
+        assert!(rt; 0 < workers && workers <= 16 && moments <= 10000);
         let config = read(rt.alloc(), ONE_LEVEL.as_bytes())?;
         let mut engine = Engine::new(rt.alloc(), config, workers)?;
         let mut out = sink(rt.alloc(), 512, &[], &[])?;
         let gate = Counter {
             passes: AtomicU64::new(0),
         };
-        let said = exercise(&mut engine, &rt, rt.alloc(), 1, 3, &mut out, &gate);
+        let said = exercise(&mut engine, &rt, rt.alloc(), 1, moments, &mut out, &gate);
         assert_eq!(rt; said, Ok(()));
-        assert_eq!(rt; out.taken(), THREE.as_bytes());
+        assert!(rt; moments < 3 || out.taken() == THREE.as_bytes());
         assert_eq!(rt; gate.passes.load(SeqCst), passes);
     }
     Ok(())

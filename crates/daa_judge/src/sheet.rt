@@ -59,6 +59,15 @@ impl Sheet {
         &self.space[..self.used]
     }
 
+    /// Takes back all but its first bytes, and forgets the writes that failed.
+    pub fn cut(&mut self, len: usize)
+        requires { len ≤ length self.old.text }
+        ensures { self.new ≡ record { text = take len self.old.text; faults = 0 } }
+    {
+        self.used = len;
+        self.faults = 0;
+    }
+
     /// Empties it.
     pub fn clear(&mut self)
         ensures { self.new ≡ record { text = []; faults = 0 } }

@@ -13,6 +13,7 @@ use Rattle.daa_engine.specs.declared.engine.Engine.{Engine}
 use Rattle.daa_lines.specs.LinesOf.{Bytes}
 use Rattle.daa_outside.specs.Faults.{HasRisen}
 use Rattle.daa_replay.specs.declared.replay.Progress.{Progress}
+use Rattle.daa_replay.specs.declared.batch.Batch.{Batch}
 use Rattle.daa_replay.specs.declared.moment.Tools.{Tools}
 use Rattle.daa_replay.specs.Inside.Replay.{Desk, desk, IsBetween, CanReport, Writes, Breaks, Steps, Reports, TakesFront}
 
@@ -86,9 +87,9 @@ module _ {T X : Type 0} (takes : T → Bytes → Bool → T → Type 0) (name : 
 
 -- ---- the closure that reports
 
--- what it holds: the tools, the engine, the sink, and how far the report has come
+-- what it holds: the tools, the engine, the sink, how far the report has come, and the events that wait
 abbrev pub Held : Type 0 → Type 0 → Type 0 → Type 0
-Held R K G = Calls (Bor (Tools R G) × MutBor Engine × MutBor K × MutBor Progress)
+Held R K G = Calls (Bor (Tools R G) × MutBor Engine × MutBor K × MutBor Progress × MutBor Batch)
 
 abbrev pub held_desk : {R K G : Type 0} → (K → ToldBytes) → (K → ℕ) → Held R K G → Desk
 held_desk taken faults t = desk t.call.1.now.settings t.call.3.now (taken t.call.2.now) (faults t.call.2.now)

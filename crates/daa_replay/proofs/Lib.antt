@@ -2,6 +2,7 @@ pub mod EventLemmas
 pub mod FollowsLemmas
 pub mod TextLemmas
 pub mod ReportLemmas
+pub mod BatchLemmas
 pub mod DeskLemmas
 pub mod ReplayLemmas
 pub mod FourWordLemmas

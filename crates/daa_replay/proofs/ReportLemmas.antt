@@ -30,12 +30,12 @@ or_false true = refl
 or_false false = refl
 
 -- one event more, which is a refusal or none
-refusals-push : (given : List Event) (event : Event) (before now : Bool) → list_any is_refusal given ≡ before → now ≡ (before || is_refusal event)
+pub refusals-push : (given : List Event) (event : Event) (before now : Bool) → list_any is_refusal given ≡ before → now ≡ (before || is_refusal event)
     → list_any is_refusal (given ++ event ∷ []) ≡ now
 refusals-push given event before now h k =
     list_any-append is_refusal given (event ∷ []) ∙ ap₂ (λ (a b : Bool). a || b) h (or_false (is_refusal event)) ∙ sym k
 
-take_two : (xs : Bytes) (i n m : ℕ) → n ≤ m → take i xs ++ take n (take m (drop i xs)) ≡ take (i + n) xs
+pub take_two : (xs : Bytes) (i n m : ℕ) → n ≤ m → take i xs ++ take n (take m (drop i xs)) ≡ take (i + n) xs
 take_two xs i n m h =
     ap (λ (r : Bytes). take i xs ++ r) (take-take n m (drop i xs) h ∙ sym (drop-take i n xs))
     ∙ ap (λ (r : Bytes). r ++ drop i (take (i + n) xs)) (sym (take-take i (i + n) xs (omega arith)))

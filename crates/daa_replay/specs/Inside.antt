@@ -4,5 +4,6 @@ pub mod Moment
 pub mod Status
 pub mod Opening
 pub mod Replay
+pub mod Batch
 pub mod Judge
 pub mod Run

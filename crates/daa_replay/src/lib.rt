@@ -5,6 +5,7 @@
 //! that of given states.
 #![tactic(auto)]
 
+mod batch;
 mod judge;
 mod laws;
 mod lines;

@@ -23,7 +23,7 @@ pub(crate) struct Tools<'a, R, G> {
 }
 
 /// Writes the line of a refusal.
-fn write_refusal<K: Sink>(sink: &mut K, number: u64, code: u8) -> Result<(), SinkFault>
+pub(crate) fn write_refusal<K: Sink>(sink: &mut K, number: u64, code: u8) -> Result<(), SinkFault>
     ensures says { Says (K.taken sink.old) (K.taken sink.new) (K.faults sink.old)
         (K.faults sink.new) (refused_line number code) result }
     ensures short { length (refused_line number code) ≤ 64 }

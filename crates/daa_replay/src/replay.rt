@@ -1,11 +1,11 @@
 //! A replay: feeds the bytes of the source to the lines, and writes the text of each event.
 
-ghost use Rattle.std.specs.Prelude.{◌≡◌, ◌<◌, ◌+◌, ◌^◌, ◌++◌, ◌||◌, [], IfOk, length, false, true, OnOk, OnErr, ◌≤◌, ◌≢◌};
+ghost use Rattle.std.specs.Prelude.{All, ◌≡◌, ◌<◌, ◌+◌, ◌^◌, ◌++◌, ◌||◌, [], IfOk, length, false, true, OnOk, OnErr, ◌≤◌, ◌≢◌};
 ghost use Rattle.daa_config.specs.Settings.{Settings};
 ghost use Rattle.daa_lines.specs.LinesOf.{Bytes};
 ghost use Rattle.daa_lines.specs.LinesState.{is_standing};
 ghost use Rattle.daa_report.specs.Says.{HasCause};
-ghost use Rattle.daa_replay.specs.Lines.{is_refusal};
+ghost use Rattle.daa_replay.specs.Lines.{IsEventInRange, is_refusal};
 ghost use Rattle.daa_ahead.specs.Bytes.{ToldBytes, stream_state};
 ghost use Rattle.daa_replay.specs.Inside.Replay.{AfterReport, Reports, ReportsAll, TakesFront, CanReport, IsBetween, Steps, desk};
 ghost use Rattle.daa_ahead.specs.Moves.{Moves, wants_more};
@@ -13,8 +13,10 @@ ghost use Rattle.daa_ahead.specs.Taker.{CanTake, TakesBytes};
 ghost use Rattle.daa_outside.specs.Faults.{HasRisen};
 ghost use Rattle.daa_replay.specs.Outside.{ShelfState, outside};
 ghost use Rattle.daa_replay.specs.Inside.Run.{Replays};
+ghost use Rattle.daa_replay.specs.Inside.Batch.{AfterHeld, Holds};
 ghost use Rattle.daa_replay.specs.Inside.Status.{Ends, code_of};
 
+use crate::batch::{Batch, hold_event, write_batch};
 use crate::lines::{Event, take_end, take_event, takes_addition};
 use crate::moment::{Tools, write_event};
 use crate::status::Status;
@@ -108,11 +110,45 @@ fn write_next<R: Threads + Sync, K: Sink, G: Gate>(
     }
 }
 
-/// Feeds a piece, and writes the texts of the lines that it ends.
+/// Takes the line that is ready, if there is one; its event waits, or its text is written with those
+/// of the events that wait.
+fn hold_line<R: Threads + Sync, K: Sink, G: Gate>(
+    tools: &Tools<'_, R, G>,
+    engine: &mut Engine,
+    progress: &mut Progress,
+    batch: &mut Batch,
+    sink: &mut K,
+) -> Result<(), SinkFault>
+    requires range { All IsEventInRange batch.old.events.items }
+    ensures range { All IsEventInRange batch.new.events.items }
+    ensures free { is_standing progress.new.lines.stage ≡ false }
+    ensures ended { progress.new.lines.ended ≡ progress.old.lines.ended }
+    ensures fed { progress.new.lines.fed ≡ progress.old.lines.fed }
+    ensures ok { OnOk result (AfterHeld engine.old.settings progress.old batch.old.events.items
+        (K.taken sink.old) (λ settings first bytes. Holds settings first bytes progress.new
+        batch.new.events.items (K.taken sink.new))) }
+    ensures err { OnErr result (AfterHeld engine.old.settings progress.old batch.old.events.items
+        (K.taken sink.old) (λ settings first bytes. TakesFront settings first
+        (K.taken sink.new) bytes progress.old.lines.ended)) }
+    ensures same { engine.new.settings ≡ engine.old.settings }
+    ensures cause { HasCause (K.faults sink.old) (K.faults sink.new) result }
+{
+    match take_event(&mut progress.lines, &mut progress.moments) {
+        None => Ok(()),
+        Some(event) => {
+            progress.any_refused = any_refusal(progress.any_refused, &event);
+            hold_event(tools, engine, sink, batch, event)
+        }
+    }
+}
+
+/// Feeds a piece, and writes the texts of the lines that it ends. None of their events waits when
+/// it returns.
 fn write_piece<R: Threads + Sync, K: Sink, G: Gate>(
     tools: &Tools<'_, R, G>,
     engine: &mut Engine,
     progress: &mut Progress,
+    batch: &mut Batch,
     sink: &mut K,
     piece: &[u8],
 ) -> Result<(), SinkFault>
@@ -131,12 +167,13 @@ fn write_piece<R: Threads + Sync, K: Sink, G: Gate>(
     ensures same { engine.new.settings ≡ engine.old.settings }
     ensures cause { HasCause (K.faults sink.old) (K.faults sink.new) result }
 {
+    batch.clear();
     let mut done = 0;
     while done < piece.len() {
         done += progress.lines.feed(&piece[done..]);
-        write_line(tools, engine, progress, sink)?;
+        hold_line(tools, engine, progress, batch, sink)?;
     }
-    Ok(())
+    write_batch(tools, engine, sink, batch)
 }
 
 /// The input is over: writes the text of its last line and that of its end. Returns whether some
@@ -175,6 +212,7 @@ fn take_piece<R: Threads + Sync, K: Sink, G: Gate>(
     engine: &mut Engine,
     sink: &mut K,
     progress: &mut Progress,
+    batch: &mut Batch,
     piece: &[u8],
 ) -> bool
     requires { CanReport (desk engine.old.settings progress.old (K.taken sink.old)
@@ -183,7 +221,7 @@ fn take_piece<R: Threads + Sync, K: Sink, G: Gate>(
         (K.faults sink.old)) piece.now result
         (desk engine.new.settings progress.new (K.taken sink.new) (K.faults sink.new)) }
 {
-    match write_piece(tools, engine, progress, sink, piece) {
+    match write_piece(tools, engine, progress, batch, sink, piece) {
         Ok(()) => true,
         Err(_) => false,
     }
@@ -217,6 +255,7 @@ fn write_all<R: Threads + Sync, S: Source + Send, K: Sink + Send, G: Gate>(
     source: &mut S,
     sink: &mut K,
     progress: &mut Progress,
+    batch: &mut Batch,
     places: u32,
     most: u64,
 ) -> Ended
@@ -241,7 +280,7 @@ fn write_all<R: Threads + Sync, S: Source + Send, K: Sink + Send, G: Gate>(
                 (K.taken sink.entry.now) (K.faults sink.entry.now)) piece.entry.now result
                 (desk engine.exit.now.settings progress.exit.now (K.taken sink.exit.now)
                 (K.faults sink.exit.now)) }
-        { take_piece(tools, engine, sink, progress, piece) },
+        { take_piece(tools, engine, sink, progress, batch, piece) },
     };
     read_for(tools, source, places, most, &mut taker)
 }
@@ -277,6 +316,45 @@ fn write_rest<R: Threads + Sync, K: Sink, G: Gate>(
     }
 }
 
+/// Writes the report of the source's bytes as `run_replay` does, with room for events that wait.
+fn replay_with<R: Threads + Sync, S: Source + Send, K: Sink + Send, G: Gate>(
+    tools: &Tools<'_, R, G>,
+    engine: &mut Engine,
+    source: &mut S,
+    sink: &mut K,
+    batch: &mut Batch,
+    places: u32,
+    most: u64,
+) -> Status
+    requires places { places ≤ 1024 }
+    requires some { 1 ≤ most }
+    requires bound { most ≤ 2 ^ 40 }
+    ensures { (before after : ShelfState) → Replays engine.old.settings most (code_of result)
+        (outside before (stream_state (S.left source.old) (S.faults source.old))
+        (stream_state (K.taken sink.old) (K.faults sink.old)))
+        (outside after (stream_state (S.left source.new) (S.faults source.new))
+        (stream_state (K.taken sink.new) (K.faults sink.new))) places }
+{
+    // its clause says that the configuration is accepted
+    let _config = engine.config();
+    let mut progress = begin();
+    match write_all(
+        tools,
+        engine,
+        source,
+        sink,
+        &mut progress,
+        batch,
+        places,
+        most,
+    ) {
+        Ended::End => write_rest(tools, engine, &mut progress, sink),
+        Ended::Fault => Status::SourceFault,
+        Ended::Limit => Status::Limit,
+        Ended::Stopped => Status::SinkFault,
+    }
+}
+
 /// Writes the report of the source's bytes, at most `most` of them, under this configuration. It
 /// reads in turn if `places` is 0, and else ahead by up to `places` pieces.
 pub(crate) fn run_replay<R: Threads + Sync, S: Source + Send, K: Sink + Send, G: Gate>(
@@ -296,13 +374,6 @@ pub(crate) fn run_replay<R: Threads + Sync, S: Source + Send, K: Sink + Send, G:
         (outside after (stream_state (S.left source.new) (S.faults source.new))
         (stream_state (K.taken sink.new) (K.faults sink.new))) places }
 {
-    // its clause says that the configuration is accepted
-    let _config = engine.config();
-    let mut progress = begin();
-    match write_all(tools, engine, source, sink, &mut progress, places, most) {
-        Ended::End => write_rest(tools, engine, &mut progress, sink),
-        Ended::Fault => Status::SourceFault,
-        Ended::Limit => Status::Limit,
-        Ended::Stopped => Status::SinkFault,
-    }
+    let mut batch = Batch::new(tools.alloc, engine.workers());
+    replay_with(tools, engine, source, sink, &mut batch, places, most)
 }

@@ -1,6 +1,7 @@
 //! Inputs with the text and the status that they give.
 
 mod ahead;
+mod batch;
 mod exercise;
 mod faults;
 mod judge;

@@ -6,7 +6,7 @@ use Rattle.daa_exercise.proofs.counting.count_alerts.Goals as goal
 
 pub loop-place-init : goal.loop-place-init
 loop-place-init c = record {
-  adds = add_none (IsAlertLevel c.args.engine.now.settings c.args.picture.now.own) (aircraft_of c.args.picture.now) c.args.tally.now;
+  adds = add_none (IsAlertLevel c.args.config.now c.args.picture.now.own) (aircraft_of c.args.picture.now) c.args.tally.now;
   room = λ n h. room_for n (n + 0) c.args.tally.now (omega arith) h;
 }
 
@@ -23,11 +23,11 @@ add-requires c =
 pub loop-place-preserved : goal.loop-place-preserved
 loop-place-preserved c =
     let there : c.loop-place.place < length (aircraft_of c.args.picture.now) = omega (arith, c.loop-place-test.true, c.len-place-end.ensures.value) in record {
-      adds = add_next (IsAlertLevel c.args.engine.now.settings c.args.picture.now.own) (aircraft_of c.args.picture.now) c.loop-place.place c.alert_of.result.level no_aircraft
+      adds = add_next (IsAlertLevel c.args.config.now c.args.picture.now.own) (aircraft_of c.args.picture.now) c.loop-place.place c.alert_of.result.level no_aircraft
           c.args.tally.now c.loop-place.tally c.add.new.self there (c.alert_of.ensures no_aircraft).greatest c.loop-place.invariant.adds c.add.ensures.counted;
       room = λ n h. c.add.ensures.room n (c.loop-place.invariant.room (n + 1) (room_for (n + 1 + c.loop-place.place) (n + (c.loop-place.place + 1)) c.args.tally.now (omega arith) h));
     }
 
 pub returns : goal.returns
-returns c = add_all (IsAlertLevel c.args.engine.now.settings c.args.picture.now.own) (aircraft_of c.args.picture.now) c.loop-place.place c.args.tally.now c.loop-place.tally
+returns c = add_all (IsAlertLevel c.args.config.now c.args.picture.now.own) (aircraft_of c.args.picture.now) c.loop-place.place c.args.tally.now c.loop-place.tally
     (omega (arith, c.loop-place-test.false, c.len-place-end.ensures.value)) c.loop-place.invariant.adds

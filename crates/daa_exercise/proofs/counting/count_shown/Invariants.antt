@@ -8,6 +8,6 @@ use Rattle.daa_exercise.proofs.counting.count_shown.Given as goal
 -- the levels of the candidates so far are counted
 abbrev pub invariant-loop-place : goal.invariant-loop-place
 invariant-loop-place l = record {
-  adds : Adds (AreFirst (λ i. IsGreatestLevel (HasLevelOn l.engine.board (l.start + i)) mask_levels) l.place) l.initial.tally l.tally;
+  adds : Adds (AreFirst (λ i. IsGreatestLevel (HasLevelOn l.board (l.start + i)) mask_levels) l.place) l.initial.tally l.tally;
   room : (n : ℕ) → HasRoomFor (n + l.place) l.initial.tally → HasRoomFor n l.tally;
 }

@@ -5,7 +5,7 @@ use Rattle.daa_exercise.proofs.counting.Counts.add.Goals as goal
 
 pub returns : goal.returns
 returns c =
-    let covered = add_covered c.args.engine.now.settings c.args.picture.now c.args.engine.now.board in
+    let covered = add_covered c.args.config.now c.args.picture.now c.args.board.now in
     let ok = c.requires.accepted in
     let board = c.requires.board in record {
       aircraft = ap (λ (n : ℕ). c.args.self.now.aircraft + n) c.len.ensures.value;

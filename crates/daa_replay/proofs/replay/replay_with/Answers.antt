@@ -1,7 +1,7 @@
 use Rattle.std.proofs.Common.{arith, refl, ◌∙◌, length}
 use Rattle.daa_report.proofs.Appending.{risen_after}
 use Rattle.daa_replay.proofs.ReplayLemmas.{passes_limit, read_fails, replays_over, write_fails, written_now}
-use Rattle.daa_replay.proofs.replay.run_replay.Goals as goal
+use Rattle.daa_replay.proofs.replay.replay_with.Goals as goal
 
 pub returns-in-End : goal.returns-in-End
 returns-in-End g c before after =

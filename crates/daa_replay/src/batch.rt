@@ -1,0 +1,370 @@
+//! Events that wait, and their texts, which the workers make side by side.
+
+ghost use Rattle.std.specs.Prelude.{◌≡◌, ◌≤◌, ◌++◌, ◌∷◌, [], All, IfOk, IfSome, OnErr, OnOk, Some, None, IfNone, true, false, length, take};
+ghost use Rattle.daa_ahead.specs.Bytes.{ToldBytes};
+ghost use Rattle.daa_config.specs.Settings.{Settings};
+ghost use Rattle.daa_report.specs.Says.{HasCause, SaysSome};
+ghost use Rattle.daa_replay.specs.Lines.{IsEventInRange};
+ghost use Rattle.daa_replay.specs.Moment.{IsEventText};
+ghost use Rattle.daa_replay.specs.Inside.Batch.{AddsText, IsFilled, MovesOn, StopsWithin, TakesTexts};
+
+use crate::lines::Event;
+use crate::moment::{Tools, write_event, write_refusal};
+use daa_bands::Board;
+use daa_config::Config;
+use daa_engine::{Engine, Room};
+use daa_judge::Sheet;
+use daa_outside::{Gate, Sink};
+use daa_report::{SinkFault, put};
+use std::alloc::Global;
+use std::thread;
+use std::thread::Threads;
+
+/// How many events wait at most.
+const MOST_EVENTS: usize = 256;
+
+/// What a worker needs: room to decide in, a board and a sheet, and which events are its own: from
+/// one place up to another. The sheet has the texts of those from the first up to `end`.
+#[derive(Drop)]
+pub(crate) struct Lane {
+    pub(crate) room: Room,
+    pub(crate) board: Board,
+    pub(crate) sheet: Sheet,
+    pub(crate) from: usize,
+    pub(crate) upto: usize,
+    pub(crate) end: usize,
+}
+
+/// The events that wait, and a lane for each worker. Without a lane none waits.
+#[derive(Drop)]
+pub(crate) struct Batch {
+    pub(crate) events: Vec<Event>,
+    pub(crate) lanes: Vec<Lane>,
+}
+
+impl Lane {
+    /// A lane, if there is memory for it.
+    fn new(alloc: Global) -> Option<Lane> {
+        let room = Room::new(alloc).ok()?;
+        let sheet = Sheet::new(alloc).ok()?;
+        Some(Lane {
+            room,
+            board: Board::new(),
+            sheet,
+            from: 0,
+            upto: 0,
+            end: 0,
+        })
+    }
+
+    /// Writes the text of an event on the sheet.
+    fn say(&mut self, config: &Config, event: &Event) -> Result<(), SinkFault>
+        requires { IsEventInRange event.now }
+        ensures says { SaysSome (IsEventText config.now event.now) (Some self.old.sheet.text)
+            (Some self.new.sheet.text) self.old.sheet.faults self.new.sheet.faults result }
+        ensures from { self.new.from ≡ self.old.from }
+        ensures end { self.new.end ≡ self.old.end }
+    {
+        match event {
+            Event::Refused(number, fault) => {
+                write_refusal(&mut self.sheet, *number, fault.code())
+            }
+            Event::Ended(picture) => {
+                self.room
+                    .report(config, picture, &mut self.board, &mut self.sheet)
+            }
+        }
+    }
+
+    /// Adds the text of an event to the sheet, and returns whether there was room for it.
+    fn add(&mut self, config: &Config, event: &Event) -> bool
+        requires { IsEventInRange event.now }
+        ensures added { result ≡ true
+            → AddsText config.now event.now self.old.sheet.text self.new.sheet.text }
+        ensures kept { result ≡ false → self.new.sheet.text ≡ self.old.sheet.text }
+        ensures from { self.new.from ≡ self.old.from }
+        ensures end { self.new.end ≡ self.old.end }
+    {
+        let before = self.sheet.text().len();
+        match self.say(config, event) {
+            Ok(()) => true,
+            Err(_) => {
+                self.sheet.cut(before);
+                false
+            }
+        }
+    }
+
+    /// Writes the texts of its events on the sheet, as far as there is room.
+    fn fill(&mut self, config: &Config, events: &[Event])
+        requires { All IsEventInRange events.now }
+        ensures { IsFilled config.now events.now self.new }
+    {
+        self.sheet.clear();
+        self.end = self.from;
+        let upto = self.upto.min(events.len());
+        for place in self.from..upto {
+            if !self.add(config, &events[place]) {
+                return;
+            }
+            self.end = place + 1;
+        }
+    }
+}
+
+/// A lane for each worker, if there is memory for them.
+fn lanes_in(alloc: Global, workers: u32) -> Option<Vec<Lane>> {
+    let mut lanes = Vec::new(alloc);
+    for _worker in 0..workers {
+        let lane = Lane::new(alloc)?;
+        lanes.push(lane).ok()?;
+    }
+    Some(lanes)
+}
+
+impl Batch {
+    /// No event waits, and none ever does.
+    fn narrow(alloc: Global) -> Batch
+        ensures { result.events.items ≡ [] }
+    {
+        Batch {
+            events: Vec::new(alloc),
+            lanes: Vec::new(alloc),
+        }
+    }
+
+    /// No event waits. Where there is more than one worker, and memory for their lanes, some may.
+    pub(crate) fn new(alloc: Global, workers: u32) -> Batch
+        ensures { result.events.items ≡ [] }
+    {
+        if workers < 2 {
+            return Batch::narrow(alloc);
+        }
+        let Some(lanes) = lanes_in(alloc, workers) else {
+            return Batch::narrow(alloc);
+        };
+        match Vec::with_capacity(alloc, MOST_EVENTS) {
+            Ok(events) => Batch { events, lanes },
+            Err(_) => Batch::narrow(alloc),
+        }
+    }
+
+    /// No event waits any more.
+    pub(crate) fn clear(&mut self)
+        ensures { self.new.events.items ≡ [] }
+    {
+        self.events.clear();
+    }
+
+    /// Adds an event; returns it if there is no room for one.
+    fn hold(&mut self, event: Event) -> Option<Event>
+        ensures held { IfNone result
+            (self.new.events.items ≡ self.old.events.items ++ event ∷ []) }
+        ensures full { IfSome result (λ same. same ≡ event) }
+        ensures kept { IfSome result (λ same. self.new.events.items ≡ self.old.events.items) }
+    {
+        if self.events.len() < self.events.capacity() {
+            self.events.push_reserved(event);
+            return None;
+        }
+        Some(event)
+    }
+}
+
+/// Whether more than one event is an ended moment.
+fn has_pictures(events: &[Event]) -> bool {
+    let mut found = false;
+    for event in events {
+        if matches!(event, Event::Ended(_)) {
+            if found {
+                return true;
+            }
+            found = true;
+        }
+    }
+    false
+}
+
+/// Divides so many events among the lanes.
+fn share(lanes: &mut [Lane], count: usize) {
+    let mut left = lanes.len();
+    let mut from = 0usize;
+    for lane in lanes {
+        let size = count.saturating_sub(from).div_ceil(left.max(1));
+        lane.from = from;
+        from = from.saturating_add(size);
+        lane.upto = from;
+        left = left.saturating_sub(1);
+    }
+}
+
+/// Each worker writes the texts of its lane's events on its sheet, side by side with the others.
+fn fill_lanes<R: Threads + Sync>(rt: &R, config: &Config, lanes: &mut [Lane], events: &[Event])
+    requires some { 1 ≤ length lanes.old }
+    requires range { All IsEventInRange events.now }
+    ensures { All (IsFilled config.now events.now) lanes.new }
+{
+    let count = lanes.len();
+    thread::for_each_mut(
+        rt,
+        lanes,
+        count,
+        &|_number: usize, lane: &mut Lane|
+            requires { All IsEventInRange events.now }
+            ensures { IsFilled config.entry.now events.entry.now lane.exit.now }
+        { lane.fill(config, events) },
+    );
+}
+
+/// Writes the texts on the sheets to the sink, up to the first event that is on none. Returns how
+/// many events these are.
+fn write_lanes<K: Sink>(
+    sink: &mut K,
+    config: &Config,
+    lanes: &[Lane],
+    events: &[Event],
+) -> Result<usize, SinkFault>
+    requires filled { All (IsFilled config.now events.now) lanes.now }
+    ensures ok { IfOk result (λ done. TakesTexts config.now (take done events.now)
+        (K.taken sink.old) (K.taken sink.new)) }
+    ensures err { OnErr result (StopsWithin config.now events.now
+        (K.taken sink.old) (K.taken sink.new)) }
+    ensures cause { HasCause (K.faults sink.old) (K.faults sink.new) result }
+{
+    let mut done = 0;
+    for place in 0..lanes.len() {
+        let lane = &lanes[place];
+        if lane.from != done {
+            return Ok(done);
+        }
+        put(sink, lane.sheet.text())?;
+        done = lane.end;
+    }
+    Ok(done)
+}
+
+/// Writes the texts of the first events, if the lanes are used. Returns how many events these are.
+fn write_side_by_side<R: Threads + Sync, K: Sink>(
+    rt: &R,
+    config: &Config,
+    lanes: &mut [Lane],
+    events: &[Event],
+    sink: &mut K,
+) -> Result<usize, SinkFault>
+    requires range { All IsEventInRange events.now }
+    ensures ok { IfOk result (λ done. TakesTexts config.now (take done events.now)
+        (K.taken sink.old) (K.taken sink.new)) }
+    ensures err { OnErr result (StopsWithin config.now events.now
+        (K.taken sink.old) (K.taken sink.new)) }
+    ensures cause { HasCause (K.faults sink.old) (K.faults sink.new) result }
+{
+    if lanes.is_empty() || !has_pictures(events) {
+        return Ok(0);
+    }
+    share(lanes, events.len());
+    fill_lanes(rt, config, lanes, events);
+    write_lanes(sink, config, lanes, events)
+}
+
+/// Writes the texts of all events but the first `done`, one after the other.
+fn write_rest<R: Threads + Sync, K: Sink, G: Gate>(
+    tools: &Tools<'_, R, G>,
+    engine: &mut Engine,
+    sink: &mut K,
+    events: &[Event],
+    done: usize,
+) -> Result<(), SinkFault>
+    requires range { All IsEventInRange events.now }
+    ensures same { engine.new.settings ≡ engine.old.settings }
+    ensures ok { OnOk result ((settings : Settings) (first : ToldBytes)
+        → engine.old.settings ≡ settings
+        → TakesTexts settings (take done events.now) first (K.taken sink.old)
+        → TakesTexts settings events.now first (K.taken sink.new)) }
+    ensures err { OnErr result ((settings : Settings) (first : ToldBytes)
+        → engine.old.settings ≡ settings
+        → TakesTexts settings (take done events.now) first (K.taken sink.old)
+        → StopsWithin settings events.now first (K.taken sink.new)) }
+    ensures cause { HasCause (K.faults sink.old) (K.faults sink.new) result }
+{
+    for place in done..events.len() {
+        write_event(tools, engine, sink, &events[place])?;
+    }
+    Ok(())
+}
+
+/// Writes the texts of events: by the workers side by side if more than one moment is among them.
+fn write_events<R: Threads + Sync, K: Sink, G: Gate>(
+    tools: &Tools<'_, R, G>,
+    engine: &mut Engine,
+    sink: &mut K,
+    lanes: &mut [Lane],
+    events: &[Event],
+) -> Result<(), SinkFault>
+    requires range { All IsEventInRange events.now }
+    ensures same { engine.new.settings ≡ engine.old.settings }
+    ensures ok { OnOk result (TakesTexts engine.old.settings events.now (K.taken sink.old)
+        (K.taken sink.new)) }
+    ensures err { OnErr result (StopsWithin engine.old.settings events.now (K.taken sink.old)
+        (K.taken sink.new)) }
+    ensures cause { HasCause (K.faults sink.old) (K.faults sink.new) result }
+{
+    let done = write_side_by_side(tools.rt, engine.config(), lanes, events, sink)?;
+    write_rest(tools, engine, sink, events, done)
+}
+
+/// Writes the texts of the events that wait. None waits when it returns.
+pub(crate) fn write_batch<R: Threads + Sync, K: Sink, G: Gate>(
+    tools: &Tools<'_, R, G>,
+    engine: &mut Engine,
+    sink: &mut K,
+    batch: &mut Batch,
+) -> Result<(), SinkFault>
+    requires range { All IsEventInRange batch.old.events.items }
+    ensures empty { batch.new.events.items ≡ [] }
+    ensures same { engine.new.settings ≡ engine.old.settings }
+    ensures ok { OnOk result (TakesTexts engine.old.settings batch.old.events.items
+        (K.taken sink.old) (K.taken sink.new)) }
+    ensures err { OnErr result (StopsWithin engine.old.settings batch.old.events.items
+        (K.taken sink.old) (K.taken sink.new)) }
+    ensures cause { HasCause (K.faults sink.old) (K.faults sink.new) result }
+{
+    let result = write_events(
+        tools,
+        engine,
+        sink,
+        batch.lanes.as_mut_slice(),
+        batch.events.as_slice(),
+    );
+    batch.clear();
+    result
+}
+
+/// Lets an event wait, after those that wait. If there is no room for it, they are written first; if
+/// there is none then, it is written too.
+pub(crate) fn hold_event<R: Threads + Sync, K: Sink, G: Gate>(
+    tools: &Tools<'_, R, G>,
+    engine: &mut Engine,
+    sink: &mut K,
+    batch: &mut Batch,
+    event: Event,
+) -> Result<(), SinkFault>
+    requires range { All IsEventInRange batch.old.events.items }
+    requires event { IsEventInRange event }
+    ensures range { All IsEventInRange batch.new.events.items }
+    ensures same { engine.new.settings ≡ engine.old.settings }
+    ensures ok { OnOk result (MovesOn engine.old.settings
+        (batch.old.events.items ++ event ∷ []) batch.new.events.items (K.taken sink.old)
+        (K.taken sink.new)) }
+    ensures err { OnErr result (StopsWithin engine.old.settings
+        (batch.old.events.items ++ event ∷ []) (K.taken sink.old) (K.taken sink.new)) }
+    ensures cause { HasCause (K.faults sink.old) (K.faults sink.new) result }
+{
+    let Some(event) = batch.hold(event) else {
+        return Ok(());
+    };
+    write_batch(tools, engine, sink, batch)?;
+    match batch.hold(event) {
+        None => Ok(()),
+        Some(event) => write_event(tools, engine, sink, &event),
+    }
+}

@@ -1,0 +1,69 @@
+//! Moments of one piece, which the workers decide side by side.
+
+use super::{Outside, PLAIN, gives, gives_front, status_and_text};
+use std::alloc::AllocError;
+use std::process::Abort;
+use std::test::Fail;
+use std::thread::Threads;
+
+static ONE_WORKER: [&str; 6] = ["daidalus", "replay", "--config", "c", "--workers", "1"];
+
+/// So many moments with one aircraft, in each of which a line is refused.
+fn moments_of<R: AllocGlobal>(rt: &R, count: u32) -> Result<String, AllocError> {
+    let mut input = String::new(rt.alloc());
+    for time in 0..count {
+        let head = format!(in rt.alloc(); "moment {time}\nown 0 0 1000 0 3600 0\n")?;
+        input.push_str(head.as_str())?;
+        input.push_str("traffic A 0 0 1000 0 3600 0\nx\nend\n")?;
+    }
+    Ok(input)
+}
+
+/// The text that one worker writes, which decides one moment after the other.
+fn alone<R: Abort + Threads + Sync + AllocGlobal>(
+    rt: &R,
+    input: &[u8],
+    room: usize,
+) -> Result<Vec<u8>, Fail> {
+    let outside = Outside {
+        words: &ONE_WORKER,
+        room,
+        ..PLAIN
+    };
+    let (status, text) = status_and_text(rt, input, outside)?;
+    assert!(rt; status == 1);
+    Ok(text)
+}
+
+/// More events than may wait at a time, in pieces of any size and of some 200 moments.
+#[test]
+fn moments_of_a_piece_are_shared_out(rt: HostRuntime) -> Result<(), Fail> {
+    let room = 200_000;
+    let input = moments_of(&rt, 700)?;
+    let text = alone(&rt, input.as_bytes(), room)?;
+    assert!(rt; text.len() > 150_000);
+    for workers in ["2", "4", "16"] {
+        let words = ["daidalus", "replay", "--config", "c", "--workers", workers];
+        for pieces in [&[][..], &[20000; 9]] {
+            let outside = Outside {
+                words: &words,
+                read_pieces: pieces,
+                room,
+                ..PLAIN
+            };
+            gives(&rt, input.as_bytes(), outside, 1, text.as_slice())?;
+        }
+    }
+    Ok(())
+}
+
+/// A sink that fails within the texts of moments that were decided side by side took a beginning.
+#[test]
+fn a_sink_fails_within_a_batch(rt: HostRuntime) -> Result<(), Fail> {
+    let input = moments_of(&rt, 9)?;
+    let text = alone(&rt, input.as_bytes(), 8192)?;
+    for room in [0, 1, 226, 227, 1000, 2000] {
+        gives_front(&rt, input.as_bytes(), PLAIN, text.as_slice(), room)?;
+    }
+    Ok(())
+}
