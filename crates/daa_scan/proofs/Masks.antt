@@ -26,9 +26,9 @@ module _ (Holds : ℕ → Type 0) where
   pub add_set : (l old mask : ℕ) → AddsLevels Holds l old mask → Holds (l + 1) → AddsLevels Holds (l + 1) old (bit_or mask (2 ^ l))
   add_set l old mask h m j one = ⊎_elim
       (λ e. let here : bit_at (bit_or mask (2 ^ l)) (j - 1) ≡ 1 = ap (bit_at (bit_or mask (2 ^ l))) (before j one e) ∙ set_same mask l in
-          ((λ _. inr (omega (arith, e), subst Holds (sym e) m)), (λ _. here)))
+      ((λ _. inr (omega (arith, e), subst Holds (sym e) m)), (λ _. here)))
       (λ n. let o = set_other mask l (j - 1) (apart j one n) in let is = h j one in
-          ((λ b. wider l j old (is.0 (sym o ∙ b))), (λ s. o ∙ is.1 (⊎_elim (λ b. inl b) (λ (w, x). inr (below l j w n, x)) s))))
+      ((λ b. wider l j old (is.0 (sym o ∙ b))), (λ s. o ∙ is.1 (⊎_elim (λ b. inl b) (λ (w, x). inr (below l j w n, x)) s))))
       (cases_eq j (l + 1))
     where
       before : (j : ℕ) → 1 ≤ j → j ≡ l + 1 → j - 1 ≡ l
@@ -44,9 +44,9 @@ module _ (Holds : ℕ → Type 0) where
     (λ s. ⊎_elim
         (λ b. is.1 (inl b))
         (λ (w, x). ⊎_elim
-            (λ e. subst (λ (i : ℕ). HasLevel mask i) (sym e) (k (subst Holds e x)))
-            (λ n. is.1 (inr (below l j w n, x)))
-            (cases_eq j (l + 1)))
+        (λ e. subst (λ (i : ℕ). HasLevel mask i) (sym e) (k (subst Holds e x)))
+        (λ n. is.1 (inr (below l j w n, x)))
+        (cases_eq j (l + 1)))
         s),
   )
 

@@ -16,6 +16,7 @@ ghost use Rattle.daa_state.specs.InRange.{IsOwnInRange, IsTrafficInRange};
 ghost use Rattle.daa_legs.specs.Branch.{lead_of};
 ghost use Rattle.daa_legs.specs.Table.{IsBranchOf};
 ghost use Rattle.daa_legs.specs.Trunk.{AreLegsOf};
+ghost use Rattle.daa_legs.specs.OwnLeg.{own_leg, IsOwnLegInRange};
 ghost use Rattle.daa_legs.specs.Meeting.{MeetsWithin, Meets, ViolatesOn};
 ghost use Rattle.daa_scan.specs.Adding.{AddsLevels};
 ghost use Rattle.daa_scan.specs.Inside.Refusal.{AreSecondsAt};
@@ -25,14 +26,14 @@ ghost use Rattle.daa_scan.specs.Inside.Trunks.{AreTrunksOf};
 ghost use Rattle.daa_scan.specs.Inside.Marking.{AreTrailsOf, AreMarked, AreMasks, IsStretchOf, AreStretchesOf};
 
 use crate::nesting::lies_within;
-use crate::refusal::{Seconds, present_leg, seconds_in_height, seconds_in_plane};
+use crate::refusal::{Seconds, present_leg, present_of, seconds_in_height, seconds_in_plane};
 use crate::sharing::{meets_by_branch, walk_ahead};
 use crate::trail::Trail;
 use crate::trunks::{Trunks, lead_to};
 use daa_config::{Candidate, Config, Kind, Level};
 use daa_detect::is_hit;
 use daa_fixed::Leg;
-use daa_legs::{Branch, Trunk};
+use daa_legs::{Branch, OwnLeg, Trunk};
 use daa_state::{Own, Traffic};
 
 /// So many candidates are passed over by one look at their masks, where none of them is asked.
@@ -82,8 +83,11 @@ pub(crate) fn mark_levels(
     ensures length { length masks.new ≡ length masks.old }
 {
     let stretches = stretches_of(config);
+    let hold = present_of(config, own);
     for l in 0..config.levels() {
-        mark_level(config, own, trunks, aircraft, l, &stretches, first, masks);
+        mark_level(
+            config, own, &hold, trunks, aircraft, l, &stretches, first, masks,
+        );
     }
 }
 
@@ -114,6 +118,7 @@ fn stretch_of(config: &Config, kind: Kind) -> Stretch
 fn mark_level(
     config: &Config,
     own: &Own,
+    hold: &OwnLeg,
     trunks: &Trunks,
     aircraft: &Traffic,
     l: u32,
@@ -122,6 +127,8 @@ fn mark_level(
     masks: &mut [u8],
 )
     requires own { IsOwnInRange own.now }
+    requires hold { hold.now ≡ own_leg own.now (rates_of config.now) Candidate.Hold 0 }
+    requires in_range { IsOwnLegInRange hold.now }
     requires aircraft { IsTrafficInRange aircraft.now }
     requires trunks { AreTrunksOf config.now own.now trunks.now }
     requires l { l < length config.now.levels }
@@ -135,7 +142,7 @@ fn mark_level(
     ensures length { length masks.new ≡ length masks.old }
 {
     let level = config.level(l + 1);
-    let present = present_leg(config, own, aircraft, level.lookahead);
+    let present = present_leg(config, own, hold, aircraft, level.lookahead);
     let heights = seconds_in_height(&present, &level.volume);
     let way = seconds_in_plane(&present, &level.volume);
     mark_present(config, own, aircraft, l, level, &present, first, masks);

@@ -3,7 +3,9 @@
 
 ghost use Rattle.std.specs.Prelude.{◌≡◌, ◌≤◌, ℕ, IsTrue, Some, false, length, slice_get};
 ghost use Rattle.daa_config.specs.Candidates.{candidates_of};
-ghost use Rattle.daa_config.specs.Settings.{IsLevelInRange};
+ghost use Rattle.daa_config.specs.Settings.{IsLevelInRange, rates_of};
+ghost use Rattle.daa_config.specs.declared.candidate.Candidate.{Candidate};
+ghost use Rattle.daa_legs.specs.OwnLeg.{own_leg, IsOwnLegInRange};
 ghost use Rattle.daa_config.specs.declared.kind.Kind.{Kind};
 ghost use Rattle.daa_state.specs.InRange.{IsOwnInRange, IsTrafficInRange, IsPictureInRange};
 ghost use Rattle.daa_state.specs.Picture.{aircraft_of};
@@ -13,11 +15,11 @@ ghost use Rattle.daa_scan.specs.Trunks.{is_needed, AreIdle, AreFlightsOf};
 ghost use Rattle.daa_scan.specs.Inside.Needs.{NeedsMore, IsIdleAt};
 
 use crate::reach::is_in_reach;
-use crate::refusal::{Seconds, present_leg, seconds_in_height, seconds_in_plane};
+use crate::refusal::{Seconds, present_leg, present_of, seconds_in_height, seconds_in_plane};
 use crate::table::fill_branches;
 use crate::trunks::fill_trunks;
 use daa_config::{Config, Kind, Level};
-use daa_legs::{Branch, Trunk};
+use daa_legs::{Branch, OwnLeg, Trunk};
 use daa_state::{Own, Picture, Traffic};
 
 /// Whether the flights of those kinds are needed that keep the present heights, and of those that
@@ -79,6 +81,7 @@ fn needs_of(config: &Config, picture: &Picture) -> Needs
         → IsInReach config.now picture.now.own aircraft
         → AreIdle config.now picture.now.own aircraft result }
 {
+    let hold = present_of(config, &picture.own);
     let mut needs = Needs {
         turns: false,
         climbs: false,
@@ -88,6 +91,7 @@ fn needs_of(config: &Config, picture: &Picture) -> Needs
             needs,
             config,
             &picture.own,
+            &hold,
             &picture.traffic[place as usize],
         );
     }
@@ -95,8 +99,16 @@ fn needs_of(config: &Config, picture: &Picture) -> Needs
 }
 
 /// With those of which some candidate may meet the aircraft, if it is in reach.
-fn with_aircraft(needs: Needs, config: &Config, own: &Own, aircraft: &Traffic) -> Needs
+fn with_aircraft(
+    needs: Needs,
+    config: &Config,
+    own: &Own,
+    hold: &OwnLeg,
+    aircraft: &Traffic,
+) -> Needs
     requires own { IsOwnInRange own.now }
+    requires hold { hold.now ≡ own_leg own.now (rates_of config.now) Candidate.Hold 0 }
+    requires in_range { IsOwnLegInRange hold.now }
     requires aircraft { IsTrafficInRange aircraft.now }
     ensures more { NeedsMore needs result }
     ensures idle { IsInReach config.now own.now aircraft.now
@@ -110,20 +122,29 @@ fn with_aircraft(needs: Needs, config: &Config, own: &Own, aircraft: &Traffic) -
     }
     let mut all = needs;
     for l in 0..config.levels() {
-        all = with_level(all, config, own, aircraft, config.level(l + 1));
+        all = with_level(all, config, own, hold, aircraft, config.level(l + 1));
     }
     all
 }
 
 /// With those of which some candidate may meet the aircraft at the level.
-fn with_level(needs: Needs, config: &Config, own: &Own, aircraft: &Traffic, level: &Level) -> Needs
+fn with_level(
+    needs: Needs,
+    config: &Config,
+    own: &Own,
+    hold: &OwnLeg,
+    aircraft: &Traffic,
+    level: &Level,
+) -> Needs
     requires own { IsOwnInRange own.now }
+    requires hold { hold.now ≡ own_leg own.now (rates_of config.now) Candidate.Hold 0 }
+    requires in_range { IsOwnLegInRange hold.now }
     requires aircraft { IsTrafficInRange aircraft.now }
     requires level { IsLevelInRange level.now }
     ensures more { NeedsMore needs result }
     ensures idle { IsIdleAt config.now own.now aircraft.now level.now result }
 {
-    let present = present_leg(config, own, aircraft, level.lookahead);
+    let present = present_leg(config, own, hold, aircraft, level.lookahead);
     let heights = seconds_in_height(&present, &level.volume);
     let way = seconds_in_plane(&present, &level.volume);
     Needs {

@@ -12,7 +12,7 @@ ghost use Rattle.daa_vwindow.specs.Window.{HasSmallNumbers};
 ghost use Rattle.daa_config.specs.Settings.{rates_of};
 ghost use Rattle.daa_state.specs.InRange.{IsOwnInRange, IsTrafficInRange};
 ghost use Rattle.daa_legs.specs.Meeting.{MeetsWithin};
-ghost use Rattle.daa_legs.specs.OwnLeg.{own_leg};
+ghost use Rattle.daa_legs.specs.OwnLeg.{own_leg, IsOwnLegInRange};
 ghost use Rattle.daa_legs.specs.Relative.{relative_for};
 ghost use Rattle.daa_legs.specs.Inside.Shared.{in_plane};
 ghost use Rattle.daa_scan.specs.Inside.Refusal.{AreSecondsInHeight};
@@ -20,7 +20,7 @@ ghost use Rattle.daa_scan.specs.Inside.Refusal.{AreSecondsInHeight};
 use daa_config::{Candidate, Config};
 use daa_detect::is_hit;
 use daa_fixed::{Flat, Leg, Point, Solid};
-use daa_legs::{Flight, OwnRun, relative_run};
+use daa_legs::{Flight, OwnLeg, OwnRun, relative_run};
 use daa_state::{Own, Traffic};
 use daa_taumod::Volume;
 use daa_vwindow::window;
@@ -47,9 +47,28 @@ const ALL: Seconds = Seconds {
     end: LONGEST,
 };
 
-/// So many seconds of the present flight as one leg, as the aircraft sees it.
-pub(crate) fn present_leg(config: &Config, own: &Own, aircraft: &Traffic, secs: u32) -> Leg
+/// The first leg of the present flight. Every other one has the same velocity, so that it is found
+/// once for all aircraft and levels.
+pub(crate) fn present_of(config: &Config, own: &Own) -> OwnLeg
     requires own { IsOwnInRange own.now }
+    ensures value { result ≡ own_leg own.now (rates_of config.now) Candidate.Hold 0 }
+    ensures in_range { IsOwnLegInRange result }
+{
+    Flight::begin(own, config, Candidate::Hold).next_leg()
+}
+
+/// So many seconds of the present flight, which has this first leg, as one leg, as the aircraft
+/// sees it.
+pub(crate) fn present_leg(
+    config: &Config,
+    own: &Own,
+    hold: &OwnLeg,
+    aircraft: &Traffic,
+    secs: u32,
+) -> Leg
+    requires own { IsOwnInRange own.now }
+    requires hold { hold.now ≡ own_leg own.now (rates_of config.now) Candidate.Hold 0 }
+    requires in_range { IsOwnLegInRange hold.now }
     requires aircraft { IsTrafficInRange aircraft.now }
     requires some { 1 ≤ secs }
     requires short { secs ≤ 180 }
@@ -59,10 +78,9 @@ pub(crate) fn present_leg(config: &Config, own: &Own, aircraft: &Traffic, secs: 
     ensures seconds { (volume : Volume) → HoldsSometime result.secs (Violates result volume)
         ↔ MeetsWithin config.now own.now Candidate.Hold aircraft.now volume secs }
 {
-    let leg = Flight::begin(own, config, Candidate::Hold).next_leg();
     let run = OwnRun {
-        place: leg.place,
-        velocity: leg.velocity,
+        place: hold.place,
+        velocity: hold.velocity,
         secs,
     };
     relative_run(&run, aircraft, 0)

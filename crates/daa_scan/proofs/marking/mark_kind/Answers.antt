@@ -20,10 +20,13 @@ returns-then-seconds-level-clause-masks c before h = marked_past c.args.config.n
 pub returns-then-not-some_has_level-clause-masks : goal.returns-then-not-some_has_level-clause-masks
 returns-then-not-some_has_level-clause-masks c before h = marked_asked c.args.config.now c.args.own.now c.args.aircraft.now c.args.first c.args.l before c.args.masks.now
     (start_of c.args.kind c.args.config.now) (start_of c.args.kind c.args.config.now + length (values_of c.args.kind c.args.config.now)) (omega arith)
-    (λ j b from d. inr (c.is_nested-nested.ensures.some c.if-nested.true, (λ candidate m. c.is_nested-nested.ensures.nested c.if-nested.true c.args.own.now candidate c.args.aircraft.now m),
-    c.some_has_level.ensures c.if-not-some_has_level.true j
-    (omega (arith, c.max-from.ensures, c.requires.stretch.from, from))
-    (omega (arith, c.min-upto.ensures, c.requires.stretch.upto, d, b))))
+    (λ j b from d. inr (
+      c.is_nested-nested.ensures.some c.if-nested.true,
+      (λ candidate m. c.is_nested-nested.ensures.nested c.if-nested.true c.args.own.now candidate c.args.aircraft.now m),
+      c.some_has_level.ensures c.if-not-some_has_level.true j
+          (omega (arith, c.max-from.ensures, c.requires.stretch.from, from))
+          (omega (arith, c.min-upto.ensures, c.requires.stretch.upto, d, b)),
+    ))
     h
 
 pub loop-at-init : goal.loop-at-init
