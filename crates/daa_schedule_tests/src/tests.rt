@@ -1,8 +1,8 @@
 ghost use Rattle.std.specs.Prelude.{◌≡◌, ◌*◌, ◌^◌, ◌<◌, ◌≤◌};
 ghost use Rattle.daa_schedule.specs.CoreState.{worker_count, unit_count};
 
-use crate::{Core, NoMemory, Step, StepFault};
 use daa_range::Range;
+use daa_schedule::{Core, NoMemory, Step, StepFault};
 use std::alloc::{AllocError, Global};
 use std::error::Error;
 use std::process::Abort;

@@ -6,10 +6,10 @@ ghost use Rattle.daa_config.specs.Settings.{IsCandidateInRange};
 ghost use Rattle.daa_state.specs.InRange.{IsOwnInRange};
 ghost use Rattle.daa_legs.specs.OwnLeg.{IsOwnLegInRange};
 
-use super::*;
 use daa_config::examples::ONE_LEVEL;
 use daa_config::{Candidate, Config, read};
 use daa_fixed::{Flat, Leg, Solid};
+use daa_legs::*;
 use daa_state::{Id, Own, Traffic};
 use std::test::Fail;
 

@@ -2,7 +2,7 @@
 
 ghost use Rattle.daa_state.specs.InRange.{IsFormat};
 
-use super::*;
+use daa_state::*;
 use std::alloc::{AllocError, Global};
 use std::error::Error;
 use std::process::Abort;

@@ -1,6 +1,6 @@
 //! Words and whether they are taken.
 
-use crate::{Order, Task, WordsFault, daidalus, read_words};
+use daa_words::{Order, Task, WordsFault, daidalus, read_words};
 use std::alloc::{AllocError, Global};
 use std::error::Error;
 use std::test::Fail;
