@@ -32,8 +32,14 @@ def crates():
     return found
 
 
+@functools.cache
+def described():
+    """The crates that have a README and a row of the map: all but NAME_tests, where there is a crate NAME."""
+    return {name: below for name, below in crates().items() if not (name.endswith("_tests") and name[:-6] in crates())}
+
+
 def readmes():
-    return [f"crates/{name}/README.md" for name in crates()]
+    return [f"crates/{name}/README.md" for name in described()]
 
 
 def lies_in(crate, path):
@@ -56,18 +62,29 @@ def paths_of(name):
 
 class Map(unittest.TestCase):
     def test_each_crate_has_its_readme(self):
-        self.assertGreater(len(crates()), 30)
-        for name in crates():
+        self.assertGreater(len(described()), 30)
+        for name in described():
             self.assertTrue(read(f"crates/{name}/README.md").startswith(f"# {name}\n"), name)
         self.assertEqual(sorted(crates()), sorted(os.listdir(os.path.join(TOP, "crates"))))
 
+    def test_crates_of_tests_hold_all_tests_of_a_crate_and_nothing_else(self):
+        of_tests = set(crates()) - set(described())
+        self.assertGreater(len(of_tests), 3)
+        for name in of_tests:
+            of = name.removesuffix("_tests")
+            text = f"//! Tests of {of}.\n#![tactic(auto)]\n\n#[cfg(test)]\nmod tests;\n"
+            self.assertEqual(read(f"crates/{name}/src/lib.rt"), text)
+            self.assertIn(of, crates()[name])
+            for path in glob.glob(os.path.join(TOP, "crates", of, "src", "**", "*.rt"), recursive=True):
+                self.assertNotIn("#[test]", read(path), path)
+
     def test_the_map_has_the_crates_in_their_order(self):
         text = read("docs/ARCHITECTURE.md")
-        self.assertEqual(re.findall(r"^\| \[(\w+)\]\(\.\./crates/\1\) \|", text, re.M), list(crates()))
+        self.assertEqual(re.findall(r"^\| \[(\w+)\]\(\.\./crates/\1\) \|", text, re.M), list(described()))
         self.assertLessEqual(len(text.encode()), 9000)
 
     def test_each_readme_says_what_its_crate_stands_on(self):
-        for name, below in crates().items():
+        for name, below in described().items():
             said = re.search(r"^Stands on(.*)\.$", read(f"crates/{name}/README.md"), re.M)
             self.assertTrue(said, name)
             words = re.findall(r"\w+", re.sub(r"of the kit|nothing but std", "", said[1]))
@@ -105,7 +122,7 @@ class Map(unittest.TestCase):
 
     def test_each_public_item_is_named(self):
         found = 0
-        for name in crates():
+        for name in described():
             path = f"crates/{name}/src/lib.rt"
             if os.path.exists(os.path.join(TOP, path)):
                 text = read(path)
@@ -159,7 +176,8 @@ class WrongBodies(unittest.TestCase):
         if crate and os.path.exists(os.path.join(TOP, "crates", crate, "must-fail", f"{name}.edit")):
             return True
         for named in re.findall(r"\bdaa_\w+", row):
-            files = glob.glob(os.path.join(TOP, "crates", named, "src", "**", "*.rt"), recursive=True)
+            files = [path for it in (named, f"{named}_tests")
+                     for path in glob.glob(os.path.join(TOP, "crates", it, "src", "**", "*.rt"), recursive=True)]
             if any(re.search(rf"#\[test\]\s+fn {re.escape(name)}\(", read(path)) for path in files):
                 return True
         return name.startswith("tests/") and os.path.exists(os.path.join(TOP, name))

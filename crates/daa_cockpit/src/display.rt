@@ -1,6 +1,6 @@
 //! A display: a screen, an engine that writes for it, and what was drawn last.
 
-ghost use Rattle.std.specs.Prelude.{◌≡◌, ◌≤◌, [], IsTrue, IsFalse, IfOk};
+ghost use Rattle.std.specs.Prelude.{◌≡◌, ◌≤◌, [], IsTrue, IsFalse, IfOk, OnOk};
 ghost use Rattle.daa_screen.specs.Story.{GoesOn};
 ghost use Rattle.daa_cockpit.specs.Inside.Shows.{IsDrawn, ShowsAll, IsSameDisplay};
 
@@ -99,27 +99,23 @@ impl Display {
     }
 
     /// Is told of all that was published, and draws that.
-    pub fn catch_up<R: Threads + Sync>(self, rt: &R, alloc: Global, feed: &Feed) -> Result<Display>
-        requires { self.screen.feed ≡ feed.now.story.feed }
-        ensures { IfOk result
-            (λ display. ShowsAll self.engine.settings feed.now.story display) }
+    pub fn catch_up<R: Threads + Sync>(&mut self, rt: &R, alloc: Global, feed: &Feed) -> Result<()>
+        requires { self.old.screen.feed ≡ feed.now.story.feed }
+        ensures { OnOk result (ShowsAll self.old.engine.settings feed.now.story self.new) }
     {
-        let mut display = self;
-        tell_all(feed, &mut display.screen);
-        display.draw_all(rt, alloc, feed)
+        tell_all(feed, &mut self.screen);
+        self.draw_all(rt, alloc, feed)
     }
 
     /// Draws all that was published, of which it was told.
     #[tactic(auto, using(daa_screen::proofs::KeptPictures::goes_on_and_on))]
-    fn draw_all<R: Threads + Sync>(self, rt: &R, alloc: Global, feed: &Feed) -> Result<Display>
-        requires { GoesOn feed.now.story self.screen }
-        ensures { IfOk result
-            (λ display. ShowsAll self.engine.settings feed.now.story display) }
+    fn draw_all<R: Threads + Sync>(&mut self, rt: &R, alloc: Global, feed: &Feed) -> Result<()>
+        requires { GoesOn feed.now.story self.old.screen }
+        ensures { OnOk result (ShowsAll self.old.engine.settings feed.now.story self.new) }
     {
-        let mut display = self;
-        let drawn = display.look(rt, alloc);
-        if drawn && display.has_all(feed) {
-            return Ok(display);
+        let drawn = self.look(rt, alloc);
+        if drawn && self.has_all(feed) {
+            return Ok(());
         }
         bail!("what was published last could not be drawn");
     }

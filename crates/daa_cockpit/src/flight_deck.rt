@@ -1,6 +1,6 @@
 //! The displays together.
 
-ghost use Rattle.std.specs.Prelude.{◌≡◌, IfOk, OnOk, Ok};
+ghost use Rattle.std.specs.Prelude.{◌≡◌, OnOk, Ok};
 ghost use Rattle.daa_cockpit.specs.Inside.Reads.{pictures_after};
 ghost use Rattle.daa_cockpit.specs.Inside.Shows.{ShowsAll, IsSameDisplay};
 
@@ -73,30 +73,28 @@ impl FlightDeck {
     /// Publishes the moments of the text while the displays look. At the end each display
     /// shows all that was published.
     pub fn show<R: Threads + Wait + Sync>(
-        self,
+        &mut self,
         rt: &R,
         alloc: Global,
         states: &str,
         feed: &mut Feed,
-    ) -> Result<FlightDeck>
-        requires pilot { self.pilot.screen.feed ≡ feed.old.story.feed }
-        requires observer { self.observer.screen.feed ≡ feed.old.story.feed }
-        requires ground { self.ground.screen.feed ≡ feed.old.story.feed }
+    ) -> Result<()>
+        requires pilot { self.old.pilot.screen.feed ≡ feed.old.story.feed }
+        requires observer { self.old.observer.screen.feed ≡ feed.old.story.feed }
+        requires ground { self.old.ground.screen.feed ≡ feed.old.story.feed }
         ensures published { OnOk result
             (pictures_after feed.old.story.pictures states.now ≡ Ok feed.new.story.pictures) }
-        ensures pilot { IfOk result
-            (λ deck. ShowsAll self.pilot.engine.settings feed.new.story deck.pilot) }
-        ensures observer { IfOk result
-            (λ deck. ShowsAll self.observer.engine.settings feed.new.story deck.observer) }
-        ensures ground { IfOk result
-            (λ deck. ShowsAll self.ground.engine.settings feed.new.story deck.ground) }
+        ensures pilot { OnOk result
+            (ShowsAll self.old.pilot.engine.settings feed.new.story self.new.pilot) }
+        ensures observer { OnOk result
+            (ShowsAll self.old.observer.engine.settings feed.new.story self.new.observer) }
+        ensures ground { OnOk result
+            (ShowsAll self.old.ground.engine.settings feed.new.story self.new.ground) }
     {
-        let mut deck = self;
-        deck.publish_and_watch(rt, alloc, states, feed)?;
-        Ok(FlightDeck {
-            pilot: deck.pilot.catch_up(rt, alloc, feed)?,
-            observer: deck.observer.catch_up(rt, alloc, feed)?,
-            ground: deck.ground.catch_up(rt, alloc, feed)?,
-        })
+        self.publish_and_watch(rt, alloc, states, feed)?;
+        self.pilot.catch_up(rt, alloc, feed)?;
+        self.observer.catch_up(rt, alloc, feed)?;
+        self.ground.catch_up(rt, alloc, feed)?;
+        Ok(())
     }
 }

@@ -11,6 +11,7 @@ mod flight_deck;
 mod start;
 
 use crate::display::Display;
+use crate::flight_deck::FlightDeck;
 use anyhow::Result;
 use std::io::{self, Write};
 
@@ -21,17 +22,22 @@ fn print_drawing(rt: &impl Print, name: &str, display: &Display) -> io::Result<(
     io::writer(rt).write_all(display.drawing.taken())
 }
 
+/// Prints what each display shows, if that is what was published.
+fn print_shown(rt: &impl Print, shown: Result<()>, deck: &FlightDeck) -> Result<()> {
+    shown?;
+    print_drawing(rt, "pilot", &deck.pilot)?;
+    print_drawing(rt, "observer", &deck.observer)?;
+    print_drawing(rt, "ground", &deck.ground)?;
+    Ok(())
+}
+
 /// Shows the moments of standard input on three displays.
 fn main(rt: HostRuntime) -> Result<()> {
     let config = start::config_text(&rt)?;
     let engines = start::new_engines(rt.alloc(), config.as_str())?;
     let states = io::read_to_string(rt.alloc(), rt.reader())?;
-    let (mut feed, deck) = start::open(&rt, rt.alloc(), engines)?;
+    let (mut feed, mut deck) = start::open(&rt, rt.alloc(), engines)?;
     let shown = deck.show(&rt, rt.alloc(), states.as_str(), &mut feed);
     feed.close(&rt);
-    let deck = shown?;
-    print_drawing(&rt, "pilot", &deck.pilot)?;
-    print_drawing(&rt, "observer", &deck.observer)?;
-    print_drawing(&rt, "ground", &deck.ground)?;
-    Ok(())
+    print_shown(&rt, shown, &deck)
 }

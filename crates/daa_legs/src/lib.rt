@@ -24,6 +24,3 @@ pub use laws::{
 };
 pub use own_leg::{OwnLeg, OwnRun};
 pub use trunk::Trunk;
-
-#[cfg(test)]
-mod tests;

@@ -20,6 +20,3 @@ pub use laws::{
 };
 pub use memory::NoMemory;
 pub use step::{Step, StepFault};
-
-#[cfg(test)]
-mod tests;

@@ -25,6 +25,3 @@ pub use laws::{
 pub use moments::Moments;
 pub use word::{MOST_AIRCRAFT, Own, Picture, Traffic, Word};
 pub use word_of::read_line;
-
-#[cfg(test)]
-mod tests;

@@ -21,6 +21,3 @@ pub use fault::WordsFault;
 pub use laws::{taken_words_give_an_order, worked_examples, worked_exercises, worked_judgements};
 pub use order::{Order, Task};
 pub use reading::read_words;
-
-#[cfg(test)]
-mod tests;

@@ -1,0 +1,5 @@
+//! Tests of daa_legs.
+#![tactic(auto)]
+
+#[cfg(test)]
+mod tests;

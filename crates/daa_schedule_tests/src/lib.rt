@@ -1,0 +1,5 @@
+//! Tests of daa_schedule.
+#![tactic(auto)]
+
+#[cfg(test)]
+mod tests;

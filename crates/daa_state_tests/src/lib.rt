@@ -1,0 +1,5 @@
+//! Tests of daa_state.
+#![tactic(auto)]
+
+#[cfg(test)]
+mod tests;

@@ -1,0 +1,5 @@
+//! Tests of daa_words.
+#![tactic(auto)]
+
+#[cfg(test)]
+mod tests;
