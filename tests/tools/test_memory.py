@@ -1,0 +1,48 @@
+"""Deciding takes no memory: the requests for memory of runs of the program with one worker are counted."""
+import os
+import subprocess
+import unittest
+
+from common import CONFIG, ENCOUNTER, TOP, ToolTest, module, program
+
+refuse_memory = module("bench/refuse_memory")
+
+
+def example(name):
+    return os.path.join(TOP, "examples", name)
+
+
+class Requests(ToolTest):
+    def setUp(self):
+        super().setUp()
+        self.library = refuse_memory.compiled(self.folder)
+
+    def run_counted(self, *words, given=b""):
+        """What the program writes, and how often it asks for memory; none is refused."""
+        count = self.write("count", bytes(8))
+        environment = {"LD_PRELOAD": self.library, "REFUSE_COUNT": count}
+        ran = subprocess.run([program(), *words, "--workers", "1"], input=given, env=environment, capture_output=True, timeout=120)
+        self.assertEqual((ran.returncode, ran.stderr), (0, b""))
+        with open(count, "rb") as told:
+            return ran.stdout, int.from_bytes(told.read(), "little")
+
+    def test_a_replay_of_many_moments_asks_as_often_as_one_of_none(self):
+        for config, states in ((CONFIG, ENCOUNTER), (example("recovery.toml"), example("closed.states"))):
+            with open(states, "rb") as file:
+                given = file.read()
+            nothing, at_the_opening = self.run_counted("replay", "--config", config)
+            report, requests = self.run_counted("replay", "--config", config, given=given)
+            self.assertEqual(nothing, b"")
+            self.assertGreater(at_the_opening, 0)
+            self.assertEqual(report.count(b"\ndone "), given.count(b"\nend\n"))
+            self.assertEqual(requests, at_the_opening)
+
+    def test_an_exercise_of_many_moments_asks_as_often_as_one_of_few(self):
+        words = ["exercise", "--config", CONFIG, "--seed", "7", "--moments"]
+        (one, few), (other, many) = self.run_counted(*words, "001"), self.run_counted(*words, "200")
+        self.assertNotEqual(one, other)
+        self.assertEqual(few, many)
+
+
+if __name__ == "__main__":
+    unittest.main()
