@@ -20,7 +20,7 @@ module _ (report : Bytes) (most : ℕ) where
     pub calm : new.faults ≡ old.faults
 
   -- what was read, and whether it was all, shows that it differs from the report, and in which line
-  -- first; nothing was read after the read that showed it
+  -- first; all of it but at most the last 4096 bytes begin the report
   pub record ShowsDifference (number : ℕ) (old new : StreamState) : Type 0 where
     pub bytes : Bytes
     pub handed : HandsOut most old new bytes
