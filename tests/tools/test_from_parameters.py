@@ -1,8 +1,13 @@
 """tools/from_parameters: a parameter file of NASA's form, its configuration worked out by hand, and each refusal."""
+import os
 import tomllib
 import unittest
 
+import common
 from common import ToolTest
+from daidalus_files import read_config
+
+EXAMPLES = os.path.join(common.TOP, "examples")
 
 TOP = """# a comment
 lookahead_time = 180 [s]
@@ -76,6 +81,12 @@ class FromParameters(ToolTest):
             "from_parameters: no recovery is asked for (recovery_hdir and its kin), so there is no table [recovery]",
             "from_parameters: left out, and at a value at which nothing is missed: left_hdir, bank_angle, one_alert_1_spread_hdir, "
             "one_alert_2_spread_hdir, one_alert_3_spread_hdir"])
+
+    def test_the_example(self):
+        """examples/parameters.conf has the numbers of examples/recovery.toml in NASA's units."""
+        status, out, _ = self.tool("from_parameters", os.path.join(EXAMPLES, "parameters.conf"))
+        self.assertEqual(status, 0)
+        self.assertEqual(read_config(self.write("c.toml", out)), read_config(os.path.join(EXAMPLES, "recovery.toml")))
 
     def test_units(self):
         """4010 ft are 4010 * 0.3048 / 1852 = 0.65996 NM; 0.05 rad a second are 2.8648 degrees; 5 m/s are 9.719 knots."""

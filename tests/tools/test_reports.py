@@ -9,7 +9,8 @@ from daidalus_files import Band, encounters_of, read_report
 compare = module("tools/compare")
 
 KEEP = "resolve gs down keep up keep\nresolve vs down keep up keep\nresolve alt down keep up keep\n"
-TOOLS = ("check", "compare", "draw", "encounters", "from_daa", "from_parameters", "moments", "reference", "steady", "summary", "table")
+TOOLS = ("check", "compare", "draw", "encounters", "from_daa", "from_parameters", "moments", "reference", "steady", "summary", "table",
+         "volume")
 # Two moments, with a refused line between them: A alerts, and violates at the second one; no track is left there.
 REPORT = ("moment 0\nnow A 0\nalert A 2 43\ntrack 0 5 3\ntrack 10 180 0\ntrack 185 355 3\ngs 500 7000 0\nvs 0 0 0\nalt 0 9000 0\n"
           "alt 9500 10500 1\nalt 11000 50000 0\nresolve track left none right 10\n" + KEEP + "done 0\nrefused 9 6\n"
