@@ -1,4 +1,6 @@
 """What the tools share: a configuration, state lines and a report, each read once, as docs/FORMATS.md tells them."""
+import argparse
+import functools
 import os
 import re
 import sys
@@ -395,6 +397,11 @@ def traffic_line(traffic, form):
     return ("traffic {} {} {} {} {} {} {}" + " {}" * (form == 2)).format(*traffic)
 
 
+def moment_lines(time, own, traffic, form):
+    """The lines of a moment in format 1 or 2."""
+    return [f"moment {time}", own_line(own), *(traffic_line(aircraft, form) for aircraft in traffic), "end"]
+
+
 # A report.
 
 class Alert(NamedTuple):
@@ -411,94 +418,223 @@ class Band(NamedTuple):
     level: int
 
 
-class MomentReport:
-    """The report of a moment; `recover` has (seconds, value) or None by kind, where there is such a line."""
+class RefusedLine(NamedTuple):
+    """A refused line of the states: its number, its code, and how many moments were reported before it."""
 
-    def __init__(self, time):
-        self.time, self.alerts, self.recover = time, {}, {}
-        self.bands, self.answers = {kind: [] for kind in KINDS}, {}
+    line: int
+    code: int
+    before: int
+
+
+class MomentReport:
+    """The report of a moment, which begins on a line of it. `recover` has (seconds, value) or None by kind, and `last` seconds
+    or None, where there is such a line; `steady` the levels by aircraft that tools/steady adds."""
+
+    __slots__ = ("time", "line", "alerts", "bands", "answers", "last", "recover", "steady")
+
+    def __init__(self, time, line=0):
+        self.time, self.line, self.alerts, self.answers = time, line, {}, {}
+        self.bands = {kind: [] for kind in KINDS}
+        self.last, self.recover, self.steady = {}, {}, {}
 
     def level_at(self, kind, value):
         return next((band.level for band in self.bands[kind] if band.first <= value <= band.last), None)
 
 
 class Report:
-    """A report: its moments, its refused lines, each with the number of moments before it, and whether it is whole."""
+    """A report: its moments, its refused lines, and whether it is whole."""
 
     def __init__(self):
         self.moments, self.refused, self.whole = [], [], True
 
 
-NUMBER = r"(-?[0-9]+)"
-ANSWER = r"(keep|none|-?[0-9]+)"
-REPORT_LINES = {name: re.compile(form) for name, form in {
+NUMBER, ANSWER = r"(-?[0-9]+)", r"(keep|none|-?[0-9]+)"
+REPORT_FORMS = {word: re.compile(form) for word, form in {
     "refused": r"refused ([0-9]+) ([0-9]+)", "moment": r"moment ([0-9]+)", "now": r"now (\S+) ([0-4])",
-    "alert": r"alert (\S+) ([0-4]) (-|[0-9]+)", "band": rf"(track|gs|vs|alt) {NUMBER} {NUMBER} ([0-4])",
+    "alert": r"alert (\S+) ([0-4]) (-|[0-9]+)", "steady": r"steady (\S+) ([0-4])",
+    **{kind: rf"{kind} {NUMBER} {NUMBER} ([0-4])" for kind in KINDS},
     "resolve": rf"resolve (track|gs|vs|alt) (?:left|down) {ANSWER} (?:right|up) {ANSWER}",
+    "last": r"last (track|gs|vs|alt) (none|[0-9]+)",
     "recover": rf"recover (track|gs|vs|alt) (?:(none)|([0-9]+) {NUMBER})", "done": r"done ([0-9]+)"}.items()}
 
 
-def read_report(path):
-    """The report in a file, or on standard input where the name is `-`."""
-    name = "standard input" if path == "-" else path
-    text = read_bytes(path)
-    if not text.strip():
-        raise Problem(f"{name}: no report: it is empty", 4)
-    report, at = Report(), None
-    *lines, rest = text.decode("latin-1").split("\n")
-    for number, line in enumerate(lines, 1):
-        at = take_report_line(report, at, line, f"{name}: line {number}")
-    if not lines:
-        raise Problem(f"{name}: no report: it has no whole line", 4)
-    report.whole = at is None and not rest
-    return report
-
-
-def take_report_line(report, at, line, where):
-    """Takes a line of a report; gives the moment that is then open, or None."""
-    word, found = next(((word, form.fullmatch(line)) for word, form in REPORT_LINES.items() if form.fullmatch(line)), ("", None))
-    if not found or (at is None) != (word in ("refused", "moment")):
-        raise Problem(f"{where} is no line of a report there: {line[:60]!a}", 4)
-    values = found.groups()
-    if word == "refused":
-        report.refused.append((int(values[0]), int(values[1]), len(report.moments)))
-    elif word == "moment":
-        return MomentReport(int(values[0]))
-    elif word == "done":
-        if int(values[0]) != at.time or set(at.answers) != set(KINDS):
-            raise Problem(f"{where} ends a moment that is not whole: {line!a}", 4)
-        report.moments.append(at)
+@functools.lru_cache(maxsize=1 << 16)
+def parsed(line):
+    """The word of a line of a report and what it says, or None where it is no such line."""
+    word = line.split(" ", 1)[0]
+    found = REPORT_FORMS[word].fullmatch(line) if word in REPORT_FORMS else None
+    if not found:
         return None
-    else:
-        fill(at, word, values, where)
-    return at
+    values = found.groups()
+    if word in KINDS:
+        return word, Band(*map(int, values))
+    if word == "alert":
+        return word, (values[0], int(values[1]), None if values[2] == "-" else int(values[2]))
+    if word in ("now", "steady"):
+        return word, (values[0], int(values[1]))
+    if word == "resolve":
+        return word, (values[0], (answer_of(values[1]), answer_of(values[2])))
+    if word == "last":
+        return word, (values[0], None if values[1] == "none" else int(values[1]))
+    if word == "recover":
+        return word, (values[0], None if values[1] else (int(values[2]), int(values[3])))
+    return word, tuple(map(int, values))
 
 
 def answer_of(word):
     return word if word in ("keep", "none") else int(word)
 
 
-def fill(at, word, values, where):
-    """Puts what a line says into the report of its moment."""
-    if word == "now":
-        at.alerts[values[0]] = Alert(int(values[1]), 0, None)
-    elif word == "alert":
-        if values[0] not in at.alerts:
-            raise Problem(f"{where} is an alert of {values[0]}, of which no line `now` stands before it", 4)
-        first = None if values[2] == "-" else int(values[2])
-        at.alerts[values[0]] = at.alerts[values[0]]._replace(level=int(values[1]), first=first)
-    elif word == "band":
-        band, before = Band(*map(int, values[1:])), at.bands[values[0]]
-        if band.first > band.last or before and band.first <= before[-1].last:
-            raise Problem(f"{where} does not rise: {' '.join(map(str, band[:2]))}", 4)
-        before.append(band)
-    elif word == "resolve":
-        at.answers[values[0]] = answer_of(values[1]), answer_of(values[2])
-    else:
-        at.recover[values[0]] = None if values[1] else (int(values[2]), int(values[3]))
+def answer_word(answers):
+    """On which sides of a kind a candidate is open: keep, both, lower, upper or none."""
+    if answers[0] == "keep":
+        return "keep"
+    lower, upper = (answer != "none" for answer in answers)
+    return {(True, True): "both", (True, False): "lower", (False, True): "upper", (False, False): "none"}[lower, upper]
+
+
+class ReportReader:
+    """Takes the lines of a report, one by one; `name` is what it is called in messages."""
+
+    def __init__(self, name):
+        self.name, self.line, self.moments, self.open = name, 0, 0, None
+
+    def take(self, line):
+        """Takes a line without its end; gives the moment that it ends, or the refused line that it tells of, or None."""
+        self.line += 1
+        found = parsed(line)
+        if found is None or (self.open is None) != (found[0] in ("refused", "moment")):
+            raise self.problem(f"is no line of a report there: {line[:60]!a}")
+        word, said = found
+        if word == "refused":
+            return RefusedLine(*said, self.moments)
+        if word == "moment":
+            self.open = MomentReport(said[0], self.line)
+        elif word == "done":
+            return self.end(said[0], line)
+        else:
+            self.fill(self.open, word, said)
+        return None
+
+    def problem(self, what):
+        return Problem(f"{self.name}: line {self.line} {what}", 4)
+
+    def end(self, time, line):
+        ended = self.open
+        if time != ended.time or len(ended.answers) != len(KINDS):
+            raise self.problem(f"ends a moment that is not whole: {line!a}")
+        self.open = None
+        self.moments += 1
+        return ended
+
+    def fill(self, at, word, said):
+        """Puts what a line says into the report of its moment."""
+        if word in KINDS:
+            before = at.bands[word]
+            if said.first > said.last or before and said.first <= before[-1].last:
+                raise self.problem(f"does not rise: {said.first} {said.last}")
+            before.append(said)
+        elif word == "now":
+            at.alerts[said[0]] = Alert(said[1], 0, None)
+        elif word == "alert":
+            if said[0] not in at.alerts:
+                raise self.problem(f"is an alert of {said[0]}, of which no line `now` stands before it")
+            at.alerts[said[0]] = Alert(at.alerts[said[0]].now, said[1], said[2])
+        else:
+            place = {"resolve": at.answers, "last": at.last, "recover": at.recover, "steady": at.steady}[word]
+            place[said[0]] = said[1]
+
+
+CUT = "cut"  # what report_events gives last, of a report that ends within a line or a moment
+
+
+def report_events(path):
+    """The moments and the refused lines of a report in a file (`-`: standard input), one by one as they are read."""
+    reader = ReportReader("standard input" if path == "-" else path)
+    rest = b""
+    for line in lines_of(path):
+        if not line.endswith(b"\n"):
+            rest = line
+            break
+        event = reader.take(line[:-1].decode("latin-1"))
+        if event is not None:
+            yield event
+    if not reader.line:
+        raise Problem(f"{reader.name}: no report: {'it has no whole line' if rest.strip() else 'it is empty'}", 4)
+    if rest or reader.open:
+        yield CUT
+
+
+def lines_of(path):
+    """The lines of a file in bytes, each with its end."""
+    try:
+        if path == "-":
+            yield from sys.stdin.buffer
+            return
+        with open(path, "rb") as file:
+            yield from file
+    except OSError as fault:
+        raise Problem(f"{path}: {fault.strerror}", 7) from None
+
+
+def read_report(path):
+    """The report in a file, or on standard input where the name is `-`."""
+    report = Report()
+    for event in report_events(path):
+        if event is CUT:
+            report.whole = False
+        elif isinstance(event, RefusedLine):
+            report.refused.append(event)
+        else:
+            report.moments.append(event)
+    return report
 
 
 def tell_if_cut(name, report):
     """Says on standard error that a report ends too early, as one does whose run was ended by a fault."""
     if not report.whole:
-        print(f"{name}: the report ends within a moment, which is left out", file=sys.stderr)
+        say_cut(name)
+
+
+def say_cut(name):
+    print(f"{name}: the report ends within a moment, which is left out", file=sys.stderr)
+
+
+# Encounters.
+
+class Encounters:
+    """Numbers encounters from 1 on: one begins where a time is not greater than the one before, and with `pause` also where
+    so many seconds or more lie between the two."""
+
+    def __init__(self, pause=None):
+        self.number, self.last, self.pause = 0, None, pause
+
+    def number_at(self, time):
+        """The number of the encounter that the moment of this time belongs to."""
+        if self.last is None or time <= self.last or self.pause and time - self.last >= self.pause:
+            self.number += 1
+        self.last = time
+        return self.number
+
+
+def encounters_of(moments, pause=None):
+    """The moments in lists, one for each encounter."""
+    count, found = Encounters(pause), []
+    for moment in moments:
+        if count.number_at(moment.time) > len(found):
+            found.append([])
+        found[-1].append(moment)
+    return found
+
+
+def add_pause(parser):
+    """The option that tells where encounters begin."""
+    parser.add_argument("--pause", metavar="SECONDS", type=at_least_one,
+                        help="an encounter begins also after so many seconds without a moment, not only where times fall")
+
+
+def at_least_one(word):
+    """A whole number of at least 1, of the command line."""
+    if not re.fullmatch("[0-9]{1,10}", word) or int(word) < 1:
+        raise argparse.ArgumentTypeError(f"{word} is no whole number of at least 1")
+    return int(word)

@@ -158,5 +158,78 @@ class States(ToolTest):
         self.assertEqual(codes, {str(code) for code in range(1, 15)})
 
 
+# An edit of the example's configuration, and its advice.
+ADVICE = (
+    (("alert = 55", "alert = 80"), ["level 1 alerts 80 s ahead and looks 75 s ahead", "level 2 alerts 80 s ahead"]),
+    (("zthr = 700", "zthr = 300"), ["level 2 reaches farther than level 1 (zthr 300 and 450)"]),
+    (("lookahead = 55", "lookahead = 90"), ["level 3 reaches farther than level 2 (lookahead 75 and 90)"]),
+    (("dthr = 660", "dthr = 4000"), [f"level {number}, dthr = 4000 is 4 nautical miles; if 4000 feet are meant, write 658" for number in (1, 2, 3)]),
+    (("dthr = 660", "dthr = 1"), [f"level {number}, dthr = 1 is 0.001 nautical miles; if 1 miles are meant, write 1000" for number in (1, 2, 3)]),
+    (("min = 500\nmax = 7000\nstep = 100\nrate = 20", "min = 50\nmax = 700\nstep = 10\nrate = 2"),
+     ["gs goes up to 700, 70 knots; if 700 knots are meant", "gs.rate = 2 is 0.2 knots a second; if knots are meant, write 20"]),
+    (("min = -5000\nmax = 5000", "min = -83\nmax = 83"), ["vs goes up to 17 feet a minute; if feet a second are meant"]),
+    (("max = 50000\nstep = 500", "max = 500\nstep = 5"), ["alt goes up to 500 feet; if flight levels are meant"]),
+    (("# [recovery]\n# hdist = 82\n# vdist = 100", "[recovery]\nhdist = 660\nvdist = 450"), ["recovery.hdist = 660 is as far as the level itself"]),
+)
+FAR, NEAR = "traffic A 3000 8000 10000 -1350 0 0\n", "traffic A 3 8 10000 -1350 0 0\n"
+# State lines, and their advice.
+STATES_ADVICE = (
+    ("moment 0\nown 0 0 10000 0 360 0\n" + FAR + "end\nmoment 10\nown 0 1000 10000 0 360 0\n" + FAR + "end\n",
+     ["the ownship flies 10.0 times as far as its ground speed says"]),
+    ("moment 0\nown 0 0 10000 0 360 0\ntraffic A 3000 8000 10000 -135 0 0\nend\n", ["no speed is above 36 knots"]),
+    ("moment 0\nown 0 0 10000 0 360 0\ntraffic A 3000 8000 0 0 0 0\nend\nmoment 10\nown 0 100 10000 0 360 0\nend\n", []),
+    ("moment 0\nown 0 0 10000 0 3600 0\n" + NEAR + "end\n", ["no aircraft is farther than 0.008 nautical miles from the ownship"]),
+    ("moment 0\nown 0 0 10000 0 3600 0\n" + NEAR + FAR.replace("A", "B") + "end\n", []),
+    ("moment 0\nown 0 0 10000 0 3600 0\ntraffic A 0 0 10000 -1350 0 0\nend\n", []),
+    ("moment 0\nown 0 0 10000 0 3600 0\n" + FAR.replace("0 0\n", "0 0 2\n") + "end\n", ["write the line `format 2` before the first moment"]),
+    ("NAME lat lon alt trk gs vs time\n[none] [deg] [deg] [ft] [deg] [knot] [fpm] [s]\n", ["this looks like a recording with named columns: tools/from_daa"]),
+    ("time [s],name,sx,sy,alt\n", ["this looks like a recording"]),
+    ("resolve = 1\n", ["this looks like a configuration"]),
+)
+
+
+class Advice(ToolTest):
+    def advised(self, *words):
+        status, out, said = self.tool("check", "--advice", *words)
+        self.assertEqual(said, "")
+        return status, [line.split(": advice: ")[1] for line in out.splitlines() if ": advice: " in line], out
+
+    def assert_advice(self, found, parts):
+        self.assertEqual(len(found), len(parts), found)
+        for words, part in zip(found, parts):
+            self.assertTrue(words.startswith(part) or part in words, (words, part))
+
+    def test_on_a_configuration(self):
+        with open(CONFIG, encoding="utf-8") as file:
+            text = file.read()
+        for (old, new), parts in ADVICE:
+            self.assertIn(old, text)
+            path = self.write("c.toml", text.replace(old, new, 1 if old.startswith(("zthr", "#", "min", "max")) else -1))
+            status, found, out = self.advised(path)
+            self.assertEqual(status, 0, out)
+            self.assert_advice(found, parts)
+            self.assertNotIn("accepted", out)
+            self.assertEqual(self.tool("check", path), (0, "", ""))
+
+    def test_on_state_lines(self):
+        for text, parts in STATES_ADVICE:
+            path = self.write("in.states", text)
+            status, found, out = self.advised(CONFIG, path)
+            self.assert_advice(found, parts)
+            self.assertEqual((status, out.replace(path, "")), (self.tool("check", CONFIG, path)[0], out.replace(path, "")))
+            self.assertEqual("accepted" in out, not parts)
+
+    def test_state_lines_in_the_configurations_place(self):
+        self.assert_advice(self.advised(self.write("in.states", "moment 0\nend\n"))[1], ["these are state lines: the configuration comes first"])
+
+    def test_what_was_accepted(self):
+        """72 tracks, 66 ground speeds, 101 vertical speeds, 101 altitudes and the present flight are 341."""
+        states = f"{TOP}/examples/encounter.states"
+        self.assertEqual(self.advised(CONFIG, states)[2], "accepted: 3 levels, 341 candidates; 19 moments of up to 2 aircraft\n")
+        self.assertEqual(self.advised(self.write("c.toml", PLAIN))[2], "accepted: 1 level, 8 candidates\n")
+        self.assertEqual(self.advised(f"{TOP}/examples/recovery.toml", f"{TOP}/examples/closed.states")[2],
+                         "accepted: 3 levels, 341 candidates; 1 moment of up to 2 aircraft\n")
+
+
 if __name__ == "__main__":
     unittest.main()

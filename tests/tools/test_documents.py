@@ -4,11 +4,12 @@ import os
 import re
 import unittest
 
-from common import TOP, module
+from common import TOP
 from daidalus_files import GRIDS, LEVEL, RECOVERY, TOP as TOP_KEYS
 from headings import SINES
 
-moments = module("tools/moments")
+import generator
+
 KEYS = {*GRIDS, *LEVEL, *RECOVERY, *TOP_KEYS, "rate", "min", "max", "step", "keep", "now", "resolve", "recover"}
 # Words of other libraries and of the tools that stand in FORMULAS.md.
 OTHERS = {"rand_pcg", "rand_core", "seed_from_u64", "pick", "meets", "tools/reference", "Hold", "nearing", *KEYS}
@@ -61,13 +62,13 @@ class Formulas(unittest.TestCase):
         rows = re.findall(r"^\| (\d+) \| ([0-9a-f, ]+) \| (\d+) \| (\d+) \| ([0-9 ]+) \|$", self.text, re.M)
         self.assertEqual(len(rows), 3)
         for seed, words, state, increment, outputs in rows:
-            self.assertEqual([f"{word:08x}" for word in moments.words_of_seed(int(seed))], words.split(", "))
-            draw = moments.Generator.of_seed(int(seed))
+            self.assertEqual([f"{word:08x}" for word in generator.words_of_seed(int(seed))], words.split(", "))
+            draw = generator.Generator.of_seed(int(seed))
             self.assertEqual((draw.state, draw.increment), (int(state), int(increment)))
             self.assertEqual([draw.next() for _ in outputs.split()], [int(output) for output in outputs.split()])
 
     def test_the_constants(self):
-        for constant in (moments.MULTIPLIER, moments.SEED_INCREMENT):
+        for constant in (generator.MULTIPLIER, generator.SEED_INCREMENT):
             self.assertIn(str(constant), self.text)
 
 

@@ -110,6 +110,33 @@ class FromDaa(ToolTest):
         self.assertTrue(0 < lost["place"] <= 0.0015 and 0 < lost["height"] <= 1 and 0 < lost["speed"] <= 0.3, said)
         self.assertLess(lost["closest"], 0.01)
 
+    def test_columns_that_are_not_used_are_told(self):
+        """Of two forms of a speed one is taken."""
+        text = "name,time,heading,sx,sy,alt,vx,vy,trk,gs,vs\nown,0,7,0,0,0,1,2,90,100,0\n"
+        moments, said = self.made(text)
+        self.assertIn("from_daa: not used: the columns heading, vx, vy\n", said)
+        self.assertEqual((moments[0].own.trk, moments[0].own.gs), (90, 1000))
+        self.assertNotIn("not used", self.made(text.replace("heading,", "").replace(",7,", ",").replace("vx,vy,", "").replace(",1,2,", ","))[1])
+
+    def test_reports_that_no_moment_has_are_told(self):
+        """Of A's reports the first has a newer one at 10 s, the fourth comes after the last moment; B's is too old."""
+        reports = "".join(f"A {second} 0 0 0 0 0 {second}\n" for second in (5, 6, 10, 11))
+        moments, said = self.made(PLANE + "own 0 0 0 0 100 0 0\nB 9 0 0 0 0 0 0.5\n" + reports + "own 0 0 0 0 100 0 10\nown 0 0 0 0 100 0 10.9\n", "--oldest", "5")
+        self.assertEqual([[aircraft.id for aircraft in moment.traffic] for moment in moments], [[], ["A"]])
+        self.assertIn("left out: 3 reports of A that no moment has", said)
+        self.assertIn("left out: 1 reports of B that no moment has", said)
+        self.assertNotIn("that no moment has", self.made(PLANE + "own 0 0 0 0 100 0 0\nA 1 0 0 0 0 0 0\n")[1])
+
+    def test_feet_and_times_of_day(self):
+        """1:02:03.5 are 3723.5 s; a report of half a second before flies on that long: 3600 ft/min make 30 ft of it."""
+        text = "name,time [hh:mm:ss],sx,sy,alt [feet],vx,vy,vs\nown,1:02:03.5,0,0,1000,0,100,0\nA,01:02:03,1,0,2000,0,0,3600\n"
+        for text in (text, text.replace(" [hh:mm:ss]", "")):
+            moments, said = self.made(text)
+            self.assertEqual([(moment.time, moment.own.alt, moment.traffic[0].alt) for moment in moments], [(3723, 1000, 2030)], said)
+        self.assertEqual(self.made(text.replace("1:02:03", "24:00:00"))[0][0].time, 86400)
+        status, _, said = self.tool("from_daa", self.write("in.csv", text.replace("1:02:03.5", "1:62:03")))
+        self.assertEqual(status, 3)
+
     def test_says_what_is_no_recording(self):
         for text, part in (("", "no header line"), ("NAME time\n", "the header has no column for alt, vs, a place"),
                            (HEAD, "no report of an aircraft"), (HEAD + "own 60 10 x 90 150 0 3\n", "line 3: no number for alt"),

@@ -1,15 +1,16 @@
-"""tools/summary, tools/compare and tools/draw, on reports written by hand and on the example's."""
+"""Reports and their readers: tools/summary and tools/compare, on reports written by hand."""
 import os
 import subprocess
 import unittest
-from xml.etree import ElementTree
 
-from common import CONFIG, ENCOUNTER, TOP, ToolTest, module, program, replayed
-from daidalus_files import Band, read_report
+from common import TOP, ToolTest, module, program
+from daidalus_files import Band, encounters_of, read_report
 
-draw = module("tools/draw")
+compare = module("tools/compare")
 
 KEEP = "resolve gs down keep up keep\nresolve vs down keep up keep\nresolve alt down keep up keep\n"
+TOOLS = ("check", "compare", "draw", "encounters", "from_daa", "from_parameters", "moments", "reference", "steady", "summary", "table",
+         "volume")
 # Two moments, with a refused line between them: A alerts, and violates at the second one; no track is left there.
 REPORT = ("moment 0\nnow A 0\nalert A 2 43\ntrack 0 5 3\ntrack 10 180 0\ntrack 185 355 3\ngs 500 7000 0\nvs 0 0 0\nalt 0 9000 0\n"
           "alt 9500 10500 1\nalt 11000 50000 0\nresolve track left none right 10\n" + KEEP + "done 0\nrefused 9 6\n"
@@ -55,9 +56,47 @@ class Reports(ToolTest):
     def test_summary_as_a_table(self):
         status, out, _ = self.tool("summary", "--csv", self.report)
         self.assertEqual(status, 0)
-        self.assertEqual(out.splitlines()[:4], ["of,what,value,moments,first,last", "A,alert,2,2,0,10", "A,now,1,1,10,10",
-                                                "track,answer,none,1,10,10"])
-        self.assertEqual(out.splitlines()[-1], "input,refused,6,1,9,9")
+        self.assertEqual(out.splitlines()[:4], ["of,what,value,moments,first,last,encounters", "A,alert,2,2,0,10,1", "A,now,1,1,10,10,1",
+                                                "track,answer,none,1,10,10,1"])
+        self.assertEqual(out.splitlines()[-1], "input,refused,6,1,9,9,")
+
+    def test_summary_by_encounter(self):
+        """Two reports end to end: in the first A alerts twice, in the second once; the second begins at time 0 again."""
+        report = self.write("b.report", REPORT + REPORT.split("refused")[0])
+        status, out, said = self.tool("summary", report)
+        self.assertEqual((status, said), (0, ""))
+        self.assertEqual(out.splitlines()[:3], [
+            "3 moments in 2 encounters; refused lines: 1", "A: level 2 alerted at 3 moments of 2 encounters",
+            "A: level 1 violated at 1 moment of 1 encounter"])
+        out = self.tool("summary", "--encounters", report)[1].splitlines()
+        at = out.index("encounter 1: 2 moments, 0 to 10 s")
+        self.assertEqual(out[at + 1:at + 3], ["  A: level 2 alerted at 2 moments, 0 to 10 s", "  A: level 1 violated at 1 moment, 10 s"])
+        at = out.index("encounter 2: 1 moment, 0 s")
+        self.assertEqual(out[at + 1:], ["  A: level 2 alerted at 1 moment, 0 s", "  track: answer upper at 1 moment, 0 s",
+                                        *[f"  {kind}: answer keep at 1 moment, 0 s" for kind in ("gs", "vs", "alt")]])
+        out = self.tool("summary", "--encounters", "--csv", report)[1].splitlines()
+        self.assertEqual([row for row in out if ",A," in row],
+                         ["1,A,alert,2,2,0,10,1", "1,A,now,1,1,10,10,1", "2,A,alert,2,1,0,0,1"])
+        self.assertEqual(out[-1], ",input,refused,6,1,9,9,")
+
+    def test_encounters_begin_where_times_fall_or_after_a_pause(self):
+        """The times 0 10 | 0 | 0 1 5 | 5; with a pause of 4 also before 10 and 5."""
+        moments = [type("At", (), {"time": time}) for time in (0, 10, 0, 0, 1, 5, 5)]
+        self.assertEqual([[at.time for at in each] for each in encounters_of(moments)], [[0, 10], [0], [0, 1, 5], [5]])
+        self.assertEqual([[at.time for at in each] for each in encounters_of(moments, 4)], [[0], [10], [0], [0, 1], [5], [5]])
+        status, out, said = self.tool("summary", "--pause", "0", self.report)
+        self.assertEqual((status, out), (2, ""))
+        self.assertIn("0 is no whole number of at least 1", said)
+
+    def test_last_times_are_read(self):
+        text = REPORT.replace("recover track", "last track 3\nlast gs none\nrecover track")
+        report = read_report(self.write("b.report", text))
+        self.assertEqual([moment.last for moment in report.moments], [{}, {"track": 3, "gs": None}])
+        out = self.tool("summary", self.write("b.report", text))[1].splitlines()
+        self.assertLessEqual({"track: last time found at 1 moment, 10 s", "gs: last time none at 1 moment, 10 s"}, set(out))
+        out = self.tool("compare", self.report, self.write("b.report", text))[1].splitlines()
+        self.assertEqual(out[:2], ["moment 10 last track: - and 3", "moment 10 last gs: - and none"])
+        self.assertLessEqual({"last track: 1 of 1 differ, 100.0 % (1 by nothing/a value)"}, set(out))
 
     def test_compare_tells_each_difference(self):
         other = (REPORT.replace("alert A 2 43", "alert A 3 40").replace("track 10 180 0\ntrack 185 355 3", "track 10 190 0\ntrack 195 355 3")
@@ -69,11 +108,12 @@ class Reports(ToolTest):
             "moment 0 A alert: 2 and 3", "moment 0 A first second: 43 and 40", "moment 0 track 185 to 190: 3 and 0",
             "moment 0 resolve track right: 10 and 15", "moment 10 A now: 1 and 0", "moment 10 recover track: 12 40 and none",
             "line 9 refused: 6 and 4",
-            "moment: 0 of 2 differ", "aircraft: 0 of 2 differ", "now: 1 of 2 differ (1 by 1)", "alert: 1 of 2 differ (1 by 1)",
-            "first second: 1 of 2 differ (1 by 3)", "track: 2 of 144 differ (2 by 3)", "gs: 0 of 2 differ", "vs: 0 of 2 differ",
-            "alt: 0 of 202 differ", "resolve track: 1 of 4 differ (1 by 5)", "resolve gs: 0 of 4 differ", "resolve vs: 0 of 4 differ",
-            "resolve alt: 0 of 4 differ", "recover track: 1 of 1 differ (1 by a value/none)",
-            "refused: 1 of 1 differ (1 by 2)"])
+            "moment: 0 of 2 differ", "aircraft: 0 of 2 differ", "now: 1 of 2 differ, 50.0 % (1 by -1)",
+            "alert: 1 of 2 differ, 50.0 % (1 by +1)", "first second: 1 of 2 differ, 50.0 % (1 by -3)",
+            "track: 2 of 144 differ, 1.4 % (2 by -3)", "gs: 0 of 2 differ", "vs: 0 of 2 differ",
+            "alt: 0 of 202 differ", "resolve track: 1 of 4 differ, 25.0 % (1 by +5)", "resolve gs: 0 of 4 differ",
+            "resolve vs: 0 of 4 differ", "resolve alt: 0 of 4 differ", "recover track: 1 of 1 differ, 100.0 % (1 by a value/none)",
+            "refused: 1 of 1 differ, 100.0 % (1 by 6/4)"])
 
     def test_compare_tells_what_one_lacks(self):
         other = REPORT.replace("now A", "now B").replace("alert A", "alert B")
@@ -90,72 +130,44 @@ class Reports(ToolTest):
         self.assertEqual(status, 1)
         self.assertEqual(out.splitlines()[:3], ["moment 0 track 5: 3 and -", "moment 0 track 185: 3 and -", "moment 0 track 355: 3 and -"])
 
+    def test_compare_takes_encounters_one_by_one(self):
+        """Two reports end to end have their moments 0 each; a difference in the first one's is told, and of which it is."""
+        other = REPORT.replace("alert A 2 43", "alert A 1 43", 1)
+        one, other = self.write("b.report", REPORT + REPORT), self.write("c.report", other + REPORT)
+        status, out, said = self.tool("compare", one, other)
+        self.assertEqual((status, said), (1, ""))
+        self.assertEqual(out.splitlines()[:2], ["encounter 1 moment 0 A alert: 2 and 1", "moment: 0 of 4 differ"])
+        self.assertEqual(self.tool("compare", one, one)[0], 0)
+
+    def test_compare_refuses_other_numbers_of_encounters(self):
+        one = self.write("b.report", REPORT + REPORT)
+        for words in ([one, self.report], [self.report, one]):
+            status, out, said = self.tool("compare", *words)
+            self.assertEqual((status, out), (4, ""))
+            self.assert_one_line(said, f"times begin anew on line {REPORT.count(chr(10)) + 1}")
+
+    def test_totals_go_by_size(self):
+        totals = compare.Totals()
+        for one, other in ((0, 3), (3, 0), (1, 0), (0, 1), (2, 0), (1, None), ("none", 4)):
+            totals.note("alert", one, other)
+        totals.note("alert", 1, 1, count=9993)
+        self.assertEqual(list(totals.lines()), ["alert: 7 of 10000 differ, less than 0.1 % (1 by -1, 1 by +1, 1 by -2, 1 by -3, 1 by +3, "
+                                                "1 by a value/nothing, 1 by none/a value)"])
+
+    def test_turns_go_the_short_way(self):
+        self.assertEqual([compare.turn(*pair) for pair in ((10, 15), (15, 10), (355, 5), (5, 355), (0, 180), (0, 185))],
+                         [5, -5, 10, -10, 180, -175])
+
+    def test_runs_of_two_lists_of_bands(self):
+        """Steps of 5: 0 5 | 10 | 15 20 with levels (3, 3), (0, 3), (0, 1); then 25, which the second list has not."""
+        one, other = [Band(0, 5, 3), Band(10, 25, 0)], [Band(0, 10, 3), Band(15, 20, 1)]
+        self.assertEqual(list(compare.common_runs(one, other, 5)),
+                         [(0, 5, (3, 3)), (10, 10, (0, 3)), (15, 20, (0, 1)), (25, 25, (0, None))])
+
     def test_compare_finds_no_difference_in_one_report(self):
         status, out, _ = self.tool("compare", self.report, self.report)
         self.assertEqual(status, 0)
         self.assertNotIn("moment 0", out)
-
-
-class Pictures(ToolTest):
-    def picture(self, report, *words):
-        status, out, said = self.tool("draw", *words, self.write("a.report", report))
-        self.assertEqual((status, said), (0, ""))
-        return ElementTree.fromstring(out), out
-
-    @staticmethod
-    def words(root):
-        return [text.text for text in root.iter("{http://www.w3.org/2000/svg}text")]
-
-    @staticmethod
-    def drawn(root, form):
-        """How often a mark of that form is drawn: the crosses have the two strokes, the diamonds four sides."""
-        return sum(form in path.get("d") for path in root.iter("{http://www.w3.org/2000/svg}path"))
-
-    def test_what_stands_in_the_picture(self):
-        """In the legend stands each mark once, and then three sides with none, one answer and one recovery are drawn."""
-        root, _ = self.picture(REPORT)
-        self.assertEqual(self.drawn(root, "l6 6m0 -6l-6 6"), 1 + 3)
-        self.assertEqual(self.drawn(root, "l4 5l-4 5"), 1 + 1)
-        self.assertEqual((self.drawn(root, "h8l-4 -5z"), self.drawn(root, "h8l-4 5z")), (1 + 1, 1 + 0))
-        self.assertEqual(self.words(root).count("!"), 2)
-        wanted = {"clear", "level 1", "level 2", "level 3", "A: alert, now", "12", "270", "recovery, after s", "lines refused"}
-        self.assertLessEqual(wanted, set(self.words(root)))
-        self.assertFalse({"present value", "plan view", "level 4"} & set(self.words(root)))
-        plain, _ = self.picture(REPORT.replace("recover track 12 40\n", "").replace("refused 9 6\n", ""))
-        self.assertFalse({"recovery, after s", "lines refused", "!"} & set(self.words(plain)))
-
-    def test_borders_half_way_between_candidates(self):
-        bands = [Band(0, 5, 3), Band(10, 180, 0), Band(185, 355, 3)]
-        self.assertEqual(draw.edges_of(bands, 5), [(-2.5, 7.5, 3), (7.5, 182.5, 0), (182.5, 357.5, 3)])
-
-    def test_altitudes_are_cut_to_where_levels_change(self):
-        """The borders lie at 9250 and 10750 ft; one step of 500 ft is kept on each side."""
-        report = read_report(self.write("a.report", REPORT))
-        picture = draw.Picture(report, [])
-        self.assertEqual(picture.axis_of("alt"), (8750, 11250, True))
-        self.assertEqual(picture.axis_of("track"), (-2.5, 357.5, False))
-
-    def test_ticks_are_round(self):
-        self.assertEqual(draw.ticks(8750, 11250), [9000, 9500, 10000, 10500, 11000])
-        self.assertEqual(draw.ticks(-3, 3), [-3, -2, -1, 0, 1, 2, 3])
-
-    def test_the_states_give_present_values_and_a_plan_view(self):
-        states = self.write("in.states", "moment 0\nown 0 0 10000 0 3600 0\ntraffic A 3000 8000 10000 -1350 0 0\nend\n")
-        root, _ = self.picture(REPORT, "--states", states)
-        self.assertLessEqual({"present value", "plan view", "ownship", "A"}, set(self.words(root)))
-        self.assertEqual(len(list(root.iter("{http://www.w3.org/2000/svg}circle"))), 4)
-
-    def test_names_are_escaped(self):
-        _, out = self.picture(REPORT.replace("now A", "now <&>").replace("alert A", "alert <&>"))
-        self.assertIn("&lt;&amp;&gt;: alert, now", out)
-
-    def test_the_picture_of_the_documents(self):
-        """docs/encounter.svg is what is drawn of the example's report today."""
-        with open(ENCOUNTER, "rb") as file:
-            report = replayed(CONFIG, file.read())[1]
-        status, out, _ = self.tool("draw", "--states", ENCOUNTER, self.write("a.report", report))
-        with open(os.path.join(TOP, "docs", "encounter.svg"), encoding="utf-8") as file:
-            self.assertEqual((status, out), (0, file.read()))
 
 
 class Pipes(unittest.TestCase):
@@ -168,10 +180,15 @@ class Pipes(unittest.TestCase):
         self.assertEqual((run.wait(), said), (5, b""))
 
     def test_help_tells_the_statuses(self):
-        for tool in ("check", "compare", "draw", "from_daa", "moments", "reference", "summary"):
+        for tool in TOOLS:
             out = subprocess.run([os.path.join(TOP, "tools", tool), "--help"], capture_output=True, text=True)
             self.assertEqual((out.returncode, out.stderr), (0, ""))
-            self.assertIn("\nStatus: 0", out.stdout)
+            self.assertRegex(out.stdout, r"\nStatus: 0(.|\n)*\b5 nobody\s+reads", tool)
+            self.assertRegex(out.stdout, rf"\n  (\./daidalus .*\| )?tools/{tool} ", tool)
+
+    def test_the_list_of_tools_is_whole(self):
+        there = {name for name in os.listdir(os.path.join(TOP, "tools")) if not name.endswith(".py") and name != "__pycache__"}
+        self.assertEqual(there, set(TOOLS))
 
     def test_the_program_is_there(self):
         self.assertTrue(os.access(program(), os.X_OK))

@@ -1,0 +1,91 @@
+"""tools/encounters: parts are the whole, all is accepted, aircraft fly as they say, and they meet."""
+import math
+import unittest
+
+from common import CONFIG, ToolTest, module
+from daidalus_files import Moment, Reader
+from headings import velocity
+
+encounters = module("tools/encounters")
+
+
+class WholeEncounters(ToolTest):
+    def made(self, *words):
+        status, out, said = self.tool("encounters", *words)
+        self.assertEqual((status, said), (0, ""))
+        return out
+
+    def test_parts_end_to_end_are_the_whole(self):
+        whole = self.made("--seed", "7", "--count", "5", "--seconds", "20")
+        parts = [self.made("--seed", "7", "--from", first, "--count", count, "--seconds", "20") for first, count in (("0", "2"), ("2", "3"))]
+        self.assertEqual("".join(parts), whole)
+        self.assertNotEqual(self.made("--seed", "8", "--count", "5", "--seconds", "20"), whole)
+
+    def test_the_line_that_makes_an_encounter_again(self):
+        whole = self.made("--seed", "7", "--count", "3", "--seconds", "9")
+        begin = whole.index("# encounter 2:")
+        words = whole[begin:].splitlines()[0].split(": ")[1].split()
+        self.assertEqual(words[0], "tools/encounters")
+        self.assertEqual(self.made(*words[1:]), whole[begin:])
+
+    def test_moments_are_a_second_apart_and_all_are_accepted(self):
+        """The longest encounters, in which altitudes change most."""
+        text = self.made("--seed", "3", "--from", "4", "--count", "30", "--seconds", "600")
+        events = Reader().read(text.encode())
+        self.assertEqual([event.time for event in events if isinstance(event, Moment)],
+                         [1000 * number + second for number in range(4, 34) for second in range(600)])
+        self.assertTrue(all(isinstance(event, Moment) for event in events))
+        counts = {1 + len(event.traffic) for event in events}
+        self.assertEqual((min(counts), max(counts)), (2, 9))
+        self.assertEqual(self.tool("check", "--advice", CONFIG, self.write("e.states", text))[1],
+                         "accepted: 3 levels, 341 candidates; 18000 moments of up to 8 aircraft\n")
+
+    def test_aircraft_fly_as_they_say_and_meet(self):
+        """From second to second each goes as far as its speed says, but for rounding; each is near the ownship at some second."""
+        moments = Reader().read(self.made("--seed", "5", "--count", "1", "--seconds", "120").encode())
+        nearest = {}
+        for before, after in zip(moments, moments[1:]):
+            own = before.own
+            self.fly((own.x, own.y, own.alt), (*velocity(own.gs, own.trk), own.vs), after.own[:3])
+            for one, other in zip(before.traffic, after.traffic, strict=True):
+                self.assertEqual(one.id, other.id)
+                self.fly(one[1:4], one[4:7], other[1:4])
+        for moment in moments:
+            for it in moment.traffic:
+                near = max(abs(it.x - moment.own.x), abs(it.y - moment.own.y)), abs(it.alt - moment.own.alt)
+                nearest[it.id] = min(nearest.get(it.id, (10 ** 9, 0)), near)
+        self.assertTrue(nearest)
+        self.assertTrue(all(side <= 701 for side, _ in nearest.values()), nearest)
+
+    def fly(self, place, speed, then):
+        for at, rate, after, size in zip(place, speed, then, (36, 36, 60)):
+            self.assertLessEqual(abs(after - at - rate / size), 1)
+
+    def test_a_manoeuvre_changes_one_value_at_its_rate(self):
+        flight = encounters.Flight.__new__(encounters.Flight)
+        flight.trk, flight.gs, flight.vs, flight.begin = 350, 3000, 0, 10
+        for kind, target, wanted in (("straight", 0, (350, 3000, 0)), ("track", 20, (356, 3000, 0)), ("track", -90, (344, 3000, 0)),
+                                     ("gs", 600, (350, 2960, 0)), ("vs", 500, (350, 3000, 500)), ("vs", -1500, (350, 3000, -600))):
+            flight.kind, flight.target = kind, target
+            self.assertEqual(flight.state_at(10), (350, 3000, 0))
+            self.assertEqual(flight.state_at(12), wanted)
+        flight.kind, flight.target = "track", 20
+        self.assertEqual(flight.state_at(60)[0], 10)
+
+    def test_most_encounters_have_a_manoeuvre_in_it(self):
+        """Of 40 encounters some are straight throughout, and some aircraft turn, climb and change their speed."""
+        kinds = [encounters.Flight(encounters.Generator.of_seed(seed), 60).kind for seed in range(200)]
+        counts = {kind: kinds.count(kind) for kind in set(kinds)}
+        self.assertEqual(set(counts), {"straight", "track", "gs", "vs"})
+        self.assertTrue(all(math.isclose(counts[kind], 40, abs_tol=25) for kind in ("track", "gs", "vs")), counts)
+
+    def test_words_that_are_not_taken(self):
+        for words in (["--seed", "1"], ["--seed", "-1", "--count", "1"], ["--seed", "1", "--count", "0"],
+                      ["--seed", "1", "--count", "1", "--seconds", "601"], ["--seed", "1", "--count", "1", "--from", "-1"],
+                      ["--seed", "1", "--count", "2", "--from", "4294966"]):
+            self.assertEqual(self.tool("encounters", *words)[:2], (2, ""), words)
+        self.assertIn("moment 4294966000", self.made("--seed", "1", "--count", "1", "--from", "4294966", "--seconds", "1"))
+
+
+if __name__ == "__main__":
+    unittest.main()

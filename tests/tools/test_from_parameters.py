@@ -1,0 +1,184 @@
+"""tools/from_parameters: a parameter file of NASA's form, its configuration worked out by hand, and each refusal."""
+import os
+import tomllib
+import unittest
+
+import common
+from common import ToolTest
+from daidalus_files import read_config
+
+EXAMPLES = os.path.join(common.TOP, "examples")
+
+TOP = """# a comment
+lookahead_time = 180 [s]
+left_hdir = 180 [deg]
+min_hs = 10 [knot]
+max_hs = 700 [knot]
+step_hs = 10 [knot]
+horizontal_accel = 2 [m/s^2]
+min_vs = -6000 [fpm]
+max_vs = 6000 [fpm]
+step_vs = 100 [fpm]
+vertical_accel = 0.25 [G]
+min_alt = 100 [ft]
+max_alt = 50000 [ft]
+step_alt = 500 [ft]
+vertical_rate = 500 [fpm]
+step_hdir = 5 [deg]
+turn_rate = 3 [deg/s]
+bank_angle = 0 [deg]
+corrective_region = MID
+alerters = one, two
+"""
+RECOVERY = """min_horizontal_recovery = 0.66 [nmi]
+min_vertical_recovery = 450 [ft]
+recovery_hdir = true
+recovery_hs = true
+recovery_vs = true
+recovery_alt = true
+ca_bands = true
+"""
+
+
+def level(number, region, zthr, early, alert, name="one", model="WCV_TAUMOD"):
+    begin, det = f"{name}_alert_{number}_", f"{name}_det_{number}_WCV_"
+    return (f"{begin}region = {region}\n{begin}detector = det_{number}\n{begin}alerting_time = {alert} [s]\n"
+            f"{begin}early_alerting_time = {early} [s]\n{begin}spread_hdir = 0 [deg]\n"
+            f"{det}DTHR = 0.66 [nmi]\n{det}ZTHR = {zthr} [ft]\n{det}TTHR = 35 [s]\n{det}TCOA = 0 [s]\n"
+            f"{name}_load_core_detection_det_{number} = gov.nasa.larcfm.ACCoRD.{model}\n")
+
+
+LEVELS = level(1, "FAR", 700, 75, 55) + level(2, "MID", 450, 75, 55) + level(3, "NEAR", 450, 55, 25)
+# 2 m/s^2 are 2 * 3600 / 1852 = 3.8877 knots a second; a quarter of 9.80665 m/s^2 is 0.25 * 9.80665 * 60 / 0.3048 = 482.61 ft/min a second.
+WANTED = {
+    "resolve": 2, "turn_rate": 3, "track_step": 5, "gs": {"min": 100, "max": 7000, "step": 100, "rate": 39},
+    "vs": {"min": -6000, "max": 6000, "step": 100, "rate": 483}, "alt": {"min": 100, "max": 50000, "step": 500, "rate": 500},
+    "level": [{"dthr": 660, "zthr": zthr, "tthr": 35, "tcoa": 0, "alert": alert, "lookahead": lookahead}
+              for zthr, alert, lookahead in ((700, 55, 75), (450, 55, 75), (450, 25, 55))]}
+
+
+class FromParameters(ToolTest):
+    def made(self, text, *words):
+        path = self.write("nasa.conf", text)
+        status, out, said = self.tool("from_parameters", path, *words)
+        self.assertEqual(status, 0, said)
+        self.assertEqual(self.tool("check", self.write("c.toml", out)), (0, "", ""))
+        return tomllib.loads(out), said.splitlines()
+
+    def refused(self, text, *parts):
+        status, out, said = self.tool("from_parameters", self.write("nasa.conf", text))
+        self.assertEqual((status, out), (3, ""), said)
+        for part in parts:
+            self.assert_one_line(said, part)
+
+    def test_the_configuration(self):
+        made, said = self.made(TOP + LEVELS)
+        self.assertEqual(made, WANTED)
+        self.assertEqual(said, [
+            "from_parameters: the alerter two is left out: there is one list of levels here, that of one",
+            "from_parameters: horizontal_accel = 2 [m/s^2] is rounded: 38.8769 to gs.rate = 39 (0.1 kt per second)",
+            "from_parameters: vertical_accel = 0.25 [G] is rounded: 482.611 to vs.rate = 483 (ft/min per second)",
+            "from_parameters: no recovery is asked for (recovery_hdir and its kin), so there is no table [recovery]",
+            "from_parameters: left out, and at a value at which nothing is missed: left_hdir, bank_angle, one_alert_1_spread_hdir, "
+            "one_alert_2_spread_hdir, one_alert_3_spread_hdir"])
+
+    def test_the_example(self):
+        """examples/parameters.conf has the numbers of examples/recovery.toml in NASA's units."""
+        status, out, _ = self.tool("from_parameters", os.path.join(EXAMPLES, "parameters.conf"))
+        self.assertEqual(status, 0)
+        self.assertEqual(read_config(self.write("c.toml", out)), read_config(os.path.join(EXAMPLES, "recovery.toml")))
+
+    def test_units(self):
+        """4010 ft are 4010 * 0.3048 / 1852 = 0.65996 NM; 0.05 rad a second are 2.8648 degrees; 5 m/s are 9.719 knots."""
+        made, said = self.made(TOP.replace("step_hs = 10 [knot]", "step_hs = 5 [m/s]").replace("min_alt = 100 [ft]", "min_alt = 30.48 [m]")
+                               .replace("lookahead_time = 180 [s]", "lookahead_time = 1 [min]").replace("[knot]", "") + LEVELS.replace("0.66 [nmi]", "4010 [ft]"))
+        self.assertEqual((made["gs"]["step"], made["gs"]["min"], made["alt"]["min"]), (97, 100, 100))
+        self.assertEqual([each["dthr"] for each in made["level"]], [660] * 3)
+        self.assertEqual([each["lookahead"] for each in made["level"]], [60, 60, 55])
+        self.assertLessEqual({"from_parameters: lookahead_time cuts the lookahead of level 1 from 75 to 60 s",
+                              "from_parameters: one_det_1_WCV_DTHR = 4010 [ft] is rounded: 659.961 to dthr = 660 (0.001 NM)",
+                              "from_parameters: step_hs = 5 [m/s] is rounded: 97.1922 to gs.step = 97 (0.1 kt)"}, set(said))
+        self.refused(TOP.replace("turn_rate = 3 [deg/s]", "turn_rate = 0.05 [rad/s]") + LEVELS, "that is 2.86479 of turn_rate")
+
+    def test_recoveries(self):
+        """The distance is taken as it stands, with the warning; or the one that is given."""
+        made, said = self.made(TOP + RECOVERY + LEVELS)
+        self.assertEqual(made["recovery"], {"hdist": 660, "vdist": 450})
+        self.assertTrue(any("39 of 94 closed moments, with 0.08 in 84" in line for line in said), said)
+        self.assertTrue(any("ca_bands = true is left out" in line for line in said), said)
+        made, said = self.made(TOP + RECOVERY + LEVELS, "--hdist", "82", "--vdist", "100")
+        self.assertEqual(made["recovery"], {"hdist": 82, "vdist": 100})
+        self.assertFalse(any("39 of 94" in line for line in said), said)
+        made, said = self.made(TOP + RECOVERY.replace("recovery_vs = true", "recovery_vs = false") + LEVELS)
+        self.assertIn("recovery", made)
+        self.assertTrue(any("of some kinds alone" in line for line in said), said)
+
+    def test_regions_give_the_corrective_level(self):
+        for regions, corrective, wanted in ((("FAR", "MID", "NEAR"), "FAR", 1), (("NONE", "MID", "NEAR"), "FAR", 2),
+                                            (("NONE", "FAR", "NEAR"), "MID", 3), (("FAR", "MID", "NEAR"), "NEAR", 3)):
+            text = TOP.replace("= MID", f"= {corrective}") + "".join(level(number, region, 450, 75, 55) for number, region in enumerate(regions, 1))
+            made, said = self.made(text)
+            self.assertEqual(made["resolve"], wanted, regions)
+            self.assertEqual(any("alert_1_region = NONE: NASA shows no bands of level 1" in line for line in said), regions[0] == "NONE")
+        self.refused(TOP + level(1, "FAR", 450, 75, 55), "no level has the region MID or a nearer one")
+
+    def test_detectors(self):
+        made, _ = self.made(TOP + level(1, "MID", 450, 75, 55, model="WCV_TCPA"))
+        self.assertEqual(made["level"][0]["tcpa"], 1)
+        made, said = self.made(TOP + level(1, "MID", 450, 75, 55, model="WCV_TAUMOD_SUM"))
+        self.assertNotIn("tcpa", made["level"][0])
+        self.assertTrue(any("level 1: WCV_TAUMOD_SUM becomes WCV_TAUMOD" in line for line in said))
+        cylinder = level(1, "MID", 450, 75, 55, model="CDCylinder") + "one_det_1_D = 500 [ft]\none_det_1_H = 100 [ft]\n"
+        made, _ = self.made(TOP + cylinder)
+        self.assertEqual(made["level"][0], {"dthr": 82, "zthr": 100, "tthr": 0, "tcoa": 0, "alert": 55, "lookahead": 75})
+        self.refused(TOP + level(1, "MID", 450, 75, 55, model="CD3D"), "there is no such volume here; known are WCV_TAUMOD")
+
+    def test_alerters(self):
+        other = level(1, "MID", 900, 60, 50, name="two")
+        self.assertEqual(len(self.made(TOP + LEVELS + other)[0]["level"]), 3)
+        made, said = self.made(TOP + LEVELS + other, "--alerter", "two")
+        self.assertEqual([each["zthr"] for each in made["level"]], [900])
+        self.assertFalse(any("one_alert" in line for line in said))
+        made, _ = self.made(TOP.replace("alerters = one, two\n", "") + LEVELS.replace("one_", ""))
+        self.assertEqual(made, WANTED)
+        status, _, said = self.tool("from_parameters", self.write("nasa.conf", TOP + LEVELS), "--alerter", "three")
+        self.assertEqual(status, 3)
+        self.assert_one_line(said, "no alerter three; there are one, two")
+
+    def test_what_has_no_place_is_told(self):
+        more = "left_hdir = 90 [deg]\nhysteresis_time = 5 [s]\nh_pos_z_score = 0.5\nbelow_relative_hs = 0 [knot]\nmy_own = 3\n"
+        _, said = self.made(TOP.replace("left_hdir = 180 [deg]\n", "") + more + LEVELS)
+        for line in ("left_hdir = 90 [deg] is left out: all tracks are candidates here", "h_pos_z_score = 0.5 is left out: the uncertainty",
+                     "hysteresis_time = 5 [s] is left out: nothing is kept between moments here", "my_own = 3 is left out: no such parameter"):
+            self.assertTrue(any(line in each for each in said), line)
+        self.assertIn("below_relative_hs", said[-1])
+
+    def test_what_is_refused(self):
+        text = TOP + LEVELS
+        self.refused(text.replace("turn_rate = 3", "turn_rate = 1.5"), "nasa.conf: line 17: turn_rate = 1.5 [deg/s]: that is 1.5 of turn_rate",
+                     "write 1 or 2 [deg/s] in its place")
+        self.refused(text.replace("step_alt = 500", "step_alt = 50"),
+                     "that gives 999 candidates of alt, and 512 are the most: write a step of 98 [ft] or more, or narrow min and max")
+        self.refused(text.replace("step_hs = 10", "step_hs = 1"), "write a step of 1.4 [knot] or more")
+        self.refused(text.replace("step_hdir = 5", "step_hdir = 7"), "write a divisor of 360 from 1 to 90 [deg]")
+        self.refused(text.replace("early_alerting_time = 75", "early_alerting_time = 300"), "write a time of 1 to 180 [s]")
+        self.refused(text.replace("TTHR = 35 [s]", "TTHR = 150 [s]"), "which takes whole numbers from 0 to 120")
+        self.refused(text.replace("step_vs = 100 [fpm]", "step_vs = 100 [furlong]"), "furlong is no unit of it that is known")
+        self.refused(text.replace("step_vs = 100 [fpm]", "step_vs = many"), "this is no number with a unit in brackets")
+        self.refused(text.replace("step_vs = 100 [fpm]\n", ""), "the parameter step_vs is missing")
+        self.refused(text.replace("min_vs = -6000", "min_vs = 7000"), "vs.min = 7000 is above vs.max = 6000")
+        self.refused(TOP, "no alert level in it")
+        self.refused("", "no parameter in it")
+        self.refused("hello\n", "line 1 is no `key = value`: 'hello'")
+        self.refused(text + "turn_rate = 2\n", "turn_rate stands twice")
+        self.assertEqual(self.tool("from_parameters", "nothing")[0], 7)
+
+    def test_the_smallest_step_is_taken(self):
+        """From 100 to 50000 ft a step of 98 gives 510 candidates, one of 97 gives 515."""
+        made, _ = self.made(TOP.replace("step_alt = 500", "step_alt = 98") + LEVELS)
+        self.assertEqual(made["alt"]["step"], 98)
+        self.refused(TOP.replace("step_alt = 500", "step_alt = 97") + LEVELS, "that gives 515 candidates of alt")
+
+
+if __name__ == "__main__":
+    unittest.main()

@@ -1,0 +1,60 @@
+"""tools/volume against the definition: what it takes as near is what tools/reference takes as the horizontal part."""
+import os
+import random
+import unittest
+
+from common import CONFIG, TOP, ToolTest, module
+from daidalus_files import Level
+
+volume = module("tools/volume")
+reference = module("tools/reference")
+
+
+class Volumes(ToolTest):
+    def test_is_near_is_the_horizontal_part(self):
+        """At random places, for each model: an aircraft ahead that comes at a whole speed, heights being equal."""
+        draw = random.Random(5)
+        counts = {False: 0, True: 0}
+        for tcpa in (0, 1):
+            for _ in range(3000):
+                dthr, tthr, speed = draw.randint(100, 2000), draw.randint(0, 60), draw.randint(100, 6000)
+                level = Level(dthr, 450, tthr, 0, 60, 60, tcpa)
+                east, ahead = draw.randint(-dthr - 200, dthr + 200), draw.randint(-dthr - 200, 2 * dthr + tthr * speed // 36)
+                # ownship minus aircraft, in units; the aircraft is `ahead` of it and comes toward it
+                leg = reference.Leg(0, 1, (-36 * east, -36 * ahead, 0), (0, speed, 0))
+                wanted = reference.violates(leg, reference.Volume(36 * dthr, 60 * 450, tthr, 0, tcpa), 0, 1)
+                self.assertEqual(volume.is_near(level, speed / 36000, east / 1000, ahead / 1000), wanted, (level, east, ahead, speed))
+                counts[wanted] += 1
+        self.assertGreater(min(counts.values()), 1000)
+
+    def test_how_far_ahead_it_reaches(self):
+        """r^2 - D^2 = T V r for r on the middle line: with 0.66 NM, 35 s and 240 knots r is 7/6 + sqrt(0.4356 + 49/36) = 2.507."""
+        behind, ahead = volume.stretch_ahead(Level(660, 450, 35, 0, 75, 55, 0), 240 / 3600, 0, 0.001)
+        self.assertAlmostEqual(ahead, 2.507, delta=0.001)
+        self.assertAlmostEqual(behind, -0.66, delta=0.001)
+        self.assertAlmostEqual(volume.stretch_ahead(Level(660, 450, 35, 0, 75, 55, 1), 240 / 3600, 0, 0.001)[1], 35 * 240 / 3600, delta=0.001)
+        self.assertIsNone(volume.stretch_ahead(Level(660, 450, 35, 0, 75, 55, 0), 240 / 3600, 0.7))
+
+    def test_the_picture_of_the_guide(self):
+        """docs/volume.svg is what is drawn today."""
+        status, out, said = self.tool("volume", CONFIG, "--level", "2")
+        with open(os.path.join(TOP, "docs", "volume.svg"), encoding="utf-8") as file:
+            self.assertEqual((status, out, said), (0, file.read(), ""))
+
+    def test_the_time_to_co_altitude(self):
+        """20 s at 2000 ft/min are 667 ft, more than 450; at 1000 ft/min 333 ft, less."""
+        with open(CONFIG, encoding="utf-8") as file:
+            path = self.write("c.toml", file.read().replace("tcoa = 0", "tcoa = 20"))
+        self.assertIn("tcoa 20 s at 2000 ft/min: 667 ft", self.tool("volume", path, "--level", "3", "--climb", "2000")[1])
+        self.assertNotIn("tcoa", self.tool("volume", path, "--level", "3")[1])
+
+    def test_refusals(self):
+        status, out, said = self.tool("volume", CONFIG, "--level", "4")
+        self.assertEqual((status, out), (3, ""))
+        self.assert_one_line(said, "has 3 levels and no level 4")
+        self.assertEqual(self.tool("volume", self.write("c.toml", ""))[0], 3)
+        self.assertEqual((self.tool("volume", "nothing")[0], self.tool("volume", CONFIG, "--closing", "0")[0]), (7, 2))
+
+
+if __name__ == "__main__":
+    unittest.main()

@@ -1,0 +1,108 @@
+"""What the program takes and is seldom meant, of a configuration and of state lines: sentences, which decide nothing."""
+import math
+import re
+
+from headings import velocity
+
+FEET_PER_MIL = 6.076  # feet in 0.001 nautical miles
+SMALL_SPEED, SMALL_PLACE = 600, 50  # 60 knots and 0.05 nautical miles, in the units of state lines
+
+
+def first_words(text):
+    """The words of the first line of a text that is neither blank nor a comment."""
+    lines = (line.split() for line in text[:4096].decode("latin-1").splitlines())
+    return next((words for words in lines if words and not words[0].startswith("#")), [])
+
+
+def advice_on_config(config, text):
+    """Advice on a configuration, or None where it is refused, and its text."""
+    if config is None:
+        is_states = first_words(text)[:1] in (["moment"], ["format"], ["own"])
+        return ["these are state lines: the configuration comes first, tools/check CONFIG STATES"] if is_states else []
+    return [*on_levels(config), *on_grids(config), *on_recovery(config)]
+
+
+def on_levels(config):
+    for number, level in enumerate(config.levels, 1):
+        if level.alert > level.lookahead:
+            yield (f"level {number} alerts {level.alert} s ahead and looks {level.lookahead} s ahead for bands: an alert may stand "
+                   "while its bands are clear; lookahead is mostly the greater")
+        yield from on_distance(f"level {number}, dthr", level.dthr)
+    for number, (before, after) in enumerate(zip(config.levels, config.levels[1:]), 1):
+        wider = [f"{key} {getattr(before, key)} and {getattr(after, key)}" for key in ("dthr", "zthr", "tthr", "tcoa", "lookahead", "alert")
+                 if getattr(after, key) > getattr(before, key)]
+        if wider:
+            yield (f"level {number + 1} reaches farther than level {number} ({', '.join(wider)}): a later level counts for more, "
+                   "so levels mostly go from the farthest to the nearest")
+
+
+def on_distance(what, dthr):
+    if dthr >= 1500:
+        yield (f"{what} = {dthr} is {dthr / 1000:g} nautical miles; if {dthr} feet are meant, write {round(dthr / FEET_PER_MIL)}")
+    elif dthr <= 10:
+        yield f"{what} = {dthr} is {dthr / 1000:g} nautical miles; if {dthr} miles are meant, write {1000 * dthr}"
+
+
+def on_grids(config):
+    top = {kind: values[-1] for kind, values in config.values.items()}
+    if 0 < top["gs"] <= 1000:
+        yield f"gs goes up to {top['gs']}, {top['gs'] / 10:g} knots; if {top['gs']} knots are meant, write ten times each number of gs"
+    if config.rates["gs"] < 5:
+        yield f"gs.rate = {config.rates['gs']} is {config.rates['gs'] / 10:g} knots a second; if knots are meant, write {10 * config.rates['gs']}"
+    if 0 < top["vs"] <= 100:
+        yield f"vs goes up to {top['vs']} feet a minute; if feet a second are meant, write 60 times each number of vs"
+    if 0 < top["alt"] <= 600:
+        yield f"alt goes up to {top['alt']} feet; if flight levels are meant, write 100 times each number of alt"
+
+
+def on_recovery(config):
+    if config.recovery:
+        hdist = config.recovery[0]
+        yield from on_distance("recovery.hdist", hdist)
+        closing = config.levels[config.resolve - 1:]
+        if hdist >= min(level.dthr for level in closing):
+            yield (f"recovery.hdist = {hdist} is as far as the level itself (dthr): a recovery begins within dthr, so few will be found; "
+                   "82, which is 500 feet, is the horizontal distance of a near mid-air collision")
+
+
+def advice_on_states(moments, refused, text):
+    """Advice on state lines: their ended moments, their refused lines, and their text."""
+    words = first_words(text)
+    if {"time", "name"} <= {re.split(r"[\[(,;]", word.lower())[0] for part in words for word in re.split("[,;]", part)}:
+        return ["this looks like a recording with named columns: tools/from_daa makes state lines of it"]
+    if words and ("=" in words or words[0].startswith("[")):
+        return ["this looks like a configuration: it comes first, tools/check CONFIG STATES"]
+    found = []
+    if any(refusal.code == 3 and "traffic has 8 fields" in refusal.why for refusal in refused):
+        found.append("aircraft with an age, the eighth number, are of format 2: write the line `format 2` before the first moment")
+    return [*found, *on_speeds(moments), *on_places(moments)]
+
+
+def on_speeds(moments):
+    """Knots in place of 0.1 knot: by the ownship's way, or else where all speeds are small."""
+    ways = [way for before, after in zip(moments, moments[1:]) if (way := way_of(before, after))]
+    flown, stated = (sum(way[part] for way in ways) for part in (0, 1))
+    if stated and 8 <= flown / stated <= 12.5:
+        return [f"the ownship flies {flown / stated:.1f} times as far as its ground speed says: speeds are in 0.1 knot, so 360 knots are 3600"]
+    if stated and 0.4 <= flown / stated <= 2.5:
+        return []
+    speeds = [max([moment.own.gs, *(max(abs(it.vx), abs(it.vy)) for it in moment.traffic)]) for moment in moments]
+    if 0 < max(speeds, default=0) < SMALL_SPEED:
+        return [f"no speed is above {max(speeds) / 10:g} knots: speeds are in 0.1 knot, so {max(speeds)} knots would be {10 * max(speeds)}"]
+    return []
+
+
+def way_of(before, after):
+    """How far the ownship's place went between two moments, and how far by its ground speed, in 0.001 nautical miles."""
+    flown = math.dist((before.own.x, before.own.y), (after.own.x, after.own.y))
+    stated = math.hypot(*velocity(before.own.gs, before.own.trk)) * (after.time - before.time) / 36
+    return (flown, stated) if flown >= 20 else None
+
+
+def on_places(moments):
+    """Miles in place of 0.001 nautical miles: where every aircraft is as good as where the ownship is, and none just there."""
+    off = [max(abs(it.x - moment.own.x), abs(it.y - moment.own.y)) for moment in moments for it in moment.traffic]
+    if len(off) > 0 and 0 < max(off) <= SMALL_PLACE:
+        return [f"no aircraft is farther than {max(off) / 1000:g} nautical miles from the ownship: places are in 0.001 nautical miles, "
+                f"so {max(off)} miles would be {1000 * max(off)}"]
+    return []
