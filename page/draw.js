@@ -86,7 +86,7 @@
   function tapeIn(g, left, top, width, bottom) {
     const f = g.font;
     const band = Math.round(f * 1.9);
-    const spare = Math.max(width - f * 7.6, 0);
+    const spare = Math.max(width - f * 8, 0);
     return { left, width, top: top + g.line * 1.2, bottom, x: left + f * 4.3 + spare * 0.3, band, labels: width >= f * 10.2 };
   }
 
@@ -94,7 +94,7 @@
   function besideCompass(g) {
     const answers = g.foot - g.rows * g.line - 4;
     const tall = answers - g.top;
-    const tape = clamp((g.width - tall) / 3, g.font * 7.6, g.font * 12.5);
+    const tape = clamp((g.width - tall) / 3, g.font * 8, g.font * 12.5);
     const wide = g.width - 3 * tape - 8;
     const made = compassIn(g, tape, g.top, wide, tall);
     const bottom = answers - g.line * 0.6;
@@ -134,7 +134,8 @@
   }
 
   function wholeRing({ x, y }, inner, outer) {
-    return [inner, outer].map((r) => `M${n(x - r)} ${n(y)}A${n(r)} ${n(r)} 0 1 0 ${n(x + r)} ${n(y)}A${n(r)} ${n(r)} 0 1 0 ${n(x - r)} ${n(y)}Z`).join("");
+    const half = (r, to) => `A${n(r)} ${n(r)} 0 1 0 ${n(to)} ${n(y)}`;
+    return [inner, outer].map((r) => `M${n(x - r)} ${n(y)}${half(r, x + r)}${half(r, x - r)}Z`).join("");
   }
 
   /** The runs of the track candidates; those of one level that meet over north are drawn as one. */
@@ -175,8 +176,8 @@
     let out = "";
     for (const run of said ? runs(said.bands.track, step) : []) {
       const title = wordsOfBand("track", run.from + step / 2, run.upto - step / 2, run.level);
-      out += `<path d="${sector(view, run.from, run.upto, g.radius, g.outer)}" fill="${paint(run.level)}" fill-rule="evenodd" stroke="${edge(run.level)}"`
-        + ` data-level="${run.level}"><title>${title}</title></path>`;
+      out += `<path d="${sector(view, run.from, run.upto, g.radius, g.outer)}" fill="${paint(run.level)}" fill-rule="evenodd"`
+        + ` stroke="${edge(run.level)}" data-level="${run.level}"><title>${title}</title></path>`;
       const long = radians(run.upto - run.from) * g.radius;
       if (run.level && long >= 1.8 * g.ringWidth) out += badgeOnRing(view, model, run);
     }
@@ -299,26 +300,31 @@
     const { resolve, levels } = model.config;
     const r = (levels[resolve - 1].dthr / 1000 / view.range) * g.radius;
     if (r > 4 && r < g.radius) {
-      out += `<circle cx="${n(own.x)}" cy="${n(own.y)}" r="${n(r)}" fill="none" stroke="var(--own)" stroke-dasharray="2 4"><title>dthr of level ${resolve}</title></circle>`;
+      out += `<circle cx="${n(own.x)}" cy="${n(own.y)}" r="${n(r)}" fill="none" stroke="var(--own)" stroke-dasharray="2 4">`
+        + `<title>dthr of level ${resolve}</title></circle>`;
     }
     for (const { words, p } of rangeWords(view)) out += text(p.x, p.y + g.font * 0.36, words, `class="small mid halo" font-size="${g.font - 1}"`);
     return out;
   }
 
-  /** The symbol of a level: an open diamond, a full diamond, a disc, a square, a square with a cross. */
-  function symbol(g, level, now) {
+  /** The symbol of a level: an open diamond, a full diamond, a disc, a square, a square with a cross; without an answer a ring with ?. */
+  function symbol({ level, now, unknown }) {
+    if (unknown) return UNKNOWN_SHAPE;
     const fill = `var(--l${level}-fill)`;
+    const square = `<rect x="-10" y="-10" width="20" height="20" fill="${fill}" stroke="var(--rim)" stroke-width="1.5"/>`;
     const shape = [`<path d="M0 -9l8 9l-8 9l-8 -9z" fill="var(--ground)" stroke="var(--ink)" stroke-width="2"/>`,
       `<path d="M0 -11l10 11l-10 11l-10 -11z" fill="${fill}" stroke="var(--rim)"/>`,
       `<circle r="10" fill="${fill}" stroke="var(--rim)"/>`,
-      `<rect x="-10" y="-10" width="20" height="20" fill="${fill}" stroke="var(--rim)" stroke-width="1.5"/>`,
-      `<rect x="-10" y="-10" width="20" height="20" fill="${fill}" stroke="var(--rim)" stroke-width="1.5"/><path d="M-10 -10l20 20M10 -10l-20 20" stroke="var(--rim)" stroke-width="2"/>`][level];
+      square,
+      `${square}<path d="M-10 -10l20 20M10 -10l-20 20" stroke="var(--rim)" stroke-width="2"/>`][level];
     const ringNow = now ? `<circle r="16" fill="none" stroke="${edge(now)}" stroke-width="2" stroke-dasharray="5 3"/>` : "";
     return ringNow + shape + (level ? text(0, 5, level, `class="level mid" font-size="14" style="fill:${ink(level)}"`) : "");
   }
 
-  const OWN_SHAPE = `<path d="M0 -17L3.5 -8L3.5 -2L17 5L17 8.5L3.5 4.5L2.8 12L7 15.5L7 18L0 16L-7 18L-7 15.5L-2.8 12L-3.5 4.5L-17 8.5L-17 5L-3.5 -2L-3.5 -8Z"`
-    + ` fill="var(--own)" stroke="var(--ground)" stroke-width="1"/>`;
+  const UNKNOWN_SHAPE = `<circle r="9" fill="var(--ground)" stroke="var(--faint)" stroke-width="2"/>`
+    + text(0, 5, "?", `class="small mid" font-size="13"`);
+  const OWN_SHAPE = `<path fill="var(--own)" stroke="var(--ground)" d="M0 -17L3.5 -8L3.5 -2L17 5L17 8.5L3.5 4.5L2.8 12L7 15.5L7 18`
+    + `L0 16L-7 18L-7 15.5L-2.8 12L-3.5 4.5L-17 8.5L-17 5L-3.5 -2L-3.5 -8Z"/>`;
 
   /** Height above the ownship in hundreds of feet, with an arrow where it climbs or sinks. */
   function heightTag(own, other) {
@@ -328,10 +334,13 @@
   }
 
 
+  /** What is said of an aircraft while there is no answer. */
+  const UNKNOWN = { level: 0, now: 0, first: null, unknown: true };
+
   /** What is known of an aircraft's place on the plan. */
   function sighted(view, model, one, place) {
     const { g } = view;
-    const alert = (model.said && model.said.aircraft[place]) || { level: 0, now: 0, first: null };
+    const alert = (model.said && model.said.aircraft[place]) || UNKNOWN;
     const here = flown(one, one.age);
     const p = plan(view, here.x, here.y);
     const far = Math.hypot(p.x - g.centre.x, p.y - g.centre.y);
@@ -350,7 +359,9 @@
     const { g } = view;
     const own = plan(view, model.own.x, model.own.y);
     const boxOf = ({ x, y }, r) => ({ x: x - r, y: y - r, wide: 2 * r, tall: 2 * r });
-    const boxes = [boxOf(own, 16), ...all.map((it) => boxOf(it.shown, 11)), ...all.filter((it) => it.end === it.tip).map((it) => boxOf(it.tip, 6)), ...rangeWords(view).map((it) => it.box), ...answerBoxes(view, model)];
+    const tips = all.filter((it) => it.end === it.tip).map((it) => boxOf(it.tip, 6));
+    const boxes = [boxOf(own, 16), ...all.map((it) => boxOf(it.shown, 11)), ...tips, ...rangeWords(view).map((it) => it.box),
+      ...answerBoxes(view, model)];
     const lines = all.map((it) => ({ x1: it.shown.x, y1: it.shown.y, x2: it.end.x, y2: it.end.y }));
     const ahead = flown(model.own, vectorSeconds(view));
     const tip = within(g, own, plan(view, ahead.x, ahead.y));
@@ -364,8 +375,9 @@
   function answerBoxes(view, { said }) {
     if (!said) return [];
     const f = view.g.font;
-    const bearings = [said.resolve.track.lower, said.resolve.track.upper, said.recover.track && said.recover.track.value].filter((it) => typeof it === "number");
-    return bearings.map((bearing) => {
+    const { lower, upper } = said.resolve.track;
+    const back = said.recover.track && said.recover.track.value;
+    return [lower, upper, back].filter((it) => typeof it === "number").map((bearing) => {
       const p = at(view, bearing, view.g.radius - f * 1.7);
       return { x: p.x - f * 1.6, y: p.y - f * 1.4, wide: f * 3.2, tall: f * 2.8 };
     });
@@ -381,7 +393,7 @@
     const line = Math.round(f * 1.15);
     const wide = Math.max(...words.map((it) => widthOf(it, f))) + 2;
     const before = labels.boxes.length;
-    const spot = labels.place(shown, wide, line * words.length, 11);
+    const spot = labels.place(shown, wide, line * words.length, alert.now ? 17 : 11);
     if (!matters && !spot.free) {
       labels.boxes.length = before;
       return null;
@@ -431,9 +443,10 @@
   function aircraftHandle(view, it) {
     const { one, alert, off, shown, end, miles, tag } = it;
     const line = off ? "" : `<path d="M0 0L${n(end.x - shown.x)} ${n(end.y - shown.y)}" stroke="${strokeOf(alert.level)}" stroke-width="2"/>`;
-    const mark = symbol(view.g, alert.level, alert.now);
-    const told = alert.level ? `alert level ${alert.level} in ${alert.first} seconds` : "no alert";
-    const value = `${n(miles)} NM away, ${tag.replace("−", "minus ").replace("↑", " climbing").replace("↓", " sinking")} hundred feet, ${told}${alert.now ? `, level ${alert.now} now` : ""}`;
+    const mark = symbol(alert);
+    const told = alert.unknown ? "no answer" : alert.level ? `alert level ${alert.level} in ${alert.first} seconds` : "no alert";
+    const height = tag.replace("−", "minus ").replace("↑", " climbing").replace("↓", " sinking");
+    const value = `${n(miles)} NM away, ${height} hundred feet, ${told}${alert.now ? `, level ${alert.now} now` : ""}`;
     return { key: `p:${one.id}`, x: shown.x, y: shown.y, label: one.id, number: n(miles), value, level: alert.level,
       inside: `${focusRing(20)}${line}${off ? `<g opacity=".7" transform="scale(.8)">${mark}</g>` : mark}${drawLabel(view.g, it)}${grip(15)}` };
   }
@@ -445,7 +458,9 @@
     const end = within(view.g, p, tip);
     const made = [];
     if (end === tip) {
-      made.push({ key: "v:", x: tip.x, y: tip.y, label: "velocity of the ownship", number: n(own.gs / 10), value: `track ${own.trk}, ${n(own.gs / 10)} knots`, inside: knob("var(--own)") });
+      const speed = n(own.gs / 10);
+      made.push({ key: "v:", x: tip.x, y: tip.y, label: "velocity of the ownship", number: speed,
+        value: `track ${own.trk}, ${speed} knots`, inside: knob("var(--own)") });
     }
     made.push({ key: "p:", x: p.x, y: p.y, label: "ownship", number: 0, value: `east ${n(own.x / 1000)}, north ${n(own.y / 1000)} NM`,
       inside: `${focusRing(23)}<path d="M0 0L${n(end.x - p.x)} ${n(end.y - p.y)}" stroke="var(--own)" stroke-width="2"/>`
@@ -460,7 +475,8 @@
     const line = (stroke, width) => `<path d="M0 ${n(-half)}v${n(g.ringWidth + 4)}" stroke="${stroke}" stroke-width="${width}"/>`;
     return { key: "track", x: p.x, y: p.y, label: "track of the ownship", number: own.trk, least: 0, most: 359, value: `${own.trk} degrees`,
       inside: `<g transform="rotate(${n(own.trk - view.up)})">${line("var(--ground)", 5)}${line("var(--own)", 2.5)}`
-        + `<path d="M-8 ${n(-half - 7)}h16v7l-8 9l-8 -9z" fill="var(--own)" stroke="var(--ground)"/></g>${focusRing(n(half + 5))}${grip(n(half + 4))}` };
+        + `<path d="M-8 ${n(-half - 7)}h16v7l-8 9l-8 -9z" fill="var(--own)" stroke="var(--ground)"/></g>`
+        + focusRing(n(half + 5)) + grip(n(half + 4)) };
   }
 
   function tapeHandle(view, model, kind) {
@@ -471,11 +487,13 @@
     const f = g.font;
     const wide = Math.min(x - left - 2, f * 4.5);
     const line = (stroke, width) => `<path d="M0 0h${band}" stroke="${stroke}" stroke-width="${width}"/>`;
-    return { key: kind, x, y: scale.y(model.own[kind]), label: `${TAPES[kind].name} of the ownship`, number: shown, least: shownValue(kind, scale.low), most: shownValue(kind, scale.high),
-      value: `${shown} ${TAPES[kind].unit}`,
-      inside: `<path d="M2 0L${n(-f * 0.7)} ${n(-f * 0.85)}H${n(-wide)}V${n(f * 0.85)}H${n(-f * 0.7)}Z" fill="var(--ground)" stroke="var(--own)" stroke-width="2"/>`
+    const box = `M2 0L${n(-f * 0.7)} ${n(-f * 0.85)}H${n(-wide)}V${n(f * 0.85)}H${n(-f * 0.7)}Z`;
+    return { key: kind, x, y: scale.y(model.own[kind]), label: `${TAPES[kind].name} of the ownship`, number: shown,
+      least: shownValue(kind, scale.low), most: shownValue(kind, scale.high), value: `${shown} ${TAPES[kind].unit}`,
+      inside: `<path d="${box}" fill="var(--ground)" stroke="var(--own)" stroke-width="2"/>`
         + text(-f * 0.75, f * 0.37, shown, `class="value end" font-size="${f}" style="fill:var(--own)"`)
-        + `${line("var(--ground)", 5)}${line("var(--own)", 2.5)}<rect class="focus" x="${n(-wide - 4)}" y="${n(-f * 1.15)}" width="${n(wide + 8)}" height="${n(f * 2.3)}"/>` };
+        + line("var(--ground)", 5) + line("var(--own)", 2.5)
+        + `<rect class="focus" x="${n(-wide - 4)}" y="${n(-f * 1.15)}" width="${n(wide + 8)}" height="${n(f * 2.3)}"/>` };
   }
 
   // ---- the tapes
@@ -496,7 +514,8 @@
       [low, high] = [middle - view.heights, middle + view.heights];
     } else if (low === high) [low, high] = [low - 10, high + 10];
     const room = bottom - top;
-    return { low, high, y: (v) => bottom - ((clamp(v, low, high) - low) / (high - low)) * room, value: (y) => low + ((bottom - y) / room) * (high - low) };
+    return { low, high, y: (v) => bottom - ((clamp(v, low, high) - low) / (high - low)) * room,
+      value: (y) => low + ((bottom - y) / room) * (high - low) };
   }
 
   function tape(view, model, kind) {
@@ -504,13 +523,16 @@
     const t = g.tapes[kind];
     const { title, name, unit, scale } = TAPES[kind];
     const s = scaleOf(view, model, kind);
-    let out = `<g><title>${name}</title>${text(t.left + t.width / 2, t.top - g.line * 0.55, `${title} ${unit}`, `class="small mid" font-size="${g.font}"`)}</g>`;
-    out += `<rect x="${n(t.x)}" y="${n(t.top)}" width="${t.band}" height="${n(t.bottom - t.top)}" fill="var(${model.said ? "--disc" : "--unknown"})" stroke="var(--line)"/>`;
+    const words = text(t.left + t.width / 2, t.top - g.line * 0.55, `${title} ${unit}`, `class="small mid" font-size="${g.font}"`);
+    const ground = model.said ? "var(--disc)" : "var(--unknown)";
+    let out = `<g><title>${name}</title>${words}</g>`
+      + `<rect x="${n(t.x)}" y="${n(t.top)}" width="${t.band}" height="${n(t.bottom - t.top)}" fill="${ground}" stroke="var(--line)"/>`;
     for (const band of model.said ? model.said.bands[kind] : []) out += bandOnTape(view, model, kind, band, s);
     const step = niceStep((s.high - s.low) / scale, clamp(Math.floor((t.bottom - t.top) / (g.line * 1.6)), 3, 11)) * scale;
     for (let v = Math.ceil(s.low / step) * step; v <= s.high; v += step) {
       const y = s.y(v);
-      out += `<path d="M${n(t.x - 6)} ${n(y)}h6" stroke="var(--faint)"/>` + text(t.x - 9, y + g.font * 0.36, shownValue(kind, v), `class="small end" font-size="${g.font - 1}"`);
+      out += `<path d="M${n(t.x - 6)} ${n(y)}h6" stroke="var(--faint)"/>`
+        + text(t.x - 9, y + g.font * 0.36, shownValue(kind, v), `class="small end" font-size="${g.font - 1}"`);
     }
     return out + (model.said ? answersOnTape(view, model, kind, s) : "");
   }
@@ -525,8 +547,8 @@
     if (high < s.low || low > s.high) return "";
     const top = s.y(high);
     const tall = Math.max(s.y(low) - top, 2);
-    const out = `<rect x="${n(x)}" y="${n(top)}" width="${wide}" height="${n(tall)}" fill="${paint(band.level)}" stroke="${edge(band.level)}" data-level="${band.level}">`
-      + `<title>${wordsOfBand(kind, band.from, band.upto, band.level)}</title></rect>`;
+    const out = `<rect x="${n(x)}" y="${n(top)}" width="${wide}" height="${n(tall)}" fill="${paint(band.level)}"`
+      + ` stroke="${edge(band.level)}" data-level="${band.level}"><title>${wordsOfBand(kind, band.from, band.upto, band.level)}</title></rect>`;
     const y = badgeHeight(g, top, tall, s.y(model.own[kind]));
     return out + (band.level && y !== null ? badge(g, x + wide / 2, y, band.level) : "");
   }
@@ -593,7 +615,8 @@
     const back = said.recover.track;
     if (back) more.push(["recover", back === "none" ? "◆ no recovery" : `◆ turn to ${back.value}°, clear after ${back.after} s`, "recover"]);
     const last = said.last.track;
-    if (last !== undefined) more.push(["last", last === "none" ? "a turn comes too late" : `turn within ${last} s`, last === "none" ? "none" : "last"]);
+    if (last === "none") more.push(["last", "a turn comes too late", "none"]);
+    else if (last !== undefined) more.push(["last", `turn within ${last} s`, "last"]);
     more.forEach(([what, words, style], row) => { out += answerLine(g, x, y + g.line * (row + 1), "track", what, words, style, "mid"); });
     return out;
   }
@@ -605,9 +628,10 @@
     const shown = (to) => (typeof to === "number" ? shownWords(kind, to) : to);
     const lines = [["upper", `▲ ${shown(upper)}`, styleOf(upper)], ["lower", `▼ ${shown(lower)}`, styleOf(lower)]];
     const back = said.recover[kind];
-    if (back) lines.push(["recover", back === "none" ? "◆ none" : `◆ ${shownValue(kind, back.value)} · ${back.after} s`, "recover"]);
+    if (back) lines.push(["recover", back === "none" ? "◆ none" : `◆ ${shownValue(kind, back.value)}, ${back.after} s`, "recover"]);
     const last = said.last[kind];
-    if (last !== undefined) lines.push(["last", last === "none" ? "too late" : `within ${last} s`, last === "none" ? "none" : "last"]);
+    if (last === "none") lines.push(["last", "too late", "none"]);
+    else if (last !== undefined) lines.push(["last", `within ${last} s`, "last"]);
     const top = g.answers + (g.stacked ? g.line * (g.rows - 1) : 0);
     return lines.map(([what, words, style], row) => answerLine(g, t.left + 6, top + g.line * (row + 1), kind, what, words, style)).join("");
   }
@@ -622,17 +646,19 @@
       + text(16 + widthOf(`${model.time} s`, g.font + 4), g.line * 1.05, model.note, `class="small" ${size}`)
       + text(g.width - 10, g.line * 1.05, model.name, `class="end" ${size}`);
     if (g.width > 560) out += text(g.width / 2, g.line * 1.05, ahead, `class="small mid" ${size}`);
-    if (model.fault) {
-      out += text(g.centre.x, g.centre.y - g.radius * 0.42, "no answer", `class="none mid halo" font-size="${g.font * 1.6}"`);
-      const words = model.fault.split(" ");
-      const rows = [""];
-      for (const word of words) {
-        if (widthOf(rows[rows.length - 1] + word, g.font) > g.radius * 1.5) rows.push("");
-        rows[rows.length - 1] += `${word} `;
-      }
-      rows.forEach((row, i) => { out += text(g.centre.x, g.centre.y - g.radius * 0.42 + g.line * (i + 1.2), row.trim(), `class="mid halo" ${size}`); });
+    return out + (model.fault ? noAnswer(g, model.fault) : "");
+  }
+
+  /** Why there is no answer, in the upper half of the compass. */
+  function noAnswer(g, fault) {
+    const rows = [""];
+    for (const word of fault.split(" ")) {
+      if (widthOf(rows[rows.length - 1] + word, g.font) > g.radius * 1.5) rows.push("");
+      rows[rows.length - 1] += `${word} `;
     }
-    return out;
+    const y = g.centre.y - g.radius * 0.42;
+    const line = (row, i) => text(g.centre.x, y + g.line * (i + 1.2), row.trim(), `class="mid halo" font-size="${g.font}"`);
+    return text(g.centre.x, y, "no answer", `class="none mid halo" font-size="${g.font * 1.6}"`) + rows.map(line).join("");
   }
 
   /** The legend's rows, each a list of items with their widths. */
@@ -681,7 +707,8 @@
     const g = geometryOf(width, height, model);
     const view = { ...look, g };
     if (!svg.daa) {
-      svg.innerHTML = `<rect class="ground" width="100%" height="100%" fill="var(--ground)"/>` + LAYERS.map((name) => `<g data-layer="${name}"></g>`).join("");
+      const layers = LAYERS.map((name) => `<g data-layer="${name}"></g>`).join("");
+      svg.innerHTML = `<rect class="ground" width="100%" height="100%" fill="var(--ground)"/>${layers}`;
       svg.daa = { layers: {}, handles: new Map() };
     }
     svg.setAttribute("viewBox", `0 0 ${width} ${height}`);

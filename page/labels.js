@@ -3,10 +3,13 @@
 (function (root) {
   const REACHES = [1, 1.9, 3];
   const SIDES = [[1, 0], [-1, 0], [1, -1], [-1, -1], [1, 1], [-1, 1], [0, -1], [0, 1]];
-  const OVER_TEXT = 6; // how much worse it is to cover a label or a symbol than a line, for each unit of area
+  // What is paid for a place: for each unit of area over a label or a symbol, for each unit of length of a line under it ..
+  const OVER_TEXT = 6;
+  const OVER_LINE = 14;
   const OFF_DISC = 900;
   const FARTHER = 260;
   const LATER_SIDE = 14;
+  const LITTLE = 40; // so small an area may be covered by chance
 
   const overlap = (a, b) => Math.max(0, Math.min(a.x + a.wide, b.x + b.wide) - Math.max(a.x, b.x))
     * Math.max(0, Math.min(a.y + a.tall, b.y + b.tall) - Math.max(a.y, b.y));
@@ -40,7 +43,8 @@
         if (!best || cost < best.cost) best = { box, cost, right, far };
       }));
       this.boxes.push(best.box);
-      return { ...best.box, align: best.right, led: best.far > 0, free: this.covered(best.box, this.boxes.slice(0, -1)) < 40 && !this.isOff(best.box) };
+      const free = this.covered(best.box, this.boxes.slice(0, -1)) < LITTLE && !this.isOff(best.box);
+      return { ...best.box, align: best.right, led: best.far > 0, free };
     }
 
     boxAt({ x, y }, right, down, gap, wide, tall) {
@@ -50,7 +54,8 @@
     }
 
     cost(box) {
-      return OVER_TEXT * this.covered(box, this.boxes) + 14 * this.lines.reduce((sum, line) => sum + crossing(box, line), 0) + (this.isOff(box) ? OFF_DISC : 0);
+      const crossed = this.lines.reduce((sum, line) => sum + crossing(box, line), 0);
+      return OVER_TEXT * this.covered(box, this.boxes) + OVER_LINE * crossed + (this.isOff(box) ? OFF_DISC : 0);
     }
 
     covered(box, boxes) {

@@ -117,7 +117,8 @@
     view.drawn = draw(svg, lookOf(view), modelOf(view), { width: Math.round(width), height: Math.round(height) });
     const said = saidOf(view);
     const most = said ? Math.max(0, ...said.aircraft.map((one) => one.level)) : null;
-    svg.setAttribute("aria-label", `Display under ${view.name}: ${most === null ? view.fault : `${said.aircraft.length} aircraft, the greatest alert level is ${most}`}`);
+    const told = most === null ? faultOf(view) : `${said.aircraft.length} aircraft, the greatest alert level is ${most}`;
+    svg.setAttribute("aria-label", `Display under ${view.name}: ${told}`);
   }
 
   const saidOf = (view) => (isAnswered(view) ? view.said : null);
@@ -148,10 +149,11 @@
   function paintCaption(figure, view) {
     const caption = figure.querySelector("figcaption");
     if (!caption.children.length) {
+      const button = (what, words, name) => `<button data-do="${what}" aria-label="${name}" title="${name}">${words}</button>`;
       caption.innerHTML = `<button data-do="up" aria-pressed="false">Track up</button>
-        <button data-do="near" aria-label="Smaller range" title="Smaller range (+)">−</button><span data-is="range"></span><button data-do="wide" aria-label="Greater range" title="Greater range (−)">+</button>
-        <button data-do="low" aria-label="Fewer altitudes">−</button><span data-is="heights"></span><button data-do="high" aria-label="More altitudes">+</button>
-        <span class="gap"></span><button data-do="svg" title="The display as a picture of lines">SVG</button><button data-do="png" title="The display as a picture of points">PNG</button>`;
+        ${button("near", "−", "Smaller range")}<span data-is="range"></span>${button("wide", "+", "Greater range")}
+        ${button("low", "−", "Fewer altitudes")}<span data-is="heights"></span>${button("high", "+", "More altitudes")}
+        <span class="gap"></span>${button("svg", "SVG", "Picture of lines (SVG)")}${button("png", "PNG", "Picture of points (PNG)")}`;
     }
     caption.querySelector("[data-do=up]").setAttribute("aria-pressed", String(view.look.trackUp));
     setText(caption.querySelector("[data-is=range]"), `${view.look.range} NM`);
@@ -199,21 +201,28 @@
     return `${chip(alert.level)}${first}${alert.now && alert.now !== alert.level ? `, ${chip(alert.now)} now` : ""}`;
   }
 
+  const choiceHtml = (id, words) => `<td><button type="button" data-choose="${escape(id)}" aria-pressed="${idOf(state.chosen) === id}">`
+    + `${escape(words)}</button></td>`;
+
+  function rowHtml({ one, alert, miles, bearing, above }) {
+    const sign = above > 0 ? "+" : above < 0 ? "−" : "";
+    return `<tr class="${one === chosenAircraft() ? "chosen" : ""}">${choiceHtml(one.id, one.id || "(no name)")}<td>${wordsOfAlert(alert)}</td>`
+      + `<td>${miles.toFixed(2)}</td><td>${String(bearing).padStart(3, "0")}</td><td>${sign}${Math.abs(above)}</td></tr>`;
+  }
+
   function paintTable() {
     const { own, traffic } = state.current;
     const rows = rowsOf(saidOf(state.views[0]));
     const quiet = rows.filter(isQuiet);
     const folds = quiet.length > MOST_QUIET;
     const shown = folds && !state.unfolded ? rows.filter((row) => !isQuiet(row) || row.one === chosenAircraft()) : rows;
-    const choice = (id, words) => `<td><button type="button" data-choose="${escape(id)}" aria-pressed="${idOf(state.chosen) === id}">${escape(words)}</button></td>`;
-    const line = ({ one, alert, miles, bearing, above }) => `<tr class="${one === chosenAircraft() ? "chosen" : ""}">${choice(one.id, one.id || "(no name)")}<td>${wordsOfAlert(alert)}</td>`
-      + `<td>${miles.toFixed(2)}</td><td>${String(bearing).padStart(3, "0")}</td><td>${above > 0 ? "+" : above < 0 ? "−" : ""}${Math.abs(above)}</td></tr>`;
-    const first = `<tr class="own ${chosenAircraft() ? "" : "chosen"}">${choice("", "ownship")}<td colspan="4">${own.trk}° · ${own.gs / 10} kt · ${own.alt} ft${own.vs ? ` · ${own.vs} ft/min` : ""}</td></tr>`;
+    const climb = own.vs ? ` · ${own.vs} ft/min` : "";
+    const first = `<tr class="own ${chosenAircraft() ? "" : "chosen"}">${choiceHtml("", "ownship")}`
+      + `<td colspan="4">${own.trk}° · ${own.gs / 10} kt · ${own.alt} ft${climb}</td></tr>`;
     const focused = document.activeElement.dataset.choose;
-    if (setHtml($("aircraft").tBodies[0], first + shown.map(line).join("")) && focused !== undefined && !document.contains(document.activeElement)) {
-      const again = document.querySelector(`[data-choose="${CSS.escape(focused)}"]`);
-      if (again) again.focus();
-    }
+    const isNew = setHtml($("aircraft").tBodies[0], first + shown.map(rowHtml).join(""));
+    const again = isNew && focused !== undefined && document.querySelector(`[data-choose="${CSS.escape(focused)}"]`);
+    if (again) again.focus();
     $("rest").hidden = !folds;
     setText($("rest"), state.unfolded ? "Fold those without an alert" : `${traffic.length - shown.length} more without an alert`);
   }
@@ -235,9 +244,11 @@
     const one = chosenAircraft();
     const fields = (one ? FIELDS : OWN_FIELDS).map(([field, name, unit, scale]) => {
       const [low, high] = LIMITS[field];
-      return `<label>${name} ${unit}<input type="number" data-field="${field}" data-scale="${scale}" min="${low / scale}" max="${high / scale}" step="${1 / scale}"></label>`;
+      return `<label>${name} ${unit}<input type="number" data-field="${field}" data-scale="${scale}"`
+        + ` min="${low / scale}" max="${high / scale}" step="${1 / scale}"></label>`;
     });
-    const title = one ? '<label>name <input data-field="id" maxlength="8" spellcheck="false"></label><button type="button" data-remove>Remove</button>' : "Ownship";
+    const named = '<label>name <input data-field="id" maxlength="8" spellcheck="false"></label>';
+    const title = one ? `${named}<button type="button" data-remove>Remove</button>` : "Ownship";
     setHtml($("state"), `<h2>${title}</h2><div class="fields">${fields.join("")}</div>`);
     const from = one || state.current.own;
     for (const input of $("state").querySelectorAll("input")) {
@@ -258,7 +269,9 @@
     } else if (target.value !== "" && Number.isFinite(number) && Math.abs(number) < 1e6) one[field] = Math.round(number * Number(scale));
     edited();
   });
-  $("state").addEventListener("click", ({ target }) => { if (target.matches("[data-remove]")) remove(state.current.traffic.indexOf(chosenAircraft())); });
+  $("state").addEventListener("click", ({ target }) => {
+    if (target.matches("[data-remove]")) remove(state.current.traffic.indexOf(chosenAircraft()));
+  });
 
   function remove(place) {
     if (place < 0) return;
@@ -304,7 +317,8 @@
     const level = levelOfLine(line);
     const [word] = line.split(" ");
     const style = ["resolve", "recover", "last"].includes(word) ? word : level === null ? "faint" : "";
-    return `<div class="line" data-line="${number}"><b class="${level ? `l${level}` : ""}">${level || ""}</b><span class="${style}">${escape(line)}</span></div>`;
+    const mark = `<b class="${level ? `l${level}` : ""}">${level || ""}</b>`;
+    return `<div class="line" data-line="${number}">${mark}<span class="${style}">${escape(line)}</span></div>`;
   }
 
   /** The lines of a report: the aircraft that alert before the others, which are folded where they are many. */
@@ -315,8 +329,10 @@
     const loud = pairs.filter(({ one }) => one.level || one.now).sort((a, b) => b.one.level - a.one.level);
     const quiet = pairs.filter(({ one }) => !one.level && !one.now);
     const rest = html(quiet.flatMap((it) => it.lines));
-    const folded = quiet.length > MOST_QUIET ? `<details ${state.linesOpen ? "open" : ""}><summary>${quiet.length} aircraft at level 0</summary>${rest}</details>` : rest;
-    return html(lines.slice(0, 1)) + html(loud.flatMap((it) => it.lines)) + folded + html(lines.slice(1 + 2 * pairs.length));
+    const title = `<summary>${quiet.length} aircraft at level 0</summary>`;
+    const folded = `<details ${state.linesOpen ? "open" : ""}>${title}${rest}</details>`;
+    const aircraft = html(loud.flatMap((it) => it.lines)) + (quiet.length > MOST_QUIET ? folded : rest);
+    return html(lines.slice(0, 1)) + aircraft + html(lines.slice(1 + 2 * pairs.length));
   }
 
   function paintReport() {
@@ -347,7 +363,8 @@
     for (const kind of KINDS) sortAnswers(said, kind, open, back, none, last);
     const list = (front, parts, mark = "; ") => (parts.length ? `${front}${parts.join(mark)}. ` : "");
     const kept = open.length + back.length + none.length === 0 ? "The present flight may be kept. " : "";
-    return ((alerts.length ? list("Alerts: ", alerts, ", ") : "No alert. ") + kept + list("Open: ", open) + list("Clear again: ", back) + list("Nothing open: ", none, ", ")
+    const front = alerts.length ? list("Alerts: ", alerts, ", ") : "No alert. ";
+    return (front + kept + list("Open: ", open) + list("Clear again: ", back) + list("Nothing open: ", none, ", ")
       + list("Not later than: ", last)).trim();
   }
 
@@ -391,7 +408,8 @@
     const { width, height } = svg.getBoundingClientRect();
     const { moments, notes, ids, index, views } = state;
     if (width < 100 || !moments.length) return;
-    daa.drawStrip(svg, { width: Math.round(width), height: Math.round(height) }, { moments, notes, ids, index, step: views[0].config.grids.track.step });
+    const { step } = views[0].config.grids.track;
+    daa.drawStrip(svg, { width: Math.round(width), height: Math.round(height) }, { moments, notes, ids, index, step });
   }
 
   $("strip").addEventListener("pointerdown", (event) => {
@@ -486,11 +504,12 @@
     if (figure && what) changed();
   }
 
-  /** The least range of the list in which most of the traffic lies. */
+  /** The least range of the list in which most of the traffic lies, at the first moment and in all. */
   function fitting(moments) {
-    const far = moments.flatMap(({ own, traffic }) => traffic.map((one) => Math.hypot(one.x - own.x, one.y - own.y) / 1000)).sort((a, b) => a - b);
-    const most = far.length ? far[Math.ceil(far.length * 0.85) - 1] : 6;
-    return RANGES_NM.find((range) => range > most * 1.05) || RANGES_NM[RANGES_NM.length - 1];
+    const farOf = ({ own, traffic }) => traffic.map((one) => Math.hypot(one.x - own.x, one.y - own.y) / 1000);
+    const mostOf = (far) => (far.length ? far.sort((a, b) => a - b)[Math.ceil(far.length * 0.85) - 1] : 0);
+    const most = Math.max(mostOf(moments.flatMap(farOf)), mostOf(farOf(moments[0]))) || 6;
+    return RANGES_NM.find((range) => range > most * 1.12) || RANGES_NM[RANGES_NM.length - 1];
   }
 
   // ---- moving things: by the pointer
@@ -664,10 +683,14 @@
     setText($("config-fault"), refusal ? `config ${refusal.code}: ${line}${refusal.message}` : "");
     $("toml").setAttribute("aria-invalid", String(Boolean(refusal)));
     $("show-fault").hidden = !(refusal && refusal.line);
-    const number = (value, scale) => String(value / scale);
-    const row = (level, l) => `<tr><td>${chip(l + 1)}${l + 1 === config.resolve ? " corrective" : ""}</td><td>${number(level.dthr, 1000)}</td><td>${level.zthr}</td><td>${level.tthr}</td>`
-      + `<td>${level.tcoa}</td><td>${level.lookahead}</td><td>${level.alert}</td><td>${modelOfLevel(level)}</td></tr>`;
-    setHtml($("levels").tBodies[0], refusal ? "" : config.levels.map(row).join(""));
+    setHtml($("levels"), refusal ? "" : config.levels.map((level, l) => `<li>${wordsOfLevel(level, l + 1, config.resolve)}</li>`).join(""));
+  }
+
+  /** A level's volume and times in words. */
+  function wordsOfLevel(level, number, resolve) {
+    const { dthr, zthr, tthr, tcoa, lookahead, alert } = level;
+    return `${chip(number)} ${number === resolve ? "corrective, " : ""}${dthr / 1000} NM, ${zthr} ft, `
+      + `${tthr} s of ${modelOfLevel(level)}, ${tcoa} s to co-altitude; alerts ${alert} s ahead, candidates ${lookahead} s`;
   }
 
   const modelOfLevel = (level) => MODELS[Object.keys(MODELS).find((key) => level[key])] || "modified tau";
@@ -890,7 +913,8 @@
       tellMissing(`The engine can't be opened: ${problem.message}. ${MISSING}`);
       return;
     }
-    document.body.insertAdjacentHTML("beforeend", `<svg width="0" height="0" aria-hidden="true" style="position:absolute"><style>${daa.STYLE}</style><defs>${daa.patterns()}</defs></svg>`);
+    const shared = `<style>${daa.STYLE}</style><defs>${daa.patterns()}</defs>`;
+    document.body.insertAdjacentHTML("beforeend", `<svg width="0" height="0" aria-hidden="true" style="position:absolute">${shared}</svg>`);
     const look = () => ({ trackUp: false, range: 12, heights: 3000 });
     const [configs, encounters] = [Object.keys(daa.examples.configs), Object.keys(daa.examples.encounters)];
     state.views = [0, 1].map(() => ({ look: look(), desk: new Desk(module), edition: 0 }));

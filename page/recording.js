@@ -110,7 +110,8 @@ function daaRecording(root) {
     worthOf(column, unit) {
       const units = COLUMNS[column][1];
       if (units === null || unit === null || ["", "none", "-"].includes(unit.toLowerCase())) return 1;
-      if (!Object.hasOwn(units, unit.toLowerCase())) fail(`${unit} is no unit of ${column} that is known; known are ${Object.keys(units).join(", ")}`);
+      const known = Object.keys(units).join(", ");
+      if (!Object.hasOwn(units, unit.toLowerCase())) fail(`${unit} is no unit of ${column} that is known; known are ${known}`);
       return units[unit.toLowerCase()];
     }
 

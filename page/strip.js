@@ -44,7 +44,8 @@
     return levels.map((level, i) => ({ from: i * step, upto: i * step, level }));
   }
 
-  /** Where things are: rows of the aircraft that alert, those that alert most where there is no room for all, the tracks under them, and the seconds along the foot. */
+  /** Where things are: rows of the aircraft that alert (those that alert most, where there is no room for all), the tracks
+   *  under them, and the seconds along the foot. */
   function geometryOf(width, height, moments, notes, ids) {
     const most = new Map(ids.map((id) => [id, greatest(notes, id)]));
     const loud = ids.filter((id) => most.get(id)).sort((a, b) => most.get(b) - most.get(a));
@@ -55,7 +56,8 @@
     const wide = width - MARGIN.left - MARGIN.right;
     const top = rows * ROW + 6;
     const foot = Math.round(moments[0].own.trk / 90) * 90 - FULL_TURN / 2; // the ownship's first track is in the middle
-    return { foot, width, height, ids: ids.filter((id) => shown.includes(id)), hidden: loud.length - shown.length, first, last, top, tall: height - MARGIN.bottom - top,
+    return { foot, width, height, first, last, top, tall: height - MARGIN.bottom - top,
+      ids: ids.filter((id) => shown.includes(id)), hidden: loud.length - shown.length,
       x: (time) => MARGIN.left + ((time - first) / (last - first)) * wide, time: (x) => first + ((x - MARGIN.left) / wide) * (last - first) };
   }
 
@@ -102,7 +104,6 @@
     g.ids.forEach((id, row) => {
       out += text(4, (row + 1) * ROW - 2, id) + `<path d="M${MARGIN.left} ${(row + 1) * ROW}h${n(wide)}" stroke="var(--line)"/>`;
     });
-    const small = 'class="small"';
     for (const share of [0, 1, 2, 3, 4]) {
       const degree = daa.wrap(g.foot + share * 90);
       const name = share % 2 ? "" : `${share === 2 ? "track " : ""}${String(degree).padStart(3, "0")}°`;
@@ -110,7 +111,8 @@
     }
     const foot = g.height - 4;
     const more = g.hidden ? ` · ${g.hidden} more that alert` : "";
-    return out + text(MARGIN.left, foot, `${g.first} s${more}`, small) + text(g.width - MARGIN.right, foot, `${Math.round(g.last)} s`, 'class="small end"');
+    const end = text(g.width - MARGIN.right, foot, `${Math.round(g.last)} s`, 'class="small end"');
+    return out + text(MARGIN.left, foot, `${g.first} s${more}`, 'class="small"') + end;
   }
 
   /** Draws the strip: what is known of all moments, and the mark of the present one. */

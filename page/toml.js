@@ -366,7 +366,9 @@ function daaToml(root) {
   /** What is wrong with the lists of candidates, where each number is in its range. */
   function stepFaults(add, document) {
     const step = document.get("track_step");
-    if (isNumber(step) && step >= 1n && step <= 90n && 360n % step) add(6, `track_step = ${step} does not divide 360`, document.lines.get("track_step"));
+    if (isNumber(step) && step >= 1n && step <= 90n && 360n % step) {
+      add(6, `track_step = ${step} does not divide 360`, document.lines.get("track_step"));
+    }
     for (const name of GRIDS) {
       const table = document.get(name);
       const [low, high, each] = table instanceof Table ? ["min", "max", "step"].map((key) => table.get(key)) : [];
@@ -388,7 +390,9 @@ function daaToml(root) {
     levels.forEach((level, l) => oneLevelFaults(add, level, l + 1, line));
     const resolve = document.get("resolve");
     if (levels.length < 1 || levels.length > 4) add(7, `there are ${levels.length} levels, and 1 to 4 may be`, line);
-    else if (isNumber(resolve) && resolve > levels.length) add(7, `resolve = ${resolve} is above the number of levels, ${levels.length}`, document.lines.get("resolve"));
+    else if (isNumber(resolve) && resolve > levels.length) {
+      add(7, `resolve = ${resolve} is above the number of levels, ${levels.length}`, document.lines.get("resolve"));
+    }
   }
 
   function oneLevelFaults(add, level, number, line) {
