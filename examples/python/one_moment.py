@@ -22,7 +22,7 @@ Config = struct(("resolve turn_rate track_step", c_int64), ("gs vs alt", Grid), 
 Own = struct(("x y alt trk gs vs", c_int32))
 Traffic = struct(("id", c_char * 8), ("x y alt vx vy vs", c_int32), ("age", c_uint32))
 Alert = struct(("now level", c_uint32), ("first", c_int64))
-Board = struct(("mask", c_uint8 * 2048))
+Board = struct(("mask", c_uint8 * 2048), ("mark", c_int64 * 45))
 Band = struct(("least most", c_int32), ("level", c_uint32))
 Resolution = struct(("what value", c_int32))
 

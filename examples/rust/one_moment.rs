@@ -15,7 +15,7 @@ use std::process::ExitCode;
 #[repr(C)] struct Own { x: i32, y: i32, alt: i32, trk: i32, gs: i32, vs: i32 }
 #[repr(C)] struct Traffic { id: [u8; 8], x: i32, y: i32, alt: i32, vx: i32, vy: i32, vs: i32, age: u32 }
 #[repr(C)] #[derive(Default)] struct Alert { now: u32, level: u32, first: i64 }
-#[repr(C)] struct Board { mask: [u8; 2048] }
+#[repr(C)] struct Board { mask: [u8; 2048], mark: [i64; 45] }
 #[repr(C)] #[derive(Clone, Default)] struct Band { from: i32, upto: i32, level: u32 }
 #[repr(C)] #[derive(Default)] struct Resolution { what: i32, value: i32 }
 
@@ -54,7 +54,7 @@ fn resolution(config: &Config, board: &Board, kind: i32, side: i32) -> Result<St
 }
 
 fn answers(config: &Config) -> Result<String, i32> {
-    let mut board = Board { mask: [0; 2048] };
+    let mut board = Board { mask: [0; 2048], mark: [0; 45] };
     done(unsafe { daa_decide(config, &OWN, TRAFFIC.as_ptr(), TRAFFIC.len(), &mut board) })?;
     let mut text = String::from("moment 0\n");
     for aircraft in &TRAFFIC {

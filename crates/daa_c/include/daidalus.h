@@ -4,11 +4,13 @@
  * (struct daa_config, filled in by hand or by daa_read) and a moment's board of levels (struct daa_board, filled in by
  * daa_decide). Each call answers from its arguments alone, so calls may run in parallel in threads of the caller.
  * No call starts a thread, waits, prints, or keeps a pointer after it returns. Only daa_read takes memory (malloc), and
- * frees it before it returns. A call takes less than 256 KB of stack (measured, not proved).
+ * frees it before it returns; it stands in an archive of its own, libdaa_toml.a, and the others in libdaa_c.a, which asks
+ * for no allocator. A call takes less than 256 KB of stack (measured, not proved).
  *
  * Each call returns DAA_OK, or another number of the list below; then it has filled in nothing. Every number is checked,
  * also those of a configuration, so no number passed in makes a call undefined. Where several numbers apply, a call
- * answers the first in the order: the configuration's, the states', DAA_BAD_KIND, DAA_BAD_SIDE, and then the others.
+ * answers the first in the order: the configuration's, the states', DAA_BAD_KIND, DAA_BAD_SIDE, DAA_BAD_BOARD, and then
+ * the others.
  *
  * The caller must ensure, since nothing checks it: each pointer is valid for what it points to, or for the length that
  * follows it, also of length 0, and is not null; what a call fills in overlaps no other argument of the call, and
@@ -44,7 +46,8 @@ enum {
     DAA_BAD_KIND = 23,           /* the kind is none of daa_kind */
     DAA_BAD_SIDE = 24,           /* the side is none of daa_side */
     DAA_BAD_INDEX = 25,          /* the configuration has no candidate at the index */
-    DAA_NOT_ASKED = 26           /* the configuration asks for no recovery */
+    DAA_NOT_ASKED = 26,          /* the configuration asks for no recovery */
+    DAA_BAD_BOARD = 27           /* the board is none that daa_decide filled in under the configuration */
 };
 
 /* What a candidate changes. DAA_HOLD is the present flight, which is of no kind. */
@@ -138,9 +141,14 @@ struct daa_fault {
 };
 
 /* The levels at which each candidate is covered in a moment: bit l - 1 of mask[i] means level l of the candidate at
- * index i of the whole list. Use it only with the configuration and the picture from which daa_decide made it. */
+ * index i of the whole list; all other bits are 0. mark: the numbers of the configuration under which daa_decide made the
+ * board, in the order of its struct without recovery and count, and 0 in the place of each that does not count. The calls that
+ * take a board answer DAA_BAD_BOARD where its mark is not that of the configuration that they are given, or where another bit
+ * of a mask is 1: so a board of zeros is never answered. Nothing marks the picture: use a board only with the one from which
+ * daa_decide made it. */
 struct daa_board {
     uint8_t mask[2048];
+    int64_t mark[45];
 };
 
 /* A candidate: its kind, and the value that it goes to, in the kind's unit; 0 if the kind is DAA_HOLD. */
@@ -169,6 +177,21 @@ struct daa_recovery {
     int32_t value;
 };
 
+/* State lines, as docs/FORMATS.md has them, so far. All zeros: none, and the lines that come are in format 1.
+ * format: 2 if they are in format 2, else they are in format 1. last: the time of the last ended moment, if ended is not 0.
+ * opened: not 0 while a moment is open. Then time is its time in seconds, own its ownship if owned is not 0, and the first
+ * count elements of traffic are its aircraft. After the line that ends a moment these stay as they were, until the next
+ * begins. */
+struct daa_lines {
+    uint32_t format, ended, last, opened, time, owned;
+    struct daa_own own;
+    uint64_t count;
+    struct daa_traffic traffic[64];
+};
+
+/* What daa_line returns where the line ended the moment. */
+enum { DAA_MOMENT_ENDED = -1 };
+
 /* ---- a configuration */
 
 /* Fills in the numbers of a configuration's text of TOML, of size bytes. The numbers are then in their ranges. Elements of
@@ -192,6 +215,11 @@ int32_t daa_candidate(const struct daa_config *config, uint32_t index, struct da
  * the order of the struct. Every call below that takes a picture returns these codes in this order. */
 int32_t daa_fault(const struct daa_own *own, const struct daa_traffic *traffic, size_t count, struct daa_fault *out);
 
+/* Takes the next state line, of size bytes and without its line feed. DAA_OK where it was taken, DAA_MOMENT_ENDED where it
+ * also ended the moment; or, and then lines is unchanged, the number of its fault as `refused` lines of a report have it, 1
+ * to 13 (docs/FORMATS.md). A moment that is still open at the end of the input has the fault 14. */
+int32_t daa_line(const uint8_t *line, size_t size, struct daa_lines *lines);
+
 /* ---- a moment */
 
 /* Fills in the alert of one aircraft. Of the states' codes it answers the first of DAA_BAD_OWN, DAA_BAD_ID and
@@ -204,19 +232,19 @@ int32_t daa_decide(const struct daa_config *config, const struct daa_own *own, c
                    struct daa_board *board);
 
 /* Fills in the level of each candidate on a board, 0 to the configuration's count of levels (so at most 4), in the
- * order of the whole list, and how many there are. Bits of a mask past the count of levels, and masks past the list, say
- * nothing. DAA_SHORT if room is less, and only there; 1897 elements are always enough. Elements from count on are
- * unchanged. */
+ * order of the whole list, and how many there are. DAA_BAD_BOARD if it is none of the configuration. DAA_SHORT if room is
+ * less, and only there; 1897 elements are always enough. Elements from count on are unchanged. */
 int32_t daa_levels(const struct daa_config *config, const struct daa_board *board, uint8_t *levels, size_t room, size_t *count);
 
 /* Fills in the bands of a kind on a board, in the rising order of the values, those of level 0 too, and how many there are.
- * DAA_SHORT if room is less than the values of the kind, and only there; 512 elements are always enough. Elements past the
+ * DAA_BAD_BOARD if the board is none of the configuration. DAA_SHORT if room is less than the values of the kind, and only there; 512 elements are always enough. Elements past the
  * bands are unchanged. */
 int32_t daa_bands(const struct daa_config *config, const struct daa_board *board, int32_t kind, struct daa_band *bands,
                   size_t room, size_t *count);
 
 /* Fills in the answer on a side of a kind: keep, the nearest open value, or that there is none. The ownship is that of
- * the board's moment; of the states' codes the call answers DAA_BAD_OWN alone. */
+ * the board's moment; of the states' codes the call answers DAA_BAD_OWN alone. DAA_BAD_BOARD if the board is none of the
+ * configuration. */
 int32_t daa_resolution(const struct daa_config *config, const struct daa_own *own, const struct daa_board *board, int32_t kind,
                        int32_t side, struct daa_resolution *out);
 

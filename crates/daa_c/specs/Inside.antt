@@ -1,2 +1,0 @@
--- Cited by private functions, tests and proofs alone; believe only what docs/PROVED.md names here.
-pub mod Codes

@@ -1,0 +1,164 @@
+//! Calls on a moment.
+
+ghost use Rattle.std.specs.Prelude.{◌≡◌, ◌≢◌, pos, ◌≤◌, drop, length, take};
+ghost use Rattle.daa_numbers.specs.Asked.{IsAlertUnder, IsDecided, AreLevelsUnder, HasMoreCandidates, AreBandsUnder, HasMoreValues, HasNoKind, IsResolutionUnder, HasNoSide, AsksForNone, IsRecoveryUnder, IsReported, HasLongerText};
+ghost use Rattle.daa_numbers.specs.Boards.{IsNoBoard};
+ghost use Rattle.daa_numbers.specs.Codes.{answer_of};
+ghost use Rattle.daa_numbers.specs.Numbers.{settings_by};
+ghost use Rattle.daa_numbers.specs.Refusal.{refusal_of_two, IsCodeOf, refusal_of, config_refusal, refusal_of_own};
+ghost use Rattle.daa_numbers.specs.States.{own_of, traffic_of, picture_of};
+
+use daa_numbers::{
+    DaaAlert, DaaBand, DaaBoard, DaaConfig, DaaOwn, DaaRecovery, DaaResolution, DaaTraffic,
+};
+
+/// Fills in the level of an aircraft now, its alert level and its first leg. Returns 0, or why
+/// nothing was filled in.
+#[unsafe(no_mangle)]
+pub extern "C" fn daa_alert(
+    config: &DaaConfig,
+    own: &DaaOwn,
+    traffic: &DaaTraffic,
+    out: &mut DaaAlert,
+) -> i32
+    ensures filled { result ≡ pos 0
+        → IsAlertUnder config.now (own_of own.now) (traffic_of traffic.now) out.new }
+    ensures kept { result ≢ pos 0 → out.new ≡ out.old }
+    ensures refused { result ≢ pos 0
+        → IsCodeOf (refusal_of_two config.now own.now traffic.now) result }
+{
+    daa_numbers::alert(config, own, traffic, out)
+}
+
+/// Fills in the board of a moment. Returns 0, or why nothing was filled in.
+#[unsafe(no_mangle)]
+pub extern "C" fn daa_decide(
+    config: &DaaConfig,
+    own: &DaaOwn,
+    traffic: &[DaaTraffic],
+    board: &mut DaaBoard,
+) -> i32
+    ensures decided { result ≡ pos 0
+        → IsDecided config.now (picture_of 0 own.now traffic.now) board.new }
+    ensures kept { result ≢ pos 0 → board.new ≡ board.old }
+    ensures refused { result ≢ pos 0
+        → IsCodeOf (refusal_of config.now own.now traffic.now) result }
+{
+    daa_numbers::decide(config, own, traffic, board)
+}
+
+/// Fills in the level that each candidate shows, 0 to the number of levels, in the order of the
+/// whole list, and how many there are. Answers 0, or why nothing was filled in.
+#[unsafe(no_mangle)]
+pub extern "C" fn daa_levels(
+    config: &DaaConfig,
+    board: &DaaBoard,
+    levels: &mut [u8],
+    count: &mut usize,
+) -> i32
+    ensures shown { result ≡ pos 0
+        → AreLevelsUnder config.now board.now levels.new count.new }
+    ensures past_kept { result ≡ pos 0
+        → drop count.new levels.new ≡ drop count.new levels.old }
+    ensures levels_kept { result ≢ pos 0 → levels.new ≡ levels.old }
+    ensures count_kept { result ≢ pos 0 → count.new ≡ count.old }
+    ensures bad_board { result ≡ pos 27 → IsNoBoard config.now board.now }
+    ensures short { result ≡ pos 19 → HasMoreCandidates config.now (length levels.old) }
+    ensures refused { result ≢ pos 0 → result ≢ pos 19 → result ≢ pos 27
+        → answer_of (settings_by config.now) ≡ result }
+{
+    daa_numbers::levels(config, board, levels, count)
+}
+
+/// Fills in the bands of a kind, and how many there are. Returns 0, or why nothing was filled in.
+#[unsafe(no_mangle)]
+pub extern "C" fn daa_bands(
+    config: &DaaConfig,
+    board: &DaaBoard,
+    kind: i32,
+    bands: &mut [DaaBand],
+    count: &mut usize,
+) -> i32
+    ensures filled { result ≡ pos 0
+        → AreBandsUnder config.now board.now kind bands.new count.new }
+    ensures past_kept { result ≡ pos 0 → drop count.new bands.new ≡ drop count.new bands.old }
+    ensures bands_kept { result ≢ pos 0 → bands.new ≡ bands.old }
+    ensures count_kept { result ≢ pos 0 → count.new ≡ count.old }
+    ensures no_kind { result ≡ pos 23
+        → HasNoKind (config_refusal (settings_by config.now)) kind }
+    ensures bad_board { result ≡ pos 27 → IsNoBoard config.now board.now }
+    ensures short { result ≡ pos 19 → HasMoreValues config.now kind (length bands.old) }
+    ensures refused { result ≢ pos 0 → result ≢ pos 19 → result ≢ pos 23 → result ≢ pos 27
+        → answer_of (settings_by config.now) ≡ result }
+{
+    daa_numbers::bands(config, board, kind, bands, count)
+}
+
+/// Fills in the answer on a side of a kind. Returns 0, or why nothing was filled in.
+#[unsafe(no_mangle)]
+pub extern "C" fn daa_resolution(
+    config: &DaaConfig,
+    own: &DaaOwn,
+    board: &DaaBoard,
+    kind: i32,
+    side: i32,
+    out: &mut DaaResolution,
+) -> i32
+    ensures filled { result ≡ pos 0
+        → IsResolutionUnder config.now (own_of own.now) board.now kind side out.new }
+    ensures kept { result ≢ pos 0 → out.new ≡ out.old }
+    ensures no_kind { result ≡ pos 23 → HasNoKind (refusal_of_own config.now own.now) kind }
+    ensures no_side { result ≡ pos 24 → HasNoSide (refusal_of_own config.now own.now) kind side }
+    ensures bad_board { result ≡ pos 27 → IsNoBoard config.now board.now }
+    ensures refused { result ≢ pos 0 → result ≢ pos 23 → result ≢ pos 24 → result ≢ pos 27
+        → IsCodeOf (refusal_of_own config.now own.now) result }
+{
+    daa_numbers::resolution(config, own, board, kind, side, out)
+}
+
+/// Fills in the recovery of a kind in a moment. Returns 0, or why nothing was filled in.
+#[unsafe(no_mangle)]
+pub extern "C" fn daa_recovery(
+    config: &DaaConfig,
+    own: &DaaOwn,
+    traffic: &[DaaTraffic],
+    kind: i32,
+    out: &mut DaaRecovery,
+) -> i32
+    ensures filled { result ≡ pos 0
+        → IsRecoveryUnder config.now (picture_of 0 own.now traffic.now) kind out.new }
+    ensures kept { result ≢ pos 0 → out.new ≡ out.old }
+    ensures no_kind { result ≡ pos 23
+        → HasNoKind (refusal_of config.now own.now traffic.now) kind }
+    ensures not_asked { result ≡ pos 26
+        → AsksForNone config.now (refusal_of config.now own.now traffic.now) kind }
+    ensures refused { result ≢ pos 0 → result ≢ pos 23 → result ≢ pos 26
+        → IsCodeOf (refusal_of config.now own.now traffic.now) result }
+{
+    daa_numbers::recovery(config, own, traffic, kind, out)
+}
+
+/// Fills in the text of a moment, and how many bytes it has. Returns 0, or why nothing was filled
+/// in.
+#[unsafe(no_mangle)]
+pub extern "C" fn daa_report(
+    config: &DaaConfig,
+    time: u32,
+    own: &DaaOwn,
+    traffic: &[DaaTraffic],
+    text: &mut [u8],
+    count: &mut usize,
+) -> i32
+    ensures said { result ≡ pos 0 → IsReported
+        config.now (picture_of time own.now traffic.now) (take count.new text.new) }
+    ensures fits { result ≡ pos 0 → count.new ≤ length text.new }
+    ensures past_kept { result ≡ pos 0 → drop count.new text.new ≡ drop count.new text.old }
+    ensures text_kept { result ≢ pos 0 → text.new ≡ text.old }
+    ensures count_kept { result ≢ pos 0 → count.new ≡ count.old }
+    ensures short { result ≡ pos 19 → HasLongerText
+        config.now (picture_of time own.now traffic.now) (length text.old) }
+    ensures refused { result ≢ pos 0 → result ≢ pos 19
+        → IsCodeOf (refusal_of config.now own.now traffic.now) result }
+{
+    daa_numbers::report(config, time, own, traffic, text, count)
+}

@@ -1,0 +1,9 @@
+pub mod BandLemmas
+pub mod BoardLemmas
+pub mod LineLemmas
+pub mod PlaceLemmas
+pub mod RefusalLemmas
+pub mod SheetLemmas
+pub mod ShowLemmas
+pub mod TextLemmas
+pub mod TrafficLemmas

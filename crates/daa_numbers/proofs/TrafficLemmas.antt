@@ -1,0 +1,15 @@
+-- Aircraft that are taken from a caller's numbers, one after the other.
+use Rattle.std.proofs.Common.{◌≡◌, ◌<◌, ◌+◌, ◌++◌, ◌∷◌, [], ◌∙◌, ℕ, List, length, map, take, slice_index_or, ap}
+use Rattle.std.proofs.lemmas.List.{take_more, map_push}
+use Rattle.daa_state.specs.declared.word.Traffic.{Traffic}
+use Rattle.daa_numbers.specs.States.{traffic_of}
+use Rattle.daa_numbers.specs.declared.states.DaaTraffic.{DaaTraffic}
+
+pub next_all : (numbers : List DaaTraffic) (all longer : List Traffic) (index : ℕ) (d : DaaTraffic) (one : Traffic) → index < length numbers
+    → all ≡ map traffic_of (take index numbers) → one ≡ traffic_of (slice_index_or numbers index d) → longer ≡ all ++ one ∷ []
+    → longer ≡ map traffic_of (take (index + 1) numbers)
+next_all numbers all longer index d one within so_far is grown =
+    let more : take (index + 1) numbers ≡ take index numbers ++ slice_index_or numbers index d ∷ [] = take_more numbers index d within in
+    let mapped : map traffic_of (take (index + 1) numbers) ≡ map traffic_of (take index numbers) ++ traffic_of (slice_index_or numbers index d) ∷ [] =
+    ap (map traffic_of) more ∙ map_push traffic_of (take index numbers) (slice_index_or numbers index d) in
+    cc (mapped, so_far, is, grown)

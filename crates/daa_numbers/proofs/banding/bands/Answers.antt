@@ -1,0 +1,29 @@
+use Rattle.std.proofs.Common.{◌≡◌, ◌∙◌, pos, sym, arith, rules, w32, FitsSigned}
+use Rattle.std.proofs.lemmas.Int.{to_z-of_z}
+use Rattle.daa_bands.specs.Board.{HasLevelOn}
+use Rattle.daa_bands.proofs.KindLemmas.{bands_covered}
+use Rattle.daa_numbers.specs.Numbers.{settings_by}
+use Rattle.daa_numbers.proofs.RefusalLemmas.{accepted_alone}
+use Rattle.daa_numbers.proofs.banding.bands.Goals as goal
+
+pub returns-clause-filled : goal.returns-clause-filled
+returns-clause-filled c = λ (_ : pos 0 ≡ pos 0).
+    let fits : FitsSigned w32 c.args.kind = search rules in
+    record {
+      settings = c.in-Ok.accepted;
+      accepted = c.in-Ok.ensures.accepted;
+      kind = c.in-Some.kind;
+      kind_is = c.in-Some.ensures.some ∙ to_z-of_z w32 _ fits;
+      fits = omega (arith, c.if-bands-count.false, c.count.ensures.value, c.fill.auto.bands);
+      within = c.fill.ensures.fits;
+      marked = c.in-Some-decided.ensures.marked;
+      are = bands_covered (HasLevelOn c.args.board.now.masks) c.in-Ok.accepted c.in-Some-decided.board c.in-Some-decided.ensures.accepted c.in-Some-decided.ensures.board c.in-Some.kind _ c.fill.ensures.are;
+    }
+
+pub returns-in_default-clause-no_kind : goal.returns-in_default-clause-no_kind
+returns-in_default-clause-no_kind c = λ _.
+    let fits : FitsSigned w32 c.args.kind = search rules in
+    record {
+      sound = accepted_alone (settings_by c.args.config.now) c.in-Ok.accepted c.in-Ok.ensures.accepted;
+      none = λ kind is. c.in_default.ensures.none kind (is ∙ sym (to_z-of_z w32 _ fits));
+    }

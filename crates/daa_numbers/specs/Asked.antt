@@ -1,0 +1,162 @@
+-- What calls fill in if they return 0, under the configuration of the numbers, which is accepted.
+use Rattle.std.specs.Prelude.{◌≡◌, ◌<◌, ◌≤◌, ℕ, ℤ, List, length, map, take, slice_get, Option, Some, None, Ok}
+use Rattle.daa_bands.specs.Board.{HasLevelOn, IsBoardOf}
+use Rattle.daa_bands.specs.KindBands.{AreKindBands}
+use Rattle.daa_config.specs.Candidates.{candidates_of, values_of}
+use Rattle.daa_config.specs.Settings.{Settings}
+use Rattle.daa_config.specs.declared.candidate.Candidate.{Candidate}
+use Rattle.daa_config.specs.declared.candidate.Resolution.{Resolution}
+use Rattle.daa_config.specs.declared.kind.Kind.{Kind}
+use Rattle.daa_engine.specs.Covered.{CoveredAt}
+use Rattle.daa_engine.specs.MomentText.{IsMomentText}
+use Rattle.daa_recovery.specs.Recovery.{IsRecovery}
+use Rattle.daa_recovery.specs.declared.recovery.Recovery.{Recovery}
+use Rattle.daa_resolve.specs.Resolution.{IsResolution}
+use Rattle.daa_resolve.specs.declared.side.Side.{Side}
+use Rattle.daa_state.specs.Checked.{AreTaken}
+use Rattle.daa_state.specs.InRange.{IsOwnInRange, IsTrafficInRange, IsPictureInRange}
+use Rattle.daa_state.specs.Picture.{aircraft_of}
+use Rattle.daa_state.specs.declared.word.Own.{Own}
+use Rattle.daa_state.specs.declared.word.Traffic.{Traffic}
+use Rattle.daa_state.specs.declared.word.Picture.{Picture}
+use Rattle.daa_numbers.specs.declared.alerts.DaaAlert.{DaaAlert}
+use Rattle.daa_numbers.specs.declared.banding.DaaBand.{DaaBand}
+use Rattle.daa_numbers.specs.declared.boards.DaaBoard.{DaaBoard}
+use Rattle.daa_numbers.specs.declared.candidates.DaaCandidate.{DaaCandidate}
+use Rattle.daa_numbers.specs.declared.recovering.DaaRecovery.{DaaRecovery}
+use Rattle.daa_numbers.specs.declared.refusal.Refusal.{Refusal}
+use Rattle.daa_numbers.specs.declared.resolving.DaaResolution.{DaaResolution}
+use Rattle.daa_numbers.specs.declared.setting.DaaConfig.{DaaConfig}
+use Rattle.daa_numbers.specs.Boards.{IsMarked, mark_of}
+use Rattle.daa_numbers.specs.Codes.{candidate_by, IsNoKind, IsNoSide, kind_number, side_number}
+use Rattle.daa_numbers.specs.Filled.{IsFilledAlert, AreLevelsOn, band_of, resolution_by, recovery_by}
+use Rattle.daa_numbers.specs.Numbers.{settings_by}
+
+-- a picture that the engine takes
+pub record IsTaken (picture : Picture) : Type 0 where
+  pub range : IsPictureInRange picture
+  pub different : AreTaken (aircraft_of picture)
+
+-- nothing else is refused, and the number stands for no kind
+pub record HasNoKind (refusal : Option Refusal) (number : ℤ) : Type 0 where
+  pub sound : refusal ≡ None
+  pub none : IsNoKind number
+
+-- nothing else is refused, and the first number stands for a kind, but the second for no side
+pub record HasNoSide (refusal : Option Refusal) (kind_given side_given : ℤ) : Type 0 where
+  pub sound : refusal ≡ None
+  pub kind : Kind
+  pub kind_is : kind_number kind ≡ kind_given
+  pub none : IsNoSide side_given
+
+module _ (config : DaaConfig) where
+  -- the candidate at an index of the whole list
+  pub record IsCandidateAt (index : ℕ) (out : DaaCandidate) : Type 0 where
+    pub settings : Settings
+    pub accepted : settings_by config ≡ Ok settings
+    pub candidate : Candidate
+    pub there : slice_get (candidates_of settings) index ≡ Some candidate
+    pub filled : out ≡ candidate_by candidate
+
+  -- there is no candidate at an index of the whole list
+  pub record HasNoCandidateAt (index : ℕ) : Type 0 where
+    pub settings : Settings
+    pub accepted : settings_by config ≡ Ok settings
+    pub beyond : length (candidates_of settings) ≤ index
+
+  -- the level now and the alert of an aircraft, of numbers in range
+  pub record IsAlertUnder (own : Own) (aircraft : Traffic) (out : DaaAlert) : Type 0 where
+    pub settings : Settings
+    pub accepted : settings_by config ≡ Ok settings
+    pub own_range : IsOwnInRange own
+    pub traffic_range : IsTrafficInRange aircraft
+    pub filled : IsFilledAlert settings own aircraft out
+
+  -- the board of a picture, with the mark of the configuration
+  pub record IsDecided (picture : Picture) (board : DaaBoard) : Type 0 where
+    pub settings : Settings
+    pub accepted : settings_by config ≡ Ok settings
+    pub taken : IsTaken picture
+    pub covers : IsBoardOf (CoveredAt settings picture) settings board.masks
+    pub mark : board.mark ≡ mark_of config
+
+  -- the levels that a board shows of all candidates, and how many they are
+  pub record AreLevelsUnder (board : DaaBoard) (levels : List ℕ) (count : ℕ) : Type 0 where
+    pub settings : Settings
+    pub accepted : settings_by config ≡ Ok settings
+    pub marked : IsMarked config settings board
+    pub all : count ≡ length (candidates_of settings)
+    pub fits : count ≤ length levels
+    pub shown : AreLevelsOn board.masks (length settings.levels) count levels
+
+  -- it has more candidates than there is room for
+  pub record HasMoreCandidates (room : ℕ) : Type 0 where
+    pub settings : Settings
+    pub accepted : settings_by config ≡ Ok settings
+    pub more : room < length (candidates_of settings)
+
+  -- the bands of the kind with this number, and how many they are
+  pub record AreBandsUnder (board : DaaBoard) (number : ℤ) (bands : List DaaBand) (count : ℕ) : Type 0 where
+    pub settings : Settings
+    pub accepted : settings_by config ≡ Ok settings
+    pub marked : IsMarked config settings board
+    pub kind : Kind
+    pub kind_is : kind_number kind ≡ number
+    pub fits : length (values_of kind settings) ≤ length bands
+    pub within : count ≤ length bands
+    pub are : AreKindBands (HasLevelOn board.masks) (length settings.levels) settings kind (map band_of (take count bands))
+
+  -- the kind with this number has more values than there is room for
+  pub record HasMoreValues (number : ℤ) (room : ℕ) : Type 0 where
+    pub settings : Settings
+    pub accepted : settings_by config ≡ Ok settings
+    pub kind : Kind
+    pub kind_is : kind_number kind ≡ number
+    pub more : room < length (values_of kind settings)
+
+  -- the answer on the side of the kind with these numbers
+  pub record IsResolutionUnder (own : Own) (board : DaaBoard) (kind_given side_given : ℤ) (out : DaaResolution) : Type 0 where
+    pub settings : Settings
+    pub accepted : settings_by config ≡ Ok settings
+    pub marked : IsMarked config settings board
+    pub own_range : IsOwnInRange own
+    pub kind : Kind
+    pub kind_is : kind_number kind ≡ kind_given
+    pub side : Side
+    pub side_is : side_number side ≡ side_given
+    pub answer : Resolution
+    pub is : IsResolution (HasLevelOn board.masks) settings own kind side answer
+    pub filled : out ≡ resolution_by answer
+
+  -- the recovery of the kind with this number
+  pub record IsRecoveryUnder (picture : Picture) (number : ℤ) (out : DaaRecovery) : Type 0 where
+    pub settings : Settings
+    pub accepted : settings_by config ≡ Ok settings
+    pub taken : IsTaken picture
+    pub kind : Kind
+    pub kind_is : kind_number kind ≡ number
+    pub answer : Option Recovery
+    pub is : IsRecovery settings picture kind answer
+    pub filled : out ≡ recovery_by answer
+
+  -- nothing else is refused, and it asks for no recovery
+  pub record AsksForNone (refusal : Option Refusal) (number : ℤ) : Type 0 where
+    pub sound : refusal ≡ None
+    pub kind : Kind
+    pub kind_is : kind_number kind ≡ number
+    pub settings : Settings
+    pub accepted : settings_by config ≡ Ok settings
+    pub none : settings.recovery ≡ None
+
+  -- the text of a picture
+  pub record IsReported (picture : Picture) (text : List ℕ) : Type 0 where
+    pub settings : Settings
+    pub accepted : settings_by config ≡ Ok settings
+    pub taken : IsTaken picture
+    pub said : IsMomentText settings picture text
+
+  -- the picture has a text of more bytes than there is room for
+  pub record HasLongerText (picture : Picture) (room : ℕ) : Type 0 where
+    pub text : List ℕ
+    pub reported : IsReported picture text
+    pub longer : room < length text

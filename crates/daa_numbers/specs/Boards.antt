@@ -1,0 +1,68 @@
+-- Boards that are marked with the configuration that they were decided under.
+use Rattle.std.specs.Prelude.{◌≡◌, ◌≤◌, ◌-◌, ◌^◌, ◌∷◌, ◌++◌, [], ℕ, ℤ, zero, suc, pos, nat_lt, List, length, slice_index, slice_get, Option, Some, None, Ok, if◌then◌else◌}
+use Rattle.daa_config.specs.Candidates.{candidates_of}
+use Rattle.daa_config.specs.Settings.{Settings}
+use Rattle.daa_config.specs.declared.numbers.Grid.{Grid}
+use Rattle.daa_config.specs.declared.numbers.LevelNumbers.{LevelNumbers}
+use Rattle.daa_config.specs.declared.numbers.RecoveryNumbers.{RecoveryNumbers}
+use Rattle.daa_numbers.specs.Numbers.{settings_by}
+use Rattle.daa_numbers.specs.declared.boards.DaaBoard.{DaaBoard}
+use Rattle.daa_numbers.specs.declared.setting.DaaConfig.{DaaConfig}
+
+-- zeros in the place of a level that does not count
+abbrev pub no_level : LevelNumbers
+no_level = record { dthr = pos 0; zthr = pos 0; tthr = pos 0; tcoa = pos 0; lookahead = pos 0; alert = pos 0; tcpa = pos 0 }
+
+-- zeros in the place of a cylinder that does not count
+abbrev pub no_cylinder : RecoveryNumbers
+no_cylinder = record { hdist = pos 0; vdist = pos 0 }
+
+-- the numbers, or none
+abbrev pub level_or_none : Option LevelNumbers → LevelNumbers
+level_or_none (Some level) = level
+level_or_none None = no_level
+
+-- the numbers of the level at a place, if it counts
+abbrev pub level_at : DaaConfig → ℕ → LevelNumbers
+level_at c place = if nat_lt place c.count then level_or_none (slice_get c.levels place) else no_level
+
+-- the numbers of the cylinder, if a recovery is asked for
+abbrev pub cylinder_at : ℕ → RecoveryNumbers → RecoveryNumbers
+cylinder_at zero cylinder = no_cylinder
+cylinder_at (suc n) cylinder = cylinder
+
+-- the numbers of a kind's values, of a cylinder and of a level, in the order of their structs
+abbrev pub grid_numbers : Grid → List ℤ
+grid_numbers g = g.min ∷ g.max ∷ g.step ∷ g.rate ∷ []
+
+abbrev pub cylinder_numbers : RecoveryNumbers → List ℤ
+cylinder_numbers r = r.hdist ∷ r.vdist ∷ []
+
+abbrev pub level_numbers : LevelNumbers → List ℤ
+level_numbers l = l.dthr ∷ l.zthr ∷ l.tthr ∷ l.tcoa ∷ l.lookahead ∷ l.alert ∷ l.tcpa ∷ []
+
+-- the mark of a configuration: its numbers, and zeros in the place of those that do not count. A cylinder or level that counts is never all zeros
+abbrev pub mark_of : DaaConfig → List ℤ
+mark_of c =
+    c.numbers.resolve ∷ c.numbers.turn_rate ∷ c.numbers.track_step ∷ grid_numbers c.numbers.gs ++ grid_numbers c.numbers.vs ++ grid_numbers c.numbers.alt
+    ++ cylinder_numbers (cylinder_at c.recovery c.cylinder)
+    ++ level_numbers (level_at c 0) ++ level_numbers (level_at c 1) ++ level_numbers (level_at c 2) ++ level_numbers (level_at c 3)
+
+-- the greatest that the mask at an index may be: the bits of all levels for a candidate, else none
+abbrev pub greatest_mask : (candidates bits index : ℕ) → ℕ
+greatest_mask candidates bits index = if nat_lt index candidates then bits else 0
+
+-- no mask has a bit of no level, or stands past the candidates
+abbrev pub AreMasksWithin : (candidates bits : ℕ) → List ℕ → Type 0
+AreMasksWithin candidates bits masks = (index : ℕ) → slice_index masks index ≤ greatest_mask candidates bits index
+
+-- the board is marked with the configuration, and says nothing but levels of its candidates
+pub record IsMarked (config : DaaConfig) (settings : Settings) (board : DaaBoard) : Type 0 where
+  pub mark : board.mark ≡ mark_of config
+  pub masks : AreMasksWithin (length (candidates_of settings)) (2 ^ length settings.levels - 1) board.masks
+
+-- the configuration is accepted, and the board is none of it
+pub record IsNoBoard (config : DaaConfig) (board : DaaBoard) : Type 0 where
+  pub settings : Settings
+  pub accepted : settings_by config ≡ Ok settings
+  pub other : IsMarked config settings board → ⊥

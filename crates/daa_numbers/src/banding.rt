@@ -1,0 +1,91 @@
+//! The bands of a kind.
+
+ghost use Rattle.std.specs.Prelude.{◌≡◌, ◌≢◌, ◌≤◌, pos, drop, length, map, take};
+ghost use Rattle.daa_bands.specs.Board.{HasLevelOn, mask_levels};
+ghost use Rattle.daa_bands.specs.KindBands.{AreKindBands};
+ghost use Rattle.daa_config.specs.Candidates.{values_of};
+ghost use Rattle.daa_numbers.specs.Asked.{AreBandsUnder, HasMoreValues, HasNoKind};
+ghost use Rattle.daa_numbers.specs.Boards.{IsNoBoard};
+ghost use Rattle.daa_numbers.specs.Codes.{answer_of};
+ghost use Rattle.daa_numbers.specs.Refusal.{config_refusal};
+ghost use Rattle.daa_numbers.specs.Filled.{band_of};
+ghost use Rattle.daa_numbers.specs.Numbers.{settings_by};
+
+use crate::boards::{DaaBoard, decided};
+use crate::codes::{BAD_BOARD, BAD_KIND, SHORT, fault_code, kind_in};
+use crate::setting::{DaaConfig, accept};
+use daa_bands::{Band, Board, runs};
+use daa_config::{Config, Kind};
+
+/// A stretch of a kind's rising values, from one up to another, that all show one level.
+#[repr(C)]
+#[derive(Clone, Copy)]
+pub struct DaaBand {
+    pub from: i32,
+    pub upto: i32,
+    pub level: u32,
+}
+
+/// The numbers of a band.
+fn band_numbers(band: &Band) -> DaaBand
+    ensures { band_of result ≡ band.now }
+{
+    DaaBand {
+        from: band.from,
+        upto: band.upto,
+        level: u32::from(band.level),
+    }
+}
+
+/// Fills in the bands of a kind, and returns how many there are.
+fn fill(config: &Config, board: &Board, kind: Kind, bands: &mut [DaaBand]) -> usize
+    requires { length (values_of kind config.now) ≤ length bands.old }
+    ensures fits { result ≤ length bands.new }
+    ensures past_kept { drop result bands.new ≡ drop result bands.old }
+    ensures are { AreKindBands (HasLevelOn board.now) mask_levels config.now kind
+        (map band_of (take result bands.new)) }
+{
+    let mut count = 0;
+    for band in runs(board, config, kind) {
+        bands[count] = band_numbers(&band);
+        count += 1;
+    }
+    count
+}
+
+/// Fills in the bands of a kind, and how many there are. Returns 0, or why nothing was filled in.
+pub fn bands(
+    config: &DaaConfig,
+    board: &DaaBoard,
+    kind: i32,
+    bands: &mut [DaaBand],
+    count: &mut usize,
+) -> i32
+    ensures filled { result ≡ pos 0
+        → AreBandsUnder config.now board.now kind bands.new count.new }
+    ensures past_kept { result ≡ pos 0 → drop count.new bands.new ≡ drop count.new bands.old }
+    ensures bands_kept { result ≢ pos 0 → bands.new ≡ bands.old }
+    ensures count_kept { result ≢ pos 0 → count.new ≡ count.old }
+    ensures no_kind { result ≡ pos 23
+        → HasNoKind (config_refusal (settings_by config.now)) kind }
+    ensures bad_board { result ≡ pos 27 → IsNoBoard config.now board.now }
+    ensures short { result ≡ pos 19 → HasMoreValues config.now kind (length bands.old) }
+    ensures refused { result ≢ pos 0 → result ≢ pos 19 → result ≢ pos 23 → result ≢ pos 27
+        → answer_of (settings_by config.now) ≡ result }
+{
+    let accepted = match accept(config) {
+        Ok(accepted) => accepted,
+        Err(fault) => return fault_code(fault),
+    };
+    let Some(kind) = kind_in(kind) else {
+        return BAD_KIND;
+    };
+    let Some(board) = decided(config, &accepted, board) else {
+        return BAD_BOARD;
+    };
+    if bands.len() < accepted.count(kind) as usize {
+        return SHORT;
+    }
+    *count = fill(&accepted, &board, kind, bands);
+    0
+}

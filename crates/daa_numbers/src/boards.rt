@@ -1,0 +1,170 @@
+//! Boards, marked with the configuration that they were decided under.
+
+ghost use Rattle.std.specs.Prelude.{◌≡◌, ◌<◌, ◌≤◌, ◌-◌, ◌^◌, true, false, length, IfSome, IfNone};
+ghost use Rattle.std.specs.Bool.{Decides};
+ghost use Rattle.daa_bands.specs.Board.{HasLevelOn, IsBoardOf};
+ghost use Rattle.daa_config.specs.Settings.{IsAccepted};
+ghost use Rattle.daa_numbers.specs.Boards.{mark_of, level_at, cylinder_at, AreMasksWithin, IsMarked};
+
+use crate::setting::DaaConfig;
+use daa_bands::{BOARD_MASKS, Board};
+use daa_config::{Config, LevelNumbers, RecoveryNumbers};
+
+/// How many numbers a mark has.
+const MARK: usize = 45;
+
+/// The levels at which each candidate is covered, bit l - 1 of a mask means level l, and the mark
+/// of the configuration: its numbers, and 0 in the place of each that does not count.
+#[repr(C)]
+#[derive(Clone, Copy)]
+pub struct DaaBoard {
+    pub masks: [u8; BOARD_MASKS],
+    pub mark: [i64; MARK],
+}
+
+/// In the place of a level that does not count.
+const NO_LEVEL: LevelNumbers = LevelNumbers {
+    dthr: 0,
+    zthr: 0,
+    tthr: 0,
+    tcoa: 0,
+    lookahead: 0,
+    alert: 0,
+    tcpa: 0,
+};
+
+/// In the place of a cylinder that does not count.
+const NO_CYLINDER: RecoveryNumbers = RecoveryNumbers { hdist: 0, vdist: 0 };
+
+/// The numbers of the level at a place, if it counts.
+fn level(config: &DaaConfig, place: usize) -> LevelNumbers
+    requires { place < 4 }
+    ensures { result ≡ level_at config.now place }
+{
+    if (place as u64) < config.count {
+        config.levels[place]
+    } else {
+        NO_LEVEL
+    }
+}
+
+/// The numbers of the cylinder, if it counts.
+fn cylinder(config: &DaaConfig) -> RecoveryNumbers
+    ensures { result ≡ cylinder_at config.now.recovery config.now.cylinder }
+{
+    if config.recovery == 0 {
+        NO_CYLINDER
+    } else {
+        config.cylinder
+    }
+}
+
+/// The mark of a configuration.
+pub(crate) fn mark(config: &DaaConfig) -> [i64; MARK]
+    ensures { result ≡ mark_of config.now }
+{
+    let numbers = &config.numbers;
+    let cylinder = cylinder(config);
+    let first = level(config, 0);
+    let second = level(config, 1);
+    let third = level(config, 2);
+    let fourth = level(config, 3);
+    [
+        numbers.resolve,
+        numbers.turn_rate,
+        numbers.track_step,
+        numbers.gs.min,
+        numbers.gs.max,
+        numbers.gs.step,
+        numbers.gs.rate,
+        numbers.vs.min,
+        numbers.vs.max,
+        numbers.vs.step,
+        numbers.vs.rate,
+        numbers.alt.min,
+        numbers.alt.max,
+        numbers.alt.step,
+        numbers.alt.rate,
+        cylinder.hdist,
+        cylinder.vdist,
+        first.dthr,
+        first.zthr,
+        first.tthr,
+        first.tcoa,
+        first.lookahead,
+        first.alert,
+        first.tcpa,
+        second.dthr,
+        second.zthr,
+        second.tthr,
+        second.tcoa,
+        second.lookahead,
+        second.alert,
+        second.tcpa,
+        third.dthr,
+        third.zthr,
+        third.tthr,
+        third.tcoa,
+        third.lookahead,
+        third.alert,
+        third.tcpa,
+        fourth.dthr,
+        fourth.zthr,
+        fourth.tthr,
+        fourth.tcoa,
+        fourth.lookahead,
+        fourth.alert,
+        fourth.tcpa,
+    ]
+}
+
+/// Whether a mark is that of a configuration.
+fn is_mark(board: &DaaBoard, config: &DaaConfig) -> bool
+    ensures { Decides result (board.now.mark ≡ mark_of config.now) }
+{
+    board.mark == mark(config)
+}
+
+/// The bits that stand for so many levels.
+fn level_bits(levels: u32) -> u8
+    requires { levels ≤ 4 }
+    ensures { result ≡ 2 ^ levels - 1 }
+{
+    match levels {
+        0 => 0,
+        1 => 1,
+        2 => 3,
+        3 => 7,
+        _ => 15,
+    }
+}
+
+/// Whether the masks of so many candidates have none but these bits, and the others none.
+fn are_within(masks: &[u8; BOARD_MASKS], candidates: u32, bits: u8) -> bool
+    ensures yes { result ≡ true → AreMasksWithin candidates bits masks.now }
+    ensures no { result ≡ false → AreMasksWithin candidates bits masks.now → ⊥ }
+{
+    for index in 0..BOARD_MASKS {
+        let greatest = if index < candidates as usize { bits } else { 0 };
+        if masks[index] > greatest {
+            return false;
+        }
+    }
+    true
+}
+
+/// The masks of a board, if it is marked with this configuration.
+pub(crate) fn decided(asked: &DaaConfig, config: &Config, board: &DaaBoard) -> Option<Board>
+    ensures masks { IfSome result (λ masks. masks ≡ board.now.masks) }
+    ensures marked { IfSome result (λ _. IsMarked asked.now config.now board.now) }
+    ensures board { IfSome result (IsBoardOf (HasLevelOn board.now.masks) config.now) }
+    ensures other { IfNone result (IsMarked asked.now config.now board.now → ⊥) }
+    ensures accepted { IsAccepted config.now }
+{
+    let bits = level_bits(config.levels());
+    if is_mark(board, asked) && are_within(&board.masks, config.total(), bits) {
+        Some(Board::of(&board.masks))
+    } else {
+        None
+    }
+}

@@ -1,0 +1,140 @@
+//! A moment decided, and the levels that its board shows.
+
+ghost use Rattle.std.specs.Prelude.{◌≡◌, ◌≢◌, ◌≤◌, ◌-◌, ◌^◌, pos, drop, length, Some, IfOk, IfErr};
+ghost use Rattle.daa_bands.specs.Board.{HasLevelOn, IsBoardOf, mask_levels};
+ghost use Rattle.daa_config.specs.Candidates.{candidates_of};
+ghost use Rattle.daa_config.specs.Settings.{IsAccepted};
+ghost use Rattle.daa_engine.specs.Covered.{CoveredAt};
+ghost use Rattle.daa_state.specs.InRange.{IsPictureInRange};
+ghost use Rattle.daa_numbers.specs.Asked.{IsDecided, AreLevelsUnder, HasMoreCandidates};
+ghost use Rattle.daa_numbers.specs.Boards.{IsNoBoard};
+ghost use Rattle.daa_numbers.specs.Refusal.{refusal_of, IsCodeOf};
+ghost use Rattle.daa_numbers.specs.Codes.{answer_of};
+ghost use Rattle.daa_numbers.specs.Numbers.{settings_by};
+ghost use Rattle.daa_numbers.specs.Filled.{AreLevelsOn};
+ghost use Rattle.daa_numbers.specs.States.{picture_of};
+
+use crate::boards::{DaaBoard, decided, mark};
+use crate::codes::{BAD_BOARD, SHORT, fault_code};
+use crate::refusal::{Refusal, code};
+use crate::setting::{DaaConfig, accept};
+use crate::states::{DaaOwn, DaaTraffic, picture};
+use daa_bands::Board;
+use daa_config::Config;
+use daa_engine::decide_in;
+use daa_legs::{Branch, Trunk};
+use daa_state::Picture;
+
+/// The most candidates of a configuration.
+const MOST_CANDIDATES: usize = 1897;
+
+/// Eight flights that lead.
+fn trunks() -> [Trunk; 8] {
+    [
+        Trunk::new(),
+        Trunk::new(),
+        Trunk::new(),
+        Trunk::new(),
+        Trunk::new(),
+        Trunk::new(),
+        Trunk::new(),
+        Trunk::new(),
+    ]
+}
+
+/// The board of a picture.
+#[inline(never)]
+pub(crate) fn decided_board(config: &Config, picture: &Picture) -> Board
+    requires { IsPictureInRange picture.now }
+    ensures { IsBoardOf (CoveredAt config.now picture.now) config.now result }
+{
+    // its clauses say how many there are
+    let _total = config.total();
+    let mut board = Board::new();
+    let mut trunks = trunks();
+    let mut branches = [Branch::new(); MOST_CANDIDATES];
+    decide_in(config, picture, &mut trunks, &mut branches, &mut board);
+    board
+}
+
+/// The board of a picture of these numbers.
+fn board_of(asked: &DaaConfig, own: &DaaOwn, traffic: &[DaaTraffic]) -> Result<DaaBoard, Refusal>
+    ensures decided { IfOk result
+        (IsDecided asked.now (picture_of 0 own.now traffic.now)) }
+    ensures refused { IfErr result
+        (λ refusal. refusal_of asked.now own.now traffic.now ≡ Some refusal) }
+{
+    let config = match accept(asked) {
+        Ok(config) => config,
+        Err(fault) => return Err(Refusal::Config(fault)),
+    };
+    let picture = match picture(0, own, traffic) {
+        Ok(picture) => picture,
+        Err(refusal) => return Err(refusal),
+    };
+    Ok(DaaBoard {
+        masks: *decided_board(&config, &picture).masks(),
+        mark: mark(asked),
+    })
+}
+
+/// Fills in the board of a moment. Returns 0, or why nothing was filled in.
+pub fn decide(config: &DaaConfig, own: &DaaOwn, traffic: &[DaaTraffic], board: &mut DaaBoard) -> i32
+    ensures decided { result ≡ pos 0
+        → IsDecided config.now (picture_of 0 own.now traffic.now) board.new }
+    ensures kept { result ≢ pos 0 → board.new ≡ board.old }
+    ensures refused { result ≢ pos 0
+        → IsCodeOf (refusal_of config.now own.now traffic.now) result }
+{
+    match board_of(config, own, traffic) {
+        Ok(decided) => {
+            *board = decided;
+            0
+        }
+        Err(refusal) => code(refusal),
+    }
+}
+
+/// Fills in the levels that a board shows.
+fn show(config: &Config, board: &Board, levels: &mut [u8])
+    requires { length (candidates_of config.now) ≤ length levels.old }
+    ensures shown { AreLevelsOn
+        board.now mask_levels (length (candidates_of config.now)) levels.new }
+    ensures fits { length (candidates_of config.now) ≤ length levels.new }
+    ensures past_kept { drop (length (candidates_of config.now)) levels.new
+        ≡ drop (length (candidates_of config.now)) levels.old }
+{
+    for index in 0..config.total() {
+        levels[index as usize] = board.shown(index);
+    }
+}
+
+/// Fills in the level that each candidate shows, 0 to the number of levels, in the order of the
+/// whole list, and how many there are. Answers 0, or why nothing was filled in.
+pub fn levels(config: &DaaConfig, board: &DaaBoard, levels: &mut [u8], count: &mut usize) -> i32
+    ensures shown { result ≡ pos 0
+        → AreLevelsUnder config.now board.now levels.new count.new }
+    ensures past_kept { result ≡ pos 0
+        → drop count.new levels.new ≡ drop count.new levels.old }
+    ensures levels_kept { result ≢ pos 0 → levels.new ≡ levels.old }
+    ensures count_kept { result ≢ pos 0 → count.new ≡ count.old }
+    ensures bad_board { result ≡ pos 27 → IsNoBoard config.now board.now }
+    ensures short { result ≡ pos 19 → HasMoreCandidates config.now (length levels.old) }
+    ensures refused { result ≢ pos 0 → result ≢ pos 19 → result ≢ pos 27
+        → answer_of (settings_by config.now) ≡ result }
+{
+    let accepted = match accept(config) {
+        Ok(accepted) => accepted,
+        Err(fault) => return fault_code(fault),
+    };
+    let Some(board) = decided(config, &accepted, board) else {
+        return BAD_BOARD;
+    };
+    let total = accepted.total() as usize;
+    if levels.len() < total {
+        return SHORT;
+    }
+    show(&accepted, &board, levels);
+    *count = total;
+    0
+}

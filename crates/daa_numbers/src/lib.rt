@@ -1,0 +1,33 @@
+//! The engine over plain numbers, as a caller of another language has them: structs with the layout
+//! of C in, alerts, levels, bands, answers, recoveries and the text of a moment out. Nothing
+//! is kept: each call answers from its arguments alone. daa_c and daa_web export these functions.
+#![tactic(auto)]
+
+mod alerts;
+mod banding;
+mod boards;
+mod candidates;
+mod codes;
+mod deciding;
+mod faults;
+mod lines;
+mod recovering;
+mod refusal;
+mod reporting;
+mod resolving;
+mod setting;
+mod sheet;
+mod states;
+
+pub use alerts::{DaaAlert, alert};
+pub use banding::{DaaBand, bands};
+pub use boards::DaaBoard;
+pub use candidates::{DaaCandidate, candidate};
+pub use deciding::{decide, levels};
+pub use faults::{DaaFault, fault};
+pub use lines::{DaaLines, line};
+pub use recovering::{DaaRecovery, recovery};
+pub use reporting::report;
+pub use resolving::{DaaResolution, resolution};
+pub use setting::{DaaConfig, check, read};
+pub use states::{DaaOwn, DaaTraffic};

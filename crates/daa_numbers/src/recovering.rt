@@ -1,0 +1,76 @@
+//! The recovery of a kind.
+
+ghost use Rattle.std.specs.Prelude.{◌≡◌, ◌≢◌, pos};
+ghost use Rattle.daa_numbers.specs.Asked.{AsksForNone, HasNoKind, IsRecoveryUnder};
+ghost use Rattle.daa_numbers.specs.Filled.{recovery_by};
+ghost use Rattle.daa_numbers.specs.Refusal.{refusal_of, IsCodeOf};
+ghost use Rattle.daa_numbers.specs.States.{picture_of};
+
+use crate::codes::{BAD_KIND, NOT_ASKED, kind_in};
+use crate::refusal::{Refusal, code};
+use crate::setting::{DaaConfig, accept};
+use crate::states::{DaaOwn, DaaTraffic, picture};
+use daa_recovery::{Recovery, least};
+
+/// The recovery of a kind: 1, after how many seconds and the value; or all 0 where there is none.
+#[repr(C)]
+#[derive(Clone, Copy)]
+pub struct DaaRecovery {
+    pub found: i32,
+    pub after: u32,
+    pub value: i32,
+}
+
+/// The numbers of a recovery.
+fn recovery_numbers(recovery: Option<Recovery>) -> DaaRecovery
+    ensures { result ≡ recovery_by recovery }
+{
+    match recovery {
+        None => DaaRecovery {
+            found: 0,
+            after: 0,
+            value: 0,
+        },
+        Some(recovery) => DaaRecovery {
+            found: 1,
+            after: recovery.after,
+            value: recovery.value,
+        },
+    }
+}
+
+/// Fills in the recovery of a kind in a moment. Returns 0, or why nothing was filled in.
+pub fn recovery(
+    config: &DaaConfig,
+    own: &DaaOwn,
+    traffic: &[DaaTraffic],
+    kind: i32,
+    out: &mut DaaRecovery,
+) -> i32
+    ensures filled { result ≡ pos 0
+        → IsRecoveryUnder config.now (picture_of 0 own.now traffic.now) kind out.new }
+    ensures kept { result ≢ pos 0 → out.new ≡ out.old }
+    ensures no_kind { result ≡ pos 23
+        → HasNoKind (refusal_of config.now own.now traffic.now) kind }
+    ensures not_asked { result ≡ pos 26
+        → AsksForNone config.now (refusal_of config.now own.now traffic.now) kind }
+    ensures refused { result ≢ pos 0 → result ≢ pos 23 → result ≢ pos 26
+        → IsCodeOf (refusal_of config.now own.now traffic.now) result }
+{
+    let config = match accept(config) {
+        Ok(config) => config,
+        Err(fault) => return code(Refusal::Config(fault)),
+    };
+    let picture = match picture(0, own, traffic) {
+        Ok(picture) => picture,
+        Err(refusal) => return code(refusal),
+    };
+    let Some(kind) = kind_in(kind) else {
+        return BAD_KIND;
+    };
+    if config.recovery().is_none() {
+        return NOT_ASKED;
+    }
+    *out = recovery_numbers(least(&config, &picture, kind));
+    0
+}

@@ -1,0 +1,74 @@
+//! The answer on a side of a kind.
+
+ghost use Rattle.std.specs.Prelude.{◌≡◌, ◌≢◌, pos};
+ghost use Rattle.daa_numbers.specs.Asked.{IsResolutionUnder, HasNoKind, HasNoSide};
+ghost use Rattle.daa_numbers.specs.Boards.{IsNoBoard};
+ghost use Rattle.daa_numbers.specs.Refusal.{refusal_of_own, IsCodeOf};
+ghost use Rattle.daa_numbers.specs.Filled.{resolution_by};
+ghost use Rattle.daa_numbers.specs.States.{own_of};
+
+use crate::boards::{DaaBoard, decided};
+use crate::codes::{BAD_BOARD, BAD_KIND, BAD_SIDE, kind_in, side_in};
+use crate::refusal::{Refusal, code};
+use crate::setting::{DaaConfig, accept};
+use crate::states::{DaaOwn, checked_own};
+use daa_config::Resolution;
+use daa_resolve::nearest;
+
+/// The answer: 0 to keep the present flight, 1 to go to the value, 2 for no open candidate.
+#[repr(C)]
+#[derive(Clone, Copy)]
+pub struct DaaResolution {
+    pub what: i32,
+    pub value: i32,
+}
+
+/// The numbers of an answer.
+fn resolution_numbers(resolution: Resolution) -> DaaResolution
+    ensures { result ≡ resolution_by resolution }
+{
+    match resolution {
+        Resolution::Keep => DaaResolution { what: 0, value: 0 },
+        Resolution::To(value) => DaaResolution { what: 1, value },
+        Resolution::Nothing => DaaResolution { what: 2, value: 0 },
+    }
+}
+
+/// Fills in the answer on a side of a kind. Returns 0, or why nothing was filled in.
+pub fn resolution(
+    config: &DaaConfig,
+    own: &DaaOwn,
+    board: &DaaBoard,
+    kind: i32,
+    side: i32,
+    out: &mut DaaResolution,
+) -> i32
+    ensures filled { result ≡ pos 0
+        → IsResolutionUnder config.now (own_of own.now) board.now kind side out.new }
+    ensures kept { result ≢ pos 0 → out.new ≡ out.old }
+    ensures no_kind { result ≡ pos 23 → HasNoKind (refusal_of_own config.now own.now) kind }
+    ensures no_side { result ≡ pos 24 → HasNoSide (refusal_of_own config.now own.now) kind side }
+    ensures bad_board { result ≡ pos 27 → IsNoBoard config.now board.now }
+    ensures refused { result ≢ pos 0 → result ≢ pos 23 → result ≢ pos 24 → result ≢ pos 27
+        → IsCodeOf (refusal_of_own config.now own.now) result }
+{
+    let accepted = match accept(config) {
+        Ok(accepted) => accepted,
+        Err(fault) => return code(Refusal::Config(fault)),
+    };
+    let own = match checked_own(own) {
+        Ok(own) => own,
+        Err(refusal) => return code(refusal),
+    };
+    let Some(kind) = kind_in(kind) else {
+        return BAD_KIND;
+    };
+    let Some(side) = side_in(side) else {
+        return BAD_SIDE;
+    };
+    let Some(board) = decided(config, &accepted, board) else {
+        return BAD_BOARD;
+    };
+    *out = resolution_numbers(nearest(&board, &accepted, &own, kind, side));
+    0
+}

@@ -1,0 +1,132 @@
+/* Every call of daidalus.h, made once, on the first moment of state lines that come on standard input.
+ *
+ *     each_call CONFIGURATION < STATES
+ *
+ * Prints each candidate with its level, and the moment's report twice: put together of the answers, and by daa_report.
+ * Where a call answers what it should not, the program ends with status 1. */
+#include "daidalus.h"
+
+#include <stdio.h>
+#include <stdlib.h>
+#include <string.h>
+
+static const char *const kinds[] = {"", "track", "gs", "vs", "alt"};
+
+static void must(int32_t answer, const char *call) {
+    if (answer == DAA_OK) return;
+    fprintf(stderr, "%s answers %d\n", call, (int)answer);
+    exit(1);
+}
+
+/* Reads lines up to the end of the first moment. */
+static void read_moment(struct daa_lines *lines) {
+    char line[300];
+    while (fgets(line, sizeof line, stdin)) {
+        int32_t answer = daa_line((const uint8_t *)line, strcspn(line, "\n"), lines);
+        if (answer == DAA_MOMENT_ENDED) return;
+        must(answer, "daa_line");
+    }
+    must(14, "daa_line");
+}
+
+static void print_candidates(const struct daa_config *config, const struct daa_board *board) {
+    static uint8_t levels[1897];
+    size_t count;
+    must(daa_levels(config, board, levels, sizeof levels, &count), "daa_levels");
+    for (uint32_t i = 0; i < count; i++) {
+        struct daa_candidate to;
+        must(daa_candidate(config, i, &to), "daa_candidate");
+        printf("candidate %d %d %d\n", (int)to.kind, (int)to.value, (int)levels[i]);
+    }
+}
+
+static void print_alerts(const struct daa_config *config, const struct daa_lines *moment) {
+    for (size_t i = 0; i < moment->count; i++) {
+        struct daa_alert alert;
+        must(daa_alert(config, &moment->own, &moment->traffic[i], &alert), "daa_alert");
+        printf("now %.8s %u\nalert %.8s %u ", moment->traffic[i].id, (unsigned)alert.now, moment->traffic[i].id, (unsigned)alert.level);
+        if (alert.level) printf("%d\n", (int)alert.first);
+        else printf("-\n");
+    }
+}
+
+static void print_bands(const struct daa_config *config, const struct daa_board *board) {
+    for (int32_t kind = DAA_TRACK; kind <= DAA_HEIGHT; kind++) {
+        struct daa_band bands[512];
+        size_t count;
+        must(daa_bands(config, board, kind, bands, 512, &count), "daa_bands");
+        for (size_t i = 0; i < count; i++)
+            printf("%s %d %d %u\n", kinds[kind], (int)bands[i].from, (int)bands[i].upto, (unsigned)bands[i].level);
+    }
+}
+
+static void print_side(const char *word, struct daa_resolution to) {
+    if (to.what == 0) printf(" %s keep", word);
+    else if (to.what == 1) printf(" %s %d", word, (int)to.value);
+    else printf(" %s none", word);
+}
+
+static void print_resolutions(const struct daa_config *config, const struct daa_own *own, const struct daa_board *board) {
+    for (int32_t kind = DAA_TRACK; kind <= DAA_HEIGHT; kind++) {
+        struct daa_resolution lower, upper;
+        must(daa_resolution(config, own, board, kind, DAA_LOWER, &lower), "daa_resolution");
+        must(daa_resolution(config, own, board, kind, DAA_UPPER, &upper), "daa_resolution");
+        printf("resolve %s", kinds[kind]);
+        print_side(kind == DAA_TRACK ? "left" : "down", lower);
+        print_side(kind == DAA_TRACK ? "right" : "up", upper);
+        printf("\n");
+    }
+}
+
+/* The recoveries of the kinds that have no open value on either side, where the configuration asks for them. */
+static void print_recoveries(const struct daa_config *config, const struct daa_lines *moment, const struct daa_board *board) {
+    for (int32_t kind = DAA_TRACK; kind <= DAA_HEIGHT; kind++) {
+        struct daa_resolution lower, upper;
+        struct daa_recovery to;
+        must(daa_resolution(config, &moment->own, board, kind, DAA_LOWER, &lower), "daa_resolution");
+        must(daa_resolution(config, &moment->own, board, kind, DAA_UPPER, &upper), "daa_resolution");
+        if (!config->recovery || lower.what != 2 || upper.what != 2) continue;
+        must(daa_recovery(config, &moment->own, moment->traffic, moment->count, kind, &to), "daa_recovery");
+        if (to.found) printf("recover %s %u %d\n", kinds[kind], (unsigned)to.after, (int)to.value);
+        else printf("recover %s none\n", kinds[kind]);
+    }
+}
+
+static struct daa_config config_in(const char *name) {
+    static uint8_t text[65537];
+    struct daa_config config;
+    FILE *file = fopen(name, "rb");
+    if (!file) {
+        perror(name);
+        exit(1);
+    }
+    size_t size = fread(text, 1, sizeof text, file);
+    fclose(file);
+    must(daa_read(text, size, &config), "daa_read");
+    return config;
+}
+
+int main(int words, char **word) {
+    static struct daa_lines moment;
+    static struct daa_board board;
+    static uint8_t text[130176];
+    struct daa_fault fault;
+    size_t length;
+    if (words != 2) return 2;
+    struct daa_config config = config_in(word[1]);
+    printf("check %d\n", (int)daa_check(&config));
+    read_moment(&moment);
+    must(daa_fault(&moment.own, moment.traffic, moment.count, &fault), "daa_fault");
+    printf("fault %d %d %d %d %d\n", (int)fault.code, (int)fault.field, (int)fault.least, (int)fault.greatest, (int)fault.place);
+    must(daa_decide(&config, &moment.own, moment.traffic, moment.count, &board), "daa_decide");
+    print_candidates(&config, &board);
+    printf("moment %u\n", (unsigned)moment.time);
+    print_alerts(&config, &moment);
+    print_bands(&config, &board);
+    print_resolutions(&config, &moment.own, &board);
+    print_recoveries(&config, &moment, &board);
+    printf("done %u\n", (unsigned)moment.time);
+    must(daa_report(&config, moment.time, &moment.own, moment.traffic, moment.count, text, sizeof text, &length), "daa_report");
+    fwrite(text, 1, length, stdout);
+    return 0;
+}
