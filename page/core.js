@@ -1,0 +1,230 @@
+/* The engine in WebAssembly, and the readers of its structs and of its report. No page is needed: a worker and Node run it.
+ *
+ * All that is said of a moment is said by the engine's report: nothing of it is computed here. Numbers are those of the
+ * state lines: whole; 0.001 NM, 0.1 kt, ft, ft/min, degrees, s. */
+"use strict";
+function daaCore(root) {
+  // ---- The structs of crates/daa_c/include/daidalus.h. A field that is new comes at the end of its struct and of its line here.
+
+  const TOP = ["resolve", "turn_rate", "track_step"];
+  const GRID = ["min", "max", "step", "rate"];
+  const LEVEL = ["dthr", "zthr", "tthr", "tcoa", "lookahead", "alert", "tcpa"];
+  const RECOVERY = ["hdist", "vdist"];
+  const MOST_LEVELS = 4;
+  const under = (name, keys) => keys.map((key) => `${name}.${key}`);
+  /** Each number of struct daa_config, of 64 bits, in its order. */
+  const CONFIG = [...TOP, ...under("gs", GRID), ...under("vs", GRID), ...under("alt", GRID),
+    "recovery", ...under("recovery", RECOVERY), "count",
+    ...[1, 2, 3, 4].flatMap((level) => under(`level${level}`, LEVEL))];
+  /** Keys that a text may leave out, and which then are 0. */
+  const OPTIONAL = ["tcpa"];
+  /** Each number of struct daa_own, and those of struct daa_traffic after its identifier, of 32 bits. */
+  const OWN = ["x", "y", "alt", "trk", "gs", "vs"];
+  const TRAFFIC = ["x", "y", "alt", "vx", "vy", "vs", "age"];
+  const ID_SIZE = 8;
+  const FIELDS = ["", "x", "y", "alt", "trk", "gs", "vs", "vx", "vy", "age"];
+  const SIZES = { config: 8 * CONFIG.length, own: 4 * OWN.length, traffic: ID_SIZE + 4 * TRAFFIC.length, fault: 24 };
+
+  const MOST_AIRCRAFT = 64;
+  const LONGEST_CONFIG = 65536;
+  const LONGEST_REPORT = 131072; // bytes; the header says how many are always enough, and these are more
+
+  const CAUSES = {
+    1: "the text has more than 65536 bytes",
+    2: "the text is no TOML",
+    3: "a key is unknown",
+    4: "a key is missing",
+    5: "a value is no whole number, or no table",
+    6: "a number is out of its range",
+    7: "there are not 1 to 4 levels, or resolve is above their number",
+    8: "a kind has more than 512 candidates",
+    16: "a number of the ownship is out of its range",
+    17: "a number of an aircraft is out of its range",
+    18: "there are more than 64 aircraft",
+    21: "an identifier is not 1 to 8 letters, digits, _ or -",
+    22: "two aircraft have one identifier",
+  };
+
+  /** What the engine refuses: its code; of a configuration the sentence and the line, of states which number of whom. */
+  class Refused extends Error {
+    constructor(code, { why = "", line = 0, fault = null } = {}) {
+      super(why || CAUSES[code] || `code ${code}`);
+      Object.assign(this, { code, line, fault });
+    }
+  }
+
+  /** The engine stopped in a call, as no call should; it has been made anew since. */
+  class Stopped extends Error {}
+
+  class Engine {
+    /** An engine over the bytes of a module. */
+    static async open(bytes) {
+      return new Engine(await WebAssembly.compile(bytes), bytes.length);
+    }
+
+    constructor(module, size) {
+      this.module = module;
+      this.size = size;
+      this.decoder = new TextDecoder("latin1");
+      this.renew();
+    }
+
+    /** Makes the instance, at first and after a trap: the module is then as it fell, and would refuse every later call. */
+    renew() {
+      const { exports } = new WebAssembly.Instance(this.module, {});
+      const base = exports.__heap_base.value;
+      let at = Math.ceil(Number(base) / 64) * 64;
+      const room = (bytes) => {
+        const place = at;
+        at += Math.ceil(bytes / 64) * 64;
+        return place;
+      };
+      this.calls = exports;
+      this.is64 = typeof base === "bigint";
+      this.places = { config: room(SIZES.config), own: room(SIZES.own), traffic: room(SIZES.traffic * MOST_AIRCRAFT),
+        length: room(8), fault: room(SIZES.fault), report: room(LONGEST_REPORT) };
+      if (at > exports.memory.buffer.byteLength) throw new Error("the module's memory is too small");
+      this.view = new DataView(exports.memory.buffer);
+      this.bytes = new Uint8Array(exports.memory.buffer);
+    }
+
+    /** A pointer or a length, as the module takes it. */
+    word(number) {
+      return this.is64 ? BigInt(number) : number;
+    }
+
+    call(name, ...words) {
+      try {
+        return this.calls[name](...words);
+      } catch (problem) {
+        if (!(problem instanceof WebAssembly.RuntimeError)) throw problem;
+        this.renew();
+        throw new Stopped(`The engine stopped (${problem.message}), and was made anew.`);
+      }
+    }
+
+    // ---- a configuration
+
+    /** The configuration of a text of TOML, of bytes. Codes 1 to 5 are found by the readers of TOML, 6 to 8 by the engine. */
+    read(toml) {
+      if (toml.length > LONGEST_CONFIG) throw new Refused(1);
+      const document = daa.readToml(toml);
+      const faults = daa.faultsOf(document);
+      const sentence = (code) => new Refused(code, faults.find((fault) => fault.code === code));
+      if (faults.length && faults[0].code < 6) throw sentence(faults[0].code);
+      const numbers = daa.numbersOf(document);
+      const code = this.check(numbers);
+      if (code) throw sentence(code);
+      return new Config(this.structOf(numbers));
+    }
+
+    /** The engine's code of a configuration's numbers. Its struct has room for four levels. Those of more are asked four by
+     *  four, since a number out of its range comes before their count. */
+    check(numbers) {
+      const { count } = numbers;
+      for (let first = MOST_LEVELS; first < count; first += MOST_LEVELS) {
+        const rest = { ...numbers, resolve: 1n, count: BigInt(Math.min(Number(count) - first, MOST_LEVELS)) };
+        for (const level of [1, 2, 3, 4]) for (const key of LEVEL) rest[`level${level}.${key}`] = numbers[`level${first + level}.${key}`];
+        if (this.checkStruct(rest) === 6) return 6;
+      }
+      if (count <= MOST_LEVELS) return this.checkStruct(numbers);
+      return this.checkStruct({ ...numbers, count: BigInt(MOST_LEVELS) }) === 6 ? 6 : 7;
+    }
+
+    checkStruct(numbers) {
+      this.bytes.set(this.structOf(numbers), this.places.config);
+      return this.call("daa_check", this.word(this.places.config));
+    }
+
+    structOf(numbers) {
+      const bytes = new Uint8Array(SIZES.config);
+      const view = new DataView(bytes.buffer);
+      CONFIG.forEach((name, i) => view.setBigInt64(8 * i, numbers[name] ?? 0n, true));
+      return bytes;
+    }
+
+    // ---- a moment
+
+    /** The text of a moment's report. Throws Refused or Stopped. */
+    report(config, { time, own, traffic }) {
+      if (traffic.length > MOST_AIRCRAFT) throw new Refused(18);
+      const { places, view } = this;
+      const w = (number) => this.word(number);
+      this.bytes.set(config.bytes, places.config);
+      this.putMoment(own, traffic);
+      const code = this.call("daa_report", w(places.config), time | 0, w(places.own), w(places.traffic), w(traffic.length),
+        w(places.report), w(LONGEST_REPORT), w(places.length));
+      if (code) throw new Refused(code, { fault: this.fault(traffic.length) });
+      const length = Number(view.getBigUint64(places.length, true));
+      return this.decoder.decode(this.bytes.subarray(places.report, places.report + length));
+    }
+
+    putMoment(own, traffic) {
+      const { places, view, bytes } = this;
+      OWN.forEach((name, i) => view.setInt32(places.own + 4 * i, own[name], true));
+      traffic.forEach((one, place) => {
+        const at = places.traffic + SIZES.traffic * place;
+        for (let i = 0; i < ID_SIZE; i++) bytes[at + i] = i < one.id.length ? one.id.charCodeAt(i) : 0;
+        TRAFFIC.forEach((name, i) => view.setInt32(at + ID_SIZE + 4 * i, one[name], true));
+      });
+    }
+
+    /** What is wrong with the states that were put last. */
+    fault(count) {
+      const { places, view } = this;
+      const w = (number) => this.word(number);
+      const at = places.fault;
+      this.call("daa_fault", w(places.own), w(places.traffic), w(count), w(at));
+      const number = (place) => view.getInt32(at + 4 * place, true);
+      return { code: number(0), field: FIELDS[number(1)], least: number(2), greatest: number(3),
+        place: Number(view.getBigUint64(at + 16, true)) };
+    }
+  }
+
+  /** The numbers of a configuration, as its struct has them. */
+  class Config {
+    constructor(bytes) {
+      const view = new DataView(bytes.buffer, bytes.byteOffset);
+      const all = Object.fromEntries(CONFIG.map((name, i) => [name, Number(view.getBigInt64(8 * i, true))]));
+      const some = (name, keys) => Object.fromEntries(keys.map((key) => [key, all[`${name}.${key}`]]));
+      this.bytes = bytes;
+      this.resolve = all.resolve;
+      this.grids = { track: { min: 0, max: 360 - all.track_step, step: all.track_step, rate: all.turn_rate },
+        gs: some("gs", GRID), vs: some("vs", GRID), alt: some("alt", GRID) };
+      this.recovery = all.recovery ? some("recovery", RECOVERY) : null;
+      this.lastTimes = Boolean(all.last_times);
+      this.levels = Array.from({ length: all.count }, (_, l) => some(`level${l + 1}`, LEVEL));
+    }
+  }
+
+  // ---- the report
+
+  const KINDS = ["track", "gs", "vs", "alt"];
+
+  /** What the report of a moment says. */
+  function readReport(text) {
+    const said = { text, time: 0, aircraft: [], bands: { track: [], gs: [], vs: [], alt: [] }, resolve: {}, last: {}, recover: {} };
+    for (const line of text.split("\n")) takeReportLine(said, ...line.split(" "));
+    return said;
+  }
+
+  function takeReportLine(said, word, ...rest) {
+    const answer = (field) => (field === "keep" || field === "none" ? field : Number(field));
+    if (word === "moment") said.time = Number(rest[0]);
+    else if (word === "now") said.aircraft.push({ id: rest[0], now: Number(rest[1]), level: 0, first: null });
+    else if (word === "alert") {
+      const one = said.aircraft[said.aircraft.length - 1];
+      one.level = Number(rest[1]);
+      one.first = rest[2] === "-" ? null : Number(rest[2]);
+    } else if (KINDS.includes(word)) said.bands[word].push({ from: Number(rest[0]), upto: Number(rest[1]), level: Number(rest[2]) });
+    else if (word === "resolve") said.resolve[rest[0]] = { lower: answer(rest[2]), upper: answer(rest[4]) };
+    else if (word === "last") said.last[rest[0]] = answer(rest[1]);
+    else if (word === "recover") said.recover[rest[0]] = rest[1] === "none" ? "none" : { after: Number(rest[1]), value: Number(rest[2]) };
+  }
+
+  const bytesOf = (text) => new TextEncoder().encode(text);
+
+  root.daa = Object.assign(root.daa || {}, { Engine, Config, Refused, Stopped, TOP, GRID, LEVEL, RECOVERY, OPTIONAL, KINDS, CAUSES,
+    MOST_AIRCRAFT, readReport, bytesOf });
+}
+daaCore(globalThis);

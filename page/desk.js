@@ -1,0 +1,102 @@
+/* The desk: where questions to the engine are answered, in a worker of the browser, so that a long moment never stops the page.
+ *
+ * A page that was opened as a file may not load a worker from another file; so the worker's script is put together from the
+ * text of the functions that it needs. */
+"use strict";
+
+/** What runs in the worker: it opens the engine, and answers each question in its turn. */
+function daaWorker(scope) {
+  let engine = null;
+  scope.onmessage = async ({ data }) => {
+    if (data.module) {
+      engine = await daa.Engine.open(data.module);
+      scope.postMessage({ ready: true });
+    } else scope.postMessage({ number: data.number, answer: daa.answerOf(engine, data.question) });
+  };
+}
+
+function daaAnswer(root) {
+  /** The answer to a question, in plain values: the report, what was refused, or that the engine stopped. */
+  root.daa.answerOf = (engine, { config, moment }) => {
+    const before = performance.now();
+    try {
+      return { text: engine.report(config, moment), took: performance.now() - before };
+    } catch (problem) {
+      if (problem instanceof daa.Refused) return { code: problem.code, fault: problem.fault };
+      if (problem instanceof daa.Stopped) return { stopped: problem.message };
+      throw problem;
+    }
+  };
+}
+daaAnswer(globalThis);
+
+(function (root) {
+  const PATIENCE = 250; // ms: how long a question that nobody waits for any more may go on
+
+  /** Answers questions one after the other. `ask` gives a promise of the answer; null where `forget` came before it. */
+  class Desk {
+    constructor(module) {
+      this.module = module;
+      this.waiting = [];
+      this.number = 0;
+      this.begin();
+    }
+
+    /** Starts the worker; where the browser has none, the page itself answers. */
+    begin() {
+      this.ready = false;
+      this.busy = null;
+      try {
+        const script = `"use strict";\n${[daaCore, daaAnswer].map((part) => `(${part})(self);\n`).join("")}(${daaWorker})(self);`;
+        const address = URL.createObjectURL(new Blob([script], { type: "text/javascript" }));
+        this.worker = new Worker(address);
+        URL.revokeObjectURL(address);
+      } catch {
+        this.worker = null;
+        daa.Engine.open(this.module).then((engine) => { this.engine = engine; this.opened(); });
+        return;
+      }
+      this.worker.onmessage = ({ data }) => (data.ready ? this.opened() : this.answered(data));
+      this.worker.postMessage({ module: this.module });
+    }
+
+    opened() {
+      this.ready = true;
+      this.next();
+    }
+
+    ask(question) {
+      return new Promise((answer) => {
+        this.waiting.push({ question, answer });
+        this.next();
+      });
+    }
+
+    next() {
+      if (!this.ready || this.busy || !this.waiting.length) return;
+      this.busy = { ...this.waiting.shift(), number: ++this.number, since: performance.now() };
+      const { number, question } = this.busy;
+      if (this.worker) this.worker.postMessage({ number, question });
+      else setTimeout(() => this.answered({ number, answer: daa.answerOf(this.engine, question) }));
+    }
+
+    answered({ number, answer }) {
+      if (!this.busy || this.busy.number !== number) return;
+      const { answer: tell } = this.busy;
+      this.busy = null;
+      tell(answer);
+      this.next();
+    }
+
+    /** Nobody waits for what was asked: the rest is not asked, and a worker that is long at one question is stopped. */
+    forget() {
+      for (const { answer } of this.waiting.splice(0)) answer(null);
+      if (!this.busy || !this.worker || performance.now() - this.busy.since < PATIENCE) return;
+      this.worker.terminate();
+      this.busy.answer(null);
+      this.begin();
+    }
+  }
+
+  root.daa.Desk = Desk;
+})(globalThis);

@@ -1,0 +1,278 @@
+/* Recordings in NASA's column format (.daa), or a CSV with a header line, made into state lines: what tools/from_daa does,
+ * which describes the format. No page is needed. */
+"use strict";
+function daaRecording(root) {
+  const EARTH = Math.PI / 180;
+  const MILES = { nm: 1, nmi: 1, m: 1 / 1852, km: 1 / 1.852, ft: 0.3048 / 1852 };
+  const FEET = { ft: 1, m: 1 / 0.3048, km: 1000 / 0.3048, nm: 1852 / 0.3048, nmi: 1852 / 0.3048 };
+  const KNOTS = { knot: 1, knots: 1, kt: 1, kts: 1, kn: 1, "m/s": 3600 / 1852, mps: 3600 / 1852, "km/h": 1 / 1.852, kph: 1 / 1.852,
+    "ft/s": 0.3048 * 3600 / 1852, fps: 0.3048 * 3600 / 1852, "nmi/h": 1 };
+  const FEET_PER_MINUTE = { fpm: 1, "ft/min": 1, "ft/s": 60, fps: 60, "m/s": 60 / 0.3048, mps: 60 / 0.3048,
+    knot: 1852 / 0.3048 / 60, kt: 1852 / 0.3048 / 60 };
+  const DEGREES = { deg: 1, rad: 180 / Math.PI };
+  const SECONDS = { s: 1, sec: 1, min: 60, h: 3600, hr: 3600, ms: 0.001 };
+
+  /** Each column: the names that it goes by, and the units with what they are worth. */
+  const COLUMNS = {
+    name: [["name", "aircraft", "id"], null], time: [["time", "tm", "clock", "st"], SECONDS],
+    lat: [["lat", "latitude"], DEGREES], lon: [["lon", "long", "longitude"], DEGREES],
+    alt: [["alt", "altitude", "sz", "z"], FEET], sx: [["sx", "x"], MILES], sy: [["sy", "y"], MILES],
+    trk: [["trk", "track"], DEGREES], gs: [["gs", "groundspeed"], KNOTS],
+    vs: [["vs", "verticalspeed", "vz"], FEET_PER_MINUTE], vx: [["vx"], KNOTS], vy: [["vy"], KNOTS],
+  };
+  const RANGES = { x: 200000, y: 200000, vx: 10000, vy: 10000, vs: 10000 }; // on both sides of 0
+  const ALTITUDES = [-2000, 60000];
+  const FASTEST = 10000;
+  const OLDEST = 10; // s: as tools/from_daa has it where nothing else is asked
+  const MOST_AGE = 60;
+  const LAST_SECOND = 4294967295;
+  const FARTHEST_OWN = 100; // NM: an ownship that is farther from where it began is put at 0 0
+  const LINE_ENDS = /\r\n|[\n\v\f\r\x1c-\x1e\x85\u2028\u2029]/;
+
+  class NoRecording extends Error {}
+
+  const fail = (why) => { throw new NoRecording(why); };
+
+  /** The nearest whole number; of two the even one. */
+  function round(number) {
+    const floor = Math.floor(number);
+    const rest = number - floor;
+    return rest < 0.5 || (rest === 0.5 && floor % 2 === 0) ? floor : floor + 1;
+  }
+
+  /** The rest of a division, from 0 on. */
+  function modulo(number, by) {
+    const rest = number % by;
+    return rest < 0 ? rest + by : rest;
+  }
+
+  /** The second that a time lies in; a millionth is left for the rounding of its unit. */
+  const wholeSecond = (time) => Math.floor(time + 1e-6);
+
+  // ---- reading
+
+  const trimmed = (cell) => cell.replace(/^[ \t"]+|[ \t"]+$/g, "");
+
+  /** The fields of a line; a unit in brackets that follows a name stays with it. */
+  function cellsOf(line) {
+    return (/[,;]/.test(line) ? line.split(/[,;]/) : line.trim().split(/\s+(?![[(])/)).map(trimmed);
+  }
+
+  const unitCellsOf = (line) => (/[,;]/.test(line) ? cellsOf(line) : line.trim().split(/\s+/));
+
+  /** A header's name and unit. */
+  function splitUnit(cell) {
+    const found = /^([^[(]*?)\s*[[(]([^\])]*)[\])]$/.exec(cell);
+    return found ? [found[1].toLowerCase(), found[2]] : [cell.toLowerCase(), null];
+  }
+
+  function numberOf(cell) {
+    if (!/^\s*[+-]?(\d+(_\d+)*\.?(\d+(_\d+)*)?|\.\d+(_\d+)*)([eE][+-]?\d+(_\d+)*)?\s*$/.test(cell)) return null;
+    const found = Number(cell.replaceAll("_", ""));
+    return Number.isFinite(found) ? found : null;
+  }
+
+  /** Which column is where, and what a number in it is worth. */
+  class Header {
+    constructor(line, below) {
+      const named = cellsOf(line).map(splitUnit);
+      this.places = {};
+      this.worth = {};
+      for (const [column, [names]] of Object.entries(COLUMNS)) {
+        const at = named.flatMap(([name], place) => (names.includes(name) ? [place] : []));
+        if (at.length > 1) fail(`the header names ${column} twice`);
+        if (at.length) this.places[column] = at[0];
+      }
+      this.check();
+      this.hasUnitLine = Boolean(below) && this.isUnitLine(below);
+      const units = this.hasUnitLine ? unitCellsOf(below).map((cell) => splitUnit(cell)[1] || cell) : [];
+      for (const [column, at] of Object.entries(this.places)) {
+        this.worth[column] = this.worthOf(column, at < units.length ? units[at] : named[at][1]);
+      }
+    }
+
+    has(...columns) { return columns.every((column) => column in this.places); }
+
+    check() {
+      const missing = ["name", "time", "alt", "vs"].filter((column) => !this.has(column));
+      if (!this.has("lat", "lon") && !this.has("sx", "sy")) missing.push("a place (lat lon, or sx sy)");
+      if (!this.has("trk", "gs") && !this.has("vx", "vy")) missing.push("a speed (trk gs, or vx vy)");
+      if (missing.length) fail(`the header has no column for ${missing.join(", ")}`);
+    }
+
+    /** A line has units if no number stands where a time would. */
+    isUnitLine(line) {
+      const cells = unitCellsOf(line);
+      const at = this.places.time;
+      return at < cells.length && numberOf(cells[at]) === null;
+    }
+
+    worthOf(column, unit) {
+      const units = COLUMNS[column][1];
+      if (units === null || unit === null || ["", "none", "-"].includes(unit.toLowerCase())) return 1;
+      const known = Object.keys(units).join(", ");
+      if (!Object.hasOwn(units, unit.toLowerCase())) fail(`${unit} is no unit of ${column} that is known; known are ${known}`);
+      return units[unit.toLowerCase()];
+    }
+
+    /** A report of an aircraft: s, degrees or NM, ft, knots eastward and northward, ft/min. */
+    row(line, number) {
+      const cells = cellsOf(line);
+      const value = (column) => {
+        const at = this.places[column];
+        const found = at < cells.length ? numberOf(cells[at]) : null;
+        return found === null ? fail(`line ${number}: no number for ${column}: ${line.trim().slice(0, 60)}`) : found * this.worth[column];
+      };
+      if (cells.length <= this.places.name) fail(`line ${number}: no name: ${line.trim().slice(0, 60)}`);
+      let speed;
+      if (this.has("trk", "gs")) {
+        const angle = value("trk") * EARTH;
+        speed = [value("gs") * Math.sin(angle), value("gs") * Math.cos(angle)];
+      } else speed = [value("vx"), value("vy")];
+      const place = this.has("lat", "lon") ? [value("lat"), value("lon")] : [value("sx"), value("sy")];
+      return { name: cells[this.places.name], time: value("time"), place, alt: value("alt"), east: speed[0], north: speed[1], vs: value("vs") };
+    }
+  }
+
+  /** The rows of a recording, whether its places are latitudes and longitudes, and how many settings were left out. */
+  function readRows(text) {
+    const all = text.split(LINE_ENDS).map((line, i) => [i + 1, line]).filter(([, line]) => line.trim() && !line.trimStart().startsWith("#"));
+    const lines = all.filter(([, line]) => !line.includes("="));
+    if (!lines.length) fail("no header line");
+    const header = new Header(lines[0][1], lines.length > 1 ? lines[1][1] : "");
+    const rows = lines.slice(header.hasUnitLine ? 2 : 1).map(([number, line]) => header.row(line, number));
+    if (!rows.length) fail("no report of an aircraft");
+    return { rows, onEarth: header.has("lat", "lon"), settings: all.length - lines.length };
+  }
+
+  /** An identifier of at most 8 letters for each name, which keeps the digits at its end. */
+  function identifiers(names) {
+    const given = new Map();
+    for (const name of names) {
+      const clean = name.replace(/[^A-Za-z0-9_-]/g, "");
+      const digits = /[0-9]{0,7}$/.exec(clean)[0];
+      let short = clean.length <= 8 ? clean : clean.slice(0, 8 - digits.length) + digits;
+      const taken = new Set(given.values());
+      for (let number = 0; !short || taken.has(short); number++) short = `A${number}`;
+      given.set(name, short);
+    }
+    return given;
+  }
+
+  // ---- the plane
+
+  /** East and north of the ownship, in NM. */
+  function offset(own, row, onEarth) {
+    if (!onEarth) return [row.place[0] - own.place[0], row.place[1] - own.place[1]];
+    const middle = ((own.place[0] + row.place[0]) / 2) * EARTH;
+    const eastward = modulo(row.place[1] - own.place[1] + 180, 360) - 180;
+    return [eastward * 60 * Math.cos(middle), (row.place[0] - own.place[0]) * 60];
+  }
+
+  /** Turned to the left by an angle. */
+  const rotated = (east, north, angle) => [east * Math.cos(angle) - north * Math.sin(angle), east * Math.sin(angle) + north * Math.cos(angle)];
+
+  const isAltitude = (alt) => ALTITUDES[0] <= alt && alt <= ALTITUDES[1];
+  const isWithin = (state, fields) => isAltitude(state.alt) && fields.every((field) => Math.abs(state[field]) <= RANGES[field]);
+
+  /** Makes moments of rows. */
+  class Maker {
+    constructor(rows, onEarth) {
+      Object.assign(this, { rows, onEarth, ids: identifiers([...new Set(rows.map((row) => row.name))]), leftOut: new Map() });
+    }
+
+    leaveOut(why) { this.leftOut.set(why, (this.leftOut.get(why) || 0) + 1); }
+
+    /** The ownship's numbers, and the angle by which the plane is turned, so that rounding its track costs nothing. */
+    ownOf(row, start) {
+      const track = modulo(Math.atan2(row.east, row.north) * (180 / Math.PI), 360);
+      const whole = round(track);
+      const [east, north] = offset(start, row, this.onEarth);
+      const isNear = Math.max(Math.abs(east), Math.abs(north)) <= FARTHEST_OWN;
+      const own = { x: isNear ? round(1000 * east) : 0, y: isNear ? round(1000 * north) : 0, alt: round(row.alt), trk: whole % 360,
+        gs: round(10 * Math.hypot(row.east, row.north)), vs: round(row.vs) };
+      return { own: isWithin(own, ["vs"]) && own.gs <= FASTEST ? own : null, angle: (track - whole) * EARTH };
+    }
+
+    /** An aircraft's numbers, or null where they are out of range: its latest report, flown straight on by the fraction of a second. */
+    trafficOf(row, ownRow, own, angle) {
+      const late = ownRow.time - row.time;
+      const age = Math.min(wholeSecond(late), MOST_AGE);
+      const part = late - age;
+      const [east, north] = offset(ownRow, row, this.onEarth);
+      const place = rotated(east + (row.east * part) / 3600, north + (row.north * part) / 3600, angle);
+      const speed = rotated(row.east, row.north, angle);
+      const made = { id: this.ids.get(row.name), x: own.x + round(1000 * place[0]), y: own.y + round(1000 * place[1]),
+        alt: round(row.alt + (row.vs * part) / 60), vx: round(10 * speed[0]), vy: round(10 * speed[1]), vs: round(row.vs), age };
+      return isWithin(made, ["x", "y", "vx", "vy", "vs"]) ? made : null;
+    }
+
+    /** The moments: one for each report of the ownship, at its whole second. */
+    moments(ownName) {
+      const latest = new Map();
+      const made = [];
+      let start = null;
+      const isOwn = (row) => Number(row.name === ownName);
+      for (const row of [...this.rows].sort((a, b) => a.time - b.time || isOwn(a) - isOwn(b))) {
+        if (row.name !== ownName) {
+          latest.set(row.name, row);
+          continue;
+        }
+        start = start || row;
+        const time = wholeSecond(row.time);
+        const least = made.length ? made[made.length - 1].time + 1 : 0;
+        if (time < least || time > LAST_SECOND) this.leaveOut("moments in a second that has one already, or out of range");
+        else {
+          const { own, angle } = this.ownOf(row, start);
+          if (own) made.push({ time, own, traffic: this.trafficAt(row, own, angle, latest) });
+          else this.leaveOut("moments whose ownship is out of range");
+        }
+      }
+      return made;
+    }
+
+    trafficAt(ownRow, own, angle, latest) {
+      const found = [];
+      for (const row of latest.values()) {
+        const made = ownRow.time - row.time > OLDEST ? undefined : this.trafficOf(row, ownRow, own, angle);
+        if (made === undefined) this.leaveOut(`aircraft whose report is older than ${OLDEST} s, in a moment`);
+        else if (made === null || found.length === daa.MOST_AIRCRAFT) this.leaveOut("aircraft out of range, or more than there may be, in a moment");
+        else found.push(made);
+      }
+      return found;
+    }
+  }
+
+  const ownLine = (own) => `own ${own.x} ${own.y} ${own.alt} ${own.trk} ${own.gs} ${own.vs}`;
+  const trafficLine = (one, form) => `traffic ${one.id} ${one.x} ${one.y} ${one.alt} ${one.vx} ${one.vy} ${one.vs}${form === 2 ? ` ${one.age}` : ""}`;
+
+  /** The state lines of moments: in format 2 where some report has an age. */
+  function stateLines(moments) {
+    const form = moments.some(({ traffic }) => traffic.some((one) => one.age)) ? 2 : 1;
+    const lines = form === 2 ? ["format 2"] : [];
+    for (const { time, own, traffic } of moments) lines.push(`moment ${time}`, ownLine(own), ...traffic.map((one) => trafficLine(one, form)), "end");
+    return lines.map((line) => line + "\n").join("");
+  }
+
+  /** The state lines of a recording, seen from an aircraft of it (the first where none is named), its names and what is to be told. */
+  function fromRecording(text, ownName = null) {
+    const { rows, onEarth, settings } = readRows(text);
+    const names = [...new Set(rows.map((row) => row.name))];
+    const maker = new Maker(rows, onEarth);
+    const states = stateLines(maker.moments(names.includes(ownName) ? ownName : names[0]));
+    const notes = [...maker.ids].filter(([name, short]) => name !== short).map(([name, short]) => `${name} is written ${short}`);
+    notes.push(...[...maker.leftOut].map(([why, count]) => `left out: ${count} ${why}`));
+    if (settings) notes.push(`${settings} lines KEY = VALUE are left out`);
+    return { states, names, notes };
+  }
+
+  /** Whether a text looks like a recording: its first line with fields names columns. */
+  function isRecording(text) {
+    const first = text.split(LINE_ENDS).find((line) => line.trim() && !line.trimStart().startsWith("#") && !line.includes("="));
+    const named = first ? cellsOf(first).map((cell) => splitUnit(cell)[0]) : [];
+    return COLUMNS.name[0].some((name) => named.includes(name)) && COLUMNS.time[0].some((name) => named.includes(name));
+  }
+
+  Object.assign(root.daa, { fromRecording, isRecording, stateLines, NoRecording });
+}
+daaRecording(globalThis);

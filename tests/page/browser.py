@@ -1,0 +1,200 @@
+"""The page in Chromium: one browser for all tests, driven by real events, and what it shows."""
+import json
+import os
+import pathlib
+import shutil
+import tempfile
+import time
+
+from shared import Page
+
+try:
+    from selenium import webdriver
+    from selenium.webdriver.common.action_chains import ActionChains
+    from selenium.webdriver.common.by import By
+    from selenium.webdriver.common.keys import Keys
+    from selenium.webdriver.support.ui import Select
+except ImportError:
+    webdriver = ActionChains = By = Keys = Select = None
+
+HOW = "chromium, chromedriver or selenium is missing (Debian: apt-get install chromium chromium-driver python3-selenium)"
+HAS_BROWSER = bool(webdriver and shutil.which("chromium") and shutil.which("chromedriver"))
+FIGURE = "figure[data-view='{}'] "
+LONG = 60  # seconds that nothing here takes
+
+# Waits until what is shown is the answer to the states that are shown, and two frames more.
+SETTLE = """
+const done = arguments[0], frames = (n) => (n ? requestAnimationFrame(() => frames(n - 1)) : done());
+const look = () => (document.body.dataset.settled === "yes" && daa.page.views[0].asked !== undefined ? frames(2) : setTimeout(look, 5));
+requestAnimationFrame(() => requestAnimationFrame(look));
+"""
+
+
+class Browser:
+    """A Chromium with the page, and the ways to use it."""
+
+    def __init__(self):
+        self.folder = tempfile.mkdtemp(prefix="page")
+        options = webdriver.ChromeOptions()
+        for word in ("--headless=new", "--no-sandbox", "--disable-gpu", "--hide-scrollbars", "--force-color-profile=srgb", f"--user-data-dir={self.folder}/profile"):
+            options.add_argument(word)
+        options.set_capability("goog:loggingPrefs", {"browser": "ALL"})
+        self.downloads = os.path.join(self.folder, "downloads")
+        os.mkdir(self.downloads)
+        self.driver = webdriver.Chrome(options=options)
+        self.driver.set_script_timeout(LONG)
+        self.driver.execute_cdp_cmd("Browser.setDownloadBehavior", {"behavior": "allow", "downloadPath": self.downloads})
+
+    def close(self):
+        self.driver.quit()
+        shutil.rmtree(self.folder, ignore_errors=True)
+
+    # Opening.
+
+    def size(self, width, height):
+        self.driver.execute_cdp_cmd("Emulation.setDeviceMetricsOverride", {"width": width, "height": height, "deviceScaleFactor": 1, "mobile": False})
+
+    def media(self, media="", **features):
+        named = [{"name": name.replace("_", "-"), "value": value} for name, value in features.items()]
+        self.driver.execute_cdp_cmd("Emulation.setEmulatedMedia", {"media": media, "features": named})
+
+    def open(self, after="", width=1440, height=900):
+        """Opens the page as a file, anew, and waits until it is ready; `after` follows the address."""
+        self.driver.get("about:blank")
+        self.size(width, height)
+        self.media()
+        self.driver.get_log("browser")
+        self.driver.get(pathlib.Path(Page.folder, "index.html").resolve().as_uri() + after)
+        self.wait("document.body.dataset.ready === 'yes'")
+        self.settle()
+
+    def wait(self, condition, what=""):
+        end = time.monotonic() + LONG
+        while not self.js(f"return Boolean({condition})"):
+            if time.monotonic() > end:
+                raise AssertionError(f"it never came that {what or condition}")
+            time.sleep(0.02)
+
+    def settle(self):
+        self.driver.execute_async_script(SETTLE)
+
+    def js(self, script, *words):
+        return self.driver.execute_script(script, *words)
+
+    def problems(self):
+        """What the console told of errors."""
+        return [entry["message"] for entry in self.driver.get_log("browser") if entry["level"] == "SEVERE"]
+
+    # Events.
+
+    def one(self, selector):
+        return self.driver.find_element(By.CSS_SELECTOR, selector)
+
+    def click(self, selector):
+        self.one(selector).click()
+        self.settle()
+
+    def select(self, selector, name):
+        Select(self.one(selector)).select_by_visible_text(name)
+        self.settle()
+
+    def keys(self, selector, *keys):
+        self.one(selector).send_keys(*keys)
+        self.settle()
+
+    def press(self, *keys):
+        ActionChains(self.driver).send_keys(*keys).perform()
+        self.settle()
+
+    def fill(self, selector, text):
+        field = self.one(selector)
+        field.send_keys(Keys.CONTROL, "a")
+        field.send_keys(text)
+        self.settle()
+
+    def open_files(self, *paths):
+        self.one("#file").send_keys("\n".join(map(os.path.realpath, paths)))
+        self.js("return new Promise((done) => setTimeout(done, 150))")
+        self.settle()
+
+    def file(self, name, content):
+        path = os.path.join(self.folder, name)
+        with open(path, "wb") as file:
+            file.write(content.encode() if isinstance(content, str) else content)
+        return path
+
+    def handle(self, key, view=0):
+        return self.one(FIGURE.format(view) + f".handle[data-key='{key}']")
+
+    def grab(self, key, *offsets):
+        """Holds a handle in its middle and moves it by offsets, without letting go."""
+        x, y = self.js("const m = arguments[0].getScreenCTM(); return [m.e, m.f]", self.handle(key))
+        actions = ActionChains(self.driver)
+        actions.w3c_actions.pointer_action.move_to_location(round(x), round(y))
+        actions.click_and_hold()
+        for offset in offsets:
+            actions.move_by_offset(*offset)
+        actions.perform()
+        self.settle()
+
+    def let_go(self):
+        ActionChains(self.driver).release().perform()
+        self.settle()
+
+    def drag(self, key, *offsets):
+        self.grab(key, *offsets)
+        self.let_go()
+
+    def step_to(self, place):
+        """Puts the slider on a moment by its keys."""
+        at = int(self.one("#slider").get_property("value"))
+        key = Keys.ARROW_RIGHT if place > at else Keys.ARROW_LEFT
+        for _ in range(abs(place - at)):
+            self.keys("#slider", key)
+
+    def downloaded(self, ending):
+        end = time.monotonic() + LONG
+        while time.monotonic() < end:
+            found = [name for name in os.listdir(self.downloads) if name.endswith(ending)]
+            if found:
+                path = os.path.join(self.downloads, found[0])
+                time.sleep(0.1)
+                with open(path, "rb") as file:
+                    content = file.read()
+                os.remove(path)
+                return content
+            time.sleep(0.05)
+        raise AssertionError(f"no {ending} was written")
+
+    # What is shown.
+
+    def states(self):
+        """The shown moment as state lines, which the page gives for the program."""
+        return self.js("return daa.stateLines([daa.page.current])")
+
+    def report(self, place=0):
+        """The report's lines that are shown, in the report's order."""
+        lines = self.js("""return [...document.querySelectorAll(`[data-report='${arguments[0]}'] .line`)].map((it) => [Number(it.dataset.line), it.querySelector("span").textContent])""", place)
+        return "".join(line + "\n" for _, line in sorted(lines))
+
+    def levels(self, view=0):
+        return {key[2:]: int(level) for key, level in self.js("""return [...document.querySelectorAll(arguments[0])].map((it) => [it.dataset.key, it.dataset.level])""",
+                FIGURE.format(view) + ".handle[data-level]")}
+
+    def titles(self, layer, view=0):
+        return self.js("return [...document.querySelectorAll(arguments[0])].map((it) => it.textContent)", FIGURE.format(view) + f"[data-layer={layer}] [data-level] title")
+
+    def answers(self, view=0):
+        found = self.js("return [...document.querySelectorAll(arguments[0])].map((it) => [it.dataset.kind, it.dataset.what, it.textContent])", FIGURE.format(view) + "[data-layer=answers] text")
+        return {(kind, what): words for kind, what, words in found}
+
+    def text(self, selector):
+        return self.js("return document.querySelector(arguments[0]).textContent", selector)
+
+    def shot(self, name):
+        folder = os.environ.get("PAGE_SHOTS")
+        if folder:
+            self.driver.save_screenshot(os.path.join(folder, f"{name}.png"))
+
+    def focused(self):
+        return json.loads(self.js("const it = document.activeElement; return JSON.stringify({ key: it.dataset.key || null, id: it.id, tag: it.tagName })"))

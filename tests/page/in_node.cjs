@@ -1,0 +1,62 @@
+/* node in_node.cjs PAGE < JSON [[word, ..], ..]: runs the page's scripts that need no browser on each task, and writes the JSON
+ * list of the answers. Tasks: [replay, TOML, states], [faults, TOML], [recording, text, ownship]; texts are bytes in base64. */
+"use strict";
+const fs = require("fs");
+const path = require("path");
+const vm = require("vm");
+
+const page = process.argv[2];
+for (const name of ["engine.wasm", "core", "toml", "lines", "recording"]) vm.runInThisContext(fs.readFileSync(path.join(page, `${name}.js`), "utf8"));
+const bytesOf = (text) => new Uint8Array(Buffer.from(text, "base64"));
+
+const TASKS = {
+  replay(engine, toml, states) {
+    let config;
+    try {
+      config = engine.read(bytesOf(toml));
+    } catch (problem) {
+      if (!(problem instanceof daa.Refused)) throw problem;
+      return `config ${problem.code}\n`;
+    }
+    return daa.readStates(engine, bytesOf(states)).map((event) => (event.moment ? engine.report(config, event.moment) : `refused ${event.refused} ${event.code}\n`)).join("");
+  },
+
+  faults(engine, toml) {
+    try {
+      engine.read(bytesOf(toml));
+      return null;
+    } catch (problem) {
+      if (!(problem instanceof daa.Refused)) throw problem;
+      return [problem.code, problem.message, problem.line];
+    }
+  },
+
+  recording(engine, text, own) {
+    try {
+      return daa.fromRecording(new TextDecoder().decode(bytesOf(text)), own);
+    } catch (problem) {
+      if (!(problem instanceof daa.NoRecording)) throw problem;
+      return { refused: problem.message };
+    }
+  },
+
+  /** Calls the engine with places out of its memory, and then on a moment: what the first call throws, and the report. */
+  trap(engine, toml, states) {
+    const config = engine.read(bytesOf(toml));
+    const [{ moment }] = daa.readStates(engine, bytesOf(states));
+    engine.places.report = 2 ** 40;
+    let thrown = "";
+    try {
+      engine.report(config, moment);
+    } catch (problem) {
+      thrown = problem instanceof daa.Stopped ? "Stopped" : String(problem);
+    }
+    return [thrown, engine.report(config, moment)];
+  },
+};
+
+(async () => {
+  const engine = await daa.Engine.open(daa.wasm());
+  const tasks = JSON.parse(fs.readFileSync(0, "utf8"));
+  process.stdout.write(JSON.stringify(tasks.map(([word, ...words]) => TASKS[word](engine, ...words))));
+})();

@@ -1,0 +1,663 @@
+"""The whole page in Chromium, opened as a file and used by real events; what it shows is compared with the program's report."""
+import json
+import os
+import re
+import subprocess
+import time
+import unittest
+import xml.etree.ElementTree
+
+from browser import ActionChains, Browser, By, HAS_BROWSER, HOW, Keys
+from shared import (ENCOUNTER, EXAMPLES, KINDS, RECOVERY, THREE_LEVELS, TOP, answers_of, bands_of, bytes_of, levels_of, moments_of,
+                    replayed, text_of, tool)
+
+SIZES = ((1024, 700), (1920, 1080))
+LONGEST = os.path.join(TOP, "bench", "worst_moments", "recover")
+CROWD = 20
+
+FOUR_LEVELS = """resolve = 3
+turn_rate = 3
+track_step = 5
+gs = { min = 500, max = 7000, step = 100, rate = 20 }
+vs = { min = -5000, max = 5000, step = 100, rate = 500 }
+alt = { min = 0, max = 50000, step = 500, rate = 2000 }
+recovery = { hdist = 82, vdist = 100 }
+""" + "".join(f"[[level]]\ndthr = {d}\nzthr = {z}\ntthr = {t}\ntcoa = 0\nlookahead = {ahead}\nalert = {alert}\n" for d, z, t, ahead, alert in (
+    (2000, 1200, 60, 120, 90), (1200, 700, 45, 90, 70), (660, 450, 35, 75, 55), (660, 450, 20, 55, 25)))
+
+
+def crowd():
+    """A moment of 20 aircraft on all sides, some of which come close."""
+    lines = ["format 2", "moment 0", "own 0 0 10000 30 2500 0"]
+    for i in range(CROWD):
+        x, y = ((i * 7919) % 17000) - 8500, ((i * 104729) % 17000) - 8500
+        toward = -1 if i % 4 == 0 else 1
+        lines.append(f"traffic {'N' + str(100 + 37 * i) + 'XY' if i % 3 == 0 else f'AC{i:02d}'} {x} {y} {9000 + (i * 331) % 2200} {toward * x // 4} {toward * y // 4} {(i % 5 - 2) * 400} {i % 7}")
+    return "\n".join([*lines, "end", ""])
+
+
+def setUpModule():
+    """One browser for all tests; that of a module that holds one already is used on."""
+    if HAS_BROWSER and not PageTest.browser:
+        PageTest.browser = PageTest.own = Browser()
+
+
+def tearDownModule():
+    if PageTest.own:
+        PageTest.own.close()
+        PageTest.browser = PageTest.own = None
+
+
+@unittest.skipUnless(HAS_BROWSER, HOW)
+class PageTest(unittest.TestCase):
+    """A test on the page, opened anew; at its end the console has told no error."""
+
+    browser = own = None
+    maxDiff = 3000
+
+    def setUp(self):
+        self.page = PageTest.browser
+        self.page.open()
+
+    def tearDown(self):
+        self.assertEqual(self.page.problems(), [])
+
+    def check_shown(self, config=THREE_LEVELS, place=0):
+        """All that is shown of the page's moment is what the program says of the page's own state lines."""
+        report = replayed(config, self.page.states().encode())
+        self.assertTrue(report.startswith("moment"), report)
+        self.check_moment(report, place)
+
+    def check_moment(self, report, place=0):
+        self.assertEqual(self.page.report(place), report)
+        self.assertEqual(self.page.levels(place), levels_of(report))
+        self.assertEqual(self.page.titles("ring", place), bands_of(report, "track"))
+        tapes = self.page.titles("tapes", place)
+        for kind in ("gs", "vs"):
+            self.assertEqual([title for title in tapes if f" {'kt' if kind == 'gs' else 'ft/min'}:" in title], bands_of(report, kind))
+        altitudes = [title for title in tapes if " ft:" in title]
+        self.assertTrue(altitudes and all(title in bands_of(report, "alt") for title in altitudes))
+        self.assertEqual(self.page.answers(place), answers_of(report))
+
+
+class Shown(PageTest):
+    def test_each_moment_of_the_encounter(self):
+        """Lines, symbols' levels, ring, tapes, answers, table and sentence, at each step of the slider."""
+        moments = moments_of(replayed(THREE_LEVELS, bytes_of(ENCOUNTER)))
+        self.assertEqual(int(self.page.one("#slider").get_attribute("max")) + 1, len(moments))
+        for place, moment in enumerate(moments):
+            self.page.step_to(place)
+            self.check_moment(moment)
+            rows = self.page.js("return [...document.querySelectorAll('#aircraft tbody tr')].slice(1).map((it) => [it.cells[0].textContent, Number(it.querySelector('.chip').textContent)])")
+            self.assertEqual(dict(rows), levels_of(moment))
+            for name, level in levels_of(moment).items():
+                self.assertEqual(level > 0, f"{name} level {level}" in self.page.text("#summary"))
+        self.page.shot("encounter")
+
+    def test_each_moment_with_recoveries(self):
+        self.page.select("#example", "encounter, with recoveries")
+        moments = moments_of(replayed(RECOVERY, bytes_of(ENCOUNTER)))
+        self.assertTrue(any("recover track" in moment for moment in moments))
+        for place, moment in enumerate(moments):
+            self.page.step_to(place)
+            self.check_moment(moment)
+
+    def test_a_level_is_told_by_colour_by_pattern_and_by_number(self):
+        """Under four levels: what shows a level has that level's pattern, wide runs its number, and no two patterns are alike."""
+        self.page.open_files(self.page.file("four.toml", FOUR_LEVELS), self.page.file("crowd.states", crowd()))
+        self.check_shown(self.page.file("four.toml", FOUR_LEVELS))
+        paints = self.page.js("return [...document.querySelectorAll('[data-layer=ring] [data-level], [data-layer=tapes] [data-level]')].map((it) => [Number(it.dataset.level), it.getAttribute('fill')])")
+        for level, fill in paints:
+            self.assertEqual(fill, f"url(#level{level})" if level else "var(--l0-fill)")
+        self.assertGreaterEqual(len({level for level, _ in paints if level}), 3)
+        marks = self.page.js("return [1, 2, 3, 4].map((level) => document.querySelector(`#level${level}`).innerHTML.replace(/<rect[^>]*>(<.rect>)?|--l./g, ''))")
+        self.assertEqual(len({mark.split("fill=")[0].split("stroke=")[0] for mark in marks}), 4, marks)
+        shapes = self.page.js("""return [...document.querySelectorAll("figure[data-view='0'] .handle[data-level]")].map((it) => [it.dataset.level, it.querySelector(":scope > path[fill]:not([stroke-dasharray]), :scope > rect, :scope > circle:not(.focus):not(.grip), :scope g > path, :scope g > rect, :scope g > circle").outerHTML.replace(/\\d+/g, "").slice(0, 30)])""")
+        self.assertGreaterEqual(len({level for level, _ in shapes}), 2)
+        numbers = self.page.js("return [...document.querySelectorAll('[data-layer=ring] .level')].map((it) => Number(it.textContent))")
+        self.assertGreaterEqual(len(numbers), 2)
+        self.assertLessEqual(set(numbers), {level for level, _ in paints})
+
+    def test_moments_by_the_workers_of_the_page(self):
+        """300 aimed moments, asked of a desk as the displays ask."""
+        states = tool("moments", "--seed", "31", "--moments", "300", "--aimed")
+        got = self.page.driver.execute_async_script("""
+            const [toml, states, done] = arguments, { engine } = daa.page, desk = new daa.Desk(daa.wasm());
+            const config = { bytes: engine.read(daa.bytesOf(toml)).bytes };
+            const moments = daa.readStates(engine, daa.bytesOf(states)).map((it) => it.moment);
+            Promise.all(moments.map((moment) => desk.ask({ config, moment }))).then((answers) => done([Boolean(desk.worker), answers.map((it) => it.text).join("")]));
+            """, text_of(RECOVERY), states.decode())
+        self.assertEqual(got, [True, replayed(RECOVERY, states)])
+
+    def test_the_strip_over_time(self):
+        """The greatest level of each moment stands in the strip, and a click goes to its moment."""
+        self.page.wait("document.body.dataset.surveyed === '19'")
+        moments = moments_of(replayed(THREE_LEVELS, bytes_of(ENCOUNTER)))
+        levels = self.page.js("return daa.page.notes.map((note) => [...note.levels])")
+        self.assertEqual([dict(pairs) for pairs in levels], [levels_of(moment) for moment in moments])
+        drawn = self.page.js("return [...document.querySelectorAll('#strip [data-level]')].map((it) => [Number(it.dataset.level), it.getAttribute('d').split('M').length - 1])")
+        cells = sum(level > 0 for moment in moments for level in levels_of(moment).values())
+        self.assertGreaterEqual(sum(count for _, count in drawn), cells)
+        x = self.page.js("const box = document.querySelector('#strip').getBoundingClientRect(); return [box.x + daa.page && 0, box.width, box.x, box.y]")
+        first, last, wide = 0, 190, x[1] - 88
+        at = x[2] + 78 + (75 - first) / (last - first) * wide
+        actions = ActionChains(self.page.driver)
+        actions.w3c_actions.pointer_action.move_to_location(round(at), round(x[3] + 20))
+        actions.click().perform()
+        self.page.settle()
+        self.check_moment(moments[7])
+
+    def test_refused_lines_are_told(self):
+        """With the moment after which they stand."""
+        states = "own 1 2 3\n" + text_of(ENCOUNTER).replace("moment 20\n", "moment 20\nmoment 21\ntraffic TOOLONGID 0 0 0 0 0 0\n") + "moment 7\n"
+        self.page.open_files(self.page.file("wrong.states", states))
+        moments = re.split(r"(?m)^moment .*?^done \d+\n", replayed(THREE_LEVELS, states.encode()), flags=re.S)
+        self.assertEqual([len(refused.split()) for refused in moments[:4]], [3, 0, 6, 0])
+        self.assertIn("wrong.states: 4 lines were refused", self.page.text("#notes"))
+        for place in range(4):
+            self.page.step_to(place)
+            told = re.findall(r"line (\d+) was refused with code (\d+)", self.page.text("#notes"))
+            self.assertEqual(told, re.findall(r"(?m)^refused (\d+) (\d+)", moments[place]))
+
+
+class Moved(PageTest):
+    def test_an_aircraft_is_dragged(self):
+        before = self.page.report()
+        self.page.grab("p:AMBER", (-20, 40), (-20, 0))
+        held = self.page.report()
+        self.check_shown()
+        self.assertNotEqual(before, held)
+        self.page.let_go()
+        self.check_shown()
+        radius, range_nm = self.page.js("return [daa.page.views[0].drawn.g.radius, daa.page.views[0].look.range]")
+        moved = tuple(map(int, re.search(r"traffic AMBER (-?\d+) (-?\d+)", self.page.states()).groups()))
+        right = tuple(round(start + offset / radius * range_nm * 1000) for start, offset in ((3000, -40), (8000, -40)))
+        self.assertTrue(all(abs(a - b) <= 80 for a, b in zip(moved, right)), (moved, right))
+        self.page.shot("dragged")
+        self.page.press(Keys.ESCAPE)
+        self.assertEqual(self.page.report(), before)
+        self.page.step_to(1)
+        self.page.step_to(0)
+        self.assertEqual(self.page.report(), before)
+
+    def test_everything_that_can_be_held_is_dragged(self):
+        for key, offset in (("track", (90, 60)), ("gs", (0, 60)), ("vs", (0, -50)), ("alt", (0, 40)), ("v:BRAVO", (30, 30)), ("v:", (20, 10)), ("p:", (15, -25))):
+            with self.subTest(key=key):
+                before = self.page.states()
+                self.page.drag(key, offset)
+                self.assertNotEqual(self.page.states(), before)
+                self.check_shown()
+
+    def test_everything_is_moved_by_keys(self):
+        """Each key changes what it says, by as much as it says, and the focus stays."""
+        changes = (("p:AMBER", Keys.ARROW_UP, (1, 100)), ("p:AMBER", Keys.PAGE_UP, (2, 100)), ("p:AMBER", Keys.ARROW_LEFT, (0, -100)))
+        for key, pressed, (field, by) in changes:
+            before = list(map(int, re.search(r"traffic AMBER (-?\d+) (-?\d+) (-?\d+)", self.page.states()).groups()))
+            self.press_at(key, pressed)
+            after = list(map(int, re.search(r"traffic AMBER (-?\d+) (-?\d+) (-?\d+)", self.page.states()).groups()))
+            before[field] += by
+            self.assertEqual(after, before)
+        for key, pressed, own in (("track", Keys.ARROW_RIGHT, "own 0 0 10000 1 3600 0"), ("vs", Keys.ARROW_UP, "own 0 0 10000 1 3600 100"),
+                                  ("gs", Keys.ARROW_DOWN, "own 0 0 10000 1 3550 100"), ("alt", Keys.ARROW_UP, "own 0 0 10100 1 3550 100"), ("v:", Keys.ARROW_RIGHT, "own 0 0 10100 6 3550 100")):
+            self.press_at(key, pressed)
+            self.assertIn(own + "\n", self.page.states())
+        self.press_at("v:BRAVO", Keys.ARROW_LEFT)
+        self.press_at("p:BRAVO", Keys.DELETE, kept=False)
+        self.assertNotIn("BRAVO", self.page.states())
+
+    def press_at(self, key, pressed, kept=True):
+        before = self.page.states()
+        self.page.js("arguments[0].focus()", self.page.handle(key))
+        self.page.press(pressed)
+        self.assertNotEqual(self.page.states(), before)
+        if kept:
+            self.assertEqual(self.page.focused()["key"], key)
+        self.check_shown()
+
+    def test_an_old_report_is_flown_on(self):
+        """Under a late report an aircraft stands where it is now, and a drag puts it there."""
+        self.page.select("#example", "a recording")
+        self.page.step_to(3)
+        self.assertRegex(self.page.states(), r"(?m)^traffic Intrude2 .* 2$")
+        self.page.drag("p:Intrude2", (30, 10))
+        self.check_shown()
+
+    def test_numbers_are_written(self):
+        self.page.click("[data-choose=BRAVO]")
+        self.page.fill("#state [data-field=alt]", "10200")
+        self.assertIn("traffic BRAVO -1200 -300 10200 ", self.page.states())
+        self.check_shown()
+        self.page.fill("#state [data-field=alt]", "70000")
+        self.assertIn("alt of BRAVO is not within -2000 and 60000", self.page.text("#fault"))
+        self.assertEqual(self.page.titles("ring"), [])
+        self.assertEqual(self.page.report(), "")
+        self.page.fill("#state [data-field=alt]", "9000")
+        self.check_shown()
+        self.page.fill("#state [data-field=id]", "AMBER")
+        self.assertIn("two aircraft have one identifier", self.page.text("#fault"))
+
+    def test_aircraft_are_added_and_removed(self):
+        self.page.click("#add")
+        self.assertIn("traffic NEW1 ", self.page.states())
+        self.check_shown()
+        self.page.click("[data-remove]")
+        self.assertNotIn("NEW1", self.page.states())
+        self.check_shown()
+
+
+class Configured(PageTest):
+    def setUp(self):
+        super().setUp()
+        self.page.click("#configuration > summary")
+
+    def edit(self, old, new):
+        text = self.page.one("#toml").get_property("value")
+        self.assertEqual(text.count(old), 1, old)
+        self.page.js("const area = document.querySelector('#toml'); area.value = arguments[0]; area.dispatchEvent(new Event('input'))", text.replace(old, new))
+        self.page.settle()
+
+    def test_a_fault_has_its_code_its_key_and_its_line(self):
+        for old, new, told in (("track_step = 5\n", "track_step = 7\n", "config 6: line 8: track_step = 7 does not divide 360"),
+                               ("track_step = 7\n", "track_step = 5.5\n", "config 5: line 8: track_step = 5.5 is no whole number"),
+                               ("track_step = 5.5\n", "track_stop = 5\n", "config 3: line 8: track_stop is no key"),
+                               ("track_stop = 5\n", "", "config 4: line 1: track_step is missing"),
+                               ("resolve = 2\n", "resolve = 2 2\n", "config 2: line 4: ")):
+            self.edit(old, new)
+            self.assertTrue(self.page.text("#config-fault").startswith(told), self.page.text("#config-fault"))
+        self.page.click("#show-fault")
+        self.assertEqual(self.page.js("const { value, selectionStart, selectionEnd } = document.querySelector('#toml'); return value.slice(selectionStart, selectionEnd)"), "resolve = 2 2")
+        self.assertEqual(self.page.one("#toml").get_attribute("aria-invalid"), "true")
+
+    def test_an_edited_configuration_counts_at_once(self):
+        self.edit("track_step = 5\n", "track_step = 10\n")
+        self.assertEqual(self.page.text("#config-fault"), "")
+        self.check_shown(self.page.file("ten.toml", text_of(THREE_LEVELS).replace("track_step = 5\n", "track_step = 10\n")))
+
+    def test_typed_letters_count(self):
+        area = self.page.one("#toml")
+        area.send_keys(Keys.CONTROL, Keys.HOME)
+        area.send_keys("x")
+        self.assertTrue(self.page.text("#config-fault").startswith("config 2"))
+        area.send_keys(Keys.BACKSPACE)
+        self.page.settle()
+        self.assertEqual(self.page.text("#config-fault"), "")
+
+    def test_levels_are_told_in_words(self):
+        self.edit("tcpa = 0\n", "tcpa = 1\n")
+        told = self.page.js("return [...document.querySelectorAll('#levels li')].map((it) => it.textContent)")
+        self.assertEqual(told, ["1 0.66 NM, 700 ft, 35 s of time to closest approach, 0 s to co-altitude; alerts 55 s ahead, candidates 75 s",
+                                "2 corrective, 0.66 NM, 450 ft, 35 s of modified tau, 0 s to co-altitude; alerts 55 s ahead, candidates 75 s",
+                                "3 0.66 NM, 450 ft, 35 s of modified tau, 0 s to co-altitude; alerts 25 s ahead, candidates 55 s"])
+
+    def test_two_displays_under_two_configurations(self):
+        self.page.click("#compare")
+        self.page.step_to(4)
+        for place, config in enumerate((THREE_LEVELS, RECOVERY)):
+            self.check_shown(config, place)
+        self.page.shot("side_by_side")
+
+
+class Loaded(PageTest):
+    def test_files(self):
+        self.page.open_files(RECOVERY, os.path.join(EXAMPLES, "closed.states"))
+        self.check_moment(replayed(RECOVERY, bytes_of(os.path.join(EXAMPLES, "closed.states"))))
+        self.page.shot("all_closed")
+
+    def test_a_recording_seen_from_each_of_its_aircraft(self):
+        path = os.path.join(EXAMPLES, "recording.daa")
+        self.page.open_files(path)
+        for own in (None, "Intruder1"):
+            if own:
+                self.page.select("#own", own)
+            states = tool("from_daa", path, *(["--own", own] if own else []))
+            moments = moments_of(replayed(THREE_LEVELS, states))
+            self.assertEqual(int(self.page.one("#slider").get_attribute("max")) + 1, len(moments))
+            self.page.step_to(4)
+            self.check_moment(moments[4])
+        self.assertIn("Intruder2 is written Intrude2", self.page.text("#notes"))
+
+    def test_a_file_that_is_none(self):
+        self.page.open_files(self.page.file("none.states", "nothing\n"))
+        self.assertIn("none.states has no whole moment; line 1 was refused with code 2", self.page.text("#fault"))
+
+    def test_a_link_holds_the_whole_moment(self):
+        """Opened anew with what follows #, the page shows the moment that was changed, under both configurations."""
+        self.page.open_files(self.page.file("four.toml", FOUR_LEVELS))
+        self.page.drag("p:AMBER", (-20, 40))
+        self.page.click("figure[data-view='0'] [data-do=up]")
+        self.page.click("figure[data-view='0'] [data-do=near]")
+        self.page.click("#compare")
+        before = self.page.states(), self.page.report(0), self.page.report(1), self.page.js("return JSON.stringify(daa.page.views.map((view) => view.look))")
+        self.page.click("#link")
+        self.page.wait("location.hash.length > 100")
+        link = self.page.js("return location.hash")
+        self.assertLess(len(link), 4000)
+        self.page.open(link)
+        self.assertEqual((self.page.states(), self.page.report(0), self.page.report(1), self.page.js("return JSON.stringify(daa.page.views.map((view) => view.look))")), before)
+        self.page.open("#m=" + link[5:40])
+        self.check_moment(moments_of(replayed(THREE_LEVELS, bytes_of(ENCOUNTER)))[0])
+
+    def test_state_lines_are_copied_for_the_program(self):
+        self.page.drag("p:AMBER", (-20, 40))
+        self.page.js("Object.defineProperty(navigator, 'clipboard', { value: { writeText: () => Promise.reject() } })")
+        self.page.click("#copy")
+        self.assertEqual(replayed(THREE_LEVELS, self.page.downloaded(".states")), self.page.report())
+
+    def test_pictures(self):
+        """The picture of lines names each band, has no colour that only the page knows, and stands alone; that of points is no blank."""
+        self.page.step_to(4)
+        self.page.click("figure[data-view='0'] [data-do=svg]")
+        text = self.page.downloaded(".svg").decode()
+        xml.etree.ElementTree.fromstring(text)
+        self.assertNotIn("var(", text)
+        moment = moments_of(replayed(THREE_LEVELS, bytes_of(ENCOUNTER)))[4]
+        for title in bands_of(moment, "track") + bands_of(moment, "gs"):
+            self.assertIn(f"<title>{title}</title>", text)
+        for used in set(re.findall(r"url\(#(\w+)\)", text)):
+            self.assertIn(f'id="{used}"', text)
+        self.page.click("figure[data-view='0'] [data-do=png]")
+        points = self.page.downloaded(".png")
+        self.assertTrue(points.startswith(b"\x89PNG") and len(points) > 40000, len(points))
+
+
+class Timed(PageTest):
+    def test_playing_keeps_the_recordings_own_times(self):
+        """At thirty times the speed, each moment comes a third of a second after the one before, give or take a frame or two."""
+        self.page.select("#speed", "×30")
+        came = self.page.driver.execute_async_script("""
+            const done = arguments[0], came = [], { page } = daa, start = performance.now();
+            document.querySelector("#play").click();
+            const look = () => {
+              if (!came.length || came[came.length - 1][0] !== page.current.time) came.push([page.current.time, performance.now() - start]);
+              if (page.current.time >= 100) { document.querySelector("#play").click(); done(came); } else requestAnimationFrame(look);
+            };
+            look();""")
+        self.assertEqual([time for time, _ in came], list(range(0, 101, 10)))
+        for second, after in came:
+            self.assertLess(abs(after - second * 1000 / 30), 150, came)
+
+    def test_an_uneven_recording_keeps_its_times(self):
+        lines = [f"moment {second}\nown 0 {second * 60} 5000 0 2160 0\nend\n" for second in (0, 1, 2, 20, 21, 40)]
+        self.page.open_files(self.page.file("uneven.states", "".join(lines)))
+        self.page.select("#speed", "×10")
+        self.page.press(" ")
+        time.sleep(1.1)
+        self.page.press(" ")
+        self.assertEqual(self.page.js("return daa.page.current.time"), 2)
+
+    def test_a_long_moment_leaves_the_page_alive(self):
+        """While a moment is decided for a second or two, frames go on, no old band is shown, and another moment is answered at once."""
+        self.page.js("document.querySelector('#file').multiple = true")
+        self.page.one("#file").send_keys("\n".join(os.path.join(LONGEST, f"worst.{end}") for end in ("toml", "states")))
+        self.page.wait("document.body.dataset.settled === 'no' && daa.page.name === 'worst.states'")
+        longest, early = self.page.driver.execute_async_script("""
+            const done = arguments[0], start = performance.now();
+            let last = start, longest = 0;
+            const look = () => {
+              const now = performance.now();
+              longest = Math.max(longest, now - last);
+              last = now;
+              if (document.body.dataset.settled === "yes" || now - start > 600) done([longest, document.body.dataset.settled === "no"]); else requestAnimationFrame(look);
+            };
+            look();""")
+        self.assertTrue(early)
+        self.assertLess(longest, 500)
+        self.assertEqual(self.page.titles("ring"), [])
+        self.assertIn("being decided", self.page.text("#summary"))
+        self.assertTrue(all(level == 0 for level in self.page.levels().values()))
+        self.page.select("#example", "encounter, three levels")
+        self.check_shown()
+
+    def test_a_long_moment_is_answered(self):
+        config, states = (os.path.join(LONGEST, f"worst.{end}") for end in ("toml", "states"))
+        self.page.open_files(config, states)
+        self.page.settle()
+        self.assertEqual(self.page.report(), replayed(config, bytes_of(states)))
+
+
+class Broken(PageTest):
+    def test_after_a_trap_the_instance_is_made_anew(self):
+        answer = self.page.js("""
+            const { engine, current, views } = daa.page, [view] = views, before = engine.calls;
+            engine.places.report = 2 ** 40;
+            let thrown = null;
+            try { engine.report(view.config, current); } catch (problem) { thrown = problem instanceof daa.Stopped; }
+            return [thrown, engine.calls !== before, engine.report(view.config, current)];""")
+        self.assertEqual(answer, [True, True, self.page.report()])
+
+    def test_a_browser_without_64_bit_memory_is_told(self):
+        command = {"source": "WebAssembly.validate = () => false;"}
+        script = self.page.driver.execute_cdp_cmd("Page.addScriptToEvaluateOnNewDocument", command)["identifier"]
+        try:
+            self.page.driver.refresh()
+            self.page.wait("document.body.dataset.ready === 'no'")
+            self.assertIn("needs a browser with 64-bit WebAssembly memory", self.page.text("#missing"))
+            self.assertTrue(self.page.one("#missing").is_displayed())
+            self.assertFalse(self.page.one("main").is_displayed())
+            self.page.shot("missing")
+        finally:
+            self.page.driver.execute_cdp_cmd("Page.removeScriptToEvaluateOnNewDocument", {"identifier": script})
+
+
+# Boxes of what is drawn; a text or symbol that stands outside of its display, or on another one.
+
+BOXES = """
+const [view] = arguments, figure = document.querySelector(`figure[data-view='${view}']`), svg = figure.querySelector("svg"), all = [];
+const box = (it) => { const b = it.getBoundingClientRect(); return { x: b.x, y: b.y, right: b.right, bottom: b.bottom }; };
+for (const it of svg.querySelectorAll("text")) {
+  const layer = it.closest("[data-layer]").dataset.layer, handle = it.closest(".handle");
+  const kind = layer === "handles" ? (handle.dataset.key.startsWith("p:") && it.classList.contains("halo") ? "label" : "inside") : layer;
+  all.push({ kind, words: it.textContent, of: handle ? handle.dataset.key : "", ...box(it) });
+}
+for (const it of svg.querySelectorAll(".handle[data-key^='p:'] > .grip")) {
+  const b = box(it), m = 6;
+  all.push({ kind: "symbol", words: "", of: it.closest(".handle").dataset.key, x: b.x + m, y: b.y + m, right: b.right - m, bottom: b.bottom - m });
+}
+return { frame: box(svg), all };
+"""
+
+
+def overlap(a, b):
+    return max(0, min(a["right"], b["right"]) - max(a["x"], b["x"])) * max(0, min(a["bottom"], b["bottom"]) - max(a["y"], b["y"]))
+
+
+class Layout(PageTest):
+    def check_fits(self, wholly=True):
+        """The document is no larger than the window, and no control stands outside of it."""
+        wide, tall, inner_wide, inner_tall = self.page.js("const it = document.documentElement; return [it.scrollWidth, it.scrollHeight, innerWidth, innerHeight]")
+        self.assertLessEqual(wide, inner_wide)
+        if wholly:
+            self.assertLessEqual(tall, inner_tall)
+        for selector in ("header", "#displays", "#time", "#slider", "#strip", "figcaption [data-do=png]"):
+            for it in self.page.driver.find_elements(By.CSS_SELECTOR, selector):
+                if it.is_displayed():
+                    box = it.rect
+                    self.assertTrue(box["x"] >= 0 and box["y"] >= 0 and box["x"] + box["width"] <= inner_wide + 1 and box["y"] + box["height"] <= inner_tall + 1, (selector, box))
+
+    def check_display(self, view=0):
+        """No text is cut by the display's edge; labels stand on no other text and on no symbol."""
+        found = self.page.js(BOXES, view)
+        frame, all_boxes = found["frame"], found["all"]
+        for it in all_boxes:
+            if it["words"]:
+                self.assertTrue(it["x"] >= frame["x"] - 1 and it["right"] <= frame["right"] + 1 and it["y"] >= frame["y"] - 2 and it["bottom"] <= frame["bottom"] + 2, it)
+        fixed = [it for it in all_boxes if it["kind"] in ("head", "answers", "legend")]
+        labels = [it for it in all_boxes if it["kind"] == "label"]
+        for i, a in enumerate(fixed):
+            for b in fixed[i + 1:]:
+                self.assertLess(overlap(a, b), 30, (a, b))
+        bad = [(a["words"], a["of"], b["words"], b["of"]) for i, a in enumerate(labels) for b in labels[i + 1:] if a["of"] != b["of"] and overlap(a, b) > 60]
+        bad += [(a["words"], a["of"], "symbol", b["of"]) for a in labels for b in all_boxes if b["kind"] == "symbol" and a["of"] != b["of"] and overlap(a, b) > 60]
+        return labels, bad
+
+    def check_all(self, name, compare=False):
+        for width, height in SIZES:
+            with self.subTest(size=(width, height)):
+                self.page.size(width, height)
+                self.page.settle()
+                self.check_fits(wholly=not compare or width > 1500)
+                for view in (0, 1) if compare else (0,):
+                    labels, bad = self.check_display(view)
+                    self.assertEqual(bad, [])
+                self.page.shot(f"{name}_{width}")
+
+    def test_the_encounter(self):
+        self.page.step_to(2)
+        self.check_all("encounter")
+
+    def test_all_closed_with_recoveries(self):
+        self.page.select("#example", "encounter, with recoveries")
+        self.page.step_to(6)
+        self.check_all("recoveries")
+
+    def test_two_displays(self):
+        self.page.open_files(self.page.file("four.toml", FOUR_LEVELS))
+        self.page.click("#compare")
+        self.page.step_to(5)
+        self.check_all("two_displays", compare=True)
+
+    def test_twenty_aircraft(self):
+        """Labels keep out of each other's way; each aircraft that alerts has one; table and report have those first."""
+        path = self.page.file("four.toml", FOUR_LEVELS)
+        self.page.open_files(path, self.page.file("crowd.states", crowd()))
+        self.check_shown(path)
+        self.check_all("crowd")
+        levels = self.page.levels()
+        loud = {name for name, level in levels.items() if level}
+        self.assertTrue(2 <= len(loud) <= CROWD - 6, levels)
+        self.page.size(*SIZES[0])
+        self.page.settle()
+        labels, _ = self.check_display()
+        self.assertLessEqual(loud, {it["words"] for it in labels})
+        self.assertGreaterEqual(len({it["of"] for it in labels}), CROWD // 2)
+        rows = self.page.js("return [...document.querySelectorAll('#aircraft tbody tr')].slice(1).map((it) => it.cells[0].textContent)")
+        self.assertEqual(set(rows), loud)
+        self.assertEqual(rows, sorted(rows, key=lambda name: -levels[name]))
+        hidden = self.page.js("return [...document.querySelectorAll('#report .line')].filter((it) => !it.checkVisibility()).map((it) => it.querySelector('span').textContent)")
+        self.assertEqual(len(hidden), 2 * (CROWD - len(loud)))
+        self.page.click("#rest")
+        self.assertEqual(self.page.js("return document.querySelectorAll('#aircraft tbody tr').length"), CROWD + 1)
+
+    def test_the_panel_and_the_header_are_not_cut(self):
+        """Texts of the panel end within it, also with the configuration open; the panel scrolls where it is longer than the window."""
+        self.page.js("document.querySelectorAll('details').forEach((it) => { it.open = true; })")
+        for width, height in SIZES:
+            self.page.size(width, height)
+            self.page.settle()
+            cut = self.page.js("""
+                const panel = document.querySelector("#panel").getBoundingClientRect();
+                return [...document.querySelectorAll("#panel td, #panel th, #panel button, #panel input, #panel p, #panel dd, header > *")].filter((it) => {
+                  const b = it.getBoundingClientRect(), right = it.closest("header") ? innerWidth : panel.right;
+                  return b.width && b.right > right + 1;
+                }).map((it) => it.outerHTML.slice(0, 80));""")
+            self.assertEqual(cut, [])
+            self.page.shot(f"panel_{width}")
+
+
+CONTRAST = """
+const probe = document.body.appendChild(document.createElement("i"));
+const colour = (name) => { probe.style.color = `var(--${name})`; return getComputedStyle(probe).color.match(/[\\d.]+/g).slice(0, 3).map(Number); };
+const light = (rgb) => { const [r, g, b] = rgb.map((v) => (v / 255 <= 0.04045 ? v / 255 / 12.92 : ((v / 255 + 0.055) / 1.055) ** 2.4)); return 0.2126 * r + 0.7152 * g + 0.0722 * b; };
+const contrast = (a, b) => { const [low, high] = [light(colour(a)), light(colour(b))].sort((x, y) => x - y); return (high + 0.05) / (low + 0.05); };
+const pairs = [];
+for (const ground of ["ground", "panel", "disc"]) for (const ink of ["ink", "faint", "own", "open", "bad", "recover", "l1-edge", "l2-edge", "l3-edge", "l4-edge"]) pairs.push([ink, ground, contrast(ink, ground)]);
+for (const level of [1, 2, 3, 4]) pairs.push([`l${level}-ink`, `l${level}-fill`, contrast(`l${level}-ink`, `l${level}-fill`)]);
+probe.remove();
+return pairs;
+"""
+
+
+class Everyone(PageTest):
+    def test_contrast_on_both_grounds(self):
+        """Each text has a contrast of 4.5 on its ground, light and dark; a level's number 3.5 on its colour, and it is bold and large."""
+        for scheme in ("light", "dark"):
+            self.page.media(prefers_color_scheme=scheme)
+            for ink, ground, contrast in self.page.js(CONTRAST):
+                self.assertGreaterEqual(contrast, 3.5 if ink.endswith("-ink") else 4.5, (scheme, ink, ground))
+            self.page.shot(f"ground_{scheme}")
+
+    def test_the_ground_is_chosen(self):
+        ground = "return getComputedStyle(document.body).backgroundColor"
+        self.page.select("#theme", "dark")
+        dark = self.page.js(ground)
+        self.page.select("#theme", "light")
+        self.assertNotEqual(self.page.js(ground), dark)
+
+    def test_by_keyboard_alone(self):
+        """The tabulator reaches each control and each thing on the display; keys play, step and change the range."""
+        reached = []
+        for _ in range(80):
+            self.page.press(Keys.TAB)
+            at = self.page.focused()
+            if at["tag"] == "BODY":
+                break
+            reached.append(at["key"] or at["id"] or at["tag"])
+        for name in ("example", "file", "compare", "link", "theme", "p:AMBER", "v:AMBER", "p:", "v:", "track", "gs", "vs", "alt", "play", "speed", "slider", "report", "add", "copy"):
+            self.assertIn(name, reached)
+        self.page.js("document.activeElement.blur()")
+        moments = moments_of(replayed(THREE_LEVELS, bytes_of(ENCOUNTER)))
+        self.page.press(".")
+        self.assertEqual(self.page.report(), moments[1])
+        self.page.press(",")
+        self.assertEqual(self.page.report(), moments[0])
+        before = self.page.js("return daa.page.views[0].look.range")
+        self.page.press("-")
+        self.assertGreater(self.page.js("return daa.page.views[0].look.range"), before)
+        self.page.press("+")
+        self.assertEqual(self.page.js("return daa.page.views[0].look.range"), before)
+
+    def test_the_focus_is_seen(self):
+        self.page.js("arguments[0].focus()", self.page.one("#slider"))
+        self.page.press(Keys.SHIFT, Keys.TAB)
+        self.assertNotEqual(self.page.js("return getComputedStyle(document.activeElement).outlineStyle"), "none")
+        self.page.press(Keys.ESCAPE)
+        self.page.js("arguments[0].focus()", self.page.handle("p:AMBER"))
+        self.page.press(Keys.ARROW_UP)
+        self.assertEqual(self.page.js("return getComputedStyle(arguments[0].querySelector('.focus')).opacity", self.page.handle("p:AMBER")), "1")
+
+    def test_by_screen_reader(self):
+        """In the tree that a screen reader is given, all that takes the focus has a name, sliders their words, and the sentence is live."""
+        nodes = self.page.driver.execute_cdp_cmd("Accessibility.getFullAXTree", {})["nodes"]
+        named = {}
+        for node in nodes:
+            properties = {it["name"]: it["value"].get("value") for it in node.get("properties", [])}
+            role, name = node.get("role", {}).get("value"), node.get("name", {}).get("value", "")
+            if properties.get("focusable") and not node.get("ignored") and role not in ("RootWebArea", "complementary", "generic"):
+                self.assertTrue(name, node)
+            named[role, name] = node
+            if role == "slider":
+                self.assertTrue(node.get("value"), node)
+        self.assertIn(("slider", "AMBER"), named)
+        words = self.page.js("return document.querySelector(\".handle[data-key='p:AMBER']\").getAttribute('aria-valuetext')")
+        self.assertRegex(words, r"^8\.5 NM away, \+00 hundred feet, alert level 2 in 43 seconds$")
+        self.assertEqual(self.page.one("#summary").get_attribute("aria-live"), "polite")
+        self.assertIn("AMBER level 2 in 43 s", self.page.text("#summary"))
+        self.assertIn("track right to 10°", self.page.text("#summary"))
+
+    def test_on_paper(self):
+        """On paper the ground is white, whatever the screen's, patterns stay, and controls are gone."""
+        self.page.step_to(3)
+        self.page.media("print", prefers_color_scheme="dark")
+        self.assertEqual(self.page.js("return getComputedStyle(document.body).backgroundColor"), "rgb(255, 255, 255)")
+        self.assertEqual(self.page.js("return getComputedStyle(document.querySelector('.ground')).fill"), "rgb(255, 255, 255)")
+        for selector in ("#play", "#example", "#link", "figcaption", "#toml", "#add"):
+            self.assertFalse(self.page.one(selector).is_displayed(), selector)
+        for selector in ("figure svg", "#strip", "#summary", "#aircraft", "#report"):
+            self.assertTrue(self.page.one(selector).is_displayed(), selector)
+        self.assertEqual(self.page.js("return document.querySelector(\"[data-layer=ring] [data-level='3']\").getAttribute('fill')"), "url(#level3)")
+        self.page.shot("paper")
+        paper = self.page.driver.execute_cdp_cmd("Page.printToPDF", {"printBackground": False, "paperWidth": 8.27, "paperHeight": 11.69})["data"]
+        self.assertGreater(len(paper), 20000)
+        if os.environ.get("PAGE_SHOTS"):
+            import base64
+            with open(os.path.join(os.environ["PAGE_SHOTS"], "paper.pdf"), "wb") as file:
+                file.write(base64.b64decode(paper))
+
+    def test_nothing_is_asked_of_a_network(self):
+        """All that was loaded is of the page's own folder, and the browser refuses to fetch."""
+        self.page.wait("document.body.dataset.surveyed === '19'")
+        loaded = self.page.js("return performance.getEntriesByType('resource').map((it) => it.name)")
+        self.assertTrue(all(name.startswith(("file:", "blob:", "data:")) for name in loaded), loaded)
+        answer = self.page.driver.execute_async_script("const done = arguments[0]; fetch('data:,x').then(() => done('fetched'), (problem) => done('refused'));")
+        self.assertEqual(answer, "refused")
+        self.page.driver.get_log("browser")  # which tells of that refusal

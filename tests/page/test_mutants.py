@@ -1,0 +1,93 @@
+"""Wrong pages: each is the page with one bug, and the test that is named must fail on it."""
+import importlib
+import io
+import os
+import shutil
+import tempfile
+import unittest
+
+import test_browser
+from browser import HAS_BROWSER, HOW
+from test_browser import PageTest
+from shared import Page, text_of
+
+# The bug, the file, the text that is there once, what stands in its place, and the test.
+MUTANTS = [
+    ("bands of level 3 are drawn as 2", "draw.js", "upto: band.upto + step / 2, level: band.level }));",
+     "upto: band.upto + step / 2, level: Math.min(band.level, 2) }));", "test_browser.Shown.test_each_moment_of_the_encounter"),
+    ("symbols show no level", "draw.js", 'set("data-level", level);', 'set("data-level", level && 1);',
+     "test_browser.Shown.test_each_moment_of_the_encounter"),
+    ("two speeds are swapped", "core.js", '"alt", "vx", "vy", "vs", "age"]', '"alt", "vy", "vx", "vs", "age"]',
+     "test_browser.Shown.test_each_moment_of_the_encounter"),
+    ("the answers on both sides are swapped", "draw.js", "const { lower, upper } = said.resolve[kind];",
+     "const { lower: upper, upper: lower } = said.resolve[kind];", "test_browser.Shown.test_each_moment_of_the_encounter"),
+    ("a level has its colour alone, and no pattern", "draw.js", "(level ? `url(#level${level})`", "(level ? `var(--l${level}-fill)`",
+     "test_browser.Shown.test_a_level_is_told_by_colour_by_pattern_and_by_number"),
+    ("ages are left out", "core.js", "view.setInt32(at + ID_SIZE + 4 * i, one[name], true)",
+     'view.setInt32(at + ID_SIZE + 4 * i, name === "age" ? 0 : one[name], true)', "test_browser.Moved.test_an_old_report_is_flown_on"),
+    ("a drag moves east alone", "page.js", 'one.y = within(to.y - ((one.vy || 0) * age) / 36, "y");', "",
+     "test_browser.Moved.test_an_aircraft_is_dragged"),
+    ("a drag changes the recording", "page.js", "state.current = copy(state.moments[state.index]);",
+     "state.current = state.moments[state.index];", "test_browser.Moved.test_an_aircraft_is_dragged"),
+    ("a fault of a number has another code", "toml.js", "add(5, `${where}${key} = ", "add(6, `${where}${key} = ",
+     "test_browser.Configured.test_a_fault_has_its_code_its_key_and_its_line"),
+    ("a link loses the second configuration", "page.js", "place) => configure(place, String(toml)", "place) => configure(0, String(toml)",
+     "test_browser.Loaded.test_a_link_holds_the_whole_moment"),
+    ("late reports of a recording count as new", "recording.js", "const age = Math.min(wholeSecond(late), MOST_AGE);", "const age = 0;",
+     "test_browser.Loaded.test_a_recording_seen_from_each_of_its_aircraft"),
+    ("playing has a pace of its own", "page.js", '* Number($("speed").value);', "* 20;",
+     "test_browser.Timed.test_playing_keeps_the_recordings_own_times"),
+    ("old bands stay while a long moment is decided", "page.js", "(isAnswered(view) ? view.said : null)", "view.said",
+     "test_browser.Timed.test_a_long_moment_leaves_the_page_alive"),
+    ("the page itself decides a long moment", "desk.js", "this.worker = new Worker(address);", 'throw new Error("none");',
+     "test_browser.Timed.test_a_long_moment_leaves_the_page_alive"),
+    ("after a trap the instance is not made anew", "core.js", "        this.renew();\n        throw", "        throw",
+     "test_browser.Broken.test_after_a_trap_the_instance_is_made_anew"),
+    ("labels keep out of nothing's way", "labels.js", "const cost = this.cost(box) + far", "const cost = far",
+     "test_browser.Layout.test_twenty_aircraft"),
+    ("paper is as dark as the screen", "style.css", "  :root, :root[data-theme] { color-scheme: light; }\n", "",
+     "test_browser.Everyone.test_on_paper"),
+    ("a handle has no name for a screen reader", "draw.js", 'set("aria-label", label);', "",
+     "test_browser.Everyone.test_by_screen_reader"),
+    ("a file names a network", "index.html", '<script src="page.js">', '<script src="https://example.org/page.js">',
+     "test_files.Files.test_no_file_names_a_network_address"),
+]
+
+
+def outcome(test):
+    """The result of one test."""
+    suite = unittest.defaultTestLoader.loadTestsFromName(test)
+    return unittest.TextTestRunner(stream=io.StringIO(), verbosity=0).run(suite)
+
+
+@unittest.skipUnless(HAS_BROWSER, HOW)
+class Mutants(unittest.TestCase):
+    def setUp(self):
+        """One browser for all of them."""
+        test_browser.setUpModule()
+        self.held, PageTest.own = PageTest.own, None
+
+    def tearDown(self):
+        PageTest.own = self.held
+        test_browser.tearDownModule()
+
+    def test_each_wrong_page_fails(self):
+        """The named test fails on the wrong page, and not for want of what it needs; on the page itself it passes elsewhere."""
+        right = Page.folder
+        self.addCleanup(setattr, Page, "folder", right)
+        for bug, file, old, new, test in MUTANTS:
+            with self.subTest(bug), tempfile.TemporaryDirectory() as folder:
+                Page.folder = os.path.join(folder, "page")
+                shutil.copytree(right, Page.folder)
+                text = text_of(os.path.join(right, file))
+                self.assertEqual(text.count(old), 1, f"{file} has this text once: {old}")
+                with open(os.path.join(Page.folder, file), "w", encoding="utf-8") as wrong:
+                    wrong.write(text.replace(old, new))
+                result = outcome(test)
+                self.assertEqual((result.testsRun, len(result.skipped)), (1, 0))
+                self.assertTrue(result.failures or result.errors, f"{test} passes on a page in which {bug}")
+
+    def test_each_named_test_is_there(self):
+        for *_, test in MUTANTS:
+            module, case, name = test.split(".")
+            self.assertTrue(hasattr(getattr(importlib.import_module(module), case), name), test)
