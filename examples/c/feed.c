@@ -1,0 +1,180 @@
+/* A loop at 1 Hz: states as a bus gives them, each with its own time, and the guidance of each second.
+ *
+ *     feed CONFIGURATION < BUS
+ *
+ * A line of BUS is one of these, in the units of daidalus.h; T is in whole seconds:
+ *
+ *     own T X Y ALT TRK GS VS
+ *     traffic T ID X Y ALT VX VY VS
+ *     tick T
+ *
+ * tick stands for the timer: second T begins, and the report of its moment is printed. An aircraft keeps its latest report:
+ * the report's age makes the engine fly it straight on (it coasts), and above 60 seconds it is dropped. What is left out of
+ * a picture, and why, goes to standard error: an integrator shows it to the crew. No second is answered by an older board. */
+#include "daidalus.h"
+
+#include <stdio.h>
+#include <stdlib.h>
+#include <string.h>
+
+enum { MOST_AIRCRAFT = 64, MOST_AGE = 60, MOST_TEXT = 130176 };
+
+struct own_report {
+    long long time;
+    int known;
+    struct daa_own own;
+};
+
+struct track {
+    long long time;
+    struct daa_traffic traffic;
+};
+
+struct table {
+    struct own_report own;
+    struct track tracks[MOST_AIRCRAFT];
+    size_t count;
+};
+
+static void read_config(const char *name, struct daa_config *config) {
+    static uint8_t text[65537]; /* one byte more than a configuration may have */
+    FILE *file = fopen(name, "rb");
+    if (!file) {
+        perror(name);
+        exit(1);
+    }
+    size_t size = fread(text, 1, sizeof text, file);
+    fclose(file);
+    int32_t answer = daa_read(text, size, config);
+    if (answer != DAA_OK) {
+        fprintf(stderr, "%s is refused with code %d\n", name, (int)answer);
+        exit(answer);
+    }
+}
+
+static struct track *find(struct table *table, const char id[8]) {
+    for (size_t i = 0; i < table->count; i++)
+        if (memcmp(table->tracks[i].traffic.id, id, 8) == 0) return &table->tracks[i];
+    return NULL;
+}
+
+static void drop(struct table *table, size_t place) {
+    table->count--;
+    memmove(&table->tracks[place], &table->tracks[place + 1], (table->count - place) * sizeof table->tracks[0]);
+}
+
+/* The latest report of a name stands. A second one of the same time is another aircraft under that name, or a source that
+ * repeats itself: the later line stands, and it is said. */
+static void take_traffic(struct table *table, const struct track *report) {
+    const struct daa_traffic *new = &report->traffic;
+    struct track *old = find(table, new->id);
+    if (old && old->time == report->time)
+        fprintf(stderr, "second %lld: %.8s was reported twice: its later report stands\n", report->time, new->id);
+    if (old && old->time > report->time) return;
+    if (!old && table->count == MOST_AIRCRAFT) {
+        fprintf(stderr, "second %lld: %.8s is left out: there are 64 aircraft\n", report->time, new->id);
+        return;
+    }
+    if (!old) old = &table->tracks[table->count++];
+    *old = *report;
+}
+
+/* Aircraft that have been silent for more than 60 seconds are no longer known. */
+static void drop_silent(struct table *table, long long now) {
+    for (size_t i = table->count; i-- > 0;) {
+        if (now - table->tracks[i].time <= MOST_AGE) continue;
+        fprintf(stderr, "second %lld: %.8s is dropped: it was silent for %lld seconds\n", now, table->tracks[i].traffic.id,
+                now - table->tracks[i].time);
+        drop(table, i);
+    }
+}
+
+/* The aircraft of second now, each with the age of its report; one of a later second is left out. */
+static size_t make_picture(const struct table *table, long long now, struct daa_traffic *out) {
+    size_t count = 0;
+    for (size_t i = 0; i < table->count; i++) {
+        if (table->tracks[i].time > now) continue;
+        out[count] = table->tracks[i].traffic;
+        out[count++].age = (uint32_t)(now - table->tracks[i].time);
+    }
+    return count;
+}
+
+/* Leaves out each aircraft of which something is wrong, and says what. Returns whether the ownship is sound: without it there
+ * is no guidance. */
+static int leave_out(long long now, const struct daa_own *own, struct daa_traffic *traffic, size_t *count) {
+    static const char *const fields[] = {"", "x", "y", "alt", "trk", "gs", "vs", "vx", "vy", "age"};
+    struct daa_fault fault;
+    while (daa_fault(own, traffic, *count, &fault) == DAA_OK && fault.code != DAA_OK) {
+        if (fault.code == DAA_BAD_OWN) {
+            fprintf(stderr, "second %lld: no guidance: the ownship's %s is not in %d..%d\n", now, fields[fault.field],
+                    (int)fault.least, (int)fault.greatest);
+            return 0;
+        }
+        fprintf(stderr, "second %lld: %.8s is left out: code %d", now, traffic[fault.place].id, (int)fault.code);
+        if (fault.field) fprintf(stderr, ", its %s is not in %d..%d", fields[fault.field], (int)fault.least, (int)fault.greatest);
+        fprintf(stderr, "\n");
+        (*count)--;
+        memmove(&traffic[fault.place], &traffic[fault.place + 1], (*count - fault.place) * sizeof *traffic);
+    }
+    return 1;
+}
+
+static void decide(const struct daa_config *config, struct table *table, long long now) {
+    static uint8_t text[MOST_TEXT];
+    struct daa_traffic traffic[MOST_AIRCRAFT];
+    size_t count, length;
+    drop_silent(table, now);
+    if (!table->own.known || table->own.time != now) {
+        fprintf(stderr, "second %lld: no guidance: there is no ownship of this second\n", now);
+        return;
+    }
+    count = make_picture(table, now, traffic);
+    if (!leave_out(now, &table->own.own, traffic, &count)) return;
+    int32_t answer = daa_report(config, (uint32_t)now, &table->own.own, traffic, count, text, sizeof text, &length);
+    if (answer != DAA_OK) {
+        fprintf(stderr, "second %lld: no guidance: code %d\n", now, (int)answer);
+        return;
+    }
+    fwrite(text, 1, length, stdout);
+    fflush(stdout);
+}
+
+/* Takes one line of the bus. Returns whether it has the form of one. */
+static int take_line(const struct daa_config *config, struct table *table, const char *line) {
+    struct own_report own = {.known = 1};
+    struct track track = {0};
+    struct daa_traffic *it = &track.traffic;
+    char id[9] = {0};
+    long long now;
+    if (sscanf(line, "own %lld %d %d %d %d %d %d", &own.time, &own.own.x, &own.own.y, &own.own.alt, &own.own.trk, &own.own.gs,
+               &own.own.vs) == 7) {
+        table->own = own;
+        return 1;
+    }
+    if (sscanf(line, "traffic %lld %8s %d %d %d %d %d %d", &track.time, id, &it->x, &it->y, &it->alt, &it->vx, &it->vy,
+               &it->vs) == 8) {
+        memcpy(it->id, id, sizeof it->id);
+        take_traffic(table, &track);
+        return 1;
+    }
+    if (sscanf(line, "tick %lld", &now) == 1 && now >= 0 && now <= UINT32_MAX) {
+        decide(config, table, now);
+        return 1;
+    }
+    return 0;
+}
+
+int main(int words, char **word) {
+    static struct table table;
+    struct daa_config config;
+    char line[256];
+    if (words != 2) {
+        fprintf(stderr, "usage: feed CONFIGURATION < BUS\n");
+        return 2;
+    }
+    read_config(word[1], &config);
+    while (fgets(line, sizeof line, stdin))
+        if (!take_line(&config, &table, line)) fprintf(stderr, "not a line of the bus: %s", line);
+    return 0;
+}

@@ -1,0 +1,304 @@
+"""The detect-and-avoid engine for Python: alerts, bands, resolutions and recoveries of a moment, and its report.
+
+It calls the archive of crates/daa_c, made into a shared library as examples/README.md shows:
+
+    engine = Engine("./libdaa_c.so")
+    config = engine.read(open("examples/three_levels.toml", "rb").read())
+    own = Own(x=0, y=0, alt=10000, trk=0, gs=3600, vs=0)
+    amber = Traffic("AMBER", x=3000, y=8000, alt=10000, vx=-1350, vy=0, vs=0)
+    moment = engine.decide(config, own, [amber])
+    moment.alert(0)                        # Alert(now=0, level=2, first=43)
+    moment.bands(Kind.TRACK)               # [Band(low=0, high=5, level=3), ..]
+    moment.resolution(Kind.TRACK, Side.UPPER)
+
+Units and ranges are those of crates/daa_c/include/daidalus.h. What the engine refuses raises Refused, whose text says why.
+"""
+import ctypes
+from ctypes import byref, c_char, c_int32, c_int64, c_size_t, c_uint8, c_uint32, c_uint64
+from dataclasses import astuple, dataclass
+from enum import IntEnum
+from typing import List, Optional
+
+MOST_LEVELS, MOST_VALUES, MOST_CANDIDATES, MOST_TEXT = 4, 512, 1897, 130176
+
+
+class Kind(IntEnum):
+    """What a candidate changes; HOLD is the present flight."""
+    HOLD = 0
+    TRACK = 1   # degrees clockwise from north
+    SPEED = 2   # ground speed, 0.1 kt
+    CLIMB = 3   # vertical speed, ft/min
+    HEIGHT = 4  # altitude, ft
+
+
+class Side(IntEnum):
+    LOWER = 0  # to the left, slower, or lower
+    UPPER = 1  # to the right, faster, or higher
+
+
+# --- what a caller gives
+
+@dataclass(frozen=True)
+class Grid:
+    """The values min, min + step, .. up to max of a kind, and by how much a second may change the present value."""
+    min: int
+    max: int
+    step: int
+    rate: int
+
+
+@dataclass(frozen=True)
+class Level:
+    """A well-clear volume with its lookahead and alert time."""
+    dthr: int
+    zthr: int
+    tthr: int
+    tcoa: int
+    lookahead: int
+    alert: int
+    tcpa: int = 0
+
+
+@dataclass(frozen=True)
+class Cylinder:
+    """What a recovery stays out of: hdist in 0.001 NM, vdist in ft."""
+    hdist: int
+    vdist: int
+
+
+@dataclass(frozen=True)
+class Config:
+    """The numbers of a configuration; levels[0] is level 1."""
+    resolve: int
+    turn_rate: int
+    track_step: int
+    gs: Grid
+    vs: Grid
+    alt: Grid
+    levels: List[Level]
+    recovery: Optional[Cylinder] = None
+
+
+@dataclass(frozen=True)
+class Own:
+    x: int
+    y: int
+    alt: int
+    trk: int
+    gs: int
+    vs: int
+
+
+@dataclass(frozen=True)
+class Traffic:
+    """An aircraft; age is that of its report in seconds, over which it is flown straight on."""
+    id: str
+    x: int
+    y: int
+    alt: int
+    vx: int
+    vy: int
+    vs: int
+    age: int = 0
+
+
+# --- what the engine answers
+
+@dataclass(frozen=True)
+class Alert:
+    """now: the level violated now. level: the one that alerts, 0 if none; first: its first second, None if none."""
+    now: int
+    level: int
+    first: Optional[int]
+
+
+@dataclass(frozen=True)
+class Band:
+    low: int
+    high: int
+    level: int
+
+
+@dataclass(frozen=True)
+class Resolution:
+    """keep: the present flight is open. Else value is the nearest open one, or None if there is none."""
+    keep: bool
+    value: Optional[int]
+
+
+@dataclass(frozen=True)
+class Recovery:
+    """From second `after` on the value is clear."""
+    after: int
+    value: int
+
+
+# --- what the engine refuses
+
+SENTENCES = {
+    1: "the configuration has more than 65536 bytes",
+    2: "the configuration is no document of TOML",
+    3: "the configuration has a key that is not known",
+    4: "the configuration lacks a key",
+    5: "a value of the configuration is no whole number, or no table",
+    6: "a number of the configuration is out of its range, min is above max, or track_step does not divide 360",
+    7: "the configuration has no level or more than four, or resolve is above their number",
+    8: "a kind has more than 512 candidates",
+    16: "the ownship is out of range",
+    17: "an aircraft is out of range",
+    18: "there are more than 64 aircraft",
+    19: "the buffer is too short",
+    20: "there is no memory",
+    21: "an identifier is not 1 to 8 letters, digits, _ and -",
+    22: "two aircraft have one identifier",
+    23: "the kind is none of track, gs, vs and alt",
+    24: "there is no such side",
+    25: "the configuration has no candidate at the index",
+    26: "the configuration asks for no recovery",
+    27: "the board was not decided under this configuration",
+}
+FIELDS = ("", "x", "y", "alt", "trk", "gs", "vs", "vx", "vy", "age")
+
+
+class Refused(ValueError):
+    """The engine refused a call. code is that of daidalus.h; place is the aircraft's, None where none is meant."""
+
+    def __init__(self, code, place=None, detail=""):
+        super().__init__(SENTENCES.get(code, f"code {code}") + detail)
+        self.code, self.place = code, place
+
+
+# --- the structs of daidalus.h
+
+def struct(*parts):
+    """The struct of C whose fields have these names and types, in this order."""
+    return type("Struct", (ctypes.Structure,),
+                {"_fields_": [(name, kind) for names, kind in parts for name in names.split()]})
+
+
+class C:
+    """The structs as C lays them out."""
+    Grid = struct(("min max step rate", c_int64))
+    Level = struct(("dthr zthr tthr tcoa lookahead alert tcpa", c_int64))
+    Config = struct(("resolve turn_rate track_step", c_int64), ("gs vs alt", Grid), ("recovery", c_uint64),
+                    ("hdist vdist", c_int64), ("count", c_uint64), ("level", Level * MOST_LEVELS))
+    Own = struct(("x y alt trk gs vs", c_int32))
+    Traffic = struct(("id", c_char * 8), ("x y alt vx vy vs", c_int32), ("age", c_uint32))
+    Alert = struct(("now level", c_uint32), ("first", c_int64))
+    Fault = struct(("code field least greatest", c_int32), ("place", c_uint64))
+    Board = struct(("mask", c_uint8 * 2048), ("mark", c_int64 * 45))
+    Candidate = struct(("kind value", c_int32))
+    Band = struct(("least most", c_int32), ("level", c_uint32))  # from is a word of Python
+    Resolution = struct(("what value", c_int32))
+    Recovery = struct(("found", c_int32), ("after", c_uint32), ("value", c_int32))
+
+
+def c_config(config):
+    if len(config.levels) > MOST_LEVELS:
+        raise Refused(7)
+    cylinder = config.recovery or Cylinder(0, 0)
+    levels = (C.Level * MOST_LEVELS)(*(astuple(level) for level in config.levels))
+    return C.Config(config.resolve, config.turn_rate, config.track_step, *(C.Grid(*astuple(grid)) for grid in
+                    (config.gs, config.vs, config.alt)), int(config.recovery is not None), cylinder.hdist, cylinder.vdist,
+                    len(config.levels), levels)
+
+
+def config_of(numbers):
+    grids = [Grid(it.min, it.max, it.step, it.rate) for it in (numbers.gs, numbers.vs, numbers.alt)]
+    levels = [Level(*(getattr(it, name) for name, _ in it._fields_)) for it in numbers.level[:numbers.count]]
+    cylinder = Cylinder(numbers.hdist, numbers.vdist) if numbers.recovery else None
+    return Config(numbers.resolve, numbers.turn_rate, numbers.track_step, *grids, levels, cylinder)
+
+
+def c_traffic(traffic):
+    """An aircraft for C. An identifier that C cannot hold is handed on as none, which the engine refuses."""
+    name = traffic.id.encode("utf-8", "replace")
+    return (name if len(name) <= 8 else b"", *astuple(traffic)[1:])
+
+
+# --- the engine
+
+class Engine:
+    """The archive's calls. It has no state: calls may run in threads of the caller."""
+
+    def __init__(self, path: str):
+        self.calls = ctypes.CDLL(path)
+
+    def ask(self, name, *words):
+        """Makes a call, and raises Refused where it does not answer 0."""
+        code = getattr(self.calls, name)(*words)
+        if code:
+            raise Refused(code)
+
+    def read(self, text: bytes) -> Config:
+        """The numbers of a configuration's text of TOML."""
+        numbers = C.Config()
+        self.ask("daa_read", text, c_size_t(len(text)), byref(numbers))
+        return config_of(numbers)
+
+    def check(self, config: Config) -> None:
+        """Raises Refused unless the numbers are a configuration."""
+        self.ask("daa_check", byref(c_config(config)))
+
+    def decide(self, config: Config, own: Own, traffic: List[Traffic]) -> "Moment":
+        """Decides a moment. Refused names the aircraft and the number that is out of range."""
+        return Moment(self, config, own, traffic)
+
+
+class Moment:
+    """A decided moment, and what may be asked of it."""
+
+    def __init__(self, engine, config, own, traffic):
+        self.engine, self.board = engine, C.Board()
+        self.config, self.own = c_config(config), C.Own(*astuple(own))
+        self.traffic = (C.Traffic * len(traffic))(*map(c_traffic, traffic))
+        self.picture = byref(self.own), self.traffic, c_size_t(len(traffic))
+        self.refuse(traffic)
+        engine.ask("daa_decide", byref(self.config), *self.picture, byref(self.board))
+
+    def refuse(self, traffic):
+        fault = C.Fault()
+        self.engine.ask("daa_fault", *self.picture, byref(fault))
+        if fault.code == 0:
+            return
+        of_aircraft = fault.code in (17, 21, 22)
+        detail = f": {traffic[fault.place].id}" if of_aircraft else ""
+        detail += f": {FIELDS[fault.field]} is not in {fault.least}..{fault.greatest}" if fault.field else ""
+        raise Refused(fault.code, fault.place if of_aircraft else None, detail)
+
+    def alert(self, place: int) -> Alert:
+        """The alert of the aircraft at this place of the list."""
+        found = C.Alert()
+        self.engine.ask("daa_alert", byref(self.config), byref(self.own), byref(self.traffic[place]), byref(found))
+        return Alert(found.now, found.level, found.first if found.level else None)
+
+    def bands(self, kind: Kind) -> List[Band]:
+        """The stretches of the kind's values that show one level each, rising."""
+        bands, count = (C.Band * MOST_VALUES)(), c_size_t()
+        self.engine.ask("daa_bands", byref(self.config), byref(self.board), kind, bands, c_size_t(MOST_VALUES), byref(count))
+        return [Band(it.least, it.most, it.level) for it in bands[:count.value]]
+
+    def levels(self) -> List[int]:
+        """The level of each candidate, in the order of the configuration's whole list."""
+        levels, count = (c_uint8 * MOST_CANDIDATES)(), c_size_t()
+        self.engine.ask("daa_levels", byref(self.config), byref(self.board), levels, c_size_t(MOST_CANDIDATES), byref(count))
+        return list(levels[:count.value])
+
+    def resolution(self, kind: Kind, side: Side) -> Resolution:
+        """The nearest open value on a side."""
+        to = C.Resolution()
+        self.engine.ask("daa_resolution", byref(self.config), byref(self.own), byref(self.board), kind, side, byref(to))
+        return Resolution(to.what == 0, to.value if to.what == 1 else None)
+
+    def recovery(self, kind: Kind) -> Optional[Recovery]:
+        """The soonest recovery of a kind, under a configuration that asks for recoveries."""
+        to = C.Recovery()
+        self.engine.ask("daa_recovery", byref(self.config), *self.picture, kind, byref(to))
+        return Recovery(to.after, to.value) if to.found else None
+
+    def report(self, time: int) -> bytes:
+        """The moment's text, as the program writes it."""
+        text, length = ctypes.create_string_buffer(MOST_TEXT), c_size_t()
+        self.engine.ask("daa_report", byref(self.config), c_uint32(time), *self.picture, text, c_size_t(MOST_TEXT),
+                        byref(length))
+        return text.raw[:length.value]

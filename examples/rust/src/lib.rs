@@ -1,0 +1,322 @@
+//! The detect-and-avoid engine for Rust: alerts, bands, resolutions and recoveries of a moment, and its report.
+//!
+//! Nothing a user calls has a pointer, and no call is unsafe. Units and ranges are those of
+//! crates/daa_c/include/daidalus.h. What the engine refuses is a [`Refused`], whose text says why.
+//!
+//! ```no_run
+//! use daidalus::{Config, Kind, Moment, Own, Side, Traffic};
+//! let config = Config::read(&std::fs::read("examples/three_levels.toml")?)?;
+//! let own = Own { x: 0, y: 0, alt: 10000, trk: 0, gs: 3600, vs: 0 };
+//! let amber = Traffic { id: "AMBER".into(), x: 3000, y: 8000, alt: 10000, vx: -1350, vy: 0, vs: 0, age: 0 };
+//! let moment = Moment::decide(&config, &own, &[amber])?;
+//! let right = moment.resolution(Kind::Track, Side::Upper)?;
+//! # Ok::<(), Box<dyn std::error::Error>>(())
+//! ```
+mod raw;
+
+use std::fmt;
+
+const MOST_TEXT: usize = 130176;
+const MOST_CANDIDATES: usize = 1897;
+const MOST_VALUES: usize = 512;
+
+/// The engine's version: major * 10000 + minor * 100 + patch.
+pub const VERSION: u32 = 10000;
+
+/// What a candidate changes.
+#[derive(Clone, Copy, Debug, PartialEq, Eq)]
+pub enum Kind {
+    /// degrees clockwise from north
+    Track = 1,
+    /// ground speed, 0.1 kt
+    Speed = 2,
+    /// vertical speed, ft/min
+    Climb = 3,
+    /// altitude, ft
+    Height = 4,
+}
+
+/// The sides of a kind.
+#[derive(Clone, Copy, Debug, PartialEq, Eq)]
+pub enum Side {
+    /// to the left, slower, or lower
+    Lower = 0,
+    /// to the right, faster, or higher
+    Upper = 1,
+}
+
+/// The values min, min + step, .. up to max of a kind, and by how much a second may change the present value.
+#[repr(C)]
+#[derive(Clone, Copy, Debug, Default, PartialEq, Eq)]
+pub struct Grid {
+    pub min: i64,
+    pub max: i64,
+    pub step: i64,
+    pub rate: i64,
+}
+
+/// A well-clear volume with its lookahead and alert time.
+#[repr(C)]
+#[derive(Clone, Copy, Debug, Default, PartialEq, Eq)]
+pub struct Level {
+    pub dthr: i64,
+    pub zthr: i64,
+    pub tthr: i64,
+    pub tcoa: i64,
+    pub lookahead: i64,
+    pub alert: i64,
+    pub tcpa: i64,
+}
+
+/// The ownship.
+#[repr(C)]
+#[derive(Clone, Copy, Debug, PartialEq, Eq)]
+pub struct Own {
+    pub x: i32,
+    pub y: i32,
+    pub alt: i32,
+    pub trk: i32,
+    pub gs: i32,
+    pub vs: i32,
+}
+
+/// An aircraft; `age` is that of its report in seconds, over which it is flown straight on.
+#[derive(Clone, Debug, PartialEq, Eq)]
+pub struct Traffic {
+    pub id: String,
+    pub x: i32,
+    pub y: i32,
+    pub alt: i32,
+    pub vx: i32,
+    pub vy: i32,
+    pub vs: i32,
+    pub age: u32,
+}
+
+/// The alert of an aircraft: the level violated now, the one that alerts (0: none), and that one's first second.
+#[derive(Clone, Copy, Debug, PartialEq, Eq)]
+pub struct Alert {
+    pub now: u32,
+    pub level: u32,
+    pub first: Option<u32>,
+}
+
+/// A stretch of a kind's rising values that show one level.
+#[repr(C)]
+#[derive(Clone, Copy, Debug, Default, PartialEq, Eq)]
+pub struct Band {
+    pub from: i32,
+    pub upto: i32,
+    pub level: u32,
+}
+
+/// The answer on a side of a kind.
+#[derive(Clone, Copy, Debug, PartialEq, Eq)]
+pub enum Resolution {
+    /// the present flight may be kept
+    Keep,
+    /// the nearest open value
+    To(i32),
+    /// no value on that side is open
+    Nothing,
+}
+
+/// From second `after` on the value is clear.
+#[derive(Clone, Copy, Debug, PartialEq, Eq)]
+pub struct Recovery {
+    pub after: u32,
+    pub value: i32,
+}
+
+/// What a call refuses: the code of daidalus.h, and the aircraft's place where one is meant.
+#[derive(Clone, Debug, PartialEq, Eq)]
+pub struct Refused {
+    pub code: i32,
+    pub place: Option<usize>,
+    detail: String,
+}
+
+impl fmt::Display for Refused {
+    fn fmt(&self, f: &mut fmt::Formatter) -> fmt::Result {
+        write!(f, "{}{}", sentence(self.code), self.detail)
+    }
+}
+
+impl std::error::Error for Refused {}
+
+fn sentence(code: i32) -> &'static str {
+    match code {
+        1 => "the configuration has more than 65536 bytes",
+        2 => "the configuration is no document of TOML",
+        3 => "the configuration has a key that is not known",
+        4 => "the configuration lacks a key",
+        5 => "a value of the configuration is no whole number, or no table",
+        6 => "a number of the configuration is out of its range, min is above max, or track_step does not divide 360",
+        7 => "the configuration has no level or more than four, or resolve is above their number",
+        8 => "a kind has more than 512 candidates",
+        16 => "the ownship is out of range",
+        17 => "an aircraft is out of range",
+        18 => "there are more than 64 aircraft",
+        20 => "there is no memory",
+        21 => "an identifier is not 1 to 8 letters, digits, _ and -",
+        22 => "two aircraft have one identifier",
+        26 => "the configuration asks for no recovery",
+        27 => "the board was not decided under this configuration",
+        _ => "the engine refused the call",
+    }
+}
+
+/// An answer of a call: `Ok` where it is 0.
+fn done(code: i32) -> Result<(), Refused> {
+    if code == 0 { Ok(()) } else { Err(Refused { code, place: None, detail: String::new() }) }
+}
+
+/// An accepted configuration.
+#[derive(Clone, Copy)]
+pub struct Config(raw::Config);
+
+impl Config {
+    /// The configuration of a text of TOML.
+    pub fn read(text: &[u8]) -> Result<Config, Refused> {
+        let mut numbers = raw::Config::default();
+        // SAFETY: the text is valid for its length, and nothing else borrows the numbers.
+        done(unsafe { raw::daa_read(text.as_ptr(), text.len(), &mut numbers) })?;
+        Ok(Config(numbers))
+    }
+
+    /// The configuration of these numbers, without a recovery; `levels[0]` is level 1.
+    pub fn of(resolve: i64, turn_rate: i64, track_step: i64, grids: [Grid; 3], levels: &[Level]) -> Result<Config, Refused> {
+        let [gs, vs, alt] = grids;
+        let mut level = [Level::default(); 4];
+        if levels.len() > level.len() {
+            done(7)?;
+        }
+        level[..levels.len()].copy_from_slice(levels);
+        let count = levels.len() as u64;
+        Config(raw::Config { resolve, turn_rate, track_step, gs, vs, alt, count, level, ..Default::default() }).checked()
+    }
+
+    /// The same configuration with a recovery that stays out of this cylinder (0.001 NM, ft).
+    pub fn with_recovery(mut self, hdist: i64, vdist: i64) -> Result<Config, Refused> {
+        (self.0.recovery, self.0.hdist, self.0.vdist) = (1, hdist, vdist);
+        self.checked()
+    }
+
+    fn checked(self) -> Result<Config, Refused> {
+        // SAFETY: the numbers are valid.
+        done(unsafe { raw::daa_check(&self.0) }).map(|()| self)
+    }
+}
+
+/// An aircraft for C. An identifier that C cannot hold is handed on as none, which the engine refuses.
+fn c_traffic(it: &Traffic) -> raw::Traffic {
+    let mut id = [0; 8];
+    if it.id.len() <= id.len() {
+        id[..it.id.len()].copy_from_slice(it.id.as_bytes());
+    }
+    raw::Traffic { id, x: it.x, y: it.y, alt: it.alt, vx: it.vx, vy: it.vy, vs: it.vs, age: it.age }
+}
+
+/// A decided moment, and what may be asked of it.
+pub struct Moment {
+    config: raw::Config,
+    own: Own,
+    traffic: Vec<raw::Traffic>,
+    board: Box<raw::Board>,
+}
+
+impl Moment {
+    /// Decides a moment. [`Refused`] names the aircraft and the number that is out of range.
+    pub fn decide(config: &Config, own: &Own, traffic: &[Traffic]) -> Result<Moment, Refused> {
+        let mut moment = Moment {
+            config: config.0,
+            own: *own,
+            traffic: traffic.iter().map(c_traffic).collect(),
+            board: Box::new(raw::Board { mask: [0; 2048], mark: [0; 45] }),
+        };
+        moment.refuse(traffic)?;
+        let Moment { config, own, traffic, board } = &mut moment;
+        // SAFETY: the aircraft are valid for their number, and nothing else borrows the board.
+        done(unsafe { raw::daa_decide(config, own, traffic.as_ptr(), traffic.len(), &mut **board) })?;
+        Ok(moment)
+    }
+
+    fn refuse(&self, traffic: &[Traffic]) -> Result<(), Refused> {
+        let mut fault = raw::Fault::default();
+        // SAFETY: as above.
+        done(unsafe { raw::daa_fault(&self.own, self.traffic.as_ptr(), self.traffic.len(), &mut fault) })?;
+        if fault.code == 0 {
+            return Ok(());
+        }
+        let place = matches!(fault.code, 17 | 21 | 22).then_some(fault.place as usize);
+        let mut detail = place.map(|place| format!(": {}", traffic[place].id)).unwrap_or_default();
+        if fault.field != 0 {
+            let field = ["", "x", "y", "alt", "trk", "gs", "vs", "vx", "vy", "age"][fault.field as usize];
+            detail += &format!(": {field} is not in {}..{}", fault.least, fault.greatest);
+        }
+        Err(Refused { code: fault.code, place, detail })
+    }
+
+    /// The alert of the aircraft at this place of the list. Panics where there is none.
+    pub fn alert(&self, place: usize) -> Result<Alert, Refused> {
+        let mut found = raw::Alert::default();
+        // SAFETY: as above.
+        done(unsafe { raw::daa_alert(&self.config, &self.own, &self.traffic[place], &mut found) })?;
+        let first = (found.level != 0).then_some(found.first as u32);
+        Ok(Alert { now: found.now, level: found.level, first })
+    }
+
+    /// The bands of a kind, in the rising order of its values.
+    pub fn bands(&self, kind: Kind) -> Result<Vec<Band>, Refused> {
+        let (mut bands, mut count) = (vec![Band::default(); MOST_VALUES], 0);
+        // SAFETY: the bands are valid for their number.
+        done(unsafe {
+            raw::daa_bands(&self.config, &*self.board, kind as i32, bands.as_mut_ptr(), bands.len(), &mut count)
+        })?;
+        bands.truncate(count);
+        Ok(bands)
+    }
+
+    /// The level of each candidate, in the order of the configuration's whole list.
+    pub fn levels(&self) -> Result<Vec<u8>, Refused> {
+        let (mut levels, mut count) = (vec![0; MOST_CANDIDATES], 0);
+        // SAFETY: the levels are valid for their number.
+        done(unsafe { raw::daa_levels(&self.config, &*self.board, levels.as_mut_ptr(), levels.len(), &mut count) })?;
+        levels.truncate(count);
+        Ok(levels)
+    }
+
+    /// The answer on a side of a kind.
+    pub fn resolution(&self, kind: Kind, side: Side) -> Result<Resolution, Refused> {
+        let mut to = raw::Resolution::default();
+        // SAFETY: as above.
+        done(unsafe { raw::daa_resolution(&self.config, &self.own, &*self.board, kind as i32, side as i32, &mut to) })?;
+        Ok(match to.what {
+            0 => Resolution::Keep,
+            1 => Resolution::To(to.value),
+            _ => Resolution::Nothing,
+        })
+    }
+
+    /// The soonest recovery of a kind, under a configuration that asks for recoveries.
+    pub fn recovery(&self, kind: Kind) -> Result<Option<Recovery>, Refused> {
+        let (traffic, mut to) = (&self.traffic, raw::Recovery::default());
+        // SAFETY: as above.
+        done(unsafe {
+            raw::daa_recovery(&self.config, &self.own, traffic.as_ptr(), traffic.len(), kind as i32, &mut to)
+        })?;
+        Ok((to.found != 0).then_some(Recovery { after: to.after, value: to.value }))
+    }
+
+    /// The moment's text, as the program writes it.
+    pub fn report(&self, time: u32) -> Result<String, Refused> {
+        let (traffic, mut text, mut length) = (&self.traffic, vec![0; MOST_TEXT], 0);
+        // SAFETY: the text is valid for its length.
+        done(unsafe {
+            let (text, room) = (text.as_mut_ptr(), text.len());
+            raw::daa_report(&self.config, time, &self.own, traffic.as_ptr(), traffic.len(), text, room, &mut length)
+        })?;
+        text.truncate(length);
+        Ok(String::from_utf8_lossy(&text).into_owned())
+    }
+}

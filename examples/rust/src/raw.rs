@@ -1,0 +1,84 @@
+//! The declarations of crates/daa_c/include/daidalus.h, whose comments tell units and ranges.
+use crate::{Grid, Level, Own};
+
+#[repr(C)]
+#[derive(Clone, Copy, Default)]
+pub struct Config {
+    pub resolve: i64,
+    pub turn_rate: i64,
+    pub track_step: i64,
+    pub gs: Grid,
+    pub vs: Grid,
+    pub alt: Grid,
+    pub recovery: u64,
+    pub hdist: i64,
+    pub vdist: i64,
+    pub count: u64,
+    pub level: [Level; 4],
+}
+
+#[repr(C)]
+#[derive(Clone, Copy)]
+pub struct Traffic {
+    pub id: [u8; 8],
+    pub x: i32,
+    pub y: i32,
+    pub alt: i32,
+    pub vx: i32,
+    pub vy: i32,
+    pub vs: i32,
+    pub age: u32,
+}
+
+#[repr(C)]
+#[derive(Default)]
+pub struct Alert {
+    pub now: u32,
+    pub level: u32,
+    pub first: i64,
+}
+
+#[repr(C)]
+#[derive(Default)]
+pub struct Fault {
+    pub code: i32,
+    pub field: i32,
+    pub least: i32,
+    pub greatest: i32,
+    pub place: u64,
+}
+
+#[repr(C)]
+pub struct Board {
+    pub mask: [u8; 2048],
+    pub mark: [i64; 45],
+}
+
+#[repr(C)]
+#[derive(Default)]
+pub struct Resolution {
+    pub what: i32,
+    pub value: i32,
+}
+
+#[repr(C)]
+#[derive(Default)]
+pub struct Recovery {
+    pub found: i32,
+    pub after: u32,
+    pub value: i32,
+}
+
+#[rustfmt::skip]
+extern "C" {
+    pub fn daa_read(text: *const u8, size: usize, config: *mut Config) -> i32;
+    pub fn daa_check(config: *const Config) -> i32;
+    pub fn daa_fault(own: *const Own, traffic: *const Traffic, count: usize, out: *mut Fault) -> i32;
+    pub fn daa_alert(config: *const Config, own: *const Own, traffic: *const Traffic, out: *mut Alert) -> i32;
+    pub fn daa_decide(config: *const Config, own: *const Own, traffic: *const Traffic, count: usize, board: *mut Board) -> i32;
+    pub fn daa_levels(config: *const Config, board: *const Board, levels: *mut u8, room: usize, count: *mut usize) -> i32;
+    pub fn daa_bands(config: *const Config, board: *const Board, kind: i32, bands: *mut crate::Band, room: usize, count: *mut usize) -> i32;
+    pub fn daa_resolution(config: *const Config, own: *const Own, board: *const Board, kind: i32, side: i32, out: *mut Resolution) -> i32;
+    pub fn daa_recovery(config: *const Config, own: *const Own, traffic: *const Traffic, count: usize, kind: i32, out: *mut Recovery) -> i32;
+    pub fn daa_report(config: *const Config, time: u32, own: *const Own, traffic: *const Traffic, count: usize, text: *mut u8, room: usize, length: *mut usize) -> i32;
+}
