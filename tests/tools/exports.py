@@ -93,7 +93,8 @@ def exports(crate):
 def declared(header):
     """The calls that a header declares: of each its name and the names of its parameters."""
     text = re.sub(r"/\*.*?\*/", "", header, flags=re.S)
-    return {name: re.findall(r"(\w+)(?:,|$)", words) for name, words in re.findall(r"^int32_t (\w+)\(([^)]*)\);", text, re.M)}
+    found = re.findall(r"^int32_t (\w+)\(([^)]*)\);", text, re.M)
+    return {name: re.findall(r"(\w+)(?:,|$)", words) if words != "void" else [] for name, words in found}
 
 
 def checking_program():
@@ -114,6 +115,6 @@ def checking_program():
                          f'default: 0), "{kind} {path}");')
     for crate in ("daa_c", "daa_toml"):
         for name, parameters in exports(crate).items():
-            words = ", ".join(it for it, _ in parameters)
+            words = ", ".join(it for it, _ in parameters) or "void"
             lines.append(f"int32_t (*const typed_{name})({words}) = {name};")
     return "\n".join([*lines, ""])

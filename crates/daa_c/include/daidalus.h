@@ -25,6 +25,17 @@
 extern "C" {
 #endif
 
+/* The version of this header: major * 10000 + minor * 100 + patch; daa_version() tells that of the archive. */
+#define DAA_VERSION 10000
+
+/* Limits. */
+#define DAA_MOST_AIRCRAFT 64     /* of a moment */
+#define DAA_MOST_ID 8            /* bytes of an identifier */
+#define DAA_MOST_LEVELS 4        /* of a configuration */
+#define DAA_MOST_VALUES 512      /* of a kind */
+#define DAA_MOST_CANDIDATES 1897 /* of a configuration */
+#define DAA_MOST_TEXT 130176     /* bytes of a moment's text */
+
 /* What calls return. 1 to 8 are the faults of a configuration; for numbers alone only 6 to 8 are returned. */
 enum {
     DAA_OK = 0,
@@ -191,6 +202,9 @@ struct daa_lines {
 
 /* What daa_line returns where the line ended the moment. */
 enum { DAA_MOMENT_ENDED = -1 };
+
+/* The version of the archive: DAA_VERSION of the header that it was made with. */
+int32_t daa_version(void);
 
 /* ---- a configuration */
 

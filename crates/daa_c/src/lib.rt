@@ -5,3 +5,4 @@
 mod configuration;
 mod moments;
 mod states;
+mod version;

@@ -20,9 +20,6 @@ const MOST_TEXT: usize = 130176;
 const MOST_CANDIDATES: usize = 1897;
 const MOST_VALUES: usize = 512;
 
-/// The engine's version: major * 10000 + minor * 100 + patch.
-pub const VERSION: u32 = 10000;
-
 /// What a candidate changes.
 #[derive(Clone, Copy, Debug, PartialEq, Eq)]
 pub enum Kind {
@@ -169,6 +166,12 @@ fn sentence(code: i32) -> &'static str {
 /// An answer of a call: `Ok` where it is 0.
 fn done(code: i32) -> Result<(), Refused> {
     if code == 0 { Ok(()) } else { Err(Refused { code, place: None, detail: String::new() }) }
+}
+
+/// The version of the archive: major * 10000 + minor * 100 + patch.
+pub fn version() -> i32 {
+    // SAFETY: it takes nothing.
+    unsafe { raw::daa_version() }
 }
 
 /// An accepted configuration.

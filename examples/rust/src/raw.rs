@@ -71,6 +71,7 @@ pub struct Recovery {
 
 #[rustfmt::skip]
 extern "C" {
+    pub fn daa_version() -> i32;
     pub fn daa_read(text: *const u8, size: usize, config: *mut Config) -> i32;
     pub fn daa_check(config: *const Config) -> i32;
     pub fn daa_fault(own: *const Own, traffic: *const Traffic, count: usize, out: *mut Fault) -> i32;
