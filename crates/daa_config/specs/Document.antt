@@ -41,11 +41,11 @@ level_by at = record { dthr = at "dthr"; zthr = at "zthr"; tthr = at "tthr"; tco
 
 -- of the recovery's table
 abbrev pub recovery_by : (String → ℤ) → RecoveryNumbers
-recovery_by at = record { hdist = at "hdist"; vdist = at "vdist" }
+recovery_by at = record { hdist = at "hdist"; vdist = at "vdist"; nearest = at "nearest" }
 
 -- of the document, those of its levels and its recovery apart
 abbrev pub numbers_by : (String → ℤ) → (String → Grid) → Numbers
-numbers_by at grid = record { resolve = at "resolve"; turn_rate = at "turn_rate"; track_step = at "track_step"; gs = grid "gs"; vs = grid "vs"; alt = grid "alt" }
+numbers_by at grid = record { resolve = at "resolve"; turn_rate = at "turn_rate"; track_step = at "track_step"; gs = grid "gs"; vs = grid "vs"; alt = grid "alt"; last_times = at "last_times" }
 
 -- ---- all tables
 

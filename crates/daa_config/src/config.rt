@@ -3,11 +3,12 @@
 ghost use Rattle.std.specs.Prelude.{◌≡◌, ◌<◌, ◌+◌, ◌≤◌, length, slice_get, option_map, Some, pos, ℕ, ◌≤ℤ◌, ◌+ℤ◌, ◌*ℤ◌, All, Contains};
 ghost use Rattle.daa_fixed.specs.Size.{IsFrom};
 ghost use Rattle.daa_config.specs.Inside.Stepped.{IsStepped};
+ghost use Rattle.daa_config.specs.Level.{is_set};
 ghost use Rattle.daa_config.specs.Numbers.{count_of};
 
 use crate::candidate::Candidate;
 use crate::kind::Kind;
-use crate::level::Level;
+use crate::level::{Level, is_asked};
 use crate::limits::MOST_LEVELS;
 use crate::numbers::{Grid, Numbers, count};
 use arrayvec::ArrayVec;
@@ -29,6 +30,7 @@ pub struct Rates {
 pub struct Config {
     numbers: Numbers,
     recovery: Option<Volume>,
+    nearest: bool,
     levels: ArrayVec<Level, MOST_LEVELS>,
 }
 
@@ -57,12 +59,14 @@ impl Model for Config {
     ghost view = { λ c. record {
       numbers = c.numbers;
       recovery = c.recovery;
+      nearest = c.nearest;
       levels = c.levels.items;
     } };
 
     ghost invariant = { λ c. IsAccepted (record {
       numbers = c.numbers;
       recovery = c.recovery;
+      nearest = c.nearest;
       levels = c.levels.items;
     }) };
 }
@@ -75,19 +79,26 @@ impl Config {
     pub(crate) fn new(
         numbers: Numbers,
         recovery: Option<Volume>,
+        nearest: bool,
         levels: ArrayVec<Level, MOST_LEVELS>,
     ) -> Config
-        requires { IsAccepted
-            (record { numbers = numbers; recovery = recovery; levels = levels.items }) }
+        requires { IsAccepted (record {
+          numbers = numbers;
+          recovery = recovery;
+          nearest = nearest;
+          levels = levels.items;
+        }) }
         ensures { result ≡ record {
           numbers = numbers;
           recovery = recovery;
+          nearest = nearest;
           levels = levels.items;
         } }
     {
         Config {
             numbers,
             recovery,
+            nearest,
             levels,
         }
     }
@@ -99,6 +110,23 @@ impl Config {
         ensures accepted { IsAccepted self.now }
     {
         self.recovery.as_ref()
+    }
+
+    /// Whether a recovery names, of the values that are clear again soonest, the one nearest to the
+    /// present value, and not the least.
+    pub fn nearest(&self) -> bool
+        ensures value { result ≡ self.now.nearest }
+        ensures accepted { IsAccepted self.now }
+    {
+        self.nearest
+    }
+
+    /// Whether the report says how long a manoeuvre of each kind may wait.
+    pub fn last_times(&self) -> bool
+        ensures value { result ≡ is_set self.now.numbers.last_times }
+        ensures accepted { IsAccepted self.now }
+    {
+        is_asked(self.numbers.last_times)
     }
 
     /// How many levels there are, 1 to 4.

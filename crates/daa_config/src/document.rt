@@ -85,6 +85,7 @@ pub(crate) fn cylinder_of(table: &Table) -> RecoveryNumbers
     RecoveryNumbers {
         hdist: whole_at(table, "hdist"),
         vdist: whole_at(table, "vdist"),
+        nearest: whole_at(table, "nearest"),
     }
 }
 
@@ -152,5 +153,6 @@ pub(crate) fn numbers_of(document: &Table) -> Numbers
         gs: grid_at(document, "gs"),
         vs: grid_at(document, "vs"),
         alt: grid_at(document, "alt"),
+        last_times: whole_at(document, "last_times"),
     }
 }

@@ -258,3 +258,39 @@ fn the_cylinder(rt: HostRuntime) -> Result<(), Fail> {
     assert!(rt; *cylinder == CYLINDER);
     Ok(())
 }
+
+/// What a text asks for: the nearest recovery, and last times.
+fn asks(config: &Config) -> (bool, bool) {
+    (config.nearest(), config.last_times())
+}
+
+/// What stands before a text's `turn_rate`, and what the text asks for then.
+static ASKED: [(&str, bool, bool); 6] = [
+    ("turn_rate", false, false),
+    (
+        "recovery = { hdist = 1, vdist = 1 }\nturn_rate",
+        false,
+        false,
+    ),
+    (
+        "recovery = { hdist = 1, vdist = 1, nearest = 0 }\nturn_rate",
+        false,
+        false,
+    ),
+    (
+        "recovery = { hdist = 1, vdist = 1, nearest = 1 }\nturn_rate",
+        true,
+        false,
+    ),
+    ("last_times = 0\nturn_rate", false, false),
+    ("last_times = 1\nturn_rate", false, true),
+];
+
+#[test]
+fn what_is_asked(rt: HostRuntime) -> Result<(), Fail> {
+    for (text, nearest, last_times) in &ASKED {
+        let config = edited(rt.alloc(), "turn_rate", text)?;
+        assert!(rt; asks(&config) == (*nearest, *last_times), "{text}");
+    }
+    Ok(())
+}
