@@ -1,4 +1,4 @@
-use Rattle.std.proofs.Common.{◌≡◌, false, rules, pos, refl}
+use Rattle.std.proofs.Common.{◌≡◌, rules, pos, refl}
 use Rattle.daa_config.specs.Inside.Rows.{row_by}
 use Rattle.daa_config.specs.Rows.{number, optional}
 use Rattle.daa_config.proofs.rows.level_rows.Goals as goal
