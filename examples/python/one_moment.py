@@ -17,7 +17,7 @@ def struct(*parts):
 
 Grid = struct(("min max step rate", c_int64))
 Level = struct(("dthr zthr tthr tcoa lookahead alert tcpa", c_int64))
-Config = struct(("resolve turn_rate track_step", c_int64), ("gs vs alt", Grid), ("recovery", c_uint64), ("hdist vdist", c_int64),
+Config = struct(("resolve turn_rate track_step", c_int64), ("gs vs alt", Grid), ("recovery", c_uint64), ("hdist vdist nearest", c_int64),
                 ("count", c_uint64), ("level", Level * 4))
 Own = struct(("x y alt trk gs vs", c_int32))
 Traffic = struct(("id", c_char * 8), ("x y alt vx vy vs", c_int32), ("age", c_uint32))

@@ -11,7 +11,7 @@ use std::process::ExitCode;
 #[repr(C)] #[derive(Default)] struct Grid { min: i64, max: i64, step: i64, rate: i64 }
 #[repr(C)] #[derive(Default)] struct Level { dthr: i64, zthr: i64, tthr: i64, tcoa: i64, lookahead: i64, alert: i64, tcpa: i64 }
 #[repr(C)] #[derive(Default)] struct Config { resolve: i64, turn_rate: i64, track_step: i64, gs: Grid, vs: Grid, alt: Grid,
-    recovery: u64, hdist: i64, vdist: i64, count: u64, level: [Level; 4] }
+    recovery: u64, hdist: i64, vdist: i64, nearest: i64, count: u64, level: [Level; 4] }
 #[repr(C)] struct Own { x: i32, y: i32, alt: i32, trk: i32, gs: i32, vs: i32 }
 #[repr(C)] struct Traffic { id: [u8; 8], x: i32, y: i32, alt: i32, vx: i32, vy: i32, vs: i32, age: u32 }
 #[repr(C)] #[derive(Default)] struct Alert { now: u32, level: u32, first: i64 }

@@ -45,7 +45,7 @@ recovery_by at = record { hdist = at "hdist"; vdist = at "vdist"; nearest = at "
 
 -- of the document, those of its levels and its recovery apart
 abbrev pub numbers_by : (String → ℤ) → (String → Grid) → Numbers
-numbers_by at grid = record { resolve = at "resolve"; turn_rate = at "turn_rate"; track_step = at "track_step"; gs = grid "gs"; vs = grid "vs"; alt = grid "alt"; last_times = at "last_times" }
+numbers_by at grid = record { resolve = at "resolve"; turn_rate = at "turn_rate"; track_step = at "track_step"; gs = grid "gs"; vs = grid "vs"; alt = grid "alt" }
 
 -- ---- all tables
 

@@ -55,8 +55,7 @@ document_rows n =
     ∷ table "vs"
     ∷ table "alt"
     ∷ record (table "level") { holds = are_tables }
-    ∷ record (table "recovery") { needed = false }
-    ∷ optional "last_times" (pos 1) n.last_times ∷ []
+    ∷ record (table "recovery") { needed = false } ∷ []
 
 -- of the table of a kind whose values are within these bounds: `max` is from `min` on, and a step is at most the way between the bounds
 abbrev pub grid_rows : Bounds → Grid → List Row

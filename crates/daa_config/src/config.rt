@@ -3,12 +3,11 @@
 ghost use Rattle.std.specs.Prelude.{◌≡◌, ◌<◌, ◌+◌, ◌≤◌, length, slice_get, option_map, Some, pos, ℕ, ◌≤ℤ◌, ◌+ℤ◌, ◌*ℤ◌, All, Contains};
 ghost use Rattle.daa_fixed.specs.Size.{IsFrom};
 ghost use Rattle.daa_config.specs.Inside.Stepped.{IsStepped};
-ghost use Rattle.daa_config.specs.Level.{is_set};
 ghost use Rattle.daa_config.specs.Numbers.{count_of};
 
 use crate::candidate::Candidate;
 use crate::kind::Kind;
-use crate::level::{Level, is_asked};
+use crate::level::Level;
 use crate::limits::MOST_LEVELS;
 use crate::numbers::{Grid, Numbers, count};
 use arrayvec::ArrayVec;
@@ -119,14 +118,6 @@ impl Config {
         ensures accepted { IsAccepted self.now }
     {
         self.nearest
-    }
-
-    /// Whether the report says how long a manoeuvre of each kind may wait.
-    pub fn last_times(&self) -> bool
-        ensures value { result ≡ is_set self.now.numbers.last_times }
-        ensures accepted { IsAccepted self.now }
-    {
-        is_asked(self.numbers.last_times)
     }
 
     /// How many levels there are, 1 to 4.

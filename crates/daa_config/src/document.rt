@@ -153,6 +153,5 @@ pub(crate) fn numbers_of(document: &Table) -> Numbers
         gs: grid_at(document, "gs"),
         vs: grid_at(document, "vs"),
         alt: grid_at(document, "alt"),
-        last_times: whole_at(document, "last_times"),
     }
 }

@@ -34,7 +34,7 @@ fn model_in(tcpa: i64) -> Model
 }
 
 /// What a number asks for that is 0 or 1.
-pub(crate) fn is_asked(number: i64) -> bool
+fn is_asked(number: i64) -> bool
     ensures { result ≡ is_set number }
 {
     number != 0

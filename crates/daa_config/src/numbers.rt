@@ -39,8 +39,6 @@ pub struct Numbers {
     pub gs: Grid,
     pub vs: Grid,
     pub alt: Grid,
-    /// 1 where the report says how long a manoeuvre may wait, else 0.
-    pub last_times: i64,
 }
 
 /// The numbers of a level as the text has them: 0.001 NM, ft, seconds, and 1 where the volume goes

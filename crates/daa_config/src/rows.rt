@@ -141,7 +141,7 @@ fn table(key: &'static str) -> Row
 }
 
 /// The rows of the document.
-pub(crate) fn document_rows(n: &Numbers) -> [Row; 9]
+pub(crate) fn document_rows(n: &Numbers) -> [Row; 8]
     ensures { map row_by result ≡ listed.document_rows n.now }
 {
     [
@@ -159,7 +159,6 @@ pub(crate) fn document_rows(n: &Numbers) -> [Row; 9]
             needed: false,
             ..table("recovery")
         },
-        optional("last_times", 1, n.last_times),
     ]
 }
 

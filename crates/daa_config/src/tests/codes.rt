@@ -585,14 +585,13 @@ fn recoveries(rt: HostRuntime) -> Result<(), Fail> {
     Ok(())
 }
 
-/// Where a recovery's table may say `nearest`, and the document `last_times`.
+/// A table of a recovery that asks for the nearest value.
 const ASKING: &str = "recovery = { hdist = 1, vdist = 0, nearest = 1 }
-last_times = 1
 turn_rate = 3
 ";
 
-/// Edits of a text that asks for the nearest recovery and for last times.
-static ASKED: [(&str, &str, u8); 18] = [
+/// Edits of a text that asks for the nearest value.
+static ASKED: [(&str, &str, u8); 11] = [
     ("nearest = 1", "nearest = 1", 0),
     ("nearest = 1", "nearest = 0", 0),
     (", nearest = 1", "", 0),
@@ -603,13 +602,6 @@ static ASKED: [(&str, &str, u8); 18] = [
     ("nearest = 1", "nearest = \"1\"", 5),
     ("hdist = 1, vdist = 0, ", "", 4),
     ("nearest = 1", "Nearest = 1", 3),
-    ("last_times = 1", "last_times = 0", 0),
-    ("last_times = 1\n", "", 0),
-    ("last_times = 1", "last_times = 2", 6),
-    ("last_times = 1", "last_times = -1", 6),
-    ("last_times = 1", "last_times = true", 5),
-    ("last_times = 1", "last_times = {}", 5),
-    ("last_times = 1", "last_time = 1", 3),
     ("turn_rate = 3", "nearest = 1\nturn_rate = 3", 3),
 ];
 

@@ -259,38 +259,25 @@ fn the_cylinder(rt: HostRuntime) -> Result<(), Fail> {
     Ok(())
 }
 
-/// What a text asks for: the nearest recovery, and last times.
-fn asks(config: &Config) -> (bool, bool) {
-    (config.nearest(), config.last_times())
-}
-
-/// What stands before a text's `turn_rate`, and what the text asks for then.
-static ASKED: [(&str, bool, bool); 6] = [
-    ("turn_rate", false, false),
-    (
-        "recovery = { hdist = 1, vdist = 1 }\nturn_rate",
-        false,
-        false,
-    ),
+/// What stands before a text's `turn_rate`, and whether the nearest value is asked for.
+static ASKED: [(&str, bool); 4] = [
+    ("turn_rate", false),
+    ("recovery = { hdist = 1, vdist = 1 }\nturn_rate", false),
     (
         "recovery = { hdist = 1, vdist = 1, nearest = 0 }\nturn_rate",
-        false,
         false,
     ),
     (
         "recovery = { hdist = 1, vdist = 1, nearest = 1 }\nturn_rate",
         true,
-        false,
     ),
-    ("last_times = 0\nturn_rate", false, false),
-    ("last_times = 1\nturn_rate", false, true),
 ];
 
 #[test]
 fn what_is_asked(rt: HostRuntime) -> Result<(), Fail> {
-    for (text, nearest, last_times) in &ASKED {
+    for (text, nearest) in &ASKED {
         let config = edited(rt.alloc(), "turn_rate", text)?;
-        assert!(rt; asks(&config) == (*nearest, *last_times), "{text}");
+        assert!(rt; config.nearest() == *nearest, "{text}");
     }
     Ok(())
 }
