@@ -1,5 +1,5 @@
 -- The search for the recovery of a kind, value by value.
-use Rattle.std.proofs.Common.{◌≡◌, ℕ, zero, suc, ◌+◌, ◌<◌, ◌≤◌, ℤ, ◌≤ℤ◌, Bool, true, false, cond, refl, Option, Some, None, length, sym, subst, ap, ◌∙◌, arith, ⊎_elim}
+use Rattle.std.proofs.Common.{◌≡◌, ℕ, ◌+◌, ◌<◌, ◌≤◌, ℤ, ◌≤ℤ◌, Bool, true, false, cond, refl, Option, Some, None, length, sym, subst, ◌∙◌, arith, ⊎_elim}
 use Rattle.std.specs.Prelude.{slice_get, int_lt}
 use Rattle.std.proofs.lemmas.Int.{ints}
 use Rattle.std.proofs.lemmas.Bool.{cases_lt}
@@ -8,8 +8,8 @@ use Rattle.daa_config.specs.declared.candidate.Candidate.{Candidate}
 use Rattle.daa_config.specs.declared.kind.Kind.{Kind}
 use Rattle.daa_config.specs.Candidates.{values_of, candidate_to}
 use Rattle.daa_recovery.specs.OutlookState.{OutlookState}
-use Rattle.daa_recovery.specs.Recovery.{Recovers, RecoversAt, placed, IsLeast, IsFound}
-use Rattle.daa_recovery.specs.Inside.Search.{bound_of, bound_for, IsBeforeHorizon, IsFirst, IsFirstFound, IsFoundBelow, IsLeastAt, IsLeastTime}
+use Rattle.daa_recovery.specs.Recovery.{Recovers, RecoversAt, placed, IsFound}
+use Rattle.daa_recovery.specs.Inside.Search.{bound_of, bound_for, IsBeforeHorizon, IsFirstFound, IsFoundBelow, IsLeastAt, IsLeastTime}
 use Rattle.daa_recovery.specs.declared.recovery.Recovery.{Recovery}
 use Rattle.daa_recovery.proofs.LaterSeconds.{lasts}
 

@@ -4,7 +4,7 @@ use Rattle.std.specs.Int.{int_rem_euclid}
 use Rattle.daa_config.specs.Limits.{full_turn}
 use Rattle.daa_config.specs.Settings.{Settings}
 use Rattle.daa_config.specs.declared.kind.Kind.{Kind}
-use Rattle.daa_config.specs.declared.kind.Kind.TheVariants.{Track, Speed, Climb, Height}
+use Rattle.daa_config.specs.declared.kind.Kind.TheVariants.{Track}
 use Rattle.daa_state.specs.declared.word.Own.{Own}
 use Rattle.daa_resolve.specs.Side.{present_of}
 

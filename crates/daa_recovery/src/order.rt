@@ -1,6 +1,6 @@
 //! Which of the values that recover at the same time is named.
 
-ghost use Rattle.std.specs.Prelude.{◌≡◌, ◌^◌, ◌-ℤ◌, pos};
+ghost use Rattle.std.specs.Prelude.{◌≡◌, ◌^◌, ◌+ℤ◌, ◌-ℤ◌, pos};
 ghost use Rattle.std.specs.Int.{int_rem_euclid};
 ghost use Rattle.daa_config.specs.Limits.{full_turn};
 ghost use Rattle.daa_fixed.specs.Size.{IsWithin};
@@ -11,7 +11,14 @@ use daa_config::Kind;
 /// Degrees of a full turn.
 const FULL_TURN: i64 = 360;
 
-/// The turn of some degrees, less 179, that is from 179 to the left up to 180 to the right.
+/// By how many degrees a track is on from the present one, and 179 more.
+fn shifted(now: &i32, value: &i32) -> i64
+    ensures { result ≡ value.now -ℤ now.now +ℤ pos 179 }
+{
+    *value as i64 - *now as i64 + 179
+}
+
+/// The turn of some degrees less 179, from 179 to the left up to 180 to the right.
 fn turn(degrees: &i64) -> i64
     ensures value { result ≡ int_rem_euclid degrees.now (pos full_turn) -ℤ pos 179 }
     ensures size { IsWithin (2 ^ 34) result }
@@ -26,7 +33,7 @@ fn way(kind: Kind, now: &i32, value: &i32) -> i64
 {
     let difference = *value as i64 - *now as i64;
     match kind {
-        Kind::Track => turn(&(difference + 179)),
+        Kind::Track => turn(&shifted(now, value)),
         Kind::Speed => difference,
         Kind::Climb => difference,
         Kind::Height => difference,

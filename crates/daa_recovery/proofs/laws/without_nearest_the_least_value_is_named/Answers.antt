@@ -1,4 +1,4 @@
-use Rattle.std.proofs.Common.{◌≡◌, Bool, false, ℤ, ◌≤ℤ◌, subst}
+use Rattle.std.proofs.Common.{Bool, ℤ, ◌≤ℤ◌, subst}
 use Rattle.daa_recovery.specs.Order.{place_by}
 use Rattle.daa_resolve.specs.Side.{present_of}
 use Rattle.daa_recovery.proofs.laws.without_nearest_the_least_value_is_named.Goals as goal

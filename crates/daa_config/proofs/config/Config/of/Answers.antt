@@ -1,4 +1,4 @@
-use Rattle.std.proofs.Common.{Bool, List, map, Option, option_map, sym, subst}
+use Rattle.std.proofs.Common.{Bool, List, Option, option_map, sym, subst}
 use Rattle.daa_config.specs.Level.{cylinder_of, asks_nearest}
 use Rattle.daa_taumod.specs.declared.Volume.{Volume}
 use Rattle.daa_config.specs.declared.level.Level.{Level}

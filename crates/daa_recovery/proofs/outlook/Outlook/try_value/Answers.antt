@@ -5,7 +5,6 @@ use Rattle.daa_config.specs.declared.candidate.Candidate.{Candidate}
 use Rattle.daa_config.specs.Candidates.{values_of, candidate_to}
 use Rattle.daa_recovery.specs.OutlookState.{OutlookState}
 use Rattle.daa_recovery.specs.Inside.Search.{bound_for, IsFoundBelow, IsLeastTime}
-use Rattle.daa_recovery.specs.declared.recovery.Recovery.{Recovery}
 use Rattle.daa_recovery.proofs.Searching.{before_horizon, found_kept, found_sooner}
 use Rattle.daa_recovery.proofs.outlook.Outlook.try_value.Goals as goal
 
