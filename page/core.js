@@ -9,7 +9,7 @@ function daaCore(root) {
   const TOP = ["resolve", "turn_rate", "track_step"];
   const GRID = ["min", "max", "step", "rate"];
   const LEVEL = ["dthr", "zthr", "tthr", "tcoa", "lookahead", "alert", "tcpa"];
-  const RECOVERY = ["hdist", "vdist"];
+  const RECOVERY = ["hdist", "vdist", "nearest"];
   const MOST_LEVELS = 4;
   const under = (name, keys) => keys.map((key) => `${name}.${key}`);
   /** Each number of struct daa_config, of 64 bits, in its order. */

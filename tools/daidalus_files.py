@@ -72,7 +72,7 @@ GRIDS = {
 LEVEL = {"dthr": Place(1, 10000, "0.001 NM"), "zthr": Place(0, 10000, "ft"), "tthr": Place(0, 120, "s"),
          "tcoa": Place(0, 120, "s"), "lookahead": Place(1, 180, "s"), "alert": Place(1, 180, "s"),
          "tcpa": Place(0, 1, "0 or 1")}
-RECOVERY = {"hdist": Place(1, 10000, "0.001 NM"), "vdist": Place(0, 10000, "ft")}
+RECOVERY = {"hdist": Place(1, 10000, "0.001 NM"), "vdist": Place(0, 10000, "ft"), "nearest": Place(0, 1, "0 or 1")}
 
 
 class Fault(NamedTuple):
@@ -101,6 +101,7 @@ class Config(NamedTuple):
     values: dict
     levels: list
     recovery: tuple | None
+    nearest: int = 0
 
 
 def shown(value):
@@ -136,7 +137,7 @@ def faults_of_document(document):
         if not isinstance(table, dict):
             yield Fault(5, f"{name} is {shown(table)} and no table")
             continue
-        yield from faults_of_keys(f"{name}.", table, places)
+        yield from faults_of_keys(f"{name}.", table, places, ("nearest",))
         yield from faults_of_numbers(f"{name}.", table, places)
     yield from faults_of_steps(document)
     yield from faults_of_levels(document)
@@ -211,7 +212,7 @@ def config_of(document):
     recovery = document.get("recovery")
     return Config(document["resolve"], document["turn_rate"], {name: document[name]["rate"] for name in GRIDS}, values,
                   [Level(**{"tcpa": 0, **level}) for level in document["level"]],
-                  (recovery["hdist"], recovery["vdist"]) if recovery is not None else None)
+                  (recovery["hdist"], recovery["vdist"]) if recovery is not None else None, (recovery or {}).get("nearest", 0))
 
 
 def read_config(path):

@@ -61,9 +61,11 @@ class Level:
 
 @dataclass(frozen=True)
 class Cylinder:
-    """What a recovery stays out of: hdist in 0.001 NM, vdist in ft."""
+    """What a recovery stays out of: hdist in 0.001 NM, vdist in ft. nearest: 0 if the first of the values that recover soonest
+    is named, 1 if the one nearest to the present value."""
     hdist: int
     vdist: int
+    nearest: int = 0
 
 
 @dataclass(frozen=True)
@@ -181,12 +183,12 @@ class C:
     Grid = struct(("min max step rate", c_int64))
     Level = struct(("dthr zthr tthr tcoa lookahead alert tcpa", c_int64))
     Config = struct(("resolve turn_rate track_step", c_int64), ("gs vs alt", Grid), ("recovery", c_uint64),
-                    ("hdist vdist", c_int64), ("count", c_uint64), ("level", Level * MOST_LEVELS))
+                    ("hdist vdist nearest", c_int64), ("count", c_uint64), ("level", Level * MOST_LEVELS))
     Own = struct(("x y alt trk gs vs", c_int32))
     Traffic = struct(("id", c_char * 8), ("x y alt vx vy vs", c_int32), ("age", c_uint32))
     Alert = struct(("now level", c_uint32), ("first", c_int64))
     Fault = struct(("code field least greatest", c_int32), ("place", c_uint64))
-    Board = struct(("mask", c_uint8 * 2048), ("mark", c_int64 * 45))
+    Board = struct(("mask", c_uint8 * 2048), ("mark", c_int64 * 46))
     Candidate = struct(("kind value", c_int32))
     Band = struct(("least most", c_int32), ("level", c_uint32))  # from is a word of Python
     Resolution = struct(("what value", c_int32))
@@ -199,14 +201,14 @@ def c_config(config):
     cylinder = config.recovery or Cylinder(0, 0)
     levels = (C.Level * MOST_LEVELS)(*(astuple(level) for level in config.levels))
     return C.Config(config.resolve, config.turn_rate, config.track_step, *(C.Grid(*astuple(grid)) for grid in
-                    (config.gs, config.vs, config.alt)), int(config.recovery is not None), cylinder.hdist, cylinder.vdist,
+                    (config.gs, config.vs, config.alt)), int(config.recovery is not None), cylinder.hdist, cylinder.vdist, cylinder.nearest,
                     len(config.levels), levels)
 
 
 def config_of(numbers):
     grids = [Grid(it.min, it.max, it.step, it.rate) for it in (numbers.gs, numbers.vs, numbers.alt)]
     levels = [Level(*(getattr(it, name) for name, _ in it._fields_)) for it in numbers.level[:numbers.count]]
-    cylinder = Cylinder(numbers.hdist, numbers.vdist) if numbers.recovery else None
+    cylinder = Cylinder(numbers.hdist, numbers.vdist, numbers.nearest) if numbers.recovery else None
     return Config(numbers.resolve, numbers.turn_rate, numbers.track_step, *grids, levels, cylinder)
 
 

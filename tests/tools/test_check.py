@@ -34,6 +34,10 @@ EDITS = (
     (("level = [", "level = 3 #"), [(5, "level is 3 and no list of tables")]),
     (("resolve = 1", "resolve = 1\nrecovery = { hdist = 0 }"), [(4, "recovery.vdist is missing"),
                                                              (6, "recovery.hdist = 0 is outside 1 to 10000 (0.001 NM)")]),
+    (("resolve = 1", "resolve = 1\nrecovery = { hdist = 9, vdist = 9, nearest = 1 }"), []),
+    (("resolve = 1", "resolve = 1\nrecovery = { hdist = 9, vdist = 9, nearest = 2 }"), [(6, "recovery.nearest = 2 is outside 0 to 1 (0 or 1)")]),
+    (("resolve = 1", "resolve = 1\nrecovery = { hdist = 9, vdist = 9, nearest = true }"),
+     [(5, "recovery.nearest = true is no whole number (0 or 1)")]),
     (("resolve = 1", "resolve ="), [(2, "line 1: no value where one is wanted")]),
 )
 # Lines that are refused, with their codes (the format's own list), in a moment that is open or not.

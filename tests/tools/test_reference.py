@@ -102,6 +102,19 @@ class Worked(unittest.TestCase):
         found = report(small([level], recovery=(410, 100)), OWN, aircraft)
         self.assertEqual(found[-5:-1], [f"recover {kind} none" for kind in ("track", "gs", "vs", "alt")])
 
+    def test_nearest_recovery(self):
+        """Beside an aircraft on the right, tracks 210 to 330 are clear after 6 s, and beside one on the left 30 to 150."""
+        level, tracks = LEVEL._replace(tthr=0), list(range(0, 360, 30))
+        for east, nearest, track in ((400, 0, 210), (400, 1, 330), (-400, 0, 30), (-400, 1, 30)):
+            config = small([level], recovery=(300, 100), track=tracks)._replace(nearest=nearest)
+            self.assertIn(f"recover track 6 {track}", report(config, OWN, Traffic("A", east, 100, 1000, 0, 0, 0)))
+
+    def test_order_of_nearest_values(self):
+        config = small([LEVEL], recovery=(300, 100))._replace(nearest=1)
+        at = reference.Situation(config, Moment(0, OWN._replace(trk=350), []))
+        self.assertEqual(sorted((350, 170, 80, 260, 0, 340), key=lambda value: at.order("track", value)), [350, 0, 340, 80, 260, 170])
+        self.assertEqual(sorted((1500, 900, 1000, 1100), key=lambda value: at.order("alt", value)), [1000, 1100, 900, 1500])
+
     def test_recovery_and_a_cylinder_at_the_last_instant(self):
         """A is 0.2 miles behind after 2 s, and 300 ft above; B is 0.7 miles ahead after exactly 10 s, or a mil more."""
         level = LEVEL._replace(dthr=200, tthr=0)
@@ -159,7 +172,7 @@ def texts():
         seconds, model = next(turns) if grid != "single" else 180, MODELS[place % len(MODELS)]
         base = {"dthr": 660, "zthr": 450, "tthr": 35, "tcoa": 0, "lookahead": seconds, "alert": max(1, seconds * 2 // 3), **model}
         text = f"resolve = {1 + place % count}\nturn_rate = {(1, 3, 30)[place % 3]}\ntrack_step = {step}\n{kinds}"
-        text += f"recovery = {{ hdist = {(150, 500)[place % 2]}, vdist = {(0, 150, 400)[place % 3]} }}\n" if place % 4 else ""
+        text += f"recovery = {{ hdist = {(150, 500)[place % 2]}, vdist = {(0, 150, 400)[place % 3]}{(', nearest = 1', '')[place % 2]} }}\n" if place % 4 else ""
         for level in made:
             text += "[[level]]\n" + "".join(f"{key} = {value}\n" for key, value in {**base, **level}.items())
         yield f"{sort} {count} {grid} {seconds}", text

@@ -95,13 +95,14 @@ struct daa_level {
  * gs in 0.1 kt (0 to 10000, step 1 to 10000), vs in ft/min (-10000 to 10000, step 1 to 20000), alt in ft (-2000 to 60000,
  * step 1 to 62000).
  * recovery: 0 if no recovery is asked for, else hdist in 0.001 NM (1 to 10000) and vdist in ft (0 to 10000) are the
- * cylinder that a recovery stays out of.
+ * cylinder that a recovery stays out of. nearest: 1 if of the values that are clear again soonest the one nearest to the
+ * present value is named, 0 if the least is.
  * count: how many levels there are, 1 to 4; level[0] is level 1. Elements of level from count on are not read. */
 struct daa_config {
     int64_t resolve, turn_rate, track_step;
     struct daa_grid gs, vs, alt;
     uint64_t recovery;
-    int64_t hdist, vdist;
+    int64_t hdist, vdist, nearest;
     uint64_t count;
     struct daa_level level[4];
 };
@@ -159,7 +160,7 @@ struct daa_fault {
  * daa_decide made it. */
 struct daa_board {
     uint8_t mask[2048];
-    int64_t mark[45];
+    int64_t mark[46];
 };
 
 /* A candidate: its kind, and the value that it goes to, in the kind's unit; 0 if the kind is DAA_HOLD. */
@@ -181,7 +182,8 @@ struct daa_resolution {
 };
 
 /* The recovery of a kind. found: 1, and then after (seconds, 1 to 179) is the least time from which on some value is clear,
- * and value the first that is, in the kind's unit; or 0 if there is none, and after and value are 0. */
+ * and value the least that is, or with nearest the one nearest to the present value, in the kind's unit; or 0 if there is
+ * none, and after and value are 0. */
 struct daa_recovery {
     int32_t found;
     uint32_t after;
@@ -209,7 +211,7 @@ int32_t daa_version(void);
 /* ---- a configuration */
 
 /* Fills in the numbers of a configuration's text of TOML, of size bytes. The numbers are then in their ranges. Elements of
- * level from count on are unchanged, and so are hdist and vdist if no recovery is asked for. */
+ * level from count on are unchanged, and so are hdist, vdist and nearest if no recovery is asked for. */
 int32_t daa_read(const uint8_t *text, size_t size, struct daa_config *config);
 
 /* Whether a configuration is accepted: DAA_OK; DAA_CONFIG_LEVELS if count is above 4; or else the first that applies of
@@ -251,8 +253,8 @@ int32_t daa_decide(const struct daa_config *config, const struct daa_own *own, c
 int32_t daa_levels(const struct daa_config *config, const struct daa_board *board, uint8_t *levels, size_t room, size_t *count);
 
 /* Fills in the bands of a kind on a board, in the rising order of the values, those of level 0 too, and how many there are.
- * DAA_BAD_BOARD if the board is none of the configuration. DAA_SHORT if room is less than the values of the kind, and only there; 512 elements are always enough. Elements past the
- * bands are unchanged. */
+ * DAA_BAD_BOARD if the board is none of the configuration. DAA_SHORT if room is less than the values of the kind, and only
+ * there; 512 elements are always enough. Elements past the bands are unchanged. */
 int32_t daa_bands(const struct daa_config *config, const struct daa_board *board, int32_t kind, struct daa_band *bands,
                   size_t room, size_t *count);
 

@@ -24,7 +24,7 @@ use Rattle.daa_config.specs.Inside.Rows.{level_fits, recovery_fits}
 use Rattle.daa_config.specs.Inside.Stepped.{IsStepped}
 use Rattle.daa_config.specs.Settings.{IsGridInRange, IsLevelInRange, IsAccepted, IsCylinder, value_bounds}
 use Rattle.daa_config.specs.ConfigOf.{Written, rows_of}
-use Rattle.daa_config.specs.Level.{level_of, cylinder_of}
+use Rattle.daa_config.specs.Level.{level_of, cylinder_of, asks_nearest}
 
 -- ---- tests
 
@@ -289,7 +289,7 @@ pub levels_pass : (w : Written) → fit (rows_of w) ≡ true → list_all level_
 levels_pass w h = (ranges w h).levels
 
 pub accepted : (w : Written) → fit (rows_of w) ≡ true → (full_turn % nat_abs w.numbers.track_step == 0) ≡ true → levels_are_wrong w.numbers.resolve w.levels ≡ false
-    → has_too_many w.numbers ≡ false → IsAccepted (record { numbers = w.numbers; recovery = option_map cylinder_of w.recovery; levels = map level_of w.levels })
+    → has_too_many w.numbers ≡ false → IsAccepted (record { numbers = w.numbers; recovery = option_map cylinder_of w.recovery; nearest = asks_nearest w.recovery; levels = map level_of w.levels })
 unfolding levels_are_wrong has_too_many
 accepted w fitting divides counted few =
     let r = ranges w fitting in

@@ -17,7 +17,7 @@ use Rattle.daa_config.specs.Numbers.{levels_are_wrong, has_too_many}
 use Rattle.daa_config.specs.Rows.{Text, has_other_key, lacks_key, holds_other}
 use Rattle.daa_config.specs.Settings.{Settings, IsAccepted}
 use Rattle.daa_config.specs.ConfigOf.{Written, rows_of, settings_of, written_in, config_in, config_of}
-use Rattle.daa_config.specs.Level.{level_of, cylinder_of}
+use Rattle.daa_config.specs.Level.{level_of, cylinder_of, asks_nearest}
 use Rattle.daa_config.proofs.RangeLemmas.{accepted}
 
 -- what a text is that is no document
@@ -60,7 +60,7 @@ past false e r y h = (refl, h)
 settled : (w : Written) (s : Settings) → settings_of w ≡ Ok s → IsAccepted s
 unfolding settings_of
 settled w s h =
-    let t : Settings = record { numbers = w.numbers; recovery = option_map cylinder_of w.recovery; levels = map level_of w.levels } in
+    let t : Settings = record { numbers = w.numbers; recovery = option_map cylinder_of w.recovery; nearest = asks_nearest w.recovery; levels = map level_of w.levels } in
     let fit = list_all (λ row. row.fits) (rows_of w) in
     let divides = full_turn % nat_abs w.numbers.track_step == 0 in
     let ranges = past (not (fit && divides)) OutOfRange _ s h in

@@ -12,7 +12,7 @@ use Rattle.daa_config.specs.declared.numbers.Numbers.{Numbers}
 use Rattle.daa_config.specs.declared.numbers.LevelNumbers.{LevelNumbers}
 use Rattle.daa_config.specs.declared.numbers.RecoveryNumbers.{RecoveryNumbers}
 use Rattle.daa_config.specs.Document.{table_in, levels_in, number_in, grid_in, numbers_by, recovery_by, level_by, any_table}
-use Rattle.daa_config.specs.Level.{level_of, cylinder_of}
+use Rattle.daa_config.specs.Level.{level_of, cylinder_of, asks_nearest}
 use Rattle.daa_config.specs.Limits.{longest_text, full_turn}
 use Rattle.daa_config.specs.Numbers.{levels_are_wrong, has_too_many}
 use Rattle.daa_config.specs.Rows.{Text, Row, document_rows, grid_rows, level_rows, recovery_rows, has_other_key, lacks_key, holds_other}
@@ -39,7 +39,7 @@ settings_of w =
     if not (list_all (λ row. row.fits) (rows_of w) && (full_turn % nat_abs w.numbers.track_step == 0)) then Err OutOfRange
     else if levels_are_wrong w.numbers.resolve w.levels then Err Levels
     else if has_too_many w.numbers then Err TooMany
-    else Ok (record { numbers = w.numbers; recovery = option_map cylinder_of w.recovery; levels = map level_of w.levels })
+    else Ok (record { numbers = w.numbers; recovery = option_map cylinder_of w.recovery; nearest = asks_nearest w.recovery; levels = map level_of w.levels })
 
 -- the numbers of a document
 unfoldable pub written_in : Members → Written

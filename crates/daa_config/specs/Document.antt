@@ -41,7 +41,7 @@ level_by at = record { dthr = at "dthr"; zthr = at "zthr"; tthr = at "tthr"; tco
 
 -- of the recovery's table
 abbrev pub recovery_by : (String → ℤ) → RecoveryNumbers
-recovery_by at = record { hdist = at "hdist"; vdist = at "vdist" }
+recovery_by at = record { hdist = at "hdist"; vdist = at "vdist"; nearest = at "nearest" }
 
 -- of the document, those of its levels and its recovery apart
 abbrev pub numbers_by : (String → ℤ) → (String → Grid) → Numbers

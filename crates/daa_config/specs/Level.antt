@@ -1,5 +1,5 @@
 -- A level in units: 36 to 0.001 NM and 60 to a foot.
-use Rattle.std.specs.Prelude.{◌*◌, zero, ℤ, pos, nat_abs}
+use Rattle.std.specs.Prelude.{◌*◌, zero, ℤ, pos, nat_abs, Bool, true, false, Option, Some, None}
 use Rattle.daa_taumod.specs.declared.Model.{Model}
 use Rattle.daa_taumod.specs.declared.Model.TheVariants.{Taumod, Tcpa}
 use Rattle.daa_taumod.specs.declared.Volume.{Volume}
@@ -31,6 +31,16 @@ cylinder_of n = record {
   tcoa = 0;
   model = Taumod;
 }
+
+-- what a number asks for that is 0 or 1
+abbrev pub is_set : ℤ → Bool
+is_set (pos zero) = false
+is_set _ = true
+
+-- the recovery is asked to name the value nearest to the present one
+abbrev pub asks_nearest : Option RecoveryNumbers → Bool
+asks_nearest None = false
+asks_nearest (Some n) = is_set n.nearest
 
 -- the level of these numbers
 abbrev pub level_of : LevelNumbers → Level

@@ -26,6 +26,10 @@ pub record Row : Type 0 where
 abbrev pub number : String → ℤ → ℤ → ℤ → Row
 number key low high z = record { key = codes key; needed = true; holds = λ d. is_some (as_integer d); fits = int_le low z && int_le z high }
 
+-- a whole number that may be left out, then 0, and be from 0 to high; it is z
+abbrev pub optional : String → ℤ → ℤ → Row
+optional key high z = record (number key (pos 0) high z) { needed = false }
+
 -- a table that must be there, which has rows of its own
 abbrev pub table : String → Row
 table key = record { key = codes key; needed = true; holds = λ d. is_some (as_table d); fits = true }
@@ -70,11 +74,14 @@ level_rows l =
     ∷ number "tcoa" (pos 0) (pos 120) l.tcoa
     ∷ number "lookahead" (pos 1) (pos 180) l.lookahead
     ∷ number "alert" (pos 1) (pos 180) l.alert
-    ∷ record (number "tcpa" (pos 0) (pos 1) l.tcpa) { needed = false } ∷ []
+    ∷ optional "tcpa" (pos 1) l.tcpa ∷ []
 
--- of the table of a recovery's cylinder: 0.001 NM and ft
+-- of the table of a recovery's cylinder: 0.001 NM and ft; `nearest` is 1 where the value nearest to the present one is named
 abbrev pub recovery_rows : RecoveryNumbers → List Row
-recovery_rows r = number "hdist" (pos 1) (pos 10000) r.hdist ∷ number "vdist" (pos 0) (pos 10000) r.vdist ∷ []
+recovery_rows r =
+    number "hdist" (pos 1) (pos 10000) r.hdist
+    ∷ number "vdist" (pos 0) (pos 10000) r.vdist
+    ∷ optional "nearest" (pos 1) r.nearest ∷ []
 
 -- ---- what differs from the rows
 

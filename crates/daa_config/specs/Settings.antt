@@ -1,5 +1,5 @@
 -- A configuration as contracts see it, and what holds of every one that is accepted.
-use Rattle.std.specs.Prelude.{◌≡◌, ℕ, ℤ, pos, ◌-◌, ◌%◌, ◌≤◌, ◌≤ℤ◌, ◌-ℤ◌, neg_ℤ, nat_abs, List, length, slice_get, Option, Some}
+use Rattle.std.specs.Prelude.{◌≡◌, ℕ, ℤ, pos, ◌-◌, ◌%◌, ◌≤◌, ◌≤ℤ◌, ◌-ℤ◌, neg_ℤ, nat_abs, Bool, List, length, slice_get, Option, Some}
 use Rattle.daa_fixed.specs.Size.{IsFrom}
 use Rattle.daa_taumod.specs.declared.Model.TheVariants.{Taumod}
 use Rattle.daa_taumod.specs.declared.Volume.{Volume}
@@ -16,11 +16,12 @@ use Rattle.daa_config.specs.declared.numbers.Numbers.{Numbers}
 use Rattle.daa_config.specs.Limits.{from_to, full_turn, most_levels, most_values}
 use Rattle.daa_config.specs.Numbers.{count_of}
 
--- the numbers of a configuration, the cylinder that a recovery stays out of where one is asked for, and the levels in units; the first
--- of the list is level 1
+-- the numbers of a configuration, the cylinder that a recovery stays out of where one is asked for, whether a recovery names the value
+-- nearest to the present one, and the levels in units; the first of the list is level 1
 pub record Settings : Type 0 where
   pub numbers : Numbers
   pub recovery : Option Volume
+  pub nearest : Bool
   pub levels : List Level
 
 -- the level numbered l, from 1 on

@@ -9,7 +9,7 @@ ghost use Rattle.daa_config.specs.Numbers.{levels_are_wrong, has_too_many};
 
 use crate::config::Config;
 use crate::fault::ConfigFault;
-use crate::level::{all_in_units, cylinder_in_units};
+use crate::level::{all_in_units, cylinder_in_units, names_nearest};
 use crate::limits::{CLIMBS, HEIGHTS, SPEEDS};
 use crate::numbers::{
     LevelNumbers, Numbers, RecoveryNumbers, are_too_many, divides_full_turn, have_wrong_count,
@@ -116,7 +116,8 @@ impl Config {
     {
         test(numbers, recovery, levels)?;
         let levels = all_in_units(levels);
+        let nearest = names_nearest(recovery);
         let recovery = cylinder_in_units(recovery);
-        Ok(Config::new(*numbers, recovery, levels))
+        Ok(Config::new(*numbers, recovery, nearest, levels))
     }
 }

@@ -29,6 +29,7 @@ pub struct Rates {
 pub struct Config {
     numbers: Numbers,
     recovery: Option<Volume>,
+    nearest: bool,
     levels: ArrayVec<Level, MOST_LEVELS>,
 }
 
@@ -57,12 +58,14 @@ impl Model for Config {
     ghost view = { λ c. record {
       numbers = c.numbers;
       recovery = c.recovery;
+      nearest = c.nearest;
       levels = c.levels.items;
     } };
 
     ghost invariant = { λ c. IsAccepted (record {
       numbers = c.numbers;
       recovery = c.recovery;
+      nearest = c.nearest;
       levels = c.levels.items;
     }) };
 }
@@ -75,19 +78,26 @@ impl Config {
     pub(crate) fn new(
         numbers: Numbers,
         recovery: Option<Volume>,
+        nearest: bool,
         levels: ArrayVec<Level, MOST_LEVELS>,
     ) -> Config
-        requires { IsAccepted
-            (record { numbers = numbers; recovery = recovery; levels = levels.items }) }
+        requires { IsAccepted (record {
+          numbers = numbers;
+          recovery = recovery;
+          nearest = nearest;
+          levels = levels.items;
+        }) }
         ensures { result ≡ record {
           numbers = numbers;
           recovery = recovery;
+          nearest = nearest;
           levels = levels.items;
         } }
     {
         Config {
             numbers,
             recovery,
+            nearest,
             levels,
         }
     }
@@ -99,6 +109,15 @@ impl Config {
         ensures accepted { IsAccepted self.now }
     {
         self.recovery.as_ref()
+    }
+
+    /// Whether a recovery names, of the values that are clear again soonest, the one nearest to the
+    /// present value, and not the least.
+    pub fn nearest(&self) -> bool
+        ensures value { result ≡ self.now.nearest }
+        ensures accepted { IsAccepted self.now }
+    {
+        self.nearest
     }
 
     /// How many levels there are, 1 to 4.

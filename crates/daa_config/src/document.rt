@@ -85,6 +85,7 @@ pub(crate) fn cylinder_of(table: &Table) -> RecoveryNumbers
     RecoveryNumbers {
         hdist: whole_at(table, "hdist"),
         vdist: whole_at(table, "vdist"),
+        nearest: whole_at(table, "nearest"),
     }
 }
 

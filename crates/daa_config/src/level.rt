@@ -4,7 +4,7 @@ ghost use Rattle.std.specs.Prelude.{◌≡◌, ◌≤◌, ◌*◌, ℕ, pos, nat
 ghost use Rattle.std.specs.List.{list_all};
 ghost use Rattle.daa_fixed.specs.Size.{IsFrom};
 ghost use Rattle.daa_config.specs.Inside.Rows.{level_fits, recovery_fits};
-ghost use Rattle.daa_config.specs.Level.{level_of, cylinder_of, model_of};
+ghost use Rattle.daa_config.specs.Level.{level_of, cylinder_of, model_of, is_set, asks_nearest};
 
 use crate::limits::MOST_LEVELS;
 use crate::numbers::{LevelNumbers, RecoveryNumbers};
@@ -30,6 +30,23 @@ fn model_in(tcpa: i64) -> Model
         Model::Taumod
     } else {
         Model::Tcpa
+    }
+}
+
+/// What a number asks for that is 0 or 1.
+fn is_asked(number: i64) -> bool
+    ensures { result ≡ is_set number }
+{
+    number != 0
+}
+
+/// Whether the recovery is asked to name the value nearest to the present one.
+pub(crate) fn names_nearest(recovery: &Option<RecoveryNumbers>) -> bool
+    ensures { result ≡ asks_nearest recovery.now }
+{
+    match recovery {
+        None => false,
+        Some(numbers) => is_asked(numbers.nearest),
     }
 }
 

@@ -62,8 +62,9 @@ pub struct LevelNumbers {
     pub tcpa: i64,
 }
 
-/// The cylinder that a recovery stays out of, as the text has it: 0.001 NM and ft. C lays it out
-/// alike.
+/// The cylinder that a recovery stays out of, as the text has it: 0.001 NM and ft; and which of the
+/// values that recover soonest is named: the nearest to the present one at 1, the least at 0. C lays
+/// it out alike.
 #[repr(C)]
 #[derive(Clone, Copy, Debug, PartialEq, Eq)]
 pub struct RecoveryNumbers {
@@ -71,6 +72,8 @@ pub struct RecoveryNumbers {
     pub hdist: i64,
     /// 0 to 10000.
     pub vdist: i64,
+    /// 0 or 1.
+    pub nearest: i64,
 }
 
 /// All numbers of a configuration as its text has them; the first of the levels is level 1.

@@ -1,6 +1,6 @@
 //! The tables of a configuration: a row for each key says all that is asked of it.
 
-ghost use Rattle.std.specs.Prelude.{◌≡◌, ◌-ℤ◌, pos, map, true, is_some};
+ghost use Rattle.std.specs.Prelude.{◌≡◌, ◌-ℤ◌, pos, map, true, false, is_some};
 ghost use Rattle.std.specs.List.{list_all};
 ghost use Rattle.toml.specs.Data.{as_table};
 ghost use Rattle.toml.specs.View.{view, items_view};
@@ -115,6 +115,20 @@ fn number(key: &'static str, least: i64, greatest: i64, here: i64) -> Row
     }
 }
 
+/// A whole number from 0 to the greatest that may be left out.
+fn optional(key: &'static str, greatest: i64, here: i64) -> Row
+    ensures { result ≡ record {
+      key = key.entry;
+      needed = false;
+      place = Number (pos 0) greatest here;
+    } }
+{
+    Row {
+        needed: false,
+        ..number(key, 0, greatest, here)
+    }
+}
+
 /// A table that must be there, which has rows of its own.
 fn table(key: &'static str) -> Row
     ensures { result ≡ record { key = key.entry; needed = true; place = OfTable } }
@@ -180,19 +194,17 @@ pub(crate) fn level_rows(l: &LevelNumbers) -> [Row; 7]
         number("tcoa", 0, 120, l.tcoa),
         number("lookahead", 1, 180, l.lookahead),
         number("alert", 1, 180, l.alert),
-        Row {
-            needed: false,
-            ..number("tcpa", 0, 1, l.tcpa)
-        },
+        optional("tcpa", 1, l.tcpa),
     ]
 }
 
 /// The rows of the table of a recovery's cylinder.
-pub(crate) fn recovery_rows(r: &RecoveryNumbers) -> [Row; 2]
+pub(crate) fn recovery_rows(r: &RecoveryNumbers) -> [Row; 3]
     ensures { map row_by result ≡ listed.recovery_rows r.now }
 {
     [
         number("hdist", 1, 10000, r.hdist),
         number("vdist", 0, 10000, r.vdist),
+        optional("nearest", 1, r.nearest),
     ]
 }

@@ -46,22 +46,22 @@ module _ (s : Settings) (p : Picture) where
   upper_only : IsAccepted s → (kind : Kind) (lower upper lower' upper' : Resolution) → AreResolutions s p kind lower upper → AreResolutions s p kind lower' upper' → upper ≡ upper'
   upper_only ok kind lower upper lower' upper' h k = one_answer (CoveredAt s p) s p.own ok kind Upper upper upper' h.upper_is k.upper_is
 
-  recovery_line_only : (kind : Kind) (a b : Text) → IsRecoveryLine s p kind a → IsRecoveryLine s p kind b → a ≡ b
-  recovery_line_only kind a b (found, is, e) (found', is', e') =
-      e ∙ ap (λ (f : Option Recovery). recover_line kind (option_map found_of f)) (recovery_only s p kind found found' is is') ∙ sym e'
+  recovery_line_only : IsAccepted s → (kind : Kind) (a b : Text) → IsRecoveryLine s p kind a → IsRecoveryLine s p kind b → a ≡ b
+  recovery_line_only ok kind a b (found, is, e) (found', is', e') =
+      e ∙ ap (λ (f : Option Recovery). recover_line kind (option_map found_of f)) (recovery_only s p kind ok found found' is is') ∙ sym e'
 
   -- with the same answers a kind has one text of its recovery
-  recovery_text_only : (kind : Kind) (lower upper : Resolution) (a b : Text) → IsRecoveryText s p kind lower upper a → IsRecoveryText s p kind lower upper b → a ≡ b
-  recovery_text_only kind lower upper a b h k = by_wish (wants_recovery s lower upper) refl
+  recovery_text_only : IsAccepted s → (kind : Kind) (lower upper : Resolution) (a b : Text) → IsRecoveryText s p kind lower upper a → IsRecoveryText s p kind lower upper b → a ≡ b
+  recovery_text_only ok kind lower upper a b h k = by_wish (wants_recovery s lower upper) refl
     where
       by_wish : (w : Bool) → wants_recovery s lower upper ≡ w → a ≡ b
-      by_wish true e = recovery_line_only kind a b (h.line e) (k.line e)
+      by_wish true e = recovery_line_only ok kind a b (h.line e) (k.line e)
       by_wish false e = h.none e ∙ sym (k.none e)
 
-  recovery_only_of : (kind : Kind) (lower upper lower' upper' : Resolution) (a b : Text) → lower ≡ lower' → upper ≡ upper'
+  recovery_only_of : IsAccepted s → (kind : Kind) (lower upper lower' upper' : Resolution) (a b : Text) → lower ≡ lower' → upper ≡ upper'
       → IsRecoveryText s p kind lower upper a → IsRecoveryText s p kind lower' upper' b → a ≡ b
-  recovery_only_of kind lower upper lower' upper' a b e f h k =
-      recovery_text_only kind lower' upper' a b
+  recovery_only_of ok kind lower upper lower' upper' a b e f h k =
+      recovery_text_only ok kind lower' upper' a b
       (subst (λ (r : Resolution). IsRecoveryText s p kind lower' r a) f (subst (λ (r : Resolution). IsRecoveryText s p kind r upper a) e h)) k
 
   each_only : (f g : Kind → Text) → ((kind : Kind) → f kind ≡ g kind) → of_each f ≡ of_each g
@@ -76,7 +76,7 @@ module _ (s : Settings) (p : Picture) where
       let x = alerts_only (aircraft_of p) h.alerts k.alerts h.alerts_are k.alerts_are in
       let y = each_only h.bands k.bands (λ kind. bands_only kind (h.bands kind) (k.bands kind) (h.bands_are kind) (k.bands_are kind)) in
       let z = each_only resolutions resolutions' (λ kind. ap₂ (resolve_line kind) (low kind) (up kind)) in
-      let w = each_only h.recoveries k.recoveries (λ kind. recovery_only_of kind (h.lower kind) (h.upper kind) (k.lower kind) (k.upper kind) (h.recoveries kind) (k.recoveries kind)
+      let w = each_only h.recoveries k.recoveries (λ kind. recovery_only_of ok kind (h.lower kind) (h.upper kind) (k.lower kind) (k.upper kind) (h.recoveries kind) (k.recoveries kind)
       (low kind) (up kind) (h.recoveries_are kind) (k.recoveries_are kind)) in
       h.text_is ∙ ap (λ (t : Text). moment_line p.time ++ (t ++ (of_each h.bands ++ (of_each resolutions ++ (of_each h.recoveries ++ done_line p.time))))) x
       ∙ ap (λ (t : Text). moment_line p.time ++ (k.alerts ++ (t ++ (of_each resolutions ++ (of_each h.recoveries ++ done_line p.time))))) y

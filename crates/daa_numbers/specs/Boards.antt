@@ -15,7 +15,7 @@ no_level = record { dthr = pos 0; zthr = pos 0; tthr = pos 0; tcoa = pos 0; look
 
 -- zeros in the place of a cylinder that does not count
 abbrev pub no_cylinder : RecoveryNumbers
-no_cylinder = record { hdist = pos 0; vdist = pos 0 }
+no_cylinder = record { hdist = pos 0; vdist = pos 0; nearest = pos 0 }
 
 -- the numbers, or none
 abbrev pub level_or_none : Option LevelNumbers → LevelNumbers
@@ -36,7 +36,7 @@ abbrev pub grid_numbers : Grid → List ℤ
 grid_numbers g = g.min ∷ g.max ∷ g.step ∷ g.rate ∷ []
 
 abbrev pub cylinder_numbers : RecoveryNumbers → List ℤ
-cylinder_numbers r = r.hdist ∷ r.vdist ∷ []
+cylinder_numbers r = r.hdist ∷ r.vdist ∷ r.nearest ∷ []
 
 abbrev pub level_numbers : LevelNumbers → List ℤ
 level_numbers l = l.dthr ∷ l.zthr ∷ l.tthr ∷ l.tcoa ∷ l.lookahead ∷ l.alert ∷ l.tcpa ∷ []

@@ -11,7 +11,7 @@ use daa_bands::{BOARD_MASKS, Board};
 use daa_config::{Config, LevelNumbers, RecoveryNumbers};
 
 /// How many numbers a mark has.
-const MARK: usize = 45;
+const MARK: usize = 46;
 
 /// The levels at which each candidate is covered, bit l - 1 of a mask means level l, and the mark
 /// of the configuration: its numbers, and 0 in the place of each that does not count.
@@ -34,7 +34,11 @@ const NO_LEVEL: LevelNumbers = LevelNumbers {
 };
 
 /// In the place of a cylinder that does not count.
-const NO_CYLINDER: RecoveryNumbers = RecoveryNumbers { hdist: 0, vdist: 0 };
+const NO_CYLINDER: RecoveryNumbers = RecoveryNumbers {
+    hdist: 0,
+    vdist: 0,
+    nearest: 0,
+};
 
 /// The numbers of the level at a place, if it counts.
 fn level(config: &DaaConfig, place: usize) -> LevelNumbers
@@ -87,6 +91,7 @@ pub(crate) fn mark(config: &DaaConfig) -> [i64; MARK]
         numbers.alt.rate,
         cylinder.hdist,
         cylinder.vdist,
+        cylinder.nearest,
         first.dthr,
         first.zthr,
         first.tthr,

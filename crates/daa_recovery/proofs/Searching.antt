@@ -1,14 +1,15 @@
 -- The search for the recovery of a kind, value by value.
-use Rattle.std.proofs.Common.{◌≡◌, ℕ, zero, suc, ◌+◌, ◌<◌, ◌≤◌, ℤ, Option, Some, None, length, sym, subst, ap, ◌∙◌, arith, ⊎_elim}
-use Rattle.std.specs.Prelude.{slice_get}
+use Rattle.std.proofs.Common.{◌≡◌, ℕ, ◌+◌, ◌<◌, ◌≤◌, ℤ, ◌≤ℤ◌, Bool, true, false, cond, refl, Option, Some, None, length, sym, subst, ◌∙◌, arith, ⊎_elim}
+use Rattle.std.specs.Prelude.{slice_get, int_lt}
+use Rattle.std.proofs.lemmas.Int.{ints}
 use Rattle.std.proofs.lemmas.Bool.{cases_lt}
 use Rattle.std.proofs.lemmas.Option.{same_Some, slice_get_within}
 use Rattle.daa_config.specs.declared.candidate.Candidate.{Candidate}
 use Rattle.daa_config.specs.declared.kind.Kind.{Kind}
 use Rattle.daa_config.specs.Candidates.{values_of, candidate_to}
 use Rattle.daa_recovery.specs.OutlookState.{OutlookState}
-use Rattle.daa_recovery.specs.Recovery.{Recovers, RecoversAt, IsLeast, IsFound}
-use Rattle.daa_recovery.specs.Inside.Search.{bound_of, IsFirst, IsFirstFound, IsFoundBelow, IsLeastAt, IsLeastTime}
+use Rattle.daa_recovery.specs.Recovery.{Recovers, RecoversAt, placed, IsFound}
+use Rattle.daa_recovery.specs.Inside.Search.{bound_of, bound_for, IsBeforeHorizon, IsFirstFound, IsFoundBelow, IsLeastAt, IsLeastTime}
 use Rattle.daa_recovery.specs.declared.recovery.Recovery.{Recovery}
 use Rattle.daa_recovery.proofs.LaterSeconds.{lasts}
 
@@ -51,6 +52,21 @@ module _ (p : OutlookState) (candidate : Candidate) where
 
 -- ---- value by value
 
+-- of numbers
+not_below : (a b : ℤ) → int_lt a b ≡ false → b ≤ℤ a
+not_below a b h = grind (arith, ints)
+
+below_both : (a b c : ℤ) → int_lt a b ≡ true → b ≤ℤ c → a ≤ℤ c
+below_both a b c h k = grind (arith, ints)
+
+grown : (b : Bool) (n : ℕ) → n ≤ cond b (n + 1) n
+grown true n = omega arith
+grown false n = omega arith
+
+shrunk : (b : Bool) (n m : ℕ) → m < cond b (n + 1) n → m ≤ n
+shrunk true n m h = omega (arith, h)
+shrunk false n m h = omega (arith, h)
+
 module _ (p : OutlookState) (kind : Kind) where
   pub found_first : IsFoundBelow p kind 0 None
   found_first = record { first = tt; none_sooner = λ m one lt i value h. absurd (omega (arith, h)) }
@@ -59,23 +75,19 @@ module _ (p : OutlookState) (kind : Kind) where
   bound_within count None h = omega arith
   bound_within count (Some r) h = let b = h.before in omega (arith, b)
 
-  first_kept : (count : ℕ) (found : Option Recovery) → IsFirstFound p kind count found → IsFirstFound p kind (count + 1) found
-  first_kept count None h = tt
-  first_kept count (Some r) h = record {
-    index = h.index;
-    below = omega (arith, h.below);
-    some = h.some;
-    before = h.before;
-    recovers = h.recovers;
-    none_earlier = h.none_earlier;
-  }
+  pub before_horizon : (count : ℕ) (found : Option Recovery) → IsFirstFound p kind count found → IsBeforeHorizon p found
+  before_horizon count None h = tt
+  before_horizon count (Some r) h = h.before
 
   module _ (index : ℕ) (value : ℤ) (there : slice_get (values_of kind p.settings) index ≡ Some value) where
     -- a value at the index is this one
-    here : (i m : ℕ) (v : ℤ) → i ≡ index → RecoversAt p kind i m v → Recovers p (candidate_to kind value) m
-    here i m v same r =
+    this : (i m : ℕ) (v : ℤ) → i ≡ index → RecoversAt p kind i m v → v ≡ value
+    this i m v same r =
         let at : slice_get (values_of kind p.settings) index ≡ Some v = subst (λ (j : ℕ). slice_get (values_of kind p.settings) j ≡ Some v) same r.there in
-        subst (λ (z : ℤ). Recovers p (candidate_to kind z) m) (same_Some v value (sym at ∙ there)) r.recovers
+        same_Some v value (sym at ∙ there)
+
+    here : (i m : ℕ) (v : ℤ) → i ≡ index → RecoversAt p kind i m v → Recovers p (candidate_to kind value) m
+    here i m v same r = subst (λ (z : ℤ). Recovers p (candidate_to kind z) m) (this i m v same r) r.recovers
 
     sooner : (bound : ℕ) → ((m : ℕ) → 1 ≤ m → m < bound → (i : ℕ) (v : ℤ) → i < index → ¬ RecoversAt p kind i m v)
         → ((m : ℕ) → 1 ≤ m → m < bound → ¬ Recovers p (candidate_to kind value) m)
@@ -85,27 +97,94 @@ module _ (p : OutlookState) (kind : Kind) where
         (λ ge. none m one lt (here i m v (omega (arith, h, ge)) r))
         (cases_lt i index)
 
-    -- the value recovers no sooner
-    pub found_kept : (found : Option Recovery) → IsFoundBelow p kind index found → IsLeastTime p (candidate_to kind value) (bound_of p found) None → IsFoundBelow p kind (index + 1) found
-    found_kept found h none = record { first = first_kept index found h.first; none_sooner = sooner (bound_of p found) h.none_sooner none }
+    -- the value comes before the best so far
+    abbrev earlier : Recovery → Bool
+    earlier r = int_lt (placed p kind value) (placed p kind r.value)
 
-    -- the value recovers sooner
-    pub found_sooner : (found : Option Recovery) (after : ℕ) → IsFoundBelow p kind index found → IsLeastAt p (candidate_to kind value) (bound_of p found) after
+    bound_least : (found : Option Recovery) → bound_of p found ≤ bound_for p kind found value
+    bound_least None = omega arith
+    bound_least (Some r) = grown (earlier r) r.after
+
+    -- the value does not recover at the time of the best so far, or comes after it
+    kept_before : (r : Recovery) → 1 ≤ r.after → (b : Bool) → earlier r ≡ b → ((m : ℕ) → 1 ≤ m → m < cond b (r.after + 1) r.after → ¬ Recovers p (candidate_to kind value) m)
+        → Recovers p (candidate_to kind value) r.after → placed p kind r.value ≤ℤ placed p kind value
+    kept_before r one true e none x = absurd (none r.after one (omega arith) x)
+    kept_before r one false e none x = not_below _ _ e
+
+    first_kept : (found : Option Recovery) → IsFirstFound p kind index found → IsLeastTime p (candidate_to kind value) (bound_for p kind found value) None
+        → IsFirstFound p kind (index + 1) found
+    first_kept None h none = tt
+    first_kept (Some r) h none = record {
+      index = h.index;
+      below = omega (arith, h.below);
+      some = h.some;
+      before = h.before;
+      recovers = h.recovers;
+      first = λ i v lt x. ⊎_elim
+          (λ l. h.first i v l x)
+          (λ ge. at_index i v (omega (arith, lt, ge)) x)
+          (cases_lt i index);
+    }
+      where
+        at_index : (i : ℕ) (v : ℤ) → i ≡ index → RecoversAt p kind i r.after v → placed p kind r.value ≤ℤ placed p kind v
+        at_index i v same x =
+            subst (λ (z : ℤ). placed p kind r.value ≤ℤ placed p kind z) (sym (this i r.after v same x)) (kept_before r h.some (earlier r) refl none (here i r.after v same x))
+
+    -- the value does not take the place of the best so far
+    pub found_kept : (found : Option Recovery) → IsFoundBelow p kind index found → IsLeastTime p (candidate_to kind value) (bound_for p kind found value) None
+        → IsFoundBelow p kind (index + 1) found
+    found_kept found h none = record {
+      first = first_kept found h.first none;
+      none_sooner = sooner (bound_of p found) h.none_sooner (λ m one lt. let l = bound_least found in none m one (omega (arith, lt, l)));
+    }
+
+    -- what recovers below the bound for a value does so at the time of the best so far at the latest
+    bound_most : (found : Option Recovery) (after : ℕ) → after < bound_for p kind found value → after ≤ bound_of p found
+    bound_most None after lt = omega (arith, lt)
+    bound_most (Some r) after lt = shrunk (earlier r) r.after after lt
+
+    in_time : (found : Option Recovery) → IsFirstFound p kind index found → (after : ℕ) → after < bound_for p kind found value → after < p.horizon
+    in_time None h after lt = lt
+    in_time (Some r) h after lt = let m = bound_most (Some r) after lt in let b = h.before in omega (arith, m, b)
+
+    -- of the values before, none that recovers at its time comes before it
+    won : (found : Option Recovery) → IsFoundBelow p kind index found → (after : ℕ) → 1 ≤ after → after < bound_for p kind found value
+        → (i : ℕ) (v : ℤ) → i < index → RecoversAt p kind i after v → placed p kind value ≤ℤ placed p kind v
+    won None h after one lt i v l x = absurd (h.none_sooner after one lt i v l x)
+    won (Some r) h after one lt i v l x = by_order (earlier r) refl lt
+      where
+        at_once : earlier r ≡ true → after ≡ r.after → placed p kind value ≤ℤ placed p kind v
+        at_once e same = below_both _ _ _ e (h.first.first i v l (subst (λ (m : ℕ). RecoversAt p kind i m v) same x))
+
+        by_order : (b : Bool) → earlier r ≡ b → after < cond b (r.after + 1) r.after → placed p kind value ≤ℤ placed p kind v
+        by_order false e k = absurd (h.none_sooner after one k i v l x)
+        by_order true e k = ⊎_elim
+            (λ s. absurd (h.none_sooner after one s i v l x))
+            (λ ge. at_once e (omega (arith, k, ge)))
+            (cases_lt after r.after)
+
+    -- the value takes the place of the best so far
+    pub found_sooner : (found : Option Recovery) (after : ℕ) → IsFoundBelow p kind index found → IsLeastAt p (candidate_to kind value) (bound_for p kind found value) after
         → IsFoundBelow p kind (index + 1) (Some (record { after = after; value = value }))
     found_sooner found after h l =
-        let w = bound_within index found h.first in
-        let b = l.below in
+        let b = bound_most found after l.below in
         record {
           first = record {
             index = index;
             below = omega arith;
             some = l.some;
-            before = omega (arith, w, b);
+            before = in_time found h.first after l.below;
             recovers = record { there = there; recovers = l.recovers };
-            none_earlier = λ i v lt r. h.none_sooner after l.some l.below i v lt r;
+            first = λ i v lt x. ⊎_elim
+                (λ k. won found h after l.some l.below i v k x)
+                (λ ge. at_index i v (omega (arith, lt, ge)) x)
+                (cases_lt i index);
           };
           none_sooner = sooner after (λ m one lt i v s r. h.none_sooner m one (omega (arith, lt, b)) i v s r) l.none_sooner;
         }
+      where
+        at_index : (i : ℕ) (v : ℤ) → i ≡ index → RecoversAt p kind i after v → placed p kind value ≤ℤ placed p kind v
+        at_index i v same x = subst (λ (z : ℤ). placed p kind value ≤ℤ placed p kind z) (sym (this i after v same x)) (omega (arith, ints))
 
   -- all values were tried
   pub found_all : (count : ℕ) (found : Option Recovery) → length (values_of kind p.settings) ≤ count → IsFoundBelow p kind count found → IsFound p kind found
@@ -117,5 +196,5 @@ module _ (p : OutlookState) (kind : Kind) where
     before = h.first.before;
     recovers = h.first.recovers;
     none_sooner = λ m one lt i v r. let w = slice_get_within (values_of kind p.settings) i v r.there in h.none_sooner m one lt i v (omega (arith, w, all)) r;
-    none_earlier = h.first.none_earlier;
+    first = λ i v r. let w = slice_get_within (values_of kind p.settings) i v r.there in h.first.first i v (omega (arith, w, all)) r;
   }

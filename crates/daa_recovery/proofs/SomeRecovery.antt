@@ -28,7 +28,7 @@ use Rattle.daa_meet.proofs.Meetings.{within_decided, between_decided}
 use Rattle.daa_recovery.specs.OutlookState.{Closes, IsHorizon, OutlookState}
 use Rattle.daa_recovery.specs.Inside.OutlookState.{IsOutlook}
 use Rattle.daa_recovery.specs.Recovery.{IsClosedFrom, IsInCylinder, IsClear, Recovers, IsFound, IsRecovery}
-use Rattle.daa_recovery.specs.Inside.Search.{bound_of, IsFoundBelow, IsLeastTime}
+use Rattle.daa_recovery.specs.Inside.Search.{bound_for, IsFoundBelow, IsLeastTime}
 use Rattle.daa_recovery.specs.declared.recovery.Recovery.{Recovery}
 use Rattle.daa_recovery.proofs.Horizons.{IsHorizonUpTo, horizon_first, horizon_more, horizon_all, horizon_short, level_within}
 use Rattle.daa_recovery.proofs.Searching.{found_first, found_kept, found_sooner, found_all}
@@ -147,14 +147,14 @@ module _ (p : OutlookState) (is : IsOutlook p) (kind : Kind) where
       let b = some_below n (omega (arith, h)) in
       let z : ℤ = (grid_of kind p.settings).min +ℤ pos n *ℤ (grid_of kind p.settings).step in
       let v = value_there kind p.settings n is.accepted (omega (arith, h)) in
-      let t = least_time p is (candidate_to kind z) (in_range-to kind z v.in_range) (bound_of p b.0) in
+      let t = least_time p is (candidate_to kind z) (in_range-to kind z v.in_range) (bound_for p kind b.0 z) in
       go z v.there b.0 b.1 t.0 t.1
     where
       one_more : n + 1 ≡ suc n
       one_more = omega arith
 
       go : (z : ℤ) → slice_get (values_of kind p.settings) n ≡ Some z → (found : Option Recovery) → IsFoundBelow p kind n found
-          → (t : Option ℕ) → IsLeastTime p (candidate_to kind z) (bound_of p found) t → (new : Option Recovery) × IsFoundBelow p kind (suc n) new
+          → (t : Option ℕ) → IsLeastTime p (candidate_to kind z) (bound_for p kind found z) t → (new : Option Recovery) × IsFoundBelow p kind (suc n) new
       go z there found b None none = (found, subst (λ (i : ℕ). IsFoundBelow p kind i found) one_more (found_kept p kind n z there found b none))
       go z there found b (Some after) l = (
         Some (record { after = after; value = z }),
@@ -219,5 +219,5 @@ module _ (s : Settings) (a : IsAccepted s) where
           let p : OutlookState = record { settings = s; picture = picture; cylinder = v; horizon = m.0 } in
           let f = some_found p (record { accepted = a; picture = in'; cylinder = (a.recovery v e).in_range; horizon = m.1 }) kind in
           let is : IsRecovery s picture kind f.0 = record { cylinder = v; horizon = m.0; asked = e; ahead = m.1; found = f.1 } in
-          record { one = f.0; is = is; only = λ other h. recovery_only s picture kind other f.0 h is }
+          record { one = f.0; is = is; only = λ other h. recovery_only s picture kind a other f.0 h is }
       go (inr none) = absurd (asked none)

@@ -1,3 +1,4 @@
 pub mod OutlookState
+pub mod Order
 pub mod Recovery
 pub mod Inside

@@ -1,5 +1,5 @@
 -- When a candidate recovers, and the recovery of a kind.
-use Rattle.std.specs.Prelude.{ℕ, ℤ, ◌≡◌, ◌≤◌, ◌<◌, Option, Some, None, slice_get}
+use Rattle.std.specs.Prelude.{ℕ, ℤ, ◌≡◌, ◌≤◌, ◌<◌, ◌≤ℤ◌, Option, Some, None, slice_get}
 use Rattle.daa_taumod.specs.declared.Volume.{Volume}
 use Rattle.daa_config.specs.declared.candidate.Candidate.{Candidate}
 use Rattle.daa_config.specs.declared.kind.Kind.{Kind}
@@ -11,6 +11,7 @@ use Rattle.daa_state.specs.declared.word.Traffic.{Traffic}
 use Rattle.daa_state.specs.Picture.{aircraft_of}
 use Rattle.daa_legs.specs.Meeting.{MeetsWithin}
 use Rattle.daa_legs.specs.Runs.{MeetsBetween}
+use Rattle.daa_recovery.specs.Order.{place_of}
 use Rattle.daa_recovery.specs.OutlookState.{Closes, IsHorizon, OutlookState}
 use Rattle.daa_recovery.specs.declared.recovery.Recovery.{Recovery}
 
@@ -41,18 +42,23 @@ module _ (p : OutlookState) (kind : Kind) where
     pub there : slice_get (values_of kind p.settings) index ≡ Some value
     pub recovers : Recovers p (candidate_to kind value) m
 
+  -- the place of a value in the order that the configuration asks for
+  abbrev pub placed : ℤ → ℤ
+  placed value = place_of p.settings p.picture.own kind value
+
   -- no value of the kind recovers at m
   abbrev pub NoneRecovers : ℕ → Type 0
   NoneRecovers m = (index : ℕ) (value : ℤ) → ¬ RecoversAt index m value
 
-  -- the least time from 1 on, before the horizon, at which some value of the kind recovers, and the first value that does then
+  -- the least time from 1 on, before the horizon, at which some value of the kind recovers, and of the values that do then the one
+  -- that comes first: the least, or the nearest to the present value
   pub record IsLeast (r : Recovery) : Type 0 where
     pub index : ℕ
     pub some : 1 ≤ r.after
     pub before : r.after < p.horizon
     pub recovers : RecoversAt index r.after r.value
     pub none_sooner : (m : ℕ) → 1 ≤ m → m < r.after → NoneRecovers m
-    pub none_earlier : (i : ℕ) (value : ℤ) → i < index → ¬ RecoversAt i r.after value
+    pub first : (i : ℕ) (value : ℤ) → RecoversAt i r.after value → placed r.value ≤ℤ placed value
 
   -- that, or None: no value recovers at any time from 1 on before the horizon
   abbrev pub IsFound : Option Recovery → Type 0

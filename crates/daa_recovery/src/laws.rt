@@ -1,6 +1,6 @@
 //! Laws of the definitions, each the contract of a function that does nothing.
 
-ghost use Rattle.std.specs.Prelude.{◌≡◌, ◌≢◌, ◌≤◌, ◌↔◌, ℕ, ℤ, pos, ◌≤ℤ◌, ◌*ℤ◌, None, unsigned_abs};
+ghost use Rattle.std.specs.Prelude.{◌≡◌, ◌≢◌, ◌≤◌, ◌↔◌, ℕ, ℤ, pos, ◌≤ℤ◌, ◌*ℤ◌, None, unsigned_abs, false};
 ghost use Rattle.daa_fixed.specs.declared.Leg.{Leg};
 ghost use Rattle.daa_fixed.specs.Flat.{dot_of, square_of};
 ghost use Rattle.daa_taumod.specs.declared.Model.{Model};
@@ -13,7 +13,8 @@ ghost use Rattle.daa_config.specs.Settings.{Settings, IsAccepted};
 ghost use Rattle.daa_state.specs.declared.word.Picture.{Picture};
 ghost use Rattle.daa_state.specs.InRange.{IsPictureInRange};
 ghost use Rattle.daa_recovery.specs.OutlookState.{OutlookState};
-ghost use Rattle.daa_recovery.specs.Recovery.{Recovers, IsRecovery};
+ghost use Rattle.daa_recovery.specs.Recovery.{Recovers, RecoversAt, IsLeast, IsRecovery};
+ghost use Rattle.daa_recovery.specs.declared.recovery.Recovery.{Recovery};
 
 /// Under an accepted configuration that asks for it, a kind has exactly one recovery.
 pub fn has_one_recovery()
@@ -21,6 +22,14 @@ pub fn has_one_recovery()
         → IsPictureInRange p
         → settings.recovery ≢ None
         → HasOne (IsRecovery settings p kind) }
+{}
+
+/// A configuration that does not ask for the nearest value names the least of those that recover
+/// soonest.
+pub fn without_nearest_the_least_value_is_named()
+    ensures { (p : OutlookState) (kind : Kind) (r : Recovery) → p.settings.nearest ≡ false
+        → IsLeast p kind r
+        → (index : ℕ) (value : ℤ) → RecoversAt p kind index r.after value → r.value ≤ℤ value }
 {}
 
 /// What recovers at a second recovers at each later one.

@@ -4,10 +4,14 @@
 
 mod course;
 mod laws;
+mod order;
 mod outlook;
 mod recovery;
 
-pub use laws::{has_one_recovery, recovering_lasts, the_cylinder_is_what_is_near};
+pub use laws::{
+    has_one_recovery, recovering_lasts, the_cylinder_is_what_is_near,
+    without_nearest_the_least_value_is_named,
+};
 pub use recovery::{Recovery, least};
 
 #[cfg(test)]

@@ -1,6 +1,6 @@
 //! A configuration with a moment and the cylinder: which candidates recover, and when.
 
-ghost use Rattle.std.specs.Prelude.{◌≡◌, ◌↔◌, ◌<◌, ◌≤◌, ◌+◌, ℕ, IsTrue, Some, None, length, slice_get};
+ghost use Rattle.std.specs.Prelude.{◌≡◌, ◌↔◌, ◌<◌, ◌≤◌, ◌+◌, ℕ, int_lt, IsTrue, Some, None, length, slice_get};
 ghost use Rattle.daa_config.specs.Candidates.{values_of, candidate_to as to_value};
 ghost use Rattle.daa_config.specs.Settings.{IsAccepted, IsCandidateInRange};
 ghost use Rattle.daa_taumod.specs.Volume.{IsVolumeInRange};
@@ -9,14 +9,16 @@ ghost use Rattle.daa_state.specs.InRange.{IsPictureInRange, IsTrafficInRange};
 ghost use Rattle.daa_state.specs.Picture.{aircraft_of};
 ghost use Rattle.daa_recovery.specs.OutlookState.{IsHorizon};
 ghost use Rattle.daa_recovery.specs.Inside.OutlookState.{IsOutlook};
-ghost use Rattle.daa_recovery.specs.Recovery.{IsClosedFrom, IsInCylinder, IsClear, Recovers, IsFound};
-ghost use Rattle.daa_recovery.specs.Inside.Search.{IsCourse, IsFoundBelow, bound_of, IsLeastTime};
+ghost use Rattle.daa_recovery.specs.Recovery.{IsClosedFrom, IsInCylinder, IsClear, Recovers, IsFound, placed};
+ghost use Rattle.daa_recovery.specs.Inside.Search.{IsCourse, IsFoundBelow, IsBeforeHorizon, bound_for, IsLeastTime};
 
 use crate::course::Course;
+use crate::order::place;
 use crate::recovery::Recovery;
 use daa_config::{Candidate, Config, Kind};
 use daa_legs::{Trunk, branch_of};
 use daa_meet::meets_along;
+use daa_resolve::present;
 use daa_state::{Picture, Traffic};
 use daa_taumod::Volume;
 use std::marker::Model;
@@ -74,8 +76,8 @@ impl<'a> Outlook<'a> {
         }
     }
 
-    /// The least time after which a candidate of the kind recovers, and the first candidate that
-    /// does.
+    /// The least time after which a candidate of the kind recovers, and of the values that do then
+    /// the one that comes first.
     pub(crate) fn least(&self, kind: Kind) -> Option<Recovery>
         ensures { IsFound self.now kind result }
     {
@@ -95,20 +97,33 @@ impl<'a> Outlook<'a> {
     {
         let value = self.config.value(kind, index);
         let candidate = candidate_going_to(kind, &value);
-        match self.sooner_time(candidate, self.bound(&found)) {
+        match self.sooner_time(candidate, self.bound(kind, &found, &value)) {
             Some(after) => Some(Recovery { after, value }),
             None => found,
         }
     }
 
-    /// The time that the next candidate has to be below.
-    fn bound(&self, found: &Option<Recovery>) -> u32
-        ensures { result ≡ bound_of self.now found.now }
+    /// The time that a value has to be below: that of the best so far, or one more if the value
+    /// comes before it.
+    fn bound(&self, kind: Kind, found: &Option<Recovery>, value: &i32) -> u32
+        requires { IsBeforeHorizon self.now found.now }
+        ensures { result ≡ bound_for self.now kind found.now value.now }
     {
         match found {
-            Some(recovery) => recovery.after,
+            Some(best) if self.comes_before(kind, value, &best.value) => best.after + 1,
+            Some(best) => best.after,
             None => self.horizon,
         }
+    }
+
+    /// Whether the first of two values comes before the other in the order that the configuration
+    /// asks for.
+    fn comes_before(&self, kind: Kind, value: &i32, other: &i32) -> bool
+        ensures { result ≡ int_lt (placed self.now kind value.now)
+            (placed self.now kind other.now) }
+    {
+        let (nearest, now) = (self.config.nearest(), present(&self.picture.own, kind));
+        place(nearest, kind, &now, value) < place(nearest, kind, &now, other)
     }
 
     /// The least time below a bound at which the candidate recovers, if there is one.

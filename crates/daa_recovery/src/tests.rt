@@ -9,6 +9,7 @@ use super::*;
 use daa_config::examples::ONE_LEVEL;
 use daa_config::{Candidate, Config, Kind, read};
 use daa_meet::meets_between;
+use daa_resolve::present;
 use daa_state::examples::NORTH;
 use daa_state::{Moments, Picture, read_line};
 use daa_taumod::Volume;
@@ -204,6 +205,54 @@ fn recovers_plainly(
     true
 }
 
+/// How far a value is from the present one: on track the angle of its turn, else the difference.
+fn distance(kind: Kind, now: i32, value: i32) -> i64 {
+    let way = value as i64 - now as i64;
+    match kind {
+        Kind::Track => way.rem_euclid(360).min((-way).rem_euclid(360)),
+        _ => way.abs(),
+    }
+}
+
+/// Whether a value is nearer than another; of two at the same distance the right or the greater one
+/// counts as nearer.
+fn is_nearer(kind: Kind, now: i32, value: i32, other: i32) -> bool {
+    let (one, two) = (distance(kind, now, value), distance(kind, now, other));
+    if one != two {
+        return one < two;
+    }
+    match kind {
+        Kind::Track => (value as i64 - now as i64).rem_euclid(360) == one,
+        _ => value > now,
+    }
+}
+
+/// The nearest of the values of a kind that recover at second `m`, by trying each.
+fn nearest_plainly(
+    config: &Config,
+    picture: &Picture,
+    cylinder: &Volume,
+    kind: Kind,
+    m: u32,
+) -> Option<i32>
+    requires picture { IsPictureInRange picture.now }
+    requires cylinder { IsVolumeInRange cylinder.now }
+{
+    let now = present(&picture.own, kind);
+    let mut nearest = None;
+    for place in 0..config.count(kind) {
+        let candidate = config.candidate(config.start(kind) + place);
+        if recovers_plainly(config, picture, cylinder, 10, candidate, m) {
+            let value = config.value(kind, place);
+            nearest = match nearest {
+                Some(other) if !is_nearer(kind, now, value, other) => Some(other),
+                _ => Some(value),
+            };
+        }
+    }
+    nearest
+}
+
 /// The recovery of a kind by trying each second, and then each value.
 fn least_plainly(
     config: &Config,
@@ -280,6 +329,84 @@ fn recoveries_are_those_of_a_plain_search(rt: HostRuntime) -> Result<(), Fail> {
             let found = least(&config, &picture, kind);
             assert!(rt; found == least_plainly(&config, &picture, cylinder, kind));
         }
+    }
+    Ok(())
+}
+
+/// The same with the nearest value asked for: the second is that of the other rule.
+#[test]
+fn nearest_recoveries_are_those_of_a_plain_search(rt: HostRuntime) -> Result<(), Fail> {
+    let config = config_of(
+        &rt,
+        ONE_LEVEL,
+        "track_step = 90",
+        "track_step = 10\nrecovery = { hdist = 250, vdist = 150, nearest = 1 }",
+    )?;
+    let Some(cylinder) = config.recovery() else {
+        return Err("a recovery".into());
+    };
+    for lines in &MOMENTS {
+        let picture = picture_in(lines).ok_or("a picture")?;
+        for kind in KINDS {
+            let Some(first) = least_plainly(&config, &picture, cylinder, kind) else {
+                assert!(rt; least(&config, &picture, kind).is_none());
+                continue;
+            };
+            let nearest = nearest_plainly(&config, &picture, cylinder, kind, first.after);
+            let wanted = nearest.map(|value| Recovery {
+                after: first.after,
+                value,
+            });
+            assert!(rt; least(&config, &picture, kind) == wanted);
+        }
+    }
+    Ok(())
+}
+
+/// Tables of a recovery, an aircraft beside the ownship, which flies north, and the track that is
+/// named after 6 seconds: to the right of an aircraft on the left both rules name 30.
+static TRACKS: [(&str, &str, i32); 4] = [
+    (
+        "recovery = { hdist = 300, vdist = 100 }",
+        "traffic A 400 100 1000 0 0 0 0",
+        210,
+    ),
+    (
+        "recovery = { hdist = 300, vdist = 100, nearest = 1 }",
+        "traffic A 400 100 1000 0 0 0 0",
+        330,
+    ),
+    (
+        "recovery = { hdist = 300, vdist = 100, nearest = 0 }",
+        "traffic A -400 100 1000 0 0 0 0",
+        30,
+    ),
+    (
+        "recovery = { hdist = 300, vdist = 100, nearest = 1 }",
+        "traffic A -400 100 1000 0 0 0 0",
+        30,
+    ),
+];
+
+#[test]
+fn the_nearest_track(rt: HostRuntime) -> Result<(), Fail> {
+    let steps = ONE_LEVEL.replacen(rt.alloc(), "track_step = 90", "track_step = 30", 1)?;
+    let text = steps.replacen(rt.alloc(), "tthr = 35", "tthr = 0", 1)?;
+    for (recovery, aircraft, track) in &TRACKS {
+        let asked = format!(in rt.alloc(); "{recovery}\nturn_rate")?;
+        let config = config_of(&rt, text.as_str(), "turn_rate", asked.as_str())?;
+        let picture = picture_in(&["moment 0", NORTH, aircraft, "end"]).ok_or("a picture")?;
+        if config.recovery().is_none() {
+            return Err("a recovery".into());
+        }
+        let wanted = Some(Recovery {
+            after: 6,
+            value: *track,
+        });
+        assert!(rt;
+            least(&config, &picture, Kind::Track) == wanted,
+            "{recovery}, {aircraft}"
+        );
     }
     Ok(())
 }

@@ -48,7 +48,7 @@ module _ (now : ℤ) (a b : ℕ) (few_a : a ≤ 359) (few_b : b ≤ 359) where
       let r = sym (int_rem_euclid_is (now -ℤ pos a) (pos 360) 360 turns m (omega arith) refl x) ∙ e ∙ int_rem_euclid_is (now -ℤ pos b) (pos 360) 360 turns n (omega arith) refl y in
       sym (same_turn b a m n (omega (arith, ints, x, y)) (same_pos _ _ r) few_b few_a)
 
-turn_only : (side : Side) (now : ℤ) (a b : ℕ) → a ≤ 359 → b ≤ 359 → distance_of Track side now (pos a) ≡ distance_of Track side now (pos b) → a ≡ b
+pub turn_only : (side : Side) (now : ℤ) (a b : ℕ) → a ≤ 359 → b ≤ 359 → distance_of Track side now (pos a) ≡ distance_of Track side now (pos b) → a ≡ b
 turn_only Upper now a b h k e = up_only now a b h k e
 turn_only Lower now a b h k e = down_only now a b h k e
 

@@ -18,8 +18,8 @@ pub enum Side {
     Upper,
 }
 
-/// The ownship's present value of a kind.
-pub(crate) fn present(own: &Own, kind: Kind) -> i32
+/// The ownship's present value of a kind: its track, ground speed, vertical speed or altitude.
+pub fn present(own: &Own, kind: Kind) -> i32
     ensures { result ≡ present_of kind own.now }
 {
     match kind {

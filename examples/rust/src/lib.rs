@@ -199,9 +199,10 @@ impl Config {
         Config(raw::Config { resolve, turn_rate, track_step, gs, vs, alt, count, level, ..Default::default() }).checked()
     }
 
-    /// The same configuration with a recovery that stays out of this cylinder (0.001 NM, ft).
-    pub fn with_recovery(mut self, hdist: i64, vdist: i64) -> Result<Config, Refused> {
-        (self.0.recovery, self.0.hdist, self.0.vdist) = (1, hdist, vdist);
+    /// The same configuration with a recovery that stays out of this cylinder (0.001 NM, ft). `nearest`: whether, of the values
+    /// that recover soonest, the one nearest to the present value is named, and not the first.
+    pub fn with_recovery(mut self, hdist: i64, vdist: i64, nearest: bool) -> Result<Config, Refused> {
+        (self.0.recovery, self.0.hdist, self.0.vdist, self.0.nearest) = (1, hdist, vdist, nearest as i64);
         self.checked()
     }
 
@@ -235,7 +236,7 @@ impl Moment {
             config: config.0,
             own: *own,
             traffic: traffic.iter().map(c_traffic).collect(),
-            board: Box::new(raw::Board { mask: [0; 2048], mark: [0; 45] }),
+            board: Box::new(raw::Board { mask: [0; 2048], mark: [0; 46] }),
         };
         moment.refuse(traffic)?;
         let Moment { config, own, traffic, board } = &mut moment;

@@ -13,6 +13,7 @@ pub struct Config {
     pub recovery: u64,
     pub hdist: i64,
     pub vdist: i64,
+    pub nearest: i64,
     pub count: u64,
     pub level: [Level; 4],
 }
@@ -51,7 +52,7 @@ pub struct Fault {
 #[repr(C)]
 pub struct Board {
     pub mask: [u8; 2048],
-    pub mark: [i64; 45],
+    pub mark: [i64; 46],
 }
 
 #[repr(C)]

@@ -584,3 +584,32 @@ fn recoveries(rt: HostRuntime) -> Result<(), Fail> {
     }
     Ok(())
 }
+
+/// A table of a recovery that asks for the nearest value.
+const ASKING: &str = "recovery = { hdist = 1, vdist = 0, nearest = 1 }
+turn_rate = 3
+";
+
+/// Edits of a text that asks for the nearest value.
+static ASKED: [(&str, &str, u8); 11] = [
+    ("nearest = 1", "nearest = 1", 0),
+    ("nearest = 1", "nearest = 0", 0),
+    (", nearest = 1", "", 0),
+    ("nearest = 1", "nearest = 2", 6),
+    ("nearest = 1", "nearest = -1", 6),
+    ("nearest = 1", "nearest = true", 5),
+    ("nearest = 1", "nearest = 1.0", 5),
+    ("nearest = 1", "nearest = \"1\"", 5),
+    ("hdist = 1, vdist = 0, ", "", 4),
+    ("nearest = 1", "Nearest = 1", 3),
+    ("turn_rate = 3", "nearest = 1\nturn_rate = 3", 3),
+];
+
+#[test]
+fn what_is_asked(rt: HostRuntime) -> Result<(), Fail> {
+    let asking = edited(rt.alloc(), ONE_LEVEL, "turn_rate = 3\n", ASKING)?;
+    for edit in &ASKED {
+        expect_edited(&rt, asking.as_str(), edit)?;
+    }
+    Ok(())
+}

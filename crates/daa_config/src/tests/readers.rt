@@ -258,3 +258,26 @@ fn the_cylinder(rt: HostRuntime) -> Result<(), Fail> {
     assert!(rt; *cylinder == CYLINDER);
     Ok(())
 }
+
+/// What stands before a text's `turn_rate`, and whether the nearest value is asked for.
+static ASKED: [(&str, bool); 4] = [
+    ("turn_rate", false),
+    ("recovery = { hdist = 1, vdist = 1 }\nturn_rate", false),
+    (
+        "recovery = { hdist = 1, vdist = 1, nearest = 0 }\nturn_rate",
+        false,
+    ),
+    (
+        "recovery = { hdist = 1, vdist = 1, nearest = 1 }\nturn_rate",
+        true,
+    ),
+];
+
+#[test]
+fn what_is_asked(rt: HostRuntime) -> Result<(), Fail> {
+    for (text, nearest) in &ASKED {
+        let config = edited(rt.alloc(), "turn_rate", text)?;
+        assert!(rt; config.nearest() == *nearest, "{text}");
+    }
+    Ok(())
+}

@@ -1,12 +1,12 @@
 -- What the search for a recovery keeps, and how far it has come: helpers of private functions.
-use Rattle.std.specs.Prelude.{ℕ, ℤ, ◌≡◌, ◌≤◌, ◌<◌, ◌+◌, Option, Some, None}
+use Rattle.std.specs.Prelude.{ℕ, ℤ, ◌≡◌, ◌≤◌, ◌<◌, ◌+◌, ◌≤ℤ◌, int_lt, if◌then◌else◌, Option, Some, None}
 use Rattle.daa_config.specs.declared.candidate.Candidate.{Candidate}
 use Rattle.daa_config.specs.declared.kind.Kind.{Kind}
 use Rattle.daa_config.specs.Settings.{IsCandidateInRange, rates_of}
 use Rattle.daa_legs.specs.Branch.{FliesOn}
 use Rattle.daa_legs.specs.Trunk.{AreLegsOf}
 use Rattle.daa_recovery.specs.OutlookState.{OutlookState}
-use Rattle.daa_recovery.specs.Recovery.{Recovers, RecoversAt}
+use Rattle.daa_recovery.specs.Recovery.{Recovers, RecoversAt, placed}
 use Rattle.daa_recovery.specs.declared.recovery.Recovery.{Recovery}
 use Rattle.daa_recovery.specs.declared.course.Course.{Course}
 
@@ -16,20 +16,30 @@ pub record IsCourse (p : OutlookState) (course : Course) : Type 0 where
   pub legs : AreLegsOf p.picture.own (rates_of p.settings) course.candidate p.horizon course.legs
   pub straight : FliesOn p.picture.own (rates_of p.settings) course.candidate course.settles
 
--- the time that the next candidate has to be below
+-- the time below which no value so far recovers
 abbrev pub bound_of : OutlookState → Option Recovery → ℕ
 bound_of p (Some r) = r.after
 bound_of p None = p.horizon
 
+-- what was found, if anything, recovers before the horizon
+abbrev pub IsBeforeHorizon : OutlookState → Option Recovery → Type 0
+IsBeforeHorizon p (Some r) = r.after < p.horizon
+IsBeforeHorizon p None = Unit {0}
+
 module _ (p : OutlookState) (kind : Kind) where
-  -- the index of the value is below count, it recovers, and none before it does at that time
+  -- the time that the next value has to be below: that of the best so far, or one more where the next comes first of the two
+  abbrev pub bound_for : Option Recovery → ℤ → ℕ
+  bound_for None value = p.horizon
+  bound_for (Some r) value = if int_lt (placed p kind value) (placed p kind r.value) then r.after + 1 else r.after
+
+  -- the index of the value is below count, it recovers, and it comes first of those below count that do at that time
   pub record IsFirst (count : ℕ) (r : Recovery) : Type 0 where
     pub index : ℕ
     pub below : index < count
     pub some : 1 ≤ r.after
     pub before : r.after < p.horizon
     pub recovers : RecoversAt p kind index r.after r.value
-    pub none_earlier : (i : ℕ) (value : ℤ) → i < index → ¬ RecoversAt p kind i r.after value
+    pub first : (i : ℕ) (value : ℤ) → i < count → RecoversAt p kind i r.after value → placed p kind r.value ≤ℤ placed p kind value
 
   -- what was found, if anything, is the first value that recovers at its time
   abbrev pub IsFirstFound : (count : ℕ) → Option Recovery → Type 0

@@ -1,6 +1,6 @@
-use Rattle.std.proofs.Common.{◌≡◌, false, rules, pos, refl}
+use Rattle.std.proofs.Common.{◌≡◌, rules, pos, refl}
 use Rattle.daa_config.specs.Inside.Rows.{row_by}
-use Rattle.daa_config.specs.Rows.{number}
+use Rattle.daa_config.specs.Rows.{number, optional}
 use Rattle.daa_config.proofs.rows.level_rows.Goals as goal
 
 pub returns : goal.returns
@@ -12,5 +12,5 @@ returns c =
     let tcoa : row_by c.number-4.result ≡ number "tcoa" (pos 0) (pos 120) l.tcoa = search rules in
     let look : row_by c.number-5.result ≡ number "lookahead" (pos 1) (pos 180) l.lookahead = search rules in
     let warn : row_by c.number-6.result ≡ number "alert" (pos 1) (pos 180) l.alert = search rules in
-    let tcpa : row_by (record c.number-7.result { needed = false }) ≡ record (number "tcpa" (pos 0) (pos 1) l.tcpa) { needed = false } = search rules in
+    let tcpa : row_by c.optional.result ≡ optional "tcpa" (pos 1) l.tcpa = search rules in
     rw (dthr, zthr, tthr, tcoa, look, warn, tcpa) refl

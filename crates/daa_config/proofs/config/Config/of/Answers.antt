@@ -1,5 +1,5 @@
-use Rattle.std.proofs.Common.{List, map, Option, option_map, sym, subst}
-use Rattle.daa_config.specs.Level.{cylinder_of}
+use Rattle.std.proofs.Common.{Bool, List, Option, option_map, sym, subst}
+use Rattle.daa_config.specs.Level.{cylinder_of, asks_nearest}
 use Rattle.daa_taumod.specs.declared.Volume.{Volume}
 use Rattle.daa_config.specs.declared.level.Level.{Level}
 use Rattle.daa_config.specs.Settings.{IsAccepted}
@@ -24,7 +24,9 @@ new-requires c =
     let n = c.args.numbers.now in
     let w : Written = record { numbers = n; recovery = c.args.recovery.now; levels = c.args.levels.now } in
     let e = c.in_ok-test.ensures in
-    subst (λ (recovery : Option Volume). IsAccepted (record { numbers = n; recovery = recovery; levels = c.all_in_units-levels.result.items }))
+    subst (λ (recovery : Option Volume). IsAccepted (record { numbers = n; recovery = recovery; nearest = c.names_nearest-nearest.result; levels = c.all_in_units-levels.result.items }))
     (sym c.cylinder_in_units-recovery.ensures)
-    (subst (λ (levels : List Level). IsAccepted (record { numbers = n; recovery = option_map cylinder_of c.args.recovery.now; levels = levels }))
-    (sym c.all_in_units-levels.ensures) (accepted w e.fit e.divides e.counted e.few))
+    (subst (λ (nearest : Bool). IsAccepted (record { numbers = n; recovery = option_map cylinder_of c.args.recovery.now; nearest = nearest; levels = c.all_in_units-levels.result.items }))
+    (sym c.names_nearest-nearest.ensures)
+    (subst (λ (levels : List Level). IsAccepted (record { numbers = n; recovery = option_map cylinder_of c.args.recovery.now; nearest = asks_nearest c.args.recovery.now; levels = levels }))
+    (sym c.all_in_units-levels.ensures) (accepted w e.fit e.divides e.counted e.few)))

@@ -4,9 +4,8 @@ use Rattle.std.proofs.lemmas.Int.{to_z-of_z}
 use Rattle.daa_config.specs.declared.candidate.Candidate.{Candidate}
 use Rattle.daa_config.specs.Candidates.{values_of, candidate_to}
 use Rattle.daa_recovery.specs.OutlookState.{OutlookState}
-use Rattle.daa_recovery.specs.Inside.Search.{bound_of, IsFoundBelow, IsLeastTime}
-use Rattle.daa_recovery.specs.declared.recovery.Recovery.{Recovery}
-use Rattle.daa_recovery.proofs.Searching.{found_kept, found_sooner}
+use Rattle.daa_recovery.specs.Inside.Search.{bound_for, IsFoundBelow, IsLeastTime}
+use Rattle.daa_recovery.proofs.Searching.{before_horizon, found_kept, found_sooner}
 use Rattle.daa_recovery.proofs.outlook.Outlook.try_value.Goals as goal
 
 -- the same under other names
@@ -21,7 +20,7 @@ returns-in-Some c =
     let back : to_z w32 (of_z w32 v) ≡ v = to_z-of_z w32 v f in
     let p = c.args.self.now in
     let there = subst (λ (q : OutlookState). slice_get (values_of c.args.kind q.settings) c.args.index ≡ Some v) c.self.view_is c.value-value.ensures.value in
-    let t = renamed p _ (candidate_to c.args.kind v) _ (bound_of p c.args.found) _ (Some c.in-Some.after) (c.candidate_going_to-candidate.ensures ∙ ap (candidate_to c.args.kind) back) c.bound.ensures c.in-Some.is c.sooner_time.ensures in
+    let t = renamed p _ (candidate_to c.args.kind v) _ (bound_for p c.args.kind c.args.found v) _ (Some c.in-Some.after) (c.candidate_going_to-candidate.ensures ∙ ap (candidate_to c.args.kind) back) (c.bound.ensures ∙ ap (bound_for p c.args.kind c.args.found) back) c.in-Some.is c.sooner_time.ensures in
     subst (λ (z : ℤ). IsFoundBelow p c.args.kind (c.args.index + 1) (Some (record { after = c.in-Some.after; value = z }))) (sym back)
     (found_sooner p c.args.kind c.args.index v there c.args.found c.in-Some.after c.requires.found t)
 
@@ -32,5 +31,8 @@ returns-in-None c =
     let back : to_z w32 (of_z w32 v) ≡ v = to_z-of_z w32 v f in
     let p = c.args.self.now in
     let there = subst (λ (q : OutlookState). slice_get (values_of c.args.kind q.settings) c.args.index ≡ Some v) c.self.view_is c.value-value.ensures.value in
-    let t = renamed p _ (candidate_to c.args.kind v) _ (bound_of p c.args.found) _ None (c.candidate_going_to-candidate.ensures ∙ ap (candidate_to c.args.kind) back) c.bound.ensures c.in-None.is c.sooner_time.ensures in
+    let t = renamed p _ (candidate_to c.args.kind v) _ (bound_for p c.args.kind c.args.found v) _ None (c.candidate_going_to-candidate.ensures ∙ ap (candidate_to c.args.kind) back) (c.bound.ensures ∙ ap (bound_for p c.args.kind c.args.found) back) c.in-None.is c.sooner_time.ensures in
     found_kept p c.args.kind c.args.index v there c.args.found c.requires.found t
+
+pub bound-requires : goal.bound-requires
+bound-requires c = before_horizon c.args.self.now c.args.kind c.args.index c.args.found c.requires.found.first
