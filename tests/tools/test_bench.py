@@ -9,7 +9,7 @@ from common import TOP, ToolTest, program
 WORST = os.path.join(TOP, "bench", "worst_moments", "decide")
 # the words that make each script do little, and the end of what it then says
 SCRIPTS = {
-    "run": (["--moments", "20", "--megabytes", "1"], "the same bytes for every number of workers, and no moment too slow\n"),
+    "run": (["--moments", "20", "--megabytes", "1", "--runs", "1"], "the same bytes for every number of workers, and no moment too slow\n"),
     "reading": (["--megabytes", "1", "--runs", "1"], "the same bytes each time\n"),
     "worst": (["--measure", WORST], " KiB\n"),
     "refuse_memory": (["--built", "--upto", "40"],

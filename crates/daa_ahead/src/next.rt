@@ -22,6 +22,7 @@ pub fn read_next<S: Source>(source: &mut S, buf: &mut [u8], most: u64) -> Next
     ensures is { NextIs result most buf.new (stream_state (S.left source.old) (S.faults source.old))
         (stream_state (S.left source.new) (S.faults source.new)) }
     ensures never_falls { S.faults source.old ≤ S.faults source.new }
+    ensures same_size { length buf.new ≡ length buf.old }
 {
     if most == 0 {
         return Next::Over(read_past(source, &mut buf[..1]));

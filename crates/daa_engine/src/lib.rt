@@ -16,7 +16,7 @@ mod say;
 mod together;
 
 pub use alone::{decide_in, report_in, say_moment};
-pub use beside::{Slot, decide_beside};
+pub use beside::{Slot, decide_beside, weight_of, workers_for};
 pub use daa_schedule::NoMemory;
 pub use engine::Engine;
 pub use laws::{

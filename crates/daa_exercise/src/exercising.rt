@@ -20,8 +20,8 @@ use daa_state::{Own, Picture};
 use std::alloc::Global;
 use std::thread::Threads;
 
-/// How many moments are decided beside one another at most.
-const MOST_SLOTS: usize = 256;
+/// How many moments are decided beside one another at most. They take some 5 MB.
+const MOST_SLOTS: u32 = 1024;
 
 /// A slot for a moment that is still to be drawn.
 fn empty_slot() -> Slot {
@@ -42,14 +42,16 @@ fn empty_slot() -> Slot {
     }
 }
 
-/// Slots for moments that are decided beside one another: none with one worker or without memory.
-fn slots_in(alloc: Global, workers: u32) -> Vec<Slot> {
+/// Slots for so many moments, which are decided beside one another: none with one worker or without
+/// memory.
+fn slots_in(alloc: Global, workers: u32, moments: u32) -> Vec<Slot> {
     if workers < 2 {
         return Vec::new(alloc);
     }
-    match Vec::with_capacity(alloc, MOST_SLOTS) {
+    let count = moments.min(MOST_SLOTS);
+    match Vec::with_capacity(alloc, count as usize) {
         Ok(mut slots) => {
-            for _place in 0..MOST_SLOTS {
+            for _place in 0..count {
                 let _added = slots.push(empty_slot());
             }
             slots
@@ -88,7 +90,7 @@ fn count_slots(counts: &mut Counts, config: &Config, slots: &[Slot], seed: u32, 
 }
 
 /// Draws a moment for each slot, decides them beside one another, and counts them.
-fn exercise_slots<R: Threads + Sync>(
+fn exercise_slots<R: Threads + Sync, G: Gate>(
     rt: &R,
     config: &Config,
     workers: usize,
@@ -97,6 +99,7 @@ fn exercise_slots<R: Threads + Sync>(
     slots: &mut [Slot],
     seed: u32,
     time: u32,
+    gate: &G,
 )
     requires workers { 0 < workers }
     requires at { IsAt config.now seed time draws.old counts.old }
@@ -104,7 +107,7 @@ fn exercise_slots<R: Threads + Sync>(
     ensures { IsAt config.now seed (time + length slots.old) draws.new counts.new }
 {
     draw_slots(draws, slots, seed, time);
-    decide_beside(rt, config, slots, workers);
+    decide_beside(rt, config, slots, workers, gate);
     count_slots(counts, config, slots, seed, time);
 }
 
@@ -164,6 +167,7 @@ fn exercise_some<R: Threads + Sync, G: Gate>(
         &mut slots[..count],
         seed,
         time,
+        gate,
     );
     time + count as u32
 }
@@ -192,7 +196,7 @@ pub fn exercise<R: Threads + Sync, K: Sink, G: Gate>(
     let top = engine.config().levels();
     let mut draws = Draws::of(seed);
     let mut counts = Counts::new();
-    let mut slots = slots_in(alloc, engine.workers());
+    let mut slots = slots_in(alloc, engine.workers(), moments);
     let mut time = 0;
     while time < moments {
         time = exercise_some(

@@ -150,10 +150,10 @@ impl Gate for Counter {
 }
 
 /// The first moment has two aircraft, both in reach, each of which is one unit of work. One thread
-/// passes no gate, and neither do moments that are decided beside one another.
+/// passes no gate; of moments that are decided beside one another each is one unit.
 #[test]
-fn the_gate_is_passed_for_a_moment_alone(rt: HostRuntime) -> Result<(), Fail> {
-    for (workers, moments, passes) in [(1, 1, 0), (1, 3, 0), (2, 1, 2), (2, 3, 0)] {
+fn the_gate_is_passed_once_for_each_unit(rt: HostRuntime) -> Result<(), Fail> {
+    for (workers, moments, passes) in [(1, 1, 0), (1, 3, 0), (2, 1, 2), (2, 3, 3)] {
         assert!(rt; 0 < workers && workers <= 16 && moments <= 10000);
         let config = read(rt.alloc(), ONE_LEVEL.as_bytes())?;
         let mut engine = Engine::new(rt.alloc(), config, workers)?;

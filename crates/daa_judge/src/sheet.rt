@@ -1,14 +1,14 @@
 //! A sink of fixed room, which fails only where it is full.
 
 ghost use Rattle.std.specs.Prelude.{◌≡◌, ◌≤◌, ◌<◌, ◌+◌, ◌++◌, [], IfOk, length, take};
-ghost use Rattle.daa_judge.specs.Sheet.{IsSheet};
+ghost use Rattle.daa_judge.specs.Sheet.{IsSheet, sheet_room};
 
 use daa_outside::{Failed, Sink};
 use std::alloc::Global;
 use std::marker::Model;
 use thiserror::Error;
 
-/// How many bytes a sheet has room for.
+/// How many bytes a sheet has room for at least: one more than the text of a moment has at most.
 const ROOM: usize = 130177;
 
 /// There was no memory for a sheet.
@@ -16,7 +16,7 @@ const ROOM: usize = 130177;
 #[error("there was no memory for a sheet")]
 pub struct NoMemory;
 
-/// A sheet with room for 130177 bytes.
+/// A sheet with room for 130177 bytes or more.
 #[derive(Drop)]
 pub struct Sheet {
     space: Vec<u8>,
@@ -30,18 +30,31 @@ impl Model for Sheet {
 
     ghost Value = { SheetState };
 
-    ghost view = { λ s. record { text = take s.used s.space.items; faults = s.faults } };
+    ghost view = { λ s. record {
+      text = take s.used s.space.items;
+      faults = s.faults;
+      room = vec_len s.space;
+    } };
 
-    ghost invariant = { λ s. (vec_len s.space ≡ sheet_room) × (s.used ≤ sheet_room)
-        × (0 < s.faults → s.used ≡ sheet_room) };
+    ghost invariant = { λ s. (sheet_room ≤ vec_len s.space) × (s.used ≤ vec_len s.space)
+        × (0 < s.faults → s.used ≡ vec_len s.space) };
 }
 
 impl Sheet {
-    /// A sheet with nothing on it.
+    /// A sheet with nothing on it, and room for 130177 bytes.
     pub fn new(alloc: Global) -> Result<Sheet, NoMemory>
-        ensures { IfOk result (λ sheet. sheet ≡ record { text = []; faults = 0 }) }
+        ensures { IfOk result
+            (λ sheet. sheet ≡ record { text = []; faults = 0; room = sheet_room }) }
     {
-        match vec![in alloc; 0u8; ROOM] {
+        Sheet::with_room(alloc, ROOM)
+    }
+
+    /// A sheet with nothing on it, and room for so many bytes.
+    pub fn with_room(alloc: Global, room: usize) -> Result<Sheet, NoMemory>
+        requires { sheet_room ≤ room }
+        ensures { IfOk result (λ sheet. sheet ≡ record { text = []; faults = 0; room = room }) }
+    {
+        match vec![in alloc; 0u8; room] {
             Ok(space) => Ok(Sheet {
                 space,
                 used: 0,
@@ -62,7 +75,7 @@ impl Sheet {
     /// Takes back all but its first bytes, and forgets the writes that failed.
     pub fn cut(&mut self, len: usize)
         requires { len ≤ length self.old.text }
-        ensures { self.new ≡ record { text = take len self.old.text; faults = 0 } }
+        ensures { self.new ≡ record self.old { text = take len self.old.text; faults = 0 } }
     {
         self.used = len;
         self.faults = 0;
@@ -70,7 +83,7 @@ impl Sheet {
 
     /// Empties it.
     pub fn clear(&mut self)
-        ensures { self.new ≡ record { text = []; faults = 0 } }
+        ensures { self.new ≡ record self.old { text = []; faults = 0 } }
     {
         self.used = 0;
         self.faults = 0;

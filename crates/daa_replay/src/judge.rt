@@ -15,28 +15,22 @@ ghost use Rattle.daa_replay.specs.Inside.Run.{Judges};
 ghost use Rattle.daa_replay.specs.Inside.Status.{code_of};
 
 use crate::lines::{Event, take_end, take_event};
-use crate::moment::{Tools, write_event};
+use crate::moment::write_event_alone;
 use crate::replay::{Progress, any_refusal, begin};
 use crate::status::{Status, status_of};
 use daa_engine::Engine;
 use daa_judge::{Found, Matching, Sheet};
-use daa_outside::{Gate, Sink, Source};
+use daa_outside::{Sink, Source};
 use daa_report::{differs, same};
-use std::thread::Threads;
 
 /// Writes the text of an event, and nothing else, on the sheet, which has room for it.
-fn sheet_event<R: Threads + Sync, G: Gate>(
-    tools: &Tools<'_, R, G>,
-    engine: &mut Engine,
-    sheet: &mut Sheet,
-    event: &Event,
-)
+fn sheet_event(engine: &mut Engine, sheet: &mut Sheet, event: &Event)
     requires { IsEventInRange event.now }
     ensures same { engine.new.settings ≡ engine.old.settings }
     ensures written { IsEventText engine.old.settings event.now sheet.new.text }
 {
     sheet.clear();
-    let _said = write_event(tools, engine, sheet, event);
+    let _said = write_event_alone(engine, sheet, event);
     // its clause says that a write to it failed only if it is full
     let _text = sheet.text();
 }
@@ -55,8 +49,7 @@ fn stop_of(found: Found) -> Result<(), Found>
 }
 
 /// Compares the text of an event with what the source hands out.
-fn judge_event<R: Threads + Sync, S: Source, G: Gate>(
-    tools: &Tools<'_, R, G>,
+fn judge_event<S: Source>(
     engine: &mut Engine,
     sheet: &mut Sheet,
     source: &mut S,
@@ -73,13 +66,12 @@ fn judge_event<R: Threads + Sync, S: Source, G: Gate>(
         (stream_state (S.left source.new) (S.faults source.new)) }
     ensures stops { Stops result }
 {
-    sheet_event(tools, engine, sheet, event);
+    sheet_event(engine, sheet, event);
     stop_of(matching.compare(source, sheet.text()))
 }
 
 /// Takes the line that is ready, if there is one, and compares the text of its event.
-fn judge_line<R: Threads + Sync, S: Source, G: Gate>(
-    tools: &Tools<'_, R, G>,
+fn judge_line<S: Source>(
     engine: &mut Engine,
     sheet: &mut Sheet,
     source: &mut S,
@@ -106,14 +98,13 @@ fn judge_line<R: Threads + Sync, S: Source, G: Gate>(
         None => Ok(()),
         Some(event) => {
             progress.any_refused = any_refusal(progress.any_refused, &event);
-            judge_event(tools, engine, sheet, source, matching, &event)
+            judge_event(engine, sheet, source, matching, &event)
         }
     }
 }
 
 /// Feeds a piece of the states, and compares the texts of the lines that it ends.
-fn judge_piece<R: Threads + Sync, S: Source, G: Gate>(
-    tools: &Tools<'_, R, G>,
+fn judge_piece<S: Source>(
     engine: &mut Engine,
     sheet: &mut Sheet,
     source: &mut S,
@@ -143,7 +134,7 @@ fn judge_piece<R: Threads + Sync, S: Source, G: Gate>(
     let mut done = 0;
     while done < piece.len() {
         done += progress.lines.feed(&piece[done..]);
-        match judge_line(tools, engine, sheet, source, matching, progress) {
+        match judge_line(engine, sheet, source, matching, progress) {
             Ok(()) => {}
             Err(found) => return Err(found),
         }
@@ -152,8 +143,7 @@ fn judge_piece<R: Threads + Sync, S: Source, G: Gate>(
 }
 
 /// The states are over: compares what their last line gives, and what their end gives.
-fn judge_end<R: Threads + Sync, S: Source, G: Gate>(
-    tools: &Tools<'_, R, G>,
+fn judge_end<S: Source>(
     engine: &mut Engine,
     sheet: &mut Sheet,
     source: &mut S,
@@ -177,16 +167,15 @@ fn judge_end<R: Threads + Sync, S: Source, G: Gate>(
         (stream_state (S.left source.new) (S.faults source.new)))) }
 {
     progress.lines.end();
-    judge_line(tools, engine, sheet, source, matching, progress)?;
+    judge_line(engine, sheet, source, matching, progress)?;
     match take_end(&progress.lines, &progress.moments) {
         None => Ok(()),
-        Some(event) => judge_event(tools, engine, sheet, source, matching, &event),
+        Some(event) => judge_event(engine, sheet, source, matching, &event),
     }
 }
 
 /// Compares the whole report of the states.
-fn judge_states<R: Threads + Sync, S: Source, G: Gate>(
-    tools: &Tools<'_, R, G>,
+fn judge_states<S: Source>(
     engine: &mut Engine,
     sheet: &mut Sheet,
     source: &mut S,
@@ -209,24 +198,15 @@ fn judge_states<R: Threads + Sync, S: Source, G: Gate>(
         (stream_state (S.left source.new) (S.faults source.new))) }
 {
     let mut progress = begin();
-    match judge_piece(
-        tools,
-        engine,
-        sheet,
-        source,
-        matching,
-        &mut progress,
-        states,
-    ) {
-        Ok(()) => judge_end(tools, engine, sheet, source, matching, &mut progress),
+    match judge_piece(engine, sheet, source, matching, &mut progress, states) {
+        Ok(()) => judge_end(engine, sheet, source, matching, &mut progress),
         Err(found) => Err(found),
     }
 }
 
 /// Compares the bytes of the source, of which at most `most` are read, with the report of
 /// the states.
-fn judge_all<R: Threads + Sync, S: Source, G: Gate>(
-    tools: &Tools<'_, R, G>,
+fn judge_all<S: Source>(
     engine: &mut Engine,
     sheet: &mut Sheet,
     source: &mut S,
@@ -243,7 +223,7 @@ fn judge_all<R: Threads + Sync, S: Source, G: Gate>(
     // its clause says that the configuration is accepted
     let _config = engine.config();
     let mut matching = Matching::new(most);
-    match judge_states(tools, engine, sheet, source, &mut matching, states) {
+    match judge_states(engine, sheet, source, &mut matching, states) {
         Ok(()) => matching.end(source),
         Err(found) => found,
     }
@@ -251,8 +231,7 @@ fn judge_all<R: Threads + Sync, S: Source, G: Gate>(
 
 /// Compares the bytes of the source, of which at most `most` are read, with the report of the
 /// states, and writes the result.
-pub(crate) fn run_judge<R: Threads + Sync, S: Source, K: Sink, G: Gate>(
-    tools: &Tools<'_, R, G>,
+pub(crate) fn run_judge<S: Source, K: Sink>(
     engine: &mut Engine,
     sheet: &mut Sheet,
     source: &mut S,
@@ -268,7 +247,7 @@ pub(crate) fn run_judge<R: Threads + Sync, S: Source, K: Sink, G: Gate>(
         (outside after (stream_state (S.left source.new) (S.faults source.new))
         (stream_state (K.taken sink.new) (K.faults sink.new))) states.now }
 {
-    match judge_all(tools, engine, sheet, source, states, most) {
+    match judge_all(engine, sheet, source, states, most) {
         Found::Alike => status_of(same(sink), Status::Accepted),
         Found::Differs(line) => status_of(differs(sink, line), Status::Refused),
         Found::Fault => Status::SourceFault,

@@ -51,3 +51,22 @@ pub(crate) fn write_event<R: Threads + Sync, K: Sink, G: Gate>(
         Event::Ended(picture) => engine.report(tools.rt, tools.alloc, picture, sink, tools.gate),
     }
 }
+
+/// The same, in the caller's thread.
+pub(crate) fn write_event_alone<K: Sink>(
+    engine: &mut Engine,
+    sink: &mut K,
+    event: &Event,
+) -> Result<(), SinkFault>
+    requires { IsEventInRange event.now }
+    ensures kept { engine.new.settings ≡ engine.old.settings }
+    ensures short { (text : Text) → IsEventText engine.old.settings event.now text
+        → length text ≤ longest_moment }
+    ensures says { SaysSome (IsEventText engine.old.settings event.now) (K.taken sink.old)
+        (K.taken sink.new) (K.faults sink.old) (K.faults sink.new) result }
+{
+    match event {
+        Event::Refused(number, fault) => write_refusal(sink, *number, fault.code()),
+        Event::Ended(picture) => engine.report_alone(picture, sink),
+    }
+}

@@ -146,7 +146,6 @@ pub(crate) fn run_work<R: Threads + Sync, S: Source + Send, K: Sink + Send, G: G
             status_of(said, Status::Accepted)
         }
         Work::Judge { states, mut sheet } => run_judge(
-            tools,
             &mut engine,
             &mut sheet,
             source,

@@ -20,13 +20,19 @@ use crate::batch::{Batch, hold_event, write_batch};
 use crate::lines::{Event, take_end, take_event, takes_addition};
 use crate::moment::{Tools, write_event};
 use crate::status::Status;
-use daa_ahead::{Calls, Ended, Taker, ahead, in_turn};
+use daa_ahead::{BUFFER, Calls, Ended, Taker, ahead, in_turn};
 use daa_engine::Engine;
 use daa_lines::Lines;
 use daa_outside::{Gate, Sink, Source};
 use daa_report::SinkFault;
 use daa_state::Moments;
+use std::alloc::Global;
 use std::thread::Threads;
+
+/// The most bytes that one read asks for with several workers, and with one.
+const MOST_READ: usize = 1 << 20;
+
+const MOST_READ_ALONE: usize = 1 << 16;
 
 /// How far a run has come: the line in hand, the moments, and whether some line was refused.
 #[derive(Drop)]
@@ -113,6 +119,35 @@ fn write_next<R: Threads + Sync, K: Sink, G: Gate>(
 /// Takes the line that is ready, if there is one; its event waits, or its text is written with those
 /// of the events that wait.
 fn hold_line<R: Threads + Sync, K: Sink, G: Gate>(
+    tools: &Tools<'_, R, G>,
+    engine: &mut Engine,
+    progress: &mut Progress,
+    batch: &mut Batch,
+    sink: &mut K,
+) -> Result<(), SinkFault>
+    requires range { All IsEventInRange batch.old.events.items }
+    ensures range { All IsEventInRange batch.new.events.items }
+    ensures free { is_standing progress.new.lines.stage ≡ false }
+    ensures ended { progress.new.lines.ended ≡ progress.old.lines.ended }
+    ensures fed { progress.new.lines.fed ≡ progress.old.lines.fed }
+    ensures ok { OnOk result (AfterHeld engine.old.settings progress.old batch.old.events.items
+        (K.taken sink.old) (λ settings first bytes. Holds settings first bytes progress.new
+        batch.new.events.items (K.taken sink.new))) }
+    ensures err { OnErr result (AfterHeld engine.old.settings progress.old batch.old.events.items
+        (K.taken sink.old) (λ settings first bytes. TakesFront settings first
+        (K.taken sink.new) bytes progress.old.lines.ended)) }
+    ensures same { engine.new.settings ≡ engine.old.settings }
+    ensures cause { HasCause (K.faults sink.old) (K.faults sink.new) result }
+{
+    if takes_addition(&mut progress.lines, &mut progress.moments) {
+        return Ok(());
+    }
+    hold_next(tools, engine, progress, batch, sink)
+}
+
+/// The same of any line. It has room for a moment, which only the lines that end one need.
+#[inline(never)]
+fn hold_next<R: Threads + Sync, K: Sink, G: Gate>(
     tools: &Tools<'_, R, G>,
     engine: &mut Engine,
     progress: &mut Progress,
@@ -234,18 +269,20 @@ fn read_for<R: Threads + Sync, S: Source + Send, T: Taker + Send, G>(
     places: u32,
     most: u64,
     taker: &mut T,
+    buf: &mut [u8],
 ) -> Ended
     requires places { places ≤ 1024 }
     requires some { 1 ≤ most }
+    requires buffer { 0 < length buf.old }
     requires can { CanTake T.takes T.ready most taker.old }
     ensures { Moves places result most (stream_state (S.left source.old) (S.faults source.old))
         (stream_state (S.left source.new) (S.faults source.new))
         (TakesBytes T.takes (wants_more result) taker.old taker.new) }
 {
     if places == 0 {
-        return in_turn(source, most, taker);
+        return in_turn(source, most, taker, buf);
     }
-    ahead(tools.rt, tools.alloc, source, places, most, taker)
+    ahead(tools.rt, tools.alloc, source, places, most, taker, buf)
 }
 
 /// Reads at most `most` bytes, and reports them as they are taken.
@@ -256,11 +293,13 @@ fn write_all<R: Threads + Sync, S: Source + Send, K: Sink + Send, G: Gate>(
     sink: &mut K,
     progress: &mut Progress,
     batch: &mut Batch,
+    buf: &mut [u8],
     places: u32,
     most: u64,
 ) -> Ended
     requires places { places ≤ 1024 }
     requires some { 1 ≤ most }
+    requires buffer { 0 < length buf.old }
     requires bound { most ≤ 2 ^ 40 }
     requires between { IsBetween
         (desk engine.old.settings progress.old (K.taken sink.old) (K.faults sink.old)) }
@@ -282,7 +321,7 @@ fn write_all<R: Threads + Sync, S: Source + Send, K: Sink + Send, G: Gate>(
                 (K.faults sink.exit.now)) }
         { take_piece(tools, engine, sink, progress, batch, piece) },
     };
-    read_for(tools, source, places, most, &mut taker)
+    read_for(tools, source, places, most, &mut taker, buf)
 }
 
 /// The input is over: writes the rest of the report.
@@ -323,11 +362,13 @@ fn replay_with<R: Threads + Sync, S: Source + Send, K: Sink + Send, G: Gate>(
     source: &mut S,
     sink: &mut K,
     batch: &mut Batch,
+    buf: &mut [u8],
     places: u32,
     most: u64,
 ) -> Status
     requires places { places ≤ 1024 }
     requires some { 1 ≤ most }
+    requires buffer { 0 < length buf.old }
     requires bound { most ≤ 2 ^ 40 }
     ensures { (before after : ShelfState) → Replays engine.old.settings most (code_of result)
         (outside before (stream_state (S.left source.old) (S.faults source.old))
@@ -345,6 +386,7 @@ fn replay_with<R: Threads + Sync, S: Source + Send, K: Sink + Send, G: Gate>(
         sink,
         &mut progress,
         batch,
+        buf,
         places,
         most,
     ) {
@@ -352,6 +394,20 @@ fn replay_with<R: Threads + Sync, S: Source + Send, K: Sink + Send, G: Gate>(
         Ended::Fault => Status::SourceFault,
         Ended::Limit => Status::Limit,
         Ended::Stopped => Status::SinkFault,
+    }
+}
+
+/// A buffer to read into, of a size that goes with the number of workers. It is empty if there is no
+/// memory for it.
+fn buffer_in(alloc: Global, workers: u32) -> Vec<u8> {
+    let size = if workers < 2 {
+        MOST_READ_ALONE
+    } else {
+        MOST_READ
+    };
+    match vec![in alloc; 0u8; size] {
+        Ok(buffer) => buffer,
+        Err(_) => Vec::new(alloc),
     }
 }
 
@@ -375,5 +431,13 @@ pub(crate) fn run_replay<R: Threads + Sync, S: Source + Send, K: Sink + Send, G:
         (stream_state (K.taken sink.new) (K.faults sink.new))) places }
 {
     let mut batch = Batch::new(tools.alloc, engine.workers());
-    replay_with(tools, engine, source, sink, &mut batch, places, most)
+    let mut large = buffer_in(tools.alloc, engine.workers());
+    if large.is_empty() {
+        let mut small = [0u8; BUFFER];
+        return replay_with(
+            tools, engine, source, sink, &mut batch, &mut small, places, most,
+        );
+    }
+    let buf = large.as_mut_slice();
+    replay_with(tools, engine, source, sink, &mut batch, buf, places, most)
 }

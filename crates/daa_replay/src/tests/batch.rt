@@ -1,12 +1,30 @@
 //! Moments of one piece, which the workers decide side by side.
 
-use super::{Outside, PLAIN, gives, gives_front, status_and_text};
+use super::{
+    ONE_LEVEL, Outside, PLAIN, gives, gives_front, shelf_with, status_and_text, status_of,
+    whole_sink, whole_source,
+};
+use daa_outside::Meeting;
 use std::alloc::AllocError;
 use std::process::Abort;
 use std::test::Fail;
 use std::thread::Threads;
 
 static ONE_WORKER: [&str; 6] = ["daidalus", "replay", "--config", "c", "--workers", "1"];
+
+static TWO_WORKERS: [&str; 6] = ["daidalus", "replay", "--config", "c", "--workers", "2"];
+
+/// The same reading ahead, whose pieces are joined.
+static TWO_AHEAD: [&str; 8] = [
+    "daidalus",
+    "replay",
+    "--config",
+    "c",
+    "--workers",
+    "2",
+    "--ahead",
+    "64",
+];
 
 /// So many moments with one aircraft, in each of which a line is refused.
 fn moments_of<R: AllocGlobal>(rt: &R, count: u32) -> Result<String, AllocError> {
@@ -54,6 +72,51 @@ fn moments_of_a_piece_are_shared_out(rt: HostRuntime) -> Result<(), Fail> {
             gives(&rt, input.as_bytes(), outside, 1, text.as_slice())?;
         }
     }
+    Ok(())
+}
+
+/// The pieces that are read ahead are shared out as they come.
+#[test]
+fn moments_of_joined_pieces_are_shared_out(rt: HostRuntime) -> Result<(), Fail> {
+    let room = 100_000;
+    let input = moments_of(&rt, 300)?;
+    let text = alone(&rt, input.as_bytes(), room)?;
+    let outside = Outside {
+        words: &TWO_AHEAD,
+        room,
+        ..PLAIN
+    };
+    gives(&rt, input.as_bytes(), outside, 1, text.as_slice())
+}
+
+/// Two workers of a batch wait at a gate until both have come, and write what one writes. As a
+/// thread may not be had, the meeting is tried five times.
+#[test]
+fn two_lanes_run_at_once(rt: HostRuntime) -> Result<(), Fail> {
+    let room = 100_000;
+    let input = moments_of(&rt, 300)?;
+    let text = alone(&rt, input.as_bytes(), room)?;
+    let mut met = false;
+    for _ in 0..5 {
+        if !met {
+            let meeting = Meeting::of(&rt, 2);
+            let mut shelf = shelf_with(&rt, ONE_LEVEL, &[])?;
+            let mut source = whole_source(&rt, input.as_bytes())?;
+            let mut sink = whole_sink(&rt, room)?;
+            let status = status_of(
+                &rt,
+                &TWO_WORKERS,
+                &mut shelf,
+                &mut source,
+                &mut sink,
+                &meeting,
+            )?;
+            assert!(rt; status == 1);
+            assert!(rt; sink.taken() == text.as_slice());
+            met = meeting.has_met();
+        }
+    }
+    assert!(rt; met);
     Ok(())
 }
 

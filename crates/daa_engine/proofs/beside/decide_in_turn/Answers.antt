@@ -6,7 +6,7 @@ use Rattle.daa_engine.proofs.BesideLemmas.{up_to}
 use Rattle.daa_engine.proofs.beside.decide_in_turn.Goals as goal
 
 pub loop-place-preserved : goal.loop-place-preserved
-loop-place-preserved c =
+loop-place-preserved g c =
     let k = c.loop-place.place in
     let xs = c.args.slots.now in
     let ys = c.loop-place.slots in

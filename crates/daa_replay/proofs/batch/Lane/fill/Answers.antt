@@ -7,7 +7,7 @@ use Rattle.daa_replay.proofs.TextLemmas.{texts-push}
 use Rattle.daa_replay.proofs.batch.Lane.fill.Goals as goal
 
 pub loop-place-preserved : goal.loop-place-preserved
-loop-place-preserved c =
+loop-place-preserved g c =
     let settings = c.args.config.now in
     let events = c.args.events.now in
     let place = c.loop-place.place in

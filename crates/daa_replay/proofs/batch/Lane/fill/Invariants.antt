@@ -4,7 +4,7 @@ use Rattle.daa_replay.proofs.batch.Lane.fill.Given as goal
 
 -- the texts so far are on the sheet
 abbrev pub invariant-loop-place : goal.invariant-loop-place
-invariant-loop-place l = record {
+invariant-loop-place g l = record {
   filled : IsFilled l.config l.events l.self;
   so_far : l.self.end ≡ l.place;
 }

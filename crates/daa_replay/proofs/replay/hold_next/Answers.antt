@@ -4,7 +4,7 @@ use Rattle.daa_config.specs.Settings.{Settings}
 use Rattle.daa_replay.specs.Inside.Batch.{MovesOn, StopsWithin}
 use Rattle.daa_replay.specs.Inside.Replay.{TakesFront}
 use Rattle.daa_replay.proofs.BatchLemmas.{holds-event, holds-moved, holds-stops}
-use Rattle.daa_replay.proofs.replay.hold_line.Goals as goal
+use Rattle.daa_replay.proofs.replay.hold_next.Goals as goal
 
 pub returns-in-Some-clause-ok : goal.returns-in-Some-clause-ok
 returns-in-Some-clause-ok g c =
