@@ -8,7 +8,8 @@ use crate::flight_deck::FlightDeck;
 use anyhow::{Result, anyhow, bail};
 use daa_config::read;
 use daa_engine::Engine;
-use daa_screen::{Feed, Screen};
+use daa_outside::MemSink;
+use daa_screen::Feed;
 use std::alloc::Global;
 use std::rt::{Env, Files};
 use std::sync::Wait;
@@ -45,39 +46,13 @@ pub fn new_engines(alloc: Global, config: &str) -> Result<(Engine, Engine, Engin
     ))
 }
 
-/// A display on which nothing is drawn.
-fn new_display(alloc: Global, screen: Screen, engine: Engine, pace: u32) -> Result<Display>
-    ensures screen { IfOk result (λ display. display.screen ≡ screen) }
-    ensures engine { IfOk result (λ display. display.engine ≡ engine) }
-{
-    Ok(Display {
-        screen,
-        engine,
-        drawing: blank(alloc)?,
-        pace,
-    })
+/// A sheet for each display, on which nothing is drawn.
+fn blank_sheets(alloc: Global) -> Result<(MemSink, MemSink, MemSink)> {
+    Ok((blank(alloc)?, blank(alloc)?, blank(alloc)?))
 }
 
-/// The displays of these screens, each at its own pace.
-fn new_deck(
-    alloc: Global,
-    screens: (Screen, Screen, Screen),
-    engines: (Engine, Engine, Engine),
-) -> Result<FlightDeck>
-    ensures pilot { IfOk result (λ deck. deck.pilot.screen ≡ screens.0) }
-    ensures observer { IfOk result (λ deck. deck.observer.screen ≡ screens.1) }
-    ensures ground { IfOk result (λ deck. deck.ground.screen ≡ screens.2) }
-    ensures engines { IfOk result (λ deck. (deck.pilot.engine ≡ engines.0)
-        × (deck.observer.engine ≡ engines.1) × (deck.ground.engine ≡ engines.2)) }
-{
-    Ok(FlightDeck {
-        pilot: new_display(alloc, screens.0, engines.0, 1)?,
-        observer: new_display(alloc, screens.1, engines.1, 100)?,
-        ground: new_display(alloc, screens.2, engines.2, 10_000)?,
-    })
-}
-
-/// A feed to which nothing was published, with its three displays, each with its engine.
+/// A feed to which nothing was published, with its three displays, each with its engine and its
+/// own pace.
 pub fn open<W: Wait>(
     rt: &W,
     alloc: Global,
@@ -90,17 +65,34 @@ pub fn open<W: Wait>(
     ensures engines { IfOk result (λ opened. (opened.1.pilot.engine ≡ engines.0)
         × (opened.1.observer.engine ≡ engines.1) × (opened.1.ground.engine ≡ engines.2)) }
 {
+    let sheets = blank_sheets(alloc)?;
     let Ok((feed, mut screens)) = Feed::open(rt, alloc, 3) else {
         bail!("no memory");
     };
-    let ground = screens.pop().unwrap();
-    let observer = screens.pop().unwrap();
-    let pilot = screens.pop().unwrap();
-    match new_deck(alloc, (pilot, observer, ground), engines) {
-        Ok(deck) => Ok((feed, deck)),
-        Err(error) => {
-            feed.close(rt);
-            Err(error)
-        }
-    }
+    let ground = Display {
+        screen: screens.pop().unwrap(),
+        engine: engines.2,
+        drawing: sheets.2,
+        pace: 10_000,
+    };
+    let observer = Display {
+        screen: screens.pop().unwrap(),
+        engine: engines.1,
+        drawing: sheets.1,
+        pace: 100,
+    };
+    let pilot = Display {
+        screen: screens.pop().unwrap(),
+        engine: engines.0,
+        drawing: sheets.0,
+        pace: 1,
+    };
+    Ok((
+        feed,
+        FlightDeck {
+            pilot,
+            observer,
+            ground,
+        },
+    ))
 }
