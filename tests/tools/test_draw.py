@@ -88,6 +88,8 @@ class Pictures(ToolTest):
             root, _ = self.picture(report, "--encounter", number)
             self.assertEqual([word for word in self.words(root) if word.endswith(": alert, now")], [f"{name}: alert, now"])
             self.assertEqual(self.words(root).count("lines refused"), refused)
+        one, other = (self.picture(REPORT + REPORT, "--encounter", number)[1] for number in ("1", "2"))
+        self.assertEqual(one, other)
         self.assertEqual(self.tool("draw", "--encounter", "3", self.write("a.report", report))[0], 4)
         self.assertEqual(len(self.words(self.picture(REPORT, "--encounter", "2", "--pause", "5")[0])) > 10, True)
 

@@ -179,6 +179,11 @@ class FromParameters(ToolTest):
         self.assertEqual(made["alt"]["step"], 98)
         self.refused(TOP.replace("step_alt = 500", "step_alt = 97") + LEVELS, "that gives 515 candidates of alt")
 
+    def test_a_range_of_so_many_steps_has_one_candidate_more(self):
+        """0 to 512 times 97 has 513 candidates with a step of 97: a step of 98 is the least."""
+        text = TOP.replace("min_alt = 100", "min_alt = 0").replace("max_alt = 50000", "max_alt = 49664") + LEVELS
+        self.refused(text.replace("step_alt = 500", "step_alt = 97"), "that gives 513 candidates of alt", "write a step of 98 [ft] or more")
+
 
 if __name__ == "__main__":
     unittest.main()
