@@ -144,6 +144,12 @@ class Pictures(ToolTest):
         self.assertEqual(draw.reaching([(0, 4, 3), (4, 6, 1), (6, 9, 0), (9, 10, 1)], 1), [(0, 6), (9, 10)])
         self.assertEqual(sorted(draw.runs_over_time([(0, 1, "ab"), (1, 2, "a"), (3, 4, "a")])), [(0, 1, "b"), (0, 2, "a"), (3, 4, "a")])
 
+    def test_a_line_leaves_out_points_that_are_close(self):
+        """Of points 0.4 apart each third is taken, since it is 1.2 from the one taken before, and the last."""
+        self.assertEqual(draw.through([(0.4 * place, 0) for place in range(9)]), "M0 0L1.2 0L2.4 0L3.2 0")
+        self.assertEqual(draw.through([(0, 0), (0, 1), (5, 1)]), "M0 0L0 1L5 1")
+        self.assertEqual(draw.through([(7, 7)]), "M7 7")
+
     def test_widths_come_of_rounded_ends(self):
         """0.04 to 1.06 and on to 2.08: rounded 0, 1.1 and 2.1, so the widths are 1.1 and 1, and no gap is between them."""
         self.assertIn("M0 0h1.1v5h-1.1zM1.1 0h1v5h-1z", boxes([(0.04, 0, 1.06, 5), (1.06, 0, 2.08, 5)], "red"))
