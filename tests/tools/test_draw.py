@@ -88,6 +88,8 @@ class Pictures(ToolTest):
             root, _ = self.picture(report, "--encounter", number)
             self.assertEqual([word for word in self.words(root) if word.endswith(": alert, now")], [f"{name}: alert, now"])
             self.assertEqual(self.words(root).count("lines refused"), refused)
+        one, other = (self.picture(REPORT + REPORT, "--encounter", number)[1] for number in ("1", "2"))
+        self.assertEqual(one, other)
         self.assertEqual(self.tool("draw", "--encounter", "3", self.write("a.report", report))[0], 4)
         self.assertEqual(len(self.words(self.picture(REPORT, "--encounter", "2", "--pause", "5")[0])) > 10, True)
 
@@ -141,6 +143,12 @@ class Pictures(ToolTest):
         self.assertEqual(draw.greatest([[(0, 10, 1)], [(0, 4, 3), (4, 10, 0)]]), [(0, 4, 3), (4, 10, 1)])
         self.assertEqual(draw.reaching([(0, 4, 3), (4, 6, 1), (6, 9, 0), (9, 10, 1)], 1), [(0, 6), (9, 10)])
         self.assertEqual(sorted(draw.runs_over_time([(0, 1, "ab"), (1, 2, "a"), (3, 4, "a")])), [(0, 1, "b"), (0, 2, "a"), (3, 4, "a")])
+
+    def test_a_line_leaves_out_points_that_are_close(self):
+        """Of points 0.4 apart each third is taken, since it is 1.2 from the one taken before, and the last."""
+        self.assertEqual(draw.through([(0.4 * place, 0) for place in range(9)]), "M0 0L1.2 0L2.4 0L3.2 0")
+        self.assertEqual(draw.through([(0, 0), (0, 1), (5, 1)]), "M0 0L0 1L5 1")
+        self.assertEqual(draw.through([(7, 7)]), "M7 7")
 
     def test_widths_come_of_rounded_ends(self):
         """0.04 to 1.06 and on to 2.08: rounded 0, 1.1 and 2.1, so the widths are 1.1 and 1, and no gap is between them."""

@@ -21,6 +21,17 @@ class WholeEncounters(ToolTest):
         self.assertEqual("".join(parts), whole)
         self.assertNotEqual(self.made("--seed", "8", "--count", "5", "--seconds", "20"), whole)
 
+    def test_no_encounter_of_a_seed_is_one_of_the_next_seed(self):
+        """Encounter 1 of seed 7 and encounter 0 of seed 8 begin otherwise."""
+        one, other = (list(encounters.encounter(seed, number, 5)) for seed, number in ((7, 1), (8, 0)))
+        self.assertNotEqual(one, other)
+
+    def test_a_long_descent_stays_above_2000_feet(self):
+        """In encounter 391 of seed 3 the ownship descends by more than 12000 feet in ten minutes."""
+        alts = [(own.alt, [it.alt for it in traffic]) for own, traffic in encounters.encounter(3, 391, 600)]
+        self.assertGreater(alts[0][0] - alts[-1][0], 12000)
+        self.assertGreaterEqual(min(min(own, *others) for own, others in alts), 2000)
+
     def test_the_line_that_makes_an_encounter_again(self):
         whole = self.made("--seed", "7", "--count", "3", "--seconds", "9")
         begin = whole.index("# encounter 2:")
@@ -29,16 +40,15 @@ class WholeEncounters(ToolTest):
         self.assertEqual(self.made(*words[1:]), whole[begin:])
 
     def test_moments_are_a_second_apart_and_all_are_accepted(self):
-        """The longest encounters, in which altitudes change most."""
-        text = self.made("--seed", "3", "--from", "4", "--count", "30", "--seconds", "600")
+        text = self.made("--seed", "3", "--from", "4", "--count", "20", "--seconds", "300")
         events = Reader().read(text.encode())
         self.assertEqual([event.time for event in events if isinstance(event, Moment)],
-                         [1000 * number + second for number in range(4, 34) for second in range(600)])
+                         [1000 * number + second for number in range(4, 24) for second in range(300)])
         self.assertTrue(all(isinstance(event, Moment) for event in events))
         counts = {1 + len(event.traffic) for event in events}
         self.assertEqual((min(counts), max(counts)), (2, 9))
         self.assertEqual(self.tool("check", "--advice", CONFIG, self.write("e.states", text))[1],
-                         "accepted: 3 levels, 341 candidates; 18000 moments of up to 8 aircraft\n")
+                         "accepted: 3 levels, 341 candidates; 6000 moments of up to 8 aircraft\n")
 
     def test_aircraft_fly_as_they_say_and_meet(self):
         """From second to second each goes as far as its speed says, but for rounding; each is near the ownship at some second."""

@@ -1,6 +1,8 @@
 """Reports and their readers: tools/summary and tools/compare, on reports written by hand."""
 import os
+import re
 import subprocess
+import time
 import unittest
 
 from common import TOP, ToolTest, module, program
@@ -153,6 +155,29 @@ class Reports(ToolTest):
         totals.note("alert", 1, 1, count=9993)
         self.assertEqual(list(totals.lines()), ["alert: 7 of 10000 differ, less than 0.1 % (1 by -1, 1 by +1, 1 by -2, 1 by -3, 1 by +3, "
                                                 "1 by a value/nothing, 1 by none/a value)"])
+
+    def test_of_many_sizes_the_greatest_are_told_together(self):
+        """-1 to 10 are eleven sizes: eight are told, and then 8, 9 and 10, twice each, as 6."""
+        totals = compare.Totals()
+        for by in (-1, *range(1, 11)):
+            totals.note("first second", 20, 20 + by, count=2)
+        totals.note("first second", 20, None)
+        self.assertEqual(list(totals.lines()), ["first second: 23 of 23 differ, 100.0 % (2 by -1, 2 by +1, 2 by +2, 2 by +3, 2 by +4, 2 by +5, "
+                                                "2 by +6, 2 by +7, 6 by 8 or more, 1 by a value/nothing)"])
+
+    def test_comparing_takes_at_most_three_times_what_reading_takes(self):
+        """Of two reports of 1200 moments, of which each third differs; the processor's time, with a little more for the start."""
+        one = "".join(REPORT.split("refused")[0].replace("moment 0", f"moment {time}").replace("done 0", f"done {time}").replace("43", str(time % 50))
+                      for time in range(1200))
+        other = re.sub(r"(moment \d*[036]\n(?:.*\n){2}track 0) 5 3\ntrack 10 180 0", r"\1 15 3\ntrack 20 180 0", one)
+        paths = [self.write("b.report", one), self.write("c.report", other)]
+        began = time.process_time()
+        reports = [read_report(path) for path in paths]
+        read = time.process_time() - began
+        totals = compare.Totals()
+        found = list(compare.differences(reports, compare.paired_encounters(paths, reports), totals))
+        self.assertGreater(len(found), 300)
+        self.assertLessEqual(time.process_time() - began, 3 * read + 0.1)
 
     def test_turns_go_the_short_way(self):
         self.assertEqual([compare.turn(*pair) for pair in ((10, 15), (15, 10), (355, 5), (5, 355), (0, 180), (0, 185))],

@@ -4,36 +4,45 @@ import random
 import unittest
 
 from common import CONFIG, TOP, ToolTest, module
-from daidalus_files import Level
+from daidalus_files import Level, Moment, Own, Traffic, read_config
 
 volume = module("tools/volume")
 reference = module("tools/reference")
 
 
+def level_of(**values):
+    return Level(**{**dict.fromkeys(Level._fields, 0), **values})
+
+
+EXAMPLE = {"dthr": 660, "zthr": 450, "tthr": 35, "lookahead": 75, "alert": 55}
+
+
 class Volumes(ToolTest):
     def test_is_near_is_the_horizontal_part(self):
         """At random places, for each model: an aircraft ahead that comes at a whole speed, heights being equal."""
-        draw = random.Random(5)
+        draw, config = random.Random(5), read_config(CONFIG)
         counts = {False: 0, True: 0}
         for tcpa in (0, 1):
             for _ in range(3000):
                 dthr, tthr, speed = draw.randint(100, 2000), draw.randint(0, 60), draw.randint(100, 6000)
-                level = Level(dthr, 450, tthr, 0, 60, 60, tcpa)
+                level = level_of(dthr=dthr, zthr=450, tthr=tthr, lookahead=60, alert=60, tcpa=tcpa)
                 east, ahead = draw.randint(-dthr - 200, dthr + 200), draw.randint(-dthr - 200, 2 * dthr + tthr * speed // 36)
-                # ownship minus aircraft, in units; the aircraft is `ahead` of it and comes toward it
-                leg = reference.Leg(0, 1, (-36 * east, -36 * ahead, 0), (0, speed, 0))
-                wanted = reference.violates(leg, reference.Volume(36 * dthr, 60 * 450, tthr, 0, tcpa), 0, 1)
+                moment = Moment(0, 1)
+                moment.own = Own(0, 0, 5000, 0, 0, 0)
+                moment.traffic = [Traffic("A", east, ahead, 5000, 0, -speed, 0)]
+                situation = reference.Situation(config._replace(levels=[level]), moment)
+                wanted = situation.now_level(moment.traffic[0]) == 1
                 self.assertEqual(volume.is_near(level, speed / 36000, east / 1000, ahead / 1000), wanted, (level, east, ahead, speed))
                 counts[wanted] += 1
         self.assertGreater(min(counts.values()), 1000)
 
     def test_how_far_ahead_it_reaches(self):
         """r^2 - D^2 = T V r for r on the middle line: with 0.66 NM, 35 s and 240 knots r is 7/6 + sqrt(0.4356 + 49/36) = 2.507."""
-        behind, ahead = volume.stretch_ahead(Level(660, 450, 35, 0, 75, 55, 0), 240 / 3600, 0, 0.001)
+        behind, ahead = volume.stretch_ahead(level_of(**EXAMPLE), 240 / 3600, 0, 0.001)
         self.assertAlmostEqual(ahead, 2.507, delta=0.001)
         self.assertAlmostEqual(behind, -0.66, delta=0.001)
-        self.assertAlmostEqual(volume.stretch_ahead(Level(660, 450, 35, 0, 75, 55, 1), 240 / 3600, 0, 0.001)[1], 35 * 240 / 3600, delta=0.001)
-        self.assertIsNone(volume.stretch_ahead(Level(660, 450, 35, 0, 75, 55, 0), 240 / 3600, 0.7))
+        self.assertAlmostEqual(volume.stretch_ahead(level_of(**EXAMPLE, tcpa=1), 240 / 3600, 0, 0.001)[1], 35 * 240 / 3600, delta=0.001)
+        self.assertIsNone(volume.stretch_ahead(level_of(**EXAMPLE), 240 / 3600, 0.7))
 
     def test_the_picture_of_the_guide(self):
         """docs/volume.svg is what is drawn today."""
