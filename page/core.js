@@ -23,11 +23,19 @@ function daaCore(root) {
   const TRAFFIC = ["x", "y", "alt", "vx", "vy", "vs", "age"];
   const ID_SIZE = 8;
   const FIELDS = ["", "x", "y", "alt", "trk", "gs", "vs", "vx", "vy", "age"];
-  const SIZES = { config: 8 * CONFIG.length, own: 4 * OWN.length, traffic: ID_SIZE + 4 * TRAFFIC.length, fault: 24 };
+  /** The numbers of struct daa_lines before its ownship, of 32 bits; its count of aircraft and they themselves come after. */
+  const LINES = ["format", "ended", "last", "opened", "time", "owned"];
 
   const MOST_AIRCRAFT = 64;
+  const SIZES = { config: 8 * CONFIG.length, own: 4 * OWN.length, traffic: ID_SIZE + 4 * TRAFFIC.length, fault: 24 };
+  SIZES.lines = 4 * LINES.length + SIZES.own + 8 + MOST_AIRCRAFT * SIZES.traffic;
   const LONGEST_CONFIG = 65536;
+  const LONGEST_LINE = 512; // bytes; a state line that is longer is too long by far, as its first bytes show
   const LONGEST_REPORT = 131072; // bytes; the header says how many are always enough, and these are more
+
+  const ENDED = -1; // what daa_line returns where the line ended the moment
+  const LINE_FEED = 10;
+  const OPEN_AT_THE_END = 14;
 
   const CAUSES = {
     1: "the text has more than 65536 bytes",
@@ -82,7 +90,7 @@ function daaCore(root) {
       this.calls = exports;
       this.is64 = typeof base === "bigint";
       this.places = { config: room(SIZES.config), own: room(SIZES.own), traffic: room(SIZES.traffic * MOST_AIRCRAFT),
-        length: room(8), fault: room(SIZES.fault), report: room(LONGEST_REPORT) };
+        lines: room(SIZES.lines), line: room(LONGEST_LINE), length: room(8), fault: room(SIZES.fault), report: room(LONGEST_REPORT) };
       if (at > exports.memory.buffer.byteLength) throw new Error("the module's memory is too small");
       this.view = new DataView(exports.memory.buffer);
       this.bytes = new Uint8Array(exports.memory.buffer);
@@ -141,6 +149,50 @@ function daaCore(root) {
       const view = new DataView(bytes.buffer);
       CONFIG.forEach((name, i) => view.setBigInt64(8 * i, numbers[name] ?? 0n, true));
       return bytes;
+    }
+
+    // ---- state lines
+
+    /** The ended moments and the refused lines of state lines, of bytes, in their order. What a line says, or why it is
+     *  refused, is the engine's answer; here the text is only cut at its line feeds. */
+    readStates(bytes) {
+      const events = [];
+      let number = 0;
+      this.bytes.fill(0, this.places.lines, this.places.lines + SIZES.lines);
+      for (let start = 0; start < bytes.length; number++) {
+        const feed = bytes.indexOf(LINE_FEED, start);
+        const end = feed < 0 ? bytes.length : feed;
+        const code = this.takeLine(bytes.subarray(start, Math.min(end, start + LONGEST_LINE)));
+        if (code === ENDED) events.push({ moment: this.takenMoment() });
+        else if (code) events.push({ refused: number + 1, code });
+        start = end + 1;
+      }
+      if (this.lineNumber("opened")) events.push({ refused: number + 1, code: OPEN_AT_THE_END });
+      return events;
+    }
+
+    takeLine(line) {
+      const { places } = this;
+      this.bytes.set(line, places.line);
+      return this.call("daa_line", this.word(places.line), this.word(line.length), this.word(places.lines));
+    }
+
+    lineNumber(name) {
+      return this.view.getUint32(this.places.lines + 4 * LINES.indexOf(name), true);
+    }
+
+    /** The moment that a line has just ended. */
+    takenMoment() {
+      const { view, bytes, decoder } = this;
+      const ownAt = this.places.lines + 4 * LINES.length;
+      const countAt = ownAt + SIZES.own;
+      const some = (at, names) => Object.fromEntries(names.map((name, i) => [name, view.getInt32(at + 4 * i, true)]));
+      const traffic = Array.from({ length: Number(view.getBigUint64(countAt, true)) }, (_, place) => {
+        const at = countAt + 8 + SIZES.traffic * place;
+        const id = decoder.decode(bytes.subarray(at, at + ID_SIZE)).replace(/\0.*$/, "");
+        return { id, ...some(at + ID_SIZE, TRAFFIC) };
+      });
+      return { time: this.lineNumber("time"), own: some(ownAt, OWN), traffic };
     }
 
     // ---- a moment

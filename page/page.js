@@ -25,7 +25,6 @@
   const within = (value, field) => clamp(Math.round(value), ...LIMITS[field]);
   const copy = (moment) => ({ time: moment.time, own: { ...moment.own }, traffic: moment.traffic.map((one) => ({ ...one })) });
   const shownViews = () => state.views.filter((_, place) => place === 0 || state.compare);
-  const latin = (bytes) => new TextDecoder("latin1").decode(bytes);
   const setText = (element, words) => { if (element.textContent !== words) element.textContent = words; };
   const setHtml = (element, html) => {
     if (element.daaHtml === html) return false;
@@ -726,7 +725,7 @@
   // ---- state lines, recordings and examples
 
   function loadStates(bytes, name, told = []) {
-    const events = daa.readStates(state.engine, bytes);
+    const events = state.engine.readStates(bytes);
     const moments = events.filter((it) => it.moment).map((it) => it.moment);
     if (!moments.length) {
       const first = events.find((it) => it.refused);

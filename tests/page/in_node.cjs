@@ -6,7 +6,7 @@ const path = require("path");
 const vm = require("vm");
 
 const page = process.argv[2];
-for (const name of ["engine.wasm", "core", "toml", "lines", "recording"]) vm.runInThisContext(fs.readFileSync(path.join(page, `${name}.js`), "utf8"));
+for (const name of ["engine.wasm", "core", "toml", "recording"]) vm.runInThisContext(fs.readFileSync(path.join(page, `${name}.js`), "utf8"));
 const bytesOf = (text) => new Uint8Array(Buffer.from(text, "base64"));
 
 const TASKS = {
@@ -18,7 +18,7 @@ const TASKS = {
       if (!(problem instanceof daa.Refused)) throw problem;
       return `config ${problem.code}\n`;
     }
-    return daa.readStates(engine, bytesOf(states)).map((event) => (event.moment ? engine.report(config, event.moment) : `refused ${event.refused} ${event.code}\n`)).join("");
+    return engine.readStates(bytesOf(states)).map((event) => (event.moment ? engine.report(config, event.moment) : `refused ${event.refused} ${event.code}\n`)).join("");
   },
 
   faults(engine, toml) {
@@ -43,7 +43,7 @@ const TASKS = {
   /** Calls the engine with places out of its memory, and then on a moment: what the first call throws, and the report. */
   trap(engine, toml, states) {
     const config = engine.read(bytesOf(toml));
-    const [{ moment }] = daa.readStates(engine, bytesOf(states));
+    const [{ moment }] = engine.readStates(bytesOf(states));
     engine.places.report = 2 ** 40;
     let thrown = "";
     try {

@@ -124,7 +124,7 @@ class Shown(PageTest):
         got = self.page.driver.execute_async_script("""
             const [toml, states, done] = arguments, { engine } = daa.page, desk = new daa.Desk(daa.wasm());
             const config = { bytes: engine.read(daa.bytesOf(toml)).bytes };
-            const moments = daa.readStates(engine, daa.bytesOf(states)).map((it) => it.moment);
+            const moments = engine.readStates(daa.bytesOf(states)).map((it) => it.moment);
             Promise.all(moments.map((moment) => desk.ask({ config, moment }))).then((answers) => done([Boolean(desk.worker), answers.map((it) => it.text).join("")]));
             """, text_of(RECOVERY), states.decode())
         self.assertEqual(got, [True, replayed(RECOVERY, states)])
@@ -215,12 +215,18 @@ class Moved(PageTest):
         self.check_shown()
 
     def test_an_old_report_is_flown_on(self):
-        """Under a late report an aircraft stands where it is now, and a drag puts it there."""
-        self.page.select("#example", "a recording")
-        self.page.step_to(3)
-        self.assertRegex(self.page.states(), r"(?m)^traffic Intrude2 .* 2$")
-        self.page.drag("p:Intrude2", (30, 10))
+        """An aircraft whose report is 20 seconds old stands where it is now, in the report too, and a drag puts it there."""
+        states = "format 2\nmoment 0\nown 0 0 10000 0 3600 0\ntraffic A 3000 8000 10000 -1350 0 0 20\nend\n"
+        now = replayed(THREE_LEVELS, states.replace(" 20\n", " 0\n").encode())
+        self.page.open_files(self.page.file("late.states", states))
         self.check_shown()
+        self.assertNotEqual(self.page.report(), now)
+        self.page.drag("p:A", (30, 10))
+        self.check_shown()
+        x, y = map(int, re.search(r"traffic A (-?\d+) (-?\d+)", self.page.states()).groups())
+        radius, range_nm = self.page.js("return [daa.page.views[0].drawn.g.radius, daa.page.views[0].look.range]")
+        scale = range_nm * 1000 / radius
+        self.assertTrue(abs(x - (3000 + 30 * scale)) < 80 and abs(y - (8000 - 10 * scale)) < 80, (x, y))
 
     def test_numbers_are_written(self):
         self.page.click("[data-choose=BRAVO]")
