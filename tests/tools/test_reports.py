@@ -22,7 +22,8 @@ NO_REPORTS = (("", "it is empty"), ("hello\n", "line 1 is no line of a report th
               ("moment 0\nmoment 1\n", "line 2"),
               ("moment 0\ndone 0\n", "line 2 ends a moment that is not whole"), ("moment 0\nalert A 0 -\n", "line 2 is an alert of A"),
               ("moment 0\ntrack 5 0 1\n", "line 2 does not rise"), ("moment 0\ntrack 0 5 1\ntrack 5 9 0\n", "line 3 does not rise"),
-              ("config 3\n", "line 1"), ("moment", "no whole line"))
+              ("config 3\n", "line 1 is no line of a report there: 'config 3'; the configuration was refused, and tools/check says why"),
+              ("format 2\nmoment 0\n", "these are state lines, of which ./daidalus replay makes a report"), ("moment", "no whole line"))
 
 
 class Reports(ToolTest):
