@@ -10,6 +10,15 @@ from daidalus_files import Band, encounters_of, read_report
 
 compare = module("tools/compare")
 
+# What is in tools/ and makes a part of the repository: no page for users names it.
+MAKERS = {"page_module"}
+
+
+def tools_for_users():
+    """The names of the scripts in tools/ that are for users."""
+    return {name for name in os.listdir(os.path.join(TOP, "tools")) if not name.endswith(".py")} - {"__pycache__"} - MAKERS
+
+
 KEEP = "resolve gs down keep up keep\nresolve vs down keep up keep\nresolve alt down keep up keep\n"
 TOOLS = ("check", "compare", "draw", "encounters", "from_daa", "from_parameters", "moments", "reference", "steady", "summary", "table",
          "volume")
@@ -213,8 +222,7 @@ class Pipes(unittest.TestCase):
             self.assertRegex(out.stdout, rf"\n  (\./daidalus .*\| )?tools/{tool} ", tool)
 
     def test_the_list_of_tools_is_whole(self):
-        there = {name for name in os.listdir(os.path.join(TOP, "tools")) if not name.endswith(".py") and name != "__pycache__"}
-        self.assertEqual(there, set(TOOLS))
+        self.assertEqual(tools_for_users(), set(TOOLS))
 
     def test_the_program_is_there(self):
         self.assertTrue(os.access(program(), os.X_OK))
