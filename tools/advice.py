@@ -72,6 +72,8 @@ def advice_on_states(moments, refused, text):
         return ["this looks like a recording with named columns: tools/from_daa makes state lines of it"]
     if words and ("=" in words or words[0].startswith("[")):
         return ["this looks like a configuration: it comes first, tools/check CONFIG STATES"]
+    if any(refusal.code == 2 and refusal.why.startswith("'now'") for refusal in refused):
+        return ["this looks like a report: the states are what it was made of"]
     found = []
     if any(refusal.code == 3 and "traffic has 8 fields" in refusal.why for refusal in refused):
         found.append("aircraft with an age, the eighth number, are of format 2: write the line `format 2` before the first moment")

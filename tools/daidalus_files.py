@@ -505,7 +505,7 @@ class ReportReader:
         self.line += 1
         found = parsed(line)
         if found is None or (self.open is None) != (found[0] in ("refused", "moment")):
-            raise self.problem(f"is no line of a report there: {line[:60]!a}")
+            raise self.problem(f"is no line of a report there: {line[:60]!a}{hint_on(line)}")
         word, said = found
         if word == "refused":
             return RefusedLine(*said, self.moments)
@@ -544,6 +544,14 @@ class ReportReader:
         else:
             place = {"resolve": at.answers, "last": at.last, "recover": at.recover, "steady": at.steady}[word]
             place[said[0]] = said[1]
+
+
+def hint_on(line):
+    """What to do with a text that has such a line in a report's place."""
+    word = line.split(" ", 1)[0]
+    if word in ("own", "traffic", "end", "format"):
+        return "; these are state lines, of which ./daidalus replay makes a report"
+    return "; the configuration was refused, and tools/check says why" if word == "config" else ""
 
 
 CUT = "cut"  # what report_events gives last, of a report that ends within a line or a moment

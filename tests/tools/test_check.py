@@ -187,6 +187,7 @@ STATES_ADVICE = (
     ("moment 0\nown 0 0 10000 0 3600 0\ntraffic A 0 0 10000 -1350 0 0\nend\n", []),
     ("moment 0\nown 0 0 10000 0 3600 0\n" + FAR.replace("0 0\n", "0 0 2\n") + "end\n", ["write the line `format 2` before the first moment"]),
     ("NAME lat lon alt trk gs vs time\n[none] [deg] [deg] [ft] [deg] [knot] [fpm] [s]\n", ["this looks like a recording with named columns: tools/from_daa"]),
+    ("moment 0\nnow A 0\nalert A 0 -\n", ["this looks like a report"]),
     ("time [s],name,sx,sy,alt\n", ["this looks like a recording"]),
     ("resolve = 1\n", ["this looks like a configuration"]),
 )

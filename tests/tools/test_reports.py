@@ -10,6 +10,15 @@ from daidalus_files import Band, encounters_of, read_report
 
 compare = module("tools/compare")
 
+# What is in tools/ and makes a part of the repository: no page for users names it.
+MAKERS = {"page_module"}
+
+
+def tools_for_users():
+    """The names of the scripts in tools/ that are for users."""
+    return {name for name in os.listdir(os.path.join(TOP, "tools")) if not name.endswith(".py")} - {"__pycache__"} - MAKERS
+
+
 KEEP = "resolve gs down keep up keep\nresolve vs down keep up keep\nresolve alt down keep up keep\n"
 TOOLS = ("check", "compare", "draw", "encounters", "from_daa", "from_parameters", "moments", "reference", "steady", "summary", "table",
          "volume")
@@ -22,7 +31,8 @@ NO_REPORTS = (("", "it is empty"), ("hello\n", "line 1 is no line of a report th
               ("moment 0\nmoment 1\n", "line 2"),
               ("moment 0\ndone 0\n", "line 2 ends a moment that is not whole"), ("moment 0\nalert A 0 -\n", "line 2 is an alert of A"),
               ("moment 0\ntrack 5 0 1\n", "line 2 does not rise"), ("moment 0\ntrack 0 5 1\ntrack 5 9 0\n", "line 3 does not rise"),
-              ("config 3\n", "line 1"), ("moment", "no whole line"))
+              ("config 3\n", "line 1 is no line of a report there: 'config 3'; the configuration was refused, and tools/check says why"),
+              ("format 2\nmoment 0\n", "these are state lines, of which ./daidalus replay makes a report"), ("moment", "no whole line"))
 
 
 class Reports(ToolTest):
@@ -212,8 +222,7 @@ class Pipes(unittest.TestCase):
             self.assertRegex(out.stdout, rf"\n  (\./daidalus .*\| )?tools/{tool} ", tool)
 
     def test_the_list_of_tools_is_whole(self):
-        there = {name for name in os.listdir(os.path.join(TOP, "tools")) if not name.endswith(".py") and name != "__pycache__"}
-        self.assertEqual(there, set(TOOLS))
+        self.assertEqual(tools_for_users(), set(TOOLS))
 
     def test_the_program_is_there(self):
         self.assertTrue(os.access(program(), os.X_OK))

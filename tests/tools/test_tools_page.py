@@ -13,6 +13,7 @@ import sys
 import unittest
 
 from common import TOP, ToolTest, program
+from test_reports import tools_for_users
 
 PAGE = os.path.join(TOP, "docs", "TOOLS.md")
 INSTALLED = ("parallel", "jq")  # not part of every system
@@ -84,8 +85,7 @@ class Page(ToolTest):
         with open(PAGE, encoding="utf-8") as file:
             text = file.read()
         rows = re.findall(r"^\| `tools/(\w+)` \|", text, re.M)
-        there = [name for name in os.listdir(os.path.join(TOP, "tools")) if not name.endswith(".py") and name != "__pycache__"]
-        self.assertEqual(sorted(rows), sorted(there))
+        self.assertEqual(sorted(rows), sorted(tools_for_users()))
         self.assertLess(len(text.encode()), 20000)
 
     def test_the_picture_of_the_recording_is_drawn(self):

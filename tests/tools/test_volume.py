@@ -14,6 +14,8 @@ def level_of(**values):
     return Level(**{**dict.fromkeys(Level._fields, 0), **values})
 
 
+# The keys that name a model, each 1 by itself, and none.
+MODELS = [{}, *({key: 1} for key in volume.MODELS if key in Level._fields)]
 EXAMPLE = {"dthr": 660, "zthr": 450, "tthr": 35, "lookahead": 75, "alert": 55}
 
 
@@ -22,10 +24,10 @@ class Volumes(ToolTest):
         """At random places, for each model: an aircraft ahead that comes at a whole speed, heights being equal."""
         draw, config = random.Random(5), read_config(CONFIG)
         counts = {False: 0, True: 0}
-        for tcpa in (0, 1):
+        for model in MODELS:
             for _ in range(3000):
                 dthr, tthr, speed = draw.randint(100, 2000), draw.randint(0, 60), draw.randint(100, 6000)
-                level = level_of(dthr=dthr, zthr=450, tthr=tthr, lookahead=60, alert=60, tcpa=tcpa)
+                level = level_of(dthr=dthr, zthr=450, tthr=tthr, lookahead=60, alert=60, **model)
                 east, ahead = draw.randint(-dthr - 200, dthr + 200), draw.randint(-dthr - 200, 2 * dthr + tthr * speed // 36)
                 moment = Moment(0, 1)
                 moment.own = Own(0, 0, 5000, 0, 0, 0)
