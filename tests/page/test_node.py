@@ -3,6 +3,7 @@ import base64
 import json
 import os
 import random
+import re
 import shutil
 import subprocess
 import tempfile
@@ -135,8 +136,8 @@ class Readers(unittest.TestCase):
                 with open(path, "wb") as file:
                     file.write(config)
                 self.assertEqual(report, replayed(path, states), (config, states))
-                came |= {line for line in (" ".join(words.split()[::2]) for words in report.split("\n") if words.startswith(("config", "refused")))}
-                came |= {line for line in report.split("\n") if line.startswith("config")}
+                came |= set(re.findall(r"(?m)^config \d+$", report))
+                came |= {f"refused {code}" for code in re.findall(r"(?m)^refused \d+ (\d+)$", report)}
         return came
 
     def test_states_with_wrong_lines(self):
@@ -151,7 +152,9 @@ class Readers(unittest.TestCase):
 
     def test_wrong_configurations(self):
         draw = random.Random(9)
-        came = self.compare([(wrong_config(draw, draw.choice(self.CONFIGS)), self.STATES[2]) for _ in range(300)])
+        texts = [wrong_config(draw, draw.choice(self.CONFIGS)) for _ in range(300)]
+        texts.append(self.CONFIGS[0].replace(b"step = 500", b"step = 1"))
+        came = self.compare([(text, self.STATES[2]) for text in texts])
         self.assertLessEqual({f"config {code}" for code in range(2, 9)}, came)
 
     def test_a_configuration_that_is_too_long(self):
@@ -171,11 +174,11 @@ class Readers(unittest.TestCase):
             least = [fault.why for fault in faults if fault.code == faults[0].code]
             self.assertEqual(got[0], faults[0].code, text)
             self.assertIn(got[1].split("; known")[0], [why.split("; known")[0] for why in least])
-            key = got[1].split(" ")[0].split(".")[-1].strip(",")
+            key = "step" if " candidates, " in got[1] else got[1].split(" ")[0].split(".")[-1].strip(",")
             if got[2] and got[0] != 4 and key.isidentifier() and key not in ("level", "there"):
                 self.assertIn(key, text.decode().split("\n")[got[2] - 1])
                 named += 1
-        self.assertGreater(named, 60)
+        self.assertGreater(named, 25)
 
 
 # Recordings.
