@@ -129,6 +129,22 @@ class Shown(PageTest):
             """, text_of(RECOVERY), states.decode())
         self.assertEqual(got, [True, replayed(RECOVERY, states)])
 
+    def test_last_times_are_shown(self):
+        """Lines `last` of a report, which the desk is made to answer, stand under the tapes and in the sentence."""
+        report = moments_of(replayed(THREE_LEVELS, bytes_of(ENCOUNTER)))[0]
+        report = report.replace("done 0\n", "last track 3\nlast gs none\nlast vs 12\nlast alt 0\ndone 0\n")
+        self.page.js("""const [view] = daa.page.views;
+            view.config.lastTimes = true;
+            view.desk.ask = () => Promise.resolve({ text: arguments[0] });
+            view.edition += 1;
+            dispatchEvent(new Event("resize"));""", report)
+        self.page.settle()
+        self.check_moment(report)
+        self.assertEqual(self.page.answers()["track", "last"], "turn within 3 s")
+        self.assertEqual(self.page.answers()["gs", "last"], "too late")
+        self.assertIn("Not later than: track in 3 s; vertical speed in 12 s; altitude in 0 s.", self.page.text("#summary"))
+        self.page.shot("last_times")
+
     def test_the_strip_over_time(self):
         """The greatest level of each moment stands in the strip, and a click goes to its moment."""
         self.page.wait("document.body.dataset.surveyed === '19'")

@@ -161,6 +161,18 @@ class Readers(unittest.TestCase):
         text = self.CONFIGS[0] + b"#" * 65536
         self.assertEqual(in_node([["faults", text]])[0][0], 1)
 
+    def test_keys_of_more_models_and_of_last_times(self):
+        """Where the lists of core.js have them: each may be left out, is 0 or 1, and one model at most is chosen."""
+        more = {"TOP": ["last_times"], "LEVEL": ["tau", "tep"], "RECOVERY": ["nearest"], "OPTIONAL": ["last_times", "tau", "tep", "nearest"]}
+        text = self.CONFIGS[1]
+        level = text.index(b"[[level]]") + len(b"[[level]]\n")
+        told = [(text, []), (b"last_times = 1\n" + text, []), (b"last_times = 2\n" + text, [[6, "last_times = 2 is outside 0 to 1 (0 or 1)", 1]])]
+        told.append((text[:level] + b"tau = 1\ntep = 0\n" + text[level:].replace(b"tcpa = 1", b"tcpa = 0"), []))
+        line = text[:level].count(b"\n") + 2
+        both = text[:level] + b"tau = 1\ntep = 1\n" + text[level:].replace(b"tcpa = 1", b"tcpa = 0")
+        told.append((both, [[6, "level 1, tau and tep are 1, and at most one may be", line]]))
+        self.assertEqual(in_node([["more", case, more] for case, _ in told]), [faults for _, faults in told])
+
     def test_the_sentence_of_a_fault_names_its_key(self):
         """The code and the sentence are those of tools/check, and the line has the key."""
         draw = random.Random(17)
