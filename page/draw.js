@@ -306,8 +306,8 @@
       out += `<circle cx="${n(own.x)}" cy="${n(own.y)}" r="${n(r)}" fill="none" stroke="var(--own)" stroke-dasharray="2 4">`
         + `<title>dthr of level ${resolve}</title></circle>`;
     }
-    for (const { words, p } of rangeWords(view, model)) out += text(p.x, p.y + g.font * 0.36, words, `class="small mid halo" font-size="${g.font - 1}"`);
-    return out;
+    const shown = ({ words, p }) => text(p.x, p.y + g.font * 0.36, words, `class="small mid halo" font-size="${g.font - 1}"`);
+    return out + rangeWords(view, model).map(shown).join("");
   }
 
   /** The symbol of a level: an open diamond, a full diamond, a disc, a square, a square with a cross; without an answer a ring with ?. */

@@ -10,7 +10,7 @@ import tempfile
 import unittest
 
 from shared import EXAMPLES, HERE, RECOVERY, THREE_LEVELS, Page, bytes_of, replayed, text_of, tool
-from daidalus_files import examine_config  # after shared, which says where it is
+from daidalus_files import examine_config  # noqa: E402 (after shared, which says where it is)
 
 PROBE = "process.exit(WebAssembly.validate(new Uint8Array([0, 97, 115, 109, 1, 0, 0, 0, 5, 3, 1, 4, 1])) ? 0 : 1)"
 HOW = "a node with 64-bit WebAssembly memory is missing (node 20 or later: nodejs.org, or the package nodejs where it is that new)"
