@@ -4,7 +4,9 @@
  * state lines: whole; 0.001 NM, 0.1 kt, ft, ft/min, degrees, s. */
 "use strict";
 function daaCore(root) {
-  // ---- The structs of crates/daa_c/include/daidalus.h. A field that is new comes at the end of its struct and of its line here.
+  // ---- The structs of crates/daa_c/include/daidalus.h. These lists are their fields in their order, and the keys that a
+  // configuration may have: a new key is added to its list here, to OPTIONAL if a text may leave it out, and to RANGES of
+  // toml.js.
 
   const TOP = ["resolve", "turn_rate", "track_step"];
   const GRID = ["min", "max", "step", "rate"];

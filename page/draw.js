@@ -11,7 +11,7 @@
   const TAPE_KINDS = ["gs", "alt", "vs"];
   const SIDES = { track: ["left", "right"], gs: ["down", "up"], vs: ["down", "up"], alt: ["down", "up"] };
   const VIEW_HEIGHTS = [1500, 3000, 6000, 12000];
-  const MODELS = { tcpa: "time to closest approach", tau: "tau", tep: "time to the entry point" };
+  const MODELS = { tcpa: "time to closest approach", tau: "tau", tep: "time to the entry" };
 
   const n = (value) => String(Math.round(value * 10) / 10);
   const escape = (text) => String(text).replace(/[&<>"]/g, (c) => ({ "&": "&amp;", "<": "&lt;", ">": "&gt;", '"': "&quot;" }[c]));
@@ -158,11 +158,14 @@
     return out;
   }
 
-  /** What the rings of the rose stand for: the boxes are also kept free of labels. */
-  function rangeWords(view) {
+  /** What the rings of the rose stand for, away from the ring's own answers; the boxes are also kept free of labels. */
+  function rangeWords(view, model) {
     const { g } = view;
+    const taken = answerBearings(model);
+    const isFree = (bearing) => taken.every((other) => Math.abs(wrap(bearing - other + 180) - 180) > 35);
+    const bearing = [150, 210, 120, 240, 60, 300].map((it) => wrap(view.up + it)).find(isFree) ?? view.up + 150;
     return [1 / 3, 2 / 3].map((share) => {
-      const p = at(view, view.up + 150, g.radius * share);
+      const p = at(view, bearing, g.radius * share);
       const words = `${n(view.range * share)} NM`;
       const wide = widthOf(words, g.font - 1);
       return { words, p, box: { x: p.x - wide / 2, y: p.y - g.font * 0.7, wide, tall: g.font * 1.3 } };
@@ -303,8 +306,8 @@
       out += `<circle cx="${n(own.x)}" cy="${n(own.y)}" r="${n(r)}" fill="none" stroke="var(--own)" stroke-dasharray="2 4">`
         + `<title>dthr of level ${resolve}</title></circle>`;
     }
-    for (const { words, p } of rangeWords(view)) out += text(p.x, p.y + g.font * 0.36, words, `class="small mid halo" font-size="${g.font - 1}"`);
-    return out;
+    const shown = ({ words, p }) => text(p.x, p.y + g.font * 0.36, words, `class="small mid halo" font-size="${g.font - 1}"`);
+    return out + rangeWords(view, model).map(shown).join("");
   }
 
   /** The symbol of a level: an open diamond, a full diamond, a disc, a square, a square with a cross; without an answer a ring with ?. */
@@ -360,7 +363,7 @@
     const own = plan(view, model.own.x, model.own.y);
     const boxOf = ({ x, y }, r) => ({ x: x - r, y: y - r, wide: 2 * r, tall: 2 * r });
     const tips = all.filter((it) => it.end === it.tip).map((it) => boxOf(it.tip, 6));
-    const boxes = [boxOf(own, 16), ...all.map((it) => boxOf(it.shown, 11)), ...tips, ...rangeWords(view).map((it) => it.box),
+    const boxes = [boxOf(own, 16), ...all.map((it) => boxOf(it.shown, 11)), ...tips, ...rangeWords(view, model).map((it) => it.box),
       ...answerBoxes(view, model)];
     const lines = all.map((it) => ({ x1: it.shown.x, y1: it.shown.y, x2: it.end.x, y2: it.end.y }));
     const ahead = flown(model.own, vectorSeconds(view));
@@ -371,13 +374,17 @@
     for (const it of order) it.label = labelOf(view, labels, it, `p:${it.one.id}` === view.chosen);
   }
 
-  /** The ring's own answers, which no label may cover. */
-  function answerBoxes(view, { said }) {
+  /** The bearings of the open tracks and of the recovery. */
+  function answerBearings({ said }) {
     if (!said) return [];
-    const f = view.g.font;
     const { lower, upper } = said.resolve.track;
-    const back = said.recover.track && said.recover.track.value;
-    return [lower, upper, back].filter((it) => typeof it === "number").map((bearing) => {
+    return [lower, upper, said.recover.track && said.recover.track.value].filter((it) => typeof it === "number");
+  }
+
+  /** The ring's own answers, which no label may cover. */
+  function answerBoxes(view, model) {
+    const f = view.g.font;
+    return answerBearings(model).map((bearing) => {
       const p = at(view, bearing, view.g.radius - f * 1.7);
       return { x: p.x - f * 1.6, y: p.y - f * 1.4, wide: f * 3.2, tall: f * 2.8 };
     });

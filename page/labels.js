@@ -6,7 +6,7 @@
   // What is paid for a place: for each unit of area over a label or a symbol, for each unit of length of a line under it ..
   const OVER_TEXT = 6;
   const OVER_LINE = 14;
-  const OFF_DISC = 900;
+  const OFF_DISC = 1600;
   const FARTHER = 260;
   const LATER_SIDE = 14;
   const LITTLE = 40; // so small an area may be covered by chance

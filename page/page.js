@@ -165,8 +165,8 @@
     $("slider").setAttribute("aria-valuetext", `${current.time} seconds, moment ${index + 1} of ${moments.length}`);
     setText($("clock"), `${current.time} s · ${index + 1} of ${moments.length}`);
     $("restore").disabled = !edited;
-    const mean = times.reduce((a, b) => a + b, 0) / times.length;
-    const took = !times.length ? "" : mean < 1 ? ` · ${Math.round(mean * 1000)} µs a moment` : ` · ${mean.toFixed(1)} ms a moment`;
+    const median = [...times].sort((a, b) => a - b)[Math.floor(times.length / 2)];
+    const took = !times.length ? "" : median < 1 ? ` · ${Math.round(median * 1000)} µs a moment` : ` · ${median.toFixed(1)} ms a moment`;
     setText($("engine"), `engine ${Math.round(state.engine.size / 1024)} KB${took}`);
     const refused = edited ? [] : state.refused.filter((it) => it.before === index);
     setText($("notes"), [...state.told, ...refused.map((it) => `line ${it.refused} was refused with code ${it.code}`)].join("; "));

@@ -13,21 +13,21 @@
       trk: moment.own.trk, open: Object.values(said.resolve.track).filter((to) => typeof to === "number") };
   }
 
-  /** How long the last moment, and one before a gap, is drawn: four times the median step. */
-  function longest(moments) {
+  /** The median step from moment to moment: so long the last one is drawn, and one before a gap four times as long. */
+  function medianStep(moments) {
     const steps = moments.slice(1).map((moment, i) => moment.time - moments[i].time).sort((a, b) => a - b);
-    return steps.length ? 4 * steps[Math.floor(steps.length / 2)] : 1;
+    return steps.length ? steps[Math.floor(steps.length / 2)] : 1;
   }
 
   /** The columns: from when to when each stands, and the notes that it shows. */
   function columnsOf(moments, notes) {
     const group = Math.ceil(moments.length / MOST_COLUMNS);
-    const most = longest(moments);
+    const step = medianStep(moments);
     const columns = [];
     for (let first = 0; first < notes.length; first += group) {
       const last = Math.min(first + group, notes.length) - 1;
-      const next = last + 1 < moments.length ? moments[last + 1].time : moments[last].time + most / 4;
-      columns.push({ from: moments[first].time, upto: Math.min(next, moments[last].time + most), notes: notes.slice(first, last + 1) });
+      const next = last + 1 < moments.length ? moments[last + 1].time : moments[last].time + step;
+      columns.push({ from: moments[first].time, upto: Math.min(next, moments[last].time + 4 * step), notes: notes.slice(first, last + 1) });
     }
     return columns;
   }
@@ -52,7 +52,7 @@
     const rows = clamp(loud.length, 0, Math.floor((0.55 * (height - MARGIN.bottom)) / ROW));
     const shown = loud.slice(0, rows);
     const first = moments[0].time;
-    const last = Math.max(moments[moments.length - 1].time + longest(moments) / 4, first + 1);
+    const last = moments[moments.length - 1].time + medianStep(moments);
     const wide = width - MARGIN.left - MARGIN.right;
     const top = rows * ROW + 6;
     const foot = Math.round(moments[0].own.trk / 90) * 90 - FULL_TURN / 2; // the ownship's first track is in the middle
@@ -126,7 +126,7 @@
     const g = svg.daaG;
     const next = index + 1 < moments.length ? moments[index + 1].time : g.last;
     const x = g.x(moments[index].time);
-    const wide = Math.max(Math.min(g.x(next), g.x(moments[index].time + longest(moments))) - x, 3);
+    const wide = Math.max(Math.min(g.x(next), g.x(moments[index].time + 4 * medianStep(moments))) - x, 3);
     svg.querySelector(".now").setAttribute("d", box(x - 0.5, 1, wide + 1, g.top + g.tall - 1));
     const most = notes.length ? Math.max(...notes.map((note) => Math.max(0, ...note.levels.values()))) : 0;
     svg.setAttribute("aria-label", `Alert levels and track bands over time: ${moments.length} moments, the greatest alert level is ${most}`);

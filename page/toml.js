@@ -403,7 +403,7 @@ function daaToml(root) {
     keyFaults(add, `level ${number}, `, level, daa.LEVEL, isOptional);
     numberFaults(add, `level ${number}, `, level, daa.LEVEL, RANGES.level);
     const chosen = MODELS.filter((key) => level.get(key) === 1n);
-    if (chosen.length > 1) add(6, `level ${number}, ${chosen.join(" and ")} are both 1`, level.lines.get(chosen[1]));
+    if (chosen.length > 1) add(6, `level ${number}, ${chosen.join(" and ")} are 1, and at most one may be`, level.lines.get(chosen[1]));
   }
 
   /** The numbers of a document without the faults 3 to 5, under the names that core.js has for the engine's struct. */

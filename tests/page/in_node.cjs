@@ -31,6 +31,12 @@ const TASKS = {
     }
   },
 
+  /** The faults of a text of which more keys may be left out: those of each list of core.js, by its name. */
+  more(engine, toml, keys) {
+    for (const [list, names] of Object.entries(keys)) for (const name of names) if (!daa[list].includes(name)) daa[list].push(name);
+    return daa.faultsOf(daa.readToml(bytesOf(toml))).map(({ code, why, line }) => [code, why, line]);
+  },
+
   recording(engine, text, own) {
     try {
       return daa.fromRecording(new TextDecoder().decode(bytesOf(text)), own);

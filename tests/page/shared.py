@@ -1,5 +1,6 @@
 """What the tests of the page share: where things are, runs of the program, and what a report says."""
 import functools
+import math
 import os
 import re
 import subprocess
@@ -10,6 +11,9 @@ TOP = os.path.dirname(os.path.dirname(HERE))
 sys.dont_write_bytecode = True
 sys.path.insert(0, os.path.join(TOP, "tools"))
 
+from daidalus_files import Moment, Reader, own_line, traffic_line  # noqa: E402 (tools/ is no package)
+
+DISPLAYED_SECONDS = 60  # how far velocities are drawn on a range of 6 NM or more
 EXAMPLES = os.path.join(TOP, "examples")
 THREE_LEVELS, RECOVERY = (os.path.join(EXAMPLES, f"{name}.toml") for name in ("three_levels", "recovery"))
 ENCOUNTER = os.path.join(EXAMPLES, "encounter.states")
@@ -53,6 +57,29 @@ def replayed(config, states):
 def tool(*words):
     """What a tool of the repository writes."""
     return subprocess.run([os.path.join(TOP, "tools", words[0]), *words[1:]], capture_output=True, check=True, timeout=300).stdout
+
+
+def moments_in(states):
+    """The moments of state lines: the text of each, as the page writes it, and its states."""
+    found = [event for event in Reader().read(states) if isinstance(event, Moment)]
+
+    def text(moment):
+        form = 2 if any(one.age for one in moment.traffic) else 1
+        lines = [f"moment {moment.time}", own_line(moment.own), *(traffic_line(one, form) for one in moment.traffic), "end"]
+        return "".join(line + "\n" for line in lines)
+
+    return [(text(moment), moment) for moment in found]
+
+
+def places_of(moment, seconds):
+    """Where the display has each aircraft and each end of a velocity, in NM east and north of the ownship, by their keys."""
+    own, found = moment.own, {"p:": (0, 0)}
+    angle = math.radians(own.trk)
+    found["v:"] = own.gs * math.sin(angle) * seconds / 36000, own.gs * math.cos(angle) * seconds / 36000
+    for one in moment.traffic:
+        for key, after in (("p:", one.age), ("v:", one.age + seconds)):
+            found[key + one.id] = ((one.x - own.x + one.vx * after / 36) / 1000, (one.y - own.y + one.vy * after / 36) / 1000)
+    return found
 
 
 def moments_of(report):

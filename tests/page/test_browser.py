@@ -1,5 +1,6 @@
 """The whole page in Chromium, opened as a file and used by real events; what it shows is compared with the program's report."""
 import json
+import math
 import os
 import re
 import subprocess
@@ -8,8 +9,8 @@ import unittest
 import xml.etree.ElementTree
 
 from browser import ActionChains, Browser, By, HAS_BROWSER, HOW, Keys
-from shared import (ENCOUNTER, EXAMPLES, KINDS, RECOVERY, THREE_LEVELS, TOP, answers_of, bands_of, bytes_of, levels_of, moments_of,
-                    replayed, text_of, tool)
+from shared import (DISPLAYED_SECONDS, ENCOUNTER, EXAMPLES, KINDS, RECOVERY, THREE_LEVELS, TOP, answers_of, bands_of, bytes_of, levels_of, moments_of,
+                    moments_in, places_of, replayed, text_of, tool)
 
 SIZES = ((1024, 700), (1920, 1080))
 LONGEST = os.path.join(TOP, "bench", "worst_moments", "recover")
@@ -80,13 +81,30 @@ class PageTest(unittest.TestCase):
         self.assertEqual(self.page.answers(place), answers_of(report))
 
 
+    def check_places(self, moment):
+        """Symbols stand where the states are, and rings at the ends of velocities where they will be, to a pixel."""
+        g, range_nm = self.page.js("const [{ drawn, look }] = daa.page.views; return [drawn.g, look.range]")
+        shown = self.page.js("""return Object.fromEntries([...document.querySelectorAll("figure[data-view='0'] .handle")].map((it) => [it.dataset.key,
+            it.getAttribute("transform").match(/[-.0-9]+/g).map(Number)]))""")
+        compared = 0
+        for key, (east, north) in places_of(moment, DISPLAYED_SECONDS).items():
+            x, y = g["centre"]["x"] + east / range_nm * g["radius"], g["centre"]["y"] - north / range_nm * g["radius"]
+            if math.hypot(x - g["centre"]["x"], y - g["centre"]["y"]) < g["radius"] - 12:
+                self.assertTrue(abs(shown[key][0] - x) < 1 and abs(shown[key][1] - y) < 1, (key, shown[key], x, y))
+                compared += 1
+        self.assertGreaterEqual(compared, 4)
+
+
 class Shown(PageTest):
     def test_each_moment_of_the_encounter(self):
-        """Lines, symbols' levels, ring, tapes, answers, table and sentence, at each step of the slider."""
+        """States, places, lines, symbols' levels, ring, tapes, answers, table and sentence, at each step of the slider."""
         moments = moments_of(replayed(THREE_LEVELS, bytes_of(ENCOUNTER)))
+        recorded = moments_in(bytes_of(ENCOUNTER))
         self.assertEqual(int(self.page.one("#slider").get_attribute("max")) + 1, len(moments))
         for place, moment in enumerate(moments):
             self.page.step_to(place)
+            self.assertEqual(self.page.states().removeprefix("format 2\n"), recorded[place][0])
+            self.check_places(recorded[place][1])
             self.check_moment(moment)
             rows = self.page.js("return [...document.querySelectorAll('#aircraft tbody tr')].slice(1).map((it) => [it.cells[0].textContent, Number(it.querySelector('.chip').textContent)])")
             self.assertEqual(dict(rows), levels_of(moment))
@@ -128,6 +146,22 @@ class Shown(PageTest):
             Promise.all(moments.map((moment) => desk.ask({ config, moment }))).then((answers) => done([Boolean(desk.worker), answers.map((it) => it.text).join("")]));
             """, text_of(RECOVERY), states.decode())
         self.assertEqual(got, [True, replayed(RECOVERY, states)])
+
+    def test_last_times_are_shown(self):
+        """Lines `last` of a report, which the desk is made to answer, stand under the tapes and in the sentence."""
+        report = moments_of(replayed(THREE_LEVELS, bytes_of(ENCOUNTER)))[0]
+        report = report.replace("done 0\n", "last track 3\nlast gs none\nlast vs 12\nlast alt 0\ndone 0\n")
+        self.page.js("""const [view] = daa.page.views;
+            view.config.lastTimes = true;
+            view.desk.ask = () => Promise.resolve({ text: arguments[0] });
+            view.edition += 1;
+            dispatchEvent(new Event("resize"));""", report)
+        self.page.settle()
+        self.check_moment(report)
+        self.assertEqual(self.page.answers()["track", "last"], "turn within 3 s")
+        self.assertEqual(self.page.answers()["gs", "last"], "too late")
+        self.assertIn("Not later than: track in 3 s; vertical speed in 12 s; altitude in 0 s.", self.page.text("#summary"))
+        self.page.shot("last_times")
 
     def test_the_strip_over_time(self):
         """The greatest level of each moment stands in the strip, and a click goes to its moment."""

@@ -3,13 +3,14 @@ import base64
 import json
 import os
 import random
+import re
 import shutil
 import subprocess
 import tempfile
 import unittest
 
 from shared import EXAMPLES, HERE, RECOVERY, THREE_LEVELS, Page, bytes_of, replayed, text_of, tool
-from daidalus_files import examine_config  # after shared, which says where it is
+from daidalus_files import examine_config  # noqa: E402 (after shared, which says where it is)
 
 PROBE = "process.exit(WebAssembly.validate(new Uint8Array([0, 97, 115, 109, 1, 0, 0, 0, 5, 3, 1, 4, 1])) ? 0 : 1)"
 HOW = "a node with 64-bit WebAssembly memory is missing (node 20 or later: nodejs.org, or the package nodejs where it is that new)"
@@ -135,8 +136,8 @@ class Readers(unittest.TestCase):
                 with open(path, "wb") as file:
                     file.write(config)
                 self.assertEqual(report, replayed(path, states), (config, states))
-                came |= {line for line in (" ".join(words.split()[::2]) for words in report.split("\n") if words.startswith(("config", "refused")))}
-                came |= {line for line in report.split("\n") if line.startswith("config")}
+                came |= set(re.findall(r"(?m)^config \d+$", report))
+                came |= {f"refused {code}" for code in re.findall(r"(?m)^refused \d+ (\d+)$", report)}
         return came
 
     def test_states_with_wrong_lines(self):
@@ -151,12 +152,26 @@ class Readers(unittest.TestCase):
 
     def test_wrong_configurations(self):
         draw = random.Random(9)
-        came = self.compare([(wrong_config(draw, draw.choice(self.CONFIGS)), self.STATES[2]) for _ in range(300)])
+        texts = [wrong_config(draw, draw.choice(self.CONFIGS)) for _ in range(300)]
+        texts.append(self.CONFIGS[0].replace(b"step = 500", b"step = 1"))
+        came = self.compare([(text, self.STATES[2]) for text in texts])
         self.assertLessEqual({f"config {code}" for code in range(2, 9)}, came)
 
     def test_a_configuration_that_is_too_long(self):
         text = self.CONFIGS[0] + b"#" * 65536
         self.assertEqual(in_node([["faults", text]])[0][0], 1)
+
+    def test_keys_of_more_models_and_of_last_times(self):
+        """Where the lists of core.js have them: each may be left out, is 0 or 1, and one model at most is chosen."""
+        more = {"TOP": ["last_times"], "LEVEL": ["tau", "tep"], "RECOVERY": ["nearest"], "OPTIONAL": ["last_times", "tau", "tep", "nearest"]}
+        text = self.CONFIGS[1]
+        level = text.index(b"[[level]]") + len(b"[[level]]\n")
+        told = [(text, []), (b"last_times = 1\n" + text, []), (b"last_times = 2\n" + text, [[6, "last_times = 2 is outside 0 to 1 (0 or 1)", 1]])]
+        told.append((text[:level] + b"tau = 1\ntep = 0\n" + text[level:].replace(b"tcpa = 1", b"tcpa = 0"), []))
+        line = text[:level].count(b"\n") + 2
+        both = text[:level] + b"tau = 1\ntep = 1\n" + text[level:].replace(b"tcpa = 1", b"tcpa = 0")
+        told.append((both, [[6, "level 1, tau and tep are 1, and at most one may be", line]]))
+        self.assertEqual(in_node([["more", case, more] for case, _ in told]), [faults for _, faults in told])
 
     def test_the_sentence_of_a_fault_names_its_key(self):
         """The code and the sentence are those of tools/check, and the line has the key."""
@@ -171,11 +186,11 @@ class Readers(unittest.TestCase):
             least = [fault.why for fault in faults if fault.code == faults[0].code]
             self.assertEqual(got[0], faults[0].code, text)
             self.assertIn(got[1].split("; known")[0], [why.split("; known")[0] for why in least])
-            key = got[1].split(" ")[0].split(".")[-1].strip(",")
+            key = "step" if " candidates, " in got[1] else got[1].split(" ")[0].split(".")[-1].strip(",")
             if got[2] and got[0] != 4 and key.isidentifier() and key not in ("level", "there"):
                 self.assertIn(key, text.decode().split("\n")[got[2] - 1])
                 named += 1
-        self.assertGreater(named, 60)
+        self.assertGreater(named, 25)
 
 
 # Recordings.
