@@ -133,6 +133,8 @@ class FromDaa(ToolTest):
         for text in (text, text.replace(" [hh:mm:ss]", "")):
             moments, said = self.made(text)
             self.assertEqual([(moment.time, moment.own.alt, moment.traffic[0].alt) for moment in moments], [(3723, 1000, 2030)], said)
+        plain = text.replace("time,", "time [hh:mm:ss],").replace("01:02:03", "7").replace("1:02:03.5", "7.5")
+        self.assertEqual(self.made(plain)[0][0].time, 7)
         self.assertEqual(self.made(text.replace("1:02:03", "24:00:00"))[0][0].time, 86400)
         status, _, said = self.tool("from_daa", self.write("in.csv", text.replace("1:02:03.5", "1:62:03")))
         self.assertEqual(status, 3)

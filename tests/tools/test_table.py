@@ -1,9 +1,13 @@
 """tools/table and tools/steady: their rows and lines, worked out by hand from reports written by hand."""
 import csv
 import json
+import os
+import select
+import subprocess
+import sys
 import unittest
 
-from common import ToolTest
+from common import TOP, ToolTest
 from test_reports import KEEP, REPORT
 
 # What the two moments of REPORT say of its aircraft and of track, as rows.
@@ -64,6 +68,8 @@ class Tables(ToolTest):
         rows, _ = self.table(text, "aircraft")
         self.assertEqual([",".join((row["encounter"], row["aircraft"], row["changed"])) for row in csv.DictReader(rows)],
                          ["1,A,new", "1,A,", "1,B,new", "2,A,new", "2,B,new", "2,A,alert", "2,B,"])
+        rows, _ = self.table(moment(0, 1, 0) + moment(1, 1, None) + moment(2, 1, 0), "aircraft")
+        self.assertEqual(rows[-1], "1,2,B,0,0,,,new")
         rows, _ = self.table(text, "aircraft", "--pause", "50")
         self.assertEqual([row["encounter"] for row in csv.DictReader(rows)], ["1", "1", "1", "2", "2", "3", "3"])
 
@@ -105,6 +111,23 @@ class SteadyAlerts(ToolTest):
     def test_an_encounter_begins_with_nothing(self):
         text = moment(0, 3) + moment(1, 3) + moment(0, 3) + moment(1, 3)
         self.assertEqual(self.levels(text, "--m", "2", "--n", "2", "--hold", "9"), {"A": [0, 3, 0, 3]})
+
+    def test_a_moment_is_passed_on_at_once(self):
+        """The lines of the first moment come while the second is not yet written."""
+        buffered = {name: value for name, value in os.environ.items() if name != "PYTHONUNBUFFERED"}
+        run = subprocess.Popen([sys.executable, "-B", os.path.join(TOP, "tools", "steady"), "--m", "1"], stdin=subprocess.PIPE,
+                               stdout=subprocess.PIPE, text=True, env=buffered)
+        self.addCleanup(run.stdout.close)
+        self.addCleanup(run.kill)
+        run.stdin.write(moment(7, 2))
+        run.stdin.flush()
+        found, ready = [], select.select([run.stdout], [], [], 60)[0]
+        self.assertTrue(ready, "nothing came within a minute")
+        while not found or not found[-1].startswith("done"):
+            found.append(run.stdout.readline())
+        self.assertIn("steady A 2\n", found)
+        run.stdin.close()
+        self.assertEqual(run.wait(), 0)
 
     def test_the_other_tools_read_it(self):
         text = moment(0, 3, 0) + "refused 7 3\n" + moment(1, 3, 0)

@@ -20,6 +20,14 @@ INSTALLED = ("parallel", "jq")  # not part of every system
 LINKED = ("tools", "examples")
 
 
+def is_there(name):
+    """Whether it is installed; another program is named parallel, too."""
+    if not shutil.which(name):
+        return False
+    told = subprocess.run([name, "--version"], stdin=subprocess.DEVNULL, capture_output=True, text=True).stdout
+    return name != "parallel" or told.startswith("GNU parallel")
+
+
 def blocks_of(text):
     """The indented blocks of a page, each with the paragraph before it."""
     found, block, words = [], [], ""
@@ -68,7 +76,7 @@ class Page(ToolTest):
             commands = commands_of(file.read())
         shown = 0
         for block, status, output, is_beginning in commands:
-            missing = [name for name in INSTALLED if re.search(rf"(^|\| *){name} ", block, re.M) and not shutil.which(name)]
+            missing = [name for name in INSTALLED if re.search(rf"(^|\| *){name} ", block, re.M) and not is_there(name)]
             if missing:
                 print(f"left out, since there is no {missing[0]} (apt-get install {missing[0]}): {block}", file=sys.stderr)
                 continue
