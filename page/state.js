@@ -11,10 +11,11 @@
   const RANGES_NM = [1.5, 3, 6, 9, 12, 18, 24, 36, 48, 96, 192]; // so that their thirds are short numbers
   const LIMITS = { x: [-200000, 200000], y: [-200000, 200000], alt: [-2000, 60000], trk: [0, 359], gs: [0, 10000],
     vx: [-10000, 10000], vy: [-10000, 10000], vs: [-10000, 10000], age: [0, 60] };
+  const PAPER = { display: { width: 1100, height: 680 }, strip: { width: 1100, height: 150 } };
   const SOON = 60; // ms: an answer that takes longer is waited for with the bands hidden
 
   const state = { engine: null, survey: null, views: [], name: "", moments: [], refused: [], index: 0, current: null, version: 0,
-    edited: false, chosen: "p:", held: null, playing: null, compare: false, notes: [], ids: [], job: 0, unfolded: false,
+    edited: false, chosen: "p:", held: null, playing: null, compare: false, paper: false, notes: [], ids: [], job: 0, unfolded: false,
     linesOpen: false, recording: null, told: [], times: [] };
   daa.page = state;
 
@@ -85,6 +86,15 @@
     return fault.field ? `${fault.field} of ${who} is not within ${fault.least} and ${fault.greatest}` : `${cause}: ${who}`;
   }
 
+  addEventListener("beforeprint", () => {
+    state.paper = true;
+    paint();
+  });
+  addEventListener("afterprint", () => {
+    state.paper = false;
+    changed();
+  });
+
   let late = null;
   function paintWhenAnswered() {
     if (shownViews().every(isAnswered)) {
@@ -111,12 +121,19 @@
     document.body.dataset.settled = shownViews().every(isAnswered) ? "yes" : "no";
   }
 
+  /** How large a picture is drawn: as large as its place, and on paper in a shape of its own. */
+  function sizeOf(svg) {
+    if (state.paper) return svg.id === "strip" ? PAPER.strip : PAPER.display;
+    const { width, height } = svg.getBoundingClientRect();
+    return { width: Math.round(width), height: Math.round(height) };
+  }
+
   function paintView(figure, view) {
     paintCaption(figure, view);
     const svg = figure.querySelector("svg");
-    const { width, height } = svg.getBoundingClientRect();
-    if (width < 50 || height < 50) return;
-    view.drawn = draw(svg, lookOf(view), modelOf(view), { width: Math.round(width), height: Math.round(height) });
+    const size = sizeOf(svg);
+    if (size.width < 50 || size.height < 50) return;
+    view.drawn = draw(svg, lookOf(view), modelOf(view), size);
     const said = saidOf(view);
     const most = said ? Math.max(0, ...said.aircraft.map((one) => one.level)) : null;
     const told = most === null ? faultOf(view) : `${said.aircraft.length} aircraft, the greatest alert level is ${most}`;
@@ -201,12 +218,11 @@
   }
 
   function paintStrip() {
-    const svg = $("strip");
-    const { width, height } = svg.getBoundingClientRect();
+    const size = sizeOf($("strip"));
     const { moments, notes, ids, index, views } = state;
-    if (width < 100 || !moments.length) return;
+    if (size.width < 100 || !moments.length) return;
     const { step } = views[0].config.grids.track;
-    daa.drawStrip(svg, { width: Math.round(width), height: Math.round(height) }, { moments, notes, ids, index, step });
+    daa.drawStrip($("strip"), size, { moments, notes, ids, index, step });
   }
 
   $("strip").addEventListener("pointerdown", (event) => {
