@@ -86,8 +86,9 @@
   function tapeIn(g, left, top, width, bottom) {
     const f = g.font;
     const band = Math.round(f * 1.9);
-    const spare = Math.max(width - f * 8, 0);
-    return { left, width, top: top + g.line * 1.2, bottom, x: left + f * 4.3 + spare * 0.3, band, labels: width >= f * 10.2 };
+    const labels = width >= f * 11.1; // room for the values of answers beside their marks
+    const spare = Math.max(width - f * (labels ? 11.1 : 8), 0);
+    return { left, width, top: top + g.line * 1.2, bottom, x: left + f * 4.3 + spare * 0.3, band, labels };
   }
 
   /** Tapes on both sides of the compass: ground speed left, altitude and vertical speed right. */

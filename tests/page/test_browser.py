@@ -1,4 +1,5 @@
 """The whole page in Chromium, opened as a file and used by real events; what it shows is compared with the program's report."""
+import base64
 import json
 import math
 import os
@@ -675,7 +676,7 @@ class Everyone(PageTest):
         self.assertIn("track right to 10°", self.page.text("#summary"))
 
     def test_on_paper(self):
-        """On paper the ground is white, whatever the screen's, patterns stay, and controls are gone."""
+        """On paper the ground is white, whatever the screen's, patterns stay, controls are gone, and all stands on one sheet."""
         self.page.step_to(3)
         self.page.media("print", prefers_color_scheme="dark")
         self.assertEqual(self.page.js("return getComputedStyle(document.body).backgroundColor"), "rgb(255, 255, 255)")
@@ -685,13 +686,11 @@ class Everyone(PageTest):
         for selector in ("figure svg", "#strip", "#summary", "#aircraft", "#report"):
             self.assertTrue(self.page.one(selector).is_displayed(), selector)
         self.assertEqual(self.page.js("return document.querySelector(\"[data-layer=ring] [data-level='3']\").getAttribute('fill')"), "url(#level3)")
+        self.page.js("dispatchEvent(new Event('beforeprint'))")
         self.page.shot("paper")
+        self.page.js("dispatchEvent(new Event('afterprint'))")
         paper = self.page.driver.execute_cdp_cmd("Page.printToPDF", {"printBackground": False, "paperWidth": 8.27, "paperHeight": 11.69})["data"]
-        self.assertGreater(len(paper), 20000)
-        if os.environ.get("PAGE_SHOTS"):
-            import base64
-            with open(os.path.join(os.environ["PAGE_SHOTS"], "paper.pdf"), "wb") as file:
-                file.write(base64.b64decode(paper))
+        self.assertEqual(len(re.findall(rb"/Type\s*/Page\b", base64.b64decode(paper))), 1)
 
     def test_nothing_is_asked_of_a_network(self):
         """All that was loaded is of the page's own folder, and the browser refuses to fetch."""

@@ -1,0 +1,149 @@
+/* What can be moved by hand: by the pointer, and by the keys. */
+"use strict";
+(function () {
+  const { ui } = daa;
+  const { wrap, unplan, scaleOf, vectorSeconds } = daa;
+  const { state, within, shownViews, changed, lookOf, restore, edited, choose, play, goTo, act, remove } = ui;
+
+  // ---- moving things: by the pointer
+
+  const pointIn = (svg, event) => new DOMPoint(event.clientX, event.clientY).matrixTransform(svg.getScreenCTM().inverse());
+  const aircraftOf = (id) => (id ? state.current.traffic.find((one) => one.id === id) : state.current.own);
+
+  /** Moves what a key names to a point of a display. */
+  function moveTo(key, point, view) {
+    const { own } = state.current;
+    const [what, id] = key.split(":");
+    const one = aircraftOf(id);
+    const look = { ...view.drawn, ...lookOf(view) };
+    if (what === "p") movePlace(one, unplan(look, point));
+    else if (what === "v") {
+      const to = unplan(look, point);
+      const seconds = (one.age || 0) + vectorSeconds(look);
+      setVelocity(one, ((to.x - one.x) * 36) / seconds, ((to.y - one.y) * 36) / seconds);
+    } else if (what === "track") {
+      const { x, y } = look.g.centre;
+      own.trk = wrap(Math.round(look.up + (Math.atan2(point.x - x, y - point.y) * 180) / Math.PI));
+    } else {
+      const grid = { gs: 10, vs: 50, alt: 50 }[what];
+      own[what] = within(Math.round(scaleOf(look, { config: view.config, own }, what).value(point.y) / grid) * grid, what);
+    }
+  }
+
+  /** Puts a state so that it is at a place now: the report of an aircraft is where it was before. */
+  function movePlace(one, to) {
+    const age = one.age || 0;
+    one.x = within(to.x - ((one.vx || 0) * age) / 36, "x");
+    one.y = within(to.y - ((one.vy || 0) * age) / 36, "y");
+  }
+
+  function setVelocity(one, vx, vy) {
+    if ("trk" in one) {
+      one.gs = within(Math.hypot(vx, vy), "gs");
+      if (one.gs) one.trk = wrap(Math.round((Math.atan2(vx, vy) * 180) / Math.PI));
+    } else {
+      one.vx = within(vx, "vx");
+      one.vy = within(vy, "vy");
+    }
+  }
+
+  function hold(svg, event) {
+    const handle = event.target.closest(".handle");
+    if (!handle) return;
+    event.preventDefault();
+    const { key } = handle.dataset;
+    const { own } = state.current;
+    const point = pointIn(svg, event);
+    const [, x, y] = /translate\((\S+) (\S+)\)/.exec(handle.getAttribute("transform"));
+    state.held = { key, middle: { x: own.x, y: own.y }, trk: own.trk, own: { gs: own.gs, vs: own.vs, alt: own.alt },
+      off: { x: Number(x) - point.x, y: Number(y) - point.y } };
+    svg.setPointerCapture(event.pointerId);
+    handle.focus({ preventScroll: true });
+    choose(key);
+  }
+
+  function drop() {
+    if (!state.held) return;
+    state.held = null;
+    changed();
+  }
+
+  for (const figure of document.querySelectorAll("figure")) {
+    const svg = figure.querySelector("svg");
+    const view = () => state.views[Number(figure.dataset.view)];
+    figure.querySelector("figcaption").addEventListener("click", ({ target }) => act(target.dataset.do, view(), figure));
+    svg.addEventListener("pointerdown", (event) => hold(svg, event));
+    svg.addEventListener("pointermove", (event) => {
+      if (!state.held) return;
+      const { off, key } = state.held;
+      const point = pointIn(svg, event);
+      moveTo(key, { x: point.x + off.x, y: point.y + off.y }, view());
+      edited();
+    });
+    svg.addEventListener("pointerup", drop);
+    svg.addEventListener("pointercancel", drop);
+    svg.addEventListener("wheel", (event) => {
+      event.preventDefault();
+      act(event.deltaY > 0 ? "wide" : "near", view(), figure);
+    }, { passive: false });
+    svg.addEventListener("keydown", (event) => {
+      const handle = event.target.closest(".handle");
+      if (!handle || event.ctrlKey || event.metaKey || event.altKey) return;
+      if (!press(handle.dataset.key, event.key, event.shiftKey, view())) return;
+      event.preventDefault();
+      edited();
+    });
+    svg.addEventListener("focusin", ({ target }) => { if (target.matches(".handle")) choose(target.dataset.key); });
+  }
+
+  // ---- and by the keys
+
+  /** A key pressed at what can be moved; whether it means something there. */
+  function press(key, pressed, more, view) {
+    const { own, traffic } = state.current;
+    const [what, id] = key.split(":");
+    const one = aircraftOf(id);
+    const right = { ArrowRight: 1, ArrowLeft: -1 }[pressed] || 0;
+    const up = { ArrowUp: 1, ArrowDown: -1 }[pressed] || 0;
+    const high = { PageUp: 1, PageDown: -1 }[pressed] || 0;
+    if (pressed === "Delete" && id) {
+      remove(traffic.indexOf(one));
+      return true;
+    }
+    if (!right && !up && !high) return false;
+    if (high) one.alt = within(one.alt + high * (more ? 1000 : 100), "alt");
+    else if (what === "p") pushPlace(one, right, up, more ? 1000 : 100, lookOf(view));
+    else if (what === "v") turn(one, right * (more ? 1 : 5), up * 100);
+    else if (what === "track") own.trk = wrap(own.trk + (right || up) * (more ? 10 : 1));
+    else own[what] = within(own[what] + (up || right) * { gs: 50, vs: 100, alt: 100 }[what] * (more ? 10 : 1), what);
+    return true;
+  }
+
+  function pushPlace(one, right, up, by, look) {
+    const a = (look.up * Math.PI) / 180;
+    one.x = within(one.x + by * (right * Math.cos(a) + up * Math.sin(a)), "x");
+    one.y = within(one.y + by * (up * Math.cos(a) - right * Math.sin(a)), "y");
+  }
+
+  function turn(one, degrees, faster) {
+    if ("trk" in one) {
+      one.trk = wrap(one.trk + degrees);
+      one.gs = within(one.gs + faster, "gs");
+      return;
+    }
+    const speed = Math.max(Math.hypot(one.vx, one.vy) + faster, 0);
+    const bearing = Math.atan2(one.vx, one.vy) + (degrees * Math.PI) / 180;
+    setVelocity(one, speed * Math.sin(bearing), speed * Math.cos(bearing));
+  }
+
+  document.addEventListener("keydown", (event) => {
+    if (event.ctrlKey || event.metaKey || event.altKey) return;
+    if (event.target.closest("input, textarea, select, button, summary, [role=group][tabindex]") && event.key !== "Escape") return;
+    const range = (what) => () => shownViews().forEach((view) => act(what, view, true));
+    const does = { " ": play, ",": () => goTo(state.index - 1), ".": () => goTo(state.index + 1), Escape: restore,
+      "+": range("near"), "-": range("wide"), 0: range("fit") }[event.key];
+    if (!does) return;
+    event.preventDefault();
+    does();
+  });
+})();

@@ -1,0 +1,215 @@
+/* The panel: the aircraft and their numbers, the lines of the report, and the report in a sentence. */
+"use strict";
+(function () {
+  const { ui } = daa;
+  const { KINDS, SIDES, wrap, flown, escape, shownWords } = daa;
+  const { $, LIMITS, state, within, shownViews, setText, setHtml, download, changed, saidOf, faultOf, edited, choose } = ui;
+  const MOST_QUIET = 5; // so many aircraft without an alert are listed before they are folded
+
+  // ---- the table
+
+  const idOf = (key) => (key.includes(":") ? key.slice(2) : "");
+  const chosenAircraft = () => state.current.traffic.find((one) => one.id === idOf(state.chosen) && idOf(state.chosen) !== "");
+  const chip = (level) => `<span class="chip l${level}">${level}</span>`;
+
+  /** The aircraft, those that alert first, each with its place in the input. */
+  function rowsOf(said) {
+    const { own, traffic } = state.current;
+    const rows = traffic.map((one, place) => {
+      const here = flown(one, one.age);
+      const [east, north] = [(here.x - own.x) / 1000, (here.y - own.y) / 1000];
+      return { one, place, alert: said ? said.aircraft[place] : null, miles: Math.hypot(east, north),
+        bearing: wrap(Math.round((Math.atan2(east, north) * 180) / Math.PI)), above: Math.round(one.alt + (one.vs * one.age) / 60 - own.alt) };
+    });
+    const urgency = ({ alert }) => (alert ? 1000 * Math.max(alert.level, alert.now) - (alert.first || 0) : 0);
+    return rows.sort((a, b) => urgency(b) - urgency(a) || a.miles - b.miles);
+  }
+
+  const isQuiet = ({ alert }) => !alert || (alert.level === 0 && alert.now === 0);
+
+  function wordsOfAlert(alert) {
+    if (!alert) return "–";
+    const first = alert.first === null ? "" : alert.first === 0 ? " now" : ` ${alert.first} s`;
+    return `${chip(alert.level)}${first}${alert.now && alert.now !== alert.level ? `, ${chip(alert.now)} now` : ""}`;
+  }
+
+  const choiceHtml = (id, words) => `<td><button type="button" data-choose="${escape(id)}" aria-pressed="${idOf(state.chosen) === id}">`
+    + `${escape(words)}</button></td>`;
+
+  function rowHtml({ one, alert, miles, bearing, above }) {
+    const sign = above > 0 ? "+" : above < 0 ? "−" : "";
+    return `<tr class="${one === chosenAircraft() ? "chosen" : ""}">${choiceHtml(one.id, one.id || "(no name)")}<td>${wordsOfAlert(alert)}</td>`
+      + `<td>${miles.toFixed(2)}</td><td>${String(bearing).padStart(3, "0")}</td><td>${sign}${Math.abs(above)}</td></tr>`;
+  }
+
+  function paintTable() {
+    const { own, traffic } = state.current;
+    const rows = rowsOf(saidOf(state.views[0]));
+    const quiet = rows.filter(isQuiet);
+    const folds = quiet.length > MOST_QUIET;
+    const shown = folds && !state.unfolded ? rows.filter((row) => !isQuiet(row) || row.one === chosenAircraft()) : rows;
+    const climb = own.vs ? ` · ${own.vs} ft/min` : "";
+    const first = `<tr class="own ${chosenAircraft() ? "" : "chosen"}">${choiceHtml("", "ownship")}`
+      + `<td colspan="4">${own.trk}° · ${own.gs / 10} kt · ${own.alt} ft${climb}</td></tr>`;
+    const focused = document.activeElement.dataset.choose;
+    const isNew = setHtml($("aircraft").tBodies[0], first + shown.map(rowHtml).join(""));
+    const again = isNew && focused !== undefined && document.querySelector(`[data-choose="${CSS.escape(focused)}"]`);
+    if (again) again.focus();
+    $("rest").hidden = !folds;
+    setText($("rest"), state.unfolded ? "Fold those without an alert" : `${traffic.length - shown.length} more without an alert`);
+  }
+
+  $("aircraft").addEventListener("click", ({ target }) => { if (target.dataset.choose !== undefined) choose(`p:${target.dataset.choose}`); });
+  $("rest").addEventListener("click", () => {
+    state.unfolded = !state.unfolded;
+    changed();
+  });
+
+  // ---- the numbers of the chosen aircraft
+
+  const OWN_FIELDS = [["x", "east", "NM", 1000], ["y", "north", "NM", 1000], ["alt", "altitude", "ft", 1], ["trk", "track", "°", 1],
+    ["gs", "speed", "kt", 10], ["vs", "vertical", "ft/min", 1]];
+  const FIELDS = [["x", "east", "NM", 1000], ["y", "north", "NM", 1000], ["alt", "altitude", "ft", 1], ["vx", "east", "kt", 10],
+    ["vy", "north", "kt", 10], ["vs", "vertical", "ft/min", 1], ["age", "age", "s", 1]];
+
+  function paintForm() {
+    const one = chosenAircraft();
+    const fields = (one ? FIELDS : OWN_FIELDS).map(([field, name, unit, scale]) => {
+      const [low, high] = LIMITS[field];
+      return `<label>${name} ${unit}<input type="number" data-field="${field}" data-scale="${scale}"`
+        + ` min="${low / scale}" max="${high / scale}" step="${1 / scale}"></label>`;
+    });
+    const named = '<label>name <input data-field="id" maxlength="8" spellcheck="false"></label>';
+    const title = one ? `${named}<button type="button" data-remove>Remove</button>` : "Ownship";
+    setHtml($("state"), `<h2>${title}</h2><div class="fields">${fields.join("")}</div>`);
+    const from = one || state.current.own;
+    for (const input of $("state").querySelectorAll("input")) {
+      const { field, scale } = input.dataset;
+      const shown = field === "id" ? from.id : String(from[field] / Number(scale));
+      if (document.activeElement !== input) input.value = shown;
+    }
+  }
+
+  $("state").addEventListener("submit", (event) => event.preventDefault());
+  $("state").addEventListener("input", ({ target }) => {
+    const one = chosenAircraft() || state.current.own;
+    const { field, scale } = target.dataset;
+    const number = Number(target.value);
+    if (field === "id") {
+      one.id = target.value;
+      state.chosen = `p:${one.id}`;
+    } else if (target.value !== "" && Number.isFinite(number) && Math.abs(number) < 1e6) one[field] = Math.round(number * Number(scale));
+    edited();
+  });
+  $("state").addEventListener("click", ({ target }) => {
+    if (target.matches("[data-remove]")) remove(state.current.traffic.indexOf(chosenAircraft()));
+  });
+
+  function remove(place) {
+    if (place < 0) return;
+    state.current.traffic.splice(place, 1);
+    state.chosen = "p:";
+    edited();
+  }
+
+  $("add").addEventListener("click", () => {
+    const { own, traffic } = state.current;
+    let number = 1;
+    while (traffic.some((one) => one.id === `NEW${number}`)) number += 1;
+    const far = state.views[0].look.range * 500;
+    traffic.push({ id: `NEW${number}`, x: within(own.x + far, "x"), y: within(own.y + far, "y"), alt: own.alt, vx: -1500, vy: 0, vs: 0, age: 0 });
+    state.chosen = `p:NEW${number}`;
+    edited();
+  });
+
+  async function give(text, button, name) {
+    const before = button.textContent;
+    try {
+      await navigator.clipboard.writeText(text);
+      button.textContent = "Copied";
+    } catch {
+      download(new Blob([text], { type: "text/plain" }), name);
+      button.textContent = "Saved";
+    }
+    setTimeout(() => { button.textContent = before; }, 1500);
+  }
+
+  $("copy").addEventListener("click", ({ target }) => give(daa.stateLines([state.current]), target, `moment-${state.current.time}.states`));
+
+  // ---- the report
+
+  /** The level that a report line tells, or null. */
+  function levelOfLine(line) {
+    const [word, ...rest] = line.split(" ");
+    if (word === "now" || KINDS.includes(word)) return Number(rest[rest.length - 1]);
+    return word === "alert" ? Number(rest[1]) : null;
+  }
+
+  function lineHtml(line, number) {
+    const level = levelOfLine(line);
+    const [word] = line.split(" ");
+    const style = ["resolve", "recover", "last"].includes(word) ? word : level === null ? "faint" : "";
+    const mark = `<b class="${level ? `l${level}` : ""}">${level || ""}</b>`;
+    return `<div class="line" data-line="${number}">${mark}<span class="${style}">${escape(line)}</span></div>`;
+  }
+
+  /** The lines of a report: the aircraft that alert before the others, which are folded where they are many. */
+  function reportHtml(said) {
+    const lines = said.text.split("\n").slice(0, -1).map((line, number) => ({ line, number }));
+    const pairs = said.aircraft.map((one, place) => ({ one, lines: lines.slice(1 + 2 * place, 3 + 2 * place) }));
+    const html = (some) => some.map(({ line, number }) => lineHtml(line, number)).join("");
+    const loud = pairs.filter(({ one }) => one.level || one.now).sort((a, b) => b.one.level - a.one.level);
+    const quiet = pairs.filter(({ one }) => !one.level && !one.now);
+    const rest = html(quiet.flatMap((it) => it.lines));
+    const title = `<summary>${quiet.length} aircraft at level 0</summary>`;
+    const folded = `<details ${state.linesOpen ? "open" : ""}>${title}${rest}</details>`;
+    const aircraft = html(loud.flatMap((it) => it.lines)) + (quiet.length > MOST_QUIET ? folded : rest);
+    return html(lines.slice(0, 1)) + aircraft + html(lines.slice(1 + 2 * pairs.length));
+  }
+
+  function paintReport() {
+    const parts = shownViews().map((view, place) => {
+      const title = state.compare ? `<h3>${escape(view.name)}</h3>` : "";
+      const said = saidOf(view);
+      return `<div data-report="${place}">${title}${said ? reportHtml(said) : `<div class="faint">${escape(faultOf(view))}</div>`}</div>`;
+    });
+    setHtml($("report"), parts.join(""));
+  }
+
+  $("report").addEventListener("toggle", ({ target }) => { state.linesOpen = target.open; }, true);
+
+  // ---- the report in a sentence
+
+  const NAMES = { track: "track", gs: "ground speed", vs: "vertical speed", alt: "altitude" };
+
+  function paintSummary() {
+    const said = saidOf(state.views[0]);
+    if (!state.held) setText($("summary"), said ? summaryOf(said) : faultOf(state.views[0]));
+  }
+
+  function summaryOf(said) {
+    const loud = said.aircraft.filter((one) => one.level).sort((a, b) => b.level - a.level || a.first - b.first);
+    const alerts = loud.slice(0, 4).map((one) => `${one.id} level ${one.level} ${one.first === 0 ? "now" : `in ${one.first} s`}`);
+    if (loud.length > 4) alerts.push(`${loud.length - 4} more`);
+    const [open, back, none, last] = [[], [], [], []];
+    for (const kind of KINDS) sortAnswers(said, kind, open, back, none, last);
+    const list = (front, parts, mark = "; ") => (parts.length ? `${front}${parts.join(mark)}. ` : "");
+    const kept = open.length + back.length + none.length === 0 ? "The present flight may be kept. " : "";
+    const front = alerts.length ? list("Alerts: ", alerts, ", ") : "No alert. ";
+    return (front + kept + list("Open: ", open) + list("Clear again: ", back) + list("Nothing open: ", none, ", ")
+      + list("Not later than: ", last)).trim();
+  }
+
+  function sortAnswers(said, kind, open, back, none, last) {
+    const { lower, upper } = said.resolve[kind];
+    const again = said.recover[kind];
+    if (lower === "keep") return;
+    const sides = [lower, upper].flatMap((to, side) => (to === "none" ? [] : [`${SIDES[kind][side]} to ${shownWords(kind, to)}`]));
+    if (sides.length) open.push(`${NAMES[kind]} ${sides.join(" or ")}`);
+    else if (again && again !== "none") back.push(`${NAMES[kind]} ${shownWords(kind, again.value)} after ${again.after} s`);
+    else none.push(NAMES[kind]);
+    if (typeof said.last[kind] === "number") last.push(`${NAMES[kind]} in ${said.last[kind]} s`);
+  }
+
+  Object.assign(ui, { remove, chip, paintTable, paintForm, paintReport, paintSummary });
+})();

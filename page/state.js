@@ -1,0 +1,330 @@
+/* The state of the page, and how it comes to what is shown.
+ *
+ * One state. Whoever changes the moment or a configuration calls `touched`, whoever changes a view alone `changed`. Then
+ * each display's desk is asked for the report of the moment under the display's configuration, and all is drawn from the
+ * state and the reports. Bands are shown only with the states that they are the answer to. */
+"use strict";
+(function () {
+  const { VIEW_HEIGHTS, clamp, flown, escape, draw } = daa;
+  const ui = (daa.ui = {}); // what the page's scripts share
+  const $ = (id) => document.getElementById(id);
+  const RANGES_NM = [1.5, 3, 6, 9, 12, 18, 24, 36, 48, 96, 192]; // so that their thirds are short numbers
+  const LIMITS = { x: [-200000, 200000], y: [-200000, 200000], alt: [-2000, 60000], trk: [0, 359], gs: [0, 10000],
+    vx: [-10000, 10000], vy: [-10000, 10000], vs: [-10000, 10000], age: [0, 60] };
+  const PAPER = { display: { width: 1100, height: 680 }, strip: { width: 1100, height: 150 } };
+  const SOON = 60; // ms: an answer that takes longer is waited for with the bands hidden
+
+  const state = { engine: null, survey: null, views: [], name: "", moments: [], refused: [], index: 0, current: null, version: 0,
+    edited: false, chosen: "p:", held: null, playing: null, compare: false, paper: false, notes: [], ids: [], job: 0, unfolded: false,
+    linesOpen: false, recording: null, told: [], times: [] };
+  daa.page = state;
+
+  const within = (value, field) => clamp(Math.round(value), ...LIMITS[field]);
+  const copy = (moment) => ({ time: moment.time, own: { ...moment.own }, traffic: moment.traffic.map((one) => ({ ...one })) });
+  const shownViews = () => state.views.filter((_, place) => place === 0 || state.compare);
+  const setText = (element, words) => { if (element.textContent !== words) element.textContent = words; };
+  const setHtml = (element, html) => {
+    if (element.daaHtml === html) return false;
+    element.daaHtml = html;
+    element.innerHTML = html;
+    return true;
+  };
+  const fill = (select, names) => { select.innerHTML = names.map((name) => `<option>${escape(name)}</option>`).join(""); };
+
+  function download(blob, name) {
+    const link = Object.assign(document.createElement("a"), { href: URL.createObjectURL(blob), download: name });
+    link.click();
+    setTimeout(() => URL.revokeObjectURL(link.href), 10000);
+  }
+
+  // ---- asking
+
+  /** Names the moment as it is now under a view's configuration. */
+  const stampOf = (view) => `${state.version}/${view.edition}`;
+  const isAnswered = (view) => view.answered === stampOf(view);
+
+  let waits = false;
+  function changed() {
+    if (waits) return;
+    waits = true;
+    requestAnimationFrame(() => {
+      waits = false;
+      if (!state.current) return;
+      for (const view of shownViews()) askFor(view);
+      paintWhenAnswered();
+    });
+  }
+
+  function touched() {
+    state.version += 1;
+    changed();
+  }
+
+  function askFor(view) {
+    const stamp = stampOf(view);
+    if (view.asked === stamp) return;
+    view.asked = stamp;
+    view.desk.forget();
+    view.desk.ask({ config: { bytes: view.config.bytes }, moment: copy(state.current) }).then((answer) => {
+      if (!answer || view.asked !== stamp) return;
+      view.answered = stamp;
+      takeAnswer(view, answer);
+      paintWhenAnswered();
+    });
+  }
+
+  function takeAnswer(view, answer) {
+    view.said = answer.text === undefined ? null : daa.readReport(answer.text);
+    view.fault = answer.text !== undefined ? "" : answer.stopped || sentenceOf(answer);
+    if (answer.took !== undefined) state.times = [...state.times.slice(-199), answer.took];
+  }
+
+  function sentenceOf({ code, fault }) {
+    const cause = daa.CAUSES[code] || `code ${code}`;
+    if (!fault || fault.code === 18) return cause;
+    const who = fault.code === 16 ? "the ownship" : state.current.traffic[fault.place].id || "an aircraft without a name";
+    return fault.field ? `${fault.field} of ${who} is not within ${fault.least} and ${fault.greatest}` : `${cause}: ${who}`;
+  }
+
+  addEventListener("beforeprint", () => {
+    state.paper = true;
+    paint();
+  });
+  addEventListener("afterprint", () => {
+    state.paper = false;
+    changed();
+  });
+
+  let late = null;
+  function paintWhenAnswered() {
+    if (shownViews().every(isAnswered)) {
+      clearTimeout(late);
+      late = null;
+      paint();
+    } else if (!late) late = setTimeout(() => { late = null; paint(); }, SOON);
+  }
+
+  // ---- painting
+
+  function paint() {
+    if (!state.current) return;
+    document.querySelector("main").classList.toggle("compare", state.compare);
+    const figures = document.querySelectorAll("figure");
+    figures[1].hidden = !state.compare; // before any is measured
+    shownViews().forEach((view, place) => paintView(figures[place], view));
+    paintBar();
+    ui.paintTable();
+    ui.paintForm();
+    ui.paintReport();
+    ui.paintSummary();
+    paintStrip();
+    document.body.dataset.settled = shownViews().every(isAnswered) ? "yes" : "no";
+  }
+
+  /** How large a picture is drawn: as large as its place, and on paper in a shape of its own. */
+  function sizeOf(svg) {
+    if (state.paper) return svg.id === "strip" ? PAPER.strip : PAPER.display;
+    const { width, height } = svg.getBoundingClientRect();
+    return { width: Math.round(width), height: Math.round(height) };
+  }
+
+  function paintView(figure, view) {
+    paintCaption(figure, view);
+    const svg = figure.querySelector("svg");
+    const size = sizeOf(svg);
+    if (size.width < 50 || size.height < 50) return;
+    view.drawn = draw(svg, lookOf(view), modelOf(view), size);
+    const said = saidOf(view);
+    const most = said ? Math.max(0, ...said.aircraft.map((one) => one.level)) : null;
+    const told = most === null ? faultOf(view) : `${said.aircraft.length} aircraft, the greatest alert level is ${most}`;
+    svg.setAttribute("aria-label", `Display under ${view.name}: ${told}`);
+  }
+
+  const saidOf = (view) => (isAnswered(view) ? view.said : null);
+  const faultOf = (view) => (isAnswered(view) ? view.fault : "a long moment: it is being decided …");
+
+  function lookOf(view) {
+    const { own } = state.current;
+    const { held } = state;
+    return { ...view.look, up: view.look.trackUp ? (held ? held.trk : own.trk) : 0, middle: held ? held.middle : { x: own.x, y: own.y },
+      chosen: state.chosen, held: held ? held.own : null };
+  }
+
+  function modelOf(view) {
+    const { time, own, traffic } = state.current;
+    return { time, own, traffic, config: view.config, said: saidOf(view), fault: saidOf(view) ? "" : faultOf(view), name: view.name, trail: trail(),
+      note: state.edited ? "changed by hand" : state.name };
+  }
+
+  /** Where the ownship and the aircraft were in the moments before. */
+  function trail() {
+    const before = state.moments.slice(Math.max(0, state.index - 12), state.index);
+    return before.flatMap((moment, i) => {
+      const share = 0.2 + (0.6 * (i + 1)) / before.length;
+      return [{ ...moment.own, own: true, share }, ...moment.traffic.map((one) => ({ ...flown(one, one.age), own: false, share }))];
+    });
+  }
+
+  function paintCaption(figure, view) {
+    const caption = figure.querySelector("figcaption");
+    if (!caption.children.length) {
+      const button = (what, words, name) => `<button data-do="${what}" aria-label="${name}" title="${name}">${words}</button>`;
+      caption.innerHTML = `<button data-do="up" aria-pressed="false">Track up</button>
+        ${button("near", "−", "Smaller range")}<span data-is="range"></span>${button("wide", "+", "Greater range")}
+        ${button("low", "−", "Fewer altitudes")}<span data-is="heights"></span>${button("high", "+", "More altitudes")}
+        <span class="gap"></span>${button("svg", "SVG", "Picture of lines (SVG)")}${button("png", "PNG", "Picture of points (PNG)")}`;
+    }
+    caption.querySelector("[data-do=up]").setAttribute("aria-pressed", String(view.look.trackUp));
+    setText(caption.querySelector("[data-is=range]"), `${view.look.range} NM`);
+    setText(caption.querySelector("[data-is=heights]"), `± ${view.look.heights} ft`);
+  }
+
+  function paintBar() {
+    const { current, moments, index, edited, times } = state;
+    $("slider").value = index;
+    $("slider").setAttribute("aria-valuetext", `${current.time} seconds, moment ${index + 1} of ${moments.length}`);
+    setText($("clock"), `${current.time} s · ${index + 1} of ${moments.length}`);
+    $("restore").disabled = !edited;
+    const median = [...times].sort((a, b) => a - b)[Math.floor(times.length / 2)];
+    const took = !times.length ? "" : median < 1 ? ` · ${Math.round(median * 1000)} µs a moment` : ` · ${median.toFixed(1)} ms a moment`;
+    setText($("engine"), `engine ${Math.round(state.engine.size / 1024)} KB${took}`);
+    const refused = edited ? [] : state.refused.filter((it) => it.before === index);
+    setText($("notes"), [...state.told, ...refused.map((it) => `line ${it.refused} was refused with code ${it.code}`)].join("; "));
+    setText($("fault"), shownViews().filter(isAnswered).map((view) => view.fault).find(Boolean) || "");
+  }
+
+  // ---- all moments, over time
+
+  /** Asks for every moment under the first view's configuration, one after the other, in a worker of its own. */
+  async function survey() {
+    const job = ++state.job;
+    const { moments, survey: desk } = state;
+    const { bytes } = state.views[0].config;
+    const notes = [];
+    let painted = performance.now();
+    Object.assign(state, { notes, ids: [...new Set(moments.flatMap((moment) => moment.traffic.map((one) => one.id)))] });
+    desk.forget();
+    for (const moment of moments) {
+      const answer = await desk.ask({ config: { bytes }, moment });
+      if (job !== state.job || !answer) return;
+      if (answer.text === undefined) break;
+      notes.push(daa.noteOf(moment, daa.readReport(answer.text)));
+      if (performance.now() - painted < 250) continue;
+      painted = performance.now();
+      paintStrip();
+    }
+    paintStrip();
+    document.body.dataset.surveyed = String(notes.length);
+  }
+
+  function paintStrip() {
+    const size = sizeOf($("strip"));
+    const { moments, notes, ids, index, views } = state;
+    if (size.width < 100 || !moments.length) return;
+    const { step } = views[0].config.grids.track;
+    daa.drawStrip($("strip"), size, { moments, notes, ids, index, step });
+  }
+
+  $("strip").addEventListener("pointerdown", (event) => {
+    pause();
+    go(daa.momentAt($("strip"), event.clientX - $("strip").getBoundingClientRect().left, state.moments));
+  });
+
+  // ---- moments
+
+  function go(index) {
+    state.index = clamp(index, 0, state.moments.length - 1);
+    restore();
+  }
+
+  function restore() {
+    state.current = copy(state.moments[state.index]);
+    state.edited = false;
+    touched();
+  }
+
+  function edited() {
+    pause();
+    state.edited = true;
+    touched();
+  }
+
+  function choose(key) {
+    state.chosen = key;
+    changed();
+  }
+
+  /** Plays at the recording's own times, as many times as fast as is chosen. */
+  function play() {
+    if (state.playing) {
+      pause();
+      return;
+    }
+    if (state.index === state.moments.length - 1) go(0);
+    beginPlaying();
+    tellPlaying();
+  }
+
+  function beginPlaying() {
+    state.playing = { since: performance.now(), from: state.moments[state.index].time, frame: requestAnimationFrame(tick) };
+  }
+
+  function tick() {
+    const { moments, playing } = state;
+    if (!playing) return;
+    const time = playing.from + ((performance.now() - playing.since) / 1000) * Number($("speed").value);
+    let { index } = state;
+    while (index + 1 < moments.length && moments[index + 1].time <= time) index += 1;
+    if (index !== state.index) go(index);
+    if (index === moments.length - 1) pause();
+    else playing.frame = requestAnimationFrame(tick);
+  }
+
+  function pause() {
+    if (!state.playing) return;
+    cancelAnimationFrame(state.playing.frame);
+    state.playing = null;
+    tellPlaying();
+  }
+
+  function tellPlaying() {
+    $("play").textContent = state.playing ? "❚❚" : "▶";
+    $("play").setAttribute("aria-label", state.playing ? "Pause" : "Play");
+  }
+
+  function goTo(index) {
+    pause();
+    go(index);
+  }
+
+  $("play").addEventListener("click", play);
+  $("back").addEventListener("click", () => goTo(state.index - 1));
+  $("forward").addEventListener("click", () => goTo(state.index + 1));
+  $("slider").addEventListener("input", ({ target }) => goTo(Number(target.value)));
+  $("restore").addEventListener("click", restore);
+  $("speed").addEventListener("change", () => { if (state.playing) { cancelAnimationFrame(state.playing.frame); beginPlaying(); } });
+
+  // ---- views
+
+  function act(what, view, figure) {
+    const step = (list, value, by) => list[clamp(list.indexOf(value) + by, 0, list.length - 1)];
+    const { look } = view;
+    if (what === "up") look.trackUp = !look.trackUp;
+    if (what === "near" || what === "wide") look.range = step(RANGES_NM, look.range, what === "wide" ? 1 : -1);
+    if (what === "fit") look.range = fitting([state.current]);
+    if (what === "low" || what === "high") look.heights = step(VIEW_HEIGHTS, look.heights, what === "high" ? 1 : -1);
+    if (what === "svg" || what === "png") ui.save(view, what);
+    if (figure && what) changed();
+  }
+
+  /** The least range of the list in which most of the traffic lies, at the first moment and in all. */
+  function fitting(moments) {
+    const farOf = ({ own, traffic }) => traffic.map((one) => Math.hypot(one.x - own.x, one.y - own.y) / 1000);
+    const mostOf = (far) => (far.length ? far.sort((a, b) => a - b)[Math.ceil(far.length * 0.85) - 1] : 0);
+    const most = Math.max(mostOf(moments.flatMap(farOf)), mostOf(farOf(moments[0]))) || 6;
+    return RANGES_NM.find((range) => range > most * 1.12) || RANGES_NM[RANGES_NM.length - 1];
+  }
+
+  Object.assign(ui, { $, LIMITS, state, within, shownViews, setText, setHtml, download, changed, saidOf, faultOf, edited,
+    choose, lookOf, restore, play, goTo, act, RANGES_NM, fill, modelOf, survey, go, pause, fitting });
+})();
