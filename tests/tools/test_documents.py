@@ -79,7 +79,7 @@ class Words(unittest.TestCase):
             self.assertRegex(text, rf"`[^`]*\b{key}\b[^`]*`", key)
 
     def test_the_reference_is_short(self):
-        self.assertLessEqual(read("tools/reference").count("\n") + read("tools/headings.py").count("\n"), 310)
+        self.assertLessEqual(read("tools/reference").count("\n") + read("tools/headings.py").count("\n"), 330)
         self.assertLessEqual(read("tools/reference").count("\n"), 300)
 
     def test_no_document_names_what_is_gone(self):
