@@ -111,7 +111,9 @@ class Worked(unittest.TestCase):
 
     def test_order_of_nearest_values(self):
         config = small([LEVEL], recovery=(300, 100))._replace(nearest=1)
-        at = reference.Situation(config, Moment(0, OWN._replace(trk=350), []))
+        moment = Moment(0, 1)
+        moment.own = OWN._replace(trk=350)
+        at = reference.Situation(config, moment)
         self.assertEqual(sorted((350, 170, 80, 260, 0, 340), key=lambda value: at.order("track", value)), [350, 0, 340, 80, 260, 170])
         self.assertEqual(sorted((1500, 900, 1000, 1100), key=lambda value: at.order("alt", value)), [1000, 1100, 900, 1500])
 
