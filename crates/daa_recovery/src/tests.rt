@@ -207,10 +207,11 @@ fn recovers_plainly(
 
 /// How far a value is from the present one: on track the angle of its turn, else the difference.
 fn distance(kind: Kind, now: i32, value: i32) -> i64 {
-    let way = value as i64 - now as i64;
+    let up = value as i64 - now as i64;
+    let down = now as i64 - value as i64;
     match kind {
-        Kind::Track => way.rem_euclid(360).min((-way).rem_euclid(360)),
-        _ => way.abs(),
+        Kind::Track => up.rem_euclid(360).min(down.rem_euclid(360)),
+        _ => up.max(down),
     }
 }
 
@@ -333,7 +334,28 @@ fn recoveries_are_those_of_a_plain_search(rt: HostRuntime) -> Result<(), Fail> {
     Ok(())
 }
 
-/// The same with the nearest value asked for: the second is that of the other rule.
+/// The recovery of a kind with the nearest value asked for: the second is that of the other rule.
+fn least_and_nearest(
+    config: &Config,
+    picture: &Picture,
+    cylinder: &Volume,
+    kind: Kind,
+) -> Option<Recovery>
+    requires picture { IsPictureInRange picture.now }
+    requires cylinder { IsVolumeInRange cylinder.now }
+{
+    let Some(first) = least_plainly(config, picture, cylinder, kind) else {
+        return None;
+    };
+    match nearest_plainly(config, picture, cylinder, kind, first.after) {
+        Some(value) => Some(Recovery {
+            after: first.after,
+            value,
+        }),
+        None => None,
+    }
+}
+
 #[test]
 fn nearest_recoveries_are_those_of_a_plain_search(rt: HostRuntime) -> Result<(), Fail> {
     let config = config_of(
@@ -348,54 +370,53 @@ fn nearest_recoveries_are_those_of_a_plain_search(rt: HostRuntime) -> Result<(),
     for lines in &MOMENTS {
         let picture = picture_in(lines).ok_or("a picture")?;
         for kind in KINDS {
-            let Some(first) = least_plainly(&config, &picture, cylinder, kind) else {
-                assert!(rt; least(&config, &picture, kind).is_none());
-                continue;
-            };
-            let nearest = nearest_plainly(&config, &picture, cylinder, kind, first.after);
-            let wanted = nearest.map(|value| Recovery {
-                after: first.after,
-                value,
-            });
-            assert!(rt; least(&config, &picture, kind) == wanted);
+            let found = least(&config, &picture, kind);
+            assert!(rt; found == least_and_nearest(&config, &picture, cylinder, kind));
         }
     }
     Ok(())
 }
 
-/// Tables of a recovery, an aircraft beside the ownship, which flies north, and the track that is
-/// named after 6 seconds: to the right of an aircraft on the left both rules name 30.
-static TRACKS: [(&str, &str, i32); 4] = [
+/// A table of a recovery, a moment with an aircraft beside the ownship, which flies north, and the
+/// track that is named after 6 seconds: with an aircraft on the left both rules name 30.
+static TRACKS: [(&str, [&str; 4], i32); 4] = [
     (
-        "recovery = { hdist = 300, vdist = 100 }",
-        "traffic A 400 100 1000 0 0 0 0",
+        "{ hdist = 300, vdist = 100 }",
+        ["moment 0", NORTH, "traffic A 400 100 1000 0 0 0 0", "end"],
         210,
     ),
     (
-        "recovery = { hdist = 300, vdist = 100, nearest = 1 }",
-        "traffic A 400 100 1000 0 0 0 0",
+        "{ hdist = 300, vdist = 100, nearest = 1 }",
+        ["moment 0", NORTH, "traffic A 400 100 1000 0 0 0 0", "end"],
         330,
     ),
     (
-        "recovery = { hdist = 300, vdist = 100, nearest = 0 }",
-        "traffic A -400 100 1000 0 0 0 0",
+        "{ hdist = 300, vdist = 100, nearest = 0 }",
+        ["moment 0", NORTH, "traffic A -400 100 1000 0 0 0 0", "end"],
         30,
     ),
     (
-        "recovery = { hdist = 300, vdist = 100, nearest = 1 }",
-        "traffic A -400 100 1000 0 0 0 0",
+        "{ hdist = 300, vdist = 100, nearest = 1 }",
+        ["moment 0", NORTH, "traffic A -400 100 1000 0 0 0 0", "end"],
         30,
     ),
 ];
 
+/// The configuration of one level without time thresholds and a track every 30 degrees, with this
+/// recovery.
+fn twelve_tracks(rt: &(impl AllocGlobal + Abort), recovery: &str) -> Result<Config, Fail> {
+    let alloc = rt.alloc();
+    let asked = format!(in alloc; "recovery = {recovery}\nturn_rate")?;
+    let text = ONE_LEVEL.replacen(alloc, "turn_rate", asked.as_str(), 1)?;
+    let text = text.replacen(alloc, "tthr = 35", "tthr = 0", 1)?;
+    config_of(rt, text.as_str(), "track_step = 90", "track_step = 30")
+}
+
 #[test]
 fn the_nearest_track(rt: HostRuntime) -> Result<(), Fail> {
-    let steps = ONE_LEVEL.replacen(rt.alloc(), "track_step = 90", "track_step = 30", 1)?;
-    let text = steps.replacen(rt.alloc(), "tthr = 35", "tthr = 0", 1)?;
-    for (recovery, aircraft, track) in &TRACKS {
-        let asked = format!(in rt.alloc(); "{recovery}\nturn_rate")?;
-        let config = config_of(&rt, text.as_str(), "turn_rate", asked.as_str())?;
-        let picture = picture_in(&["moment 0", NORTH, aircraft, "end"]).ok_or("a picture")?;
+    for (recovery, lines, track) in &TRACKS {
+        let config = twelve_tracks(&rt, recovery)?;
+        let picture = picture_in(lines).ok_or("a picture")?;
         if config.recovery().is_none() {
             return Err("a recovery".into());
         }
@@ -405,7 +426,7 @@ fn the_nearest_track(rt: HostRuntime) -> Result<(), Fail> {
         });
         assert!(rt;
             least(&config, &picture, Kind::Track) == wanted,
-            "{recovery}, {aircraft}"
+            "{recovery}"
         );
     }
     Ok(())
