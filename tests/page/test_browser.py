@@ -1,5 +1,6 @@
 """The whole page in Chromium, opened as a file and used by real events; what it shows is compared with the program's report."""
 import base64
+import functools
 import json
 import math
 import os
@@ -401,7 +402,22 @@ class Loaded(PageTest):
         self.assertTrue(points.startswith(b"\x89PNG") and len(points) > 40000, len(points))
 
 
+def in_three_tries(test):
+    """A test of times, which other work on the machine may disturb: it passes where one of three tries does."""
+    @functools.wraps(test)
+    def tried(self):
+        for tries_left in (2, 1, 0):
+            try:
+                return test(self)
+            except AssertionError:
+                if not tries_left:
+                    raise
+                self.page.open()
+    return tried
+
+
 class Timed(PageTest):
+    @in_three_tries
     def test_playing_keeps_the_recordings_own_times(self):
         """At thirty times the speed, each moment comes a third of a second after the one before, give or take a frame or two."""
         self.page.select("#speed", "×30")
@@ -417,6 +433,7 @@ class Timed(PageTest):
         for second, after in came:
             self.assertLess(abs(after - second * 1000 / 30), 150, came)
 
+    @in_three_tries
     def test_an_uneven_recording_keeps_its_times(self):
         lines = [f"moment {second}\nown 0 {second * 60} 5000 0 2160 0\nend\n" for second in (0, 1, 2, 20, 21, 40)]
         self.page.open_files(self.page.file("uneven.states", "".join(lines)))
@@ -426,6 +443,7 @@ class Timed(PageTest):
         self.page.press(" ")
         self.assertEqual(self.page.js("return daa.page.current.time"), 2)
 
+    @in_three_tries
     def test_a_long_moment_leaves_the_page_alive(self):
         """While a moment is decided for a second or two, frames go on, no old band is shown, and another moment is answered at once."""
         self.page.js("document.querySelector('#file').multiple = true")
