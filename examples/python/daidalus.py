@@ -61,7 +61,7 @@ class Level:
 
 @dataclass(frozen=True)
 class Cylinder:
-    """What a recovery stays out of: hdist in 0.001 NM, vdist in ft. nearest: 0 if the first of the values that recover soonest
+    """What a recovery stays out of: hdist in 0.001 NM, vdist in ft. nearest: 0 if the least of the values that recover soonest
     is named, 1 if the one nearest to the present value."""
     hdist: int
     vdist: int

@@ -200,7 +200,7 @@ impl Config {
     }
 
     /// The same configuration with a recovery that stays out of this cylinder (0.001 NM, ft). `nearest`: whether, of the values
-    /// that recover soonest, the one nearest to the present value is named, and not the first.
+    /// that recover soonest, the one nearest to the present value is named, and not the least.
     pub fn with_recovery(mut self, hdist: i64, vdist: i64, nearest: bool) -> Result<Config, Refused> {
         (self.0.recovery, self.0.hdist, self.0.vdist, self.0.nearest) = (1, hdist, vdist, nearest as i64);
         self.checked()

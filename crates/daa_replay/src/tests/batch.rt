@@ -56,11 +56,11 @@ fn alone<R: Abort + Threads + Sync + AllocGlobal>(
 /// More events than may wait at a time, in pieces of any size and of some 200 moments.
 #[test]
 fn moments_of_a_piece_are_shared_out(rt: HostRuntime) -> Result<(), Fail> {
-    let room = 200_000;
-    let input = moments_of(&rt, 700)?;
+    let room = 300_000;
+    let input = moments_of(&rt, 1100)?;
     let text = alone(&rt, input.as_bytes(), room)?;
-    assert!(rt; text.len() > 150_000);
-    for workers in ["2", "4", "16"] {
+    assert!(rt; text.len() > 240_000);
+    for workers in ["3", "4", "16"] {
         let words = ["daidalus", "replay", "--config", "c", "--workers", workers];
         for pieces in [&[][..], &[20000; 9]] {
             let outside = Outside {
@@ -123,9 +123,9 @@ fn two_lanes_run_at_once(rt: HostRuntime) -> Result<(), Fail> {
 /// A sink that fails within the texts of moments that were decided side by side took a beginning.
 #[test]
 fn a_sink_fails_within_a_batch(rt: HostRuntime) -> Result<(), Fail> {
-    let input = moments_of(&rt, 9)?;
-    let text = alone(&rt, input.as_bytes(), 8192)?;
-    for room in [0, 1, 226, 227, 1000, 2000] {
+    let input = moments_of(&rt, 300)?;
+    let text = alone(&rt, input.as_bytes(), 100_000)?;
+    for room in [0, 1, 226, 1000, 20_000, 50_000] {
         gives_front(&rt, input.as_bytes(), PLAIN, text.as_slice(), room)?;
     }
     Ok(())
