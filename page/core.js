@@ -19,7 +19,7 @@ function daaCore(root) {
     "recovery", ...under("recovery", RECOVERY), "count",
     ...[1, 2, 3, 4].flatMap((level) => under(`level${level}`, LEVEL))];
   /** Keys that a text may leave out, and which then are 0. */
-  const OPTIONAL = ["tcpa"];
+  const OPTIONAL = ["tcpa", "nearest"];
   /** Each number of struct daa_own, and those of struct daa_traffic after its identifier, of 32 bits. */
   const OWN = ["x", "y", "alt", "trk", "gs", "vs"];
   const TRAFFIC = ["x", "y", "alt", "vx", "vy", "vs", "age"];
