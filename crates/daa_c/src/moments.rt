@@ -1,7 +1,7 @@
 //! Calls on a moment.
 
 ghost use Rattle.std.specs.Prelude.{◌≡◌, ◌≢◌, pos, ◌≤◌, drop, length, take};
-ghost use Rattle.daa_numbers.specs.Asked.{IsAlertUnder, IsDecided, AreLevelsUnder, HasMoreCandidates, AreBandsUnder, HasMoreValues, HasNoKind, IsResolutionUnder, HasNoSide, AsksForNone, IsRecoveryUnder, IsReported, HasLongerText};
+ghost use Rattle.daa_numbers.specs.Asked.{IsAlertUnder, IsDecided, AreLevelsUnder, HasMoreCandidates, AreBandsUnder, HasKindButNoBoard, HasMoreValues, HasNoKind, IsResolutionUnder, HasNoSide, HasSideButNoBoard, AsksForNone, IsRecoveryUnder, IsReported, HasLongerText};
 ghost use Rattle.daa_numbers.specs.Boards.{IsNoBoard};
 ghost use Rattle.daa_numbers.specs.Codes.{answer_of};
 ghost use Rattle.daa_numbers.specs.Numbers.{settings_by};
@@ -63,7 +63,7 @@ pub extern "C" fn daa_levels(
     ensures levels_kept { result ≢ pos 0 → levels.new ≡ levels.old }
     ensures count_kept { result ≢ pos 0 → count.new ≡ count.old }
     ensures bad_board { result ≡ pos 27 → IsNoBoard config.now board.now }
-    ensures short { result ≡ pos 19 → HasMoreCandidates config.now (length levels.old) }
+    ensures short { result ≡ pos 19 → HasMoreCandidates config.now board.now (length levels.old) }
     ensures refused { result ≢ pos 0 → result ≢ pos 19 → result ≢ pos 27
         → answer_of (settings_by config.now) ≡ result }
 {
@@ -86,8 +86,10 @@ pub extern "C" fn daa_bands(
     ensures count_kept { result ≢ pos 0 → count.new ≡ count.old }
     ensures no_kind { result ≡ pos 23
         → HasNoKind (config_refusal (settings_by config.now)) kind }
-    ensures bad_board { result ≡ pos 27 → IsNoBoard config.now board.now }
-    ensures short { result ≡ pos 19 → HasMoreValues config.now kind (length bands.old) }
+    ensures bad_board { result ≡ pos 27 → HasKindButNoBoard
+        config.now (config_refusal (settings_by config.now)) kind board.now }
+    ensures short { result ≡ pos 19
+        → HasMoreValues config.now board.now kind (length bands.old) }
     ensures refused { result ≢ pos 0 → result ≢ pos 19 → result ≢ pos 23 → result ≢ pos 27
         → answer_of (settings_by config.now) ≡ result }
 {
@@ -109,7 +111,8 @@ pub extern "C" fn daa_resolution(
     ensures kept { result ≢ pos 0 → out.new ≡ out.old }
     ensures no_kind { result ≡ pos 23 → HasNoKind (refusal_of_own config.now own.now) kind }
     ensures no_side { result ≡ pos 24 → HasNoSide (refusal_of_own config.now own.now) kind side }
-    ensures bad_board { result ≡ pos 27 → IsNoBoard config.now board.now }
+    ensures bad_board { result ≡ pos 27 → HasSideButNoBoard
+        config.now (refusal_of_own config.now own.now) kind side board.now }
     ensures refused { result ≢ pos 0 → result ≢ pos 23 → result ≢ pos 24 → result ≢ pos 27
         → IsCodeOf (refusal_of_own config.now own.now) result }
 {

@@ -27,7 +27,7 @@ use Rattle.daa_numbers.specs.declared.recovering.DaaRecovery.{DaaRecovery}
 use Rattle.daa_numbers.specs.declared.refusal.Refusal.{Refusal}
 use Rattle.daa_numbers.specs.declared.resolving.DaaResolution.{DaaResolution}
 use Rattle.daa_numbers.specs.declared.setting.DaaConfig.{DaaConfig}
-use Rattle.daa_numbers.specs.Boards.{IsMarked, mark_of}
+use Rattle.daa_numbers.specs.Boards.{IsMarked, IsNoBoard, mark_of}
 use Rattle.daa_numbers.specs.Codes.{candidate_by, IsNoKind, IsNoSide, kind_number, side_number}
 use Rattle.daa_numbers.specs.Filled.{IsFilledAlert, AreLevelsOn, band_of, resolution_by, recovery_by}
 use Rattle.daa_numbers.specs.Numbers.{settings_by}
@@ -89,10 +89,11 @@ module _ (config : DaaConfig) where
     pub fits : count ≤ length levels
     pub shown : AreLevelsOn board.masks (length settings.levels) count levels
 
-  -- it has more candidates than there is room for
-  pub record HasMoreCandidates (room : ℕ) : Type 0 where
+  -- the board is marked, and there are more candidates than there is room for
+  pub record HasMoreCandidates (board : DaaBoard) (room : ℕ) : Type 0 where
     pub settings : Settings
     pub accepted : settings_by config ≡ Ok settings
+    pub marked : IsMarked config settings board
     pub more : room < length (candidates_of settings)
 
   -- the bands of the kind with this number, and how many they are
@@ -106,10 +107,18 @@ module _ (config : DaaConfig) where
     pub within : count ≤ length bands
     pub are : AreKindBands (HasLevelOn board.masks) (length settings.levels) settings kind (map band_of (take count bands))
 
-  -- the kind with this number has more values than there is room for
-  pub record HasMoreValues (number : ℤ) (room : ℕ) : Type 0 where
+  -- nothing else is refused, and the number stands for a kind, but the board is none of the configuration
+  pub record HasKindButNoBoard (refusal : Option Refusal) (number : ℤ) (board : DaaBoard) : Type 0 where
+    pub sound : refusal ≡ None
+    pub kind : Kind
+    pub kind_is : kind_number kind ≡ number
+    pub no_board : IsNoBoard config board
+
+  -- the board is marked, and the kind with this number has more values than there is room for
+  pub record HasMoreValues (board : DaaBoard) (number : ℤ) (room : ℕ) : Type 0 where
     pub settings : Settings
     pub accepted : settings_by config ≡ Ok settings
+    pub marked : IsMarked config settings board
     pub kind : Kind
     pub kind_is : kind_number kind ≡ number
     pub more : room < length (values_of kind settings)
@@ -127,6 +136,15 @@ module _ (config : DaaConfig) where
     pub answer : Resolution
     pub is : IsResolution (HasLevelOn board.masks) settings own kind side answer
     pub filled : out ≡ resolution_by answer
+
+  -- nothing else is refused, and the numbers stand for a kind and a side, but the board is none of the configuration
+  pub record HasSideButNoBoard (refusal : Option Refusal) (kind_given side_given : ℤ) (board : DaaBoard) : Type 0 where
+    pub sound : refusal ≡ None
+    pub kind : Kind
+    pub kind_is : kind_number kind ≡ kind_given
+    pub side : Side
+    pub side_is : side_number side ≡ side_given
+    pub no_board : IsNoBoard config board
 
   -- the recovery of the kind with this number
   pub record IsRecoveryUnder (picture : Picture) (number : ℤ) (out : DaaRecovery) : Type 0 where

@@ -4,8 +4,7 @@ ghost use Rattle.std.specs.Prelude.{◌≡◌, ◌≢◌, ◌≤◌, pos, drop, 
 ghost use Rattle.daa_bands.specs.Board.{HasLevelOn, mask_levels};
 ghost use Rattle.daa_bands.specs.KindBands.{AreKindBands};
 ghost use Rattle.daa_config.specs.Candidates.{values_of};
-ghost use Rattle.daa_numbers.specs.Asked.{AreBandsUnder, HasMoreValues, HasNoKind};
-ghost use Rattle.daa_numbers.specs.Boards.{IsNoBoard};
+ghost use Rattle.daa_numbers.specs.Asked.{AreBandsUnder, HasKindButNoBoard, HasMoreValues, HasNoKind};
 ghost use Rattle.daa_numbers.specs.Codes.{answer_of};
 ghost use Rattle.daa_numbers.specs.Refusal.{config_refusal};
 ghost use Rattle.daa_numbers.specs.Filled.{band_of};
@@ -68,8 +67,10 @@ pub fn bands(
     ensures count_kept { result ≢ pos 0 → count.new ≡ count.old }
     ensures no_kind { result ≡ pos 23
         → HasNoKind (config_refusal (settings_by config.now)) kind }
-    ensures bad_board { result ≡ pos 27 → IsNoBoard config.now board.now }
-    ensures short { result ≡ pos 19 → HasMoreValues config.now kind (length bands.old) }
+    ensures bad_board { result ≡ pos 27 → HasKindButNoBoard
+        config.now (config_refusal (settings_by config.now)) kind board.now }
+    ensures short { result ≡ pos 19
+        → HasMoreValues config.now board.now kind (length bands.old) }
     ensures refused { result ≢ pos 0 → result ≢ pos 19 → result ≢ pos 23 → result ≢ pos 27
         → answer_of (settings_by config.now) ≡ result }
 {

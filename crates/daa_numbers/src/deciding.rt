@@ -119,7 +119,7 @@ pub fn levels(config: &DaaConfig, board: &DaaBoard, levels: &mut [u8], count: &m
     ensures levels_kept { result ≢ pos 0 → levels.new ≡ levels.old }
     ensures count_kept { result ≢ pos 0 → count.new ≡ count.old }
     ensures bad_board { result ≡ pos 27 → IsNoBoard config.now board.now }
-    ensures short { result ≡ pos 19 → HasMoreCandidates config.now (length levels.old) }
+    ensures short { result ≡ pos 19 → HasMoreCandidates config.now board.now (length levels.old) }
     ensures refused { result ≢ pos 0 → result ≢ pos 19 → result ≢ pos 27
         → answer_of (settings_by config.now) ≡ result }
 {

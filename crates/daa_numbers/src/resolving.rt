@@ -1,8 +1,7 @@
 //! The answer on a side of a kind.
 
 ghost use Rattle.std.specs.Prelude.{◌≡◌, ◌≢◌, pos};
-ghost use Rattle.daa_numbers.specs.Asked.{IsResolutionUnder, HasNoKind, HasNoSide};
-ghost use Rattle.daa_numbers.specs.Boards.{IsNoBoard};
+ghost use Rattle.daa_numbers.specs.Asked.{IsResolutionUnder, HasNoKind, HasNoSide, HasSideButNoBoard};
 ghost use Rattle.daa_numbers.specs.Refusal.{refusal_of_own, IsCodeOf};
 ghost use Rattle.daa_numbers.specs.Filled.{resolution_by};
 ghost use Rattle.daa_numbers.specs.States.{own_of};
@@ -48,7 +47,8 @@ pub fn resolution(
     ensures kept { result ≢ pos 0 → out.new ≡ out.old }
     ensures no_kind { result ≡ pos 23 → HasNoKind (refusal_of_own config.now own.now) kind }
     ensures no_side { result ≡ pos 24 → HasNoSide (refusal_of_own config.now own.now) kind side }
-    ensures bad_board { result ≡ pos 27 → IsNoBoard config.now board.now }
+    ensures bad_board { result ≡ pos 27 → HasSideButNoBoard
+        config.now (refusal_of_own config.now own.now) kind side board.now }
     ensures refused { result ≢ pos 0 → result ≢ pos 23 → result ≢ pos 24 → result ≢ pos 27
         → IsCodeOf (refusal_of_own config.now own.now) result }
 {
