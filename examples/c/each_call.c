@@ -113,6 +113,7 @@ int main(int words, char **word) {
     struct daa_fault fault;
     size_t length;
     if (words != 2) return 2;
+    if (daa_version() != DAA_VERSION) return 1;
     struct daa_config config = config_in(word[1]);
     printf("check %d\n", (int)daa_check(&config));
     read_moment(&moment);
