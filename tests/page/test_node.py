@@ -154,6 +154,7 @@ class Readers(unittest.TestCase):
         draw = random.Random(9)
         texts = [wrong_config(draw, draw.choice(self.CONFIGS)) for _ in range(300)]
         texts.append(self.CONFIGS[0].replace(b"step = 500", b"step = 1"))
+        texts.append(self.CONFIGS[0].replace(b"resolve = 2", b"resolve = 4"))
         came = self.compare([(text, self.STATES[2]) for text in texts])
         self.assertLessEqual({f"config {code}" for code in range(2, 9)}, came)
 
