@@ -17,13 +17,13 @@ mask_levels = 8
 abbrev pub HasLevelOn : List ℕ → ℕ → ℕ → Type 0
 HasLevelOn board index level = HasLevel (slice_index board index) level
 
--- the candidate at the index has the levels that it had and those of the mask, and no other candidate has changed
+-- the candidate at the index has got the levels of the mask and kept its own; no other candidate has changed
 pub record AddsMask (index mask : ℕ) (old new : List ℕ) : Type 0 where
   pub marked : slice_index new index ≡ bit_or (slice_index old index) mask
   pub others : (i : ℕ) → i ≢ index → slice_index new i ≡ slice_index old i
   pub same_size : length new ≡ length old
 
--- each candidate of the group has the levels that it had and those that the word has of it, and no other has changed
+-- each candidate of the group has got the levels that the word has of it and kept its own; no other has changed
 pub record AddsWord (group word : ℕ) (old new : List ℕ) : Type 0 where
   pub inside : (index : ℕ) → index < group_size →
       slice_index new (group_size * group + index) ≡ bit_or (slice_index old (group_size * group + index)) (mask_in word index)

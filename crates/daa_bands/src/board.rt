@@ -58,7 +58,7 @@ impl Board {
         self.masks = [0; BOARD_MASKS];
     }
 
-    /// Adds the levels of a mask to those of the candidate at an index, which is below 2048.
+    /// Gives the candidate at an index, which is below 2048, the levels of a mask besides its own.
     pub fn mark(&mut self, index: u32, mask: u8)
         requires { index < board_size }
         ensures { AddsMask index mask self.old self.new }
@@ -66,8 +66,8 @@ impl Board {
         self.masks[index as usize] |= mask;
     }
 
-    /// Adds the levels that a packed word has of the twelve candidates of a group: those with the
-    /// indices from 12 * group on, which are below 2048.
+    /// Gives each of the twelve candidates of a group, whose indices are from 12 * group on and
+    /// below 2048, the levels that a packed word has of the candidate, besides its own.
     pub fn merge_word(&mut self, group: u32, word: u64)
         requires { group_size * group + group_size ≤ board_size }
         ensures { AddsWord group word self.old self.new }

@@ -8,7 +8,7 @@ use crate::walk::Runs;
 use daa_config::{Config, Kind};
 
 /// The bands of a kind over the levels that a board shows, in the rising order of the values: each
-/// stretch of equal level is one band, those of level 0 too, and those of track end at north.
+/// stretch of equal level is one band, also at level 0; a band of tracks ends at north.
 /// Source: the DAIDALUS reference manual, on bands.
 pub fn runs<'a>(board: &'a Board, config: &'a Config, kind: Kind) -> Runs<'a>
     ensures { AreKindBands (HasLevelOn board.now) mask_levels config.now kind result }

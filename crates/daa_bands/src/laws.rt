@@ -18,7 +18,7 @@ pub fn has_one_list_of_bands()
         → HasOne (AreKindBands (HasLevelOn board) mask_levels settings kind) }
 {}
 
-/// If a board marks exactly the covered candidates, its bands are those of the covered candidates.
+/// If a board marks exactly the covered candidates, its bands show what is covered.
 pub fn board_shows_what_is_covered()
     ensures { (covered : ℕ → ℕ → Bool) (board : List ℕ) (settings : Settings) (kind : Kind)
         (bands : List Band) → IsAccepted settings

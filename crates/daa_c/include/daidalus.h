@@ -1,4 +1,4 @@
-/* The detect-and-avoid engine for C and C++: alerts, bands, resolutions and recoveries of a moment, and its report.
+/* The detect-and-avoid engine for C and C++: alerts, bands, resolutions, last times and recoveries of a moment, and its report.
  *
  * There is no handle and no global state. A caller keeps plain numbers in structs of its own: a configuration
  * (struct daa_config, filled in by hand or by daa_read) and a moment's board of levels (struct daa_board, filled in by
@@ -26,7 +26,7 @@ extern "C" {
 #endif
 
 /* The version of this header: major * 10000 + minor * 100 + patch; daa_version() tells that of the archive. */
-#define DAA_VERSION 10000
+#define DAA_VERSION 20000
 
 /* Limits. */
 #define DAA_MOST_AIRCRAFT 64     /* of a moment */
@@ -44,7 +44,8 @@ enum {
     DAA_CONFIG_UNKNOWN_KEY = 3,
     DAA_CONFIG_MISSING_KEY = 4,
     DAA_CONFIG_NOT_NUMBER = 5,   /* a value is no whole number, or no table */
-    DAA_CONFIG_OUT_OF_RANGE = 6, /* a number is out of its range, min is above max, or track_step does not divide 360 */
+    DAA_CONFIG_OUT_OF_RANGE = 6, /* a number is out of its range, min is above max, track_step does not divide 360, or a level
+                                    has two models */
     DAA_CONFIG_LEVELS = 7,       /* the count of levels is not 1 to 4, or resolve is above it */
     DAA_CONFIG_TOO_MANY = 8,     /* a kind has more than 512 candidates */
     DAA_BAD_OWN = 16,            /* a number of the ownship is out of its range */
@@ -57,7 +58,7 @@ enum {
     DAA_BAD_KIND = 23,           /* the kind is none of daa_kind */
     DAA_BAD_SIDE = 24,           /* the side is none of daa_side */
     DAA_BAD_INDEX = 25,          /* the configuration has no candidate at the index */
-    DAA_NOT_ASKED = 26,          /* the configuration asks for no recovery */
+    DAA_NOT_ASKED = 26,          /* the configuration does not ask for it */
     DAA_BAD_BOARD = 27           /* the board is none that daa_decide filled in under the configuration */
 };
 
@@ -83,10 +84,12 @@ struct daa_grid {
 };
 
 /* An alert level. dthr in 0.001 NM (1 to 10000), zthr in ft (0 to 10000), tthr and tcoa in seconds (0 to 120): the well-clear
- * volume. lookahead and alert in seconds (1 to 180): how far ahead candidates and the present flight are tested. tcpa: 0
- * if the horizontal test is modified tau, 1 if it is the time to the closest approach. */
+ * volume. lookahead and alert in seconds (1 to 180): how far ahead candidates and the present flight are tested. The time of
+ * the horizontal test is modified tau if tcpa, tau and tep are 0. With one of them 1 it is the time to the closest approach
+ * (tcpa), tau itself (tau), or the time to the entry point (tep), until the distance is dthr. Each is 0 or 1, and at most one
+ * is 1; else the code is DAA_CONFIG_OUT_OF_RANGE. */
 struct daa_level {
-    int64_t dthr, zthr, tthr, tcoa, lookahead, alert, tcpa;
+    int64_t dthr, zthr, tthr, tcoa, lookahead, alert, tcpa, tau, tep;
 };
 
 /* A configuration: the numbers of a text, under the names of its keys and in their units.
@@ -97,12 +100,14 @@ struct daa_level {
  * recovery: 0 if no recovery is asked for, else hdist in 0.001 NM (1 to 10000) and vdist in ft (0 to 10000) are the
  * cylinder that a recovery stays out of. nearest: 1 if of the values that are clear again soonest the one nearest to the
  * present value is named, 0 if the least is.
+ * last_times: 1 if the last times to manoeuvre are asked for, else 0.
  * count: how many levels there are, 1 to 4; level[0] is level 1. Elements of level from count on are not read. */
 struct daa_config {
     int64_t resolve, turn_rate, track_step;
     struct daa_grid gs, vs, alt;
     uint64_t recovery;
     int64_t hdist, vdist, nearest;
+    int64_t last_times;
     uint64_t count;
     struct daa_level level[4];
 };
@@ -160,7 +165,7 @@ struct daa_fault {
  * daa_decide made it. */
 struct daa_board {
     uint8_t mask[2048];
-    int64_t mark[46];
+    int64_t mark[55];
 };
 
 /* A candidate: its kind, and the value that it goes to, in the kind's unit; 0 if the kind is DAA_HOLD. */
@@ -190,6 +195,16 @@ struct daa_recovery {
     int32_t value;
 };
 
+/* The last time of a kind. found: 1, and then after (seconds, 0 to 179, below the greatest lookahead of the levels from
+ * resolve up) is the greatest number of seconds for which the present flight may be kept so that some candidate of the kind
+ * that begins then is open; or 0 if there is none, and after is 0. Later starts are not looked at: where the present flight
+ * is open, after does not say that a later one comes too late. After 0 stands for a manoeuvre that must begin now. An
+ * earlier start need not be open. */
+struct daa_last {
+    int32_t found;
+    uint32_t after;
+};
+
 /* State lines, as docs/FORMATS.md has them, so far. All zeros: none, and the lines that come are in format 1.
  * format: 2 if they are in format 2, else they are in format 1. last: the time of the last ended moment, if ended is not 0.
  * opened: not 0 while a moment is open. Then time is its time in seconds, own its ownship if owned is not 0, and the first
@@ -211,7 +226,8 @@ int32_t daa_version(void);
 /* ---- a configuration */
 
 /* Fills in the numbers of a configuration's text of TOML, of size bytes. The numbers are then in their ranges. Elements of
- * level from count on are unchanged, and so are hdist, vdist and nearest if no recovery is asked for. */
+ * level from count on are unchanged, and so are hdist, vdist and nearest if no recovery is asked for. last_times is 0 if the
+ * text does not have it. */
 int32_t daa_read(const uint8_t *text, size_t size, struct daa_config *config);
 
 /* Whether a configuration is accepted: DAA_OK; DAA_CONFIG_LEVELS if count is above 4; or else the first that applies of
@@ -267,6 +283,11 @@ int32_t daa_resolution(const struct daa_config *config, const struct daa_own *ow
 /* Fills in the recovery of a kind in a moment, under a configuration that asks for one; else DAA_NOT_ASKED. */
 int32_t daa_recovery(const struct daa_config *config, const struct daa_own *own, const struct daa_traffic *traffic,
                      size_t count, int32_t kind, struct daa_recovery *out);
+
+/* Fills in the last time of a kind in a moment, under a configuration that asks for last times; else DAA_NOT_ASKED. It answers
+ * whether or not the present flight is open; a report has the last times only where it is not. */
+int32_t daa_last(const struct daa_config *config, const struct daa_own *own, const struct daa_traffic *traffic, size_t count,
+                 int32_t kind, struct daa_last *out);
 
 /* Fills in the text of a moment as the program's report has it, and how many bytes it has; time is in seconds. DAA_SHORT if
  * room is less, and only then; 130176 bytes are always enough. Bytes past the text are unchanged: none ends it. */

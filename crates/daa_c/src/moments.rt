@@ -1,7 +1,7 @@
 //! Calls on a moment.
 
 ghost use Rattle.std.specs.Prelude.{◌≡◌, ◌≢◌, pos, ◌≤◌, drop, length, take};
-ghost use Rattle.daa_numbers.specs.Asked.{IsAlertUnder, IsDecided, AreLevelsUnder, HasMoreCandidates, AreBandsUnder, HasKindButNoBoard, HasMoreValues, HasNoKind, IsResolutionUnder, HasNoSide, HasSideButNoBoard, AsksForNone, IsRecoveryUnder, IsReported, HasLongerText};
+ghost use Rattle.daa_numbers.specs.Asked.{IsAlertUnder, IsDecided, AreLevelsUnder, HasMoreCandidates, AreBandsUnder, HasKindButNoBoard, HasMoreValues, HasNoKind, IsResolutionUnder, HasNoSide, HasSideButNoBoard, AsksForNone, AsksForNoLast, IsLastUnder, IsRecoveryUnder, IsReported, HasLongerText};
 ghost use Rattle.daa_numbers.specs.Boards.{IsNoBoard};
 ghost use Rattle.daa_numbers.specs.Codes.{answer_of};
 ghost use Rattle.daa_numbers.specs.Numbers.{settings_by};
@@ -9,7 +9,7 @@ ghost use Rattle.daa_numbers.specs.Refusal.{refusal_of_two, IsCodeOf, refusal_of
 ghost use Rattle.daa_numbers.specs.States.{own_of, traffic_of, picture_of};
 
 use daa_numbers::{
-    DaaAlert, DaaBand, DaaBoard, DaaConfig, DaaOwn, DaaRecovery, DaaResolution, DaaTraffic,
+    DaaAlert, DaaBand, DaaBoard, DaaConfig, DaaLast, DaaOwn, DaaRecovery, DaaResolution, DaaTraffic,
 };
 
 /// Fills in the level of an aircraft now, its alert level and its first leg. Returns 0, or why
@@ -139,6 +139,29 @@ pub extern "C" fn daa_recovery(
         → IsCodeOf (refusal_of config.now own.now traffic.now) result }
 {
     daa_numbers::recovery(config, own, traffic, kind, out)
+}
+
+/// Fills in the last time of a kind in a moment, whether or not the present flight is open. Returns
+/// 0, or why nothing was filled in.
+#[unsafe(no_mangle)]
+pub extern "C" fn daa_last(
+    config: &DaaConfig,
+    own: &DaaOwn,
+    traffic: &[DaaTraffic],
+    kind: i32,
+    out: &mut DaaLast,
+) -> i32
+    ensures filled { result ≡ pos 0
+        → IsLastUnder config.now (picture_of 0 own.now traffic.now) kind out.new }
+    ensures kept { result ≢ pos 0 → out.new ≡ out.old }
+    ensures no_kind { result ≡ pos 23
+        → HasNoKind (refusal_of config.now own.now traffic.now) kind }
+    ensures not_asked { result ≡ pos 26
+        → AsksForNoLast config.now (refusal_of config.now own.now traffic.now) kind }
+    ensures refused { result ≢ pos 0 → result ≢ pos 23 → result ≢ pos 26
+        → IsCodeOf (refusal_of config.now own.now traffic.now) result }
+{
+    daa_numbers::last(config, own, traffic, kind, out)
 }
 
 /// Fills in the text of a moment, and how many bytes it has. Returns 0, or why nothing was filled

@@ -4,4 +4,5 @@ pub mod RangeLemmas
 pub mod GridLemmas
 pub mod CandidateLemmas
 pub mod LevelLemmas
+pub mod BeforeLemmas
 pub mod GreatestLemmas

@@ -24,7 +24,7 @@ use Rattle.daa_config.specs.Inside.Rows.{level_fits, recovery_fits}
 use Rattle.daa_config.specs.Inside.Stepped.{IsStepped}
 use Rattle.daa_config.specs.Settings.{IsGridInRange, IsLevelInRange, IsAccepted, IsCylinder, value_bounds}
 use Rattle.daa_config.specs.ConfigOf.{Written, rows_of}
-use Rattle.daa_config.specs.Level.{level_of, cylinder_of, asks_nearest}
+use Rattle.daa_config.specs.Level.{level_of, cylinder_of, asks_nearest, is_set}
 
 -- ---- tests
 
@@ -69,14 +69,14 @@ of_levels (l ∷ ls) = list_all-append (λ (row : Row). row.fits) (level_rows l)
 -- the tests of the tables, one after the other
 abbrev pub tables_fit : Written → Bool
 tables_fit w =
-    fit (document_rows w.numbers) && (fit (grid_rows (value_bounds Speed) w.numbers.gs) && (fit (grid_rows (value_bounds Climb) w.numbers.vs)
+    fit (document_rows w.numbers w.last_times) && (fit (grid_rows (value_bounds Speed) w.numbers.gs) && (fit (grid_rows (value_bounds Climb) w.numbers.vs)
     && (fit (grid_rows (value_bounds Height) w.numbers.alt) && (recovery_fits w.recovery && list_all level_fits w.levels))))
 
 pub all_rows : (w : Written) → fit (rows_of w) ≡ tables_fit w
 unfolding rows_of
 all_rows w =
     let p : Row → Bool = λ row. row.fits in
-    let d = document_rows w.numbers in
+    let d = document_rows w.numbers w.last_times in
     let g = grid_rows (value_bounds Speed) w.numbers.gs in
     let v = grid_rows (value_bounds Climb) w.numbers.vs in
     let a = grid_rows (value_bounds Height) w.numbers.alt in
@@ -89,6 +89,32 @@ all_rows w =
     ∙ ap (λ b. fit a && b) (list_all-append p r l
     ∙ ap (λ b. b && fit l) (of_recovery w.recovery)
     ∙ ap (λ b. recovery_fits w.recovery && b) (of_levels w.levels)))))
+
+-- tests one after the other: all before the last pass, or one fails
+passes_on : (a b c d e x : Bool) → a ≡ true → b ≡ true → c ≡ true → d ≡ true → e ≡ true → (a && (b && (c && (d && (e && x))))) ≡ x
+passes_on a b c d e x ha hb hc hd he = rw (ha, hb, hc, hd, he) refl
+
+fails_late : (a b c d e x : Bool) → a ≡ true → b ≡ true → c ≡ true → d ≡ true → e ≡ false → (a && (b && (c && (d && (e && x))))) ≡ false
+fails_late a b c d e x ha hb hc hd he = rw (ha, hb, hc, hd, he) refl
+
+fails_first : (a x : Bool) → a ≡ false → (a && x) ≡ false
+fails_first a x ha = rw ha refl
+
+-- the tables of the document and of the kinds pass
+pub record AreKindsFit (w : Written) : Type 0 where
+  pub top : fit (document_rows w.numbers w.last_times) ≡ true
+  pub gs : fit (grid_rows (value_bounds Speed) w.numbers.gs) ≡ true
+  pub vs : fit (grid_rows (value_bounds Climb) w.numbers.vs) ≡ true
+  pub alt : fit (grid_rows (value_bounds Height) w.numbers.alt) ≡ true
+
+pub levels_decide : (w : Written) → AreKindsFit w → recovery_fits w.recovery ≡ true → fit (rows_of w) ≡ list_all level_fits w.levels
+levels_decide w k r = all_rows w ∙ passes_on _ _ _ _ _ (list_all level_fits w.levels) k.top k.gs k.vs k.alt r
+
+pub recovery_refuses : (w : Written) → AreKindsFit w → recovery_fits w.recovery ≡ false → fit (rows_of w) ≡ false
+recovery_refuses w k r = all_rows w ∙ fails_late _ _ _ _ _ (list_all level_fits w.levels) k.top k.gs k.vs k.alt r
+
+pub top_refuses : (w : Written) → fit (document_rows w.numbers w.last_times) ≡ false → fit (rows_of w) ≡ false
+top_refuses w t = all_rows w ∙ fails_first _ _ t
 
 -- ---- grids
 
@@ -123,8 +149,8 @@ record Parts (n : Numbers) : Type 0 where
   turn_rate : IsFrom (pos 1) (pos 30) n.turn_rate
   track_step : IsFrom (pos 1) (pos 90) n.track_step
 
-parts : (n : Numbers) → fit (document_rows n) ≡ true → Parts n
-parts n h =
+parts : (n : Numbers) (last : ℤ) → fit (document_rows n last) ≡ true → Parts n
+parts n last h =
     let a = and_parts (is_in (pos 1) (pos 4) n.resolve) _ h in
     let b = and_parts (is_in (pos 1) (pos 30) n.turn_rate) _ a.1 in
     let d = and_parts (is_in (pos 1) (pos 90) n.track_step) _ b.1 in
@@ -268,13 +294,13 @@ record Ranges (w : Written) : Type 0 where
 
 ranges : (w : Written) → fit (rows_of w) ≡ true → Ranges w
 ranges w h =
-    let a = and_parts (fit (document_rows w.numbers)) _ (sym (all_rows w) ∙ h) in
+    let a = and_parts (fit (document_rows w.numbers w.last_times)) _ (sym (all_rows w) ∙ h) in
     let b = and_parts (fit (grid_rows (value_bounds Speed) w.numbers.gs)) _ a.1 in
     let d = and_parts (fit (grid_rows (value_bounds Climb) w.numbers.vs)) _ b.1 in
     let e = and_parts (fit (grid_rows (value_bounds Height) w.numbers.alt)) _ d.1 in
     let f = and_parts (recovery_fits w.recovery) _ e.1 in
     record {
-      numbers = parts _ a.0;
+      numbers = parts _ w.last_times a.0;
       gs = fits_grid _ _ b.0;
       vs = fits_grid _ _ d.0;
       alt = fits_grid _ _ e.0;
@@ -289,7 +315,7 @@ pub levels_pass : (w : Written) → fit (rows_of w) ≡ true → list_all level_
 levels_pass w h = (ranges w h).levels
 
 pub accepted : (w : Written) → fit (rows_of w) ≡ true → (full_turn % nat_abs w.numbers.track_step == 0) ≡ true → levels_are_wrong w.numbers.resolve w.levels ≡ false
-    → has_too_many w.numbers ≡ false → IsAccepted (record { numbers = w.numbers; recovery = option_map cylinder_of w.recovery; nearest = asks_nearest w.recovery; levels = map level_of w.levels })
+    → has_too_many w.numbers ≡ false → IsAccepted (record { numbers = w.numbers; recovery = option_map cylinder_of w.recovery; nearest = asks_nearest w.recovery; last_times = is_set w.last_times; levels = map level_of w.levels })
 unfolding levels_are_wrong has_too_many
 accepted w fitting divides counted few =
     let r = ranges w fitting in

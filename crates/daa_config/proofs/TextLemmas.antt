@@ -11,13 +11,13 @@ use Rattle.toml.specs.Data.{Members}
 use Rattle.toml.specs.Parse.{parse_document}
 use Rattle.daa_config.specs.declared.fault.ConfigFault.{ConfigFault}
 use Rattle.daa_config.specs.declared.fault.ConfigFault.TheVariants.{TooLong, NotToml, UnknownKey, MissingKey, NotNumber, OutOfRange, Levels, TooMany}
-use Rattle.daa_config.specs.Document.{any_table}
+use Rattle.daa_config.specs.Document.{any_table, number_in}
 use Rattle.daa_config.specs.Limits.{longest_text, full_turn}
 use Rattle.daa_config.specs.Numbers.{levels_are_wrong, has_too_many}
 use Rattle.daa_config.specs.Rows.{Text, has_other_key, lacks_key, holds_other}
 use Rattle.daa_config.specs.Settings.{Settings, IsAccepted}
 use Rattle.daa_config.specs.ConfigOf.{Written, rows_of, settings_of, written_in, config_in, config_of}
-use Rattle.daa_config.specs.Level.{level_of, cylinder_of, asks_nearest}
+use Rattle.daa_config.specs.Level.{level_of, cylinder_of, asks_one, asks_nearest, is_set}
 use Rattle.daa_config.proofs.RangeLemmas.{accepted}
 
 -- what a text is that is no document
@@ -60,15 +60,36 @@ past false e r y h = (refl, h)
 settled : (w : Written) (s : Settings) → settings_of w ≡ Ok s → IsAccepted s
 unfolding settings_of
 settled w s h =
-    let t : Settings = record { numbers = w.numbers; recovery = option_map cylinder_of w.recovery; nearest = asks_nearest w.recovery; levels = map level_of w.levels } in
+    let t : Settings = record { numbers = w.numbers; recovery = option_map cylinder_of w.recovery; nearest = asks_nearest w.recovery; last_times = is_set w.last_times; levels = map level_of w.levels } in
     let fit = list_all (λ row. row.fits) (rows_of w) in
     let divides = full_turn % nat_abs w.numbers.track_step == 0 in
     let ranges = past (not (fit && divides)) OutOfRange _ s h in
-    let levels = past (levels_are_wrong w.numbers.resolve w.levels) Levels _ s ranges.1 in
+    let one = past (not (list_all asks_one w.levels)) OutOfRange _ s ranges.1 in
+    let levels = past (levels_are_wrong w.numbers.resolve w.levels) Levels _ s one.1 in
     let many = past (has_too_many w.numbers) TooMany _ s levels.1 in
     let both = and_parts fit divides (not-false _ ranges.0) in
     let same : t ≡ s = cc (many.1) in
     subst IsAccepted same (accepted w both.0 both.1 levels.0 many.0)
+
+-- last times are asked for where the number that is written asks for them
+asked : (w : Written) (s : Settings) → settings_of w ≡ Ok s → s.last_times ≡ is_set w.last_times
+unfolding settings_of
+asked w s h =
+    let fit = list_all (λ row. row.fits) (rows_of w) in
+    let divides = full_turn % nat_abs w.numbers.track_step == 0 in
+    let ranges = past (not (fit && divides)) OutOfRange _ s h in
+    let one = past (not (list_all asks_one w.levels)) OutOfRange _ s ranges.1 in
+    let levels = past (levels_are_wrong w.numbers.resolve w.levels) Levels _ s one.1 in
+    let many = past (has_too_many w.numbers) TooMany _ s levels.1 in
+    cc (many.1)
+
+pub asked_as_written : (ms : Members) (s : Settings) → config_in ms ≡ Ok s → s.last_times ≡ is_set (number_in ms "last_times")
+unfolding config_in written_in
+asked_as_written ms s h =
+    let other = past (any_table has_other_key ms) UnknownKey _ s h in
+    let lacking = past (any_table lacks_key ms) MissingKey _ s other.1 in
+    let holding = past (any_table holds_other ms) NotNumber _ s lacking.1 in
+    asked (written_in ms) s holding.1
 
 of_document : (ms : Members) (s : Settings) → config_in ms ≡ Ok s → IsAccepted s
 unfolding config_in

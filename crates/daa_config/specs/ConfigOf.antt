@@ -1,5 +1,5 @@
 -- The configuration that a text is, or the fault of least number that applies anywhere in it.
-use Rattle.std.specs.Prelude.{◌%◌, ◌==◌, ◌&&◌, not, List, [], ◌++◌, length, map, nat_abs, nat_lt, Option, Result, Ok, Err, if◌then◌else◌, option_map}
+use Rattle.std.specs.Prelude.{ℤ, ◌%◌, ◌==◌, ◌&&◌, not, List, [], ◌++◌, length, map, nat_abs, nat_lt, Option, Result, Ok, Err, if◌then◌else◌, option_map}
 use Rattle.std.specs.List.{list_all, flat_map}
 use Rattle.std.specs.Option.{option_map_or}
 use Rattle.std.specs.Str.{is_utf8}
@@ -12,7 +12,7 @@ use Rattle.daa_config.specs.declared.numbers.Numbers.{Numbers}
 use Rattle.daa_config.specs.declared.numbers.LevelNumbers.{LevelNumbers}
 use Rattle.daa_config.specs.declared.numbers.RecoveryNumbers.{RecoveryNumbers}
 use Rattle.daa_config.specs.Document.{table_in, levels_in, number_in, grid_in, numbers_by, recovery_by, level_by, any_table}
-use Rattle.daa_config.specs.Level.{level_of, cylinder_of, asks_nearest}
+use Rattle.daa_config.specs.Level.{level_of, cylinder_of, asks_one, asks_nearest, is_set}
 use Rattle.daa_config.specs.Limits.{longest_text, full_turn}
 use Rattle.daa_config.specs.Numbers.{levels_are_wrong, has_too_many}
 use Rattle.daa_config.specs.Rows.{Text, Row, document_rows, grid_rows, level_rows, recovery_rows, has_other_key, lacks_key, holds_other}
@@ -22,30 +22,33 @@ use Rattle.daa_config.specs.Settings.{Settings, value_bounds}
 pub record Written : Type 0 where
   pub numbers : Numbers
   pub recovery : Option RecoveryNumbers
+  pub last_times : ℤ
   pub levels : List LevelNumbers
 
 -- all rows of these numbers, of each table
 unfoldable pub rows_of : Written → List Row
 rows_of w =
-    document_rows w.numbers
+    document_rows w.numbers w.last_times
     ++ (grid_rows (value_bounds Speed) w.numbers.gs ++ (grid_rows (value_bounds Climb) w.numbers.vs ++ (grid_rows (value_bounds Height) w.numbers.alt
     ++ (option_map_or recovery_rows w.recovery [] ++ flat_map level_rows w.levels))))
 
 -- ---- the faults, in the order of their numbers
 
--- the configuration of these numbers, unless one is out of its range or there are too many
+-- the configuration of these numbers, unless one is out of its range, a level asks for two models, or there are too many
 unfoldable pub settings_of : Written → Result Settings ConfigFault
 settings_of w =
     if not (list_all (λ row. row.fits) (rows_of w) && (full_turn % nat_abs w.numbers.track_step == 0)) then Err OutOfRange
+    else if not (list_all asks_one w.levels) then Err OutOfRange
     else if levels_are_wrong w.numbers.resolve w.levels then Err Levels
     else if has_too_many w.numbers then Err TooMany
-    else Ok (record { numbers = w.numbers; recovery = option_map cylinder_of w.recovery; nearest = asks_nearest w.recovery; levels = map level_of w.levels })
+    else Ok (record { numbers = w.numbers; recovery = option_map cylinder_of w.recovery; nearest = asks_nearest w.recovery; last_times = is_set w.last_times; levels = map level_of w.levels })
 
 -- the numbers of a document
 unfoldable pub written_in : Members → Written
 written_in ms = record {
   numbers = numbers_by (number_in ms) (grid_in ms);
   recovery = option_map (λ t. recovery_by (number_in t)) (table_in ms "recovery");
+  last_times = number_in ms "last_times";
   levels = map (λ t. level_by (number_in t)) (levels_in ms);
 }
 

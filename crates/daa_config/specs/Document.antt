@@ -37,13 +37,13 @@ grid_in ms key = grid_by (number_in (option_map_or (λ t. t) (table_in ms key) n
 
 -- of a level's table
 abbrev pub level_by : (String → ℤ) → LevelNumbers
-level_by at = record { dthr = at "dthr"; zthr = at "zthr"; tthr = at "tthr"; tcoa = at "tcoa"; lookahead = at "lookahead"; alert = at "alert"; tcpa = at "tcpa" }
+level_by at = record { dthr = at "dthr"; zthr = at "zthr"; tthr = at "tthr"; tcoa = at "tcoa"; lookahead = at "lookahead"; alert = at "alert"; tcpa = at "tcpa"; tau = at "tau"; tep = at "tep" }
 
 -- of the recovery's table
 abbrev pub recovery_by : (String → ℤ) → RecoveryNumbers
 recovery_by at = record { hdist = at "hdist"; vdist = at "vdist"; nearest = at "nearest" }
 
--- of the document, those of its levels and its recovery apart
+-- of the document, those of its levels and its recovery and `last_times` apart
 abbrev pub numbers_by : (String → ℤ) → (String → Grid) → Numbers
 numbers_by at grid = record { resolve = at "resolve"; turn_rate = at "turn_rate"; track_step = at "track_step"; gs = grid "gs"; vs = grid "vs"; alt = grid "alt" }
 
@@ -52,7 +52,7 @@ numbers_by at grid = record { resolve = at "resolve"; turn_rate = at "turn_rate"
 -- the document, or one of its tables, differs from its rows; their numbers play no part in it
 unfoldable pub any_table : (List Row → Members → Bool) → Members → Bool
 any_table differs ms =
-    differs (document_rows (numbers_by (number_in ms) (grid_in ms))) ms
+    differs (document_rows (numbers_by (number_in ms) (grid_in ms)) (number_in ms "last_times")) ms
     || (option_map_or (λ t. differs (grid_rows (value_bounds Speed) (grid_by (number_in t))) t) (table_in ms "gs") false
     || (option_map_or (λ t. differs (grid_rows (value_bounds Climb) (grid_by (number_in t))) t) (table_in ms "vs") false
     || (option_map_or (λ t. differs (grid_rows (value_bounds Height) (grid_by (number_in t))) t) (table_in ms "alt") false

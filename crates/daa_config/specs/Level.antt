@@ -1,16 +1,24 @@
 -- A level in units: 36 to 0.001 NM and 60 to a foot.
-use Rattle.std.specs.Prelude.{◌*◌, zero, ℤ, pos, nat_abs, Bool, true, false, Option, Some, None}
+use Rattle.std.specs.Prelude.{◌*◌, zero, ℤ, pos, nat_abs, Bool, true, false, not, ◌&&◌, ◌||◌, if◌then◌else◌, Option, Some, None}
 use Rattle.daa_taumod.specs.declared.Model.{Model}
-use Rattle.daa_taumod.specs.declared.Model.TheVariants.{Taumod, Tcpa}
+use Rattle.daa_taumod.specs.declared.Model.TheVariants.{Tau, Tcpa, Taumod, Tep}
 use Rattle.daa_taumod.specs.declared.Volume.{Volume}
 use Rattle.daa_config.specs.declared.level.Level.{Level}
 use Rattle.daa_config.specs.declared.numbers.LevelNumbers.{LevelNumbers}
 use Rattle.daa_config.specs.declared.numbers.RecoveryNumbers.{RecoveryNumbers}
 
--- the model that the number at `tcpa` asks for
-abbrev pub model_of : ℤ → Model
-model_of (pos zero) = Taumod
-model_of _ = Tcpa
+-- what a number asks for that is 0 or 1
+abbrev pub is_set : ℤ → Bool
+is_set (pos zero) = false
+is_set _ = true
+
+-- at most one of the keys `tau`, `tcpa` and `tep` asks for its model
+abbrev pub asks_one : LevelNumbers → Bool
+asks_one n = not (is_set n.tau && (is_set n.tcpa || is_set n.tep)) && not (is_set n.tcpa && is_set n.tep)
+
+-- the model that the level asks for: modified tau where none of the three keys does
+abbrev pub model_of : LevelNumbers → Model
+model_of n = if is_set n.tau then Tau else if is_set n.tcpa then Tcpa else if is_set n.tep then Tep else Taumod
 
 -- the well-clear volume of a level
 abbrev pub volume_of : LevelNumbers → Volume
@@ -19,7 +27,7 @@ volume_of n = record {
   zthr = 60 * nat_abs n.zthr;
   tthr = nat_abs n.tthr;
   tcoa = nat_abs n.tcoa;
-  model = model_of n.tcpa;
+  model = model_of n;
 }
 
 -- the volume that a recovery stays out of: what is within these distances, however it moves
@@ -31,11 +39,6 @@ cylinder_of n = record {
   tcoa = 0;
   model = Taumod;
 }
-
--- what a number asks for that is 0 or 1
-abbrev pub is_set : ℤ → Bool
-is_set (pos zero) = false
-is_set _ = true
 
 -- the recovery is asked to name the value nearest to the present one
 abbrev pub asks_nearest : Option RecoveryNumbers → Bool

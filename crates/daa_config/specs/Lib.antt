@@ -8,5 +8,6 @@ pub mod Level
 pub mod ConfigOf
 pub mod Written
 pub mod Candidates
+pub mod Before
 pub mod Packing
 pub mod Inside

@@ -45,9 +45,9 @@ are_tables d = option_map_or (λ ds. list_all (λ one. is_some (as_table one)) (
 
 -- ---- the rows
 
--- of the document
-abbrev pub document_rows : Numbers → List Row
-document_rows n =
+-- of the document; `last_times` is 1 where last times are asked for
+abbrev pub document_rows : Numbers → ℤ → List Row
+document_rows n last_times =
     number "resolve" (pos 1) (pos 4) n.resolve
     ∷ number "turn_rate" (pos 1) (pos 30) n.turn_rate
     ∷ number "track_step" (pos 1) (pos 90) n.track_step
@@ -55,7 +55,8 @@ document_rows n =
     ∷ table "vs"
     ∷ table "alt"
     ∷ record (table "level") { holds = are_tables }
-    ∷ record (table "recovery") { needed = false } ∷ []
+    ∷ record (table "recovery") { needed = false }
+    ∷ optional "last_times" (pos 1) last_times ∷ []
 
 -- of the table of a kind whose values are within these bounds: `max` is from `min` on, and a step is at most the way between the bounds
 abbrev pub grid_rows : Bounds → Grid → List Row
@@ -65,7 +66,8 @@ grid_rows values g =
     ∷ number "step" (pos 1) (values.high -ℤ values.low) g.step
     ∷ number "rate" (pos 1) (pos 10000) g.rate ∷ []
 
--- of a level's table: 0.001 NM, ft, and seconds; `tcpa` is 1 where the time to the closest approach counts
+-- of a level's table: 0.001 NM, ft, and seconds; `tcpa` is 1 where the time to the closest approach counts, `tau` where tau does,
+-- `tep` where the time until the distance is `dthr` does
 abbrev pub level_rows : LevelNumbers → List Row
 level_rows l =
     number "dthr" (pos 1) (pos 10000) l.dthr
@@ -74,7 +76,9 @@ level_rows l =
     ∷ number "tcoa" (pos 0) (pos 120) l.tcoa
     ∷ number "lookahead" (pos 1) (pos 180) l.lookahead
     ∷ number "alert" (pos 1) (pos 180) l.alert
-    ∷ optional "tcpa" (pos 1) l.tcpa ∷ []
+    ∷ optional "tcpa" (pos 1) l.tcpa
+    ∷ optional "tau" (pos 1) l.tau
+    ∷ optional "tep" (pos 1) l.tep ∷ []
 
 -- of the table of a recovery's cylinder: 0.001 NM and ft; `nearest` is 1 where the value nearest to the present one is named
 abbrev pub recovery_rows : RecoveryNumbers → List Row

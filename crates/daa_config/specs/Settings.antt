@@ -17,11 +17,12 @@ use Rattle.daa_config.specs.Limits.{from_to, full_turn, most_levels, most_values
 use Rattle.daa_config.specs.Numbers.{count_of}
 
 -- the numbers of a configuration, the cylinder that a recovery stays out of where one is asked for, whether a recovery names the value
--- nearest to the present one, and the levels in units; the first of the list is level 1
+-- nearest to the present one, whether last times are asked for, and the levels in units; the first of the list is level 1
 pub record Settings : Type 0 where
   pub numbers : Numbers
   pub recovery : Option Volume
   pub nearest : Bool
+  pub last_times : Bool
   pub levels : List Level
 
 -- the level numbered l, from 1 on

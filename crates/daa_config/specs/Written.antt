@@ -4,4 +4,4 @@ use Rattle.daa_config.specs.ConfigOf.{Written}
 
 -- those that a caller keeps
 abbrev pub written_by : ConfigNumbers → Written
-written_by found = record { numbers = found.numbers; recovery = found.recovery; levels = found.levels.items }
+written_by found = record { numbers = found.numbers; recovery = found.recovery; last_times = found.last_times; levels = found.levels.items }

@@ -30,6 +30,7 @@ pub struct Config {
     numbers: Numbers,
     recovery: Option<Volume>,
     nearest: bool,
+    last_times: bool,
     levels: ArrayVec<Level, MOST_LEVELS>,
 }
 
@@ -59,6 +60,7 @@ impl Model for Config {
       numbers = c.numbers;
       recovery = c.recovery;
       nearest = c.nearest;
+      last_times = c.last_times;
       levels = c.levels.items;
     } };
 
@@ -66,6 +68,7 @@ impl Model for Config {
       numbers = c.numbers;
       recovery = c.recovery;
       nearest = c.nearest;
+      last_times = c.last_times;
       levels = c.levels.items;
     }) };
 }
@@ -79,18 +82,21 @@ impl Config {
         numbers: Numbers,
         recovery: Option<Volume>,
         nearest: bool,
+        last_times: bool,
         levels: ArrayVec<Level, MOST_LEVELS>,
     ) -> Config
         requires { IsAccepted (record {
           numbers = numbers;
           recovery = recovery;
           nearest = nearest;
+          last_times = last_times;
           levels = levels.items;
         }) }
         ensures { result ≡ record {
           numbers = numbers;
           recovery = recovery;
           nearest = nearest;
+          last_times = last_times;
           levels = levels.items;
         } }
     {
@@ -98,6 +104,7 @@ impl Config {
             numbers,
             recovery,
             nearest,
+            last_times,
             levels,
         }
     }
@@ -118,6 +125,14 @@ impl Config {
         ensures accepted { IsAccepted self.now }
     {
         self.nearest
+    }
+
+    /// Whether the last times are asked for at which a manoeuvre of each kind may begin.
+    pub fn last_times(&self) -> bool
+        ensures value { result ≡ self.now.last_times }
+        ensures accepted { IsAccepted self.now }
+    {
+        self.last_times
     }
 
     /// How many levels there are, 1 to 4.

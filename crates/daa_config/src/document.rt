@@ -113,6 +113,8 @@ pub(crate) fn level_of(table: &Table) -> LevelNumbers
         lookahead: whole_at(table, "lookahead"),
         alert: whole_at(table, "alert"),
         tcpa: whole_at(table, "tcpa"),
+        tau: whole_at(table, "tau"),
+        tep: whole_at(table, "tep"),
     }
 }
 
@@ -141,7 +143,14 @@ pub(crate) fn levels_of(alloc: Global, document: &Table) -> Result<Vec<LevelNumb
     }
 }
 
-/// The numbers of the document, those of its levels and its recovery apart.
+/// Whether the document asks for last times, as a number: 0 where the key is left out.
+pub(crate) fn last_times_of(document: &Table) -> i64
+    ensures { result ≡ number_in (table_view document.now) "last_times" }
+{
+    whole_at(document, "last_times")
+}
+
+/// The numbers of the document, those of its levels and its recovery and `last_times` apart.
 pub(crate) fn numbers_of(document: &Table) -> Numbers
     ensures { result ≡ numbers_by (number_in (table_view document.now))
         (grid_in (table_view document.now)) }

@@ -9,10 +9,12 @@ ghost use Rattle.toml.specs.View.{table_view, items_view};
 ghost use Rattle.daa_fixed.specs.Size.{IsFrom};
 ghost use Rattle.daa_config.specs.Rows.{has_other_key, lacks_key, holds_other, list_of};
 ghost use Rattle.daa_config.specs.Rows as listed;
-ghost use Rattle.daa_config.specs.Document.{number_in, grid_by, recovery_by, level_by, table_in, levels_in, any_table};
+ghost use Rattle.daa_config.specs.Document.{number_in, grid_in, numbers_by, grid_by, recovery_by, level_by, table_in, levels_in, any_table};
 ghost use Rattle.daa_config.specs.Inside.Rows.{row_by, differs_by, table_at as found_at, any_item};
 
-use crate::document::{cylinder_of, grid_of, level_of, list_at, member_at, numbers_of, table_at};
+use crate::document::{
+    cylinder_of, grid_of, last_times_of, level_of, list_at, member_at, numbers_of, table_at,
+};
 use crate::limits::{Bounds, CLIMBS, HEIGHTS, SPEEDS};
 use crate::rows::{Row, document_rows, grid_rows, level_rows, recovery_rows};
 use toml::{Table, Value};
@@ -98,6 +100,16 @@ fn differs(difference: Difference, rows: &[Row], table: &Table) -> bool
     }
 }
 
+/// Whether the document itself differs from its rows.
+fn top_differs(difference: Difference, document: &Table) -> bool
+    ensures { result ≡ differs_by difference (listed.document_rows
+        (numbers_by (number_in (table_view document.now)) (grid_in (table_view document.now)))
+        (number_in (table_view document.now) "last_times")) (table_view document.now) }
+{
+    let rows = document_rows(&numbers_of(document), &last_times_of(document));
+    differs(difference, &rows, document)
+}
+
 /// Whether there is a table of a kind at the key, and it differs from its rows.
 fn grid_differs(difference: Difference, values: &Bounds, document: &Table, key: &str) -> bool
     requires { IsFrom (pos 0) (pos 100000) (values.now.high -ℤ values.now.low) }
@@ -154,7 +166,7 @@ fn levels_differ(difference: Difference, document: &Table) -> bool
 pub(crate) fn any_table_differs(difference: Difference, document: &Table) -> bool
     ensures { result ≡ any_table (differs_by difference) (table_view document.now) }
 {
-    differs(difference, &document_rows(&numbers_of(document)), document)
+    top_differs(difference, document)
         || (grid_differs(difference, &SPEEDS, document, "gs")
             || (grid_differs(difference, &CLIMBS, document, "vs")
                 || (grid_differs(difference, &HEIGHTS, document, "alt")

@@ -1,16 +1,33 @@
 //! Laws of the definitions, each the contract of a function that does nothing.
 
-ghost use Rattle.std.specs.Prelude.{◌≡◌, Ok};
+ghost use Rattle.std.specs.Prelude.{◌≡◌, Ok, None, codes};
+ghost use Rattle.toml.specs.Data.{Members, get_member};
 ghost use Rattle.daa_config.specs.declared.kind.Kind.{Kind};
 ghost use Rattle.daa_config.specs.Rows.{Text};
 ghost use Rattle.daa_config.specs.Settings.{Settings, IsAccepted};
 ghost use Rattle.daa_config.specs.ConfigOf.{config_of};
+ghost use Rattle.daa_config.specs.Before.{IsAsBefore, IsDocumentAsBefore};
 ghost use Rattle.daa_config.specs.Candidates.{grid_of, values_of, AreStepsUpTo};
 
 /// A text that is taken has its numbers in their ranges.
 pub fn accepted_is_in_range()
     ensures { (text : Text) (settings : Settings) → config_of text ≡ Ok settings
         → IsAccepted settings }
+{}
+
+/// A level's table without a key `tau` and a key `tep` is read as if there were no such keys: it
+/// has the same faults, and its model is that of `tcpa` alone.
+pub fn levels_without_tau_and_tep_are_as_before()
+    ensures { (table : Members) → get_member (codes "tau") table ≡ None
+        → get_member (codes "tep") table ≡ None
+        → IsAsBefore table }
+{}
+
+/// A text without a key `last_times` at its top is read as if there were no such key: it has the
+/// same faults, and the settings that it gives ask for no last times.
+pub fn texts_without_last_times_are_as_before()
+    ensures { (document : Members) → get_member (codes "last_times") document ≡ None
+        → IsDocumentAsBefore document }
 {}
 
 /// The values of a kind are min, min + step, .. up to

@@ -4,7 +4,7 @@ ghost use Rattle.std.specs.Prelude.{◌≡◌, ◌≤◌, ◌*◌, ℕ, pos, nat
 ghost use Rattle.std.specs.List.{list_all};
 ghost use Rattle.daa_fixed.specs.Size.{IsFrom};
 ghost use Rattle.daa_config.specs.Inside.Rows.{level_fits, recovery_fits};
-ghost use Rattle.daa_config.specs.Level.{level_of, cylinder_of, model_of, is_set, asks_nearest};
+ghost use Rattle.daa_config.specs.Level.{level_of, cylinder_of, model_of, is_set, asks_one, asks_nearest};
 
 use crate::limits::MOST_LEVELS;
 use crate::numbers::{LevelNumbers, RecoveryNumbers};
@@ -22,22 +22,45 @@ pub struct Level {
     pub alert: u32,
 }
 
-/// The model that the key `tcpa` asks for.
-fn model_in(tcpa: i64) -> Model
-    ensures { result ≡ model_of tcpa }
-{
-    if tcpa == 0 {
-        Model::Taumod
-    } else {
-        Model::Tcpa
-    }
-}
-
 /// What a number asks for that is 0 or 1.
 fn is_asked(number: i64) -> bool
     ensures { result ≡ is_set number }
 {
     number != 0
+}
+
+/// Whether last times are asked for.
+pub(crate) fn asks_last(last_times: &i64) -> bool
+    ensures { result ≡ is_set last_times.now }
+{
+    is_asked(*last_times)
+}
+
+/// Whether at most one of the keys `tau`, `tcpa` and `tep` asks for its model.
+pub(crate) fn asks_for_one(numbers: &LevelNumbers) -> bool
+    ensures { result ≡ asks_one numbers.now }
+{
+    let (tau, tcpa, tep) = (
+        is_asked(numbers.tau),
+        is_asked(numbers.tcpa),
+        is_asked(numbers.tep),
+    );
+    !(tau && (tcpa || tep)) && !(tcpa && tep)
+}
+
+/// The model that the keys `tau`, `tcpa` and `tep` ask for.
+fn model_in(numbers: &LevelNumbers) -> Model
+    ensures { result ≡ model_of numbers.now }
+{
+    if is_asked(numbers.tau) {
+        Model::Tau
+    } else if is_asked(numbers.tcpa) {
+        Model::Tcpa
+    } else if is_asked(numbers.tep) {
+        Model::Tep
+    } else {
+        Model::Taumod
+    }
 }
 
 /// Whether the recovery is asked to name the value nearest to the present one.
@@ -85,7 +108,7 @@ fn in_units(numbers: &LevelNumbers) -> Level
             zthr: vertical(numbers.zthr),
             tthr: seconds(numbers.tthr),
             tcoa: seconds(numbers.tcoa),
-            model: model_in(numbers.tcpa),
+            model: model_in(numbers),
         },
         lookahead: seconds(numbers.lookahead),
         alert: seconds(numbers.alert),

@@ -24,7 +24,7 @@ pub struct Grid {
     pub rate: i64,
 }
 
-/// All numbers of a configuration but those of its levels: the least level that closes a candidate
+/// The numbers that each configuration has, those of its levels apart: the least level that closes a candidate
 /// which is covered at it, degrees per second, degrees, and the grids in 0.1 kt, ft/min and ft. C
 /// lays it out alike.
 #[repr(C)]
@@ -41,8 +41,8 @@ pub struct Numbers {
     pub alt: Grid,
 }
 
-/// The numbers of a level as the text has them: 0.001 NM, ft, seconds, and 1 where the volume goes
-/// by the time to the closest approach, else 0. C lays it out alike.
+/// The numbers of a level as the text has them: 0.001 NM, ft, seconds, and which model the volume
+/// goes by: one of the last three is 1, or none where it goes by modified tau. C lays it out alike.
 #[repr(C)]
 #[derive(Clone, Copy, Debug, Default, PartialEq, Eq)]
 pub struct LevelNumbers {
@@ -58,8 +58,12 @@ pub struct LevelNumbers {
     pub lookahead: i64,
     /// 1 to 180.
     pub alert: i64,
-    /// 0 or 1.
+    /// 0 or 1: the time to the closest approach.
     pub tcpa: i64,
+    /// 0 or 1: tau.
+    pub tau: i64,
+    /// 0 or 1: the time to the entry point.
+    pub tep: i64,
 }
 
 /// The cylinder that a recovery stays out of, as the text has it: 0.001 NM and ft; and which of the
@@ -81,6 +85,8 @@ pub struct RecoveryNumbers {
 pub struct ConfigNumbers {
     pub numbers: Numbers,
     pub recovery: Option<RecoveryNumbers>,
+    /// 0 or 1: last times are asked for.
+    pub last_times: i64,
     pub levels: ArrayVec<LevelNumbers, MOST_LEVELS>,
 }
 

@@ -9,7 +9,7 @@ ghost use Rattle.daa_config.specs.ConfigOf.{config_of, config_in, settings_of};
 
 use crate::accepting::test;
 use crate::config::Config;
-use crate::document::{levels_of, numbers_of, recovery_of};
+use crate::document::{last_times_of, levels_of, numbers_of, recovery_of};
 use crate::fault::ConfigFault;
 use crate::keys::{Difference, any_table_differs};
 use crate::limits::{LONGEST_TEXT, MOST_LEVELS};
@@ -23,6 +23,7 @@ use toml::Table;
 struct Found {
     numbers: Numbers,
     recovery: Option<RecoveryNumbers>,
+    last_times: i64,
     levels: Vec<LevelNumbers>,
 }
 
@@ -63,6 +64,7 @@ fn find(alloc: Global, document: &Table) -> Result<Found, ConfigFault>
     Ok(Found {
         numbers: numbers_of(document),
         recovery: recovery_of(document),
+        last_times: last_times_of(document),
         levels: levels_of(alloc, document)?,
     })
 }
@@ -87,10 +89,11 @@ fn accept(found: &Found) -> Result<ConfigNumbers, ConfigFault>
     ensures refused { IfErr result (λ fault. settings_of (written_from found.now) ≡ Err fault) }
 {
     let levels = found.levels.as_slice();
-    test(&found.numbers, &found.recovery, levels)?;
+    test(&found.numbers, &found.recovery, &found.last_times, levels)?;
     Ok(ConfigNumbers {
         numbers: found.numbers,
         recovery: found.recovery,
+        last_times: found.last_times,
         levels: list_levels(levels),
     })
 }
@@ -116,5 +119,6 @@ pub fn read(alloc: Global, text: &[u8]) -> Result<Config, ConfigFault>
     ensures refused { IfErr result (λ fault. fault ≢ NoMemory → config_of text.now ≡ Err fault) }
 {
     let found = read_numbers(alloc, text)?;
-    Config::of(&found.numbers, &found.recovery, found.levels.as_slice())
+    let levels = found.levels.as_slice();
+    Config::of(&found.numbers, &found.recovery, &found.last_times, levels)
 }

@@ -141,8 +141,8 @@ fn table(key: &'static str) -> Row
 }
 
 /// The rows of the document.
-pub(crate) fn document_rows(n: &Numbers) -> [Row; 8]
-    ensures { map row_by result ≡ listed.document_rows n.now }
+pub(crate) fn document_rows(n: &Numbers, last_times: &i64) -> [Row; 9]
+    ensures { map row_by result ≡ listed.document_rows n.now last_times.now }
 {
     [
         number("resolve", 1, 4, n.resolve),
@@ -159,6 +159,7 @@ pub(crate) fn document_rows(n: &Numbers) -> [Row; 8]
             needed: false,
             ..table("recovery")
         },
+        optional("last_times", 1, *last_times),
     ]
 }
 
@@ -184,7 +185,7 @@ pub(crate) fn grid_rows(values: &Bounds, g: &Grid) -> [Row; 4]
 }
 
 /// The rows of a level's table.
-pub(crate) fn level_rows(l: &LevelNumbers) -> [Row; 7]
+pub(crate) fn level_rows(l: &LevelNumbers) -> [Row; 9]
     ensures { map row_by result ≡ listed.level_rows l.now }
 {
     [
@@ -195,6 +196,8 @@ pub(crate) fn level_rows(l: &LevelNumbers) -> [Row; 7]
         number("lookahead", 1, 180, l.lookahead),
         number("alert", 1, 180, l.alert),
         optional("tcpa", 1, l.tcpa),
+        optional("tau", 1, l.tau),
+        optional("tep", 1, l.tep),
     ]
 }
 

@@ -2,7 +2,7 @@
 use Rattle.std.proofs.Common.{List, [], ◌∷◌, ◌≡◌, refl, sym, subst, ◌∙◌, arith, ℤ, pos, ◌+ℤ◌, ◌*ℤ◌, ◌-ℤ◌, neg_ℤ, ◌≤ℤ◌, ◌<ℤ◌}
 use Rattle.std.proofs.lemmas.Int.{ints, by_lt_z}
 use Rattle.daa_fixed.proofs.Ring.{mul_nonneg, square_nonneg, ring, Poly, #, lit, ⊝, ◌⊕◌, ◌⊖◌, ◌⊗◌}
-use Rattle.daa_fixed.proofs.Integers.{mul_le, mul_pos, cancel_le, rest, by_rest, by_sum, le_trans_ℤ, root_within}
+use Rattle.daa_fixed.proofs.Integers.{mul_le, mul_le_mul, mul_pos, cancel_le, rest, by_rest, by_sum, le_trans_ℤ, root_within, sum_nonneg}
 
 -- y (y - c) ≤ k holds all the way down to 0
 shrink : (x y c k : ℤ) → pos 0 ≤ℤ x → x ≤ℤ y → pos 0 ≤ℤ k → (y *ℤ (y -ℤ c)) ≤ℤ k → (x *ℤ (x -ℤ c)) ≤ℤ k
@@ -100,3 +100,33 @@ module _ (a x r t d e p q u w : ℤ) (a1 : pos 0 <ℤ a) (d1 : pos 0 <ℤ d) (e1
       (subst (λ (z : ℤ). pos 0 ≤ℤ z)
       (ring ρ (T ⊗ D ⊗ A ⊗ E ⊖ ⊝ W ⊗ D) (D ⊗ (T ⊗ E ⊗ A ⊖ ⊝ W)) tt)
       (rest _ _ (le_trans_ℤ (neg_ℤ w *ℤ d) (neg_ℤ u *ℤ e) (t *ℤ d *ℤ a *ℤ e) nearer_is_later (mul_le (neg_ℤ u) (t *ℤ d *ℤ a) e (omega (arith, ints)) soon)))))
+
+  -- where the distance still falls t seconds after the nearer one, it is then at most r, if it is so t seconds after the other:
+  -- p' and q' are the squares of the distance then, u' and w' the dot products
+  module _ (p' q' u' w' : ℤ) (third : a *ℤ p' ≡ u' *ℤ u' +ℤ (d *ℤ x) *ℤ (d *ℤ x)) (fourth : a *ℤ q' ≡ w' *ℤ w' +ℤ (e *ℤ x) *ℤ (e *ℤ x))
+      (gains : u' ≡ u +ℤ t *ℤ d *ℤ a) (gains' : w' ≡ w +ℤ t *ℤ e *ℤ a) (falling : w' <ℤ pos 0) where
+    abbrev σ : List ℤ
+    σ = a ∷ x ∷ r ∷ t ∷ d ∷ e ∷ p' ∷ q' ∷ u' ∷ w' ∷ []
+
+    still_later : (neg_ℤ w' *ℤ d) ≤ℤ (neg_ℤ u' *ℤ e)
+    still_later = by_rest _ _ _
+        ((λ i. neg_ℤ (gains i) *ℤ e -ℤ neg_ℤ (gains' i) *ℤ d)
+        ∙ ring ρ (⊝ (U ⊕ T ⊗ D ⊗ A) ⊗ E ⊖ ⊝ (W ⊕ T ⊗ E ⊗ A) ⊗ D) (⊝ U ⊗ E ⊖ ⊝ W ⊗ D) tt)
+        (rest _ _ nearer_is_later)
+
+    not_past : pos 0 ≤ℤ (neg_ℤ w' *ℤ d)
+    not_past = mul_nonneg (neg_ℤ w') d (omega (arith, ints)) (omega (arith, ints))
+
+    squares : ((neg_ℤ w' *ℤ d) *ℤ (neg_ℤ w' *ℤ d)) ≤ℤ ((neg_ℤ u' *ℤ e) *ℤ (neg_ℤ u' *ℤ e))
+    squares = mul_le_mul _ _ _ _ not_past (le_trans_ℤ (pos 0) (neg_ℤ w' *ℤ d) (neg_ℤ u' *ℤ e) not_past still_later) still_later still_later not_past
+
+    pub later_still_near : p' ≤ℤ ((r *ℤ d) *ℤ (r *ℤ d)) → q' ≤ℤ ((r *ℤ e) *ℤ (r *ℤ e))
+    later_still_near near = by_rest _ _ _ refl
+        (cancel_le (a *ℤ (d *ℤ d)) _ (mul_pos a (d *ℤ d) a1 (mul_pos d d d1 d1))
+        (subst (λ (z : ℤ). pos 0 ≤ℤ z)
+        (ring σ (A ⊗ (E ⊗ E) ⊗ ((R ⊗ D) ⊗ (R ⊗ D) ⊖ P) ⊕ ((⊝ U ⊗ E) ⊗ (⊝ U ⊗ E) ⊖ (⊝ W ⊗ D) ⊗ (⊝ W ⊗ D))) ((A ⊗ ((R ⊗ D) ⊗ (R ⊗ D)) ⊖ A ⊗ P) ⊗ (E ⊗ E) ⊕ (U ⊗ U ⊗ (E ⊗ E) ⊖ W ⊗ W ⊗ (D ⊗ D))) tt
+        ∙ (λ i. (a *ℤ ((r *ℤ d) *ℤ (r *ℤ d)) -ℤ third i) *ℤ (e *ℤ e) +ℤ (u' *ℤ u' *ℤ (e *ℤ e) -ℤ w' *ℤ w' *ℤ (d *ℤ d)))
+        ∙ ring σ ((A ⊗ ((R ⊗ D) ⊗ (R ⊗ D)) ⊖ (U ⊗ U ⊕ (D ⊗ X) ⊗ (D ⊗ X))) ⊗ (E ⊗ E) ⊕ (U ⊗ U ⊗ (E ⊗ E) ⊖ W ⊗ W ⊗ (D ⊗ D))) ((A ⊗ ((R ⊗ E) ⊗ (R ⊗ E)) ⊖ (W ⊗ W ⊕ (E ⊗ X) ⊗ (E ⊗ X))) ⊗ (D ⊗ D)) tt
+        ∙ sym (λ i. (a *ℤ ((r *ℤ e) *ℤ (r *ℤ e)) -ℤ fourth i) *ℤ (d *ℤ d))
+        ∙ ring σ ((A ⊗ ((R ⊗ E) ⊗ (R ⊗ E)) ⊖ A ⊗ Q) ⊗ (D ⊗ D)) (A ⊗ (D ⊗ D) ⊗ ((R ⊗ E) ⊗ (R ⊗ E) ⊖ Q)) tt)
+        (sum_nonneg _ _ (mul_nonneg (a *ℤ (e *ℤ e)) _ (mul_nonneg a (e *ℤ e) (omega (arith, ints)) (square_nonneg e)) (rest _ _ near)) (rest _ _ squares))))

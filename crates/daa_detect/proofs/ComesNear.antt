@@ -1,20 +1,19 @@
 -- What violates horizontally comes within dthr in at most tthr seconds; so what stays beyond dthr for that long violates at no time.
-use Rattle.std.proofs.Common.{[], ◌∷◌, ◌≡◌, ℕ, ◌+◌, ◌≤◌, inl, inr, sym, subst, ◌∙◌, arith, ℤ, pos, ◌+ℤ◌, ◌*ℤ◌, ◌-ℤ◌, neg_ℤ, ◌≤ℤ◌, ◌<ℤ◌}
-use Rattle.std.proofs.lemmas.Int.{ints, by_lt_z}
+use Rattle.std.proofs.Common.{[], ◌∷◌, ◌≡◌, ℕ, ◌+◌, ◌≤◌, inl, inr, ⊎_elim, sym, subst, ◌∙◌, arith, ℤ, pos, ◌+ℤ◌, ◌*ℤ◌, ◌-ℤ◌, neg_ℤ, ◌≤ℤ◌, ◌<ℤ◌}
+use Rattle.std.proofs.lemmas.Int.{ints}
 use Rattle.daa_fixed.proofs.Ring.{mul_nonneg, square_nonneg, ring, #, lit, ⊝, ◌⊕◌, ◌⊖◌, ◌⊗◌}
 use Rattle.daa_fixed.proofs.Integers.{mul_pos, cancel_lt, rest, by_rest, below_by_rest, root_within, clash, sum_nonneg}
 use Rattle.daa_fixed.specs.declared.Flat.{Flat}
 use Rattle.daa_fixed.specs.declared.Leg.{Leg}
 use Rattle.daa_fixed.specs.Flat.{dot_of, cross_of, square_of}
 use Rattle.daa_fixed.specs.Time.{IsTime, HoldsSometime, HoldsNever}
-use Rattle.daa_taumod.specs.declared.Model.{Model}
-use Rattle.daa_taumod.specs.declared.Model.TheVariants.{Taumod, Tcpa}
 use Rattle.daa_taumod.specs.declared.Volume.{Volume}
-use Rattle.daa_taumod.specs.Volume.{place_at, IsNear, IsClosing, IsSoon, ViolatesHorizontally, Violates}
+use Rattle.daa_taumod.specs.Volume.{place_at, IsNear, IsClosing, ViolatesHorizontally, Violates}
 use Rattle.daa_fixed.proofs.Lengths.{nearing_moves}
+use Rattle.daa_taumod.proofs.ClosestApproach.{closest_or_near}
 use Rattle.daa_detect.specs.Inside.Far.{StaysBeyond, IsFar}
 
--- ---- at the closest approach, and after tthr seconds
+-- ---- at the closest approach
 -- the square of a s - (s.v) v, where a is v.v: a times that of s x v
 at_closest : (s v : Flat) (q : ℤ) → (cross_of s v *ℤ cross_of s v) ≤ℤ (q *ℤ q *ℤ dot_of v v) → pos 0 ≤ℤ dot_of v v
     → (square_of (dot_of v v *ℤ s.east -ℤ dot_of s v *ℤ v.east) +ℤ square_of (dot_of v v *ℤ s.north -ℤ dot_of s v *ℤ v.north)) ≤ℤ square_of (q *ℤ dot_of v v)
@@ -27,19 +26,6 @@ at_closest s v q near a0 =
     (A ⊗ (Q ⊗ Q ⊗ A ⊖ C ⊗ C))
     tt)
     (mul_nonneg (dot_of v v) _ a0 (rest _ _ near))
-
--- the square of s + t v
-after : (s v : Flat) (t q : ℤ) → pos 0 ≤ℤ t → (dot_of s s +ℤ t *ℤ dot_of s v) ≤ℤ (q *ℤ q) → (t *ℤ dot_of v v) ≤ℤ neg_ℤ (dot_of s v)
-    → (square_of (s.east +ℤ t *ℤ v.east) +ℤ square_of (s.north +ℤ t *ℤ v.north)) ≤ℤ (q *ℤ q)
-after s v t q t0 soon before =
-    let X = # 0 in let Y = # 1 in let U = # 2 in let V = # 3 in let T = # 4 in let Q = # 5 in
-    let A = U ⊗ U ⊕ V ⊗ V in let B = X ⊗ U ⊕ Y ⊗ V in
-    by_rest _ _ _
-    (ring (s.east ∷ s.north ∷ v.east ∷ v.north ∷ t ∷ q ∷ [])
-    (Q ⊗ Q ⊖ ((X ⊕ T ⊗ U) ⊗ (X ⊕ T ⊗ U) ⊕ (Y ⊕ T ⊗ V) ⊗ (Y ⊕ T ⊗ V)))
-    ((Q ⊗ Q ⊖ ((X ⊗ X ⊕ Y ⊗ Y) ⊕ T ⊗ B)) ⊕ T ⊗ (⊝ B ⊖ T ⊗ A))
-    tt)
-    (sum_nonneg _ _ (rest _ _ soon) (mul_nonneg t _ t0 (rest _ _ before)))
 
 module _ (leg : Leg) (volume : Volume) where
   abbrev vv : ℤ
@@ -119,42 +105,26 @@ module _ (leg : Leg) (volume : Volume) where
               ≡ square_of (vv *ℤ s.east -ℤ sv *ℤ leg.velocity.flat.east) +ℤ square_of (vv *ℤ s.north -ℤ sv *ℤ leg.velocity.flat.north)
           there = λ i. square_of (axis leg.place.flat.east leg.velocity.flat.east vv sv i) +ℤ square_of (axis leg.place.flat.north leg.velocity.flat.north vv sv i)
 
-      -- the closest approach is later, and the distance at most dthr after tthr seconds
-      tau_soon : IsSoon Taumod leg volume n d → (pos volume.tthr *ℤ d *ℤ vv) ≤ℤ neg_ℤ sv → HoldsSometime whole (IsNear leg volume)
-      tau_soon soon later = record {
-        num = n +ℤ pos volume.tthr *ℤ d;
-        den = d;
-        time = record {
-          fraction = time.fraction;
-          from = sum_nonneg _ _ time.from (mul_nonneg (pos volume.tthr) d (omega (arith, ints)) d0);
-          upto = by_rest _ _ _
-              (let S = # 0 in let T = # 1 in let N = # 2 in let D = # 3 in
-              (λ i. more_secs i *ℤ d -ℤ (n +ℤ pos volume.tthr *ℤ d))
-              ∙ ring (pos leg.secs ∷ pos volume.tthr ∷ n ∷ d ∷ []) ((S ⊕ T) ⊗ D ⊖ (N ⊕ T ⊗ D)) (S ⊗ D ⊖ N) tt)
-              (rest _ _ time.upto);
-        };
-        holds = subst (λ (z : ℤ). z ≤ℤ square_of (pos volume.dthr *ℤ d)) (sym there)
-            (after s leg.velocity.flat (pos volume.tthr *ℤ d) (pos volume.dthr *ℤ d) (mul_nonneg (pos volume.tthr) d (omega (arith, ints)) d0) soon later);
-      }
-        where
-          axis : (x v t : ℤ) → d *ℤ x +ℤ (n +ℤ t) *ℤ v ≡ (d *ℤ x +ℤ n *ℤ v) +ℤ t *ℤ v
-          axis x v t =
-              let X = # 0 in let V = # 1 in let T = # 2 in let N = # 3 in let D = # 4 in
-              ring (x ∷ v ∷ t ∷ n ∷ d ∷ []) (D ⊗ X ⊕ (N ⊕ T) ⊗ V) ((D ⊗ X ⊕ N ⊗ V) ⊕ T ⊗ V) tt
-
-          there : dot_of (place_at leg (n +ℤ pos volume.tthr *ℤ d) d) (place_at leg (n +ℤ pos volume.tthr *ℤ d) d)
-              ≡ square_of (s.east +ℤ pos volume.tthr *ℤ d *ℤ leg.velocity.flat.east) +ℤ square_of (s.north +ℤ pos volume.tthr *ℤ d *ℤ leg.velocity.flat.north)
-          there = λ i. square_of (axis leg.place.flat.east leg.velocity.flat.east (pos volume.tthr *ℤ d) i) +ℤ square_of (axis leg.place.flat.north leg.velocity.flat.north (pos volume.tthr *ℤ d) i)
-
-      closing_comes_near : (model : Model) → IsSoon model leg volume n d → HoldsSometime whole (IsNear leg volume)
-      closing_comes_near Tcpa soon = closest_soon soon
-      closing_comes_near Taumod soon = by_lt_z (pos volume.tthr *ℤ d *ℤ vv) (neg_ℤ sv)
-          (λ l. tau_soon soon (omega (arith, ints, l)))
-          (λ l. closest_soon l)
+    -- the distance is at most dthr after tthr seconds
+    near_later : IsNear leg volume (n +ℤ pos volume.tthr *ℤ d) d → HoldsSometime whole (IsNear leg volume)
+    near_later near = record {
+      num = n +ℤ pos volume.tthr *ℤ d;
+      den = d;
+      time = record {
+        fraction = time.fraction;
+        from = sum_nonneg _ _ time.from (mul_nonneg (pos volume.tthr) d (omega (arith, ints)) d0);
+        upto = by_rest _ _ _
+            (let S = # 0 in let T = # 1 in let N = # 2 in let D = # 3 in
+            (λ i. more_secs i *ℤ d -ℤ (n +ℤ pos volume.tthr *ℤ d))
+            ∙ ring (pos leg.secs ∷ pos volume.tthr ∷ n ∷ d ∷ []) ((S ⊕ T) ⊗ D ⊖ (N ⊕ T ⊗ D)) (S ⊗ D ⊖ N) tt)
+            (rest _ _ time.upto);
+      };
+      holds = near;
+    }
 
     pub comes_near : ViolatesHorizontally leg volume n d → HoldsSometime whole (IsNear leg volume)
     comes_near (inl near) = now_near near
-    comes_near (inr closing) = closing_comes_near closing volume.model closing.soon
+    comes_near (inr c) = ⊎_elim (λ soon. closest_soon c soon) near_later (closest_or_near leg volume n d time.fraction c.nearing c.near volume.model c.soon)
 
 -- ---- what stays beyond is never near
 -- what is positive at both ends of m seconds is positive between them

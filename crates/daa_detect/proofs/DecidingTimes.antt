@@ -1,6 +1,6 @@
--- Which time of the vertical window decides: its first where the distance grows there, its last where it still falls there, and
--- else the closest approach, which lies between them.
-use Rattle.std.proofs.Common.{[], ◌∷◌, ◌≡◌, inl, sym, subst, ◌∙◌, arith, ◌*◌, ◌^◌, ℤ, pos, neg_ℤ, ◌+ℤ◌, ◌*ℤ◌, ◌-ℤ◌, ◌≤ℤ◌, ◌<ℤ◌, Option, None, Some}
+-- Which time of the vertical window decides: its first where the distance grows there, its last where it still falls there (but
+-- by tau), and else the closest approach, which lies between them.
+use Rattle.std.proofs.Common.{[], ◌∷◌, ◌≡◌, ◌⊎◌, inl, inr, sym, subst, ◌∙◌, arith, ◌*◌, ◌^◌, ℤ, pos, neg_ℤ, ◌+ℤ◌, ◌*ℤ◌, ◌-ℤ◌, ◌≤ℤ◌, ◌<ℤ◌, Option, None, Some}
 use Rattle.std.proofs.lemmas.Int.{ints}
 use Rattle.std.specs.Prelude.{MatchOption}
 use Rattle.daa_fixed.specs.declared.Leg.{Leg}
@@ -19,6 +19,8 @@ use Rattle.daa_quad.specs.Quad.{IsLeast}
 use Rattle.daa_quad.specs.Inside.Slope.{slope_of}
 use Rattle.daa_quad.proofs.Sizes.{IsQuadInRange}
 use Rattle.daa_quad.proofs.Parabolas.{start-least, end-least}
+use Rattle.daa_taumod.specs.declared.Model.{Model}
+use Rattle.daa_taumod.specs.declared.Model.TheVariants.{Tau, Tcpa, Taumod, Tep}
 use Rattle.daa_taumod.specs.declared.Volume.{Volume}
 use Rattle.daa_taumod.specs.Volume.{IsVolumeInRange, ViolatesHorizontally, ViolatesVertically, Violates, place_at}
 use Rattle.daa_fixed.proofs.Lengths.{nearing_moves}
@@ -28,7 +30,7 @@ use Rattle.daa_detect.specs.Hit.{IsHit}
 use Rattle.daa_detect.specs.Inside.Motion.{IsMotion, IsAhead, rate_of}
 use Rattle.daa_detect.proofs.Distance.{IsDistance, HasDistance, distance}
 use Rattle.daa_detect.proofs.Margin.{near_is, rate_is, violating_passes}
-use Rattle.daa_detect.proofs.NearestTimes.{vv, sv, time_between, none_elsewhere}
+use Rattle.daa_detect.proofs.NearestTimes.{vv, sv, violates_late, violates_there, time_between, none_elsewhere}
 
 -- ---- of numbers
 -- what falls at n/d has its vertex later, and rises before it
@@ -39,6 +41,12 @@ vertex_after n d s a h =
 vertex_before : (n d s a : ℤ) → pos 0 ≤ℤ (d *ℤ s +ℤ n *ℤ a) → (neg_ℤ s *ℤ d) ≤ℤ (n *ℤ a)
 vertex_before n d s a h =
     by_rest (neg_ℤ s *ℤ d) (n *ℤ a) (d *ℤ s +ℤ n *ℤ a) (ring (n ∷ d ∷ s ∷ a ∷ []) (# 0 ⊗ # 3 ⊕ ⊝ (⊝ (# 2) ⊗ # 1)) (# 1 ⊗ # 2 ⊕ # 0 ⊗ # 3) tt) h
+
+-- ---- of models
+pub other_than_tau : (w : Model) → (w ≡ Tcpa ⊎ (w ≡ Taumod ⊎ w ≡ Tep)) → ¬ (w ≡ Tau)
+other_than_tau w (inl e) t = absurd (cc (e, t))
+other_than_tau w (inr (inl e)) t = absurd (cc (e, t))
+other_than_tau w (inr (inr e)) t = absurd (cc (e, t))
 
 module _ (leg : Leg) (volume : Volume) (m : Motion) (is : IsMotion leg volume m) where
   -- where the line misses, nothing violates
@@ -62,11 +70,11 @@ module _ (leg : Leg) (volume : Volume) (m : Motion) (is : IsMotion leg volume m)
     tq : IsPointInRange q
     tq = record { n0 = q.not_negative; n1 = q.num_bound; d0 = q.positive; d1 = q.den_bound }
 
-    d : HasDistance leg volume
-    d = distance leg volume r v
+    pub quad : HasDistance leg volume
+    quad = distance leg volume r v
 
-    s : IsQuadInRange d.quad
-    s = record { a0 = d.quad.convex; a = d.quad.a_bound; b = d.quad.b_bound; c = d.quad.c_bound }
+    s : IsQuadInRange quad.quad
+    s = record { a0 = quad.quad.convex; a = quad.quad.a_bound; b = quad.quad.b_bound; c = quad.quad.c_bound }
 
     -- whether the leg violates is whether it violates horizontally at e
     abbrev Decides : Point → Type 0
@@ -74,23 +82,39 @@ module _ (leg : Leg) (volume : Volume) (m : Motion) (is : IsMotion leg volume m)
         → MatchOption o (¬ ViolatesHorizontally leg volume e.num e.den) (λ x. (x ≡ e) × ViolatesHorizontally leg volume e.num e.den)
         → MatchOption o (HoldsNever leg.secs (Violates leg volume)) (λ x. IsHit leg volume x.num x.den)
 
-    -- so it is where no time of the window is nearer
-    least_decides : (e : Point) → IsTime leg.secs e.num e.den → ViolatesVertically leg volume e.num e.den → IsLeast d.quad p q e.num e.den → Decides e
-    least_decides e time vertical least None clear =
-        none_elsewhere leg volume d.quad d.is p q e w p.positive q.positive e.not_negative e.positive ((w.exact e.num e.den time).0 vertical) least (λ x. clear x.horizontal)
-    least_decides e time vertical least (Some x) held =
+    -- so it is where what violates at any time of the window does so at e
+    carries_decides : (e : Point) → IsTime leg.secs e.num e.den → ViolatesVertically leg volume e.num e.den
+        → ((n d : ℤ) → IsBetween p q n d → ViolatesHorizontally leg volume n d → ViolatesHorizontally leg volume e.num e.den) → Decides e
+    carries_decides e time vertical carry None clear =
+        none_elsewhere leg volume p q e e w between between (λ n d b x. inl (carry n d b x)) (λ x. clear x.horizontal) (λ x. clear x.horizontal)
+      where
+        between : IsBetween p q e.num e.den
+        between = (w.exact e.num e.den time).0 vertical
+    carries_decides e time vertical carry (Some x) held =
         subst (λ (y : Point). IsHit leg volume y.num y.den) (sym held.0) (record { time = time; violates = record { horizontal = held.1; vertical = vertical } })
 
-    pub first_decides : pos 0 ≤ℤ rate_of m p.num p.den → Decides p
-    first_decides up =
-        least_decides p w.first w.holds_first (start-least d.quad p q s tp tq (subst (λ (z : ℤ). pos 0 ≤ℤ z) (sym (twice d.quad d.is p.num p.den)) (mul_nonneg (pos 2) _ (omega (arith, ints)) up)))
+    first_between : IsBetween p q p.num p.den
+    first_between = (w.exact p.num p.den w.first).0 w.holds_first
 
-    pub last_decides : rate_of m q.num q.den ≤ℤ pos 0 → Decides q
-    last_decides down =
-        least_decides q w.last w.holds_last (end-least d.quad p q s tp tq (subst (λ (z : ℤ). z ≤ℤ pos 0) (sym (twice d.quad d.is q.num q.den)) (doubled _ down)))
+    pub last_between : IsBetween p q q.num q.den
+    last_between = (w.exact q.num q.den w.last).0 w.holds_last
+
+    pub first_decides : pos 0 ≤ℤ rate_of m p.num p.den → Decides p
+    first_decides up = carries_decides p w.first w.holds_first (λ n d b x.
+        violates_late leg volume quad.quad quad.is p q p p.positive q.positive p.positive first_between least n d b (subst (λ (z : ℤ). pos 0 ≤ℤ z) (rate_is leg volume m is p.num p.den) up) x)
+      where
+        least : IsLeast quad.quad p q p.num p.den
+        least = start-least quad.quad p q s tp tq (subst (λ (z : ℤ). pos 0 ≤ℤ z) (sym (twice quad.quad quad.is p.num p.den)) (mul_nonneg (pos 2) _ (omega (arith, ints)) up))
+
+    pub last_least : rate_of m q.num q.den ≤ℤ pos 0 → IsLeast quad.quad p q q.num q.den
+    last_least down = end-least quad.quad p q s tp tq (subst (λ (z : ℤ). z ≤ℤ pos 0) (sym (twice quad.quad quad.is q.num q.den)) (doubled _ down))
       where
         doubled : (x : ℤ) → x ≤ℤ pos 0 → (pos 2 *ℤ x) ≤ℤ pos 0
         doubled x h = omega (arith, ints)
+
+    pub last_decides : ¬ (volume.model ≡ Tau) → rate_of m q.num q.den ≤ℤ pos 0 → Decides q
+    last_decides other down = carries_decides q w.last w.holds_last (λ n d b x.
+        violates_there leg volume quad.quad quad.is p q q p.positive q.positive q.positive last_between (last_least down) n d b other x)
 
     -- ---- the closest approach, where the distance falls at the first and grows at the last
     module _ (down : rate_of m p.num p.den <ℤ pos 0) (up : pos 0 <ℤ rate_of m q.num q.den) where

@@ -4,6 +4,8 @@ pub mod Choices
 pub mod Distance
 pub mod DecidingTimes
 pub mod Margin
+pub mod TauDecides
 pub mod NearestTimes
+pub mod TauTimes
 pub mod Sizes
 pub mod FoundTimes

@@ -1,4 +1,4 @@
--- What the margin of a line says of its times: the tests of `IsTauWithin` are those of the volume, times v.v.
+-- What the margin of a line says of its times: the tests on rates are those of the volume, times v.v.
 use Rattle.std.proofs.Common.{List, [], ◌∷◌, ◌≡◌, ◌↔◌, ◌⊎◌, inl, inr, ⊎_elim, zero, suc, negsuc, refl, sym, subst, ◌∙◌, arith, ℕ, ℤ, pos, ◌+ℤ◌, ◌*ℤ◌, ◌-ℤ◌, neg_ℤ, ◌≤ℤ◌, ◌<ℤ◌}
 use Rattle.std.proofs.lemmas.Int.{ints}
 use Rattle.daa_fixed.proofs.Ring.{mul_nonneg, square_nonneg, ring, Poly, #, lit, ⊝, ◌⊕◌, ◌⊖◌, ◌⊗◌}
@@ -7,13 +7,13 @@ use Rattle.daa_fixed.specs.declared.Leg.{Leg}
 use Rattle.daa_fixed.specs.Flat.{dot_of, square_of}
 use Rattle.std.proofs.Math.IntN.{*ℤ-zero}
 use Rattle.daa_taumod.specs.declared.Model.{Model}
-use Rattle.daa_taumod.specs.declared.Model.TheVariants.{Taumod, Tcpa}
+use Rattle.daa_taumod.specs.declared.Model.TheVariants.{Tau, Tcpa, Taumod, Tep}
 use Rattle.daa_taumod.specs.declared.Volume.{Volume}
-use Rattle.daa_taumod.specs.Volume.{place_at, IsNear, IsClosing, IsSoon, ViolatesHorizontally}
+use Rattle.daa_taumod.specs.Volume.{place_at, IsNear, IsClosing, IsSoon, PassesNear, ViolatesHorizontally}
 use Rattle.daa_fixed.proofs.Lengths.{lagrange, nearing_moves}
-use Rattle.daa_taumod.proofs.ClosestApproach.{passes_near-always}
+use Rattle.daa_taumod.proofs.ClosestApproach.{passes_near-always, modified_entry}
 use Rattle.daa_detect.specs.declared.motion.Motion.{Motion}
-use Rattle.daa_detect.specs.Inside.Motion.{IsMotion, IsTauWithin, rate_of}
+use Rattle.daa_detect.specs.Inside.Motion.{IsMotion, IsTauWithin, IsModifiedTauWithin, IsEntryWithin, rate_of, later_rate_of}
 use Rattle.daa_detect.proofs.NearestTimes.{E, N, VE, VN, R, K, D, SE, SN, VV, SV, CC, pp, pv, vv, sv, cc, dot_at}
 
 abbrev S : Poly
@@ -36,19 +36,39 @@ module _ (leg : Leg) (volume : Volume) (m : Motion) (is : IsMotion leg volume m)
       (λ i. d *ℤ d *ℤ is.margin i -ℤ (d *ℤ is.rate i +ℤ n *ℤ is.speed_squared i) *ℤ (d *ℤ is.rate i +ℤ n *ℤ is.speed_squared i +ℤ pos secs *ℤ d *ℤ is.speed_squared i))
       ∙ ring (ρ secs) (D ⊗ D ⊗ (R ⊗ R ⊗ VV ⊖ CC ⊗ CC) ⊖ W ⊗ (W ⊕ S ⊗ D ⊗ VV)) (VV ⊗ ((R ⊗ D) ⊗ (R ⊗ D) ⊖ ((SE ⊗ SE ⊕ SN ⊗ SN) ⊕ S ⊗ D ⊗ (SE ⊗ VE ⊕ SN ⊗ VN)))) tt
 
+  -- what is left of 0 after secs seconds, times v.v
+  left_of_none : (secs : ℕ) → neg_ℤ (square_of (d *ℤ cc leg volume)) -ℤ rate_of m n d *ℤ (rate_of m n d +ℤ pos secs *ℤ d *ℤ m.speed_squared)
+      ≡ vv leg volume *ℤ (pos 0 -ℤ (pp leg volume n d +ℤ pos secs *ℤ d *ℤ pv leg volume n d))
+  left_of_none secs =
+      (λ i. neg_ℤ (square_of (d *ℤ cc leg volume)) -ℤ (d *ℤ is.rate i +ℤ n *ℤ is.speed_squared i) *ℤ (d *ℤ is.rate i +ℤ n *ℤ is.speed_squared i +ℤ pos secs *ℤ d *ℤ is.speed_squared i))
+      ∙ ring (ρ secs) (⊝ ((D ⊗ CC) ⊗ (D ⊗ CC)) ⊖ W ⊗ (W ⊕ S ⊗ D ⊗ VV)) (VV ⊗ (lit (pos 0) ⊖ ((SE ⊗ SE ⊕ SN ⊗ SN) ⊕ S ⊗ D ⊗ (SE ⊗ VE ⊕ SN ⊗ VN)))) tt
+
   -- what moves
   module _ (moves : pos 0 <ℤ vv leg volume) where
-    pub tau_is : (secs : ℕ) → IsTauWithin m secs n d ↔ ((pp leg volume n d +ℤ pos secs *ℤ d *ℤ pv leg volume n d) ≤ℤ square_of (pos volume.dthr *ℤ d))
-    tau_is secs = (
+    pub modified_tau_is : (secs : ℕ) → IsModifiedTauWithin m secs n d ↔ ((pp leg volume n d +ℤ pos secs *ℤ d *ℤ pv leg volume n d) ≤ℤ square_of (pos volume.dthr *ℤ d))
+    modified_tau_is secs = (
       (λ h. by_rest _ _ _ refl (cancel_le (vv leg volume) _ moves (subst (λ (z : ℤ). pos 0 ≤ℤ z) (left secs) (rest _ _ h)))),
       (λ h. by_rest _ _ _ (left secs) (mul_nonneg (vv leg volume) _ (omega (arith, ints, moves)) (rest _ _ h))),
+    )
+
+    pub tau_is : (secs : ℕ) → IsTauWithin leg m secs n d ↔ ((pp leg volume n d +ℤ pos secs *ℤ d *ℤ pv leg volume n d) ≤ℤ pos 0)
+    tau_is secs = (
+      (λ h. by_rest _ _ _ refl (cancel_le (vv leg volume) _ moves (subst (λ (z : ℤ). pos 0 ≤ℤ z) (left_of_none secs) (rest _ _ h)))),
+      (λ h. by_rest _ _ _ (left_of_none secs) (mul_nonneg (vv leg volume) _ (omega (arith, ints, moves)) (rest _ _ h))),
     )
 
     none_ahead : pp leg volume n d +ℤ pos 0 *ℤ d *ℤ pv leg volume n d ≡ pp leg volume n d
     none_ahead = ring (ρ 0) ((SE ⊗ SE ⊕ SN ⊗ SN) ⊕ lit (pos 0) ⊗ D ⊗ (SE ⊗ VE ⊕ SN ⊗ VN)) (SE ⊗ SE ⊕ SN ⊗ SN) tt
 
-    pub near_is : IsTauWithin m 0 n d ↔ IsNear leg volume n d
-    near_is = subst (λ (z : ℤ). IsTauWithin m 0 n d ↔ (z ≤ℤ square_of (pos volume.dthr *ℤ d))) none_ahead (tau_is 0)
+    pub near_is : IsModifiedTauWithin m 0 n d ↔ IsNear leg volume n d
+    near_is = subst (λ (z : ℤ). IsModifiedTauWithin m 0 n d ↔ (z ≤ℤ square_of (pos volume.dthr *ℤ d))) none_ahead (modified_tau_is 0)
+
+  -- ---- secs seconds later
+  later_is : (secs : ℕ) → later_rate_of m secs n d ≡ rate_of m (n +ℤ pos secs *ℤ d) d
+  later_is secs = ring (m.rate ∷ m.speed_squared ∷ n ∷ d ∷ pos secs ∷ []) ((# 3 ⊗ # 0 ⊕ # 2 ⊗ # 1) ⊕ # 4 ⊗ # 3 ⊗ # 1) (# 3 ⊗ # 0 ⊕ (# 2 ⊕ # 4 ⊗ # 3) ⊗ # 1) tt
+
+  doubled : (x s : ℤ) → x *ℤ x ≡ x *ℤ (x +ℤ pos 0 *ℤ d *ℤ s)
+  doubled x s = ring (x ∷ d ∷ s ∷ []) (# 0 ⊗ # 0) (# 0 ⊗ (# 0 ⊕ lit (pos 0) ⊗ # 1 ⊗ # 2)) tt
 
   -- where the line misses, nothing violates
   pub violating_passes : pos 1 ≤ℤ d → ViolatesHorizontally leg volume n d → pos 0 ≤ℤ m.margin
@@ -75,12 +95,11 @@ module _ (leg : Leg) (volume : Volume) (m : Motion) (is : IsMotion leg volume m)
     moves : pos 0 <ℤ vv leg volume
     moves = nearing_moves (place_at leg n d) leg.velocity.flat falls
 
+    passes_near : PassesNear leg volume n d
+    passes_near = (passes_near-always leg volume n d d1).0 (by_rest _ _ _ refl (subst (λ (z : ℤ). pos 0 ≤ℤ z) is.margin passes))
+
     closing : IsSoon volume.model leg volume n d → IsClosing leg volume n d
-    closing soon = record {
-      nearing = falls;
-      soon = soon;
-      near = (passes_near-always leg volume n d d1).0 (by_rest _ _ _ refl (subst (λ (z : ℤ). pos 0 ≤ℤ z) is.margin passes));
-    }
+    closing soon = record { nearing = falls; soon = soon; near = passes_near }
 
     -- what is near has a modified tau of at most 0
     near_soon : IsNear leg volume n d → IsSoon Taumod leg volume n d
@@ -91,13 +110,57 @@ module _ (leg : Leg) (volume : Volume) (m : Motion) (is : IsMotion leg volume m)
             by_rest _ _ _ (ring (p ∷ t ∷ u ∷ z ∷ []) (# 3 ⊖ (# 0 ⊕ # 1 ⊗ # 2)) ((# 3 ⊖ # 0) ⊕ # 1 ⊗ ⊝ (# 2)) tt)
             (sum_nonneg _ _ (rest _ _ h) (mul_nonneg t (neg_ℤ u) t0 (omega (arith, ints))))
 
-    pub taumod_is : volume.model ≡ Taumod → IsTauWithin m volume.tthr n d ↔ ViolatesHorizontally leg volume n d
+    pub taumod_is : volume.model ≡ Taumod → IsModifiedTauWithin m volume.tthr n d ↔ ViolatesHorizontally leg volume n d
     taumod_is e = (
-      (λ h. inr (closing (subst (λ (k : Model). IsSoon k leg volume n d) (sym e) ((tau_is moves volume.tthr).0 h)))),
+      (λ h. inr (closing (subst (λ (k : Model). IsSoon k leg volume n d) (sym e) ((modified_tau_is moves volume.tthr).0 h)))),
       ⊎_elim
-          (λ near. (tau_is moves volume.tthr).1 (near_soon near))
-          (λ c. (tau_is moves volume.tthr).1 (subst (λ (k : Model). IsSoon k leg volume n d) e c.soon)),
+          (λ near. (modified_tau_is moves volume.tthr).1 (near_soon near))
+          (λ c. (modified_tau_is moves volume.tthr).1 (subst (λ (k : Model). IsSoon k leg volume n d) e c.soon)),
     )
+
+    -- ---- by tau
+    soon_by_tau : IsTauWithin leg m volume.tthr n d ↔ IsSoon Tau leg volume n d
+    soon_by_tau = tau_is moves volume.tthr
+
+    pub tau_at_is : volume.model ≡ Tau → (IsTauWithin leg m volume.tthr n d ⊎ IsNear leg volume n d) ↔ ViolatesHorizontally leg volume n d
+    tau_at_is e = (
+      ⊎_elim
+          (λ h. inr (closing (subst (λ (k : Model). IsSoon k leg volume n d) (sym e) (soon_by_tau.0 h))))
+          inl,
+      ⊎_elim
+          inr
+          (λ c. inl (soon_by_tau.1 (subst (λ (k : Model). IsSoon k leg volume n d) e c.soon))),
+    )
+
+    -- ---- by the time to the entry point
+    abbrev after : ℤ
+    after = n +ℤ pos volume.tthr *ℤ d
+
+    later_rate : later_rate_of m volume.tthr n d ≡ pv leg volume after d
+    later_rate = later_is volume.tthr ∙ (λ i. d *ℤ is.rate i +ℤ after *ℤ is.speed_squared i) ∙ sym (dot_at leg volume after d)
+
+    square_later : later_rate_of m volume.tthr n d *ℤ later_rate_of m volume.tthr n d ≡ rate_of m after d *ℤ (rate_of m after d +ℤ pos 0 *ℤ d *ℤ m.speed_squared)
+    square_later = (λ i. later_is volume.tthr i *ℤ later_is volume.tthr i) ∙ doubled (rate_of m after d) m.speed_squared
+
+    -- near then
+    module _ (near_is : IsModifiedTauWithin m 0 after d ↔ IsNear leg volume after d) where
+      entry_soon : IsEntryWithin m volume.tthr n d ↔ IsSoon Tep leg volume n d
+      entry_soon = (
+        ⊎_elim
+            (λ h. inl (subst (λ (z : ℤ). pos 0 ≤ℤ z) later_rate h))
+            (λ h. inr (near_is.0 (subst (λ (z : ℤ). z ≤ℤ (d *ℤ d *ℤ m.margin)) square_later h))),
+        ⊎_elim
+            (λ h. inl (subst (λ (z : ℤ). pos 0 ≤ℤ z) (sym later_rate) h))
+            (λ h. inr (subst (λ (z : ℤ). z ≤ℤ (d *ℤ d *ℤ m.margin)) (sym square_later) (near_is.1 h))),
+      )
+
+      pub tep_by : volume.model ≡ Tep → IsEntryWithin m volume.tthr n d ↔ ViolatesHorizontally leg volume n d
+      tep_by e = (
+        (λ h. inr (closing (subst (λ (k : Model). IsSoon k leg volume n d) (sym e) (entry_soon.0 h)))),
+        ⊎_elim
+            (λ near. entry_soon.1 (modified_entry leg volume n d d1 falls passes_near (near_soon near)))
+            (λ c. entry_soon.1 (subst (λ (k : Model). IsSoon k leg volume n d) e c.soon)),
+      )
 
     abbrev IsClosestWithin : Type 0
     IsClosestWithin = neg_ℤ (rate_of m n d) ≤ℤ (pos volume.tthr *ℤ d *ℤ m.speed_squared)
@@ -144,3 +207,8 @@ module _ (leg : Leg) (volume : Volume) (m : Motion) (is : IsMotion leg volume m)
       (λ h. by_rest _ _ _ same (mul_nonneg (d *ℤ d) _ (square_nonneg d) (rest _ _ h))),
       (λ h. by_rest _ _ _ refl (cancel_le (d *ℤ d) _ (mul_pos d d (omega (arith, ints)) (omega (arith, ints))) (subst (λ (z : ℤ). pos 0 ≤ℤ z) same (rest _ _ h)))),
     )
+
+-- by the time to the entry point, where the distance falls, on a line that passes near
+pub tep_is : (leg : Leg) (volume : Volume) (m : Motion) (is : IsMotion leg volume m) (n d : ℤ) → pos 1 ≤ℤ d → pos 0 ≤ℤ m.margin → rate_of m n d <ℤ pos 0 → volume.model ≡ Tep → IsEntryWithin m volume.tthr n d ↔ ViolatesHorizontally leg volume n d
+tep_is leg volume m is n d d1 passes down =
+    tep_by leg volume m is n d d1 passes down (near_is leg volume m is (n +ℤ pos volume.tthr *ℤ d) d (moves leg volume m is n d d1 passes down))

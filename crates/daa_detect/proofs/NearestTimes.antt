@@ -1,15 +1,16 @@
--- Where a leg violates horizontally at any time between two times, it does so at a time of least distance between them.
-use Rattle.std.proofs.Common.{List, [], ◌∷◌, ◌≡◌, inl, inr, ⊎_elim, refl, subst, ◌∙◌, arith, ℕ, ◌*◌, ◌<◌, ◌≤◌, ℤ, pos, negsuc, ◌+ℤ◌, ◌*ℤ◌, ◌-ℤ◌, neg_ℤ, ◌≤ℤ◌, ◌<ℤ◌, unsigned_abs, ◌^◌}
+-- Where a leg violates horizontally at any time between two times, it does so at a time of least distance between them; by tau, at
+-- that time or at one at which the quadratic of tau is least.
+use Rattle.std.proofs.Common.{List, [], ◌∷◌, ◌≡◌, ◌⊎◌, inl, inr, ⊎_elim, refl, subst, ◌∙◌, arith, ℕ, ◌*◌, ◌<◌, ◌≤◌, ℤ, pos, negsuc, ◌+ℤ◌, ◌*ℤ◌, ◌-ℤ◌, neg_ℤ, ◌≤ℤ◌, ◌<ℤ◌, unsigned_abs, ◌^◌}
 use Rattle.std.proofs.lemmas.Int.{ints, by_lt_z}
 use Rattle.daa_fixed.proofs.Ring.{mul_nonneg, square_nonneg, ring, Poly, #, lit, ⊝, ◌⊕◌, ◌⊖◌, ◌⊗◌}
 use Rattle.daa_fixed.proofs.Integers.{mul_pos, cancel_le, rest, by_rest, le_trans_ℤ, sum_nonneg}
 use Rattle.daa_fixed.proofs.Lengths.{nearing_moves}
-use Rattle.daa_taumod.proofs.ClosestApproach.{passes_near-always}
+use Rattle.daa_taumod.proofs.ClosestApproach.{passes_near-always, rate_later, entry_is}
 use Rattle.daa_detect.proofs.Distance.{IsDistance}
-use Rattle.daa_detect.proofs.Approach.{tau_still_soon, closest_still_soon}
+use Rattle.daa_detect.proofs.Approach.{tau_still_soon, closest_still_soon, later_still_near}
 use Rattle.daa_fixed.specs.declared.Leg.{Leg}
 use Rattle.daa_taumod.specs.declared.Model.{Model}
-use Rattle.daa_taumod.specs.declared.Model.TheVariants.{Taumod, Tcpa}
+use Rattle.daa_taumod.specs.declared.Model.TheVariants.{Tau, Tcpa, Taumod, Tep}
 use Rattle.daa_taumod.specs.declared.Volume.{Volume}
 use Rattle.daa_fixed.specs.declared.Point.{Point}
 use Rattle.daa_quad.specs.declared.Quad.{Quad}
@@ -59,7 +60,7 @@ abbrev pub CC : Poly
 CC = E ⊗ VN ⊖ N ⊗ VE
 
 -- x / l is at most y / k, and y is not above 0; then neither is x
-no_higher : (x k y l : ℤ) → pos 0 <ℤ k → pos 0 ≤ℤ l → (x *ℤ k) ≤ℤ (y *ℤ l) → y ≤ℤ pos 0 → x ≤ℤ pos 0
+pub no_higher : (x k y l : ℤ) → pos 0 <ℤ k → pos 0 ≤ℤ l → (x *ℤ k) ≤ℤ (y *ℤ l) → y ≤ℤ pos 0 → x ≤ℤ pos 0
 no_higher x k y l k1 l0 h y0 =
     let X = # 0 in let K = # 1 in let Y = # 2 in let L = # 3 in
     negated x (cancel_le k (neg_ℤ x) k1
@@ -119,7 +120,7 @@ module _ (leg : Leg) (volume : Volume) where
       e1 : pos 0 <ℤ m.den
       e1 = omega (arith, ints)
 
-      near_there : IsNear leg volume n d → IsNear leg volume m.num m.den
+      pub near_there : IsNear leg volume n d → IsNear leg volume m.num m.den
       near_there h = near_by_value m.num m.den
           (no_higher (value_of q m.num m.den) (d *ℤ d) (value_of q n d) (m.den *ℤ m.den) (mul_pos d d d1 d1) (square_nonneg m.den) (least n d b) (value_if_near n d h))
 
@@ -135,15 +136,35 @@ module _ (leg : Leg) (volume : Volume) where
         nearer = subst (λ (x : ℤ). (x *ℤ (d *ℤ d)) ≤ℤ ((pp n d -ℤ square_of (pos volume.dthr *ℤ d)) *ℤ (m.den *ℤ m.den))) (value_is m.num m.den)
             (subst (λ (x : ℤ). (value_of q m.num m.den *ℤ (d *ℤ d)) ≤ℤ (x *ℤ (m.den *ℤ m.den))) (value_is n d) (least n d b))
 
-        -- before the closest approach it still comes near in time
-        soon_there : (model : Model) → IsSoon model leg volume n d → pv m.num m.den <ℤ pos 0 → IsSoon model leg volume m.num m.den
-        soon_there Taumod s h = tau_still_soon vv cc (pos volume.dthr) (pos volume.tthr) d m.den (pp n d) (pp m.num m.den) (pv n d) (pv m.num m.den) moving d1 e1 (products n d) (products m.num m.den) c.nearing h nearer (rest _ _ passes) s
-        soon_there Tcpa s h = closest_still_soon vv cc (pos volume.dthr) (pos volume.tthr) d m.den (pp n d) (pp m.num m.den) (pv n d) (pv m.num m.den) moving d1 e1 (products n d) (products m.num m.den) c.nearing h nearer s
+        closest_there : IsSoon Tcpa leg volume n d → pv m.num m.den <ℤ pos 0 → IsSoon Tcpa leg volume m.num m.den
+        closest_there s h = closest_still_soon vv cc (pos volume.dthr) (pos volume.tthr) d m.den (pp n d) (pp m.num m.den) (pv n d) (pv m.num m.den) moving d1 e1 (products n d) (products m.num m.den) c.nearing h nearer s
 
-        early : pv m.num m.den <ℤ pos 0 → IsClosing leg volume m.num m.den
-        early h = record {
+        -- tthr seconds later
+        abbrev after : ℤ
+        after = n +ℤ pos volume.tthr *ℤ d
+
+        abbrev after' : ℤ
+        after' = m.num +ℤ pos volume.tthr *ℤ m.den
+
+        near_after : IsNear leg volume after d → pv m.num m.den <ℤ pos 0 → pv after' m.den <ℤ pos 0 → IsNear leg volume after' m.den
+        near_after near h falls =
+            later_still_near vv cc (pos volume.dthr) (pos volume.tthr) d m.den (pp n d) (pp m.num m.den) (pv n d) (pv m.num m.den) moving d1 e1 (products n d) (products m.num m.den) c.nearing h nearer
+            (pp after d) (pp after' m.den) (pv after d) (pv after' m.den) (products after d) (products after' m.den) (rate_later leg volume n d) (rate_later leg volume m.num m.den) falls near
+
+        -- before the closest approach it still comes near in time, but by tau
+        soon_there : (model : Model) → ¬ (model ≡ Tau) → IsSoon model leg volume n d → pv m.num m.den <ℤ pos 0 → IsSoon model leg volume m.num m.den
+        soon_there Tau other s h = absurd (other refl)
+        soon_there Tcpa other s h = closest_there s h
+        soon_there Taumod other s h = tau_still_soon vv cc (pos volume.dthr) (pos volume.tthr) d m.den (pp n d) (pp m.num m.den) (pv n d) (pv m.num m.den) moving d1 e1 (products n d) (products m.num m.den) c.nearing h nearer (rest _ _ passes) s
+        soon_there Tep other s h = ⊎_elim
+            (λ closest. (entry_is leg volume m.num m.den).1 (inl (closest_there closest h)))
+            (λ near. by_lt_z (pv after' m.den) (pos 0) (λ falls. inr (near_after near h falls)) (λ grows. inl grows))
+            ((entry_is leg volume n d).0 s)
+
+        early : ¬ (volume.model ≡ Tau) → pv m.num m.den <ℤ pos 0 → IsClosing leg volume m.num m.den
+        early other h = record {
           nearing = h;
-          soon = soon_there volume.model c.soon h;
+          soon = soon_there volume.model other c.soon h;
           near = (passes_near-always leg volume m.num m.den m1).0 passes;
         }
 
@@ -185,10 +206,14 @@ module _ (leg : Leg) (volume : Volume) where
         late h = near_by_value m.num m.den
             (no_higher (value_of q m.num m.den) (vv *ℤ vv) (value_of q (neg_ℤ sv) vv) (m.den *ℤ m.den) (mul_pos vv vv moving moving) (square_nonneg m.den) (least (neg_ℤ sv) vv (approach_between h)) approach_near)
 
-      pub violates_there : ViolatesHorizontally leg volume n d → ViolatesHorizontally leg volume m.num m.den
-      violates_there v = ⊎_elim
+      -- from the closest approach on, by each model
+      pub violates_late : pos 0 ≤ℤ pv m.num m.den → ViolatesHorizontally leg volume n d → ViolatesHorizontally leg volume m.num m.den
+      violates_late up v = ⊎_elim (λ h. inl (near_there h)) (λ c. inl (late c up)) v
+
+      pub violates_there : ¬ (volume.model ≡ Tau) → ViolatesHorizontally leg volume n d → ViolatesHorizontally leg volume m.num m.den
+      violates_there other v = ⊎_elim
           (λ h. inl (near_there h))
-          (λ c. by_lt_z (pv m.num m.den) (pos 0) (λ h. inr (early c h)) (λ h. inl (late c h)))
+          (λ c. by_lt_z (pv m.num m.den) (pos 0) (λ h. inr (early c other h)) (λ h. inl (late c h)))
           v
 
 -- ---- times between two times
@@ -212,10 +237,14 @@ vertex_small secs p r a b small r1 last a1 a2 between =
     big secs (pos a) h k l = omega (arith, ints, mul-le secs (2 * a) 180 (2 * 2 ^ 32) h (omega arith))
     big secs (negsuc a) h k l = absurd (omega (arith, ints))
 
--- where the leg violates at all, it does so at the nearest time of the window
-pub none_elsewhere : (leg : Leg) (volume : Volume) (q : Quad) → IsDistance leg volume q → (p r m : Point) → IsWindow leg.secs (ViolatesVertically leg volume) p r → pos 1 ≤ℤ p.den → pos 1 ≤ℤ r.den → pos 0 ≤ℤ m.num → pos 1 ≤ℤ m.den → IsBetween p r m.num m.den → IsLeast q p r m.num m.den → ¬ Violates leg volume m.num m.den → HoldsNever leg.secs (Violates leg volume)
-none_elsewhere leg volume q is p r m w p1 r1 m0 m1 between least clear n d t v =
-    clear (record {
-      horizontal = violates_there leg volume q is p r m p1 r1 m1 between least n d ((w.exact n d t).0 v.vertical) v.horizontal;
-      vertical = (w.exact m.num m.den (time_between leg.secs p r m.num m.den r1 w.last m0 between)).1 between;
-    })
+-- where the leg violates at all, it does so at one of two times of the window
+pub none_elsewhere : (leg : Leg) (volume : Volume) (p r m b : Point) → IsWindow leg.secs (ViolatesVertically leg volume) p r → IsBetween p r m.num m.den → IsBetween p r b.num b.den
+    → ((n d : ℤ) → IsBetween p r n d → ViolatesHorizontally leg volume n d → ViolatesHorizontally leg volume m.num m.den ⊎ ViolatesHorizontally leg volume b.num b.den)
+    → ¬ Violates leg volume m.num m.den → ¬ Violates leg volume b.num b.den → HoldsNever leg.secs (Violates leg volume)
+none_elsewhere leg volume p r m b w between between' carry clear clear' n d t v = ⊎_elim
+    (λ h. clear (record { horizontal = h; vertical = upright m between }))
+    (λ h. clear' (record { horizontal = h; vertical = upright b between' }))
+    (carry n d ((w.exact n d t).0 v.vertical) v.horizontal)
+  where
+    upright : (e : Point) → IsBetween p r e.num e.den → ViolatesVertically leg volume e.num e.den
+    upright e h = (w.exact e.num e.den (time_between leg.secs p r e.num e.den r.positive w.last e.not_negative h)).1 h

@@ -120,3 +120,10 @@ pub ruleset of_motion = (speed-kept, rate-kept, margin-kept, num-kept, den-kept,
 -- what the rate gains in secs seconds
 pub gain : {m : Motion} {p : Point} {secs : ℕ} → IsMotionInRange m → IsSmall p → secs ≤ 120 → IsWithin (120 * 40000 * 3200000000) (pos secs *ℤ p.den *ℤ m.speed_squared)
 gain {m} {p} {secs} s t h = times (times (size.natural 120 secs h) t.den) s.speed
+
+-- ---- of small numbers
+pub two : IsWithin 2 (pos 2)
+two = record { size = omega arith }
+
+pub secs_kept : (n : ℕ) → n ≤ 120 → to_z w64 n ≡ pos n
+secs_kept n h = omega (arith, ints)

@@ -1,20 +1,21 @@
-//! The decision over a whole leg. Within the vertical window one time decides: the one of least
-//! distance.
+//! The decision over a whole leg. Within the vertical window one time decides, the one of least
+//! distance; by tau two do.
 
-ghost use Rattle.std.specs.Prelude.{◌≡◌, ◌↔◌, ◌≤ℤ◌, pos, IsTrue, MatchOption};
+ghost use Rattle.std.specs.Prelude.{◌↔◌, ◌≤ℤ◌, pos, IsTrue, MatchOption};
 ghost use Rattle.daa_fixed.specs.Leg.{IsLegInRange};
 ghost use Rattle.daa_fixed.specs.Time.{HoldsNever, HoldsSometime};
-ghost use Rattle.daa_taumod.specs.Volume.{IsVolumeInRange, Violates, ViolatesHorizontally};
-ghost use Rattle.daa_vwindow.specs.Window.{HasSmallNumbers};
+ghost use Rattle.daa_taumod.specs.Volume.{IsVolumeInRange, Violates, ViolatesVertically};
+ghost use Rattle.daa_vwindow.specs.Window.{IsWindow, HasSmallNumbers};
 ghost use Rattle.daa_detect.specs.Hit.{IsHit};
-ghost use Rattle.daa_detect.specs.Inside.Motion.{IsMotion};
+ghost use Rattle.daa_detect.specs.Inside.Motion.{IsMotion, rate_of};
 
 use crate::far::is_far;
-use crate::horizontal::{closest_approach, holds_at, rate_at};
+use crate::horizontal::{closest_approach, end_if_held, rate_at};
 use crate::motion::Motion;
 use crate::products::motion_of;
+use crate::tau::tau_hit;
 use daa_fixed::{Leg, Point};
-use daa_taumod::Volume;
+use daa_taumod::{Model, Volume};
 use daa_vwindow::window;
 
 /// A time of the leg at which it violates the volume, horizontally and vertically at that one time,
@@ -59,9 +60,10 @@ fn has_nearest_hit(leg: &Leg, volume: &Volume) -> bool
 }
 
 /// As `hits`, without the box test. Within the vertical window the nearest time decides: the first
-/// if the distance grows there, the last if it still falls there, and else the closest
-/// approach, at which a line that comes within `dthr` is within `dthr`. It takes two products of
-/// 128 bits for a line that misses or that is nearest inside the window, else four.
+/// if the distance grows there, the last if it still falls there (by tau with one more), and else
+/// the closest approach, at which a line that comes within `dthr` is within `dthr`. It takes two
+/// products of 128 bits for a line that misses or that is nearest inside the window, else four, and
+/// by tau at most ten.
 pub(crate) fn nearest_hit(leg: &Leg, volume: &Volume) -> Option<Point>
     requires leg { IsLegInRange leg.now }
     requires volume { IsVolumeInRange volume.now }
@@ -78,22 +80,35 @@ pub(crate) fn nearest_hit(leg: &Leg, volume: &Volume) -> Option<Point>
         return end_if_held(leg, volume, &motion, &first);
     }
     if rate_at(&motion, &last) <= 0 {
-        return end_if_held(leg, volume, &motion, &last);
+        return falling_hit(leg, volume, &motion, &first, &last);
     }
     Some(closest_approach(&motion))
 }
 
-/// An end of the vertical window, if the horizontal part of the volume holds then.
-fn end_if_held(leg: &Leg, volume: &Volume, motion: &Motion, end: &Point) -> Option<Point>
+/// The same where the distance still falls at the last time of the vertical window, so that this is
+/// the nearest: it decides, and by tau one more time.
+fn falling_hit(
+    leg: &Leg,
+    volume: &Volume,
+    motion: &Motion,
+    first: &Point,
+    last: &Point,
+) -> Option<Point>
     requires leg { IsLegInRange leg.now }
     requires volume { IsVolumeInRange volume.now }
     requires motion { IsMotion leg.now volume.now motion.now }
     requires passes { pos 0 ≤ℤ motion.now.margin }
-    requires small { HasSmallNumbers end.now }
+    requires window { IsWindow leg.now.secs (ViolatesVertically leg.now volume.now)
+        first.now last.now }
+    requires first { HasSmallNumbers first.now }
+    requires last { HasSmallNumbers last.now }
+    requires falls { rate_of motion.now last.now.num last.now.den ≤ℤ pos 0 }
     ensures { MatchOption result
-        (¬ ViolatesHorizontally leg.now volume.now end.now.num end.now.den)
-        (λ p. (p ≡ end.now) × ViolatesHorizontally leg.now volume.now end.now.num end.now.den) }
+        (HoldsNever leg.now.secs (Violates leg.now volume.now))
+        (λ p. IsHit leg.now volume.now p.num p.den) }
 {
-    let held = holds_at(leg, volume, motion, end);
-    if held { Some(*end) } else { None }
+    match volume.model {
+        Model::Tau => tau_hit(leg, volume, motion, first, last),
+        Model::Tcpa | Model::Taumod | Model::Tep => end_if_held(leg, volume, motion, last),
+    }
 }

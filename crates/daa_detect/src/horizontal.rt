@@ -1,13 +1,14 @@
 //! The horizontal part of the volume at one time of a leg, from the numbers of its motion.
 
-ghost use Rattle.std.specs.Prelude.{◌≡◌, ◌↔◌, ◌≤◌, ◌*ℤ◌, ◌≤ℤ◌, neg_ℤ, pos, IsTrue};
+ghost use Rattle.std.specs.Prelude.{◌≡◌, ◌↔◌, ◌≤◌, ◌*ℤ◌, ◌≤ℤ◌, neg_ℤ, pos, IsTrue, MatchOption};
 ghost use Rattle.daa_fixed.specs.Flat.{dot_of, square_of};
 ghost use Rattle.daa_fixed.specs.Leg.{IsLegInRange};
 ghost use Rattle.daa_taumod.specs.Volume.{IsVolumeInRange, IsNear, ViolatesHorizontally};
 ghost use Rattle.daa_vwindow.specs.Window.{HasSmallNumbers};
-ghost use Rattle.daa_detect.specs.Inside.Motion.{IsMotion, IsAhead, IsTauWithin, rate_of};
+ghost use Rattle.daa_detect.specs.Inside.Motion.{IsMotion, IsAhead, IsTauWithin, IsModifiedTauWithin, IsNearLater, IsEntryWithin, rate_of, later_rate_of};
 
 use crate::motion::Motion;
+use crate::products::miss;
 use daa_fixed::{Leg, Point};
 use daa_taumod::{Model, Volume};
 
@@ -34,11 +35,30 @@ pub(crate) fn holds_at(leg: &Leg, volume: &Volume, motion: &Motion, point: &Poin
         return is_near(leg, volume, motion, point);
     }
     match volume.model {
-        Model::Taumod => is_tau_within(motion, point, volume.tthr),
+        Model::Tau => {
+            is_tau_within(leg, motion, point, volume.tthr) || is_near(leg, volume, motion, point)
+        }
         Model::Tcpa => {
             is_closest_within(motion, point, volume.tthr) || is_near(leg, volume, motion, point)
         }
+        Model::Taumod => is_modified_tau_within(motion, point, volume.tthr),
+        Model::Tep => is_entry_within(motion, point, volume.tthr),
     }
+}
+
+/// An end of the vertical window, if the horizontal part of the volume holds then.
+pub(crate) fn end_if_held(leg: &Leg, volume: &Volume, motion: &Motion, end: &Point) -> Option<Point>
+    requires leg { IsLegInRange leg.now }
+    requires volume { IsVolumeInRange volume.now }
+    requires motion { IsMotion leg.now volume.now motion.now }
+    requires passes { pos 0 ≤ℤ motion.now.margin }
+    requires small { HasSmallNumbers end.now }
+    ensures { MatchOption result
+        (¬ ViolatesHorizontally leg.now volume.now end.now.num end.now.den)
+        (λ p. (p ≡ end.now) × ViolatesHorizontally leg.now volume.now end.now.num end.now.den) }
+{
+    let held = holds_at(leg, volume, motion, end);
+    if held { Some(*end) } else { None }
 }
 
 /// Whether the distance is at most `dthr`.
@@ -52,7 +72,7 @@ fn is_near(leg: &Leg, volume: &Volume, motion: &Motion, point: &Point) -> bool
     if motion.speed_squared == 0 {
         begins_near(leg, volume)
     } else {
-        is_tau_within(motion, point, 0)
+        is_modified_tau_within(motion, point, 0)
     }
 }
 
@@ -71,14 +91,69 @@ fn begins_near(leg: &Leg, volume: &Volume) -> bool
 /// Whether `s.s + secs (s.v)` is at most `dthr^2` at that time, for what moves: with 0 seconds the
 /// distance is at most `dthr`, and where it falls modified tau is at most `secs`. Multiplied by
 /// `v.v`, that compares the product of the rate and the rate `secs` seconds later with the margin.
-fn is_tau_within(motion: &Motion, point: &Point, secs: u32) -> bool
+fn is_modified_tau_within(motion: &Motion, point: &Point, secs: u32) -> bool
     requires small { HasSmallNumbers point.now }
     requires secs { secs ≤ 120 }
-    ensures { IsTrue result ↔ IsTauWithin motion.now secs point.now.num point.now.den }
+    ensures { IsTrue result ↔ IsModifiedTauWithin motion.now secs point.now.num point.now.den }
 {
     let rate = rate_at(motion, point);
     let later = rate + rate_gain(motion, point, secs);
     rate as i128 * later as i128 <= (point.den * point.den) as i128 * motion.margin
+}
+
+/// Whether `s.s + secs (s.v)` is at most 0 at that time, for what moves: where the distance falls,
+/// tau is at most `secs`. Multiplied by `v.v`, that compares the product of the two rates with the
+/// square of the miss.
+fn is_tau_within(leg: &Leg, motion: &Motion, point: &Point, secs: u32) -> bool
+    requires leg { IsLegInRange leg.now }
+    requires small { HasSmallNumbers point.now }
+    requires secs { secs ≤ 120 }
+    ensures { IsTrue result ↔ IsTauWithin leg.now motion.now secs point.now.num point.now.den }
+{
+    let rate = rate_at(motion, point);
+    let later = rate + rate_gain(motion, point, secs);
+    let miss = (point.den * miss(leg)) as i128;
+    rate as i128 * later as i128 <= -(miss * miss)
+}
+
+/// Whether, `secs` seconds later, the distance falls no more or is at most `dthr`, for what moves
+/// on a line that comes within `dthr`: where the distance falls, the entry point is at most `secs`
+/// seconds off.
+fn is_entry_within(motion: &Motion, point: &Point, secs: u32) -> bool
+    requires small { HasSmallNumbers point.now }
+    requires secs { secs ≤ 120 }
+    ensures { IsTrue result ↔ IsEntryWithin motion.now secs point.now.num point.now.den }
+{
+    falls_no_more(motion, point, secs) || is_near_later(motion, point, secs)
+}
+
+/// Whether the distance does not fall `secs` seconds later.
+fn falls_no_more(motion: &Motion, point: &Point, secs: u32) -> bool
+    requires small { HasSmallNumbers point.now }
+    requires secs { secs ≤ 120 }
+    ensures { IsTrue result
+        ↔ (pos 0 ≤ℤ later_rate_of motion.now secs point.now.num point.now.den) }
+{
+    later_rate_at(motion, point, secs) >= 0
+}
+
+/// Whether the distance is at most `dthr` `secs` seconds later.
+fn is_near_later(motion: &Motion, point: &Point, secs: u32) -> bool
+    requires small { HasSmallNumbers point.now }
+    requires secs { secs ≤ 120 }
+    ensures { IsTrue result ↔ IsNearLater motion.now secs point.now.num point.now.den }
+{
+    let later = later_rate_at(motion, point, secs);
+    later as i128 * later as i128 <= (point.den * point.den) as i128 * motion.margin
+}
+
+/// The rate `secs` seconds after a time, times the time's denominator.
+fn later_rate_at(motion: &Motion, point: &Point, secs: u32) -> i64
+    requires small { HasSmallNumbers point.now }
+    requires secs { secs ≤ 120 }
+    ensures { result ≡ later_rate_of motion.now secs point.now.num point.now.den }
+{
+    rate_at(motion, point) + rate_gain(motion, point, secs)
 }
 
 /// Whether the closest approach is at most `secs` seconds off, if the distance falls.
@@ -93,7 +168,7 @@ fn is_closest_within(motion: &Motion, point: &Point, secs: u32) -> bool
 }
 
 /// What the rate gains in `secs` seconds, times the time's denominator: `secs (v.v)`.
-fn rate_gain(motion: &Motion, point: &Point, secs: u32) -> i64
+pub(crate) fn rate_gain(motion: &Motion, point: &Point, secs: u32) -> i64
     requires small { HasSmallNumbers point.now }
     requires secs { secs ≤ 120 }
     ensures { result ≡ pos secs *ℤ point.now.den *ℤ motion.now.speed_squared }

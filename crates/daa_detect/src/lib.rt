@@ -8,6 +8,7 @@ mod far;
 mod horizontal;
 mod motion;
 mod products;
+mod tau;
 
 pub use detection::{hits, is_hit};
 

@@ -46,7 +46,7 @@ fn rate(leg: &Leg) -> i64
 
 /// The distance at the closest approach of the straight line, times the speed, with a sign for the
 /// side: `s x v`.
-fn miss(leg: &Leg) -> i64
+pub(crate) fn miss(leg: &Leg) -> i64
     requires { IsLegInRange leg.now }
     ensures { result ≡ cross_of leg.now.place.flat leg.now.velocity.flat }
 {

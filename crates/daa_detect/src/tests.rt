@@ -173,6 +173,70 @@ fn times_ahead_by_model(rt: HostRuntime) -> Result<(), Fail> {
     Ok(())
 }
 
+/// The cylinder with seconds to look ahead, by a model.
+fn ahead(tthr: u32, model: Model) -> Volume
+    requires { tthr ≤ 120 }
+    ensures { IsVolumeInRange result }
+{
+    Volume {
+        tthr,
+        model,
+        ..CYLINDER
+    }
+}
+
+// The same with 8 seconds, second by second: modified tau and the entry point count on second 0,
+// the closest approach on second 1, and tau on second 3, from 3.74 on.
+#[test]
+fn first_seconds_by_model(rt: HostRuntime) -> Result<(), Fail> {
+    let at_0 = leg(&solid(-11880, -36000, 0), &NORTHWARD, 1);
+    let at_1 = leg(&solid(-11880, -32400, 0), &NORTHWARD, 1);
+    let at_2 = leg(&solid(-11880, -28800, 0), &NORTHWARD, 1);
+    let at_3 = leg(&solid(-11880, -25200, 0), &NORTHWARD, 1);
+    assert!(rt; agree(&at_0, &ahead(8, Model::Taumod)) == Some(true));
+    assert!(rt; agree(&at_0, &ahead(8, Model::Tep)) == Some(true));
+    assert!(rt; agree(&at_0, &ahead(8, Model::Tcpa)) == Some(false));
+    assert!(rt; agree(&at_1, &ahead(8, Model::Tcpa)) == Some(true));
+    assert!(rt; agree(&at_2, &ahead(8, Model::Tau)) == Some(false));
+    assert!(rt; agree(&at_3, &ahead(8, Model::Tau)) == Some(true));
+    Ok(())
+}
+
+// Head-on it is 23760 units away after exactly 10 seconds, or a second and 36 units later.
+#[test]
+fn entry_after_exactly_tthr(rt: HostRuntime) -> Result<(), Fail> {
+    let ten = leg(&solid(0, -59760, 0), &NORTHWARD, 1);
+    let later = leg(&solid(0, -59796, 0), &NORTHWARD, 1);
+    assert!(rt; is_at(hits(&ten, &ahead(9, Model::Tep)), 1, 1));
+    assert!(rt; agree(&ten, &ahead(10, Model::Tep)) == Some(true));
+    assert!(rt; agree(&later, &ahead(9, Model::Tep)) == Some(false));
+    assert!(rt; agree(&later, &ahead(10, Model::Tep)) == Some(true));
+    assert!(rt; violates(&ten, &ahead(10, Model::Tep), &Point { num: 0, den: 1 }));
+    assert!(rt; !violates(&later, &ahead(10, Model::Tep), &Point { num: 0, den: 1 }));
+    Ok(())
+}
+
+// Head-on tau is the distance over the speed: 9 seconds at the end of the second, or exactly 8.
+#[test]
+fn tau_of_exactly_tthr(rt: HostRuntime) -> Result<(), Fail> {
+    let tenth = Volume {
+        dthr: 3600,
+        tthr: 8,
+        model: Model::Tau,
+        ..CYLINDER
+    };
+    assert!(rt; agree(&leg(&solid(0, -36000, 0), &NORTHWARD, 1), &tenth) == Some(false));
+    assert!(rt;
+        is_at(
+            hits(&leg(&solid(0, -32400, 0), &NORTHWARD, 1), &tenth),
+            1,
+            1
+        )
+    );
+    assert!(rt; agree(&leg(&solid(0, -32401, 0), &NORTHWARD, 1), &tenth) == Some(false));
+    Ok(())
+}
+
 // At 180 seconds it is 120.0075 seconds before a head-on meeting, 199820 units above co-altitude.
 #[test]
 fn largest_numbers(rt: HostRuntime) -> Result<(), Fail> {
@@ -187,42 +251,84 @@ fn largest_numbers(rt: HostRuntime) -> Result<(), Fail> {
         model: Model::Tcpa,
         ..tau
     };
+    let entry = Volume {
+        model: Model::Tep,
+        ..tau
+    };
+    let plain_tau = Volume {
+        model: Model::Tau,
+        ..tau
+    };
     let fastest = solid(-39999, -39999, -39999);
     let meeting = leg(&solid(12000000, 12000000, 7000000), &fastest, 180);
     let farthest = leg(&solid(39999999, 39999999, 39999999), &fastest, 180);
     assert!(rt; is_at(hits(&meeting, &tau), 180, 1));
     assert!(rt; hits(&meeting, &closest).is_none());
+    assert!(rt; is_at(hits(&meeting, &entry), 180, 1));
+    assert!(rt; hits(&meeting, &plain_tau).is_none());
+    assert!(rt; hits(&farthest, &plain_tau).is_none());
     assert!(rt; hits(&farthest, &tau).is_none());
     Ok(())
+}
+
+/// The time num/den, where it lies on the leg.
+fn time_on(leg: &Leg, num: i128, den: i128) -> Option<Point>
+    requires { IsLegInRange leg.now }
+{
+    if den < 1 || den > 8589934592 || num < 0 || num > 2199023255552 {
+        return None;
+    }
+    let time = Point {
+        num: num as i64,
+        den: den as i64,
+    };
+    let end = Point {
+        num: leg.secs as i64,
+        den: 1,
+    };
+    if before(&end, &time) {
+        None
+    } else {
+        Some(time)
+    }
 }
 
 /// The closest approach, where it lies on the leg.
 fn closest_of(leg: &Leg) -> Option<Point>
     requires { IsLegInRange leg.now }
 {
+    let rate = dot(&leg.place.flat, &leg.velocity.flat);
+    time_on(leg, rate.checked_neg()?, square(&leg.velocity.flat))
+}
+
+/// `tthr / 2` seconds before the closest approach, where that lies on the leg.
+fn middle_of(leg: &Leg, volume: &Volume) -> Option<Point>
+    requires { IsLegInRange leg.now }
+{
     let speed = square(&leg.velocity.flat);
-    let ahead = -dot(&leg.place.flat, &leg.velocity.flat);
-    if speed < 1 || speed > 8589934592 || ahead < 0 || ahead > 2199023255552 {
-        return None;
-    }
-    let closest = Point {
-        num: ahead as i64,
-        den: speed as i64,
-    };
-    let end = Point {
-        num: leg.secs as i64,
-        den: 1,
-    };
-    if before(&end, &closest) {
-        None
-    } else {
-        Some(closest)
+    let rate = dot(&leg.place.flat, &leg.velocity.flat);
+    let way = speed.checked_mul(volume.tthr as i128)?;
+    time_on(
+        leg,
+        rate.checked_mul(-2)?.checked_sub(way)?,
+        speed.checked_mul(2)?,
+    )
+}
+
+/// Whether the volume itself holds at a time, where there is one.
+fn violates_at(leg: &Leg, volume: &Volume, time: Option<Point>) -> bool
+    requires leg { IsLegInRange leg.now }
+    requires volume { IsVolumeInRange volume.now }
+{
+    match time {
+        Some(point) => violates(leg, volume, &point),
+        None => false,
     }
 }
 
-/// Whether the volume itself holds at one of three times: the first and the last at which its
-/// vertical part does, and the closest approach.
-fn violates_at_one_of_three(leg: &Leg, volume: &Volume) -> bool
+/// Whether the volume itself holds at one of four times: the first and the last at which its
+/// vertical part does, the closest approach, and `tthr / 2` seconds before it.
+fn violates_at_one_of_four(leg: &Leg, volume: &Volume) -> bool
     requires leg { IsLegInRange leg.now }
     requires volume { IsVolumeInRange volume.now }
 {
@@ -230,11 +336,9 @@ fn violates_at_one_of_three(leg: &Leg, volume: &Volume) -> bool
         Some((first, last)) => violates(leg, volume, &first) || violates(leg, volume, &last),
         None => false,
     };
-    let at_closest = match closest_of(leg) {
-        Some(closest) => violates(leg, volume, &closest),
-        None => false,
-    };
-    at_end || at_closest
+    at_end
+        || violates_at(leg, volume, closest_of(leg))
+        || violates_at(leg, volume, middle_of(leg, volume))
 }
 
 /// What `hits` answers, where the body without the box test and the plain one answer the same.
@@ -243,7 +347,7 @@ fn agree(leg: &Leg, volume: &Volume) -> Option<bool>
     requires volume { IsVolumeInRange volume.now }
 {
     let answer = hits(leg, volume).is_some();
-    let plain = violates_at_one_of_three(leg, volume);
+    let plain = violates_at_one_of_four(leg, volume);
     if answer == nearest_hit(leg, volume).is_some() && answer == plain {
         Some(answer)
     } else {
@@ -357,5 +461,73 @@ fn no_horizontal_speed_and_one_instant(rt: HostRuntime) -> Result<(), Fail> {
     assert!(rt; agree(&leg(&solid(0, 20161, -8400), &slower, 1), &HUNDRED_FEET) == Some(false));
     assert!(rt; agree(&leg(&solid(0, -27360, -8400), &slower, 1), &HUNDRED_FEET) == Some(true));
     assert!(rt; agree(&leg(&solid(0, -27361, -8400), &slower, 1), &HUNDRED_FEET) == Some(false));
+    Ok(())
+}
+
+// By tau with 14 seconds the middle is 25200 units before the closest approach. A line 25200 units
+// off is in time then alone: at the second second, at an end of the window, or a unit beyond it.
+#[test]
+fn middle_decides_by_tau(rt: HostRuntime) -> Result<(), Fail> {
+    let tau = Volume {
+        dthr: 25200,
+        tthr: 14,
+        model: Model::Tau,
+        ..HUNDRED_FEET
+    };
+    let wider = Volume { dthr: 25201, ..tau };
+    assert!(rt; agree(&climbing(25200, -32400), &tau) == Some(true));
+    assert!(rt; is_at(hits(&climbing(25200, -32400), &tau), 2, 1));
+    assert!(rt; agree(&climbing(25201, -32400), &tau) == Some(false));
+    assert!(rt; agree(&climbing(25201, -32400), &wider) == Some(false));
+    assert!(rt; is_at(hits(&climbing(25200, -28080), &tau), 4, 5));
+    assert!(rt; agree(&climbing(25200, -28079), &tau) == Some(false));
+    assert!(rt; is_at(hits(&climbing(25200, -42480), &tau), 24, 5));
+    assert!(rt; agree(&climbing(25200, -42481), &tau) == Some(false));
+    Ok(())
+}
+
+// By tau with a second what is near counts, at the closest approach; by the entry point a distance
+// of 23760 units after a second, or 23759.3 and 23760.2 after ten.
+#[test]
+fn near_by_tau_and_entry_at_the_end_of_the_window(rt: HostRuntime) -> Result<(), Fail> {
+    let tau = Volume {
+        tthr: 1,
+        model: Model::Tau,
+        ..HUNDRED_FEET
+    };
+    let second = Volume {
+        model: Model::Tep,
+        ..tau
+    };
+    let ten = Volume { tthr: 10, ..second };
+    assert!(rt; agree(&climbing(23760, -17280), &tau) == Some(true));
+    assert!(rt; agree(&climbing(23760, -17281), &tau) == Some(false));
+    assert!(rt; agree(&climbing(0, 20880), &tau) == Some(true));
+    assert!(rt; agree(&climbing(23760, -7200), &tau) == Some(true));
+    assert!(rt; agree(&climbing(23760, -20880), &second) == Some(true));
+    assert!(rt; agree(&climbing(23760, -20881), &second) == Some(false));
+    assert!(rt; agree(&climbing(11880, -53280), &ten) == Some(true));
+    assert!(rt; agree(&climbing(11880, -73856), &ten) == Some(true));
+    assert!(rt; agree(&climbing(11880, -73857), &ten) == Some(false));
+    Ok(())
+}
+
+// It climbs straight up by tau and by the entry point: the distance alone counts.
+#[test]
+fn no_horizontal_speed_by_tau_and_entry(rt: HostRuntime) -> Result<(), Fail> {
+    let tau = Volume {
+        tthr: 35,
+        model: Model::Tau,
+        ..HUNDRED_FEET
+    };
+    let entry = Volume {
+        model: Model::Tep,
+        ..tau
+    };
+    let straight_up = solid(0, 0, 3000);
+    assert!(rt; agree(&leg(&solid(16800, 16800, -8400), &straight_up, 10), &tau) == Some(true));
+    assert!(rt; agree(&leg(&solid(16801, 16801, -8400), &straight_up, 10), &tau) == Some(false));
+    assert!(rt; agree(&leg(&solid(16800, 16800, -8400), &straight_up, 10), &entry) == Some(true));
+    assert!(rt; agree(&leg(&solid(16801, 16801, -8400), &straight_up, 10), &entry) == Some(false));
     Ok(())
 }

@@ -29,13 +29,14 @@ use Rattle.daa_bands.specs.declared.band.Band.{Band}
 use Rattle.daa_resolve.specs.Resolution.{IsResolution}
 use Rattle.daa_resolve.specs.declared.side.Side.{Side}
 use Rattle.daa_resolve.specs.declared.side.Side.TheVariants.{Lower, Upper}
+use Rattle.daa_last.specs.Last.{IsLastTime}
 use Rattle.daa_recovery.specs.Recovery.{IsRecovery}
 use Rattle.daa_recovery.specs.declared.recovery.Recovery.{Recovery}
-use Rattle.daa_report.specs.Lines.{Text, kind_word, lower_word, upper_word, first_text, resolution_text, moment_line, now_line, alert_line, band_line, resolve_line, recover_line, found_text, number_field, done_line}
+use Rattle.daa_report.specs.Lines.{Text, kind_word, lower_word, upper_word, first_text, resolution_text, moment_line, now_line, alert_line, band_line, resolve_line, last_line, seconds_text, recover_line, found_text, number_field, done_line}
 use Rattle.daa_engine.specs.Covered.{CoveredAt}
 use Rattle.daa_engine.specs.Longest.{longest_moment}
 use Rattle.daa_bands.specs.Parts.{SplitsByEach}
-use Rattle.daa_engine.specs.MomentText.{AreAircraftLines, AreBandLines, AreResolutions, IsRecoveryLine, IsRecoveryText, IsMomentText, line_of, of_each, found_of, wants_recovery}
+use Rattle.daa_engine.specs.MomentText.{AreAircraftLines, AreBandLines, AreResolutions, IsLastLine, IsLastText, IsRecoveryLine, IsRecoveryText, IsMomentText, line_of, of_each, found_of, wants_last, wants_recovery}
 
 -- ---- numbers
 
@@ -93,11 +94,11 @@ resolution_short Keep h = omega arith
 resolution_short (To z) h = few_signed z (h z refl)
 resolution_short Nothing h = omega arith
 
-pub moment_short : (time : ℕ) → time < 2 ^ 32 → length (moment_line time) ≤ 64
+pub moment_short : (time : ℕ) → time < 2 ^ 32 → length (moment_line time) ≤ 28
 unfolding moment_line
 moment_short time h = omega (arith, joined (codes "moment " ++ decimal time) (codes "\n") 27 1 (joined (codes "moment ") (decimal time) 7 20 (omega arith) (few_digits time h)) (omega arith))
 
-done_short : (time : ℕ) → time < 2 ^ 32 → length (done_line time) ≤ 64
+done_short : (time : ℕ) → time < 2 ^ 32 → length (done_line time) ≤ 26
 unfolding done_line
 done_short time h = omega (arith, joined (codes "done " ++ decimal time) (codes "\n") 25 1 (joined (codes "done ") (decimal time) 5 20 (omega arith) (few_digits time h)) (omega arith))
 
@@ -149,7 +150,7 @@ band_short kind from upto level f u l =
     )
 
 resolve_short : (kind : Kind) (lower upper : Resolution) → ((z : ℤ) → lower ≡ To z → IsValue z) → ((z : ℤ) → upper ≡ To z → IsValue z)
-    → length (resolve_line kind lower upper) ≤ 64
+    → length (resolve_line kind lower upper) ≤ 52
 unfolding resolve_line
 resolve_short kind lower upper l u =
     let k = kind_word kind in let w = lower_word kind in let a = resolution_text lower in let v = upper_word kind in let b = resolution_text upper in
@@ -172,6 +173,24 @@ resolve_short kind lower upper l u =
       length-append (r ++ s ++ k ++ s ++ w ++ s ++ a ++ s ++ v) s,
       length-append (r ++ s ++ k ++ s ++ w ++ s ++ a ++ s ++ v ++ s) b,
       length-append (r ++ s ++ k ++ s ++ w ++ s ++ a ++ s ++ v ++ s ++ b) (codes "\n"),
+    )
+
+seconds_short : (seconds : Option ℕ) → ((n : ℕ) → seconds ≡ Some n → n < 180) → length (seconds_text seconds) ≤ 13
+seconds_short None h = omega arith
+seconds_short (Some n) h = joined (codes " ") (decimal n) 1 12 (omega arith) (length-decimal-le 12 n (omega arith) (omega (arith, h n refl)) (omega (arith, h n refl)))
+
+last_short : (kind : Kind) (seconds : Option ℕ) → ((n : ℕ) → seconds ≡ Some n → n < 180) → length (last_line kind seconds) ≤ 24
+unfolding last_line
+last_short kind seconds h =
+    let k = kind_word kind in let w = codes "last" in let s = codes " " in let f = seconds_text seconds in
+    omega (
+      arith,
+      word_of_kind kind,
+      seconds_short seconds h,
+      length-append w s,
+      length-append (w ++ s) k,
+      length-append (w ++ s ++ k) f,
+      length-append (w ++ s ++ k ++ f) (codes "\n"),
     )
 
 -- after how many seconds, and a value
@@ -310,8 +329,23 @@ module _ (s : Settings) (p : Picture) (ok : IsAccepted s) where
   resolution_in kind side (To y) h z e = value_in kind h.1.0 z (h.1.1.value_is ∙ ap (λ (r : Resolution). Some (value_or r y)) e)
   resolution_in kind side Nothing h z e = absurd (subst IsNotTo e tt)
 
-  resolutions_short : (kind : Kind) (lower upper : Resolution) → AreResolutions s p kind lower upper → length (resolve_line kind lower upper) ≤ 64
+  resolutions_short : (kind : Kind) (lower upper : Resolution) → AreResolutions s p kind lower upper → length (resolve_line kind lower upper) ≤ 52
   resolutions_short kind lower upper h = resolve_short kind lower upper (resolution_in kind Lower lower h.lower_is) (resolution_in kind Upper upper h.upper_is)
+
+  last_in : (kind : Kind) (found : Option ℕ) → IsLastTime s p kind found → (n : ℕ) → found ≡ Some n → n < 180
+  last_in kind None is n e = absurd (cc e)
+  last_in kind (Some m) is n e =
+      let a = is.ahead in
+      let few = (ok.level a.number a.level a.closes.there).lookahead_most in
+      let soon : m < 180 = let b = is.before in let e' = a.reached in omega arith in
+      subst (λ (i : ℕ). i < 180) (ap (λ (o : Option ℕ). unwrap_or o n) e) soon
+
+  last_text_short : (kind : Kind) (answer : Resolution) (text : Text) → IsLastText s p kind answer text → length text ≤ 24
+  last_text_short kind answer text is = by_wish (wants_last s answer) refl
+    where
+      by_wish : (w : Bool) → wants_last s answer ≡ w → length text ≤ 24
+      by_wish true e = let l = is.line e in omega (arith, ap length l.2, last_short kind l.0 (last_in kind l.0 l.1))
+      by_wish false e = omega (arith, ap length (is.none e))
 
   recovery_in : (kind : Kind) (found : Option Recovery) → IsRecovery s p kind found → (pair : ℕ × ℤ) → option_map found_of found ≡ Some pair → IsFoundShort pair
   recovery_in kind None is pair e = absurd (cc e)
@@ -362,10 +396,11 @@ module _ (s : Settings) (p : Picture) (ok : IsAccepted s) where
 
   pub text_short : IsPictureInRange p → p.time < 2 ^ 32 → (text : Text) → IsMomentText s p text → length text ≤ longest_moment
   text_short r t text is =
-      let alerts = is.alerts in let bands = is.bands in let lower = is.lower in let upper = is.upper in let recoveries = is.recoveries in
+      let alerts = is.alerts in let bands = is.bands in let lower = is.lower in let upper = is.upper in let lasts = is.lasts in let recoveries = is.recoveries in
       let resolutions : Kind → Text = λ kind. resolve_line kind (lower kind) (upper kind) in
       let bt = bands Track in let bs = bands Speed in let bc = bands Climb in let bh = bands Height in
       let at = resolutions Track in let as' = resolutions Speed in let ac = resolutions Climb in let ah = resolutions Height in
+      let lt = lasts Track in let ls = lasts Speed in let lc = lasts Climb in let lh = lasts Height in
       let rt = recoveries Track in let rs = recoveries Speed in let rc = recoveries Climb in let rh = recoveries Height in
       let m = moment_line p.time in let d = done_line p.time in
       omega (
@@ -383,6 +418,10 @@ module _ (s : Settings) (p : Picture) (ok : IsAccepted s) where
         resolutions_short Speed (lower Speed) (upper Speed) (is.resolutions_are Speed),
         resolutions_short Climb (lower Climb) (upper Climb) (is.resolutions_are Climb),
         resolutions_short Height (lower Height) (upper Height) (is.resolutions_are Height),
+        last_text_short Track (lower Track) lt (is.lasts_are Track),
+        last_text_short Speed (lower Speed) ls (is.lasts_are Speed),
+        last_text_short Climb (lower Climb) lc (is.lasts_are Climb),
+        last_text_short Height (lower Height) lh (is.lasts_are Height),
         recovery_short Track (lower Track) (upper Track) rt (is.recoveries_are Track),
         recovery_short Speed (lower Speed) (upper Speed) rs (is.recoveries_are Speed),
         recovery_short Climb (lower Climb) (upper Climb) rc (is.recoveries_are Climb),
@@ -395,10 +434,11 @@ module _ (s : Settings) (p : Picture) (ok : IsAccepted s) where
         few_of_kind s Speed ok,
         few_of_kind s Climb ok,
         few_of_kind s Height ok,
-        length-append m (alerts ++ (of_each bands ++ (of_each resolutions ++ (of_each recoveries ++ d)))),
-        length-append alerts (of_each bands ++ (of_each resolutions ++ (of_each recoveries ++ d))),
-        length-append (of_each bands) (of_each resolutions ++ (of_each recoveries ++ d)),
-        length-append (of_each resolutions) (of_each recoveries ++ d),
+        length-append m (alerts ++ (of_each bands ++ (of_each resolutions ++ (of_each lasts ++ (of_each recoveries ++ d))))),
+        length-append alerts (of_each bands ++ (of_each resolutions ++ (of_each lasts ++ (of_each recoveries ++ d)))),
+        length-append (of_each bands) (of_each resolutions ++ (of_each lasts ++ (of_each recoveries ++ d))),
+        length-append (of_each resolutions) (of_each lasts ++ (of_each recoveries ++ d)),
+        length-append (of_each lasts) (of_each recoveries ++ d),
         length-append (of_each recoveries) d,
         length-append bt (bs ++ (bc ++ bh)),
         length-append bs (bc ++ bh),
@@ -406,6 +446,9 @@ module _ (s : Settings) (p : Picture) (ok : IsAccepted s) where
         length-append at (as' ++ (ac ++ ah)),
         length-append as' (ac ++ ah),
         length-append ac ah,
+        length-append lt (ls ++ (lc ++ lh)),
+        length-append ls (lc ++ lh),
+        length-append lc lh,
         length-append rt (rs ++ (rc ++ rh)),
         length-append rs (rc ++ rh),
         length-append rc rh,

@@ -8,6 +8,7 @@ use Rattle.daa_config.specs.declared.kind.Kind.{Kind}
 use Rattle.daa_config.specs.declared.kind.Kind.TheVariants.{Track, Speed, Climb, Height}
 use Rattle.daa_config.specs.declared.candidate.Resolution.{Resolution}
 use Rattle.daa_recovery.specs.declared.recovery.Recovery.{Recovery}
+use Rattle.daa_last.proofs.Searching.{last_only}
 use Rattle.daa_recovery.proofs.OneRecovery.{recovery_only}
 use Rattle.daa_state.specs.Picture.{aircraft_of}
 use Rattle.daa_state.specs.declared.word.Picture.{Picture}
@@ -18,10 +19,10 @@ use Rattle.daa_bands.specs.Board.{HasLevelOn, IsBoardOf}
 use Rattle.daa_bands.proofs.KindLemmas.{kind_bands_only}
 use Rattle.daa_resolve.specs.declared.side.Side.TheVariants.{Lower, Upper}
 use Rattle.daa_resolve.proofs.OneResolution.{one_answer}
-use Rattle.daa_report.specs.Lines.{Text, now_line, alert_line, resolve_line, recover_line, moment_line, done_line}
+use Rattle.daa_report.specs.Lines.{Text, now_line, alert_line, resolve_line, last_line, recover_line, moment_line, done_line}
 use Rattle.daa_engine.specs.Covered.{CoveredAt}
 use Rattle.daa_bands.specs.Parts.{SplitsByEach}
-use Rattle.daa_engine.specs.MomentText.{AreAircraftLines, AreBandLines, AreResolutions, IsRecoveryLine, IsRecoveryText, IsMomentText, line_of, of_each, wants_recovery, found_of}
+use Rattle.daa_engine.specs.MomentText.{AreAircraftLines, AreBandLines, AreResolutions, IsLastLine, IsLastText, IsRecoveryLine, IsRecoveryText, IsMomentText, line_of, of_each, wants_last, wants_recovery, found_of}
 
 module _ (s : Settings) (p : Picture) where
   aircraft_only : (t : Traffic) (a b : Text) → AreAircraftLines s p t a → AreAircraftLines s p t b → a ≡ b
@@ -45,6 +46,21 @@ module _ (s : Settings) (p : Picture) where
 
   upper_only : IsAccepted s → (kind : Kind) (lower upper lower' upper' : Resolution) → AreResolutions s p kind lower upper → AreResolutions s p kind lower' upper' → upper ≡ upper'
   upper_only ok kind lower upper lower' upper' h k = one_answer (CoveredAt s p) s p.own ok kind Upper upper upper' h.upper_is k.upper_is
+
+  last_line_only : IsAccepted s → (kind : Kind) (a b : Text) → IsLastLine s p kind a → IsLastLine s p kind b → a ≡ b
+  last_line_only ok kind a b (found, is, e) (found', is', e') =
+      e ∙ ap (last_line kind) (last_only s p kind found found' is is') ∙ sym e'
+
+  -- with the same answer a kind has one text of its last time
+  last_text_only : IsAccepted s → (kind : Kind) (answer : Resolution) (a b : Text) → IsLastText s p kind answer a → IsLastText s p kind answer b → a ≡ b
+  last_text_only ok kind answer a b h k = by_wish (wants_last s answer) refl
+    where
+      by_wish : (w : Bool) → wants_last s answer ≡ w → a ≡ b
+      by_wish true e = last_line_only ok kind a b (h.line e) (k.line e)
+      by_wish false e = h.none e ∙ sym (k.none e)
+
+  last_only_of : IsAccepted s → (kind : Kind) (answer answer' : Resolution) (a b : Text) → answer ≡ answer' → IsLastText s p kind answer a → IsLastText s p kind answer' b → a ≡ b
+  last_only_of ok kind answer answer' a b e h k = last_text_only ok kind answer' a b (subst (λ (r : Resolution). IsLastText s p kind r a) e h) k
 
   recovery_line_only : IsAccepted s → (kind : Kind) (a b : Text) → IsRecoveryLine s p kind a → IsRecoveryLine s p kind b → a ≡ b
   recovery_line_only ok kind a b (found, is, e) (found', is', e') =
@@ -76,12 +92,14 @@ module _ (s : Settings) (p : Picture) where
       let x = alerts_only (aircraft_of p) h.alerts k.alerts h.alerts_are k.alerts_are in
       let y = each_only h.bands k.bands (λ kind. bands_only kind (h.bands kind) (k.bands kind) (h.bands_are kind) (k.bands_are kind)) in
       let z = each_only resolutions resolutions' (λ kind. ap₂ (resolve_line kind) (low kind) (up kind)) in
+      let v = each_only h.lasts k.lasts (λ kind. last_only_of ok kind (h.lower kind) (k.lower kind) (h.lasts kind) (k.lasts kind) (low kind) (h.lasts_are kind) (k.lasts_are kind)) in
       let w = each_only h.recoveries k.recoveries (λ kind. recovery_only_of ok kind (h.lower kind) (h.upper kind) (k.lower kind) (k.upper kind) (h.recoveries kind) (k.recoveries kind)
       (low kind) (up kind) (h.recoveries_are kind) (k.recoveries_are kind)) in
-      h.text_is ∙ ap (λ (t : Text). moment_line p.time ++ (t ++ (of_each h.bands ++ (of_each resolutions ++ (of_each h.recoveries ++ done_line p.time))))) x
-      ∙ ap (λ (t : Text). moment_line p.time ++ (k.alerts ++ (t ++ (of_each resolutions ++ (of_each h.recoveries ++ done_line p.time))))) y
-      ∙ ap (λ (t : Text). moment_line p.time ++ (k.alerts ++ (of_each k.bands ++ (t ++ (of_each h.recoveries ++ done_line p.time))))) z
-      ∙ ap (λ (t : Text). moment_line p.time ++ (k.alerts ++ (of_each k.bands ++ (of_each resolutions' ++ (t ++ done_line p.time))))) w ∙ sym k.text_is
+      h.text_is ∙ ap (λ (t : Text). moment_line p.time ++ (t ++ (of_each h.bands ++ (of_each resolutions ++ (of_each h.lasts ++ (of_each h.recoveries ++ done_line p.time)))))) x
+      ∙ ap (λ (t : Text). moment_line p.time ++ (k.alerts ++ (t ++ (of_each resolutions ++ (of_each h.lasts ++ (of_each h.recoveries ++ done_line p.time)))))) y
+      ∙ ap (λ (t : Text). moment_line p.time ++ (k.alerts ++ (of_each k.bands ++ (t ++ (of_each h.lasts ++ (of_each h.recoveries ++ done_line p.time)))))) z
+      ∙ ap (λ (t : Text). moment_line p.time ++ (k.alerts ++ (of_each k.bands ++ (of_each resolutions' ++ (t ++ (of_each h.recoveries ++ done_line p.time)))))) v
+      ∙ ap (λ (t : Text). moment_line p.time ++ (k.alerts ++ (of_each k.bands ++ (of_each resolutions' ++ (of_each k.lasts ++ (t ++ done_line p.time)))))) w ∙ sym k.text_is
 
 -- ---- no two boards
 

@@ -23,12 +23,13 @@ use Rattle.daa_resolve.specs.declared.side.Side.{Side}
 use Rattle.daa_resolve.specs.declared.side.Side.TheVariants.{Lower, Upper}
 use Rattle.daa_resolve.proofs.SomeResolution.{one_resolution}
 use Rattle.daa_config.specs.declared.candidate.Resolution.{Resolution}
+use Rattle.daa_last.proofs.SomeLast.{one_last_time}
 use Rattle.daa_recovery.proofs.SomeRecovery.{one_recovery}
-use Rattle.daa_report.specs.Lines.{Text, now_line, alert_line, resolve_line, recover_line, moment_line, done_line}
+use Rattle.daa_report.specs.Lines.{Text, now_line, alert_line, resolve_line, last_line, recover_line, moment_line, done_line}
 use Rattle.daa_engine.specs.Covered.{CoveredAt, scene_of}
 use Rattle.daa_engine.proofs.Covered.{CoveredBelow}
 use Rattle.daa_bands.specs.Parts.{SplitsByEach}
-use Rattle.daa_engine.specs.MomentText.{AreAircraftLines, IsRecoveryText, IsMomentText, line_of, of_each, are_nothing, wants_recovery, found_of}
+use Rattle.daa_engine.specs.MomentText.{AreAircraftLines, IsLastText, IsRecoveryText, IsMomentText, line_of, of_each, are_nothing, wants_last, wants_recovery, found_of}
 use Rattle.daa_engine.proofs.OneText.{text_only}
 
 module _ (s : Settings) (p : Picture) (a : IsAccepted s) (r : IsPictureInRange p) where
@@ -77,6 +78,15 @@ module _ (s : Settings) (p : Picture) (a : IsAccepted s) (r : IsPictureInRange p
   resolution : (kind : Kind) (side : Side) → HasOne (IsResolution (CoveredAt s p) s p.own kind side)
   resolution kind side = one_resolution (CoveredAt s p) covered_decided s p.own kind side a
 
+  last_texts : (kind : Kind) (answer : Resolution) → (text : Text) × IsLastText s p kind answer text
+  last_texts kind answer = by_wish (wants_last s answer) refl
+    where
+      by_wish : (w : Bool) → wants_last s answer ≡ w → (text : Text) × IsLastText s p kind answer text
+      by_wish true e =
+          let f = one_last_time s a p r kind in
+          (last_line kind f.one, record { line = λ _. (f.one, f.is, refl); none = λ g. absurd (cc (e, g)) })
+      by_wish false e = ([], record { line = λ t. absurd (cc (t, e)); none = λ _. refl })
+
   recovery_texts : (kind : Kind) (lower upper : Resolution) → (text : Text) × IsRecoveryText s p kind lower upper text
   recovery_texts kind lower upper = by_wish (is_some s.recovery) (are_nothing lower upper) refl refl
     where
@@ -102,17 +112,20 @@ module _ (s : Settings) (p : Picture) (a : IsAccepted s) (r : IsPictureInRange p
       let lower = λ (kind : Kind). (resolution kind Lower).one in
       let upper = λ (kind : Kind). (resolution kind Upper).one in
       let answer_text = λ (kind : Kind). resolve_line kind (lower kind) (upper kind) in
+      let last_text = λ (kind : Kind). (last_texts kind (lower kind)).0 in
       let recovery_text = λ (kind : Kind). (recovery_texts kind (lower kind) (upper kind)).0 in (
-        moment_line p.time ++ (alerts.0 ++ (of_each band_text ++ (of_each answer_text ++ (of_each recovery_text ++ done_line p.time)))),
+        moment_line p.time ++ (alerts.0 ++ (of_each band_text ++ (of_each answer_text ++ (of_each last_text ++ (of_each recovery_text ++ done_line p.time))))),
         record {
           alerts = alerts.0;
           bands = band_text;
           lower = lower;
           upper = upper;
+          lasts = last_text;
           recoveries = recovery_text;
           alerts_are = alerts.1;
           bands_are = λ kind. ((bands kind).one, (bands kind).is, refl);
           resolutions_are = λ kind. record { lower_is = (resolution kind Lower).is; upper_is = (resolution kind Upper).is };
+          lasts_are = λ kind. (last_texts kind (lower kind)).1;
           recoveries_are = λ kind. (recovery_texts kind (lower kind) (upper kind)).1;
           text_is = refl;
         },

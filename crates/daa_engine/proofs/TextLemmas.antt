@@ -14,19 +14,22 @@ use Rattle.daa_bands.proofs.KindLemmas.{bands_covered}
 use Rattle.daa_bands.proofs.WalkLemmas.{all_bands}
 use Rattle.daa_resolve.specs.declared.side.Side.TheVariants.{Lower, Upper}
 use Rattle.daa_resolve.proofs.BoardLemmas.{resolved}
-use Rattle.daa_report.specs.Lines.{recover_line}
+use Rattle.daa_report.specs.Lines.{last_line, recover_line}
 use Rattle.daa_report.specs.Says.{Says, SaysSome}
 use Rattle.daa_engine.specs.Covered.{CoveredAt}
 use Rattle.daa_engine.specs.declared.alerts.AircraftAlert.{AircraftAlert}
 use Rattle.daa_engine.specs.declared.advice.Sides.{Sides}
 use Rattle.daa_engine.specs.declared.advice.Advice.{Advice}
+use Rattle.daa_engine.specs.declared.delay.Delay.{Delay}
+use Rattle.daa_engine.specs.declared.delay.Delay.TheVariants as delay
+use Rattle.daa_engine.specs.declared.delay.Delays.{Delays}
 use Rattle.daa_engine.specs.declared.rescue.Rescue.{Rescue}
 use Rattle.daa_engine.specs.declared.rescue.Rescue.TheVariants.{Silent, Said}
 use Rattle.daa_engine.specs.declared.rescue.Rescues.{Rescues}
-use Rattle.daa_engine.specs.Inside.Findings.{IsAircraftAlert, AreAircraftAlerts, AreSides, IsAdvice, IsRescue, AreRescues}
+use Rattle.daa_engine.specs.Inside.Findings.{IsAircraftAlert, AreAircraftAlerts, AreSides, IsAdvice, IsDelay, AreDelays, IsRescue, AreRescues}
 use Rattle.daa_bands.specs.Parts.{SplitsByEach}
-use Rattle.daa_engine.specs.MomentText.{AreAircraftLines, AreBandLines, AreResolutions, IsRecoveryText, IsMomentText}
-use Rattle.daa_engine.specs.Inside.Written.{aircraft_text, alerts_text, bands_text, bands_texts, sides_of, advice_text, rescue_text, rescue_of, rescues_text, written}
+use Rattle.daa_engine.specs.MomentText.{AreAircraftLines, AreBandLines, AreResolutions, IsLastText, IsRecoveryText, IsMomentText}
+use Rattle.daa_engine.specs.Inside.Written.{aircraft_text, alerts_text, bands_text, bands_texts, sides_of, advice_text, delay_text, delay_of, delays_text, rescue_text, rescue_of, rescues_text, written}
 
 -- ---- aircraft
 
@@ -44,6 +47,12 @@ alert_lines_are s p (t ∷ ts) (w ∷ ws) e h =
       second_is = alert_lines_are s p ts ws (omega arith) (λ i a b lt. h (suc i) a b (omega arith));
       joined = refl;
     }
+
+-- ---- last times
+
+delay_line : (s : Settings) (p : Picture) (kind : Kind) (sides : Sides) (found : Delay) → IsDelay s p kind sides found → IsLastText s p kind sides.lower (delay_text kind found)
+delay_line s p kind sides delay.Silent h = record { line = λ t. absurd (cc (t, h)); none = λ e. refl }
+delay_line s p kind sides (delay.Said found) h = record { line = λ t. (found, h.1, refl); none = λ e. absurd (cc (h.0, e)) }
 
 -- ---- recoveries
 
@@ -67,18 +76,20 @@ module _ (s : Settings) (p : Picture) (board : List ℕ) (is : IsBoardOf (Covere
     upper_is = resolved (CoveredAt s p) s board ok is p.own kind Upper sides.upper h.upper;
   }
 
-  pub moment_text : (alerts : List AircraftAlert) (advice : Advice) (rescues : Rescues) → AreAircraftAlerts s p.own (aircraft_of p) (length (aircraft_of p)) alerts
-      → IsAdvice (HasLevelOn board) s p.own advice → AreRescues s p advice rescues → IsMomentText s p (written s p board alerts advice rescues)
-  unfolding written alerts_text bands_texts advice_text rescues_text
-  moment_text alerts advice rescues w a r = record {
+  pub moment_text : (alerts : List AircraftAlert) (advice : Advice) (delays : Delays) (rescues : Rescues) → AreAircraftAlerts s p.own (aircraft_of p) (length (aircraft_of p)) alerts
+      → IsAdvice (HasLevelOn board) s p.own advice → AreDelays s p advice delays → AreRescues s p advice rescues → IsMomentText s p (written s p board alerts advice delays rescues)
+  unfolding written alerts_text bands_texts advice_text delays_text rescues_text
+  moment_text alerts advice delays rescues w a d r = record {
     alerts = flat_map aircraft_text (zip (aircraft_of p) alerts);
     bands = bands_text s board;
     lower = λ kind. (sides_of advice kind).lower;
     upper = λ kind. (sides_of advice kind).upper;
+    lasts = λ kind. delay_text kind (delay_of delays kind);
     recoveries = λ kind. rescue_text kind (rescue_of rescues kind);
     alerts_are = alert_lines_are s p (aircraft_of p) alerts w.many w.each;
     bands_are = band_lines;
     resolutions_are = resolutions;
+    lasts_are = lasts;
     recoveries_are = recoveries;
     text_is = refl;
   }
@@ -89,6 +100,12 @@ module _ (s : Settings) (p : Picture) (board : List ℕ) (is : IsBoardOf (Covere
       resolutions Climb = resolutions_are Climb advice.climb a.climb
       resolutions Height = resolutions_are Height advice.height a.height
 
+      lasts : (kind : Kind) → IsLastText s p kind (sides_of advice kind).lower (delay_text kind (delay_of delays kind))
+      lasts Track = delay_line s p Track advice.track delays.track d.track
+      lasts Speed = delay_line s p Speed advice.speed delays.speed d.speed
+      lasts Climb = delay_line s p Climb advice.climb delays.climb d.climb
+      lasts Height = delay_line s p Height advice.height delays.height d.height
+
       recoveries : (kind : Kind) → IsRecoveryText s p kind (sides_of advice kind).lower (sides_of advice kind).upper (rescue_text kind (rescue_of rescues kind))
       recoveries Track = rescue_line s p Track advice.track rescues.track r.track
       recoveries Speed = rescue_line s p Speed advice.speed rescues.speed r.speed
@@ -97,15 +114,15 @@ module _ (s : Settings) (p : Picture) (board : List ℕ) (is : IsBoardOf (Covere
 
 -- ---- what was said is the moment's text, by whatever names it was found
 
-module _ {E : Type 0} (s : Settings) (p : Picture) (board : List ℕ) (alerts : List AircraftAlert) (advice : Advice) (rescues : Rescues) (a b : Option (List ℕ)) (x y : ℕ)
+module _ {E : Type 0} (s : Settings) (p : Picture) (board : List ℕ) (alerts : List AircraftAlert) (advice : Advice) (delays : Delays) (rescues : Rescues) (a b : Option (List ℕ)) (x y : ℕ)
     (r : Result (Unit {0}) E) (is : IsBoardOf (CoveredAt s p) s board) where
   abbrev Reported : Settings → List ℕ → List AircraftAlert → Type 0
   Reported s' board' slice =
-      IsAccepted s' → AreAircraftAlerts s' p.own (aircraft_of p) (length (aircraft_of p)) alerts → IsAdvice (HasLevelOn board') s' p.own advice → AreRescues s' p advice rescues
-      → Says {E = E} a b x y (written s' p board' slice advice rescues) r → SaysSome {E = E} (IsMomentText s p) a b x y r
+      IsAccepted s' → AreAircraftAlerts s' p.own (aircraft_of p) (length (aircraft_of p)) alerts → IsAdvice (HasLevelOn board') s' p.own advice → AreDelays s' p advice delays → AreRescues s' p advice rescues
+      → Says {E = E} a b x y (written s' p board' slice advice delays rescues) r → SaysSome {E = E} (IsMomentText s p) a b x y r
 
   known : Reported s board alerts
-  known ok w a q said = (written s p board alerts advice rescues, moment_text s p board is ok alerts advice rescues w a q, said)
+  known ok w a d q said = (written s p board alerts advice delays rescues, moment_text s p board is ok alerts advice delays rescues w a d q, said)
 
   pub reported : (s' : Settings) (board' : List ℕ) (slice : List AircraftAlert) → s' ≡ s → board' ≡ board → slice ≡ alerts → Reported s' board' slice
   reported s' board' slice e f h =

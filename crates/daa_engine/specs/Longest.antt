@@ -5,8 +5,9 @@ use Rattle.std.specs.Prelude.{ℕ, ◌+◌, ◌*◌}
 abbrev pub longest_line : ℕ
 longest_line = 64
 
--- the first line, two of each of 64 aircraft, one of each of 1896 values, since a kind has no more bands than values, two of each of
--- four kinds, its answers and its recovery, and the last line
+-- lines of the greatest length that have room for any text: the first line, two of each of 64 aircraft, one of each of 1896 values, since a kind has no more bands than values, two of each of
+-- four kinds, its answers and its recovery, and the last line; the lines of last times fit into what the
+-- first line, the last one and those of the answers leave of theirs
 abbrev pub most_lines : ℕ
 most_lines = 1 + 2 * 64 + 1896 + 2 * 4 + 1
 

@@ -7,6 +7,7 @@ ghost use Rattle.daa_bands.specs.KindBands.{AreKindBands};
 ghost use Rattle.daa_config.specs.Candidates.{candidates_of};
 ghost use Rattle.daa_fixed.specs.Mask.{IsGreatestLevel};
 ghost use Rattle.daa_legs.specs.Alerts.{IsNowLevel};
+ghost use Rattle.daa_last.specs.Last.{IsLastTime};
 ghost use Rattle.daa_recovery.specs.Recovery.{IsRecovery};
 ghost use Rattle.daa_report.specs.Lines.{Text};
 ghost use Rattle.daa_report.specs.Says.{SaysSome};
@@ -20,6 +21,7 @@ ghost use Rattle.daa_engine.specs.MomentText.{IsMomentText};
 
 use crate::advice::advise;
 use crate::alerts::find_alerts;
+use crate::delay::find_delays;
 use crate::engine::{Engine, time_of};
 use crate::filling::fill;
 use crate::rescue::find_rescues;
@@ -27,6 +29,7 @@ use crate::say::say;
 use daa_alert::now_level;
 use daa_bands::{Board, Runs, runs};
 use daa_config::{Config, Kind, Resolution};
+use daa_last::last_of;
 use daa_legs::{Branch, Trunk};
 use daa_outside::Sink;
 use daa_recovery::{Recovery, least};
@@ -79,8 +82,11 @@ pub fn say_moment<K: Sink>(
     let _time = time_of(picture);
     let alerts = find_alerts(config, picture);
     let advice = advise(board, config, &picture.own);
+    let delays = find_delays(config, picture, &advice);
     let rescues = find_rescues(config, picture, &advice);
-    say(sink, config, picture, board, &alerts, &advice, &rescues)
+    say(
+        sink, config, picture, board, &alerts, &advice, &delays, &rescues,
+    )
 }
 
 /// Decides a moment as `decide_in` does, on the same room, and writes its lines to the sink. There
@@ -176,8 +182,8 @@ impl Engine {
         self.board.shown(index)
     }
 
-    /// The bands of a kind in the latest moment, in the rising order of the values, those of level
-    /// 0 too.
+    /// The bands of a kind in the latest moment, in the rising order of the values, also the bands
+    /// of level 0.
     pub fn bands(&self, kind: Kind) -> Runs<'_>
         ensures { AreKindBands
             (HasLevelOn self.now.board) mask_levels self.now.settings kind result }
@@ -192,6 +198,18 @@ impl Engine {
             (HasLevelOn self.now.board) self.now.settings own.now kind side result }
     {
         nearest(&self.board, &self.config, own, kind, side)
+    }
+
+    /// The last time of a kind in a moment: the greatest number of seconds, at most 179 and below
+    /// the greatest lookahead of the levels from `resolve` up, for which the present flight may be
+    /// kept such that some candidate of the kind that begins then is open; or `None` where there is
+    /// none. It is answered whether or not the configuration asks for its line, or the present
+    /// flight is open.
+    pub fn last_time(&self, picture: &Picture, kind: Kind) -> Option<u32>
+        requires { IsPictureInRange picture.now }
+        ensures { IsLastTime self.now.settings picture.now kind result }
+    {
+        last_of(&self.config, picture, kind)
     }
 
     /// The recovery of a kind in a moment: the least second, from 1 to 179, from which on some

@@ -1,6 +1,6 @@
 //! Laws of the definitions, each the contract of a function that does nothing.
 
-ghost use Rattle.std.specs.Prelude.{◌≡◌, ◌<◌, ◌≤◌, ◌^◌, ◌↔◌, ℕ, List, length, None};
+ghost use Rattle.std.specs.Prelude.{◌≡◌, ◌<◌, ◌≤◌, ◌^◌, ◌↔◌, ℕ, List, length, false, None};
 ghost use Rattle.daa_bands.specs.Board.{HasLevelOn, IsBoardOf, mask_levels};
 ghost use Rattle.daa_bands.specs.KindBands.{AreKindBands};
 ghost use Rattle.daa_bands.specs.declared.band.Band.{Band};
@@ -18,7 +18,7 @@ ghost use Rattle.daa_resolve.specs.declared.side.Side.{Side};
 ghost use Rattle.daa_engine.specs.Covered.{CoveredAt};
 ghost use Rattle.daa_engine.specs.Longest.{longest_moment};
 ghost use Rattle.daa_engine.specs.MomentText.{IsMomentText};
-ghost use Rattle.daa_engine.specs.PlainText.{IsPlainText};
+ghost use Rattle.daa_engine.specs.PlainText.{IsPlainText, IsTextWithoutLastTimes};
 
 /// Under a configuration that is accepted exactly one text is that of a picture in range. This
 /// holds of the definitions alone, whatever a program does: no memory or sink is in it.
@@ -67,15 +67,25 @@ pub fn boards_show_what_is_covered()
         → IsGreatestLevel (CoveredAt settings picture index) (length settings.levels) level }
 {}
 
-/// Under a configuration without a table of recovery the text is that of the lines that there are
-/// without recoveries.
+/// Where a configuration asks neither for last times nor for a recovery, the text is the plain one,
+/// `IsPlainText`, which has no word of either.
 pub fn texts_without_a_recovery_are_as_before()
-    ensures { (settings : Settings) (picture : Picture) (text : Text) → settings.recovery ≡ None
+    ensures { (settings : Settings) (picture : Picture) (text : Text)
+        → settings.last_times ≡ false → settings.recovery ≡ None
         → IsMomentText settings picture text ↔ IsPlainText settings picture text }
 {}
 
-/// The text of a picture in range, whose time is a `u32`, has at most 130176 bytes: at most 64 for
-/// each of its lines. So a sheet of one byte more is never full.
+/// Where a configuration asks for no last times, the text is that of `IsTextWithoutLastTimes`, which
+/// has no word of them.
+pub fn texts_without_last_times_are_as_before()
+    ensures { (settings : Settings) (picture : Picture) (text : Text)
+        → settings.last_times ≡ false
+        → IsMomentText settings picture text ↔ IsTextWithoutLastTimes settings picture text }
+{}
+
+/// The text of a picture in range, whose time is a `u32`, has at most 130176 bytes: 64 for each of
+/// 2034 lines. It can have four lines more, those of last times, which fit into what shorter lines
+/// leave. So a sheet of one byte more is never full.
 pub fn texts_are_short()
     ensures { (settings : Settings) (picture : Picture) (text : Text) → IsAccepted settings
         → IsPictureInRange picture

@@ -7,6 +7,7 @@ mod advice;
 mod alerts;
 mod alone;
 mod beside;
+mod delay;
 mod engine;
 mod filling;
 mod laws;
@@ -22,8 +23,6 @@ pub use engine::Engine;
 pub use laws::{
     boards_show_what_is_covered, every_picture_has_one_text, has_one_board, has_one_text,
     texts_are_short, texts_without_a_recovery_are_as_before,
+    texts_without_last_times_are_as_before,
 };
 pub use room::Room;
-
-#[cfg(test)]
-mod tests;

@@ -6,10 +6,11 @@ ghost use Rattle.daa_report.specs.Says.{Says};
 ghost use Rattle.daa_report.specs.Page.{PageSays};
 ghost use Rattle.daa_report.specs.Lines.{moment_line, now_line, alert_line, done_line};
 ghost use Rattle.daa_engine.specs.MomentText.{line_of};
-ghost use Rattle.daa_engine.specs.Inside.Written.{aircraft_text, alerts_text, bands_text, bands_texts, sides_text, advice_text, rescue_text, rescues_text, written};
+ghost use Rattle.daa_engine.specs.Inside.Written.{aircraft_text, alerts_text, bands_text, bands_texts, sides_text, advice_text, delay_text, delays_text, rescue_text, rescues_text, written};
 
 use crate::advice::{Advice, Sides};
 use crate::alerts::AircraftAlert;
+use crate::delay::{Delay, Delays};
 use crate::rescue::{Rescue, Rescues};
 use daa_bands::{Band, Board, runs};
 use daa_config::{Config, Kind};
@@ -146,6 +147,33 @@ fn say_advice<K: Sink>(page: &mut Page, sink: &mut K, advice: &Advice) -> Result
     say_sides(page, sink, Kind::Height, &advice.height)
 }
 
+/// Says the line of the last time of a kind, where it has one.
+fn say_delay<K: Sink>(
+    page: &mut Page,
+    sink: &mut K,
+    kind: Kind,
+    delay: &Delay,
+) -> Result<(), SinkFault>
+    ensures { PageSays (K.taken sink.old) (K.taken sink.new) page.old page.new (K.faults sink.old)
+        (K.faults sink.new) (delay_text kind delay.now) result }
+{
+    match *delay {
+        Delay::Silent => Ok(()),
+        Delay::Said(found) => page.say(sink, &Line::last(kind, found)),
+    }
+}
+
+/// Says the lines of the last times of all kinds that have one.
+fn say_delays<K: Sink>(page: &mut Page, sink: &mut K, delays: &Delays) -> Result<(), SinkFault>
+    ensures { PageSays (K.taken sink.old) (K.taken sink.new) page.old page.new (K.faults sink.old)
+        (K.faults sink.new) (delays_text delays.now) result }
+{
+    say_delay(page, sink, Kind::Track, &delays.track)?;
+    say_delay(page, sink, Kind::Speed, &delays.speed)?;
+    say_delay(page, sink, Kind::Climb, &delays.climb)?;
+    say_delay(page, sink, Kind::Height, &delays.height)
+}
+
 /// Says the line of the recovery of a kind, where it has one.
 fn say_rescue<K: Sink>(
     page: &mut Page,
@@ -203,7 +231,8 @@ fn say_traffic<K: Sink>(
     say_alerts(page, sink, picture.traffic.as_slice(), alerts)
 }
 
-/// Says the lines of a moment; those of the aircraft are written before the others are said.
+/// Says the lines of a moment. The lines of the aircraft are written before the other lines are
+/// said.
 fn say_parts<K: Sink>(
     page: &mut Page,
     sink: &mut K,
@@ -212,18 +241,20 @@ fn say_parts<K: Sink>(
     board: &Board,
     alerts: &[AircraftAlert],
     advice: &Advice,
+    delays: &Delays,
     rescues: &Rescues,
 ) -> Result<(), SinkFault>
     requires { length alerts.now ≡ length (aircraft_of picture.now) }
     ensures { PageSays (K.taken sink.old) (K.taken sink.new) page.old page.new (K.faults sink.old)
         (K.faults sink.new) (written config.now picture.now board.now alerts.now advice.now
-        rescues.now) result }
+        delays.now rescues.now) result }
 {
     say_head(page, sink, picture)?;
     say_traffic(page, sink, picture, alerts)?;
     page.flush(sink)?;
     say_all_bands(page, sink, board, config)?;
     say_advice(page, sink, advice)?;
+    say_delays(page, sink, delays)?;
     say_rescues(page, sink, rescues)?;
     say_foot(page, sink, picture)
 }
@@ -236,15 +267,17 @@ pub(crate) fn say<K: Sink>(
     board: &Board,
     alerts: &[AircraftAlert],
     advice: &Advice,
+    delays: &Delays,
     rescues: &Rescues,
 ) -> Result<(), SinkFault>
     requires { length alerts.now ≡ length (aircraft_of picture.now) }
     ensures { Says (K.taken sink.old) (K.taken sink.new) (K.faults sink.old) (K.faults sink.new)
-        (written config.now picture.now board.now alerts.now advice.now rescues.now) result }
+        (written config.now picture.now board.now alerts.now advice.now delays.now rescues.now)
+        result }
 {
     let mut page = Page::new();
     say_parts(
-        &mut page, sink, config, picture, board, alerts, advice, rescues,
+        &mut page, sink, config, picture, board, alerts, advice, delays, rescues,
     )?;
     page.flush(sink)
 }

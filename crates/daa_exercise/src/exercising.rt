@@ -132,7 +132,7 @@ fn exercise_one<R: Threads + Sync, G: Gate>(
     counts.add(engine.config(), &picture, engine.board());
 }
 
-/// Goes on from a time, with one moment or several. Returns the time of the next.
+/// Decides and counts one moment or several, from a time on. Returns the time of the next moment.
 fn exercise_some<R: Threads + Sync, G: Gate>(
     engine: &mut Engine,
     rt: &R,

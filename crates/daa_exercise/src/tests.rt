@@ -28,7 +28,7 @@ alt 1919 0 0 101
 done
 ";
 
-/// The same, a hundred moments.
+/// Three levels, a hundred moments.
 const HUNDRED: &str = "exercise 7 100
 aircraft 396
 alert 386 1 1 8

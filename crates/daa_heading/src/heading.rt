@@ -28,7 +28,8 @@ pub fn velocity(gs: i32, deg: i32) -> Flat
     velocity_from_unit(gs, sine, cosine)
 }
 
-/// The same along the track of this sine and cosine, times 10000, as `unit` has them.
+/// The velocity at a ground speed along the track of this sine and cosine, which are times 10000,
+/// as `unit` has them.
 #[inline(always)]
 pub fn velocity_from_unit(gs: i32, sine: i32, cosine: i32) -> Flat
     requires gs { IsFrom (pos 0) (pos 10000) gs }

@@ -3,9 +3,9 @@
 /// What is found of the bytes that a source hands out, compared with a report.
 #[derive(Clone, Copy, Debug, PartialEq, Eq)]
 pub enum Found {
-    /// They are the report, as far as it was compared.
+    /// The bytes are the report, as far as it was compared.
     Alike,
-    /// They are not the report, and the line of this number, from 1 on, is the first that differs.
+    /// The bytes are not the report; the line of this number, from 1 on, is the first that differs.
     Differs(u64),
     /// The source failed.
     Fault,

@@ -11,7 +11,7 @@ use Rattle.daa_fixed.specs.Leg.{sum_below}
 use Rattle.daa_fixed.specs.Time.{HoldsSometime}
 use Rattle.daa_taumod.specs.declared.Volume.{Volume}
 use Rattle.daa_taumod.specs.declared.Model.{Model}
-use Rattle.daa_taumod.specs.declared.Model.TheVariants.{Taumod, Tcpa}
+use Rattle.daa_taumod.specs.declared.Model.TheVariants.{Tau, Tcpa, Taumod, Tep}
 use Rattle.daa_taumod.specs.Volume.{place_at, height_at, IsSoon, ViolatesHorizontally, ViolatesVertically, Violates}
 use Rattle.daa_config.specs.declared.candidate.Candidate.{Candidate}
 use Rattle.daa_config.specs.declared.candidate.Candidate.TheVariants.{Hold, Track, Speed, Climb, Height}
@@ -84,8 +84,10 @@ module _ (leg : Leg) (volume : Volume) (n d : ℤ) (d1 : pos 1 ≤ℤ d) where
   heights_kept (inr x) = inr (record { nearing = x.nearing; soon = x.soon })
 
   soon_kept : (w : Model) → IsSoon w leg volume n d → IsSoon w (in_plane leg) volume n d
-  soon_kept Taumod s = s
+  soon_kept Tau s = s
   soon_kept Tcpa s = s
+  soon_kept Taumod s = s
+  soon_kept Tep s = s
 
   way_kept : ViolatesHorizontally leg volume n d → ViolatesHorizontally (in_plane leg) volume n d
   way_kept (inl x) = inl x

@@ -11,7 +11,7 @@ use Rattle.daa_fixed.specs.Leg.{plus, times}
 use Rattle.daa_fixed.specs.Time.{IsTime, HoldsSometime}
 use Rattle.daa_taumod.specs.declared.Volume.{Volume}
 use Rattle.daa_taumod.specs.declared.Model.{Model}
-use Rattle.daa_taumod.specs.declared.Model.TheVariants.{Taumod, Tcpa}
+use Rattle.daa_taumod.specs.declared.Model.TheVariants.{Tau, Tcpa, Taumod, Tep}
 use Rattle.daa_taumod.specs.Volume.{place_at, height_at, IsSoon, ViolatesHorizontally, ViolatesVertically, Violates}
 use Rattle.daa_config.specs.declared.config.Rates.{Rates}
 use Rattle.daa_config.specs.declared.candidate.Candidate.{Candidate}
@@ -26,6 +26,18 @@ use Rattle.daa_legs.specs.Meeting.{relative_leg, ViolatesOn}
 use Rattle.daa_legs.specs.Runs.{first_leg_of, IsRunOf, MeetsBetween}
 use Rattle.daa_legs.proofs.Places.{place-next}
 
+-- ---- flown straight on
+-- from a place, at a velocity, for so long
+abbrev pub flown_on : Flat → Flat → ℤ → Flat
+flown_on s u t = record { east = s.east +ℤ t *ℤ u.east; north = s.north +ℤ t *ℤ u.north }
+
+pub place_later : (leg : Leg) (n t d : ℤ) → place_at leg (n +ℤ t) d ≡ flown_on (place_at leg n d) leg.velocity.flat t
+place_later leg n t d = λ i. record { east = along leg.place.flat.east leg.velocity.flat.east i; north = along leg.place.flat.north leg.velocity.flat.north i }
+  where
+    along : (x v : ℤ) → d *ℤ x +ℤ (n +ℤ t) *ℤ v ≡ (d *ℤ x +ℤ n *ℤ v) +ℤ t *ℤ v
+    along x v = let X = # 0 in let V = # 1 in let N = # 2 in let T = # 3 in let D = # 4 in
+        ring (x ∷ v ∷ n ∷ t ∷ d ∷ []) (D ⊗ X ⊕ (N ⊕ T) ⊗ V) ((D ⊗ X ⊕ N ⊗ V) ⊕ T ⊗ V) tt
+
 -- ---- the volume depends on the place and the velocity alone
 module _ (l m : Leg) (volume : Volume) (n o d : ℤ) (p : place_at l n d ≡ place_at m o d) (h : height_at l n d ≡ height_at m o d) (v : l.velocity ≡ m.velocity) where
   carry : (P : Flat → Flat → Type 0) → P (place_at l n d) l.velocity.flat → P (place_at m o d) m.velocity.flat
@@ -34,9 +46,18 @@ module _ (l m : Leg) (volume : Volume) (n o d : ℤ) (p : place_at l n d ≡ pla
   carry_up : (P : ℤ → ℤ → Type 0) → P (height_at l n d) l.velocity.up → P (height_at m o d) m.velocity.up
   carry_up P x = subst (λ (w : ℤ). P (height_at m o d) w) (ap (λ (w : Solid). w.up) v) (subst (λ (w : ℤ). P w l.velocity.up) h x)
 
+  -- so much later
+  carry_on : (t : ℤ) (P : Flat → Flat → Type 0) → P (place_at l (n +ℤ t) d) l.velocity.flat → P (place_at m (o +ℤ t) d) m.velocity.flat
+  carry_on t P x =
+      subst (λ (w : Flat). P w m.velocity.flat) (sym (place_later m o t d))
+      (carry (λ (s u : Flat). P (flown_on s u t) u) (subst (λ (w : Flat). P w l.velocity.flat) (place_later l n t d) x))
+
   soon_moved : (w : Model) → IsSoon w l volume n d → IsSoon w m volume o d
+  soon_moved Tau s = carry (λ (s u : Flat). (dot_of s s +ℤ pos volume.tthr *ℤ d *ℤ dot_of s u) ≤ℤ pos 0) s
   soon_moved Taumod s = carry (λ (s u : Flat). (dot_of s s +ℤ pos volume.tthr *ℤ d *ℤ dot_of s u) ≤ℤ square_of (pos volume.dthr *ℤ d)) s
   soon_moved Tcpa s = carry (λ (s u : Flat). neg_ℤ (dot_of s u) ≤ℤ (pos volume.tthr *ℤ d *ℤ dot_of u u)) s
+  soon_moved Tep (inl s) = inl (carry_on (pos volume.tthr *ℤ d) (λ (s u : Flat). pos 0 ≤ℤ dot_of s u) s)
+  soon_moved Tep (inr s) = inr (carry_on (pos volume.tthr *ℤ d) (λ (s u : Flat). dot_of s s ≤ℤ square_of (pos volume.dthr *ℤ d)) s)
 
   flat_moved : ViolatesHorizontally l volume n d → ViolatesHorizontally m volume o d
   flat_moved (inl x) = inl (carry (λ (s u : Flat). dot_of s s ≤ℤ square_of (pos volume.dthr *ℤ d)) x)

@@ -80,8 +80,9 @@ pub fn branch_of(own: &Own, rates: &Rates, candidate: Candidate) -> Branch
     branch_from(own, rates, candidate, &velocity(own.gs, own.trk), 0)
 }
 
-/// The same, where the present way over ground of a second is known, and how many 2^32nds of a
-/// second a unit of the candidate's kind takes, which saves a division where it is right.
+/// The branch of a candidate, for a caller that knows the present way over ground of a second and
+/// guesses how many 2^32nds of a second a unit of the candidate's kind takes: the branch is right
+/// with any guess, and a right guess saves a division.
 #[inline(always)]
 pub fn branch_from(
     own: &Own,
@@ -329,7 +330,7 @@ fn fits(way: u32, rate: u32, legs: u32) -> bool
     flown <= u64::from(way) && u64::from(way) <= flown + u64::from(rate)
 }
 
-/// The same by a division.
+/// How many whole seconds at a rate fit into a way, by a division.
 #[inline(never)]
 fn divided(way: u32, rate: u32) -> u32
     requires way { way ≤ 7200000 }

@@ -95,7 +95,7 @@ impl Flight {
     }
 
     /// The next seconds that all have the first one's velocity: as many as there are, up to `most`.
-    /// They count as taken.
+    /// The legs of a run count as taken.
     pub fn next_run(&mut self, most: u32) -> OwnRun
         requires some { 1 ≤ most }
         requires left { self.old.taken + most ≤ 180 }

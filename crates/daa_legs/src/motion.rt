@@ -33,7 +33,8 @@ pub(crate) fn velocity_at(own: &Own, rates: &Rates, candidate: Candidate, k: u32
     }
 }
 
-/// The same of a candidate that keeps the present track, whose sine and cosine are known.
+/// The velocity on leg `k` of a candidate that keeps the present track, whose sine and cosine are
+/// known.
 #[inline(always)]
 pub(crate) fn velocity_on_track(
     own: &Own,
@@ -58,7 +59,7 @@ pub(crate) fn velocity_on_track(
     }
 }
 
-/// The same, where the present way over ground of a second is known.
+/// The velocity on leg `k`, where the present way over ground of a second is known.
 #[inline(always)]
 pub(crate) fn velocity_from(
     own: &Own,

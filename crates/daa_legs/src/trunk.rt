@@ -76,7 +76,7 @@ impl Trunk {
         }
     }
 
-    /// The same.
+    /// Keeps the first legs of the flight of one kind of candidate, a copy of this loop for each.
     #[inline(always)]
     fn keep_legs(&mut self, own: &Own, config: &Config, candidate: Candidate, most: u32)
         requires own { IsOwnInRange own.now }
@@ -85,14 +85,16 @@ impl Trunk {
         ensures { AreLegsOf own.now (rates_of config.now) candidate most self.new }
     {
         let rates = config.rates();
+        // a copy, which no write of a leg can change, so that what is found of it alone is found once
+        let own = *own;
         let track = unit(own.trk);
         let present = velocity(own.gs, own.trk);
-        let branch = branch_from(own, &rates, candidate, &present, 0);
+        let branch = branch_from(&own, &rates, candidate, &present, 0);
         // the place is a local, since a read of what was just written in halves is slow
-        let mut flight = Flight::begin(own, config, candidate);
+        let mut flight = Flight::begin(&own, config, candidate);
         let mut place = flight.next_leg().place;
         for k in 0..most {
-            let velocity = velocity_by(own, &rates, candidate, k, track, &present, &branch);
+            let velocity = velocity_by(&own, &rates, candidate, k, track, &present, &branch);
             self.legs[k as usize] = OwnLeg { place, velocity };
             place = sum(&place, &velocity);
         }

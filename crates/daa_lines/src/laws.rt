@@ -19,8 +19,8 @@ pub fn stretches_are_the_bytes()
         → stretches_of (join_with_byte line_feed (first ∷ others)) ≡ first ∷ others }
 {}
 
-/// The lines of a longer input begin with those of a shorter one, and those at its end with those
-/// before. A long line may yet grow, so it is compared by its first 256 bytes.
+/// The lines of an input stay the first lines if the input goes on, and also if it ends. A long
+/// line may yet grow, so it is compared by its first 256 bytes.
 pub fn lines_only_grow()
     ensures longer { (bytes more : Bytes) → (lines : List Bytes)
         × (shown (lines_of (bytes ++ more) false) ≡ shown (lines_of bytes false) ++ lines) }

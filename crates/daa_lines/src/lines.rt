@@ -14,20 +14,20 @@ ghost use Rattle.daa_lines.specs.Inside.Pushing.{after_byte, is_last};
 use arrayvec::ArrayVec;
 use std::marker::Model;
 
-/// What the line in hand is.
+/// How far the line in hand is.
 #[derive(Clone, Copy, Debug, PartialEq, Eq)]
 pub enum Stage {
-    /// It is still being read, and has fewer than 256 bytes.
+    /// The line is still being read, and has fewer than 256 bytes.
     Open,
-    /// It ended with fewer than 256 bytes, and is not taken yet.
+    /// The line ended with fewer than 256 bytes, and is not taken yet.
     Whole,
-    /// 256 bytes of it came with no line feed, and it is not taken yet.
+    /// 256 bytes of the line came with no line feed, and it is not taken yet.
     Long,
-    /// It was long and is taken; what is left of it is passed over.
+    /// The line was long and is taken; the rest of its bytes is passed over.
     Skipping,
 }
 
-/// What `take_line` gives.
+/// What [`Lines::take_line`] hands out: a line, that it is too long, or that none is ready.
 #[derive(Clone, Copy, Debug)]
 pub enum Line<'a> {
     /// A line of at most 255 bytes, without its line feed. A carriage return at its end is kept.
@@ -91,7 +91,7 @@ impl Lines {
         }
     }
 
-    /// Takes one byte, and answers whether no other may be taken for now.
+    /// Takes one byte. True when a line is ready or a line feed was taken: then `feed` stops.
     #[tactic(auto, unfolding(crate::specs::Inside::Pushing::after_byte))]
     fn push(&mut self, byte: u8) -> bool
         requires free { is_standing self.old.stage ≡ false }

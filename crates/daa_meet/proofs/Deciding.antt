@@ -1,6 +1,6 @@
 -- Whether a leg violates a volume at some time is decided by trying: the vertical part holds on one interval, whose ends are
--- fractions, and within it the time of least distance decides; so some fraction of a bounded denominator does.
-use Rattle.std.proofs.Common.{◌≡◌, ◌↔◌, refl, arith, ℕ, zero, suc, ◌^◌, ◌<◌, ◌≤◌, Bool, true, false, ℤ, pos, negsuc, neg_ℤ, ◌-ℤ◌, ◌*ℤ◌, ◌≤ℤ◌, ◌<ℤ◌, unsigned_abs, Option, None, Some}
+-- fractions, and within it the time of least distance decides, by tau with one more; so some fraction of a bounded denominator does.
+use Rattle.std.proofs.Common.{◌≡◌, ◌↔◌, ◌⊎◌, inl, inr, ⊎_elim, refl, subst, arith, ℕ, zero, suc, ◌^◌, ◌<◌, ◌≤◌, Bool, true, false, ℤ, pos, negsuc, neg_ℤ, ◌+ℤ◌, ◌-ℤ◌, ◌*ℤ◌, ◌≤ℤ◌, ◌<ℤ◌, unsigned_abs, Option, None, Some}
 use Rattle.std.specs.Prelude.{IsTrue, MatchOption}
 use Rattle.std.specs.Int.{int_max, int_min}
 use Rattle.std.proofs.lemmas.Int.{ints, by_lt_z}
@@ -16,23 +16,27 @@ use Rattle.daa_quad.specs.Inside.Slope.{slope_of}
 use Rattle.daa_quad.proofs.Sizes.{IsQuadInRange}
 use Rattle.daa_quad.proofs.Parabolas.{start-least, end-least, vertex-least, vertex-between, vertex-bends, vertex-not_negative}
 use Rattle.daa_taumod.specs.declared.Model.{Model}
-use Rattle.daa_taumod.specs.declared.Model.TheVariants.{Taumod, Tcpa}
+use Rattle.daa_taumod.specs.declared.Model.TheVariants.{Tau, Tcpa, Taumod, Tep}
 use Rattle.daa_taumod.specs.declared.Volume.{Volume}
-use Rattle.daa_taumod.specs.Volume.{IsVolumeInRange, IsSoon, IsClosing, IsCoAltitudeSoon, ViolatesVertically, Violates}
+use Rattle.daa_taumod.specs.Volume.{IsVolumeInRange, IsSoon, IsClosing, IsCoAltitudeSoon, ViolatesHorizontally, ViolatesVertically, Violates}
+use Rattle.daa_taumod.proofs.ClosestApproach.{passes_near-always}
 use Rattle.daa_vwindow.specs.Inside.Band.{IsInBand}
 use Rattle.daa_vwindow.specs.Window.{IsWindow}
 use Rattle.daa_vwindow.proofs.Bands.{IsMax, IsMin, max_is, min_is, ends_are, window, never, level_window, level_never, abs_within, abs_beyond}
 use Rattle.daa_vwindow.proofs.Heights.{retarget, rising, falling, standing}
 use Rattle.daa_detect.specs.Hit.{IsHit}
 use Rattle.daa_detect.proofs.Distance.{HasDistance, distance}
-use Rattle.daa_detect.proofs.NearestTimes.{time_between, vertex_small, none_elsewhere}
+use Rattle.daa_detect.proofs.NearestTimes.{time_between, vertex_small, near_there, violates_there, none_elsewhere}
+use Rattle.daa_detect.proofs.TauTimes.{HasTauQuad, tau_quad, soon_violates, soon_at_least}
 use Rattle.daa_meet.specs.Trials.{is_soon, is_near, passes_near, is_closing, is_near_in_height, is_co_altitude_soon, is_violated, is_violated_at, is_violated_sometime}
 use Rattle.daa_meet.proofs.TrialLemmas.{le_is, lt_is, both_is, either_is, some_is}
 
 -- ---- the volume at n/d
 soon_is : (m : Model) (leg : Leg) (volume : Volume) (n d : ℤ) → IsTrue (is_soon m leg volume n d) ↔ IsSoon m leg volume n d
-soon_is Taumod leg volume n d = le_is _ _
+soon_is Tau leg volume n d = le_is _ _
 soon_is Tcpa leg volume n d = le_is _ _
+soon_is Taumod leg volume n d = le_is _ _
+soon_is Tep leg volume n d = either_is _ (is_near leg volume (n +ℤ pos volume.tthr *ℤ d) d) (le_is _ _) (le_is _ _)
 
 closing_is : (leg : Leg) (volume : Volume) (n d : ℤ) → IsTrue (is_closing leg volume n d) ↔ IsClosing leg volume n d
 closing_is leg volume n d =
@@ -153,18 +157,60 @@ record IsDecided (leg : Leg) (volume : Volume) : Type 0 where
   hit : Option Point
   is : MatchOption hit (HoldsNever leg.secs (Violates leg volume)) (λ p. IsHit leg volume p.num p.den)
 
+-- the times at which the vertical part holds
+abbrev UpWindow : Leg → Volume → Point → Point → Type 0
+UpWindow leg volume p q = IsWindow leg.secs (ViolatesVertically leg volume) p q
+
+abbrev IsClearAt : Leg → Volume → Point → Type 0
+IsClearAt leg volume x = ¬ Violates leg volume x.num x.den
+
+is_tau : (w : Model) → (w ≡ Tau) ⊎ (¬ (w ≡ Tau))
+is_tau Tau = inl refl
+is_tau Tcpa = inr (λ e. absurd (cc e))
+is_tau Taumod = inr (λ e. absurd (cc e))
+is_tau Tep = inr (λ e. absurd (cc e))
+
 decided : (leg : Leg) (volume : Volume) → IsLegInRange leg → IsVolumeInRange volume → IsDecided leg volume
 decided leg volume r v = let w = vertical leg volume r in by_window w.ends w.is
   where
-    by_nearest : (p q : Point) → IsWindow leg.secs (ViolatesVertically leg volume) p q → (d : HasDistance leg volume) → (m : HasLeast d.quad p q) → (b : Bool) → IsTrue b ↔ Violates leg volume m.at.num m.at.den → IsDecided leg volume
-    by_nearest p q w d m true h = record {
-      hit = Some m.at;
-      is = record { time = time_between leg.secs p q m.at.num m.at.den q.positive w.last m.at.not_negative m.between; violates = h.0 refl };
-    }
-    by_nearest p q w d m false h = record {
+    hit_at : (p q : Point) → UpWindow leg volume p q → (x : Point) → IsBetween p q x.num x.den → Violates leg volume x.num x.den → IsDecided leg volume
+    hit_at p q w x b h = record { hit = Some x; is = record { time = time_between leg.secs p q x.num x.den q.positive w.last x.not_negative b; violates = h } }
+
+    in_order : (p q : Point) → UpWindow leg volume p q → (p.num *ℤ q.den) ≤ℤ (q.num *ℤ p.den)
+    in_order p q w = ((w.exact q.num q.den w.last).0 w.holds_last).from
+
+    -- by tau, clear where the distance is least: one more time decides
+    by_tau : (p q : Point) → UpWindow leg volume p q → (d : HasDistance leg volume) → (m : HasLeast d.quad p q) → IsClearAt leg volume m.at → volume.model ≡ Tau
+        → (t : HasTauQuad leg volume) → (o : HasLeast t.quad p q) → (b : Bool) → IsTrue b ↔ Violates leg volume o.at.num o.at.den → IsDecided leg volume
+    by_tau p q w d m clear tau t o true h = hit_at p q w o.at o.between (h.0 refl)
+    by_tau p q w d m clear tau t o false h = record {
       hit = None;
-      is = none_elsewhere leg volume d.quad d.is p q m.at w p.positive q.positive m.at.not_negative m.at.positive m.between m.least (λ x. absurd (cc (h.1 x)));
+      is = none_elsewhere leg volume p q m.at o.at w m.between o.between carry clear (λ x. absurd (cc (h.1 x)));
     }
+      where
+        carry : (n e : ℤ) → IsBetween p q n e → ViolatesHorizontally leg volume n e → ViolatesHorizontally leg volume m.at.num m.at.den ⊎ ViolatesHorizontally leg volume o.at.num o.at.den
+        carry n e b = ⊎_elim
+            (λ near. inl (inl (near_there leg volume d.quad d.is p q m.at p.positive q.positive m.at.positive m.between m.least n e b near)))
+            (λ c. inr (soon_violates leg volume tau o.at.num o.at.den o.at.positive
+            ((passes_near-always leg volume o.at.num o.at.den o.at.positive).0 ((passes_near-always leg volume n e b.fraction).1 c.near))
+            (soon_at_least leg volume t.quad t.is p q o.at.num o.at.den o.least n e b (subst (λ (w : Model). IsSoon w leg volume n e) tau c.soon))))
+
+    by_nearest : (p q : Point) → UpWindow leg volume p q → (d : HasDistance leg volume) → (m : HasLeast d.quad p q) → (b : Bool) → IsTrue b ↔ Violates leg volume m.at.num m.at.den → IsDecided leg volume
+    by_nearest p q w d m true h = hit_at p q w m.at m.between (h.0 refl)
+    by_nearest p q w d m false h =
+        let clear : IsClearAt leg volume m.at = λ x. absurd (cc (h.1 x)) in
+        ⊎_elim
+        (λ tau.
+        let t = tau_quad leg volume r v in
+        let o = least_between leg.secs t.quad p q r.short w.last (in_order p q w) in
+        by_tau p q w d m clear tau t o _ (violated_is leg volume o.at.num o.at.den))
+        (λ other. record {
+          hit = None;
+          is = none_elsewhere leg volume p q m.at m.at w m.between m.between
+              (λ n e b x. inl (violates_there leg volume d.quad d.is p q m.at p.positive q.positive m.at.positive m.between m.least n e b other x))
+              clear clear;
+        })
+        (is_tau volume.model)
 
     by_window : (ends : Option (Point × Point)) → MatchOption ends (HoldsNever leg.secs (ViolatesVertically leg volume)) (λ (p, q). IsWindow leg.secs (ViolatesVertically leg volume) p q) → IsDecided leg volume
     by_window None h = record { hit = None; is = λ n d t x. h n d t x.vertical }
@@ -172,7 +218,7 @@ decided leg volume r v = let w = vertical leg volume r in by_window w.ends w.is
         let p : Point = e.0 in
         let q : Point = e.1 in
         let d = distance leg volume r v in
-        let m = least_between leg.secs d.quad p q r.short w.last (((w.exact q.num q.den w.last).0 w.holds_last).from) in
+        let m = least_between leg.secs d.quad p q r.short w.last (in_order p q w) in
         by_nearest p q w d m _ (violated_is leg volume m.at.num m.at.den)
 
 module _ (leg : Leg) (volume : Volume) where

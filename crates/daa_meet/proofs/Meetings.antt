@@ -1,5 +1,5 @@
 -- What a candidate's flight meets, decided by trying.
-use Rattle.std.proofs.Common.{◌↔◌, inl, inr, arith, ℕ, ◌<◌, ◌≤◌, ⊎_elim}
+use Rattle.std.proofs.Common.{◌↔◌, inr, arith, ℕ, ◌<◌, ◌≤◌, ⊎_elim}
 use Rattle.std.specs.Prelude.{IsTrue}
 use Rattle.std.proofs.lemmas.Bool.{cases_lt}
 use Rattle.daa_fixed.specs.Leg.{IsLegInRange}

@@ -4,7 +4,7 @@ use Rattle.std.specs.Prelude.{ℕ, zero, suc, ◌^◌, ℤ, pos, ◌+ℤ◌, ◌
 use Rattle.daa_fixed.specs.declared.Leg.{Leg}
 use Rattle.daa_fixed.specs.Flat.{dot_of, cross_of, square_of}
 use Rattle.daa_taumod.specs.declared.Model.{Model}
-use Rattle.daa_taumod.specs.declared.Model.TheVariants.{Taumod, Tcpa}
+use Rattle.daa_taumod.specs.declared.Model.TheVariants.{Tau, Tcpa, Taumod, Tep}
 use Rattle.daa_taumod.specs.declared.Volume.{Volume}
 use Rattle.daa_taumod.specs.Volume.{place_at, height_at}
 use Rattle.daa_config.specs.declared.candidate.Candidate.{Candidate}
@@ -15,16 +15,20 @@ use Rattle.daa_legs.specs.Meeting.{relative_leg}
 
 -- ---- the volume at n/d
 
--- modified tau, or the time to the closest approach, is at most tthr
-abbrev pub is_soon : Model → Leg → Volume → ℤ → ℤ → Bool
-is_soon Taumod leg volume n d =
-    int_le (dot_of (place_at leg n d) (place_at leg n d) +ℤ pos volume.tthr *ℤ d *ℤ dot_of (place_at leg n d) leg.velocity.flat) (square_of (pos volume.dthr *ℤ d))
-is_soon Tcpa leg volume n d =
-    int_le (neg_ℤ (dot_of (place_at leg n d) leg.velocity.flat)) (pos volume.tthr *ℤ d *ℤ dot_of leg.velocity.flat leg.velocity.flat)
-
 -- the horizontal distance is at most dthr
 abbrev pub is_near : Leg → Volume → ℤ → ℤ → Bool
 is_near leg volume n d = int_le (dot_of (place_at leg n d) (place_at leg n d)) (square_of (pos volume.dthr *ℤ d))
+
+-- tau, the time to the closest approach, modified tau or the time until the distance is dthr is at most tthr
+abbrev pub is_soon : Model → Leg → Volume → ℤ → ℤ → Bool
+is_soon Tau leg volume n d =
+    int_le (dot_of (place_at leg n d) (place_at leg n d) +ℤ pos volume.tthr *ℤ d *ℤ dot_of (place_at leg n d) leg.velocity.flat) (pos 0)
+is_soon Tcpa leg volume n d =
+    int_le (neg_ℤ (dot_of (place_at leg n d) leg.velocity.flat)) (pos volume.tthr *ℤ d *ℤ dot_of leg.velocity.flat leg.velocity.flat)
+is_soon Taumod leg volume n d =
+    int_le (dot_of (place_at leg n d) (place_at leg n d) +ℤ pos volume.tthr *ℤ d *ℤ dot_of (place_at leg n d) leg.velocity.flat) (square_of (pos volume.dthr *ℤ d))
+is_soon Tep leg volume n d =
+    int_le (pos 0) (dot_of (place_at leg (n +ℤ pos volume.tthr *ℤ d) d) leg.velocity.flat) || is_near leg volume (n +ℤ pos volume.tthr *ℤ d) d
 
 -- the horizontal distance at the closest approach is at most dthr
 abbrev pub passes_near : Leg → Volume → ℤ → ℤ → Bool

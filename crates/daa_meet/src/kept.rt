@@ -1,5 +1,5 @@
-//! The same walk along a flight whose legs are kept: a flight that is tested more than once is
-//! flown once. From where the flight is straight the rest is tested as one leg.
+//! Whether a flight whose legs are kept violates a volume between two seconds: a flight that is
+//! tested more than once is flown once. From where the flight is straight the rest is one leg.
 
 ghost use Rattle.std.specs.Prelude.{◌≡◌, ◌≤◌, ◌<◌, ◌↔◌, IsTrue};
 ghost use Rattle.daa_taumod.specs.Volume.{IsVolumeInRange};

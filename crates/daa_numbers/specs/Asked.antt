@@ -1,5 +1,5 @@
 -- What calls fill in if they return 0, under the configuration of the numbers, which is accepted.
-use Rattle.std.specs.Prelude.{◌≡◌, ◌<◌, ◌≤◌, ℕ, ℤ, List, length, map, take, slice_get, Option, Some, None, Ok}
+use Rattle.std.specs.Prelude.{true, false, ◌≡◌, ◌<◌, ◌≤◌, ℕ, ℤ, List, length, map, take, slice_get, Option, Some, None, Ok}
 use Rattle.daa_bands.specs.Board.{HasLevelOn, IsBoardOf}
 use Rattle.daa_bands.specs.KindBands.{AreKindBands}
 use Rattle.daa_config.specs.Candidates.{candidates_of, values_of}
@@ -9,6 +9,7 @@ use Rattle.daa_config.specs.declared.candidate.Resolution.{Resolution}
 use Rattle.daa_config.specs.declared.kind.Kind.{Kind}
 use Rattle.daa_engine.specs.Covered.{CoveredAt}
 use Rattle.daa_engine.specs.MomentText.{IsMomentText}
+use Rattle.daa_last.specs.Last.{IsLastTime}
 use Rattle.daa_recovery.specs.Recovery.{IsRecovery}
 use Rattle.daa_recovery.specs.declared.recovery.Recovery.{Recovery}
 use Rattle.daa_resolve.specs.Resolution.{IsResolution}
@@ -23,13 +24,14 @@ use Rattle.daa_numbers.specs.declared.alerts.DaaAlert.{DaaAlert}
 use Rattle.daa_numbers.specs.declared.banding.DaaBand.{DaaBand}
 use Rattle.daa_numbers.specs.declared.boards.DaaBoard.{DaaBoard}
 use Rattle.daa_numbers.specs.declared.candidates.DaaCandidate.{DaaCandidate}
+use Rattle.daa_numbers.specs.declared.last_times.DaaLast.{DaaLast}
 use Rattle.daa_numbers.specs.declared.recovering.DaaRecovery.{DaaRecovery}
 use Rattle.daa_numbers.specs.declared.refusal.Refusal.{Refusal}
 use Rattle.daa_numbers.specs.declared.resolving.DaaResolution.{DaaResolution}
 use Rattle.daa_numbers.specs.declared.setting.DaaConfig.{DaaConfig}
 use Rattle.daa_numbers.specs.Boards.{IsMarked, IsNoBoard, mark_of}
 use Rattle.daa_numbers.specs.Codes.{candidate_by, IsNoKind, IsNoSide, kind_number, side_number}
-use Rattle.daa_numbers.specs.Filled.{IsFilledAlert, AreLevelsOn, band_of, resolution_by, recovery_by}
+use Rattle.daa_numbers.specs.Filled.{IsFilledAlert, AreLevelsOn, band_of, resolution_by, recovery_by, last_by}
 use Rattle.daa_numbers.specs.Numbers.{settings_by}
 
 -- a picture that the engine takes
@@ -165,6 +167,27 @@ module _ (config : DaaConfig) where
     pub settings : Settings
     pub accepted : settings_by config ≡ Ok settings
     pub none : settings.recovery ≡ None
+
+  -- last times are asked for, and it is that of the kind with this number
+  pub record IsLastUnder (picture : Picture) (number : ℤ) (out : DaaLast) : Type 0 where
+    pub settings : Settings
+    pub accepted : settings_by config ≡ Ok settings
+    pub asked : settings.last_times ≡ true
+    pub taken : IsTaken picture
+    pub kind : Kind
+    pub kind_is : kind_number kind ≡ number
+    pub answer : Option ℕ
+    pub is : IsLastTime settings picture kind answer
+    pub filled : out ≡ last_by answer
+
+  -- nothing else is refused, and it asks for no last times
+  pub record AsksForNoLast (refusal : Option Refusal) (number : ℤ) : Type 0 where
+    pub sound : refusal ≡ None
+    pub kind : Kind
+    pub kind_is : kind_number kind ≡ number
+    pub settings : Settings
+    pub accepted : settings_by config ≡ Ok settings
+    pub none : settings.last_times ≡ false
 
   -- the text of a picture
   pub record IsReported (picture : Picture) (text : List ℕ) : Type 0 where

@@ -11,7 +11,7 @@ use Rattle.daa_numbers.specs.declared.setting.DaaConfig.{DaaConfig}
 
 -- zeros in the place of a level that does not count
 abbrev pub no_level : LevelNumbers
-no_level = record { dthr = pos 0; zthr = pos 0; tthr = pos 0; tcoa = pos 0; lookahead = pos 0; alert = pos 0; tcpa = pos 0 }
+no_level = record { dthr = pos 0; zthr = pos 0; tthr = pos 0; tcoa = pos 0; lookahead = pos 0; alert = pos 0; tcpa = pos 0; tau = pos 0; tep = pos 0 }
 
 -- zeros in the place of a cylinder that does not count
 abbrev pub no_cylinder : RecoveryNumbers
@@ -39,13 +39,13 @@ abbrev pub cylinder_numbers : RecoveryNumbers → List ℤ
 cylinder_numbers r = r.hdist ∷ r.vdist ∷ r.nearest ∷ []
 
 abbrev pub level_numbers : LevelNumbers → List ℤ
-level_numbers l = l.dthr ∷ l.zthr ∷ l.tthr ∷ l.tcoa ∷ l.lookahead ∷ l.alert ∷ l.tcpa ∷ []
+level_numbers l = l.dthr ∷ l.zthr ∷ l.tthr ∷ l.tcoa ∷ l.lookahead ∷ l.alert ∷ l.tcpa ∷ l.tau ∷ l.tep ∷ []
 
 -- the mark of a configuration: its numbers, and zeros in the place of those that do not count. A cylinder or level that counts is never all zeros
 abbrev pub mark_of : DaaConfig → List ℤ
 mark_of c =
     c.numbers.resolve ∷ c.numbers.turn_rate ∷ c.numbers.track_step ∷ grid_numbers c.numbers.gs ++ grid_numbers c.numbers.vs ++ grid_numbers c.numbers.alt
-    ++ cylinder_numbers (cylinder_at c.recovery c.cylinder)
+    ++ cylinder_numbers (cylinder_at c.recovery c.cylinder) ++ (c.last_times ∷ [])
     ++ level_numbers (level_at c 0) ++ level_numbers (level_at c 1) ++ level_numbers (level_at c 2) ++ level_numbers (level_at c 3)
 
 -- the greatest that the mask at an index may be: the bits of all levels for a candidate, else none

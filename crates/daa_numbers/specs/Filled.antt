@@ -15,6 +15,7 @@ use Rattle.daa_state.specs.declared.word.Traffic.{Traffic}
 use Rattle.daa_numbers.specs.declared.alerts.DaaAlert.{DaaAlert}
 use Rattle.daa_numbers.specs.declared.banding.DaaBand.{DaaBand}
 use Rattle.daa_numbers.specs.declared.resolving.DaaResolution.{DaaResolution}
+use Rattle.daa_numbers.specs.declared.last_times.DaaLast.{DaaLast}
 use Rattle.daa_numbers.specs.declared.recovering.DaaRecovery.{DaaRecovery}
 
 -- the number of a leg; -1 if there is none
@@ -48,3 +49,8 @@ resolution_by Nothing = record { what = pos 2; value = pos 0 }
 abbrev pub recovery_by : Option Recovery → DaaRecovery
 recovery_by None = record { found = pos 0; after = 0; value = pos 0 }
 recovery_by (Some r) = record { found = pos 1; after = r.after; value = r.value }
+
+-- the numbers of a last time, in seconds
+abbrev pub last_by : Option ℕ → DaaLast
+last_by None = record { found = pos 0; after = 0 }
+last_by (Some m) = record { found = pos 1; after = m }

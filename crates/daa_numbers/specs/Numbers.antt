@@ -14,7 +14,7 @@ recovery_by (suc n) numbers = Some numbers
 
 -- the numbers as a text would have them
 abbrev pub written_by : DaaConfig → Written
-written_by c = record { numbers = c.numbers; recovery = recovery_by c.recovery c.cylinder; levels = take c.count c.levels }
+written_by c = record { numbers = c.numbers; recovery = recovery_by c.recovery c.cylinder; last_times = c.last_times; levels = take c.count c.levels }
 
 -- the configuration that they are, or its fault: that of its levels where more are counted than there are places
 abbrev pub settings_by : DaaConfig → Result Settings ConfigFault

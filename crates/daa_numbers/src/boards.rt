@@ -11,7 +11,7 @@ use daa_bands::{BOARD_MASKS, Board};
 use daa_config::{Config, LevelNumbers, RecoveryNumbers};
 
 /// How many numbers a mark has.
-const MARK: usize = 46;
+const MARK: usize = 55;
 
 /// The levels at which each candidate is covered, bit l - 1 of a mask means level l, and the mark
 /// of the configuration: its numbers, and 0 in the place of each that does not count.
@@ -31,6 +31,8 @@ const NO_LEVEL: LevelNumbers = LevelNumbers {
     lookahead: 0,
     alert: 0,
     tcpa: 0,
+    tau: 0,
+    tep: 0,
 };
 
 /// In the place of a cylinder that does not count.
@@ -92,6 +94,7 @@ pub(crate) fn mark(config: &DaaConfig) -> [i64; MARK]
         cylinder.hdist,
         cylinder.vdist,
         cylinder.nearest,
+        config.last_times,
         first.dthr,
         first.zthr,
         first.tthr,
@@ -99,6 +102,8 @@ pub(crate) fn mark(config: &DaaConfig) -> [i64; MARK]
         first.lookahead,
         first.alert,
         first.tcpa,
+        first.tau,
+        first.tep,
         second.dthr,
         second.zthr,
         second.tthr,
@@ -106,6 +111,8 @@ pub(crate) fn mark(config: &DaaConfig) -> [i64; MARK]
         second.lookahead,
         second.alert,
         second.tcpa,
+        second.tau,
+        second.tep,
         third.dthr,
         third.zthr,
         third.tthr,
@@ -113,6 +120,8 @@ pub(crate) fn mark(config: &DaaConfig) -> [i64; MARK]
         third.lookahead,
         third.alert,
         third.tcpa,
+        third.tau,
+        third.tep,
         fourth.dthr,
         fourth.zthr,
         fourth.tthr,
@@ -120,6 +129,8 @@ pub(crate) fn mark(config: &DaaConfig) -> [i64; MARK]
         fourth.lookahead,
         fourth.alert,
         fourth.tcpa,
+        fourth.tau,
+        fourth.tep,
     ]
 }
 

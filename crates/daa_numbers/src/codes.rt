@@ -19,7 +19,7 @@ pub(crate) const BAD_KIND: i32 = 23;
 pub(crate) const BAD_SIDE: i32 = 24;
 /// The configuration has no candidate at the index.
 pub(crate) const BAD_INDEX: i32 = 25;
-/// The configuration asks for no recovery.
+/// The configuration does not ask for it.
 pub(crate) const NOT_ASKED: i32 = 26;
 /// The board is none that was decided under the configuration.
 pub(crate) const BAD_BOARD: i32 = 27;

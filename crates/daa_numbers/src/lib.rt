@@ -1,6 +1,7 @@
 //! The engine over plain numbers, as a caller of another language has them: structs with the layout
-//! of C in, alerts, levels, bands, answers, recoveries and the text of a moment out. Nothing
-//! is kept: each call answers from its arguments alone. daa_c and daa_web export these functions.
+//! of C in, alerts, levels, bands, answers, recoveries, last times and the text of a moment out.
+//! Nothing is kept: each call answers from its arguments alone. daa_c and daa_web export these
+//! functions.
 #![tactic(auto)]
 
 mod alerts;
@@ -10,6 +11,7 @@ mod candidates;
 mod codes;
 mod deciding;
 mod faults;
+mod last_times;
 mod lines;
 mod recovering;
 mod refusal;
@@ -25,6 +27,7 @@ pub use boards::DaaBoard;
 pub use candidates::{DaaCandidate, candidate};
 pub use deciding::{decide, levels};
 pub use faults::{DaaFault, fault};
+pub use last_times::{DaaLast, last};
 pub use lines::{DaaLines, line};
 pub use recovering::{DaaRecovery, recovery};
 pub use reporting::report;

@@ -20,6 +20,7 @@ pub struct DaaConfig {
     pub numbers: Numbers,
     pub recovery: u64,
     pub cylinder: RecoveryNumbers,
+    pub last_times: i64,
     pub count: u64,
     pub levels: [LevelNumbers; 4],
 }
@@ -44,7 +45,8 @@ pub(crate) fn accept(config: &DaaConfig) -> Result<Config, ConfigFault>
         return Err(ConfigFault::Levels);
     }
     let levels = &config.levels[..config.count as usize];
-    Config::of(&config.numbers, &asked_recovery(config), levels)
+    let recovery = asked_recovery(config);
+    Config::of(&config.numbers, &recovery, &config.last_times, levels)
 }
 
 /// Fills in the numbers of the recovery, where one is asked for.
@@ -76,6 +78,7 @@ fn fill(numbers: &ConfigNumbers, config: &mut DaaConfig)
 {
     let levels = numbers.levels.as_slice();
     config.numbers = numbers.numbers;
+    config.last_times = numbers.last_times;
     config.count = levels.len() as u64;
     config.levels[..levels.len()].copy_from_slice(levels);
     ask(numbers.recovery, config);

@@ -102,7 +102,7 @@ fn brief<A: Answers>(
     begin::<Brand, A>(shared, seat, answers, workers);
 }
 
-/// The same, where `J` names the answers and the number of workers.
+/// Gives the first seat the answers and the number of workers, which `J` names.
 fn begin<J: Briefing, A: Answers>(
     shared: &Shared<(), View, Size, PoolRule>,
     seat: &mut atomic_table::Seat<(), View>,

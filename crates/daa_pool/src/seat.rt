@@ -5,7 +5,7 @@ ghost use Rattle.std.specs.Prelude.{◌≡◌, true, []};
 use crate::view::View;
 use std::marker::Model;
 
-/// The place of one worker. What it knows of the pool is its view.
+/// One worker's right to step on the words of the pool. What a seat knows of the pool is its view.
 #[derive(Drop)]
 pub struct Seat {
     pub(crate) seat: atomic_table::Seat<(), View>,

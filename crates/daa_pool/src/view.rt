@@ -48,6 +48,6 @@ pub struct View {
     pub joined: LinkedList<Part>,
     /// Whether the view has the count of seats made.
     pub carries: bool,
-    /// That count.
+    /// The count of seats made, if the view has it.
     pub made: u64,
 }

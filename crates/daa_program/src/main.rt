@@ -23,7 +23,7 @@ fn main(rt: HostRuntime) -> ExitCode {
             }
         }
         Err(error) if error.kind() == ErrorKind::OutOfMemory => return ExitCode::from(NO_MEMORY),
-        // a word that is not UTF-8: no words at all are not taken either
+        // a word that is not UTF-8: the list stays empty, and an empty list is refused too
         Err(_) => {}
     }
     let mut shelf = FileShelf::new(&rt);

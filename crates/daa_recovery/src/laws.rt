@@ -24,8 +24,8 @@ pub fn has_one_recovery()
         → HasOne (IsRecovery settings p kind) }
 {}
 
-/// A configuration that does not ask for the nearest value names the least of those that recover
-/// soonest.
+/// If the configuration does not ask for the nearest value, the recovery names the least of the
+/// values that recover soonest.
 pub fn without_nearest_the_least_value_is_named()
     ensures { (p : OutlookState) (kind : Kind) (r : Recovery) → p.settings.nearest ≡ false
         → IsLeast p kind r

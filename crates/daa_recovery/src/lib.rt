@@ -12,6 +12,7 @@ pub use laws::{
     has_one_recovery, recovering_lasts, the_cylinder_is_what_is_near,
     without_nearest_the_least_value_is_named,
 };
+pub use outlook::{candidate_going_to, horizon_of};
 pub use recovery::{Recovery, least};
 
 #[cfg(test)]

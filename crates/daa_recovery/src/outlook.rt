@@ -88,8 +88,8 @@ impl<'a> Outlook<'a> {
         found
     }
 
-    /// The best of the candidates of a kind up to the one at an index; `found` is the best of those
-    /// before it.
+    /// The best of the candidates of a kind up to the one at an index; `found` is the best of the
+    /// candidates before it.
     fn try_value(&self, kind: Kind, index: u32, found: Option<Recovery>) -> Option<Recovery>
         requires index { index < length (values_of kind self.now.settings) }
         requires found { IsFoundBelow self.now kind index found }
@@ -268,7 +268,7 @@ impl<'a> Outlook<'a> {
 }
 
 /// The greatest lookahead of the levels from `resolve` up, 1 to 180 seconds.
-fn horizon_of(config: &Config) -> u32
+pub fn horizon_of(config: &Config) -> u32
     ensures value { IsHorizon config.now result }
     ensures accepted { IsAccepted config.now }
 {
@@ -281,7 +281,7 @@ fn horizon_of(config: &Config) -> u32
 }
 
 /// The candidate of a kind that goes to a value.
-fn candidate_going_to(kind: Kind, value: &i32) -> Candidate
+pub fn candidate_going_to(kind: Kind, value: &i32) -> Candidate
     ensures { result ≡ to_value kind value.now }
 {
     match kind {

@@ -30,8 +30,8 @@ const SHEETS: usize = 1 << 21;
 const LEAST_SHEET: usize = 130177;
 
 /// What a worker needs: its number, room to decide in, a board and a sheet, and which events are
-/// its own: from one place up to another. The sheet has the texts of those from the first up to
-/// `end`.
+/// its own: from one place up to another. The sheet has the texts of its events from the first up
+/// to `end`.
 #[derive(Drop)]
 pub(crate) struct Lane {
     number: u32,
@@ -433,8 +433,8 @@ pub(crate) fn write_batch<R: Threads + Sync, K: Sink, G: Gate>(
     result
 }
 
-/// Lets an event wait, after those that wait. If there is no room for it, they are written first; if
-/// there is none then, it is written too.
+/// Lets an event wait, behind the events that wait already. If there is no room, the waiting events
+/// are written first; if there is still none, the event is written too.
 pub(crate) fn hold_event<R: Threads + Sync, K: Sink, G: Gate>(
     tools: &Tools<'_, R, G>,
     engine: &mut Engine,

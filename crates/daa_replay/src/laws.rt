@@ -35,8 +35,7 @@ pub fn fronts_begin_reports()
         → (rest : Text) × (text ≡ front ++ rest) }
 {}
 
-/// The events of a longer input begin with those of a shorter one, and those at its end with those
-/// before.
+/// The events of an input stay the first events if the input goes on, and also if it ends.
 pub fn events_only_grow()
     ensures longer { (bytes more : Bytes) → (events : List Event)
         × (events_of (bytes ++ more) false ≡ events_of bytes false ++ events) }

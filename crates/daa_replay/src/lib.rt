@@ -22,6 +22,3 @@ pub use laws::{
 };
 pub use lines::Event;
 pub use program::{run, run_within};
-
-#[cfg(test)]
-mod tests;

@@ -52,7 +52,7 @@ pub(crate) fn write_event<R: Threads + Sync, K: Sink, G: Gate>(
     }
 }
 
-/// The same, in the caller's thread.
+/// Writes the text of an event, in the caller's thread.
 pub(crate) fn write_event_alone<K: Sink>(
     engine: &mut Engine,
     sink: &mut K,

@@ -92,7 +92,8 @@ pub fn run_within<R: Threads + Sync, F: Shelf, S: Source + Send, K: Sink + Send,
     run_words(&tools, words, shelf, source, sink, most).code()
 }
 
-/// As [`run_within`] with 2^40 bytes.
+/// Carries out the task that the command words ask for, as [`run_within`] does, and reads at most
+/// 2^40 bytes.
 pub fn run<R: Threads + Sync, F: Shelf, S: Source + Send, K: Sink + Send, G: Gate>(
     rt: &R,
     alloc: Global,

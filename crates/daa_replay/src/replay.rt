@@ -88,7 +88,8 @@ fn write_line<R: Threads + Sync, K: Sink, G: Gate>(
     write_next(tools, engine, progress, sink)
 }
 
-/// The same of any line. It has room for a moment, which only the lines that end one need.
+/// Takes the line that is ready, whichever it is, and writes the text of its event. This call has
+/// room for a moment, which only a line that ends one needs.
 #[inline(never)]
 fn write_next<R: Threads + Sync, K: Sink, G: Gate>(
     tools: &Tools<'_, R, G>,
@@ -116,8 +117,8 @@ fn write_next<R: Threads + Sync, K: Sink, G: Gate>(
     }
 }
 
-/// Takes the line that is ready, if there is one; its event waits, or its text is written with those
-/// of the events that wait.
+/// Takes the line that is ready, if there is one. Its event waits, or its text is written behind
+/// the texts of the events that wait.
 fn hold_line<R: Threads + Sync, K: Sink, G: Gate>(
     tools: &Tools<'_, R, G>,
     engine: &mut Engine,
@@ -145,7 +146,8 @@ fn hold_line<R: Threads + Sync, K: Sink, G: Gate>(
     hold_next(tools, engine, progress, batch, sink)
 }
 
-/// The same of any line. It has room for a moment, which only the lines that end one need.
+/// Takes the line that is ready, whichever it is, and keeps its event. This call has room for a
+/// moment, which only a line that ends one needs.
 #[inline(never)]
 fn hold_next<R: Threads + Sync, K: Sink, G: Gate>(
     tools: &Tools<'_, R, G>,

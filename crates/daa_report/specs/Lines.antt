@@ -74,6 +74,15 @@ number_field number = codes " " ++ decimal number
 unfoldable pub numbers_line : Text → List ℕ → Text
 numbers_line word numbers = word ++ flat_map number_field numbers ++ codes "\n"
 
+-- for how many seconds the present flight may be kept, or `none`
+abbrev pub seconds_text : Option ℕ → Text
+seconds_text None = codes " " ++ codes "none"
+seconds_text (Some seconds) = number_field seconds
+
+-- the last time of a kind
+unfoldable pub last_line : Kind → Option ℕ → Text
+last_line kind seconds = codes "last" ++ codes " " ++ kind_word kind ++ seconds_text seconds ++ codes "\n"
+
 -- after how many seconds a candidate is clear and the value that it goes to, or `none`
 abbrev pub found_text : Option (ℕ × ℤ) → Text
 found_text None = codes " " ++ codes "none"

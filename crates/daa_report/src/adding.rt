@@ -3,7 +3,7 @@
 ghost use Rattle.std.specs.Prelude.{◌≡◌, ◌≤◌, ◌+◌, ◌*◌, ◌++◌, length, codes, decimal};
 ghost use Rattle.std.specs.Fmt.{signed_decimal};
 ghost use Rattle.arrayvec.specs.ArrayVec.{array_vec_len};
-ghost use Rattle.daa_report.specs.Lines.{first_text, resolution_text, found_text, number_field};
+ghost use Rattle.daa_report.specs.Lines.{first_text, resolution_text, found_text, seconds_text, number_field};
 ghost use Rattle.std.specs.List.{flat_map};
 
 use crate::line::MOST_BYTES;
@@ -123,6 +123,18 @@ pub(crate) fn add_number_fields(line: &mut ArrayVec<u8, MOST_BYTES>, numbers: &[
 {
     for number in numbers {
         add_number_field(line, *number);
+    }
+}
+
+/// Adds a number of seconds, or that there are none.
+pub(crate) fn add_seconds(line: &mut ArrayVec<u8, MOST_BYTES>, seconds: &Option<u32>)
+    requires { array_vec_len line.old + 11 ≤ 64 }
+    ensures items { line.new.items ≡ line.old.items ++ seconds_text seconds.now }
+    ensures len { array_vec_len line.new ≤ array_vec_len line.old + 11 }
+{
+    match seconds {
+        Some(seconds) => add_number_field(line, *seconds),
+        None => add_field(line, "none"),
     }
 }
 

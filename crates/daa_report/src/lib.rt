@@ -11,8 +11,8 @@ pub use kind_words::kind_word;
 pub use line::Line;
 pub use page::Page;
 pub use writers::{
-    SinkFault, alert, band, config, differs, done, moment, now, put, recover, refused, resolve,
-    same,
+    SinkFault, alert, band, config, differs, done, last, moment, now, put, recover, refused,
+    resolve, same,
 };
 
 #[cfg(test)]

@@ -1,11 +1,11 @@
 //! The lines of a report, as values.
 
 ghost use Rattle.std.specs.Prelude.{◌≡◌, ◌≤◌, ◌+◌, ◌*◌, length};
-ghost use Rattle.daa_report.specs.Lines.{alert_line, band_line, config_line, differs_line, done_line, moment_line, now_line, numbers_line, recover_line, refused_line, resolve_line, same_line};
+ghost use Rattle.daa_report.specs.Lines.{alert_line, band_line, config_line, differs_line, done_line, last_line, moment_line, now_line, numbers_line, recover_line, refused_line, resolve_line, same_line};
 
 use crate::adding::{
     add, add_bytes, add_field, add_first, add_found, add_number, add_number_fields,
-    add_resolution_field, add_signed_field,
+    add_resolution_field, add_seconds, add_signed_field,
 };
 use crate::kind_words::{kind_word, lower_word, upper_word};
 use arrayvec::ArrayVec;
@@ -136,6 +136,21 @@ impl Line {
         add_resolution_field(&mut line, &lower);
         add_field(&mut line, upper_word(kind));
         add_resolution_field(&mut line, &upper);
+        add(&mut line, "\n");
+        Line { bytes: line }
+    }
+
+    /// The line of the last time of a kind: for how many seconds the present flight may be kept
+    /// until a manoeuvre of the kind comes too late.
+    #[tactic(auto, unfolding(crate::specs::Lines::last_line))]
+    pub fn last(kind: Kind, seconds: Option<u32>) -> Line
+        ensures text { result ≡ last_line kind seconds }
+        ensures few { length result ≤ 64 }
+    {
+        let mut line = ArrayVec::<u8, MOST_BYTES>::new();
+        add(&mut line, "last");
+        add_field(&mut line, kind_word(kind));
+        add_seconds(&mut line, &seconds);
         add(&mut line, "\n");
         Line { bytes: line }
     }

@@ -67,6 +67,9 @@ fn each_band_and_answer_is_written(rt: HostRuntime) -> Result<(), Fail> {
             Resolution::To(0),
         ),
         resolve(&mut out, Kind::Height, none, Resolution::To(1500)),
+        last(&mut out, Kind::Track, Some(0)),
+        last(&mut out, Kind::Height, Some(179)),
+        last(&mut out, Kind::Speed, None),
         recover(&mut out, Kind::Climb, Some((179, -10000))),
         recover(&mut out, Kind::Speed, None),
     ];
@@ -75,7 +78,7 @@ fn each_band_and_answer_is_written(rt: HostRuntime) -> Result<(), Fail> {
     }
     assert_eq!(rt;
         out.taken(),
-        b"track 0 270 0\ngs 3600 10000 1\nvs -5000 -100 2\nalt -2000 60000 4\nresolve track left 359 right none\nresolve gs down keep up keep\nresolve vs down -200 up 0\nresolve alt down none up 1500\nrecover vs 179 -10000\nrecover gs none\n".as_slice()
+        b"track 0 270 0\ngs 3600 10000 1\nvs -5000 -100 2\nalt -2000 60000 4\nresolve track left 359 right none\nresolve gs down keep up keep\nresolve vs down -200 up 0\nresolve alt down none up 1500\nlast track 0\nlast alt 179\nlast gs none\nrecover vs 179 -10000\nrecover gs none\n".as_slice()
     );
     Ok(())
 }

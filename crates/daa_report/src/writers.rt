@@ -1,7 +1,7 @@
 //! Writes pieces and lines to a sink.
 
 ghost use Rattle.std.specs.Prelude.{◌≤◌, ◌≡◌, length, drop};
-ghost use Rattle.daa_report.specs.Lines.{alert_line, band_line, config_line, differs_line, done_line, moment_line, now_line, recover_line, refused_line, resolve_line, same_line};
+ghost use Rattle.daa_report.specs.Lines.{alert_line, band_line, config_line, differs_line, done_line, last_line, moment_line, now_line, recover_line, refused_line, resolve_line, same_line};
 ghost use Rattle.daa_report.specs.Says.{Says};
 
 use crate::line::Line;
@@ -98,6 +98,15 @@ pub fn resolve<K: Sink>(
         (resolve_line kind lower upper) result }
 {
     put(sink, Line::resolve(kind, lower, upper).as_bytes())
+}
+
+/// Writes the last time of a kind: for how many seconds the present flight may be kept until a
+/// manoeuvre of the kind comes too late; or that each comes too late now.
+pub fn last<K: Sink>(sink: &mut K, kind: Kind, seconds: Option<u32>) -> Result<(), SinkFault>
+    ensures { Says (K.taken sink.old) (K.taken sink.new) (K.faults sink.old) (K.faults sink.new)
+        (last_line kind seconds) result }
+{
+    put(sink, Line::last(kind, seconds).as_bytes())
 }
 
 /// Writes the recovery of a kind: after how many seconds a candidate is clear and the value that it

@@ -21,8 +21,8 @@ pub fn has_one_answer()
         → HasOne (IsResolution (HasLevelOn board) settings own kind side) }
 {}
 
-/// If a board marks exactly the covered candidates, the answers over the board are those over the
-/// covered candidates.
+/// If a board marks exactly the covered candidates, the answers over the board are the answers over
+/// what is covered.
 pub fn board_answers_for_what_is_covered()
     ensures { (covered : ℕ → ℕ → Bool) (board : List ℕ) (settings : Settings) (own : Own)
         (kind : Kind)

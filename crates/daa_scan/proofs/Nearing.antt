@@ -1,19 +1,53 @@
 -- What violates a volume is near: at most the threshold and the way of the time threshold off.
 use Rattle.std.proofs.Common.{[], ◌∷◌, ◌≡◌, inl, inr, ⊎_elim, subst, ◌∙◌, arith, ℤ, pos, neg_ℤ, ◌+ℤ◌, ◌*ℤ◌, ◌-ℤ◌, ◌≤ℤ◌, ◌<ℤ◌, unsigned_abs}
 use Rattle.std.proofs.lemmas.Int.{ints}
-use Rattle.daa_fixed.proofs.Ring.{mul_nonneg, square_nonneg, ring, #, ⊝, ◌⊕◌, ◌⊖◌, ◌⊗◌}
+use Rattle.daa_fixed.proofs.Ring.{mul_nonneg, square_nonneg, ring, #, lit, ⊝, ◌⊕◌, ◌⊖◌, ◌⊗◌}
 use Rattle.daa_fixed.proofs.Integers.{rest, by_rest, le_trans_ℤ, root_within, mul_le_mul, mul_le_left, sum_nonneg}
-use Rattle.daa_fixed.proofs.Lengths.{lagrange, dot_nonneg, nearing_moves}
-use Rattle.daa_taumod.proofs.ClosestApproach.{tau_from_closest}
+use Rattle.daa_fixed.proofs.Lengths.{lagrange, dot_nonneg}
+use Rattle.daa_taumod.proofs.ClosestApproach.{closest_modified, closest_or_near}
 use Rattle.daa_fixed.proofs.Axes.{not_far}
 use Rattle.daa_fixed.specs.Size.{IsFrom}
 use Rattle.daa_fixed.specs.declared.Flat.{Flat}
 use Rattle.daa_fixed.specs.declared.Leg.{Leg}
 use Rattle.daa_fixed.specs.Flat.{dot_of, cross_of}
-use Rattle.daa_taumod.specs.declared.Model.{Model}
-use Rattle.daa_taumod.specs.declared.Model.TheVariants.{Taumod, Tcpa}
 use Rattle.daa_taumod.specs.declared.Volume.{Volume}
-use Rattle.daa_taumod.specs.Volume.{place_at, height_at, IsSoon, IsClosing, ViolatesHorizontally, ViolatesVertically}
+use Rattle.daa_legs.proofs.Stretches.{flown_on, place_later}
+use Rattle.daa_taumod.specs.Volume.{place_at, height_at, IsClosing, ViolatesHorizontally, ViolatesVertically}
+
+-- ---- a place, a velocity, and the place t later
+-- how fast it moves off is at most the product of both lengths
+along_less : (s v : Flat) → (dot_of s v *ℤ dot_of s v) ≤ℤ (dot_of s s *ℤ dot_of v v)
+along_less s v = by_rest _ _ _ ((λ i. lagrange s v i -ℤ dot_of s v *ℤ dot_of s v) ∙ left (dot_of s v *ℤ dot_of s v) (cross_of s v *ℤ cross_of s v)) (square_nonneg (cross_of s v))
+  where
+    left : (x y : ℤ) → (x +ℤ y) -ℤ x ≡ y
+    left x y = omega (arith, ints)
+
+-- where it is then within a, it is now within a and the way
+near_before : (s v : Flat) (t a speed : ℤ) → pos 0 ≤ℤ t → pos 0 ≤ℤ a → pos 0 ≤ℤ speed → dot_of v v ≤ℤ (speed *ℤ speed)
+    → dot_of (flown_on s v t) (flown_on s v t) ≤ℤ (a *ℤ a) → dot_of s s ≤ℤ ((a +ℤ t *ℤ speed) *ℤ (a +ℤ t *ℤ speed))
+near_before s v t a speed t0 a0 s0 slow near =
+    let X = # 0 in let Y = # 1 in let U = # 2 in let V = # 3 in let T = # 4 in let A = # 5 in let W = # 6 in
+    let E = X ⊕ T ⊗ U in let N = Y ⊕ T ⊗ V in
+    let then : Flat = flown_on s v t in
+    let slower : (neg_ℤ (dot_of then v) *ℤ neg_ℤ (dot_of then v)) ≤ℤ ((a *ℤ speed) *ℤ (a *ℤ speed)) =
+    subst (λ (z : ℤ). z ≤ℤ ((a *ℤ speed) *ℤ (a *ℤ speed))) (turned (dot_of then v))
+    (subst (λ (z : ℤ). (dot_of then v *ℤ dot_of then v) ≤ℤ z) (paired a speed)
+    (le_trans_ℤ _ _ _ (along_less then v) (mul_le_mul (dot_of then then) (dot_of v v) (a *ℤ a) (speed *ℤ speed) (dot_nonneg then) (square_nonneg speed) near slow (dot_nonneg v)))) in
+    by_rest _ _ _
+    (ring (s.east ∷ s.north ∷ v.east ∷ v.north ∷ t ∷ a ∷ speed ∷ [])
+    ((A ⊕ T ⊗ W) ⊗ (A ⊕ T ⊗ W) ⊖ (X ⊗ X ⊕ Y ⊗ Y))
+    ((A ⊗ A ⊖ (E ⊗ E ⊕ N ⊗ N)) ⊕ (lit (pos 2) ⊗ (T ⊗ (A ⊗ W ⊖ ⊝ (E ⊗ U ⊕ N ⊗ V))) ⊕ (T ⊗ T) ⊗ (W ⊗ W ⊖ (U ⊗ U ⊕ V ⊗ V))))
+    tt)
+    (sum_nonneg _ _ (rest _ _ near)
+    (sum_nonneg _ _
+    (mul_nonneg (pos 2) _ (omega (arith, ints)) (mul_nonneg t _ t0 (rest _ _ (root_within (neg_ℤ (dot_of then v)) (a *ℤ speed) (mul_nonneg a speed a0 s0) slower))))
+    (mul_nonneg (t *ℤ t) _ (square_nonneg t) (rest _ _ slow))))
+  where
+    turned : (x : ℤ) → x *ℤ x ≡ neg_ℤ x *ℤ neg_ℤ x
+    turned x = let X = # 0 in ring (x ∷ []) (X ⊗ X) (⊝ X ⊗ ⊝ X) tt
+
+    paired : (x y : ℤ) → (x *ℤ x) *ℤ (y *ℤ y) ≡ (x *ℤ y) *ℤ (x *ℤ y)
+    paired x y = let X = # 0 in let Y = # 1 in ring (x ∷ y ∷ []) ((X ⊗ X) ⊗ (Y ⊗ Y)) ((X ⊗ Y) ⊗ (X ⊗ Y)) tt
 
 module _ (leg : Leg) (volume : Volume) (n d speed : ℤ) (d1 : pos 1 ≤ℤ d) (s0 : pos 0 ≤ℤ speed) (slow : dot_of leg.velocity.flat leg.velocity.flat ≤ℤ (speed *ℤ speed)) where
   abbrev place : Flat
@@ -40,21 +74,17 @@ module _ (leg : Leg) (volume : Volume) (n d speed : ℤ) (d1 : pos 1 ≤ℤ d) (
   b0 : pos 0 ≤ℤ b
   b0 = mul_nonneg (pos volume.tthr *ℤ d) speed td0 s0
 
-  tau_soon : (w : Model) → IsSoon w leg volume n d → dot_of place v <ℤ pos 0 → (cross_of place v *ℤ cross_of place v) ≤ℤ (a *ℤ a *ℤ dot_of v v) → (dot_of place place +ℤ pos volume.tthr *ℤ d *ℤ dot_of place v) ≤ℤ (a *ℤ a)
-  tau_soon Taumod s h near = s
-  tau_soon Tcpa s h near = tau_from_closest (dot_of v v) (cross_of place v) (dot_of place place) (dot_of place v) a (pos volume.tthr *ℤ d) (nearing_moves place v h) h (lagrange place v) near s
-
-  closing_near : IsClosing leg volume n d → dot_of place place ≤ℤ ((a +ℤ b) *ℤ (a +ℤ b))
-  closing_near c =
+  -- modified tau is at most tthr
+  near_by_tau : dot_of place v <ℤ pos 0 → (dot_of place place +ℤ pos volume.tthr *ℤ d *ℤ dot_of place v) ≤ℤ (a *ℤ a) → dot_of place place ≤ℤ ((a +ℤ b) *ℤ (a +ℤ b))
+  near_by_tau nearing soon =
       let t : ℤ = pos volume.tthr *ℤ d in
       let y : ℤ = neg_ℤ (dot_of place v) in
-      let y0 : pos 0 ≤ℤ y = omega (arith, ints, c.nearing) in
-      let soon = tau_soon volume.model c.soon c.nearing c.near in
+      let y0 : pos 0 ≤ℤ y = omega (arith, ints, nearing) in
       not_far a b (dot_of place place) (t *ℤ y) a0 b0 (mul_nonneg t y td0 y0)
       (by_rest _ _ _ (turn (dot_of place place) t (dot_of place v) (a *ℤ a)) (rest _ _ soon))
       (by_rest _ _ _ (spread t (dot_of place v) speed (dot_of place place))
       (mul_nonneg (t *ℤ t) _ (square_nonneg t) (rest _ _ (le_trans_ℤ (dot_of place v *ℤ dot_of place v) (dot_of place place *ℤ dot_of v v) (dot_of place place *ℤ (speed *ℤ speed))
-      (by_rest _ _ _ (cauchy place v) (square_nonneg (cross_of place v)))
+      (along_less place v)
       (mul_le_left (dot_of place place) (dot_of v v) (speed *ℤ speed) (dot_nonneg place) slow)))))
     where
       turn : (x t y r : ℤ) → t *ℤ neg_ℤ y -ℤ (x -ℤ r) ≡ r -ℤ (x +ℤ t *ℤ y)
@@ -64,11 +94,13 @@ module _ (leg : Leg) (volume : Volume) (n d speed : ℤ) (d1 : pos 1 ≤ℤ d) (
       spread t y s x = let T = # 0 in let Y = # 1 in let S = # 2 in let X = # 3 in
           ring (t ∷ y ∷ s ∷ x ∷ []) ((T ⊗ S) ⊗ (T ⊗ S) ⊗ X ⊖ (T ⊗ ⊝ Y) ⊗ (T ⊗ ⊝ Y)) ((T ⊗ T) ⊗ (X ⊗ (S ⊗ S) ⊖ Y ⊗ Y)) tt
 
-      cauchy : (s v : Flat) → dot_of s s *ℤ dot_of v v -ℤ dot_of s v *ℤ dot_of s v ≡ cross_of s v *ℤ cross_of s v
-      cauchy s v = (λ i. lagrange s v i -ℤ dot_of s v *ℤ dot_of s v) ∙ left (dot_of s v *ℤ dot_of s v) (cross_of s v *ℤ cross_of s v)
-        where
-          left : (x y : ℤ) → (x +ℤ y) -ℤ x ≡ y
-          left x y = omega (arith, ints)
+  -- by each model the closest approach is soon, or it is near tthr seconds later
+  closing_near : IsClosing leg volume n d → dot_of place place ≤ℤ ((a +ℤ b) *ℤ (a +ℤ b))
+  closing_near c = ⊎_elim
+      (λ closest. near_by_tau c.nearing (closest_modified leg volume n d d1 c.nearing c.near closest))
+      (λ near. near_before place v (pos volume.tthr *ℤ d) a speed td0 a0 s0 slow
+      (subst (λ (w : Flat). dot_of w w ≤ℤ (a *ℤ a)) (place_later leg n (pos volume.tthr *ℤ d) d) near))
+      (closest_or_near leg volume n d d1 c.nearing c.near volume.model c.soon)
 
   -- the square of the place
   pub flat_near : ViolatesHorizontally leg volume n d → dot_of place place ≤ℤ ((a +ℤ b) *ℤ (a +ℤ b))

@@ -1,5 +1,5 @@
 -- The sides of a kind: their leading flights, and how far they were walked.
-use Rattle.std.proofs.Common.{◌≡◌, ℕ, ℤ, pos, ◌+◌, ◌-◌, ◌<◌, ◌≤◌, Bool, [], true, false, List, length, refl, sym, subst, ap, ◌∙◌, arith, ⊎_elim}
+use Rattle.std.proofs.Common.{◌≡◌, ◌↔◌, ◌^◌, ℕ, ℤ, pos, ◌+◌, ◌-◌, ◌<◌, ◌≤◌, Bool, [], true, false, List, length, refl, sym, subst, ap, ◌∙◌, arith, ⊎_elim}
 use Rattle.std.specs.Prelude.{IsTrue, slice_index_or}
 use Rattle.std.proofs.Math.ListN.{set}
 use Rattle.std.proofs.lemmas.Bool.{cases_eq, cases_lt}
@@ -16,21 +16,23 @@ use Rattle.daa_config.specs.Settings.{Settings, IsLevelAt, rates_of}
 use Rattle.daa_state.specs.declared.word.Own.{Own}
 use Rattle.daa_state.specs.declared.word.Traffic.{Traffic}
 use Rattle.daa_legs.specs.declared.own_leg.OwnLeg.{OwnLeg}
-use Rattle.daa_legs.specs.Branch.{lead_of}
+use Rattle.daa_legs.specs.Branch.{lead_of, FliesAs}
+use Rattle.daa_legs.specs.declared.branch.Branch.{Branch}
+use Rattle.daa_legs.specs.Table.{IsBranchOf}
 use Rattle.daa_legs.specs.Trunk.{AreLegsOf}
-use Rattle.daa_legs.specs.Meeting.{ViolatesOn}
+use Rattle.daa_legs.specs.Meeting.{ViolatesOn, MeetsWithin}
 use Rattle.daa_legs.proofs.AtLevel.{one_level}
 use Rattle.daa_scan.specs.declared.refusal.Seconds.{Seconds}
 use Rattle.daa_scan.specs.declared.trail.Trail.{Trail}
 use Rattle.daa_scan.specs.declared.marking.Trails.{Trails}
-use Rattle.daa_scan.specs.Inside.Marking.{AreTrailsOf}
+use Rattle.daa_scan.specs.Inside.Marking.{AreTrailsOf, AreSure}
 use Rattle.daa_scan.specs.Inside.Refusal.{AreSecondsOf}
-use Rattle.daa_scan.specs.Inside.Sharing.{IsTrailOf}
+use Rattle.daa_scan.specs.Inside.Sharing.{IsTrailOf, IsSure}
 use Rattle.daa_scan.specs.Trunks.{trunk_index, trunk_in, is_needed, AreLeads}
 use Rattle.daa_scan.specs.declared.needs.Needs.{Needs}
 use Rattle.daa_scan.proofs.TrunksWords.{AreLeadsBelow}
 use Rattle.daa_scan.specs.Inside.Trunks.{IsAhead}
-use Rattle.daa_scan.proofs.Trails.{fewer_legs}
+use Rattle.daa_scan.proofs.Trails.{fewer_legs, sure_met}
 
 pub ahead_more : (settings : Settings) (l most new : ℕ) (next : Level) → IsAhead settings l most → IsLevelAt settings (l + 1) next → next.lookahead ≤ new → most ≤ new → IsAhead settings (l + 1) new
 ahead_more settings l most new next h at a b k level le there = ⊎_elim
@@ -127,14 +129,44 @@ leads own Climb upper z = (_, refl)
 leads own Height upper z = (_, refl)
 
 -- nothing was walked: a trail is at the first of the kind's seconds
-pub begun : (settings : Settings) (own : Own) (aircraft : Traffic) (volume : Volume) (kind : Kind) (m : ℕ) (seconds : Seconds) → AreSecondsOf settings own aircraft kind volume m seconds → seconds.first < m
-    → AreTrailsOf settings own aircraft volume kind (record { upper = record { walked = seconds.first; end = seconds.end; hit = false }; lower = record { walked = seconds.first; end = seconds.end; hit = false } })
-begun settings own aircraft volume kind m seconds h b = record { upper = fresh true; lower = fresh false; past_upper = h.after; past_lower = h.after }
+pub begun : (settings : Settings) (own : Own) (aircraft : Traffic) (volume : Volume) (kind : Kind) (m past : ℕ) (seconds : Seconds) → AreSecondsOf settings own aircraft kind volume m seconds → seconds.first < m
+    → AreTrailsOf settings own aircraft volume kind (record { upper = record { walked = seconds.first; end = seconds.end; hit = false; past = past }; lower = record { walked = seconds.first; end = seconds.end; hit = false; past = past } })
+begun settings own aircraft volume kind m past seconds h b = record { upper = fresh true; lower = fresh false; past_upper = h.after; past_lower = h.after }
   where
-    fresh : (upper : Bool) (z : ℤ) → IsTrailOf settings own (lead_of own (candidate_to kind z) upper) aircraft volume (record { walked = seconds.first; end = seconds.end; hit = false })
+    fresh : (upper : Bool) (z : ℤ) → IsTrailOf settings own (lead_of own (candidate_to kind z) upper) aircraft volume (record { walked = seconds.first; end = seconds.end; hit = false; past = past })
     fresh upper z = let w = leads own kind upper z in
-        subst (λ (c : Candidate). IsTrailOf settings own c aircraft volume (record { walked = seconds.first; end = seconds.end; hit = false })) (sym w.1) (record {
+        subst (λ (c : Candidate). IsTrailOf settings own c aircraft volume (record { walked = seconds.first; end = seconds.end; hit = false; past = past })) (sym w.1) (record {
           none = λ j k. h.before w.0 j (omega (arith, k, b)) k;
           hit = λ t. absurd (cc t);
           later = λ j k e. h.after w.0 j k e;
         })
+
+-- a trail that is sure of no leg
+pub sure_of_none : (m : ℕ) (trail : Trail) → 2 ^ 32 ≤ trail.past + 1 → IsSure m trail
+sure_of_none m trail most = record {
+  hit = λ h n p b. absurd (omega (arith, most, p, b));
+  clear = λ c n k p b l. absurd (omega (arith, most, p, b));
+}
+
+-- what a side's trail answers of a candidate that leaves past what it is sure of
+module _ (settings : Settings) (own : Own) (aircraft : Traffic) (volume : Volume) (kind : Kind) (m : ℕ) (trails : Trails) (h : AreTrailsOf settings own aircraft volume kind trails) (s : AreSure m trails) (short : m ≤ 180) (candidate : Candidate) (value : ℤ) (c : candidate ≡ candidate_to kind value) (branch : Branch)
+    (is : IsBranchOf own (rates_of settings) candidate branch) (b : branch.leaves < 2 ^ 32) where
+  alike : (u : Bool) → branch.upper ≡ u → FliesAs own (rates_of settings) candidate (lead_of own (candidate_to kind value) u) branch.leaves
+  alike u e = subst (λ (x : Candidate). FliesAs own (rates_of settings) candidate (lead_of own x u) branch.leaves) c
+      (subst (λ (x : Bool). FliesAs own (rates_of settings) candidate (lead_of own candidate x) branch.leaves) e is.before)
+
+  of_kind : (k : ℕ) → ViolatesOn settings own candidate aircraft volume k → ViolatesOn settings own (candidate_to kind value) aircraft volume k
+  of_kind k v = subst (λ (x : Candidate). ViolatesOn settings own x aircraft volume k) c v
+
+  on_side : (trail : Trail) → (IsTrue branch.upper → trail ≡ trails.upper) → (branch.upper ≡ false → trail ≡ trails.lower) → trail.past < branch.leaves → (u : Bool) → branch.upper ≡ u
+      → IsTrue trail.hit ↔ MeetsWithin settings own candidate aircraft volume m
+  on_side trail up down p true e = subst (λ (x : Trail). IsTrue x.hit ↔ MeetsWithin settings own candidate aircraft volume m) (sym (up e))
+      (sure_met settings own candidate (lead_of own (candidate_to kind value) true) aircraft volume branch.leaves m (alike true e) trails.upper (h.upper value) s.upper
+      (subst (λ (x : Trail). x.past < branch.leaves) (up e) p) b short (λ k l past v. h.past_upper value k l past (of_kind k v)))
+  on_side trail up down p false e = subst (λ (x : Trail). IsTrue x.hit ↔ MeetsWithin settings own candidate aircraft volume m) (sym (down e))
+      (sure_met settings own candidate (lead_of own (candidate_to kind value) false) aircraft volume branch.leaves m (alike false e) trails.lower (h.lower value) s.lower
+      (subst (λ (x : Trail). x.past < branch.leaves) (down e) p) b short (λ k l past v. h.past_lower value k l past (of_kind k v)))
+
+  pub side_sure : (trail : Trail) → (IsTrue branch.upper → trail ≡ trails.upper) → (branch.upper ≡ false → trail ≡ trails.lower) → trail.past < branch.leaves
+      → IsTrue trail.hit ↔ MeetsWithin settings own candidate aircraft volume m
+  side_sure trail up down p = on_side trail up down p branch.upper refl

@@ -1,7 +1,7 @@
 -- What a trail says, and a test of the straight rest; those of kept legs are daa_meet's.
 pub use Rattle.daa_meet.proofs.Keeping.{kept_is, own_leg-in_range, leg_tested, fewer_legs}
 use Rattle.daa_meet.proofs.Keeping.{rest_tested as kept_rest}
-use Rattle.std.proofs.Common.{◌≡◌, ◌↔◌, min, inl, inr, ⊎_elim, ℕ, ◌+◌, ◌<◌, ◌≤◌, Bool, List, ap, sym, subst, ◌∙◌, arith}
+use Rattle.std.proofs.Common.{◌≡◌, ◌↔◌, ◌^◌, min, true, false, refl, inl, inr, ⊎_elim, ℕ, ◌+◌, ◌<◌, ◌≤◌, Bool, List, ap, sym, subst, ◌∙◌, arith}
 use Rattle.std.proofs.lemmas.Bool.{cases_lt}
 use Rattle.std.specs.Prelude.{IsTrue, slice_index_or}
 use Rattle.daa_fixed.specs.declared.Leg.{Leg}
@@ -27,7 +27,7 @@ use Rattle.daa_legs.specs.Meeting.{ViolatesOn, MeetsWithin}
 use Rattle.daa_legs.proofs.Branching.{place_alike, by_branch}
 use Rattle.daa_legs.proofs.Places.{velocity_on-below, place_on-below}
 use Rattle.daa_scan.specs.declared.trail.Trail.{Trail}
-use Rattle.daa_scan.specs.Inside.Sharing.{IsTrailOf}
+use Rattle.daa_scan.specs.Inside.Sharing.{IsTrailOf, IsSure}
 
 -- the candidate leaves the trunk where the trunk is
 pub leaves_there : (own : Own) (rates : Rates) (candidate lead : Candidate) (n m : ℕ) (legs : List OwnLeg) (leg : OwnLeg) → FliesAs own rates candidate lead n → AreLegsOf own rates lead m legs → n < m
@@ -87,3 +87,21 @@ module _ (settings : Settings) (own : Own) (candidate lead : Candidate) (aircraf
 
   pub meets_later : MeetsBetween settings own candidate aircraft volume n m → MeetsWithin settings own candidate aircraft volume m
   meets_later o = (by_branch settings own candidate lead aircraft volume n alike m).1 (record { where_ = inr o })
+
+  -- past what the trail is sure of it is met exactly if there is a hit
+  pub sure_met : IsSure m trail → trail.past < n → n < 2 ^ 32 → m ≤ 180 → ((k : ℕ) → k < 180 → trail.end ≤ k → ¬ ViolatesOn settings own candidate aircraft volume k)
+      → IsTrue trail.hit ↔ MeetsWithin settings own candidate aircraft volume m
+  sure_met s p b short later = (
+    (λ h. let w = s.hit h n p b in hit_meets h w.0 w.1),
+    (λ e. met_hit e trail.hit refl),
+  )
+    where
+      none : trail.hit ≡ false → MeetsWithin settings own candidate aircraft volume m → ⊥
+      none c e = ⊎_elim
+          (λ (k, a, l, v). ⊎_elim (λ w. t.none k w v) (λ g. t.later k (omega (arith, l, short)) ((s.clear c n k p b l).0 g) v) (cases_lt k trail.walked))
+          (λ o. later o.leg (omega (arith, o.before, short)) ((s.clear c n o.leg p b o.before).1 o.not_before) o.violates)
+          ((by_branch settings own candidate lead aircraft volume n alike m).0 e).where_
+
+      met_hit : MeetsWithin settings own candidate aircraft volume m → (h : Bool) → trail.hit ≡ h → IsTrue trail.hit
+      met_hit e true c = c
+      met_hit e false c = absurd (none c e)

@@ -20,10 +20,10 @@ ghost use Rattle.daa_legs.specs.OwnLeg.{own_leg, IsOwnLegInRange};
 ghost use Rattle.daa_legs.specs.Meeting.{MeetsWithin, Meets, ViolatesOn};
 ghost use Rattle.daa_scan.specs.Adding.{AddsLevels};
 ghost use Rattle.daa_scan.specs.Inside.Refusal.{AreSecondsAt};
-ghost use Rattle.daa_scan.specs.Inside.Sharing.{IsTrailOf};
+ghost use Rattle.daa_scan.specs.Inside.Sharing.{IsTrailOf, IsSure};
 ghost use Rattle.daa_scan.specs.Trunks.{trunk_in, is_needed, AreIdle};
 ghost use Rattle.daa_scan.specs.Inside.Trunks.{AreTrunksOf};
-ghost use Rattle.daa_scan.specs.Inside.Marking.{AreTrailsOf, AreMarked, AreMasks, IsStretchOf, AreStretchesOf};
+ghost use Rattle.daa_scan.specs.Inside.Marking.{AreTrailsOf, AreSure, AreMarked, AreMasks, IsStretchOf, AreStretchesOf};
 
 use crate::nesting::lies_within;
 use crate::refusal::{Seconds, present_leg, present_of, seconds_in_height, seconds_in_plane};
@@ -297,6 +297,7 @@ fn mark_kind(
         walked: seconds.first,
         end: seconds.end,
         hit: false,
+        past: u32::MAX,
     };
     let mut trails = Trails {
         upper: begun,
@@ -371,20 +372,44 @@ fn next_mask(
     requires of { (value : ℤ) × (candidate ≡ candidate_to kind value) }
     requires trails { AreTrailsOf config.now own.now aircraft.now level.now.volume kind trails.old }
     requires needed { IsTrue (is_needed trunks.now.needs kind) }
+    requires sure { AreSure level.now.lookahead trails.old }
     ensures mask { (before : ℕ)
         → AddsLevels (Meets config.now own.now candidate aircraft.now) l before mask
         → AddsLevels (Meets config.now own.now candidate aircraft.now) (l + 1) before result }
     ensures trails { AreTrailsOf config.now own.now aircraft.now level.now.volume kind trails.new }
+    ensures sure { AreSure level.now.lookahead trails.new }
 {
+    // most candidates are answered here, so that it is asked before the mask is
+    let branch = trunks.branch(index);
+    let trail = trail_on(trails, branch.upper);
+    if is_after(branch.leaves, trail.past) {
+        return with_level(mask, l, trail.hit);
+    }
     if nested && !has_level(mask, l) {
         return mask;
     }
     if has_level(mask, l + 1) {
         return mask;
     }
-    let branch = trunks.branch(index);
     let met = meets_shared(config, own, trunks, aircraft, level, kind, branch, trails);
     with_level(mask, l, met)
+}
+
+/// The trail of a side.
+#[inline(always)]
+fn trail_on(trails: &Trails, upper: bool) -> Trail
+    ensures upper { IsTrue upper → result ≡ trails.now.upper }
+    ensures lower { upper ≡ false → result ≡ trails.now.lower }
+{
+    if upper { trails.upper } else { trails.lower }
+}
+
+/// Whether a leg is after another.
+#[inline(always)]
+fn is_after(leg: u32, other: u32) -> bool
+    ensures { IsTrue result → (other < leg) × (leg < 2 ^ 32) }
+{
+    leg > other
 }
 
 /// Whether some mask of those of the candidates from number `from` to before number `upto` of the
@@ -466,7 +491,8 @@ fn with_level(mask: u8, l: u32, met: bool) -> u8
     ensures met { IsTrue met → result ≡ bit_or mask (2 ^ l) }
     ensures not_met { met ≡ false → result ≡ mask }
 {
-    if met { mask | 1 << l } else { mask }
+    // (without a branch, as the mask's bits)
+    mask | u8::from(met) << l
 }
 
 /// Whether the candidate of a kind that has this branch meets the aircraft within the level's
@@ -494,10 +520,12 @@ fn meets_shared(
     requires of { (value : ℤ) × (candidate ≡ candidate_to kind value) }
     requires branch { IsBranchOf own.now (rates_of config.now) candidate branch.now }
     requires trails { AreTrailsOf config.now own.now aircraft.now level.now.volume kind trails.old }
+    requires sure { AreSure level.now.lookahead trails.old }
     ensures met { IsTrue result
         ↔ MeetsWithin config.now own.now candidate aircraft.now level.now.volume
         level.now.lookahead }
     ensures trails { AreTrailsOf config.now own.now aircraft.now level.now.volume kind trails.new }
+    ensures sure { AreSure level.now.lookahead trails.new }
 {
     let lead = lead_to(own, kind, branch.upper);
     let trunk = trunks.trunk(kind, branch.upper);
@@ -551,11 +579,13 @@ fn meets_along(
     requires trail { IsTrailOf config.now own.now lead aircraft.now level.now.volume trail.old }
     requires later { (k : ℕ) → k < 180 → trail.old.end ≤ k
         → ¬ ViolatesOn config.now own.now candidate aircraft.now level.now.volume k }
+    requires sure { IsSure level.now.lookahead trail.old }
     ensures met { IsTrue result
         ↔ MeetsWithin config.now own.now candidate aircraft.now level.now.volume
         level.now.lookahead }
     ensures trail { IsTrailOf config.now own.now lead aircraft.now level.now.volume trail.new }
     ensures end { trail.new.end ≡ trail.old.end }
+    ensures sure { IsSure level.now.lookahead trail.new }
 {
     let upto = branch.leaves.min(level.lookahead);
     walk_ahead(

@@ -1,15 +1,15 @@
 //! Which levels lie within others.
 
 ghost use Rattle.std.specs.Prelude.{◌≡◌, ◌↔◌, IsTrue};
-ghost use Rattle.daa_taumod.specs.declared.Model.{Model};
+ghost use Rattle.daa_taumod.specs.Volume.{place_of};
 ghost use Rattle.daa_scan.specs.Inside.Nesting.{LiesWithin};
 
 use daa_config::Level;
 use daa_taumod::Model;
 
 /// Whether no threshold of the inner level and not its lookahead is above that of the outer one,
-/// and the outer one does not count by the closest approach alone. Whatever meets the inner level
-/// then meets the outer one.
+/// and its model does not come after the outer one's in the order in which the models lie one
+/// within the next. Whatever meets the inner level then meets the outer one.
 pub(crate) fn lies_within(inner: &Level, outer: &Level) -> bool
     ensures { IsTrue result ↔ LiesWithin inner.now outer.now }
 {
@@ -18,15 +18,17 @@ pub(crate) fn lies_within(inner: &Level, outer: &Level) -> bool
         && inner.volume.zthr <= outer.volume.zthr
         && inner.volume.tthr <= outer.volume.tthr
         && inner.volume.tcoa <= outer.volume.tcoa
-        && counts_no_more(inner.volume.model, outer.volume.model)
+        && place(inner.volume.model) <= place(outer.volume.model)
 }
 
-/// Whether what counts by the inner model counts by the outer one.
-fn counts_no_more(inner: Model, outer: Model) -> bool
-    ensures { IsTrue result ↔ (outer ≡ Model.Tcpa → inner ≡ Model.Tcpa) }
+/// Where the model stands in that order.
+fn place(model: Model) -> u32
+    ensures { result ≡ place_of model }
 {
-    match outer {
-        Model::Taumod => true,
-        Model::Tcpa => inner == Model::Tcpa,
+    match model {
+        Model::Tau => 0,
+        Model::Tcpa => 1,
+        Model::Taumod => 2,
+        Model::Tep => 3,
     }
 }

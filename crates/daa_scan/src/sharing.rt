@@ -12,7 +12,7 @@ ghost use Rattle.daa_legs.specs.Trunk.{AreLegsOf};
 ghost use Rattle.daa_legs.specs.Meeting.{MeetsWithin, ViolatesOn};
 ghost use Rattle.daa_legs.specs.OwnLeg.{place_on};
 ghost use Rattle.daa_legs.specs.Runs.{MeetsBetween};
-ghost use Rattle.daa_scan.specs.Inside.Sharing.{IsTrailOf};
+ghost use Rattle.daa_scan.specs.Inside.Sharing.{IsTrailOf, IsSure};
 
 use crate::trail::Trail;
 use daa_config::{Candidate, Config, Level};
@@ -48,15 +48,34 @@ pub(crate) fn walk_ahead(
     requires aircraft { IsTrafficInRange aircraft.now }
     requires volume { IsVolumeInRange volume.now }
     requires trail { IsTrailOf config.now own.now lead aircraft.now volume.now trail.old }
+    requires sure { IsSure most trail.old }
     ensures trail { IsTrailOf config.now own.now lead aircraft.now volume.now trail.new }
     ensures done { trail.new.hit ≡ false → upto ≤ trail.new.walked }
     ensures end { trail.new.end ≡ trail.old.end }
+    ensures sure { IsSure most trail.new }
 {
     if trail.hit || upto <= trail.walked {
         return;
     }
     let far = stride_end(trail.walked, upto, most);
     walk_on(trail, config, own, lead, trunk, far, aircraft, volume);
+    trail.past = sure_past(trail, most);
+}
+
+/// After which leg a candidate must leave the trail's flight to be answered by the trail alone, if
+/// there is such a leg: after the hit, or after the last leg that may violate.
+#[inline(always)]
+fn sure_past(trail: &Trail, lookahead: u32) -> u32
+    ensures { IsSure lookahead (record trail.now { past = result }) }
+{
+    if trail.hit && trail.walked < lookahead {
+        return trail.walked;
+    }
+    let last = lookahead.min(trail.end);
+    if !trail.hit && last <= trail.walked {
+        return last;
+    }
+    u32::MAX
 }
 
 /// The leg up to which a trail is walked on, where it has to be walked on to leg `upto`.

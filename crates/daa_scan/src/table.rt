@@ -25,12 +25,15 @@ pub(crate) fn fill_branches(branches: &mut [Branch], own: &Own, config: &Config,
     ensures branches { AreBranchesOf config.now own.now needs.now branches.new }
     ensures length { length branches.new ≡ length branches.old }
 {
+    // a copy of its own, which no write into the table can change: what is found of the ownship
+    // alone, as the sine of its track, is then found once and not for each candidate
+    let own = *own;
     let present = velocity(own.gs, own.trk);
     // a copy of the loop for each kind, so that no candidate asks which it is
-    fill_kind(branches, own, config, needs, &present, Kind::Track);
-    fill_kind(branches, own, config, needs, &present, Kind::Speed);
-    fill_kind(branches, own, config, needs, &present, Kind::Climb);
-    fill_kind(branches, own, config, needs, &present, Kind::Height);
+    fill_kind(branches, &own, config, needs, &present, Kind::Track);
+    fill_kind(branches, &own, config, needs, &present, Kind::Speed);
+    fill_kind(branches, &own, config, needs, &present, Kind::Climb);
+    fill_kind(branches, &own, config, needs, &present, Kind::Height);
 }
 
 /// Keeps those of a kind where it is needed, after those of the kinds before it, where the present

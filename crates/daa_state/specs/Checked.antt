@@ -75,7 +75,7 @@ abbrev pub earlier : {A : Type 0} → Option A → Option A → Option A
 earlier (Some first) second = Some first
 earlier None second = second
 
--- what is wrong with the first aircraft with which something is, of those that stand in a list from a place on
+-- the first fault of the aircraft that are in a list from a place on
 unfoldable pub fault_from : List Traffic → ℕ → List Traffic → Option PictureFault
 fault_from traffic place [] = None
 fault_from traffic place (aircraft ∷ others) = earlier (fault_at traffic place aircraft) (fault_from traffic (place + 1) others)

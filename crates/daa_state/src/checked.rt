@@ -192,8 +192,8 @@ fn traffic_numbers(aircraft: &Traffic) -> [Number; 7]
 }
 
 impl Own {
-    /// The same ownship, if each of its numbers is in its range; else the first that is not, in
-    /// the order of the fields.
+    /// This ownship, if each of its numbers is in its range; else the first number, in the order
+    /// of the fields, that is out of its range.
     #[tactic(auto, using(crate::proofs::TakenLemmas::own_range))]
     pub fn check(self) -> Result<Own, OutOfRange>
         ensures value { IfOk result (λ own. own ≡ self) }
@@ -207,8 +207,8 @@ impl Own {
 }
 
 impl Traffic {
-    /// The same aircraft, if each of its numbers is in its range; else the first that is not, in
-    /// the order of the fields.
+    /// This aircraft, if each of its numbers is in its range; else the first number, in the order
+    /// of the fields, that is out of its range.
     #[tactic(auto, using(crate::proofs::TakenLemmas::traffic_range))]
     pub fn check(self) -> Result<Traffic, OutOfRange>
         ensures value { IfOk result (λ aircraft. aircraft ≡ self) }

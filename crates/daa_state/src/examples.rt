@@ -3,7 +3,7 @@
 /// North at 360 knots.
 pub const NORTH: &str = "own 0 0 1000 0 3600 0";
 
-/// The same, climbing at 3000 ft/min.
+/// North at 360 knots, climbing at 3000 ft/min.
 pub const CLIMBING: &str = "own 0 0 1000 0 3600 3000";
 
 /// 0.66 miles to the right, abeam in 10 seconds; a line of format 2.

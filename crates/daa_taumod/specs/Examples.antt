@@ -13,7 +13,7 @@ northward east north up rise = record {
   secs = 2;
 }
 
--- a volume of these thresholds, by one of the two models
+-- a volume of these thresholds, by one of the models
 abbrev pub volume_of : (dthr zthr tthr tcoa : ℕ) → Model → Volume
 volume_of dthr zthr tthr tcoa model = record { dthr = dthr; zthr = zthr; tthr = tthr; tcoa = tcoa; model = model }
 

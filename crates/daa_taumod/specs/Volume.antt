@@ -1,12 +1,12 @@
--- The well-clear volume at one time of a straight leg: the models WCV_TAUMOD and WCV_TCPA of Munoz and others, A Family of
--- Well-Clear Boundary Models. The time is n/d seconds after the leg's beginning; every bound is multiplied out by d, so that
--- all numbers are whole, and is inclusive.
-use Rattle.std.specs.Prelude.{ℤ, pos, ◌+ℤ◌, neg_ℤ, ◌*ℤ◌, ◌≤ℤ◌, ◌<ℤ◌, ◌⊎◌, unsigned_abs, ◌≤◌}
+-- The well-clear volume at one time of a straight leg: the models WCV_TAU, WCV_TCPA, WCV_TAUMOD and WCV_TEP of Munoz and
+-- others, A Family of Well-Clear Boundary Models. The time is n/d seconds after the leg's beginning; every bound is
+-- multiplied out by d, so that all numbers are whole, and is inclusive.
+use Rattle.std.specs.Prelude.{ℕ, ℤ, pos, ◌+ℤ◌, neg_ℤ, ◌*ℤ◌, ◌≤ℤ◌, ◌<ℤ◌, ◌⊎◌, unsigned_abs, ◌≤◌}
 use Rattle.daa_fixed.specs.Flat.{dot_of, cross_of, square_of}
 use Rattle.daa_fixed.specs.declared.Flat.{Flat}
 use Rattle.daa_fixed.specs.declared.Leg.{Leg}
 use Rattle.daa_taumod.specs.declared.Model.{Model}
-use Rattle.daa_taumod.specs.declared.Model.TheVariants.{Taumod, Tcpa}
+use Rattle.daa_taumod.specs.declared.Model.TheVariants.{Tau, Tcpa, Taumod, Tep}
 use Rattle.daa_taumod.specs.declared.Volume.{Volume}
 
 -- thresholds as large as a configuration's: 10 nautical miles, 10000 feet, 120 seconds
@@ -15,6 +15,13 @@ pub record IsVolumeInRange (volume : Volume) : Type 0 where
   pub zthr : volume.zthr ≤ 600000
   pub tthr : volume.tthr ≤ 120
   pub tcoa : volume.tcoa ≤ 120
+
+-- the models in the order in which their volumes lie one within the next, where the thresholds are the same
+abbrev pub place_of : Model → ℕ
+place_of Tau = 0
+place_of Tcpa = 1
+place_of Taumod = 2
+place_of Tep = 3
 
 -- the same thresholds by another model
 abbrev pub with_model : Model → Volume → Volume
@@ -40,12 +47,18 @@ abbrev pub PassesNear : Leg → Volume → ℤ → ℤ → Type 0
 PassesNear leg volume n d =
     square_of (cross_of (place_at leg n d) leg.velocity.flat) ≤ℤ (square_of (pos volume.dthr *ℤ d) *ℤ dot_of leg.velocity.flat leg.velocity.flat)
 
--- where the distance falls: modified tau, or the time to the closest approach, is at most tthr
+-- where the distance falls, the time that the model looks at is at most tthr: tau, the time to the closest approach, modified
+-- tau, or the time until the distance is dthr. For the last no root is needed: flown straight on for tthr seconds, it is
+-- then at most dthr, or falls no more.
 abbrev pub IsSoon : Model → Leg → Volume → ℤ → ℤ → Type 0
-IsSoon Taumod leg volume n d =
-    (dot_of (place_at leg n d) (place_at leg n d) +ℤ pos volume.tthr *ℤ d *ℤ dot_of (place_at leg n d) leg.velocity.flat) ≤ℤ square_of (pos volume.dthr *ℤ d)
+IsSoon Tau leg volume n d =
+    (dot_of (place_at leg n d) (place_at leg n d) +ℤ pos volume.tthr *ℤ d *ℤ dot_of (place_at leg n d) leg.velocity.flat) ≤ℤ pos 0
 IsSoon Tcpa leg volume n d =
     neg_ℤ (dot_of (place_at leg n d) leg.velocity.flat) ≤ℤ (pos volume.tthr *ℤ d *ℤ dot_of leg.velocity.flat leg.velocity.flat)
+IsSoon Taumod leg volume n d =
+    (dot_of (place_at leg n d) (place_at leg n d) +ℤ pos volume.tthr *ℤ d *ℤ dot_of (place_at leg n d) leg.velocity.flat) ≤ℤ square_of (pos volume.dthr *ℤ d)
+IsSoon Tep leg volume n d =
+    (pos 0 ≤ℤ dot_of (place_at leg (n +ℤ pos volume.tthr *ℤ d) d) leg.velocity.flat) ⊎ IsNear leg volume (n +ℤ pos volume.tthr *ℤ d) d
 
 -- the distance falls, soon, and to at most dthr
 pub record IsClosing (leg : Leg) (volume : Volume) (n d : ℤ) : Type 0 where

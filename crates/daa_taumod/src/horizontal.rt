@@ -1,11 +1,11 @@
 //! The horizontal part of the volume: one function for each clause of its definition.
 
-ghost use Rattle.std.specs.Prelude.{◌↔◌, ◌≤ℤ◌, ◌<ℤ◌, IsTrue, ℤ, pos};
+ghost use Rattle.std.specs.Prelude.{◌↔◌, ◌+ℤ◌, ◌*ℤ◌, ◌≤ℤ◌, ◌<ℤ◌, IsTrue, ℤ, pos};
 ghost use Rattle.daa_fixed.specs.Flat.{dot_of};
 ghost use Rattle.daa_fixed.specs.Leg.{IsLegInRange};
 ghost use Rattle.daa_taumod.specs.Volume.{IsVolumeInRange, ViolatesHorizontally, IsNear, IsClosing, IsSoon, PassesNear, place_at};
 
-use crate::place::place_then;
+use crate::place::{place_later, place_then};
 use crate::threshold::{scaled_square, scaled_threshold};
 use crate::{Model, Volume};
 use daa_fixed::{Leg, Point, cross, dot, square};
@@ -54,20 +54,21 @@ fn is_soon(leg: &Leg, volume: &Volume, point: &Point) -> bool
         ↔ IsSoon volume.now.model leg.now volume.now point.now.num point.now.den }
 {
     match volume.model {
-        Model::Taumod => is_tau_soon(leg, volume, point),
+        Model::Tau => is_tau_soon(leg, volume, point),
         Model::Tcpa => is_closest_soon(leg, volume, point),
+        Model::Taumod => is_modified_tau_soon(leg, volume, point),
+        Model::Tep => is_entry_soon(leg, volume, point),
     }
 }
 
-/// Whether modified tau is at most `tthr`.
+/// Whether tau is at most `tthr`.
 fn is_tau_soon(leg: &Leg, volume: &Volume, point: &Point) -> bool
     requires leg { IsLegInRange leg.now }
     requires volume { IsVolumeInRange volume.now }
-    ensures { IsTrue result ↔ IsSoon Model.Taumod leg.now volume.now point.now.num point.now.den }
+    ensures { IsTrue result ↔ IsSoon Model.Tau leg.now volume.now point.now.num point.now.den }
 {
     let place = place_then(leg, point);
-    square(&place) + scaled_threshold(volume.tthr, point) * dot(&place, &leg.velocity.flat)
-        <= scaled_square(volume.dthr, point)
+    square(&place) + scaled_threshold(volume.tthr, point) * dot(&place, &leg.velocity.flat) <= 0
 }
 
 /// Whether the time to the closest approach is at most `tthr`.
@@ -79,6 +80,48 @@ fn is_closest_soon(leg: &Leg, volume: &Volume, point: &Point) -> bool
     let place = place_then(leg, point);
     -dot(&place, &leg.velocity.flat)
         <= scaled_threshold(volume.tthr, point) * square(&leg.velocity.flat)
+}
+
+/// Whether modified tau is at most `tthr`.
+fn is_modified_tau_soon(leg: &Leg, volume: &Volume, point: &Point) -> bool
+    requires leg { IsLegInRange leg.now }
+    requires volume { IsVolumeInRange volume.now }
+    ensures { IsTrue result ↔ IsSoon Model.Taumod leg.now volume.now point.now.num point.now.den }
+{
+    let place = place_then(leg, point);
+    square(&place) + scaled_threshold(volume.tthr, point) * dot(&place, &leg.velocity.flat)
+        <= scaled_square(volume.dthr, point)
+}
+
+/// Whether the time until the distance is `dthr` is at most `tthr`: `tthr` seconds later the
+/// distance falls no more, or is at most `dthr`.
+fn is_entry_soon(leg: &Leg, volume: &Volume, point: &Point) -> bool
+    requires leg { IsLegInRange leg.now }
+    requires volume { IsVolumeInRange volume.now }
+    ensures { IsTrue result ↔ IsSoon Model.Tep leg.now volume.now point.now.num point.now.den }
+{
+    falls_no_more(leg, volume, point) || is_near_later(leg, volume, point)
+}
+
+/// Whether the distance does not fall `tthr` seconds later.
+fn falls_no_more(leg: &Leg, volume: &Volume, point: &Point) -> bool
+    requires leg { IsLegInRange leg.now }
+    requires volume { IsVolumeInRange volume.now }
+    ensures { let later = point.now.num +ℤ pos volume.now.tthr *ℤ point.now.den in
+        IsTrue result ↔ (pos 0
+        ≤ℤ dot_of (place_at leg.now later point.now.den) leg.now.velocity.flat) }
+{
+    dot(&place_later(leg, volume.tthr, point), &leg.velocity.flat) >= 0
+}
+
+/// Whether the distance is at most `dthr` `tthr` seconds later.
+fn is_near_later(leg: &Leg, volume: &Volume, point: &Point) -> bool
+    requires leg { IsLegInRange leg.now }
+    requires volume { IsVolumeInRange volume.now }
+    ensures { let later = point.now.num +ℤ pos volume.now.tthr *ℤ point.now.den in
+        IsTrue result ↔ IsNear leg.now volume.now later point.now.den }
+{
+    square(&place_later(leg, volume.tthr, point)) <= scaled_square(volume.dthr, point)
 }
 
 /// Whether the straight line comes within `dthr` at its closest approach. The answer is the same at

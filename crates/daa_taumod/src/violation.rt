@@ -1,14 +1,15 @@
 //! The volume as a whole.
 
-ghost use Rattle.std.specs.Prelude.{◌↔◌, ◌≤ℤ◌, IsTrue, ℤ, pos};
+ghost use Rattle.std.specs.Prelude.{◌↔◌, ◌≤◌, ◌≤ℤ◌, IsTrue, ℤ, pos};
 ghost use Rattle.daa_fixed.specs.declared.Leg.{Leg};
 ghost use Rattle.daa_fixed.specs.Leg.{IsLegInRange};
+ghost use Rattle.daa_taumod.specs.declared.Model.{Model};
 ghost use Rattle.daa_taumod.specs.declared.Volume.{Volume};
-ghost use Rattle.daa_taumod.specs.Volume.{IsVolumeInRange, Violates, with_model};
+ghost use Rattle.daa_taumod.specs.Volume.{IsVolumeInRange, Violates, place_of, with_model};
 
+use crate::Volume;
 use crate::horizontal::violates_horizontally;
 use crate::vertical::violates_vertically;
-use crate::{Model, Volume};
 use daa_fixed::{Leg, Point};
 
 /// Whether the leg violates the volume at that time: horizontally and vertically at once, each
@@ -21,10 +22,12 @@ pub fn violates(leg: &Leg, volume: &Volume, point: &Point) -> bool
     violates_horizontally(leg, volume, point) && violates_vertically(leg, volume, point)
 }
 
-/// A law of the two models: a violation with the time to the closest approach is a violation with
-/// modified tau and equal thresholds.
-pub fn tcpa_implies_taumod()
-    ensures { (leg : Leg) (volume : Volume) (n d : ℤ) → pos 1 ≤ℤ d →
-        Violates leg (with_model Model.Tcpa volume) n d
-        → Violates leg (with_model Model.Taumod volume) n d }
+/// A law of the models: a violation by one of them is a violation by each later one, with equal
+/// thresholds, in the order tau, time to the closest approach, modified tau, time to the entry
+/// point (the inclusion theorem of the source).
+pub fn models_are_nested()
+    ensures { (inner outer : Model) (leg : Leg) (volume : Volume) (n d : ℤ) →
+        place_of inner ≤ place_of outer → pos 1 ≤ℤ d →
+        Violates leg (with_model inner volume) n d
+        → Violates leg (with_model outer volume) n d }
 {}

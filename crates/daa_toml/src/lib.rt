@@ -10,8 +10,8 @@ ghost use Rattle.daa_numbers.specs.Numbers.{IsReadAs};
 use daa_numbers::DaaConfig;
 use std::alloc::Global;
 
-/// Fills in the numbers of a configuration's text, or answers its fault. Places of levels past
-/// those that are counted stay as they were, and the cylinder where no recovery is asked for.
+/// Fills in the numbers of a configuration's text, or answers its fault. Where the text has fewer
+/// than four levels or asks for no recovery, what is left over of the struct stays as it was.
 #[unsafe(no_mangle)]
 pub extern "C" fn daa_read(alloc: Global, text: &[u8], config: &mut DaaConfig) -> i32
     ensures read { result ≡ pos 0 → IsReadAs text.now config.new }

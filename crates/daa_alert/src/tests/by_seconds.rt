@@ -1,5 +1,5 @@
-//! The same first leg, found second by second: a plain program that the tests compare with the one
-//! by halving.
+//! The first leg of an alert, found second by second: a plain program that the tests compare with
+//! the one by halving.
 
 ghost use Rattle.std.specs.Prelude.{◌↔◌, ◌≡◌, ◌<◌, ◌≤◌, IsTrue, MatchOption, length};
 ghost use Rattle.daa_taumod.specs.Volume.{IsVolumeInRange};

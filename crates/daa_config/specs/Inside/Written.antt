@@ -4,4 +4,4 @@ use Rattle.daa_config.specs.ConfigOf.{Written}
 
 -- those that the reader found
 abbrev pub written_from : Found → Written
-written_from found = record { numbers = found.numbers; recovery = found.recovery; levels = found.levels.items }
+written_from found = record { numbers = found.numbers; recovery = found.recovery; last_times = found.last_times; levels = found.levels.items }

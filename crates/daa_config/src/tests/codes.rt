@@ -368,7 +368,7 @@ fn tables_of_ranges(rt: HostRuntime) -> Result<(), Fail> {
     Ok(())
 }
 
-static LEVEL_RANGES: [(&str, &str, u8); 26] = [
+static LEVEL_RANGES: [(&str, &str, u8); 38] = [
     ("dthr = 660", "dthr = 1", 0),
     ("dthr = 660", "dthr = 0", 6),
     ("dthr = 660", "dthr = 10000", 0),
@@ -393,6 +393,18 @@ static LEVEL_RANGES: [(&str, &str, u8); 26] = [
     ("alert = 10", "alert = 10, tcpa = -1", 6),
     ("alert = 10", "alert = 10, tcpa = 1.0", 5),
     ("alert = 10", "alert = 10, tcpa = true", 5),
+    ("alert = 10", "alert = 10, tau = 0, tep = 0", 0),
+    ("alert = 10", "alert = 10, tau = 1", 0),
+    ("alert = 10", "alert = 10, tep = 1, tau = 0", 0),
+    ("alert = 10", "alert = 10, tau = 2", 6),
+    ("alert = 10", "alert = 10, tau = -1", 6),
+    ("alert = 10", "alert = 10, tep = 2", 6),
+    ("alert = 10", "alert = 10, tau = true", 5),
+    ("alert = 10", "alert = 10, tep = 1.0", 5),
+    ("alert = 10", "alert = 10, tau = 1, tep = 1", 6),
+    ("alert = 10", "alert = 10, tcpa = 1, tau = 1", 6),
+    ("alert = 10", "alert = 10, tcpa = 1, tep = 1", 6),
+    ("alert = 10", "tep = 1", 4),
     ("alert = 10", "alert = 10, tcpb = 1", 3),
     ("alert = 10", "tcpa = 1", 4),
 ];
@@ -610,6 +622,31 @@ fn what_is_asked(rt: HostRuntime) -> Result<(), Fail> {
     let asking = edited(rt.alloc(), ONE_LEVEL, "turn_rate = 3\n", ASKING)?;
     for edit in &ASKED {
         expect_edited(&rt, asking.as_str(), edit)?;
+    }
+    Ok(())
+}
+
+/// Edits that ask for last times.
+static LAST_TIMES: [(&str, &str, u8); 12] = [
+    ("turn", "last_times = 0\nturn", 0),
+    ("turn", "last_times = 1\nturn", 0),
+    ("turn", "last_times = 2\nturn", 6),
+    ("turn", "last_times = -1\nturn", 6),
+    ("turn", "last_times = true\nturn", 5),
+    ("turn", "last_times = 1.0\nturn", 5),
+    ("turn", "last_times = {}\nturn", 5),
+    ("turn", "last_times = 1\nlast_times = 1\nturn", 2),
+    ("turn", "last_time = 1\nturn", 3),
+    (LAST, "alert = 10, last_times = 1 } ]", 3),
+    // beside another fault the one of least number
+    ("turn_rate = 3", "last_times = true", 4),
+    ("resolve = 1", "last_times = 2\nresolve = 3", 6),
+];
+
+#[test]
+fn last_times(rt: HostRuntime) -> Result<(), Fail> {
+    for edit in &LAST_TIMES {
+        expect_edited(&rt, ONE_LEVEL, edit)?;
     }
     Ok(())
 }

@@ -185,7 +185,8 @@ fn levels(rt: HostRuntime) -> Result<(), Fail> {
 
 /// The configuration of kept numbers.
 fn kept_config(kept: &ConfigNumbers) -> Result<Config, ConfigFault> {
-    Config::of(&kept.numbers, &kept.recovery, kept.levels.as_slice())
+    let levels = kept.levels.as_slice();
+    Config::of(&kept.numbers, &kept.recovery, &kept.last_times, levels)
 }
 
 /// The numbers of a text, kept by a caller, are the text's configuration again.
@@ -203,10 +204,12 @@ fn numbers_that_are_kept(rt: HostRuntime) -> Result<(), Fail> {
 }
 
 #[test]
-fn second_model(rt: HostRuntime) -> Result<(), Fail> {
+fn models(rt: HostRuntime) -> Result<(), Fail> {
     for (key, model) in [
         ("tcpa = 0, tcoa = 0", Model::Taumod),
         ("tcpa = 1, tcoa = 0", Model::Tcpa),
+        ("tau = 1, tcoa = 0", Model::Tau),
+        ("tep = 1, tcoa = 0", Model::Tep),
     ] {
         let config = edited(rt.alloc(), "tcoa = 0", key)?;
         assert!(rt; config.levels() == 1);
@@ -278,6 +281,19 @@ fn what_is_asked(rt: HostRuntime) -> Result<(), Fail> {
     for (text, nearest) in &ASKED {
         let config = edited(rt.alloc(), "turn_rate", text)?;
         assert!(rt; config.nearest() == *nearest, "{text}");
+    }
+    Ok(())
+}
+
+#[test]
+fn last_times_are_asked_for(rt: HostRuntime) -> Result<(), Fail> {
+    for (text, asked) in [
+        ("turn_rate", false),
+        ("last_times = 0\nturn_rate", false),
+        ("last_times = 1\nturn_rate", true),
+    ] {
+        let config = edited(rt.alloc(), "turn_rate", text)?;
+        assert!(rt; config.last_times() == asked, "{text}");
     }
     Ok(())
 }

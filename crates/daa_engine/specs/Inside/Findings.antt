@@ -12,9 +12,13 @@ use Rattle.daa_resolve.specs.declared.side.Side.TheVariants.{Lower, Upper}
 use Rattle.daa_engine.specs.declared.alerts.AircraftAlert.{AircraftAlert}
 use Rattle.daa_engine.specs.declared.advice.Sides.{Sides}
 use Rattle.daa_engine.specs.declared.advice.Advice.{Advice}
+use Rattle.daa_last.specs.Last.{IsLastTime}
 use Rattle.daa_recovery.specs.Recovery.{IsRecovery}
 use Rattle.daa_recovery.specs.declared.recovery.Recovery.{Recovery}
-use Rattle.daa_engine.specs.MomentText.{wants_recovery, found_of}
+use Rattle.daa_engine.specs.MomentText.{wants_last, wants_recovery, found_of}
+use Rattle.daa_engine.specs.declared.delay.Delay.{Delay}
+use Rattle.daa_engine.specs.declared.delay.Delay.TheVariants as delay
+use Rattle.daa_engine.specs.declared.delay.Delays.{Delays}
 use Rattle.daa_engine.specs.declared.rescue.Rescue.{Rescue}
 use Rattle.daa_engine.specs.declared.rescue.Rescue.TheVariants.{Silent, Said}
 use Rattle.daa_engine.specs.declared.rescue.Rescues.{Rescues}
@@ -41,6 +45,18 @@ pub record IsAdvice (Covered : ℕ → ℕ → Type 0) (settings : Settings) (ow
   pub speed : AreSides Covered settings own Speed advice.speed
   pub climb : AreSides Covered settings own Climb advice.climb
   pub height : AreSides Covered settings own Height advice.height
+
+-- this is what the line of the last time of a kind with these answers says
+abbrev pub IsDelay : Settings → Picture → Kind → Sides → Delay → Type 0
+IsDelay settings picture kind sides delay.Silent = wants_last settings sides.lower ≡ false
+IsDelay settings picture kind sides (delay.Said found) = IsTrue (wants_last settings sides.lower) × IsLastTime settings picture kind found
+
+-- and of all kinds
+pub record AreDelays (settings : Settings) (picture : Picture) (advice : Advice) (delays : Delays) : Type 0 where
+  pub track : IsDelay settings picture Track advice.track delays.track
+  pub speed : IsDelay settings picture Speed advice.speed delays.speed
+  pub climb : IsDelay settings picture Climb advice.climb delays.climb
+  pub height : IsDelay settings picture Height advice.height delays.height
 
 -- this is what the recovery line of a kind with these answers says
 abbrev pub IsRescue : Settings → Picture → Kind → Sides → Rescue → Type 0

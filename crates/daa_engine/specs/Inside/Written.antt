@@ -8,11 +8,14 @@ use Rattle.daa_state.specs.Picture.{aircraft_of}
 use Rattle.daa_state.specs.declared.word.Picture.{Picture}
 use Rattle.daa_state.specs.declared.word.Traffic.{Traffic}
 use Rattle.daa_bands.specs.Walk.{bands_left}
-use Rattle.daa_report.specs.Lines.{Text, moment_line, now_line, alert_line, resolve_line, recover_line, done_line}
+use Rattle.daa_report.specs.Lines.{Text, moment_line, now_line, alert_line, resolve_line, last_line, recover_line, done_line}
 use Rattle.daa_engine.specs.MomentText.{of_each, line_of}
 use Rattle.daa_engine.specs.declared.alerts.AircraftAlert.{AircraftAlert}
 use Rattle.daa_engine.specs.declared.advice.Sides.{Sides}
 use Rattle.daa_engine.specs.declared.advice.Advice.{Advice}
+use Rattle.daa_engine.specs.declared.delay.Delay.{Delay}
+use Rattle.daa_engine.specs.declared.delay.Delay.TheVariants as delay
+use Rattle.daa_engine.specs.declared.delay.Delays.{Delays}
 use Rattle.daa_engine.specs.declared.rescue.Rescue.{Rescue}
 use Rattle.daa_engine.specs.declared.rescue.Rescue.TheVariants.{Silent, Said}
 use Rattle.daa_engine.specs.declared.rescue.Rescues.{Rescues}
@@ -48,6 +51,22 @@ sides_text kind sides = resolve_line kind sides.lower sides.upper
 unfoldable pub advice_text : Advice → Text
 advice_text advice = of_each (λ kind. sides_text kind (sides_of advice kind))
 
+-- the line of a kind's last time, where it has one
+abbrev pub delay_text : Kind → Delay → Text
+delay_text kind delay.Silent = []
+delay_text kind (delay.Said found) = last_line kind found
+
+-- what was found of a kind's last time
+abbrev pub delay_of : Delays → Kind → Delay
+delay_of delays Track = delays.track
+delay_of delays Speed = delays.speed
+delay_of delays Climb = delays.climb
+delay_of delays Height = delays.height
+
+-- the lines of the last times of all kinds
+unfoldable pub delays_text : Delays → Text
+delays_text delays = of_each (λ kind. delay_text kind (delay_of delays kind))
+
 -- the line of a kind's recovery, where it has one
 abbrev pub rescue_text : Kind → Rescue → Text
 rescue_text kind Silent = []
@@ -65,7 +84,7 @@ unfoldable pub rescues_text : Rescues → Text
 rescues_text rescues = of_each (λ kind. rescue_text kind (rescue_of rescues kind))
 
 -- the text of a moment, line by line
-unfoldable pub written : Settings → Picture → List ℕ → List AircraftAlert → Advice → Rescues → Text
-written settings picture board alerts advice rescues =
+unfoldable pub written : Settings → Picture → List ℕ → List AircraftAlert → Advice → Delays → Rescues → Text
+written settings picture board alerts advice delays rescues =
     moment_line picture.time
-    ++ (alerts_text (aircraft_of picture) alerts ++ (bands_texts settings board ++ (advice_text advice ++ (rescues_text rescues ++ done_line picture.time))))
+    ++ (alerts_text (aircraft_of picture) alerts ++ (bands_texts settings board ++ (advice_text advice ++ (delays_text delays ++ (rescues_text rescues ++ done_line picture.time)))))

@@ -32,7 +32,7 @@ module _ (p : OutlookState) (kind : Kind) where
   bound_for None value = p.horizon
   bound_for (Some r) value = if int_lt (placed p kind value) (placed p kind r.value) then r.after + 1 else r.after
 
-  -- the index of the value is below count, it recovers, and it comes first of those below count that do at that time
+  -- the value of this recovery is below count, recovers at its time, and comes before all others below count that do so
   pub record IsFirst (count : ℕ) (r : Recovery) : Type 0 where
     pub index : ℕ
     pub below : index < count

@@ -49,7 +49,7 @@ module _ (settings : Settings) where
     pub texts : SplitsByEach (IsEventText settings) own lane.sheet.text
 
   -- these bytes were fed; the sink, which had taken `first`, took the texts of the events given so
-  -- far, but of those that wait
+  -- far, but for the events that wait
   pub record Holds (first : ToldBytes) (bytes : Bytes) (progress : Progress) (waiting : List Event)
       (now : ToldBytes) : Type 0 where
     pub given : List Event

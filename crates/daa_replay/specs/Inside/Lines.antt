@@ -23,7 +23,7 @@ abbrev pub given_with : List Event → Option Event → List Event
 given_with given None = given
 given_with given (Some event) = given ++ event ∷ []
 
--- these bytes were fed, some of their lines were taken, and these are the events of those
+-- these bytes were fed, some of their lines were taken, and these are the events of the taken lines
 pub record Follows (bytes : Bytes) (given : List Event) (lines : LinesState)
     (moments : MomentsState) : Type 0 where
   pub taken : List Bytes

@@ -11,7 +11,7 @@ use Rattle.daa_state.specs.declared.word.Own.{Own}
 use Rattle.daa_state.specs.declared.word.Traffic.{Traffic}
 use Rattle.daa_legs.specs.Branch.{lead_of}
 use Rattle.daa_legs.specs.Meeting.{Meets, ViolatesOn}
-use Rattle.daa_scan.specs.Inside.Sharing.{IsTrailOf}
+use Rattle.daa_scan.specs.Inside.Sharing.{IsTrailOf, IsSure}
 use Rattle.daa_scan.specs.declared.marking.Trails.{Trails}
 use Rattle.daa_scan.specs.declared.marking.Stretch.{Stretch}
 use Rattle.daa_scan.specs.declared.marking.Stretches.{Stretches}
@@ -28,6 +28,11 @@ module _ (settings : Settings) where
     pub speeds : IsStretchOf Speed stretches.speeds
     pub climbs : IsStretchOf Climb stretches.climbs
     pub heights : IsStretchOf Height stretches.heights
+
+-- both trails of a kind are sure where they say so
+pub record AreSure (lookahead : ℕ) (trails : Trails) : Type 0 where
+  pub upper : IsSure lookahead trails.upper
+  pub lower : IsSure lookahead trails.lower
 
 module _ (settings : Settings) (own : Own) (aircraft : Traffic) where
   -- both sides of a kind; from a trail's end on no candidate of the kind violates the volume

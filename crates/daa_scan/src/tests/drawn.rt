@@ -15,7 +15,7 @@ use std::test::Fail;
 /// Of one level to four; that lie within one another, and that don't by a threshold, by the
 /// lookahead and by the model; one second and 180 of lookahead; one value of a kind and many; rates
 /// that reach each value at once, and slow ones.
-static KINDS: [Settings; 11] = [
+static KINDS: [Settings; 13] = [
     Settings {
         text: ONE_LEVEL,
         edits: &[],
@@ -62,6 +62,26 @@ static KINDS: [Settings; 11] = [
             "tcoa = 0\nlookahead = 55",
             "tcoa = 20\ntcpa = 1\nlookahead = 55",
         )],
+    },
+    Settings {
+        text: THREE_LEVELS,
+        edits: &[
+            ("tcoa = 0", "tcoa = 0\ntep = 1"),
+            (
+                "tcoa = 0\nlookahead = 55",
+                "tcoa = 0\ntau = 1\nlookahead = 55",
+            ),
+        ],
+    },
+    Settings {
+        text: THREE_LEVELS,
+        edits: &[
+            ("tcoa = 0", "tcoa = 0\ntau = 1"),
+            (
+                "tcoa = 0\nlookahead = 55",
+                "tcoa = 20\ntep = 1\nlookahead = 55",
+            ),
+        ],
     },
     Settings {
         text: THREE_LEVELS,

@@ -13,4 +13,6 @@ returns c =
     let look : row_by c.number-5.result ≡ number "lookahead" (pos 1) (pos 180) l.lookahead = search rules in
     let warn : row_by c.number-6.result ≡ number "alert" (pos 1) (pos 180) l.alert = search rules in
     let tcpa : row_by c.optional.result ≡ optional "tcpa" (pos 1) l.tcpa = search rules in
-    rw (dthr, zthr, tthr, tcoa, look, warn, tcpa) refl
+    let tau : row_by c.optional-2.result ≡ optional "tau" (pos 1) l.tau = search rules in
+    let tep : row_by c.optional-3.result ≡ optional "tep" (pos 1) l.tep = search rules in
+    rw (dthr, zthr, tthr, tcoa, look, warn, tcpa, tau, tep) refl

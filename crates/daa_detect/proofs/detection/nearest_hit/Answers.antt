@@ -4,7 +4,7 @@ use Rattle.daa_fixed.specs.Leg.{IsLegInRange}
 use Rattle.daa_taumod.specs.Volume.{IsVolumeInRange}
 use Rattle.daa_detect.specs.Inside.Motion.{rate_of}
 use Rattle.daa_detect.proofs.Sizes.{IsMotionInRange, margin-kept}
-use Rattle.daa_detect.proofs.DecidingTimes.{missed, first_decides, last_decides, is_ahead, approach_hits}
+use Rattle.daa_detect.proofs.DecidingTimes.{missed, first_decides, is_ahead, approach_hits}
 use Rattle.daa_detect.proofs.detection.nearest_hit.Goals as goal
 
 pub returns-then-motion-lt0 : goal.returns-then-motion-lt0
@@ -31,22 +31,12 @@ returns-then-rate_at-ge0 c =
     let up : pos 0 ≤ℤ rate_of m first.num first.den = omega (arith, ints) in
     first_decides c.args.leg.now c.args.volume.now m c.motion_of-motion.ensures r v first last c.in_ok-first.ensures.times up _ c.end_if_held.ensures
 
-pub end_if_held-requires-then-rate_at-le0-clause-passes : goal.end_if_held-requires-then-rate_at-le0-clause-passes
-end_if_held-requires-then-rate_at-le0-clause-passes c =
+pub falling_hit-requires-clause-passes : goal.falling_hit-requires-clause-passes
+falling_hit-requires-clause-passes c =
     let m = c.motion_of-motion.result in
     let s : IsMotionInRange m = search rules in
     let kept = margin-kept s in
     omega (arith, ints)
-
-pub returns-then-rate_at-le0 : goal.returns-then-rate_at-le0
-returns-then-rate_at-le0 c =
-    let m = c.motion_of-motion.result in
-    let r : IsLegInRange c.args.leg.now = search rules in
-    let v : IsVolumeInRange c.args.volume.now = search rules in
-    let first = c.in_ok-first.first in
-    let last = c.in_ok-first.last in
-    let down : rate_of m last.num last.den ≤ℤ pos 0 = omega (arith, ints) in
-    last_decides c.args.leg.now c.args.volume.now m c.motion_of-motion.ensures r v first last c.in_ok-first.ensures.times down _ c.end_if_held-then-rate_at-le0.ensures
 
 pub closest_approach-requires : goal.closest_approach-requires
 closest_approach-requires c =

@@ -21,4 +21,4 @@ returns-else-motion-eq0 c =
     let not_negative : pos 0 ≤ℤ dot_of c.args.leg.now.velocity.flat c.args.leg.now.velocity.flat = dot_nonneg c.args.leg.now.velocity.flat in
     let moves : pos 0 <ℤ dot_of c.args.leg.now.velocity.flat c.args.leg.now.velocity.flat = omega (arith, ints, s.speed.size, not_negative, c.requires.motion.speed_squared) in
     let same = near_is c.args.leg.now c.args.volume.now c.args.motion.now c.requires.motion point.num point.den moves in
-    ((λ t. same.0 (c.is_tau_within.ensures.0 t)), (λ h. c.is_tau_within.ensures.1 (same.1 h)))
+    ((λ t. same.0 (c.is_modified_tau_within.ensures.0 t)), (λ h. c.is_modified_tau_within.ensures.1 (same.1 h)))

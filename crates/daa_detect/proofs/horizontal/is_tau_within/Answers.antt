@@ -1,7 +1,10 @@
-use Rattle.std.proofs.Common.{◌*◌, ◌+ℤ◌, ◌*ℤ◌, lit<, rules, w64, to_z-of_z, refl}
+use Rattle.std.proofs.Common.{ℤ, ◌*◌, ◌+ℤ◌, ◌*ℤ◌, ap, neg_ℤ, ◌∙◌, lit<, rules, w64, to_z-of_z}
 use mir.Syntax.{w128}
 use Rattle.daa_fixed.specs.Size.{IsWithin}
-use Rattle.daa_fixed.proofs.Bounds.{times, plus, fits, as_within, le_test}
+use Rattle.daa_fixed.proofs.Bounds.{times, plus, fits, as_within, le_test, zero_less, zero_less-within}
+use Rattle.daa_fixed.specs.Leg.{IsLegInRange}
+use Rattle.daa_fixed.specs.Flat.{square_of}
+use Rattle.daa_fixed.proofs.LegSizes as leg
 use Rattle.daa_fixed.proofs.PointSizes.{IsPointInRange}
 use Rattle.daa_detect.proofs.Sizes as size
 use Rattle.daa_detect.proofs.Sizes.{IsMotionInRange, most_rate, of_motion}
@@ -18,6 +21,16 @@ overflow_add-later c =
     let f2 = fits w64 g (lit< tt) in
     simp to_z-of_z (fits w64 (plus w g) (lit< tt))
 
+pub overflow_mul-miss : goal.overflow_mul-miss
+overflow_mul-miss c =
+    let t : IsPointInRange c.args.point.now = search rules in
+    let u = size.small t c.requires.small in
+    let r : IsLegInRange c.args.leg.now = search rules in
+    let x : IsWithin 3200000000000 c.miss.result = as_within c.miss.ensures (leg.sxv r) in
+    let y = times u.den x in
+    let f6 = fits w64 x (lit< tt) in
+    simp (to_z-of_z, of_motion) (fits w64 y (lit< tt))
+
 pub overflow_mul-result : goal.overflow_mul-result
 overflow_mul-result c =
     let s : IsMotionInRange c.args.motion.now = search rules in
@@ -32,12 +45,30 @@ overflow_mul-result c =
     let f5 = fits w128 (plus w g) (lit< tt) in
     simp to_z-of_z (fits w128 (times w (plus w g)) (lit< tt))
 
-pub overflow_mul-result-3 : goal.overflow_mul-result-3
-overflow_mul-result-3 c =
-    let s : IsMotionInRange c.args.motion.now = search rules in
+pub overflow_mul-result-2 : goal.overflow_mul-result-2
+overflow_mul-result-2 c =
     let t : IsPointInRange c.args.point.now = search rules in
     let u = size.small t c.requires.small in
-    simp of_motion (fits w128 (times (times u.den u.den) s.margin) (lit< tt))
+    let r : IsLegInRange c.args.leg.now = search rules in
+    let x : IsWithin 3200000000000 c.miss.result = as_within c.miss.ensures (leg.sxv r) in
+    let y = times u.den x in
+    let f6 = fits w64 x (lit< tt) in
+    let f7 = fits w64 y (lit< tt) in
+    let f8 = fits w128 y (lit< tt) in
+    simp (to_z-of_z, of_motion) (fits w128 (times y y) (lit< tt))
+
+pub overflow_sub-result : goal.overflow_sub-result
+overflow_sub-result c =
+    let t : IsPointInRange c.args.point.now = search rules in
+    let u = size.small t c.requires.small in
+    let r : IsLegInRange c.args.leg.now = search rules in
+    let x : IsWithin 3200000000000 c.miss.result = as_within c.miss.ensures (leg.sxv r) in
+    let y = times u.den x in
+    let f6 = fits w64 x (lit< tt) in
+    let f7 = fits w64 y (lit< tt) in
+    let f8 = fits w128 y (lit< tt) in
+    let f9 = fits w128 (times y y) (lit< tt) in
+    simp (to_z-of_z, of_motion) (fits w128 (zero_less-within _ (times y y)) (lit< tt))
 
 pub returns : goal.returns
 returns c =
@@ -48,8 +79,17 @@ returns c =
     let g : IsWithin (120 * 40000 * 3200000000) c.rate_gain.result = as_within c.rate_gain.ensures (size.gain s u c.requires.secs) in
     let f1 = fits w64 w (lit< tt) in
     let f2 = fits w64 g (lit< tt) in
+    let r : IsLegInRange c.args.leg.now = search rules in
+    let x : IsWithin 3200000000000 c.miss.result = as_within c.miss.ensures (leg.sxv r) in
+    let y = times u.den x in
+    let f6 = fits w64 x (lit< tt) in
     let f3 = fits w64 (plus w g) (lit< tt) in
     let f4 = fits w128 w (lit< tt) in
     let f5 = fits w128 (plus w g) (lit< tt) in
-    let f6 = fits w128 (times w (plus w g)) (lit< tt) in
-    simp (to_z-of_z, of_motion) (le_test _ _ _ _ (λ i. c.rate_at-rate.ensures i *ℤ (c.rate_at-rate.ensures i +ℤ c.rate_gain.ensures i)) refl)
+    let f7 = fits w64 y (lit< tt) in
+    let f8 = fits w128 y (lit< tt) in
+    let f9 = fits w128 (times y y) (lit< tt) in
+    let f10 = fits w128 (zero_less-within _ (times y y)) (lit< tt) in
+    let f11 = fits w128 (times w (plus w g)) (lit< tt) in
+    let missed = ap (λ (z : ℤ). neg_ℤ (square_of (c.args.point.now.den *ℤ z))) c.miss.ensures in
+    simp (to_z-of_z, of_motion) (le_test _ _ _ _ (λ i. c.rate_at-rate.ensures i *ℤ (c.rate_at-rate.ensures i +ℤ c.rate_gain.ensures i)) (zero_less (square_of (c.args.point.now.den *ℤ c.miss.result)) ∙ missed))

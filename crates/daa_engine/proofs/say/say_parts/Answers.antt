@@ -22,10 +22,14 @@ pub returns-in_err-say_advice : goal.returns-in_err-say_advice
 unfolding written
 returns-in_err-say_advice g c = after _ c.in_ok-say_head.ensures (after _ c.in_ok-say_traffic.ensures (after _ c.in_ok-flush.ensures.says (after _ c.in_ok-say_all_bands.ensures (cut _ _ _ c.from_residual-in_err-say_advice.ensures.1 c.in_err-say_advice.ensures))))
 
+pub returns-in_err-say_delays : goal.returns-in_err-say_delays
+unfolding written
+returns-in_err-say_delays g c = after _ c.in_ok-say_head.ensures (after _ c.in_ok-say_traffic.ensures (after _ c.in_ok-flush.ensures.says (after _ c.in_ok-say_all_bands.ensures (after _ c.in_ok-say_advice.ensures (cut _ _ _ c.from_residual-in_err-say_delays.ensures.1 c.in_err-say_delays.ensures)))))
+
 pub returns-in_err-say_rescues : goal.returns-in_err-say_rescues
 unfolding written
-returns-in_err-say_rescues g c = after _ c.in_ok-say_head.ensures (after _ c.in_ok-say_traffic.ensures (after _ c.in_ok-flush.ensures.says (after _ c.in_ok-say_all_bands.ensures (after _ c.in_ok-say_advice.ensures (cut _ _ _ c.from_residual-in_err-say_rescues.ensures.1 c.in_err-say_rescues.ensures)))))
+returns-in_err-say_rescues g c = after _ c.in_ok-say_head.ensures (after _ c.in_ok-say_traffic.ensures (after _ c.in_ok-flush.ensures.says (after _ c.in_ok-say_all_bands.ensures (after _ c.in_ok-say_advice.ensures (after _ c.in_ok-say_delays.ensures (cut _ _ _ c.from_residual-in_err-say_rescues.ensures.1 c.in_err-say_rescues.ensures))))))
 
 pub returns : goal.returns
 unfolding written
-returns g c = after _ c.in_ok-say_head.ensures (after _ c.in_ok-say_traffic.ensures (after _ c.in_ok-flush.ensures.says (after _ c.in_ok-say_all_bands.ensures (after _ c.in_ok-say_advice.ensures (after _ c.in_ok-say_rescues.ensures c.say_foot.ensures)))))
+returns g c = after _ c.in_ok-say_head.ensures (after _ c.in_ok-say_traffic.ensures (after _ c.in_ok-flush.ensures.says (after _ c.in_ok-say_all_bands.ensures (after _ c.in_ok-say_advice.ensures (after _ c.in_ok-say_delays.ensures (after _ c.in_ok-say_rescues.ensures c.say_foot.ensures))))))

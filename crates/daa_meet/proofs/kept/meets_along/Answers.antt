@@ -1,5 +1,4 @@
 use Rattle.std.proofs.Common.{refl, arith}
-use Rattle.daa_legs.specs.Runs.{MeetsBetween}
 use Rattle.daa_meet.proofs.Keeping.{free_more, free_all, free_rest}
 use Rattle.daa_meet.proofs.kept.meets_along.Goals as goal
 

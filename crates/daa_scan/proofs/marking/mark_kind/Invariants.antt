@@ -2,13 +2,14 @@ use Rattle.std.proofs.Common.{◌≡◌, ◌-◌, ◌≤◌, ◌⊎◌, List, �
 use Rattle.std.specs.Prelude.{slice_index_or}
 use Rattle.daa_config.specs.declared.candidate.Candidate.TheVariants.{Hold}
 use Rattle.daa_config.specs.Candidates.{candidates_of, start_of}
-use Rattle.daa_scan.specs.Inside.Marking.{AreTrailsOf, AreMarked}
+use Rattle.daa_scan.specs.Inside.Marking.{AreTrailsOf, AreSure, AreMarked}
 use Rattle.daa_scan.proofs.marking.mark_kind.Given as goal
 
 -- the candidates so far have one level more, and the sides were walked so far
 abbrev pub invariant-loop-at : goal.invariant-loop-at
 invariant-loop-at l = record {
   trails : AreTrailsOf l.config l.own l.aircraft l.level.volume l.fn.kind l.trails;
+  sure : AreSure l.level.lookahead l.trails;
   masks : (before : List ℕ) → AreMarked l.config l.own l.aircraft l.first (start_of l.fn.kind l.config) l.fn.l before l.initial.masks
       → AreMarked l.config l.own l.aircraft l.first l.at l.fn.l before l.masks;
   from : l.from ≤ l.at;
@@ -22,6 +23,7 @@ decreases-loop-at l = l.upto - l.at
 abbrev pub invariant-loop-index : goal.invariant-loop-index
 invariant-loop-index l = record {
   trails : AreTrailsOf l.config l.own l.aircraft l.level.volume l.fn.kind l.trails;
+  sure : AreSure l.level.lookahead l.trails;
   masks : (before : List ℕ) → AreMarked l.config l.own l.aircraft l.first l.at l.fn.l before l.initial.masks
       → AreMarked l.config l.own l.aircraft l.first l.index l.fn.l before l.masks;
   near : l.index ≤ l.end;

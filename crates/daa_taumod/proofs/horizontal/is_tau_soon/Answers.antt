@@ -1,4 +1,4 @@
-use Rattle.std.proofs.Common.{◌≤◌, lit<, rules, FitsSigned, to_z-of_z, ◌+◌, ◌*◌, ◌^◌, ◌*ℤ◌, ◌+ℤ◌, ap, ◌∙◌}
+use Rattle.std.proofs.Common.{◌≤◌, lit<, rules, refl, to_z-of_z, ◌+◌, ◌*◌, ◌^◌, ◌*ℤ◌, ◌+ℤ◌, ap, ◌∙◌}
 use mir.Syntax.{w128}
 use Rattle.daa_fixed.specs.declared.Flat.{Flat}
 use Rattle.daa_fixed.specs.Flat.{dot_of}
@@ -49,7 +49,6 @@ returns c =
     let f3 = fits w128 (times wt wd) (lit< tt) in
     let f4 = fits w128 ws (lit< tt) in
     let f5 = fits w128 (plus ws (times wt wd)) (lit< tt) in
-    let f6 : FitsSigned w128 c.scaled_square.result = search rules in
     let squared = c.square.ensures ∙ ap (λ (p : Flat). dot_of p p) c.place_then-place.ensures.value in
     let turned = c.dot.ensures ∙ ap (λ (p : Flat). dot_of p c.args.leg.now.velocity.flat) c.place_then-place.ensures.value in
-    simp to_z-of_z (le_test _ _ _ _ (λ i. squared i +ℤ c.scaled_threshold.ensures i *ℤ turned i) c.scaled_square.ensures)
+    simp to_z-of_z (le_test _ _ _ _ (λ i. squared i +ℤ c.scaled_threshold.ensures i *ℤ turned i) refl)

@@ -1,4 +1,4 @@
-use Rattle.std.proofs.Common.{◌≡◌, ◌-◌, arith, ap, length, sym, subst, List, slice_index_or}
+use Rattle.std.proofs.Common.{◌-◌, arith, ap, length, sym, subst, List, slice_index_or}
 use Rattle.daa_config.specs.Settings.{Settings, IsLevelInRange}
 use Rattle.daa_config.specs.declared.level.Level.{Level}
 use Rattle.std.proofs.lemmas.Option.{slice_get-get_or}

@@ -1,0 +1,36 @@
+use Rattle.std.proofs.Common.{◌+◌, ◌*◌, ◌*ℤ◌, lit<, rules, w64, to_z-of_z, refl}
+use mir.Syntax.{w128}
+use Rattle.daa_fixed.specs.Size.{IsWithin}
+use Rattle.daa_fixed.proofs.Bounds.{times, plus, fits, as_within, le_test}
+use Rattle.daa_fixed.proofs.PointSizes.{IsPointInRange}
+use Rattle.daa_detect.proofs.Sizes as size
+use Rattle.daa_detect.proofs.Sizes.{IsMotionInRange, most_rate, of_motion}
+use Rattle.daa_detect.proofs.horizontal.is_near_later.Goals as goal
+
+pub overflow_mul-result : goal.overflow_mul-result
+overflow_mul-result c =
+    let s : IsMotionInRange c.args.motion.now = search rules in
+    let t : IsPointInRange c.args.point.now = search rules in
+    let u = size.small t c.requires.small in
+    let w : IsWithin (most_rate + 120 * 40000 * 3200000000) c.later_rate_at-later.result = as_within c.later_rate_at-later.ensures (plus (size.rate s u) (size.gain s u c.requires.secs)) in
+    let f1 = fits w64 w (lit< tt) in
+    let f2 = fits w128 w (lit< tt) in
+    simp to_z-of_z (fits w128 (times w w) (lit< tt))
+
+pub overflow_mul-result-3 : goal.overflow_mul-result-3
+overflow_mul-result-3 c =
+    let s : IsMotionInRange c.args.motion.now = search rules in
+    let t : IsPointInRange c.args.point.now = search rules in
+    let u = size.small t c.requires.small in
+    simp of_motion (fits w128 (times (times u.den u.den) s.margin) (lit< tt))
+
+pub returns : goal.returns
+returns c =
+    let s : IsMotionInRange c.args.motion.now = search rules in
+    let t : IsPointInRange c.args.point.now = search rules in
+    let u = size.small t c.requires.small in
+    let w : IsWithin (most_rate + 120 * 40000 * 3200000000) c.later_rate_at-later.result = as_within c.later_rate_at-later.ensures (plus (size.rate s u) (size.gain s u c.requires.secs)) in
+    let f1 = fits w64 w (lit< tt) in
+    let f2 = fits w128 w (lit< tt) in
+    let f3 = fits w128 (times w w) (lit< tt) in
+    simp (to_z-of_z, of_motion) (le_test _ _ _ _ (λ i. c.later_rate_at-later.ensures i *ℤ c.later_rate_at-later.ensures i) refl)

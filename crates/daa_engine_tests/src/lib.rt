@@ -1,0 +1,5 @@
+//! Tests of daa_engine.
+#![tactic(auto)]
+
+#[cfg(test)]
+mod tests;

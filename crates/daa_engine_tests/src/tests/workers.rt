@@ -1,0 +1,131 @@
+//! Several workers: what they find, and how often they pass the gate.
+
+use crate::tests::{NORTH, engine_of, engine_of_workers, picture_in};
+use daa_config::examples::{ONE_LEVEL, THREE_LEVELS};
+use daa_outside::{Gate, Meeting, Open};
+use daa_state::Picture;
+use std::process::Abort;
+use std::sync::atomic::AtomicU64;
+use std::sync::atomic::Ordering::SeqCst;
+use std::test::Fail;
+use std::thread::Threads;
+
+/// A gate that counts who passes, for each of the first four units and for all others.
+#[derive(Drop)]
+struct Counter {
+    passes: [AtomicU64; 4],
+    others: AtomicU64,
+}
+
+impl Counter {
+    fn new() -> Counter {
+        Counter {
+            passes: [
+                AtomicU64::new(0),
+                AtomicU64::new(0),
+                AtomicU64::new(0),
+                AtomicU64::new(0),
+            ],
+            others: AtomicU64::new(0),
+        }
+    }
+
+    fn passes_of(&self, unit: u32) -> &AtomicU64 {
+        self.passes.get(unit as usize).unwrap_or(&self.others)
+    }
+
+    /// Each of the four units was passed for so often, and no other.
+    fn counts(&self, times: u64) -> bool {
+        (0..4).all(|unit| self.passes_of(unit).load(SeqCst) == times)
+            && self.others.load(SeqCst) == 0
+    }
+}
+
+impl Gate for Counter {
+    fn pass(&self, _worker: u32, unit: u32) {
+        self.passes_of(unit).fetch_add(1, SeqCst);
+    }
+}
+
+/// The eight candidates are one group, so that each aircraft in reach is one unit.
+static FOUR_IN_REACH: [&str; 6] = [
+    NORTH,
+    "traffic A 0 0 1000 0 3600 0 0",
+    "traffic B 0 0 1000 0 3600 0 0",
+    "traffic FAR 5162 0 1000 0 0 0 0",
+    "traffic C 0 0 1000 0 3600 0 0",
+    "traffic D 0 0 1000 0 3600 0 0",
+];
+
+static NONE_IN_REACH: [&str; 3] = [
+    NORTH,
+    "traffic FAR 5162 0 1000 0 0 0 0",
+    "traffic HIGH 0 0 1617 0 0 0 0",
+];
+
+/// One thread passes no gate, several pass once for each unit, and there is none where no aircraft
+/// is in reach.
+#[test]
+fn the_gate_is_passed_once_for_each_unit_of_several_workers(rt: HostRuntime) -> Result<(), Fail> {
+    let four = picture_in(&FOUR_IN_REACH).expect(&rt, "four aircraft in reach");
+    let none = picture_in(&NONE_IN_REACH).expect(&rt, "no aircraft in reach");
+    for (workers, times) in [(1, 0), (2, 1), (4, 1), (16, 1)] {
+        assert!(rt; 0 < workers && workers <= 16);
+        let mut engine = engine_of_workers(&rt, ONE_LEVEL, &[], workers)?;
+        let counter = Counter::new();
+        engine.decide(&rt, rt.alloc(), &four, &counter);
+        assert!(rt; counter.counts(times), "with {workers}");
+        assert!(rt; engine.board().mask(0) == 1, "with {workers}");
+        engine.decide(&rt, rt.alloc(), &none, &counter);
+        assert!(rt; counter.counts(times), "with {workers}");
+        assert!(rt;
+            (0..2048).all(|index| engine.board().mask(index) == 0),
+            "with {workers}"
+        );
+    }
+    Ok(())
+}
+
+/// As a worker may find nothing to steal by chance, the meeting is tried five times.
+#[test]
+fn three_of_four_workers_meet_at_the_gate(rt: HostRuntime) -> Result<(), Fail> {
+    let picture = picture_in(&EXAMPLE_MOMENT).expect(&rt, "the lines of a moment");
+    let mut met = false;
+    for _ in 0..5 {
+        if !met {
+            let mut engine = engine_of_workers(&rt, THREE_LEVELS, &[], 4)?;
+            let meeting = Meeting::of(&rt, 3);
+            engine.decide(&rt, rt.alloc(), &picture, &meeting);
+            met = meeting.has_met();
+        }
+    }
+    assert!(rt; met);
+    Ok(())
+}
+
+/// Three levels, 341 candidates, two aircraft in reach.
+static EXAMPLE_MOMENT: [&str; 4] = [
+    "own 0 0 10000 30 2500 500",
+    "traffic A 5200 8900 10900 -1000 -1700 -200 0",
+    "traffic FAR 190000 0 9000 0 0 0 0",
+    "traffic B -6500 3000 9300 2100 300 300 12",
+];
+
+#[test]
+fn any_number_of_workers_gives_one_board(rt: HostRuntime) -> Result<(), Fail> {
+    let picture = picture_in(&EXAMPLE_MOMENT).expect(&rt, "the lines of a moment");
+    let mut one = engine_of(&rt, THREE_LEVELS, &[])?;
+    one.decide(&rt, rt.alloc(), &picture, &Open);
+    for workers in [2, 3, 16] {
+        assert!(rt; 0 < workers && workers <= 16);
+        let mut engine = engine_of_workers(&rt, THREE_LEVELS, &[], workers)?;
+        engine.decide(&rt, rt.alloc(), &picture, &Open);
+        for index in 0..2048 {
+            assert!(rt;
+                engine.board().mask(index) == one.board().mask(index),
+                "at {index} with {workers}"
+            );
+        }
+    }
+    Ok(())
+}

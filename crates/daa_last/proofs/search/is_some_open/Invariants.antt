@@ -1,0 +1,5 @@
+use Rattle.daa_last.proofs.Searching.{AreShutBelow}
+use Rattle.daa_last.proofs.search.is_some_open.Given as goal
+
+abbrev pub invariant-loop-index : goal.invariant-loop-index
+invariant-loop-index l = AreShutBelow l.config l.picture l.fn.kind l.fn.m l.index

@@ -1,0 +1,3 @@
+pub mod Delayed
+pub mod Last
+pub mod Inside

@@ -1,0 +1,33 @@
+//! The last time at which a manoeuvre of a kind may begin.
+
+ghost use Rattle.daa_state.specs.InRange.{IsPictureInRange};
+ghost use Rattle.daa_last.specs.Last.{IsLastTime};
+
+use crate::search::is_some_open;
+use crate::starts::starts_of;
+use daa_config::{Candidate, Config, Kind};
+use daa_legs::Trunk;
+use daa_recovery::horizon_of;
+use daa_state::Picture;
+
+/// The greatest number of seconds, at most 179 and below the greatest lookahead of the levels from
+/// `resolve` up, for which the present flight may be kept such that some candidate of the kind that
+/// begins then is open: no aircraft violates such a level at any time of any leg before the level's
+/// lookahead. A later start may be open where an earlier one is not. None exactly if no candidate
+/// of the kind is open at any such number.
+pub fn last_of(config: &Config, picture: &Picture, kind: Kind) -> Option<u32>
+    requires { IsPictureInRange picture.now }
+    ensures { IsLastTime config.now picture.now kind result }
+{
+    let horizon = horizon_of(config);
+    let mut held = Trunk::new();
+    held.fill(&picture.own, config, Candidate::Hold, horizon);
+    let mut m = starts_of(config, picture, &held, horizon);
+    while m > 0 {
+        m -= 1;
+        if is_some_open(config, picture, kind, &held.leg(m).place, m) {
+            return Some(m);
+        }
+    }
+    None
+}

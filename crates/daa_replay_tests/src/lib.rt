@@ -1,0 +1,5 @@
+//! Tests of daa_replay.
+#![tactic(auto)]
+
+#[cfg(test)]
+mod tests;

@@ -1,0 +1,266 @@
+//! Inputs with the text and the status that they give.
+
+mod ahead;
+mod batch;
+mod exercise;
+mod faults;
+mod judge;
+mod lines;
+mod moments;
+mod opening;
+mod recoveries;
+mod workers;
+
+use daa_config::examples::ONE_LEVEL;
+use daa_outside::{
+    CalmShelf, CalmSource, Gate, MemShelf, MemSink, MemSource, Open, Shelf, Sink, Source, Void,
+};
+use daa_replay::{Event, run, run_within};
+use std::alloc::AllocError;
+use std::process::Abort;
+use std::test::Fail;
+use std::thread::Threads;
+
+/// The command words, what the shelf holds under the name `c`, how the shelf, the source and the
+/// sink behave, and how many bytes may be read.
+#[derive(Clone, Copy)]
+struct Outside<'a> {
+    words: &'a [&'a str],
+    config: &'a str,
+    fetch_fails: &'a [u64],
+    read_pieces: &'a [usize],
+    read_fails: &'a [u64],
+    room: usize,
+    write_pieces: &'a [usize],
+    write_fails: &'a [u64],
+    most: u64,
+}
+
+/// The words of a replay.
+const REPLAY: &[&str] = &["daidalus", "replay", "--config", "c"];
+
+/// A replay under one level; nothing fails, and pieces have any size.
+const PLAIN: Outside<'static> = Outside {
+    words: REPLAY,
+    config: ONE_LEVEL,
+    fetch_fails: &[],
+    read_pieces: &[],
+    read_fails: &[],
+    room: 8192,
+    write_pieces: &[],
+    write_fails: &[],
+    most: 1 << 40,
+};
+
+/// Pieces of one byte, and of seven, for inputs of at most 72 bytes and texts of at most 72 pieces.
+const ONES: [usize; 72] = [1; 72];
+
+const SEVENS: [usize; 72] = [7; 72];
+
+/// One moment with one aircraft at the ownship's place, 63 bytes.
+const ONE: &[u8] = b"moment 0\nown 0 0 1000 0 3600 0\ntraffic A 0 0 1000 0 3600 0\nend\n";
+
+/// Its report, 213 bytes.
+const ONE_TEXT: &[u8] = b"moment 0
+now A 1
+alert A 1 0
+track 0 270 1
+gs 3600 3600 1
+vs 0 0 1
+alt 1000 1000 1
+resolve track left none right none
+resolve gs down none up none
+resolve vs down none up none
+resolve alt down none up none
+done 0
+";
+
+/// The bands and answers under one level where every candidate is clear, and where none is.
+const CLEAR: &str = "track 0 270 0
+gs 3600 3600 0
+vs 0 0 0
+alt 1000 1000 0
+resolve track left keep right keep
+resolve gs down keep up keep
+resolve vs down keep up keep
+resolve alt down keep up keep
+";
+
+const COVERED: &str = "track 0 270 1
+gs 3600 3600 1
+vs 0 0 1
+alt 1000 1000 1
+resolve track left none right none
+resolve gs down none up none
+resolve vs down none up none
+resolve alt down none up none
+";
+
+/// A text with the lines of `CLEAR` for a line `clear`, and those of `COVERED` for a line
+/// `covered`.
+fn whole<R: AllocGlobal>(rt: &R, text: &str) -> Result<String, AllocError> {
+    let mut whole = String::new(rt.alloc());
+    for line in text.lines() {
+        match line {
+            "clear" => whole.push_str(CLEAR)?,
+            "covered" => whole.push_str(COVERED)?,
+            other => {
+                whole.push_str(other)?;
+                whole.push_str("\n")?;
+            }
+        }
+    }
+    Ok(whole)
+}
+
+/// The words as strings.
+fn strings<R: AllocGlobal>(rt: &R, words: &[&str]) -> Result<Vec<String>, AllocError> {
+    let mut strings = Vec::new(rt.alloc());
+    for word in words {
+        strings.push(String::from_str(rt.alloc(), word)?)?;
+    }
+    Ok(strings)
+}
+
+/// A shelf that holds the configuration under the name `c`.
+fn shelf_with<R: AllocGlobal>(rt: &R, config: &str, fails: &[u64]) -> Result<MemShelf, AllocError> {
+    let alloc = rt.alloc();
+    let mut texts = Vec::new(alloc);
+    texts.push(config.as_bytes().to_vec(alloc)?)?;
+    Ok(MemShelf::new(strings(rt, &["c"])?, texts, fails.to_vec(alloc)?))
+}
+
+/// The status of a run over this shelf and this input, and what the sink took.
+fn status_over<R: Threads + Sync + AllocGlobal>(
+    rt: &R,
+    mut shelf: MemShelf,
+    input: &[u8],
+    outside: Outside<'_>,
+) -> Result<(u8, Vec<u8>), Fail> {
+    if outside.most == 0 || outside.most > 1 << 40 {
+        return Err("a limit from 1 to 2^40".into());
+    }
+    let alloc = rt.alloc();
+    let mut source = MemSource::new(
+        input.to_vec(alloc)?,
+        outside.read_pieces.to_vec(alloc)?,
+        outside.read_fails.to_vec(alloc)?,
+    );
+    let mut sink = MemSink::over(
+        vec![in alloc; 0; outside.room]?,
+        outside.write_pieces.to_vec(alloc)?,
+        outside.write_fails.to_vec(alloc)?,
+    );
+    let words = strings(rt, outside.words)?;
+    let status = run_within(
+        rt,
+        alloc,
+        words.as_slice(),
+        &mut shelf,
+        &mut source,
+        &mut sink,
+        &Open,
+        outside.most,
+    );
+    Ok((status, sink.taken().to_vec(alloc)?))
+}
+
+/// The status of a run over this input, and what the sink took.
+fn status_and_text<R: Threads + Sync + AllocGlobal>(
+    rt: &R,
+    input: &[u8],
+    outside: Outside<'_>,
+) -> Result<(u8, Vec<u8>), Fail> {
+    let shelf = shelf_with(rt, outside.config, outside.fetch_fails)?;
+    status_over(rt, shelf, input, outside)
+}
+
+/// A run ended with this status, and the sink took this text.
+fn expect(rt: &impl Abort, found: &(u8, Vec<u8>), status: u8, text: &[u8]) {
+    let (ended, taken) = found;
+    assert!(rt; *ended == status, "{ended}, not {status}");
+    assert!(rt; taken.as_slice() == text, "{taken:?}");
+}
+
+/// A run over this input ends with this status and this text.
+fn gives<R: Abort + Threads + Sync + AllocGlobal>(
+    rt: &R,
+    input: &[u8],
+    outside: Outside<'_>,
+    status: u8,
+    text: &[u8],
+) -> Result<(), Fail> {
+    let found = status_and_text(rt, input, outside)?;
+    expect(rt, &found, status, text);
+    Ok(())
+}
+
+/// The sink of a run over this input has room for so many bytes of the text alone, and the run ends
+/// with a fault of the sink.
+fn gives_front<R: Abort + Threads + Sync + AllocGlobal>(
+    rt: &R,
+    input: &[u8],
+    outside: Outside<'_>,
+    text: &[u8],
+    room: usize,
+) -> Result<(), Fail> {
+    let front = text.get(..room).ok_or("a front of the text")?;
+    gives(rt, input, Outside { room, ..outside }, 5, front)
+}
+
+/// The status of a run over these objects. It promises nothing of them, since no test needs it.
+fn status_of<R, F: Shelf, S: Source + Send, K: Sink + Send, G: Gate>(
+    rt: &R,
+    words: &[&str],
+    shelf: &mut F,
+    source: &mut S,
+    sink: &mut K,
+    gate: &G,
+) -> Result<u8, AllocError>
+where
+    R: Threads + Sync + AllocGlobal,
+{
+    let words = strings(rt, words)?;
+    Ok(run(rt, rt.alloc(), words.as_slice(), shelf, source, sink, gate))
+}
+
+/// A source of these bytes, in pieces of any size, that does not fail.
+fn whole_source<R: AllocGlobal>(rt: &R, bytes: &[u8]) -> Result<MemSource, AllocError> {
+    let alloc = rt.alloc();
+    Ok(MemSource::new(bytes.to_vec(alloc)?, Vec::new(alloc), Vec::new(alloc)))
+}
+
+/// A sink of this room that takes each piece whole.
+fn whole_sink<R: AllocGlobal>(rt: &R, room: usize) -> Result<MemSink, AllocError> {
+    let alloc = rt.alloc();
+    Ok(MemSink::over(vec![in alloc; 0; room]?, Vec::new(alloc), Vec::new(alloc)))
+}
+
+#[test]
+fn a_run_reads_to_its_end(rt: HostRuntime) -> Result<(), Fail> {
+    let mut shelf = shelf_with(&rt, ONE_LEVEL, &[])?;
+    let mut source = whole_source(&rt, ONE)?;
+    let mut sink = whole_sink(&rt, 300)?;
+    let status = status_of(&rt, REPLAY, &mut shelf, &mut source, &mut sink, &Open)?;
+    assert!(rt; status == 0);
+    assert!(rt; sink.taken() == ONE_TEXT);
+    Ok(())
+}
+
+/// Over objects that never fail.
+#[test]
+fn a_run_without_faults_is_accepted(rt: HostRuntime) -> Result<(), Fail> {
+    let alloc = rt.alloc();
+    let mut shelf = CalmShelf::of(ONE_LEVEL.as_bytes().to_vec(alloc)?);
+    let mut source = CalmSource::new(ONE.to_vec(alloc)?, Vec::new(alloc));
+    let status = status_of(&rt, REPLAY, &mut shelf, &mut source, &mut Void, &Open)?;
+    assert!(rt; status == 0);
+    Ok(())
+}
+
+fn may_be_sent<T: Send>() {}
+
+/// The check refuses a type that may not be sent between threads.
+fn values_may_be_sent() {
+    may_be_sent::<Event>();
+}
