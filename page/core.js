@@ -8,18 +8,20 @@ function daaCore(root) {
   // configuration may have: a new key is added to its list here, to OPTIONAL if a text may leave it out, and to RANGES of
   // toml.js.
 
-  const TOP = ["resolve", "turn_rate", "track_step"];
+  const FIRST = ["resolve", "turn_rate", "track_step"];
+  const AFTER_RECOVERY = ["last_times"];
+  const TOP = [...FIRST, ...AFTER_RECOVERY]; // the keys at the top of a text
   const GRID = ["min", "max", "step", "rate"];
-  const LEVEL = ["dthr", "zthr", "tthr", "tcoa", "lookahead", "alert", "tcpa"];
+  const LEVEL = ["dthr", "zthr", "tthr", "tcoa", "lookahead", "alert", "tcpa", "tau", "tep"];
   const RECOVERY = ["hdist", "vdist", "nearest"];
   const MOST_LEVELS = 4;
   const under = (name, keys) => keys.map((key) => `${name}.${key}`);
   /** Each number of struct daa_config, of 64 bits, in its order. */
-  const CONFIG = [...TOP, ...under("gs", GRID), ...under("vs", GRID), ...under("alt", GRID),
-    "recovery", ...under("recovery", RECOVERY), "count",
+  const CONFIG = [...FIRST, ...under("gs", GRID), ...under("vs", GRID), ...under("alt", GRID),
+    "recovery", ...under("recovery", RECOVERY), ...AFTER_RECOVERY, "count",
     ...[1, 2, 3, 4].flatMap((level) => under(`level${level}`, LEVEL))];
   /** Keys that a text may leave out, and which then are 0. */
-  const OPTIONAL = ["tcpa", "nearest"];
+  const OPTIONAL = ["last_times", "tcpa", "tau", "tep", "nearest"];
   /** Each number of struct daa_own, and those of struct daa_traffic after its identifier, of 32 bits. */
   const OWN = ["x", "y", "alt", "trk", "gs", "vs"];
   const TRAFFIC = ["x", "y", "alt", "vx", "vy", "vs", "age"];

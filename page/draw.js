@@ -11,7 +11,7 @@
   const TAPE_KINDS = ["gs", "alt", "vs"];
   const SIDES = { track: ["left", "right"], gs: ["down", "up"], vs: ["down", "up"], alt: ["down", "up"] };
   const VIEW_HEIGHTS = [1500, 3000, 6000, 12000];
-  const MODELS = { tcpa: "time to closest approach", tau: "tau", tep: "time to the entry" };
+  const MODELS = { tcpa: "time to closest approach", tau: "tau", tep: "time to the entry point" };
 
   const n = (value) => String(Math.round(value * 10) / 10);
   const escape = (text) => String(text).replace(/[&<>"]/g, (c) => ({ "&": "&amp;", "<": "&lt;", ">": "&gt;", '"': "&quot;" }[c]));
@@ -35,6 +35,9 @@
     }
     return widths.get(words) * font;
   }
+
+  /** The size of letters, at most `font`, in which a text has some width at most. */
+  const fitted = (words, font, room) => Math.min(font, (font * room) / widthOf(words, font));
 
   // ---- colours, patterns and letters, which the style sheet of the page names for light, dark and print
 
@@ -370,7 +373,7 @@
     const ahead = flown(model.own, vectorSeconds(view));
     const tip = within(g, own, plan(view, ahead.x, ahead.y));
     lines.push({ x1: own.x, y1: own.y, x2: tip.x, y2: tip.y });
-    const labels = new daa.Labels({ ...g.centre, radius: g.radius }, boxes, lines);
+    const labels = new daa.Labels({ ...g.centre, radius: g.radius - 1 }, boxes, lines);
     const order = [...all].sort((a, b) => b.alert.level - a.alert.level || a.off - b.off || a.miles - b.miles);
     for (const it of order) it.label = labelOf(view, labels, it, `p:${it.one.id}` === view.chosen);
   }
@@ -400,12 +403,9 @@
     if (alert.level) words.push(`L${alert.level} ${first}`);
     const line = Math.round(f * 1.15);
     const wide = Math.max(...words.map((it) => widthOf(it, f))) + 2;
-    const before = labels.boxes.length;
-    const spot = labels.place(shown, wide, line * words.length, alert.now ? 17 : 11);
-    if (!matters && !spot.free) {
-      labels.boxes.length = before;
-      return null;
-    }
+    const spot = labels.place(shown, wide, line * words.length, alert.now ? 17 : 11, matters);
+    if (!matters && !spot.free) return null;
+    labels.take(shown, spot);
     return { ...spot, words, line };
   }
 
@@ -415,8 +415,9 @@
     const x = (label.align < 0 ? label.x + label.wide : label.align > 0 ? label.x : label.x + label.wide / 2) - shown.x;
     let out = "";
     if (label.led) {
-      const to = { x: clamp(0, label.x - shown.x, label.x + label.wide - shown.x), y: clamp(0, label.y - shown.y, label.y + label.tall - shown.y) };
-      out += `<path d="M0 0L${n(to.x)} ${n(to.y)}" stroke="var(--faint)" stroke-dasharray="1 2"/>`;
+      const to = daa.nearest(shown, label);
+      const stroke = alert.level ? edge(alert.level) : "var(--faint)";
+      out += `<path d="M0 0L${n(to.x - shown.x)} ${n(to.y - shown.y)}" stroke="${stroke}" stroke-dasharray="${alert.level ? "3 2" : "1 2"}"/>`;
     }
     label.words.forEach((words, row) => {
       const style = row === 2 ? `style="fill:${edge(alert.level)};font-weight:bold"` : row === 0 ? 'font-weight="bold"' : "";
@@ -499,7 +500,7 @@
     return { key: kind, x, y: scale.y(model.own[kind]), label: `${TAPES[kind].name} of the ownship`, number: shown,
       least: shownValue(kind, scale.low), most: shownValue(kind, scale.high), value: `${shown} ${TAPES[kind].unit}`,
       inside: `<path d="${box}" fill="var(--ground)" stroke="var(--own)" stroke-width="2"/>`
-        + text(-f * 0.75, f * 0.37, shown, `class="value end" font-size="${f}" style="fill:var(--own)"`)
+        + text(-f * 0.75, f * 0.37, shown, `class="value end" font-size="${n(fitted(shown, f, wide - f * 0.75 - 3))}" style="fill:var(--own)"`)
         + line("var(--ground)", 5) + line("var(--own)", 2.5)
         + `<rect class="focus" x="${n(-wide - 4)}" y="${n(-f * 1.15)}" width="${n(wide + 8)}" height="${n(f * 2.3)}"/>` };
   }
@@ -608,8 +609,8 @@
   }
 
   /** A line of answers: what it is of is told by data, so that it can be read back. */
-  function answerLine(g, x, y, kind, what, words, style, anchor = "") {
-    return text(x, y, words, `class="${style} ${anchor}" font-size="${g.font}" data-kind="${kind}" data-what="${what}"`);
+  function answerLine(g, x, y, kind, what, words, style, anchor = "", room = g.width) {
+    return text(x, y, words, `class="${style} ${anchor}" font-size="${n(fitted(words, g.font, room))}" data-kind="${kind}" data-what="${what}"`);
   }
 
   function answersOfTrack(view, { said }) {
@@ -624,7 +625,7 @@
     if (back) more.push(["recover", back === "none" ? "◆ no recovery" : `◆ turn to ${back.value}°, clear after ${back.after} s`, "recover"]);
     const last = said.last.track;
     if (last === "none") more.push(["last", "a turn comes too late", "none"]);
-    else if (last !== undefined) more.push(["last", `turn within ${last} s`, "last"]);
+    else if (last !== undefined) more.push(["last", `a turn may wait ${last} s`, "last"]);
     more.forEach(([what, words, style], row) => { out += answerLine(g, x, y + g.line * (row + 1), "track", what, words, style, "mid"); });
     return out;
   }
@@ -639,9 +640,10 @@
     if (back) lines.push(["recover", back === "none" ? "◆ none" : `◆ ${shownValue(kind, back.value)}, ${back.after} s`, "recover"]);
     const last = said.last[kind];
     if (last === "none") lines.push(["last", "too late", "none"]);
-    else if (last !== undefined) lines.push(["last", `within ${last} s`, "last"]);
+    else if (last !== undefined) lines.push(["last", `may wait ${last} s`, "last"]);
     const top = g.answers + (g.stacked ? g.line * (g.rows - 1) : 0);
-    return lines.map(([what, words, style], row) => answerLine(g, t.left + 6, top + g.line * (row + 1), kind, what, words, style)).join("");
+    const line = ([what, words, style], row) => answerLine(g, t.left + 6, top + g.line * (row + 1), kind, what, words, style, "", t.width - 12);
+    return lines.map(line).join("");
   }
 
   // ---- head and legend

@@ -1,18 +1,27 @@
-/* Where the labels of aircraft stand: out of the way of symbols, velocity lines and each other. No page is needed. */
+/* Where the labels of aircraft stand: within the ring, out of the way of symbols, velocity lines and each other. Of the places
+ * round a symbol, near ones and farther ones, each label takes the one that costs least; a label that must be there, and has
+ * no free place there, takes the cheapest one of all within the ring. No page is needed. */
 "use strict";
 (function (root) {
-  const REACHES = [1, 1.9, 3];
+  const REACHES = [1, 1.9, 3, 4.4];
   const SIDES = [[1, 0], [-1, 0], [1, -1], [-1, -1], [1, 1], [-1, 1], [0, -1], [0, 1]];
   // What is paid for a place: for each unit of area over a label or a symbol, for each unit of length of a line under it ..
-  const OVER_TEXT = 6;
+  const OVER_TEXT = 40;
   const OVER_LINE = 14;
-  const OFF_DISC = 1600;
+  const OFF_DISC = 9000; // .. for each corner that is not within the ring
   const FARTHER = 260;
   const LATER_SIDE = 14;
+  const AWAY = 25; // .. for each unit of length from the symbol, where none of the places round it is free
   const LITTLE = 40; // so small an area may be covered by chance
+  const GRID = 6; // how far the places within the ring are from each other
 
   const overlap = (a, b) => Math.max(0, Math.min(a.x + a.wide, b.x + b.wide) - Math.max(a.x, b.x))
     * Math.max(0, Math.min(a.y + a.tall, b.y + b.tall) - Math.max(a.y, b.y));
+
+  /** The point of a box that is nearest to another point. */
+  function nearest({ x, y }, box) {
+    return { x: Math.min(Math.max(x, box.x), box.x + box.wide), y: Math.min(Math.max(y, box.y), box.y + box.tall) };
+  }
 
   /** How long the part of a line is that runs through a box. */
   function crossing(box, { x1, y1, x2, y2 }) {
@@ -34,17 +43,43 @@
       Object.assign(this, { disc, boxes, lines });
     }
 
-    /** The place of a label of some size beside a symbol: its box, whether all of it is free, and whether a leader is due. */
-    place(symbol, wide, tall, half) {
+    /** The place of a label of some size for a symbol: its box, whether all of it is free, and whether a leader is due. */
+    place(symbol, wide, tall, half, mustBe) {
+      const round = this.besides(symbol, wide, tall, half);
+      const best = mustBe && !this.isFree(round.box) ? this.anywhere(symbol, wide, tall) || round : round;
+      return { ...best.box, align: best.right, led: best.far > 0, free: this.isFree(best.box) };
+    }
+
+    isFree(box) {
+      return this.covered(box) < LITTLE && !this.cornersOff(box);
+    }
+
+    /** The place round a symbol that costs least. */
+    besides(symbol, wide, tall, half) {
       let best = null;
       REACHES.forEach((reach, far) => SIDES.forEach(([right, down], side) => {
         const box = this.boxAt(symbol, right, down, reach * half + 4, wide, tall);
         const cost = this.cost(box) + far * FARTHER + side * LATER_SIDE;
         if (!best || cost < best.cost) best = { box, cost, right, far };
       }));
-      this.boxes.push(best.box);
-      const free = this.covered(best.box, this.boxes.slice(0, -1)) < LITTLE && !this.isOff(best.box);
-      return { ...best.box, align: best.right, led: best.far > 0, free };
+      return best;
+    }
+
+    /** The place within the ring that costs least, or null where the label is larger. */
+    anywhere(symbol, wide, tall) {
+      const { x: cx, y: cy, radius } = this.disc;
+      let best = null;
+      for (let y = cy - radius; y < cy + radius - tall; y += GRID) {
+        for (let x = cx - radius; x < cx + radius - wide; x += GRID) {
+          const box = { x, y, wide, tall };
+          const end = nearest(symbol, box);
+          const away = AWAY * Math.hypot(end.x - symbol.x, end.y - symbol.y);
+          if ((best && away >= best.cost) || this.cornersOff(box)) continue;
+          const cost = away + this.cost(box);
+          if (!best || cost < best.cost) best = { box, cost, right: Math.sign(end.x - symbol.x), far: 1 };
+        }
+      }
+      return best;
     }
 
     boxAt({ x, y }, right, down, gap, wide, tall) {
@@ -55,19 +90,27 @@
 
     cost(box) {
       const crossed = this.lines.reduce((sum, line) => sum + crossing(box, line), 0);
-      return OVER_TEXT * this.covered(box, this.boxes) + OVER_LINE * crossed + (this.isOff(box) ? OFF_DISC : 0);
+      return OVER_TEXT * this.covered(box) + OVER_LINE * crossed + OFF_DISC * this.cornersOff(box);
     }
 
-    covered(box, boxes) {
-      return boxes.reduce((sum, other) => sum + overlap(box, other), 0);
+    /** How much of a box is on what is there already. */
+    covered(box) {
+      return this.boxes.reduce((sum, other) => sum + overlap(box, other), 0);
     }
 
-    /** Whether a corner lies outside of the disc. */
-    isOff({ x, y, wide, tall }) {
+    /** How many corners of a box lie outside of the disc. */
+    cornersOff({ x, y, wide, tall }) {
       return [[x, y], [x + wide, y], [x, y + tall], [x + wide, y + tall]]
-        .some(([cx, cy]) => Math.hypot(cx - this.disc.x, cy - this.disc.y) > this.disc.radius);
+        .filter(([cx, cy]) => Math.hypot(cx - this.disc.x, cy - this.disc.y) > this.disc.radius).length;
+    }
+
+    /** What stands at a place keeps others away: its box, and its leader where it has one. */
+    take(symbol, { x, y, wide, tall, led }) {
+      this.boxes.push({ x, y, wide, tall });
+      const end = nearest(symbol, { x, y, wide, tall });
+      if (led) this.lines.push({ x1: symbol.x, y1: symbol.y, x2: end.x, y2: end.y });
     }
   }
 
-  root.daa.Labels = Labels;
+  Object.assign(root.daa, { Labels, nearest });
 })(globalThis);

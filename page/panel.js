@@ -197,7 +197,7 @@
     const kept = open.length + back.length + none.length === 0 ? "The present flight may be kept. " : "";
     const front = alerts.length ? list("Alerts: ", alerts, ", ") : "No alert. ";
     return (front + kept + list("Open: ", open) + list("Clear again: ", back) + list("Nothing open: ", none, ", ")
-      + list("Not later than: ", last)).trim();
+      + list("May wait: ", last)).trim();
   }
 
   function sortAnswers(said, kind, open, back, none, last) {
@@ -208,7 +208,7 @@
     if (sides.length) open.push(`${NAMES[kind]} ${sides.join(" or ")}`);
     else if (again && again !== "none") back.push(`${NAMES[kind]} ${shownWords(kind, again.value)} after ${again.after} s`);
     else none.push(NAMES[kind]);
-    if (typeof said.last[kind] === "number") last.push(`${NAMES[kind]} in ${said.last[kind]} s`);
+    if (typeof said.last[kind] === "number") last.push(`${NAMES[kind]} ${said.last[kind]} s`);
   }
 
   Object.assign(ui, { remove, chip, paintTable, paintForm, paintReport, paintSummary });

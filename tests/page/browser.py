@@ -1,4 +1,5 @@
-"""The page in Chromium: one browser for all tests, driven by real events, and what it shows."""
+"""The page in a browser, Chromium or Firefox: one for all tests, driven by real events, and what it shows."""
+import base64
 import json
 import os
 import pathlib
@@ -13,12 +14,20 @@ try:
     from selenium.webdriver.common.action_chains import ActionChains
     from selenium.webdriver.common.by import By
     from selenium.webdriver.common.keys import Keys
+    from selenium.webdriver.common.print_page_options import PrintOptions
     from selenium.webdriver.support.ui import Select
-except ImportError:
-    webdriver = ActionChains = By = Keys = Select = None
 
-HOW = "chromium, chromedriver or selenium is missing (Debian: apt-get install chromium chromium-driver python3-selenium)"
-HAS_BROWSER = bool(webdriver and shutil.which("chromium") and shutil.which("chromedriver"))
+    import firefox
+except ImportError:
+    webdriver = ActionChains = By = Keys = PrintOptions = Select = firefox = None
+
+IN_FIREFOX = os.environ.get("PAGE_BROWSER") == "firefox"
+if IN_FIREFOX:
+    HOW = "firefox or selenium is missing (Debian: apt-get install firefox-esr python3-selenium)"
+    HAS_BROWSER = bool(webdriver and firefox.executable())
+else:
+    HOW = "chromium, chromedriver or selenium is missing (Debian: apt-get install chromium chromium-driver python3-selenium)"
+    HAS_BROWSER = bool(webdriver and shutil.which("chromium") and shutil.which("chromedriver"))
 FIGURE = "figure[data-view='{}'] "
 LONG = 60  # seconds that nothing here takes
 
@@ -31,19 +40,14 @@ requestAnimationFrame(() => requestAnimationFrame(look));
 
 
 class Browser:
-    """A Chromium with the page, and the ways to use it."""
+    """A browser with the page, and the ways to use it; Chromium and Firefox each start theirs and set what only they can."""
 
     def __init__(self):
         self.folder = tempfile.mkdtemp(prefix="page")
-        options = webdriver.ChromeOptions()
-        for word in ("--headless=new", "--no-sandbox", "--disable-gpu", "--hide-scrollbars", "--force-color-profile=srgb", f"--user-data-dir={self.folder}/profile"):
-            options.add_argument(word)
-        options.set_capability("goog:loggingPrefs", {"browser": "ALL"})
         self.downloads = os.path.join(self.folder, "downloads")
         os.mkdir(self.downloads)
-        self.driver = webdriver.Chrome(options=options)
+        self.driver = self.start()
         self.driver.set_script_timeout(LONG)
-        self.driver.execute_cdp_cmd("Browser.setDownloadBehavior", {"behavior": "allow", "downloadPath": self.downloads})
 
     def close(self):
         self.driver.quit()
@@ -51,22 +55,18 @@ class Browser:
 
     # Opening.
 
-    def size(self, width, height):
-        self.driver.execute_cdp_cmd("Emulation.setDeviceMetricsOverride", {"width": width, "height": height, "deviceScaleFactor": 1, "mobile": False})
-
-    def media(self, media="", **features):
-        named = [{"name": name.replace("_", "-"), "value": value} for name, value in features.items()]
-        self.driver.execute_cdp_cmd("Emulation.setEmulatedMedia", {"media": media, "features": named})
-
     def open(self, after="", width=1440, height=900):
         """Opens the page as a file, anew, and waits until it is ready; `after` follows the address."""
         self.driver.get("about:blank")
         self.size(width, height)
         self.media()
-        self.driver.get_log("browser")
-        self.driver.get(pathlib.Path(Page.folder, "index.html").resolve().as_uri() + after)
+        self.problems()
+        self.go(after)
         self.wait("document.body.dataset.ready === 'yes'")
         self.settle()
+
+    def go(self, after=""):
+        self.driver.get(pathlib.Path(Page.folder, "index.html").resolve().as_uri() + after)
 
     def wait(self, condition, what=""):
         end = time.monotonic() + LONG
@@ -81,9 +81,19 @@ class Browser:
     def js(self, script, *words):
         return self.driver.execute_script(script, *words)
 
-    def problems(self):
-        """What the console told of errors."""
-        return [entry["message"] for entry in self.driver.get_log("browser") if entry["level"] == "SEVERE"]
+    def expect_a_problem(self):
+        """Waits until the console has told of an error."""
+        end = time.monotonic() + LONG
+        while not self.problems():
+            if time.monotonic() > end:
+                raise AssertionError("the console tells of no error")
+            time.sleep(0.02)
+
+    def paper(self):
+        """The page as it is printed: a file of PDF, of A4 and without backgrounds."""
+        options = PrintOptions()
+        options.page_width, options.page_height = 21, 29.7
+        return base64.b64decode(self.driver.print_page(options))
 
     # Events.
 
@@ -198,3 +208,67 @@ class Browser:
 
     def focused(self):
         return json.loads(self.js("const it = document.activeElement; return JSON.stringify({ key: it.dataset.key || null, id: it.id, tag: it.tagName })"))
+
+
+class Chromium(Browser):
+    def start(self):
+        options = webdriver.ChromeOptions()
+        for word in ("--headless=new", "--no-sandbox", "--disable-gpu", "--hide-scrollbars", "--force-color-profile=srgb", f"--user-data-dir={self.folder}/profile"):
+            options.add_argument(word)
+        options.set_capability("goog:loggingPrefs", {"browser": "ALL"})
+        driver = webdriver.Chrome(options=options)
+        driver.execute_cdp_cmd("Browser.setDownloadBehavior", {"behavior": "allow", "downloadPath": self.downloads})
+        return driver
+
+    def size(self, width, height):
+        self.driver.execute_cdp_cmd("Emulation.setDeviceMetricsOverride", {"width": width, "height": height, "deviceScaleFactor": 1, "mobile": False})
+
+    def media(self, media="", scheme=""):
+        """Shows the page as on a medium, and under a scheme of colours; without a name as it is."""
+        named = [{"name": "prefers-color-scheme", "value": scheme}]
+        self.driver.execute_cdp_cmd("Emulation.setEmulatedMedia", {"media": media, "features": named})
+
+    def problems(self):
+        """What the console told of errors since it was asked last."""
+        return [entry["message"] for entry in self.driver.get_log("browser") if entry["level"] == "SEVERE"]
+
+    def tree(self):
+        """What a screen reader is given: of each node its role, its name, its value, and whether it takes the focus."""
+        nodes = self.driver.execute_cdp_cmd("Accessibility.getFullAXTree", {})["nodes"]
+        for node in nodes:
+            properties = {it["name"]: it["value"].get("value") for it in node.get("properties", [])}
+            role, name, value = (node.get(part, {}).get("value", "") for part in ("role", "name", "value"))
+            yield role, name, value, bool(properties.get("focusable")) and not node.get("ignored")
+
+
+class Firefox(Browser):
+    def start(self):
+        return firefox.Firefox(self.folder, self.downloads)
+
+    def size(self, width, height):
+        """Makes the window so large that the page has this size."""
+        around = self.driver.execute_script("return [outerWidth - innerWidth, outerHeight - innerHeight]")
+        self.driver.set_window_rect(width=width + around[0], height=height + around[1])
+        self.wait(f"innerWidth === {width} && innerHeight === {height}")
+
+    def media(self, media="", scheme=""):
+        self.driver.chrome("""const { browsingContext: it } = gBrowser.selectedBrowser;
+            it.top.mediumOverride = arguments[0];
+            it.top.prefersColorSchemeOverride = arguments[1] || "none";""", media, scheme)
+
+    def problems(self):
+        return self.driver.chrome("""
+            const told = Services.console.getMessageArray().filter((it) => it instanceof Ci.nsIScriptError && !(it.flags & Ci.nsIScriptError.warningFlag)
+              && /^(file|blob):/.test(it.sourceName)).map(String);
+            Services.console.reset();
+            return told;""")
+
+    def tree(self):
+        for it in self.driver.find_elements(By.CSS_SELECTOR, "a[href], button, input, select, textarea, summary, [tabindex]"):
+            if self.js("return arguments[0].checkVisibility()", it):
+                value = it.get_attribute("aria-valuetext") or it.get_property("value")
+                yield self.driver.computed("Role", it), self.driver.computed("Label", it), value, True
+
+
+def browser():
+    return Firefox() if IN_FIREFOX else Chromium()

@@ -1,5 +1,6 @@
 /* node in_node.cjs PAGE < JSON [[word, ..], ..]: runs the page's scripts that need no browser on each task, and writes the JSON
- * list of the answers. Tasks: [replay, TOML, states], [faults, TOML], [recording, text, ownship]; texts are bytes in base64. */
+ * list of the answers. Tasks: [replay, TOML, states], [faults, TOML], [read, TOML], [report, text], [config, struct],
+ * [recording, text, ownship], [trap, TOML, states]; texts are bytes in base64. */
 "use strict";
 const fs = require("fs");
 const path = require("path");
@@ -31,10 +32,19 @@ const TASKS = {
     }
   },
 
-  /** The faults of a text of which more keys may be left out: those of each list of core.js, by its name. */
-  more(engine, toml, keys) {
-    for (const [list, names] of Object.entries(keys)) for (const name of names) if (!daa[list].includes(name)) daa[list].push(name);
+  /** All faults that the reader finds in a text, without the engine. */
+  read(engine, toml) {
     return daa.faultsOf(daa.readToml(bytesOf(toml))).map(({ code, why, line }) => [code, why, line]);
+  },
+
+  /** What the reader of a report finds in the text of a moment, without the engine. */
+  report(engine, text) {
+    return daa.readReport(new TextDecoder().decode(bytesOf(text)));
+  },
+
+  /** What is read of the bytes of a configuration's struct, without the engine. */
+  config(engine, struct) {
+    return new daa.Config(bytesOf(struct));
   },
 
   recording(engine, text, own) {

@@ -122,7 +122,7 @@ def answers_of(moment):
         found[kind, "recover"] = words
     for kind, last in re.findall(r"(?m)^last (\w+) (\S+)", moment):
         if kind == "track":
-            found[kind, "last"] = "a turn comes too late" if last == "none" else f"turn within {last} s"
+            found[kind, "last"] = "a turn comes too late" if last == "none" else f"a turn may wait {last} s"
         else:
-            found[kind, "last"] = "too late" if last == "none" else f"within {last} s"
+            found[kind, "last"] = "too late" if last == "none" else f"may wait {last} s"
     return found

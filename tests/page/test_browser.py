@@ -1,20 +1,21 @@
-"""The whole page in Chromium, opened as a file and used by real events; what it shows is compared with the program's report."""
-import base64
+"""The whole page in a browser, opened as a file and used by real events; what it shows is compared with the program's report."""
+import contextlib
 import functools
-import json
 import math
 import os
 import re
-import subprocess
+import shutil
+import tempfile
 import time
 import unittest
 import xml.etree.ElementTree
+import zlib
 
-from browser import ActionChains, Browser, By, HAS_BROWSER, HOW, Keys
-from shared import (DISPLAYED_SECONDS, ENCOUNTER, EXAMPLES, KINDS, RECOVERY, THREE_LEVELS, TOP, answers_of, bands_of, bytes_of, levels_of, moments_of,
+from browser import ActionChains, By, HAS_BROWSER, HOW, Keys, browser
+from shared import (DISPLAYED_SECONDS, ENCOUNTER, EXAMPLES, RECOVERY, THREE_LEVELS, TOP, Page, answers_of, bands_of, bytes_of, levels_of, moments_of,
                     moments_in, places_of, replayed, text_of, tool)
 
-SIZES = ((1024, 700), (1920, 1080))
+SIZES = ((1024, 700), (1024, 768), (1280, 800), (1920, 1080))
 LONGEST = os.path.join(TOP, "bench", "worst_moments", "recover")
 CROWD = 20
 
@@ -42,7 +43,7 @@ def crowd():
 def setUpModule():
     """One browser for all tests; that of a module that holds one already is used on."""
     if HAS_BROWSER and not PageTest.browser:
-        PageTest.browser = PageTest.own = Browser()
+        PageTest.browser = PageTest.own = browser()
 
 
 def tearDownModule():
@@ -160,10 +161,22 @@ class Shown(PageTest):
             dispatchEvent(new Event("resize"));""", report)
         self.page.settle()
         self.check_moment(report)
-        self.assertEqual(self.page.answers()["track", "last"], "turn within 3 s")
-        self.assertEqual(self.page.answers()["gs", "last"], "too late")
-        self.assertIn("Not later than: track in 3 s; vertical speed in 12 s; altitude in 0 s.", self.page.text("#summary"))
+        self.assertEqual([self.page.answers()[kind, "last"] for kind in ("track", "gs", "vs", "alt")],
+                         ["a turn may wait 3 s", "too late", "may wait 12 s", "may wait 0 s"])
+        self.assertIn("May wait: track 3 s; vertical speed 12 s; altitude 0 s.", self.page.text("#summary"))
         self.page.shot("last_times")
+
+    def test_each_moment_with_last_times(self):
+        """The engine's own: of some moments each kind may wait, of some one comes too late, and of some there is nothing to tell."""
+        config = self.page.file("last.toml", "last_times = 1\n" + text_of(RECOVERY))
+        self.page.open_files(config, ENCOUNTER)
+        moments = moments_of(replayed(config, bytes_of(ENCOUNTER)))
+        told = [dict(re.findall(r"(?m)^last (\w+) (\S+)", moment)) for moment in moments]
+        self.assertEqual({len(lasts) for lasts in told}, {0, 4})
+        self.assertTrue(any("none" in lasts.values() for lasts in told) and any("none" not in lasts.values() for lasts in told if lasts))
+        for place, moment in enumerate(moments):
+            self.page.step_to(place)
+            self.check_moment(moment)
 
     def test_the_strip_over_time(self):
         """The greatest level of each moment stands in the strip, and a click goes to its moment."""
@@ -315,6 +328,30 @@ class Configured(PageTest):
         self.assertEqual(self.page.text("#config-fault"), "")
         self.check_shown(self.page.file("ten.toml", text_of(THREE_LEVELS).replace("track_step = 5\n", "track_step = 10\n")))
 
+    def test_a_levels_model_counts_at_once(self):
+        """Modified tau, tau and the time to the entry point give three reports of one moment."""
+        self.page.step_to(1)
+        reports = {self.page.report()}
+        for old, new in (("tcpa = 0\n", "tau = 1\n"), ("tau = 1\n", "tep = 1\n")):
+            self.edit(old, new)
+            self.check_shown(self.page.file("model.toml", text_of(THREE_LEVELS).replace("tcpa = 0\n", new)))
+            reports.add(self.page.report())
+        self.assertEqual(len(reports), 3)
+
+    def test_last_times_count_at_once(self):
+        """Asked for by the key, and no more where it is 0 or left out."""
+        self.assertNotIn(("track", "last"), self.page.answers())
+        for old, new, asked in (("", "last_times = 1 # asked\n", True), ("last_times = 1 # asked\n", "last_times = 0\n", False), ("last_times = 0\n", "", False)):
+            text = self.page.one("#toml").get_property("value")
+            if old:
+                self.edit(old, new)
+            else:
+                self.edit(text, new + text)
+            self.check_shown(self.page.file("last.toml", new + text_of(THREE_LEVELS)))
+            self.assertEqual(("track", "last") in self.page.answers(), asked)
+        self.edit("resolve = 2\n", "last_times = 2\nresolve = 2\n")
+        self.assertRegex(self.page.text("#config-fault"), r"^config 6: line \d+: last_times = 2 is outside 0 to 1")
+
     def test_typed_letters_count(self):
         area = self.page.one("#toml")
         area.send_keys(Keys.CONTROL, Keys.HOME)
@@ -325,7 +362,11 @@ class Configured(PageTest):
         self.assertEqual(self.page.text("#config-fault"), "")
 
     def test_levels_are_told_in_words(self):
-        self.edit("tcpa = 0\n", "tcpa = 1\n")
+        for old, new, words in (("tcpa = 0\n", "tau = 1\n", "tau"), ("tau = 1\n", "tep = 1\n", "time to the entry point"),
+                                ("tep = 1\n", "tcpa = 1\n", "time to closest approach")):
+            self.edit(old, new)
+            self.assertIn(f" s of {words}, ", self.page.text("#levels li"))
+            self.assertEqual(self.page.text("#config-fault"), "")
         told = self.page.js("return [...document.querySelectorAll('#levels li')].map((it) => it.textContent)")
         self.assertEqual(told, ["1 0.66 NM, 700 ft, 35 s of time to closest approach, 0 s to co-altitude; alerts 55 s ahead, candidates 75 s",
                                 "2 corrective, 0.66 NM, 450 ft, 35 s of modified tau, 0 s to co-altitude; alerts 55 s ahead, candidates 75 s",
@@ -485,28 +526,32 @@ class Broken(PageTest):
         self.assertEqual(answer, [True, True, self.page.report()])
 
     def test_a_browser_without_64_bit_memory_is_told(self):
-        command = {"source": "WebAssembly.validate = () => false;"}
-        script = self.page.driver.execute_cdp_cmd("Page.addScriptToEvaluateOnNewDocument", command)["identifier"]
-        try:
-            self.page.driver.refresh()
+        """On the page with a first script after which no module is valid."""
+        right = Page.folder
+        self.addCleanup(setattr, Page, "folder", right)
+        with tempfile.TemporaryDirectory() as folder:
+            Page.folder = os.path.join(folder, "page")
+            shutil.copytree(right, Page.folder)
+            with open(os.path.join(Page.folder, "core.js"), "a", encoding="utf-8") as file:
+                file.write("WebAssembly.validate = () => false;\n")
+            self.page.go()
             self.page.wait("document.body.dataset.ready === 'no'")
-            self.assertIn("needs a browser with 64-bit WebAssembly memory", self.page.text("#missing"))
-            self.assertTrue(self.page.one("#missing").is_displayed())
-            self.assertFalse(self.page.one("main").is_displayed())
-            self.page.shot("missing")
-        finally:
-            self.page.driver.execute_cdp_cmd("Page.removeScriptToEvaluateOnNewDocument", {"identifier": script})
+        self.assertIn("needs a browser with 64-bit WebAssembly memory", self.page.text("#missing"))
+        self.assertTrue(self.page.one("#missing").is_displayed())
+        self.assertFalse(self.page.one("main").is_displayed())
+        self.page.shot("missing")
 
 
-# Boxes of what is drawn; a text or symbol that stands outside of its display, or on another one.
+# Boxes of what is drawn, those of texts without the room above and below their letters; a text or symbol that stands outside of its display, or on another one.
 
 BOXES = """
 const [view] = arguments, figure = document.querySelector(`figure[data-view='${view}']`), svg = figure.querySelector("svg"), all = [];
 const box = (it) => { const b = it.getBoundingClientRect(); return { x: b.x, y: b.y, right: b.right, bottom: b.bottom }; };
+const letters = (it) => { const b = box(it), m = (b.bottom - b.y) / 10; return { ...b, y: b.y + m, bottom: b.bottom - m }; };
 for (const it of svg.querySelectorAll("text")) {
   const layer = it.closest("[data-layer]").dataset.layer, handle = it.closest(".handle");
   const kind = layer === "handles" ? (handle.dataset.key.startsWith("p:") && it.classList.contains("halo") ? "label" : "inside") : layer;
-  all.push({ kind, words: it.textContent, of: handle ? handle.dataset.key : "", ...box(it) });
+  all.push({ kind, words: it.textContent, of: handle ? handle.dataset.key : "", ...letters(it) });
 }
 for (const it of svg.querySelectorAll(".handle[data-key^='p:'] > .grip")) {
   const b = box(it), m = 6;
@@ -521,20 +566,19 @@ def overlap(a, b):
 
 
 class Layout(PageTest):
-    def check_fits(self, wholly=True):
-        """The document is no larger than the window, and no control stands outside of it."""
+    def check_fits(self):
+        """The document is no larger than the window, and no control stands outside of it; the panel shows its first aircraft."""
         wide, tall, inner_wide, inner_tall = self.page.js("const it = document.documentElement; return [it.scrollWidth, it.scrollHeight, innerWidth, innerHeight]")
         self.assertLessEqual(wide, inner_wide)
-        if wholly:
-            self.assertLessEqual(tall, inner_tall)
-        for selector in ("header", "#displays", "#time", "#slider", "#strip", "figcaption [data-do=png]"):
+        self.assertLessEqual(tall, inner_tall)
+        for selector in ("header", "#displays", "#time", "#slider", "#strip", "#restore", "figcaption [data-do=png]", "#panel", "#summary", "#aircraft tbody tr:nth-child(2)"):
             for it in self.page.driver.find_elements(By.CSS_SELECTOR, selector):
                 if it.is_displayed():
                     box = it.rect
                     self.assertTrue(box["x"] >= 0 and box["y"] >= 0 and box["x"] + box["width"] <= inner_wide + 1 and box["y"] + box["height"] <= inner_tall + 1, (selector, box))
 
     def check_display(self, view=0):
-        """No text is cut by the display's edge; labels stand on no other text and on no symbol."""
+        """No text is cut by the display's edge; labels stand on no other text, on no symbol and not on the ring."""
         found = self.page.js(BOXES, view)
         frame, all_boxes = found["frame"], found["all"]
         for it in all_boxes:
@@ -546,6 +590,10 @@ class Layout(PageTest):
             for b in fixed[i + 1:]:
                 self.assertLess(overlap(a, b), 30, (a, b))
         bad = [(a["words"], a["of"], b["words"], b["of"]) for i, a in enumerate(labels) for b in labels[i + 1:] if a["of"] != b["of"] and overlap(a, b) > 60]
+        g = self.page.js("return daa.page.views[arguments[0]].drawn.g", view)
+        x, y = frame["x"] + g["centre"]["x"], frame["y"] + g["centre"]["y"]
+        bad += [(a["words"], a["of"], "ring") for a in labels
+                if max(math.hypot(at_x - x, at_y - y) for at_x in (a["x"], a["right"]) for at_y in (a["y"], a["bottom"])) > g["radius"] + 2]
         bad += [(a["words"], a["of"], "symbol", b["of"]) for a in labels for b in all_boxes if b["kind"] == "symbol" and a["of"] != b["of"] and overlap(a, b) > 60]
         return labels, bad
 
@@ -554,20 +602,29 @@ class Layout(PageTest):
             with self.subTest(size=(width, height)):
                 self.page.size(width, height)
                 self.page.settle()
-                self.check_fits(wholly=not compare or width > 1500)
+                self.check_fits()
                 for view in (0, 1) if compare else (0,):
                     labels, bad = self.check_display(view)
                     self.assertEqual(bad, [])
-                self.page.shot(f"{name}_{width}")
+                self.page.shot(f"{name}_{width}_{height}")
 
     def test_the_encounter(self):
-        self.page.step_to(2)
-        self.check_all("encounter")
+        """Also with the long answers of its fourth moment."""
+        for place in (2, 3):
+            self.page.step_to(place)
+            self.check_all(f"encounter_{place}")
 
     def test_all_closed_with_recoveries(self):
         self.page.select("#example", "encounter, with recoveries")
         self.page.step_to(6)
         self.check_all("recoveries")
+
+    def test_recoveries_and_last_times(self):
+        """Both have rows of their own under the tapes."""
+        self.page.open_files(self.page.file("last.toml", "last_times = 1\n" + text_of(RECOVERY)), ENCOUNTER)
+        for place in (3, 6):
+            self.page.step_to(place)
+            self.check_all(f"last_times_{place}")
 
     def test_two_displays(self):
         self.page.open_files(self.page.file("four.toml", FOUR_LEVELS))
@@ -610,7 +667,7 @@ class Layout(PageTest):
                   return b.width && b.right > right + 1;
                 }).map((it) => it.outerHTML.slice(0, 80));""")
             self.assertEqual(cut, [])
-            self.page.shot(f"panel_{width}")
+            self.page.shot(f"panel_{width}_{height}")
 
 
 CONTRAST = """
@@ -626,11 +683,20 @@ return pairs;
 """
 
 
+def pages_of(paper):
+    """How many pages a file of PDF has, also where its objects are packed."""
+    texts = [paper]
+    for packed in re.findall(rb"stream\r?\n(.*?)endstream", paper, re.S):
+        with contextlib.suppress(zlib.error):
+            texts.append(zlib.decompressobj().decompress(packed))
+    return sum(len(re.findall(rb"/Type\s*/Page\b", text)) for text in texts)
+
+
 class Everyone(PageTest):
     def test_contrast_on_both_grounds(self):
         """Each text has a contrast of 4.5 on its ground, light and dark; a level's number 3.5 on its colour, and it is bold and large."""
         for scheme in ("light", "dark"):
-            self.page.media(prefers_color_scheme=scheme)
+            self.page.media(scheme=scheme)
             for ink, ground, contrast in self.page.js(CONTRAST):
                 self.assertGreaterEqual(contrast, 3.5 if ink.endswith("-ink") else 4.5, (scheme, ink, ground))
             self.page.shot(f"ground_{scheme}")
@@ -676,17 +742,13 @@ class Everyone(PageTest):
 
     def test_by_screen_reader(self):
         """In the tree that a screen reader is given, all that takes the focus has a name, sliders their words, and the sentence is live."""
-        nodes = self.page.driver.execute_cdp_cmd("Accessibility.getFullAXTree", {})["nodes"]
-        named = {}
-        for node in nodes:
-            properties = {it["name"]: it["value"].get("value") for it in node.get("properties", [])}
-            role, name = node.get("role", {}).get("value"), node.get("name", {}).get("value", "")
-            if properties.get("focusable") and not node.get("ignored") and role not in ("RootWebArea", "complementary", "generic"):
-                self.assertTrue(name, node)
-            named[role, name] = node
+        nodes = list(self.page.tree())
+        for role, name, value, takes_focus in nodes:
+            if takes_focus and role not in ("RootWebArea", "complementary", "generic"):
+                self.assertTrue(name, (role, value))
             if role == "slider":
-                self.assertTrue(node.get("value"), node)
-        self.assertIn(("slider", "AMBER"), named)
+                self.assertNotIn(value, ("", None), name)
+        self.assertIn(("slider", "AMBER"), [node[:2] for node in nodes])
         words = self.page.js("return document.querySelector(\".handle[data-key='p:AMBER']\").getAttribute('aria-valuetext')")
         self.assertRegex(words, r"^8\.5 NM away, \+00 hundred feet, alert level 2 in 43 seconds$")
         self.assertEqual(self.page.one("#summary").get_attribute("aria-live"), "polite")
@@ -696,7 +758,7 @@ class Everyone(PageTest):
     def test_on_paper(self):
         """On paper the ground is white, whatever the screen's, patterns stay, controls are gone, and all stands on one sheet."""
         self.page.step_to(3)
-        self.page.media("print", prefers_color_scheme="dark")
+        self.page.media("print", "dark")
         self.assertEqual(self.page.js("return getComputedStyle(document.body).backgroundColor"), "rgb(255, 255, 255)")
         self.assertEqual(self.page.js("return getComputedStyle(document.querySelector('.ground')).fill"), "rgb(255, 255, 255)")
         for selector in ("#play", "#example", "#link", "figcaption", "#toml", "#add"):
@@ -707,8 +769,7 @@ class Everyone(PageTest):
         self.page.js("dispatchEvent(new Event('beforeprint'))")
         self.page.shot("paper")
         self.page.js("dispatchEvent(new Event('afterprint'))")
-        paper = self.page.driver.execute_cdp_cmd("Page.printToPDF", {"printBackground": False, "paperWidth": 8.27, "paperHeight": 11.69})["data"]
-        self.assertEqual(len(re.findall(rb"/Type\s*/Page\b", base64.b64decode(paper))), 1)
+        self.assertEqual(pages_of(self.page.paper()), 1)
 
     def test_nothing_is_asked_of_a_network(self):
         """All that was loaded is of the page's own folder, and the browser refuses to fetch."""
@@ -717,4 +778,4 @@ class Everyone(PageTest):
         self.assertTrue(all(name.startswith(("file:", "blob:", "data:")) for name in loaded), loaded)
         answer = self.page.driver.execute_async_script("const done = arguments[0]; fetch('data:,x').then(() => done('fetched'), (problem) => done('refused'));")
         self.assertEqual(answer, "refused")
-        self.page.driver.get_log("browser")  # which tells of that refusal
+        self.page.expect_a_problem()  # which tells of that refusal

@@ -6,11 +6,15 @@ import random
 import re
 import shutil
 import subprocess
+import sys
 import tempfile
 import unittest
 
-from shared import EXAMPLES, HERE, RECOVERY, THREE_LEVELS, Page, bytes_of, replayed, text_of, tool
-from daidalus_files import examine_config  # noqa: E402 (after shared, which says where it is)
+from shared import EXAMPLES, HERE, RECOVERY, THREE_LEVELS, Page, bytes_of, moments_of, replayed, text_of, tool
+from daidalus_files import examine_config, read_report  # noqa: E402 (after shared, which says where it is)
+
+sys.path.append(os.path.join(os.path.dirname(EXAMPLES), "tests", "tools"))
+from exports import numbers_of, rust_structs  # noqa: E402 (the folder is no package)
 
 PROBE = "process.exit(WebAssembly.validate(new Uint8Array([0, 97, 115, 109, 1, 0, 0, 0, 5, 3, 1, 4, 1])) ? 0 : 1)"
 HOW = "a node with 64-bit WebAssembly memory is missing (node 20 or later: nodejs.org, or the package nodejs where it is that new)"
@@ -55,6 +59,24 @@ class Module(unittest.TestCase):
     def test_1000_moments_with_recoveries(self):
         self.check_moments(RECOVERY, "--seed", "23", "--moments", "1000", "--aimed")
 
+    def test_1000_moments_under_each_model(self):
+        """Of two configurations, whose levels have all four models between them, 500 each."""
+        text = bytes_of(RECOVERY).replace(b"tcpa = 0\n", b"")
+        for models in ((b"tep = 1\n", b"", b"tcpa = 1\n"), (b"tcpa = 1\n", b"tep = 1\n", b"tau = 1\n")):
+            head, *levels = text.split(b"[[level]]\n")
+            self.assertEqual(len(levels), len(models))
+            with tempfile.NamedTemporaryFile(suffix=".toml") as file:
+                file.write(head + b"".join(b"[[level]]\n" + model + level for model, level in zip(models, levels)))
+                file.flush()
+                self.check_moments(file.name, "--seed", "29", "--moments", "500", "--aimed")
+
+    def test_300_moments_with_last_times(self):
+        """With recoveries, which come after them."""
+        with tempfile.NamedTemporaryFile(suffix=".toml") as file:
+            file.write(b"last_times = 1\n" + bytes_of(RECOVERY))
+            file.flush()
+            self.check_moments(file.name, "--seed", "37", "--moments", "300", "--aimed")
+
     def test_after_a_trap_the_instance_is_made_anew(self):
         states = bytes_of(os.path.join(EXAMPLES, "closed.states"))
         answer = in_node([["trap", bytes_of(RECOVERY), states]])[0]
@@ -67,7 +89,8 @@ VALUES = [b"0", b"1", b"-1", b"4", b"5", b"7", b"360", b"513", b"10001", b"99999
           b"1_000", b"0b1", b"1e3", b"1979-05-27", b"[1]", b"{a = 1}", b"+3", b"00", b"inf", b"07:32", b"'a'", b'"""a"""',
           b"9223372036854775807", b"-9223372036854775808"]
 LEVEL = b"[[level]]\ndthr = 660\nzthr = 700\ntthr = 35\ntcoa = 0\nlookahead = 75\nalert = 55\ntcpa = 1\n"
-EXTRA = [b"\n[x]\n", b"\n[[level]]\n", b"\nresolve = 1\n", b"\n[recovery]\nhdist = 5\nvdist = 0\n", b"\nrecovery.hdist = 1\n",
+EXTRA = [b"last_times = 1\n", b"last_times = 2\n", b"last_times = true\n", b"tau = 1\n", b"tep = 0\n", b"tep = 1\n", b"tau = 2\n", b"tau = true\n", LEVEL.replace(b"tcpa", b"tau"), LEVEL + b"tep = 1\n",
+         b"\n[x]\n", b"\n[[level]]\n", b"\nresolve = 1\n", b"\n[recovery]\nhdist = 5\nvdist = 0\n", b"\nrecovery.hdist = 1\n",
          b"\ngs.min = 3\n", b"\xef\xbb\xbf", b"\xff", b"\r\n", b"# c\n", LEVEL, LEVEL.replace(b"660", b"0"), b"\x00", b"\t",
          b"alt = {min=0, max=10, step=1, rate=1}\n", b"[level]\n", b"[gs.sub]\n", b'"resolve" = 2\n', b"a.b.c = 1\n"]
 LINES = [b"moment 5", b"end", b"own 0 0 0 0 0 0", b"traffic X 0 0 0 0 0 0", b"traffic X 0 0 0 0 0 0 5", b"format 1", b"format 2",
@@ -162,17 +185,79 @@ class Readers(unittest.TestCase):
         text = self.CONFIGS[0] + b"#" * 65536
         self.assertEqual(in_node([["faults", text]])[0][0], 1)
 
-    def test_keys_of_more_models_and_of_last_times(self):
-        """Where the lists of core.js have them: each may be left out, is 0 or 1, and one model at most is chosen."""
-        more = {"TOP": ["last_times"], "LEVEL": ["tau", "tep"], "RECOVERY": ["nearest"], "OPTIONAL": ["last_times", "tau", "tep", "nearest"]}
+    def test_the_key_of_last_times(self):
+        """It may be left out, and is 0 or 1; the codes are the program's."""
+        keys, range_of = [b"", b"last_times = 0\n", b"last_times = 1\n"], "is outside 0 to 1 (0 or 1)"
+        wrong = [(b"last_times = 2\n", 6, f"last_times = 2 {range_of}"), (b"last_times = -1\n", 6, f"last_times = -1 {range_of}"),
+                 (b"last_times = true\n", 5, "last_times = true is no whole number (0 or 1)")]
+        texts = [key + self.CONFIGS[1] for key in (*keys, *(key for key, *_ in wrong))]
+        self.assertEqual(in_node([["read", it] for it in texts]), [[]] * 3 + [[[code, why, 1]] for _, code, why in wrong])
+        came = self.compare([(it, self.STATES[2]) for it in texts])
+        self.assertEqual({it for it in came if it.startswith("config")}, {"config 5", "config 6"})
+
+    def test_a_level_has_one_model(self):
+        """Of its three keys each may be left out, each is 0 or 1, and one at most is 1; the codes are the program's."""
         text = self.CONFIGS[1]
         level = text.index(b"[[level]]") + len(b"[[level]]\n")
-        told = [(text, []), (b"last_times = 1\n" + text, []), (b"last_times = 2\n" + text, [[6, "last_times = 2 is outside 0 to 1 (0 or 1)", 1]])]
-        told.append((text[:level] + b"tau = 1\ntep = 0\n" + text[level:].replace(b"tcpa = 1", b"tcpa = 0"), []))
-        line = text[:level].count(b"\n") + 2
-        both = text[:level] + b"tau = 1\ntep = 1\n" + text[level:].replace(b"tcpa = 1", b"tcpa = 0")
-        told.append((both, [[6, "level 1, tau and tep are 1, and at most one may be", line]]))
-        self.assertEqual(in_node([["more", case, more] for case, _ in told]), [faults for _, faults in told])
+        line = text[:level].count(b"\n") + 1
+        range_of = "is outside 0 to 1 (0 or 1)"
+        cases = [(b"", b"tcpa = 1", None), (b"tau = 1\n", b"tcpa = 0", None), (b"tep = 1\n", b"", None), (b"tep = 0\ntau = 0\n", b"tcpa = 1", None),
+                 (b"tau = 1\ntep = 1\n", b"", [6, "level 1, tau and tep are 1, and at most one may be", line + 1]),
+                 (b"tau = 1\n", b"tcpa = 1", [6, "level 1, tcpa and tau are 1, and at most one may be", line]),
+                 (b"tau = 2\n", b"", [6, f"level 1, tau = 2 {range_of}", line]), (b"tep = -1\n", b"", [6, f"level 1, tep = -1 {range_of}", line]),
+                 (b"tau = true\n", b"", [5, "level 1, tau = true is no whole number (0 or 1)", line])]
+        texts = [text[:level] + added + text[level:].replace(b"tcpa = 0", tcpa) for added, tcpa, _ in cases]
+        self.assertEqual(in_node([["faults", it] for it in texts]), [told for *_, told in cases])
+        came = self.compare([(it, self.STATES[0]) for it in texts])
+        self.assertEqual({it for it in came if it.startswith("config")}, {"config 5", "config 6"})
+
+    def test_all_faults_are_those_of_the_tools(self):
+        """Of documents that can be read, each fault's code and sentence; without the engine."""
+        draw, codes = random.Random(19), set()
+        texts = [wrong_config(draw, draw.choice(self.CONFIGS)) for _ in range(400)]
+        texts += [key + self.CONFIGS[1].replace(b"nearest = 1", nearest).replace(b"tcpa = 0", models) for key in (b"", b"last_times = 1\n", b"last_times = 2\n")
+                  for nearest in (b"", b"nearest = 0", b"nearest = 2") for models in (b"tep = 1", b"tau = 1", b"tau = 1\ntep = 1", b"tep = 1\ntcpa = 1", b"")]
+        found = [(text, [(fault.code, fault.why) for fault in examine_config(text)[1]]) for text in texts]
+        found = [(text, faults) for text, faults in found if not faults or faults[0][0] > 2]
+        self.assertGreater(len(found), 200)
+        for (text, wanted), got in zip(found, in_node([["read", text] for text, _ in found])):
+            said = lambda faults: sorted((code, why.split("; known")[0]) for code, why, *_ in faults)
+            self.assertEqual(said(got), said(wanted), text)
+            codes |= {code for code, _ in wanted}
+        self.assertLessEqual({3, 4, 5, 6}, codes)
+
+    def test_a_report_is_read_as_the_tools_do(self):
+        """Each line of the reports of aimed moments, with last times, of 0 and of none too, and recoveries; without the engine."""
+        with tempfile.TemporaryDirectory() as folder:
+            path, report = (os.path.join(folder, name) for name in ("c.toml", "a.report"))
+            with open(path, "wb") as file:
+                file.write(b"last_times = 1\n" + bytes_of(RECOVERY))
+            text = replayed(path, tool("moments", "--seed", "5", "--moments", "60", "--aimed"))
+            with open(report, "w", encoding="utf-8") as file:
+                file.write(text)
+            wanted = read_report(report).moments
+        last = [seconds for moment in wanted for seconds in moment.last.values()]
+        self.assertTrue({0, None} <= set(last) and any(moment.recover for moment in wanted))
+        for moment, said in zip(wanted, in_node([["report", one.encode()] for one in moments_of(text)]), strict=True):
+            self.assertEqual(said["time"], moment.time)
+            self.assertEqual([(it["id"], it["now"], it["level"], it["first"]) for it in said["aircraft"]], [(name, *it) for name, it in moment.alerts.items()])
+            self.assertEqual({kind: [(it["from"], it["upto"], it["level"]) for it in bands] for kind, bands in said["bands"].items()}, moment.bands)
+            self.assertEqual({kind: (it["lower"], it["upper"]) for kind, it in said["resolve"].items()}, moment.answers)
+            self.assertEqual(said["last"], {kind: "none" if it is None else it for kind, it in moment.last.items()})
+            self.assertEqual(said["recover"], {kind: "none" if it is None else {"after": it[0], "value": it[1]} for kind, it in moment.recover.items()})
+
+    def test_a_configurations_struct_is_read_as_the_exports_have_it(self):
+        """Each number is its place but for the count of levels, 4; without the engine."""
+        rows, size, _ = numbers_of(rust_structs(), "DaaConfig")
+        numbers = {path: 4 if path == "count" else place for place, (path, *_) in enumerate(rows, 1)}
+        self.assertEqual(size, 8 * len(rows))
+        config, other = in_node([["config", b"".join(it.to_bytes(8, "little") for it in {**numbers, "last_times": last}.values())] for last in (1, 0)])
+        some = lambda head: {path.removeprefix(head): number for path, number in numbers.items() if path.startswith(head)}
+        self.assertEqual((config["resolve"], config["lastTimes"], other["lastTimes"]), (numbers["resolve"], True, False))
+        self.assertEqual(config["grids"], {**{kind: some(f"{kind}.") for kind in ("gs", "vs", "alt")}, "track": {
+            "min": 0, "max": 360 - numbers["track_step"], "step": numbers["track_step"], "rate": numbers["turn_rate"]}})
+        self.assertEqual(config["recovery"], {key: numbers[key] for key in ("hdist", "vdist", "nearest")})
+        self.assertEqual(config["levels"], [some(f"level[{place}].") for place in range(4)])
 
     def test_the_sentence_of_a_fault_names_its_key(self):
         """The code and the sentence are those of tools/check, and the line has the key."""
