@@ -2,6 +2,7 @@
 import math
 import re
 
+from daidalus_files import MODELS
 from headings import velocity
 
 FEET_PER_MIL = 6.076  # feet in 0.001 nautical miles
@@ -31,6 +32,8 @@ def on_levels(config):
     for number, (before, after) in enumerate(zip(config.levels, config.levels[1:]), 1):
         wider = [f"{key} {getattr(before, key)} and {getattr(after, key)}" for key in ("dthr", "zthr", "tthr", "tcoa", "lookahead", "alert")
                  if getattr(after, key) > getattr(before, key)]
+        if list(MODELS).index(after.model) > list(MODELS).index(before.model):
+            wider.append(f"{MODELS[before.model]} and {MODELS[after.model]}")
         if wider:
             yield (f"level {number + 1} reaches farther than level {number} ({', '.join(wider)}): a later level counts for more, "
                    "so levels mostly go from the farthest to the nearest")

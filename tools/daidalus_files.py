@@ -61,7 +61,7 @@ class Place(NamedTuple):
 
 
 TOP = {"resolve": Place(1, 4, "a level"), "turn_rate": Place(1, 30, "degree per second"),
-       "track_step": Place(1, 90, "degree, a divisor of 360")}
+       "track_step": Place(1, 90, "degree, a divisor of 360"), "last_times": Place(0, 1, "0 or 1")}
 GRIDS = {
     "gs": {"min": Place(0, 10000, "0.1 kt"), "max": Place(0, 10000, "0.1 kt"),
            "step": Place(1, 10000, "0.1 kt"), "rate": Place(1, 10000, "0.1 kt per second")},
@@ -71,7 +71,10 @@ GRIDS = {
             "step": Place(1, 62000, "ft"), "rate": Place(1, 10000, "ft/min")}}
 LEVEL = {"dthr": Place(1, 10000, "0.001 NM"), "zthr": Place(0, 10000, "ft"), "tthr": Place(0, 120, "s"),
          "tcoa": Place(0, 120, "s"), "lookahead": Place(1, 180, "s"), "alert": Place(1, 180, "s"),
-         "tcpa": Place(0, 1, "0 or 1")}
+         "tcpa": Place(0, 1, "0 or 1"), "tau": Place(0, 1, "0 or 1"), "tep": Place(0, 1, "0 or 1")}
+# The models by their keys, in the order in which their volumes lie one within the next where the thresholds are the same.
+MODELS = {"tau": "WCV_TAU", "tcpa": "WCV_TCPA", None: "WCV_TAUMOD", "tep": "WCV_TEP"}
+MODEL_KEYS = [key for key in LEVEL if key in MODELS]
 RECOVERY = {"hdist": Place(1, 10000, "0.001 NM"), "vdist": Place(0, 10000, "ft"), "nearest": Place(0, 1, "0 or 1")}
 
 
@@ -89,7 +92,14 @@ class Level(NamedTuple):
     tcoa: int
     lookahead: int
     alert: int
-    tcpa: int
+    tcpa: int = 0
+    tau: int = 0
+    tep: int = 0
+
+    @property
+    def model(self):
+        """The key of its model, or None where that is WCV_TAUMOD."""
+        return next((key for key in MODEL_KEYS if getattr(self, key)), None)
 
 
 class Config(NamedTuple):
@@ -102,6 +112,7 @@ class Config(NamedTuple):
     levels: list
     recovery: tuple | None
     nearest: int = 0
+    last_times: int = 0
 
 
 def shown(value):
@@ -128,7 +139,7 @@ def examine_config(text):
 
 def faults_of_document(document):
     tops = {**TOP, **dict.fromkeys((*GRIDS, "level", "recovery"))}
-    yield from faults_of_keys("", document, tops, ("recovery",))
+    yield from faults_of_keys("", document, tops, ("last_times", "recovery"))
     yield from faults_of_numbers("", document, TOP)
     for name, places in (*GRIDS.items(), ("recovery", RECOVERY)):
         if name not in document:
@@ -196,8 +207,11 @@ def faults_of_levels(document):
         if not isinstance(level, dict):
             yield Fault(5, f"level {number} is {shown(level)} and no table")
             continue
-        yield from faults_of_keys(f"level {number}, ", level, LEVEL, ("tcpa",))
+        yield from faults_of_keys(f"level {number}, ", level, LEVEL, MODEL_KEYS)
         yield from faults_of_numbers(f"level {number}, ", level, LEVEL)
+        chosen = [key for key in MODEL_KEYS if type(level.get(key)) is int and level[key] == 1]
+        if len(chosen) > 1:
+            yield Fault(6, f"level {number}, {' and '.join(chosen)} are 1, and at most one may be")
     if not 1 <= len(levels) <= MOST_LEVELS:
         yield Fault(7, f"there are {len(levels)} levels, and 1 to {MOST_LEVELS} may be")
     elif type(resolve) is int and resolve > len(levels):
@@ -211,8 +225,9 @@ def config_of(document):
         values[name] = list(range(document[name]["min"], document[name]["max"] + 1, document[name]["step"]))
     recovery = document.get("recovery")
     return Config(document["resolve"], document["turn_rate"], {name: document[name]["rate"] for name in GRIDS}, values,
-                  [Level(**{"tcpa": 0, **level}) for level in document["level"]],
-                  (recovery["hdist"], recovery["vdist"]) if recovery is not None else None, (recovery or {}).get("nearest", 0))
+                  [Level(**level) for level in document["level"]],
+                  (recovery["hdist"], recovery["vdist"]) if recovery is not None else None, (recovery or {}).get("nearest", 0),
+                  document.get("last_times", 0))
 
 
 def read_config(path):

@@ -78,6 +78,20 @@ static void print_resolutions(const struct daa_config *config, const struct daa_
     }
 }
 
+/* For how long the present flight may be kept before a manoeuvre of each kind, where the configuration asks for it and the
+ * present flight is not open. */
+static void print_last_times(const struct daa_config *config, const struct daa_lines *moment, const struct daa_board *board) {
+    for (int32_t kind = DAA_TRACK; kind <= DAA_HEIGHT; kind++) {
+        struct daa_resolution to;
+        struct daa_last last;
+        must(daa_resolution(config, &moment->own, board, kind, DAA_LOWER, &to), "daa_resolution");
+        if (!config->last_times || to.what == 0) continue;
+        must(daa_last(config, &moment->own, moment->traffic, moment->count, kind, &last), "daa_last");
+        if (last.found) printf("last %s %u\n", kinds[kind], (unsigned)last.after);
+        else printf("last %s none\n", kinds[kind]);
+    }
+}
+
 /* The recoveries of the kinds that have no open value on either side, where the configuration asks for them. */
 static void print_recoveries(const struct daa_config *config, const struct daa_lines *moment, const struct daa_board *board) {
     for (int32_t kind = DAA_TRACK; kind <= DAA_HEIGHT; kind++) {
@@ -125,6 +139,7 @@ int main(int words, char **word) {
     print_alerts(&config, &moment);
     print_bands(&config, &board);
     print_resolutions(&config, &moment.own, &board);
+    print_last_times(&config, &moment, &board);
     print_recoveries(&config, &moment, &board);
     printf("done %u\n", (unsigned)moment.time);
     must(daa_report(&config, moment.time, &moment.own, moment.traffic, moment.count, text, sizeof text, &length), "daa_report");

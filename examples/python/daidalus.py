@@ -1,4 +1,4 @@
-"""The detect-and-avoid engine for Python: alerts, bands, resolutions and recoveries of a moment, and its report.
+"""The detect-and-avoid engine for Python: alerts, bands, resolutions, last times and recoveries of a moment, and its report.
 
 It calls the archive of crates/daa_c, made into a shared library as examples/README.md shows:
 
@@ -49,7 +49,8 @@ class Grid:
 
 @dataclass(frozen=True)
 class Level:
-    """A well-clear volume with its lookahead and alert time."""
+    """A well-clear volume with its lookahead and alert time. Of tcpa, tau and tep at most one is 1: the time to the closest
+    approach, tau, or the time to the entry point is then in place of modified tau."""
     dthr: int
     zthr: int
     tthr: int
@@ -57,6 +58,8 @@ class Level:
     lookahead: int
     alert: int
     tcpa: int = 0
+    tau: int = 0
+    tep: int = 0
 
 
 @dataclass(frozen=True)
@@ -70,7 +73,7 @@ class Cylinder:
 
 @dataclass(frozen=True)
 class Config:
-    """The numbers of a configuration; levels[0] is level 1."""
+    """The numbers of a configuration; levels[0] is level 1. last_times: 1 if the last times to manoeuvre are asked for, else 0."""
     resolve: int
     turn_rate: int
     track_step: int
@@ -79,6 +82,7 @@ class Config:
     alt: Grid
     levels: List[Level]
     recovery: Optional[Cylinder] = None
+    last_times: int = 0
 
 
 @dataclass(frozen=True)
@@ -143,7 +147,7 @@ SENTENCES = {
     3: "the configuration has a key that is not known",
     4: "the configuration lacks a key",
     5: "a value of the configuration is no whole number, or no table",
-    6: "a number of the configuration is out of its range, min is above max, or track_step does not divide 360",
+    6: "a number of the configuration is out of its range, min is above max, track_step does not divide 360, or a level has two models",
     7: "the configuration has no level or more than four, or resolve is above their number",
     8: "a kind has more than 512 candidates",
     16: "the ownship is out of range",
@@ -156,7 +160,7 @@ SENTENCES = {
     23: "the kind is none of track, gs, vs and alt",
     24: "there is no such side",
     25: "the configuration has no candidate at the index",
-    26: "the configuration asks for no recovery",
+    26: "the configuration does not ask for it",
     27: "the board was not decided under this configuration",
 }
 FIELDS = ("", "x", "y", "alt", "trk", "gs", "vs", "vx", "vy", "age")
@@ -181,18 +185,19 @@ def struct(*parts):
 class C:
     """The structs as C lays them out."""
     Grid = struct(("min max step rate", c_int64))
-    Level = struct(("dthr zthr tthr tcoa lookahead alert tcpa", c_int64))
+    Level = struct(("dthr zthr tthr tcoa lookahead alert tcpa tau tep", c_int64))
     Config = struct(("resolve turn_rate track_step", c_int64), ("gs vs alt", Grid), ("recovery", c_uint64),
-                    ("hdist vdist nearest", c_int64), ("count", c_uint64), ("level", Level * MOST_LEVELS))
+                    ("hdist vdist nearest last_times", c_int64), ("count", c_uint64), ("level", Level * MOST_LEVELS))
     Own = struct(("x y alt trk gs vs", c_int32))
     Traffic = struct(("id", c_char * 8), ("x y alt vx vy vs", c_int32), ("age", c_uint32))
     Alert = struct(("now level", c_uint32), ("first", c_int64))
     Fault = struct(("code field least greatest", c_int32), ("place", c_uint64))
-    Board = struct(("mask", c_uint8 * 2048), ("mark", c_int64 * 46))
+    Board = struct(("mask", c_uint8 * 2048), ("mark", c_int64 * 55))
     Candidate = struct(("kind value", c_int32))
     Band = struct(("least most", c_int32), ("level", c_uint32))  # from is a word of Python
     Resolution = struct(("what value", c_int32))
     Recovery = struct(("found", c_int32), ("after", c_uint32), ("value", c_int32))
+    Last = struct(("found", c_int32), ("after", c_uint32))
 
 
 def c_config(config):
@@ -202,14 +207,14 @@ def c_config(config):
     levels = (C.Level * MOST_LEVELS)(*(astuple(level) for level in config.levels))
     return C.Config(config.resolve, config.turn_rate, config.track_step, *(C.Grid(*astuple(grid)) for grid in
                     (config.gs, config.vs, config.alt)), int(config.recovery is not None), cylinder.hdist, cylinder.vdist, cylinder.nearest,
-                    len(config.levels), levels)
+                    config.last_times, len(config.levels), levels)
 
 
 def config_of(numbers):
     grids = [Grid(it.min, it.max, it.step, it.rate) for it in (numbers.gs, numbers.vs, numbers.alt)]
     levels = [Level(*(getattr(it, name) for name, _ in it._fields_)) for it in numbers.level[:numbers.count]]
     cylinder = Cylinder(numbers.hdist, numbers.vdist, numbers.nearest) if numbers.recovery else None
-    return Config(numbers.resolve, numbers.turn_rate, numbers.track_step, *grids, levels, cylinder)
+    return Config(numbers.resolve, numbers.turn_rate, numbers.track_step, *grids, levels, cylinder, numbers.last_times)
 
 
 def c_traffic(traffic):
@@ -297,6 +302,14 @@ class Moment:
         to = C.Recovery()
         self.engine.ask("daa_recovery", byref(self.config), *self.picture, kind, byref(to))
         return Recovery(to.after, to.value) if to.found else None
+
+    def last(self, kind: Kind) -> Optional[int]:
+        """The greatest number of seconds, below the greatest lookahead of the levels that close, for which the present flight
+        may be kept so that some candidate of the kind that begins then is open, or None, under a configuration that asks for
+        last times."""
+        to = C.Last()
+        self.engine.ask("daa_last", byref(self.config), *self.picture, kind, byref(to))
+        return to.after if to.found else None
 
     def report(self, time: int) -> bytes:
         """The moment's text, as the program writes it."""

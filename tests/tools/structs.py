@@ -8,7 +8,8 @@ sys.path.insert(0, os.path.join(os.path.dirname(os.path.realpath(__file__)), "..
 from daidalus import C, struct  # noqa: E402 (the folder is no package)
 
 Grid, Level, Config, Own, Traffic, Fault = C.Grid, C.Level, C.Config, C.Own, C.Traffic, C.Fault
-Alert, Board, Candidate, Band, Resolution, Recovery = C.Alert, C.Board, C.Candidate, C.Band, C.Resolution, C.Recovery
+Alert, Board, Candidate, Band = C.Alert, C.Board, C.Candidate, C.Band
+Resolution, Recovery, Last = C.Resolution, C.Recovery, C.Last
 Lines = struct(("format ended last opened time owned", ctypes.c_uint32), ("own", Own), ("count", ctypes.c_uint64),
                ("traffic", Traffic * 64))
 

@@ -4,7 +4,10 @@ import subprocess
 import sys
 import unittest
 
-from common import TOP, ToolTest, program
+from common import CONFIG, ENCOUNTER, TOP, ToolTest, module, program
+from daidalus_files import MODELS, config_of, examine_config, read_config, read_moments
+
+soak = module("bench/soak")
 
 WORST = os.path.join(TOP, "bench", "worst_moments", "decide")
 # the words that make each script do little, and the end of what it then says
@@ -16,6 +19,51 @@ SCRIPTS = {
                       "each run ended with status 6 and nothing written, or with status 0 and the whole text\n"),
     "soak": (["--inputs", "300"], "nothing failed\n"),
 }
+
+
+class LastTimes(ToolTest):
+    """What bench/soak says of the lines of last times, on a report that the reference wrote."""
+
+    def check(self, text, moment, config, **more):
+        settings = {kind.encode(): values for kind, values in config.values.items()}
+        settings.update(levels=3, resolve=2, horizon=75, recovery=False, last_times=1, **more)
+        soak.Report(text.encode(), settings).check([moment])
+
+    def test_right_and_wrong_lines(self):
+        config = read_config(CONFIG)._replace(last_times=1)
+        moment = next(it for it in read_moments(ENCOUNTER) if it.time == 30)
+        text = "\n".join(module("tools/reference").report_of(config, moment)) + "\n"
+        self.assertTrue(soak.is_of_the_forms(text.encode()))
+        self.check(text, moment, config)
+        for old, new in (("last track 8", "last track none"), ("last track 8", "last track 75"), ("last track 8\n", ""),
+                         ("last track 8\nlast gs none\n", "last gs none\nlast track 8\n"), ("last alt 0\n", "last alt 0\nlast alt 0\n")):
+            self.assertIn(old, text)
+            with self.assertRaises(soak.Wrong, msg=new):
+                self.check(text.replace(old, new), moment, config)
+        for old, new in (("last track 8", "last track 08"), ("last track 8", "last track -1"), ("last gs", "last hs")):
+            self.assertFalse(soak.is_of_the_forms(text.replace(old, new).encode()))
+
+
+    def test_none_where_the_present_flight_is_open(self):
+        config = read_config(CONFIG)._replace(last_times=1)
+        moment = next(it for it in read_moments(ENCOUNTER) if it.time == 180)
+        text = "\n".join(module("tools/reference").report_of(config, moment)) + "\n"
+        self.assertIn("resolve track left keep right keep\n", text)
+        self.check(text, moment, config)
+        with self.assertRaises(soak.Wrong):
+            self.check(text.replace("done", "last track 8\nlast gs 8\nlast vs 8\nlast alt 8\ndone"), moment, config)
+
+
+class Drawn(unittest.TestCase):
+    def test_each_model_and_last_times_or_none(self):
+        """Of the configurations that bench/soak draws."""
+        draw, configs = soak.Draw(4), []
+        for _ in range(200):
+            document, faults = examine_config(draw.configuration(draw.settings()).encode())
+            self.assertEqual(faults, [])
+            configs.append(config_of(document))
+        self.assertEqual({config.last_times for config in configs}, {0, 1})
+        self.assertEqual({level.model for config in configs for level in config.levels}, set(MODELS))
 
 
 class Bench(ToolTest):

@@ -4,8 +4,8 @@ import os
 import re
 import unittest
 
-from common import TOP
-from daidalus_files import GRIDS, LEVEL, RECOVERY, TOP as TOP_KEYS
+from common import CONFIG, ENCOUNTER, TOP, module
+from daidalus_files import GRIDS, LEVEL, RECOVERY, TOP as TOP_KEYS, read_config, read_moments
 from headings import SINES
 
 import generator
@@ -35,7 +35,7 @@ class Formulas(unittest.TestCase):
 
     def test_names_definitions_that_are_there(self):
         names, found = defined(), 0
-        for words in re.findall(r"`([A-Za-z_]+)(?: Taumod| Tcpa)?`", self.text):
+        for words in re.findall(r"`([A-Za-z_]+)(?: Tau| Tcpa| Taumod| Tep)?`", self.text):
             if words not in OTHERS:
                 self.assertIn(words, names)
                 found += 1
@@ -72,6 +72,17 @@ class Formulas(unittest.TestCase):
             self.assertIn(str(constant), self.text)
 
 
+class Guide(unittest.TestCase):
+    def test_the_last_times_of_the_example(self):
+        """The lines that the guide shows of moment 30 are those of the reference."""
+        told = read("docs/GUIDE.md").split("## How long a manoeuvre may wait\n")[1].split("\n## ")[0]
+        lines = re.findall(r"^    (.+)$", told, re.M)
+        moment = next(it for it in read_moments(ENCOUNTER) if it.time == 30)
+        found = module("tools/reference").report_of(read_config(CONFIG)._replace(last_times=1), moment)
+        self.assertEqual(found[-1 - len(lines):-1], lines)
+        self.assertEqual(len(lines), 8)
+
+
 class Words(unittest.TestCase):
     def test_each_key_has_its_parameter(self):
         text = read("docs/FROM_DAIDALUS.md")
@@ -79,8 +90,8 @@ class Words(unittest.TestCase):
             self.assertRegex(text, rf"`[^`]*\b{key}\b[^`]*`", key)
 
     def test_the_reference_is_short(self):
-        self.assertLessEqual(read("tools/reference").count("\n") + read("tools/headings.py").count("\n"), 330)
-        self.assertLessEqual(read("tools/reference").count("\n"), 300)
+        self.assertLessEqual(read("tools/reference").count("\n") + read("tools/headings.py").count("\n"), 350)
+        self.assertLessEqual(read("tools/reference").count("\n"), 320)
 
     def test_no_document_names_what_is_gone(self):
         for name in ["README.md", *glob.glob("docs/*.md", root_dir=TOP)]:

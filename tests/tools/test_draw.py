@@ -108,6 +108,18 @@ class Pictures(ToolTest):
         self.assertEqual([re.sub(r" [\d.]+H", " YH", d) for d in lines], ["M560 YH970"])
         self.assertNotIn("last times", self.words(self.picture(REPORT)[0]))
 
+    def test_each_kind_has_a_line_of_its_last_times_in_the_colour_of_its_name(self):
+        """Seconds 6, 4, 2 and 0 are at four heights, the least at the foot; the names stand in the order of the kinds."""
+        text = REPORT.replace("recover track", "last track 6\nlast gs 4\nlast vs 2\nlast alt 0\nrecover track")
+        root, _ = self.picture(text)
+        names = [(text.text, text.get("fill")) for text in root.iter("{http://www.w3.org/2000/svg}text") if text.get("fill") in draw.KIND_LINES.values()]
+        self.assertEqual(names, [(draw.LABELS[kind], draw.KIND_LINES[kind]) for kind in ("track", "gs", "vs", "alt")])
+        self.assertEqual(len({colour for _, colour in names}), 4)
+        lines = {path.get("stroke"): path.get("d") for path in root.iter("{http://www.w3.org/2000/svg}path") if path.get("stroke-width") == "1.6"}
+        heights = [float(re.fullmatch(r"M560 ([\d.]+)H970", lines[colour])[1]) for _, colour in names]
+        self.assertEqual(heights, sorted(heights))
+        self.assertEqual(len(set(heights)), 4)
+
     def test_equal_neighbours_are_one_box(self):
         """A hundred moments of the same bands make as many boxes as one, and a picture little longer."""
         one = REPORT.split("refused")[0]

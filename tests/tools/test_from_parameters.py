@@ -123,15 +123,19 @@ class FromParameters(ToolTest):
         self.refused(TOP + level(1, "FAR", 450, 75, 55), "no level has the region MID or a nearer one")
 
     def test_detectors(self):
-        made, _ = self.made(TOP + level(1, "MID", 450, 75, 55, model="WCV_TCPA"))
-        self.assertEqual(made["level"][0]["tcpa"], 1)
+        plain, _ = self.made(TOP + level(1, "MID", 450, 75, 55))
+        for key in ("tcpa", "tau", "tep"):
+            made, said = self.made(TOP + level(1, "MID", 450, 75, 55, model=f"WCV_{key.upper()}"))
+            self.assertEqual(made["level"][0], {**plain["level"][0], key: 1})
+            self.assertFalse(any("WCV_" in line for line in said), said)
         made, said = self.made(TOP + level(1, "MID", 450, 75, 55, model="WCV_TAUMOD_SUM"))
-        self.assertNotIn("tcpa", made["level"][0])
+        self.assertEqual(made["level"], plain["level"])
         self.assertTrue(any("level 1: WCV_TAUMOD_SUM becomes WCV_TAUMOD" in line for line in said))
         cylinder = level(1, "MID", 450, 75, 55, model="CDCylinder") + "one_det_1_D = 500 [ft]\none_det_1_H = 100 [ft]\n"
         made, _ = self.made(TOP + cylinder)
         self.assertEqual(made["level"][0], {"dthr": 82, "zthr": 100, "tthr": 0, "tcoa": 0, "alert": 55, "lookahead": 75})
-        self.refused(TOP + level(1, "MID", 450, 75, 55, model="CD3D"), "there is no such volume here; known are WCV_TAUMOD")
+        self.refused(TOP + level(1, "MID", 450, 75, 55, model="CD3D"),
+                     "there is no such volume here; known are WCV_TAU, WCV_TCPA, WCV_TAUMOD, WCV_TEP, WCV_TAUMOD_SUM, CDCylinder")
 
     def test_alerters(self):
         other = level(1, "MID", 900, 60, 50, name="two")

@@ -69,7 +69,7 @@ class Map(unittest.TestCase):
 
     def test_crates_of_tests_hold_all_tests_of_a_crate_and_nothing_else(self):
         of_tests = set(crates()) - set(described())
-        self.assertGreater(len(of_tests), 3)
+        self.assertGreater(len(of_tests), 5)
         for name in of_tests:
             of = name.removesuffix("_tests")
             text = f"//! Tests of {of}.\n#![tactic(auto)]\n\n#[cfg(test)]\nmod tests;\n"
@@ -81,14 +81,18 @@ class Map(unittest.TestCase):
     def test_the_map_has_the_crates_in_their_order(self):
         text = read("docs/ARCHITECTURE.md")
         self.assertEqual(re.findall(r"^\| \[(\w+)\]\(\.\./crates/\1\) \|", text, re.M), list(described()))
-        self.assertLessEqual(len(text.encode()), 11000)
+        self.assertLessEqual(len(text.encode()), 10000)
 
-    def test_each_readme_says_what_its_crate_stands_on(self):
-        for name, below in described().items():
-            said = re.search(r"^Stands on(.*)\.$", read(f"crates/{name}/README.md"), re.M)
-            self.assertTrue(said, name)
-            words = re.findall(r"\w+", re.sub(r"of the kit|nothing but std", "", said[1]))
-            self.assertEqual(sorted(words), sorted(below), name)
+    def test_readmes_say_what_for_show_a_caller_and_say_what_surprises(self):
+        """Programs have no caller, and those of a library for another language are not of Rattle."""
+        for name in described():
+            text = read(f"crates/{name}/README.md")
+            sections = re.findall(r"^## (.*)$", text, re.M)
+            self.assertIn("What surprises", sections, name)
+            self.assertLessEqual(set(sections), {"A caller", "How it goes", "What surprises", "Proofs"}, name)
+            is_library = os.path.exists(os.path.join(TOP, "crates", name, "src", "lib.rt")) and f"\n{name} staticlib" not in read("crates.txt")
+            self.assertEqual("A caller" in sections, is_library or name == "daa_cockpit", name)
+            self.assertEqual(text.count("<!-- caller: "), sections.count("A caller"), name)
 
     def test_links_lead_to_files(self):
         found = 0
@@ -96,6 +100,19 @@ class Map(unittest.TestCase):
             for link in re.findall(r"\]\(([^)#:]+)(?:#[^)]*)?\)", read(name)):
                 self.assertTrue(os.path.exists(os.path.join(TOP, os.path.dirname(name), link)), f"{link} in {name}")
                 found += 1
+        self.assertGreater(found, 40)
+
+    def test_links_to_headings_lead_to_headings(self):
+        """As a page on the web has their anchors: small letters, no signs, dashes for blanks."""
+        found = 0
+        for name in ["README.md", "examples/README.md", *glob.glob("docs/*.md", root_dir=TOP), *readmes()]:
+            for link, anchor in re.findall(r"\]\(([^)#:\s]*)#([\w-]+)\)", read(name)):
+                page = os.path.normpath(os.path.join(os.path.dirname(name), link)) if link else name
+                if page.endswith(".md"):
+                    titles = re.findall(r"^#+ (.*)$", re.sub(r"(?s)```.*?```", "", read(page)), re.M)
+                    anchors = {re.sub(r"[^\w -]", "", title.lower()).replace(" ", "-") for title in titles}
+                    self.assertIn(anchor, anchors, f"{link}#{anchor} in {name}")
+                    found += 1
         self.assertGreater(found, 40)
 
     def test_paths_of_crates_are_there(self):
@@ -120,20 +137,6 @@ class Map(unittest.TestCase):
             for crate in re.findall(r"\bdaa_\w+", read(name)):
                 self.assertIn(crate, there, name)
 
-    def test_each_public_item_is_named(self):
-        found = 0
-        for name in described():
-            path = f"crates/{name}/src/lib.rt"
-            if os.path.exists(os.path.join(TOP, path)):
-                text = read(path)
-                items = re.findall(r"^pub (?:fn|struct|enum|trait|mod) (\w+)", text, re.M)
-                for used in re.findall(r"^pub use \w+::([^;]+);", text, re.M):
-                    items += re.findall(r"\w+", used)
-                for item in items:
-                    self.assertRegex(read(f"crates/{name}/README.md"), rf"\b{item}\b", name)
-                    found += 1
-        self.assertGreater(found, 150)
-
     def test_threads_start_where_the_map_says(self):
         said = re.search(r"^- Threads start in (.*?) alone\.", read("docs/ARCHITECTURE.md"), re.M)[1]
         found = set()
@@ -148,33 +151,52 @@ class Map(unittest.TestCase):
                 self.assertIn(path.split(os.sep)[-3], ("daa_screen", "daa_cockpit"), path)
 
 
+class Sizes(unittest.TestCase):
+    """Text that somebody has to write and read: without the made pages and the callers that a script quotes."""
+
+    MADE = {"docs/TRUST.md", "docs/DEFINITIONS.md", "docs/CALLS.md", "docs/WRONG_BODIES.md"}
+
+    def sizes(self):
+        pages = ["README.md", "examples/README.md", *glob.glob("docs/*.md", root_dir=TOP), *readmes()]
+        quoted = r"<!-- caller: .* -->\n```rust\n(?:.*\n)*?```\n"
+        return {name: len(re.sub(quoted, "", read(name)).encode()) for name in pages if name not in self.MADE}
+
+    def test_no_page_is_long(self):
+        for name, size in self.sizes().items():
+            self.assertLessEqual(size, 20 * 1024, name)
+
+    def test_all_pages_together_are_short(self):
+        self.assertLessEqual(sum(self.sizes().values()), 260 * 1024)
+
+    def test_a_number_of_the_formats_is_said_on_one_page(self):
+        for number in ("130176", "1897"):
+            self.assertEqual([name for name in self.sizes() if number in read(name)], ["docs/FORMATS.md"])
+
+    def test_the_order_of_a_pictures_faults_is_said_on_one_page(self):
+        self.assertEqual([name for name in self.sizes() if "too many aircraft" in read(name)], ["docs/LIBRARY.md"])
+
+
 class WrongBodies(unittest.TestCase):
     def setUp(self):
         text = read("docs/CONTRIBUTING.md")
         self.rows = re.findall(r"^\| (.*) \| (.*) \|$", text.split("| The wrong body |")[1], re.M)
 
     def test_each_row_names_what_refuses_it(self):
-        self.assertGreater(len(self.rows), 60)
+        self.assertGreater(len(self.rows), 6)
         for body, refused_by in self.rows:
             self.assertNotIn("`", body)
-            words = ("`", "the signatures", "a test", "the same test")
-            self.assertTrue(any(word in refused_by for word in words), body)
+            self.assertTrue(any(word in refused_by for word in ("`", "the signatures", "every test")), body)
 
-    def test_each_name_is_an_edit_or_a_test(self):
+    def test_each_name_is_a_test(self):
         found = 0
         for _, refused_by in self.rows:
-            crate = None
-            for named, name in re.findall(r"\b(daa_\w+)\b|`([^`]*)`", refused_by):
-                crate = named or crate
-                if name:
-                    self.assertTrue(self.is_there(name, crate, refused_by), f"{name}: {refused_by}")
-                    found += 1
-        self.assertGreater(found, 110)
+            for name in re.findall(r"`([^`]*)`", refused_by):
+                self.assertTrue(self.is_there(name, refused_by), f"{name}: {refused_by}")
+                found += 1
+        self.assertGreater(found, 5)
 
-    def is_there(self, name, crate, row):
-        """It is an edit of the crate that was named last, a test of one that the row names, or a test of the gate."""
-        if crate and os.path.exists(os.path.join(TOP, "crates", crate, "must-fail", f"{name}.edit")):
-            return True
+    def is_there(self, name, row):
+        """It is a test of a crate that the row names, or a test of the gate."""
         for named in re.findall(r"\bdaa_\w+", row):
             files = [path for it in (named, f"{named}_tests")
                      for path in glob.glob(os.path.join(TOP, "crates", it, "src", "**", "*.rt"), recursive=True)]

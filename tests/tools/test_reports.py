@@ -110,6 +110,20 @@ class Reports(ToolTest):
         self.assertEqual(out[:2], ["moment 10 last track: - and 3", "moment 10 last gs: - and none"])
         self.assertLessEqual({"last track: 1 of 1 differ, 100.0 % (1 by nothing/a value)"}, set(out))
 
+    def test_a_last_time_of_0_is_found(self):
+        """Of any kind. One of none is another, and a number below 0 is none of a report."""
+        text = REPORT.replace("recover track", "last track 0\nlast gs 0\nlast vs none\nlast alt 0\nrecover track")
+        report = self.write("b.report", text)
+        self.assertEqual(read_report(report).moments[1].last, {"track": 0, "gs": 0, "vs": None, "alt": 0})
+        out = [line for line in self.tool("summary", report)[1].splitlines() if "last time" in line]
+        self.assertEqual(out, [f"{kind}: last time {value} at 1 moment, 10 s"
+                               for kind, value in (("track", "found"), ("gs", "found"), ("vs", "none"), ("alt", "found"))])
+        out = self.tool("compare", report, self.write("c.report", text.replace("last gs 0", "last gs none").replace("alt 0\n", "alt 7\n")))
+        self.assertEqual(out[1].splitlines()[:2], ["moment 10 last gs: 0 and none", "moment 10 last alt: 0 and 7"])
+        status, _, said = self.tool("summary", self.write("c.report", text.replace("last gs 0", "last gs -1")))
+        self.assertEqual(status, 4)
+        self.assert_one_line(said, "is no line of a report there: 'last gs -1'")
+
     def test_compare_tells_each_difference(self):
         other = (REPORT.replace("alert A 2 43", "alert A 3 40").replace("track 10 180 0\ntrack 185 355 3", "track 10 190 0\ntrack 195 355 3")
                  .replace("right 10", "right 15").replace("recover track 12 40", "recover track none").replace("refused 9 6", "refused 9 4")

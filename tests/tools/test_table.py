@@ -62,6 +62,15 @@ class Tables(ToolTest):
         found = [(row["time"], row["kind"], row["last_time"], row["last"]) for row in csv.DictReader(rows) if row["last_time"]]
         self.assertEqual(found, [("10", "track", "found", "3"), ("10", "gs", "none", "")])
 
+    def test_last_times_in_their_columns_and_as_changes(self):
+        """0 is found. One that falls is no change, and one that is found no more is."""
+        one = moment(0, 1).replace("done", "last track 3\nlast gs 0\nlast vs none\ndone")
+        two = moment(1, 1).replace("done", "last track 2\nlast gs none\nlast vs none\ndone")
+        rows, _ = self.table(one + two, "kinds")
+        self.assertEqual(rows[0], "encounter,time,kind,bands,answer,lower,upper,recovery,after,value,last_time,last,changed")
+        self.assertEqual([row.split(",keep,")[1] for row in rows[1:]], [",,,,,found,3,new", ",,,,,found,0,new", ",,,,,none,,new", ",,,,,,,new",
+                                                                       ",,,,,found,2,", ",,,,,none,,last_time", ",,,,,none,,", ",,,,,,,"])
+
     def test_encounters_and_what_is_new_in_them(self):
         """The times 0 1 | 0 | 100 with a pause of 50: an encounter's first rows are new, and B's at time 1."""
         text = moment(0, 1) + moment(1, 1, 0) + moment(0, 1, 0) + moment(100, 2, 0)

@@ -4,7 +4,7 @@ import random
 import unittest
 
 from common import CONFIG, TOP, ToolTest, module
-from daidalus_files import Level, Moment, Own, Traffic, read_config
+from daidalus_files import MODEL_KEYS, Level, Moment, Own, Traffic, read_config
 
 volume = module("tools/volume")
 reference = module("tools/reference")
@@ -15,7 +15,7 @@ def level_of(**values):
 
 
 # The keys that name a model, each 1 by itself, and none.
-MODELS = [{}, *({key: 1} for key in volume.MODELS if key in Level._fields)]
+MODELS = [{}, *({key: 1} for key in MODEL_KEYS)]
 EXAMPLE = {"dthr": 660, "zthr": 450, "tthr": 35, "lookahead": 75, "alert": 55}
 
 
@@ -32,25 +32,51 @@ class Volumes(ToolTest):
                 moment = Moment(0, 1)
                 moment.own = Own(0, 0, 5000, 0, 0, 0)
                 moment.traffic = [Traffic("A", east, ahead, 5000, 0, -speed, 0)]
-                situation = reference.Situation(config._replace(levels=[level]), moment)
+                situation = reference.Situation(config._replace(resolve=1, levels=[level]), moment)
                 wanted = situation.now_level(moment.traffic[0]) == 1
                 self.assertEqual(volume.is_near(level, speed / 36000, east / 1000, ahead / 1000), wanted, (level, east, ahead, speed))
                 counts[wanted] += 1
         self.assertGreater(min(counts.values()), 1000)
 
     def test_how_far_ahead_it_reaches(self):
-        """r^2 - D^2 = T V r for r on the middle line: with 0.66 NM, 35 s and 240 knots r is 7/6 + sqrt(0.4356 + 49/36) = 2.507."""
+        """r^2 - D^2 = T V r for r on the middle line: with 0.66 NM, 35 s and 240 knots r is 7/6 + sqrt(0.4356 + 49/36) = 2.507. By
+        tau and by the time to the closest approach r is T V, by the time to the entry point T V + D."""
         behind, ahead = volume.stretch_ahead(level_of(**EXAMPLE), 240 / 3600, 0, 0.001)
         self.assertAlmostEqual(ahead, 2.507, delta=0.001)
         self.assertAlmostEqual(behind, -0.66, delta=0.001)
-        self.assertAlmostEqual(volume.stretch_ahead(level_of(**EXAMPLE, tcpa=1), 240 / 3600, 0, 0.001)[1], 35 * 240 / 3600, delta=0.001)
+        for model, reach in (({"tcpa": 1}, 35 * 240 / 3600), ({"tau": 1}, 35 * 240 / 3600), ({"tep": 1}, 0.66 + 35 * 240 / 3600)):
+            self.assertAlmostEqual(volume.stretch_ahead(level_of(**EXAMPLE, **model), 240 / 3600, 0, 0.001)[1], reach, delta=0.001)
         self.assertIsNone(volume.stretch_ahead(level_of(**EXAMPLE), 240 / 3600, 0.7))
+
+    def test_tau_may_leave_a_gap(self):
+        """0.65 miles aside: within dthr up to sqrt(0.66^2 - 0.65^2) = 0.114 miles ahead; tau is at most 35 s where r (7/3 - r) is at
+        least 0.65^2, from 7/6 - sqrt(49/36 - 0.4225) = 0.198 to 2.136. Modified tau has one stretch."""
+        near, soon = volume.stretches_ahead(level_of(**EXAMPLE, tau=1), 240 / 3600, 0.65, 0.001)
+        for found, wanted in zip((*near, *soon), (-0.114, 0.114, 0.198, 2.136)):
+            self.assertAlmostEqual(found, wanted, delta=0.0015)
+        self.assertEqual(len(volume.stretches_ahead(level_of(**EXAMPLE), 240 / 3600, 0.65, 0.001)), 1)
 
     def test_the_picture_of_the_guide(self):
         """docs/volume.svg is what is drawn today."""
         status, out, said = self.tool("volume", CONFIG, "--level", "2")
         with open(os.path.join(TOP, "docs", "volume.svg"), encoding="utf-8") as file:
             self.assertEqual((status, out, said), (0, file.read(), ""))
+
+    def test_each_model_is_named_with_its_time(self):
+        with open(CONFIG, encoding="utf-8") as file:
+            text = file.read()
+        for key, model, time in (("tau", "WCV_TAU", "tau"), ("tcpa", "WCV_TCPA", "time to the closest approach"),
+                                 ("tep", "WCV_TEP", "time to the entry point"), (None, "WCV_TAUMOD", "modified tau")):
+            out = self.tool("volume", self.write("c.toml", text.replace("tcpa = 0", f"{key} = 1") if key else text))[1]
+            self.assertIn(f">{model}: both parts at one instant violate.<", out)
+            self.assertIn(f">{time} 35 s: ", out)
+            self.assertIn(f">and {time} is at most 35 s.<", out)
+
+    def test_the_gap_of_tau_is_drawn(self):
+        """Of the 120 columns those near the sides have two boxes by tau, and one each otherwise."""
+        for model, least, most in (({}, 120, 120), ({"tcpa": 1}, 120, 120), ({"tep": 1}, 120, 120), ({"tau": 1}, 122, 140)):
+            drawn = volume.plan(level_of(**EXAMPLE, **model), 240 / 3600, lambda east: 100 * east, lambda ahead: -100 * ahead)[0]
+            self.assertTrue(least <= drawn.count("M") <= most, (model, drawn.count("M")))
 
     def test_the_time_to_co_altitude(self):
         """20 s at 2000 ft/min are 667 ft, more than 450; at 1000 ft/min 333 ft, less."""

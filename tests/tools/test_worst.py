@@ -4,29 +4,35 @@ import unittest
 from types import SimpleNamespace
 
 from common import module
-from daidalus_files import Moment, Reader, config_of, examine_config
+from daidalus_files import MODELS, Moment, Reader, config_of, examine_config
 
 worst = module("bench/worst")
 
 
-def drawn_moments(recovery, count=150):
+def drawn_moments(recovery, last_times=False, count=160):
     """A drawn moment, changed again and again, and drawn anew at times."""
     drawn = random.Random(5)
     for number in range(count):
-        draw = (worst.draw_moment, worst.draw_grazing, worst.draw_closed)[number // 10 % 3]
-        moment = worst.changed(drawn, moment) if number % 10 else draw(drawn, recovery)
+        draw = (worst.draw_moment, worst.draw_grazing, worst.draw_closed, worst.draw_late)[number // 10 % 4]
+        moment = worst.changed(drawn, moment) if number % 10 else draw(drawn, recovery, last_times)
         yield moment
 
 
 class Moments(unittest.TestCase):
     def test_each_configuration_is_accepted_and_has_all_candidates(self):
-        for recovery in (False, True):
-            for moment in drawn_moments(recovery):
+        for recovery, last_times in ((False, False), (True, False), (False, True), (True, True)):
+            for moment in drawn_moments(recovery, last_times):
                 document, faults = examine_config(worst.config_text(moment["config"]).encode())
                 self.assertEqual(faults, [])
                 config = config_of(document)
                 self.assertEqual(1 + sum(map(len, config.values.values())), 1897)
-                self.assertEqual((config.recovery is not None, len(config.levels)), (recovery, 4))
+                self.assertEqual((config.recovery is not None, config.last_times, len(config.levels)), (recovery, int(last_times), 4))
+
+    def test_each_model_is_drawn(self):
+        """And changed ones have each model too."""
+        for drawn in (list(drawn_moments(False))[::10], list(drawn_moments(False))):
+            levels = [config_of(examine_config(worst.config_text(moment["config"]).encode())[0]).levels for moment in drawn]
+            self.assertEqual({level.model for each in levels for level in each}, set(MODELS))
 
     def test_each_picture_is_accepted_and_has_all_aircraft(self):
         for moment in drawn_moments(False):
@@ -36,7 +42,7 @@ class Moments(unittest.TestCase):
 
     def test_a_change_changes_its_moment_and_no_other(self):
         drawn = random.Random(6)
-        moment = worst.draw_moment(drawn, True)
+        moment = worst.draw_moment(drawn, True, False)
         text = worst.config_text(moment["config"]) + worst.moment_lines(moment)
         others = [worst.changed(drawn, moment) for _ in range(200)]
         texts = {worst.config_text(other["config"]) + worst.moment_lines(other) for other in others}
@@ -53,7 +59,7 @@ class Search(unittest.TestCase):
 
     def search(self, seed, tries, exact=True):
         self.asked = []
-        given = SimpleNamespace(seed=seed, tries=tries, minutes=1, recovery=False)
+        given = SimpleNamespace(seed=seed, tries=tries, minutes=1, recovery=False, last_times=False)
         return worst.Search(given, self.seconds, exact, str).search()
 
     def test_finds_what_takes_longest(self):

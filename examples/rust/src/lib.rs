@@ -1,4 +1,4 @@
-//! The detect-and-avoid engine for Rust: alerts, bands, resolutions and recoveries of a moment, and its report.
+//! The detect-and-avoid engine for Rust: alerts, bands, resolutions, last times and recoveries of a moment, and its report.
 //!
 //! Nothing a user calls has a pointer, and no call is unsafe. Units and ranges are those of
 //! crates/daa_c/include/daidalus.h. What the engine refuses is a [`Refused`], whose text says why.
@@ -52,7 +52,8 @@ pub struct Grid {
     pub rate: i64,
 }
 
-/// A well-clear volume with its lookahead and alert time.
+/// A well-clear volume with its lookahead and alert time. Of `tcpa`, `tau` and `tep` at most one is 1: the time to the closest
+/// approach, tau, or the time to the entry point is then in place of modified tau.
 #[repr(C)]
 #[derive(Clone, Copy, Debug, Default, PartialEq, Eq)]
 pub struct Level {
@@ -63,6 +64,8 @@ pub struct Level {
     pub lookahead: i64,
     pub alert: i64,
     pub tcpa: i64,
+    pub tau: i64,
+    pub tep: i64,
 }
 
 /// The ownship.
@@ -148,7 +151,7 @@ fn sentence(code: i32) -> &'static str {
         3 => "the configuration has a key that is not known",
         4 => "the configuration lacks a key",
         5 => "a value of the configuration is no whole number, or no table",
-        6 => "a number of the configuration is out of its range, min is above max, or track_step does not divide 360",
+        6 => "a number of the configuration is out of its range, min is above max, track_step does not divide 360, or a level has two models",
         7 => "the configuration has no level or more than four, or resolve is above their number",
         8 => "a kind has more than 512 candidates",
         16 => "the ownship is out of range",
@@ -157,7 +160,7 @@ fn sentence(code: i32) -> &'static str {
         20 => "there is no memory",
         21 => "an identifier is not 1 to 8 letters, digits, _ and -",
         22 => "two aircraft have one identifier",
-        26 => "the configuration asks for no recovery",
+        26 => "the configuration does not ask for it",
         27 => "the board was not decided under this configuration",
         _ => "the engine refused the call",
     }
@@ -187,7 +190,7 @@ impl Config {
         Ok(Config(numbers))
     }
 
-    /// The configuration of these numbers, without a recovery; `levels[0]` is level 1.
+    /// The configuration of these numbers, without a recovery and without last times; `levels[0]` is level 1.
     pub fn of(resolve: i64, turn_rate: i64, track_step: i64, grids: [Grid; 3], levels: &[Level]) -> Result<Config, Refused> {
         let [gs, vs, alt] = grids;
         let mut level = [Level::default(); 4];
@@ -203,6 +206,12 @@ impl Config {
     /// that recover soonest, the one nearest to the present value is named, and not the least.
     pub fn with_recovery(mut self, hdist: i64, vdist: i64, nearest: bool) -> Result<Config, Refused> {
         (self.0.recovery, self.0.hdist, self.0.vdist, self.0.nearest) = (1, hdist, vdist, nearest as i64);
+        self.checked()
+    }
+
+    /// The same configuration, which also asks for the last times to manoeuvre.
+    pub fn with_last_times(mut self) -> Result<Config, Refused> {
+        self.0.last_times = 1;
         self.checked()
     }
 
@@ -236,7 +245,7 @@ impl Moment {
             config: config.0,
             own: *own,
             traffic: traffic.iter().map(c_traffic).collect(),
-            board: Box::new(raw::Board { mask: [0; 2048], mark: [0; 46] }),
+            board: Box::new(raw::Board { mask: [0; 2048], mark: [0; 55] }),
         };
         moment.refuse(traffic)?;
         let Moment { config, own, traffic, board } = &mut moment;
@@ -310,6 +319,16 @@ impl Moment {
             raw::daa_recovery(&self.config, &self.own, traffic.as_ptr(), traffic.len(), kind as i32, &mut to)
         })?;
         Ok((to.found != 0).then_some(Recovery { after: to.after, value: to.value }))
+    }
+
+    /// The greatest number of seconds, below the greatest lookahead of the levels that close, for which the present flight may
+    /// be kept so that some candidate of the kind that begins then is open, under a configuration that asks for last times;
+    /// `None` where there is no such time.
+    pub fn last(&self, kind: Kind) -> Result<Option<u32>, Refused> {
+        let (traffic, mut to) = (&self.traffic, raw::Last::default());
+        // SAFETY: as above.
+        done(unsafe { raw::daa_last(&self.config, &self.own, traffic.as_ptr(), traffic.len(), kind as i32, &mut to) })?;
+        Ok((to.found != 0).then_some(to.after))
     }
 
     /// The moment's text, as the program writes it.

@@ -14,6 +14,7 @@ pub struct Config {
     pub hdist: i64,
     pub vdist: i64,
     pub nearest: i64,
+    pub last_times: i64,
     pub count: u64,
     pub level: [Level; 4],
 }
@@ -52,7 +53,7 @@ pub struct Fault {
 #[repr(C)]
 pub struct Board {
     pub mask: [u8; 2048],
-    pub mark: [i64; 46],
+    pub mark: [i64; 55],
 }
 
 #[repr(C)]
@@ -70,6 +71,13 @@ pub struct Recovery {
     pub value: i32,
 }
 
+#[repr(C)]
+#[derive(Default)]
+pub struct Last {
+    pub found: i32,
+    pub after: u32,
+}
+
 #[rustfmt::skip]
 extern "C" {
     pub fn daa_version() -> i32;
@@ -82,5 +90,6 @@ extern "C" {
     pub fn daa_bands(config: *const Config, board: *const Board, kind: i32, bands: *mut crate::Band, room: usize, count: *mut usize) -> i32;
     pub fn daa_resolution(config: *const Config, own: *const Own, board: *const Board, kind: i32, side: i32, out: *mut Resolution) -> i32;
     pub fn daa_recovery(config: *const Config, own: *const Own, traffic: *const Traffic, count: usize, kind: i32, out: *mut Recovery) -> i32;
+    pub fn daa_last(config: *const Config, own: *const Own, traffic: *const Traffic, count: usize, kind: i32, out: *mut Last) -> i32;
     pub fn daa_report(config: *const Config, time: u32, own: *const Own, traffic: *const Traffic, count: usize, text: *mut u8, room: usize, length: *mut usize) -> i32;
 }

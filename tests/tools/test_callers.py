@@ -1,0 +1,63 @@
+"""The structs of the callers in Python and in Rust: their numbers are those of the exports, each with its name, its type and its
+place. No archive is needed; tests/examples makes the calls themselves."""
+import ctypes
+import pathlib
+import re
+import unittest
+
+import structs
+import daidalus  # (in the folder that structs names)
+from common import TOP
+from exports import numbers_of, parts, rust_structs
+
+NAMES = ("Config", "Own", "Traffic", "Alert", "Fault", "Board", "Resolution", "Recovery", "Last", "Band")
+TYPES = {"l": "int64_t", "L": "uint64_t", "i": "int32_t", "I": "uint32_t", "B": "uint8_t", "c": "uint8_t"}
+RENAMED = {"least": "from", "most": "upto"}  # from is a word of Python
+
+
+def numbers_in_python(struct, head="", at=0):
+    """The numbers of a struct of ctypes, each as its path, its type and the bytes that it begins at."""
+    found = []
+    for name, kind in struct._fields_:
+        path, place = head + RENAMED.get(name, name) if struct is structs.Band else head + name, at + getattr(struct, name).offset
+        one, count = (kind._type_, kind._length_) if issubclass(kind, ctypes.Array) else (kind, None)
+        for number in range(count or 1):
+            each = path if count is None else f"{path}[{number}]"
+            here = place + number * ctypes.sizeof(one)
+            found += numbers_in_python(one, f"{each}.", here) if issubclass(one, ctypes.Structure) else [(each, TYPES[one._type_], here)]
+    return found
+
+
+def structs_in_rust():
+    text = "\n".join(pathlib.Path(TOP, "examples/rust/src", name).read_text(encoding="utf-8") for name in ("lib.rs", "raw.rs"))
+    found = re.findall(r"#\[repr\(C\)\]\n(?:#[^\n]*\n)*pub struct (\w+) \{(.*?)\n\}", text, re.S)
+    return {name: parts(re.sub(r"//[^\n]*", "", body)) for name, body in found}
+
+
+class Structs(unittest.TestCase):
+    def test_in_python(self):
+        for name in (*NAMES, "Candidate", "Lines"):
+            rows, size, _ = numbers_of(rust_structs(), f"Daa{name}")
+            self.assertEqual(numbers_in_python(getattr(structs, name)), rows, name)
+            self.assertEqual(ctypes.sizeof(getattr(structs, name)), size, name)
+
+    def test_a_configuration_goes_into_its_struct_and_back(self):
+        """Each number is its place, but for the count of levels and whether there is a recovery."""
+        rows, _, _ = numbers_of(rust_structs(), "DaaConfig")
+        at = {path: place for place, (path, *_) in enumerate(rows, 1)}
+        each = lambda kind, head: kind(**{name: at[f"{head}{name}"] for name in kind.__dataclass_fields__})
+        config = daidalus.Config(at["resolve"], at["turn_rate"], at["track_step"], *(each(daidalus.Grid, f"{kind}.") for kind in ("gs", "vs", "alt")),
+                                 [each(daidalus.Level, f"level[{place}].") for place in range(4)], each(daidalus.Cylinder, ""), at["last_times"])
+        struct = daidalus.c_config(config)
+        numbers = [int.from_bytes(bytes(struct)[place:place + 8], "little") for _, _, place in rows]
+        self.assertEqual(dict(zip(at, numbers)), {**at, "recovery": 1, "count": 4})
+        self.assertEqual(daidalus.config_of(struct), config)
+
+    def test_in_rust(self):
+        found = structs_in_rust()
+        for name in NAMES:
+            self.assertEqual(numbers_of(found, name), numbers_of(rust_structs(), f"Daa{name}"), name)
+
+
+if __name__ == "__main__":
+    unittest.main()
