@@ -2,6 +2,7 @@
 import os
 import subprocess
 import sys
+import threading
 import time
 
 TOP = os.path.dirname(os.path.dirname(os.path.realpath(__file__)))
@@ -46,13 +47,20 @@ def run_ahead():
 
 def measure(command, source, sink, ahead):
     """Runs a command; answers its seconds by the wall, those of the processors, its peak memory in KiB, and its status."""
-    began, peak = time.monotonic(), 0
+    began, peak, ended = time.monotonic(), 0, threading.Event()
     run = subprocess.Popen(command, stdin=source, stdout=sink, preexec_fn=run_ahead if ahead else None)
-    while True:
-        ended, status, used = os.wait4(run.pid, os.WNOHANG)
-        if ended:
-            seconds = time.monotonic() - began
-            run.returncode = os.waitstatus_to_exitcode(status)
-            return seconds, used.ru_utime + used.ru_stime, peak, run.returncode
-        peak = peak_of(run.pid, peak)
-        time.sleep(TICK)
+
+    def look():
+        nonlocal peak
+        while not ended.is_set():
+            peak = peak_of(run.pid, peak)
+            ended.wait(TICK)
+
+    watcher = threading.Thread(target=look)
+    watcher.start()
+    _, status, used = os.wait4(run.pid, 0)
+    seconds = time.monotonic() - began
+    ended.set()
+    watcher.join()
+    run.returncode = os.waitstatus_to_exitcode(status)
+    return seconds, used.ru_utime + used.ru_stime, peak, run.returncode
