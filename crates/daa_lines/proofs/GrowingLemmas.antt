@@ -1,5 +1,7 @@
 -- Bytes that make an open line longer, taken together.
-use Rattle.std.proofs.Common.{◌≡◌, ◌<◌, ◌≤◌, ◌+◌, ◌-◌, ◌==◌, ℕ, zero, suc, Bool, true, false, [], ◌∷◌, ◌++◌, List, take, drop, get_or, length, refl, sym, ap, ap₂, ◌∙◌, arith, subst, append-nil, append_assoc, length-append}
+use Rattle.std.proofs.Common.{◌≡◌, ◌<◌, ◌≤◌, ◌+◌, ◌-◌, ◌==◌, ℕ, zero, suc, Bool, true, false}
+use Rattle.std.proofs.Common.{[], ◌∷◌, ◌++◌, List, take, drop, get_or, length, refl, sym, ap}
+use Rattle.std.proofs.Common.{ap₂, ◌∙◌, arith, subst, append-nil, append_assoc, length-append}
 use Rattle.std.specs.Prelude.{slice_index}
 use Rattle.std.proofs.lemmas.List.{take_more, length-take}
 use Rattle.std.proofs.lemmas.Bool.Decides.{nat_tests}
@@ -65,7 +67,9 @@ module _ (c : LinesState) (piece : Bytes) (is_open : c.stage ≡ Open) (going : 
 
   pub grows : (n : ℕ) → n ≤ length piece → length c.line + n < long_length → ((j : ℕ) → j < n → (slice_index piece j == line_feed) ≡ false) → Grows n
   grows zero within short other = none
-  grows (suc n) within short other = subst Grows up (next n (omega (arith, within)) (omega (arith, short)) (other n (omega arith)) (grows n (omega (arith, within)) (omega (arith, short)) (λ j h. other j (omega (arith, h)))))
+  grows (suc n) within short other =
+      subst Grows up (next n (omega (arith, within)) (omega (arith, short)) (other n (omega arith))
+      (grows n (omega (arith, within)) (omega (arith, short)) (λ j h. other j (omega (arith, h)))))
     where
       up : n + 1 ≡ suc n
       up = omega arith

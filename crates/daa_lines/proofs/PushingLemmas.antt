@@ -1,5 +1,6 @@
 -- How one byte keeps which bytes went in and which lines came out.
-use Rattle.std.proofs.Common.{◌≡◌, ◌≤◌, ◌<◌, ◌+◌, ◌==◌, ℕ, Bool, true, false, cond, List, [], ◌∷◌, ◌++◌, length, take, refl, sym, ap, ap₂, ◌∙◌, arith, length-append, append-nil, append_assoc, get_or, subst}
+use Rattle.std.proofs.Common.{◌≡◌, ◌≤◌, ◌<◌, ◌+◌, ◌==◌, ℕ, Bool, true, false, cond, List, [], ◌∷◌, ◌++◌, length, take}
+use Rattle.std.proofs.Common.{refl, sym, ap, ap₂, ◌∙◌, arith, length-append, append-nil, append_assoc, get_or, subst}
 use Rattle.std.proofs.lemmas.List.{take-append-le, take_more}
 use Rattle.std.proofs.lemmas.Bool.Decides.{nat_tests}
 use Rattle.daa_lines.specs.LinesOf.{Bytes, line_feed, lines_of, long_length, shown}
@@ -21,11 +22,13 @@ ends_open done taken line short h =
     let before : shown done ≡ taken = sym (short_rest done line short) ∙ h.0 ∙ append-nil taken in
     (short_rest (done ++ line ∷ []) [] (omega arith) ∙ shown-append done (line ∷ []) ∙ ap₂ (λ (x : List Bytes) (y : Bytes). x ++ y ∷ []) before (whole_line line (omega arith)), refl)
 
-grows_open : (done taken : List Bytes) (line : Bytes) (b : ℕ) → length line + 1 < long_length → Lasts (cut_at done line) taken Open line → Lasts (cut_at done (line ++ b ∷ [])) taken Open (line ++ b ∷ [])
+grows_open : (done taken : List Bytes) (line : Bytes) (b : ℕ) → length line + 1 < long_length
+    → Lasts (cut_at done line) taken Open line → Lasts (cut_at done (line ++ b ∷ [])) taken Open (line ++ b ∷ [])
 grows_open done taken line b short h =
     (short_rest done (line ++ b ∷ []) (omega (arith, length-append line (b ∷ []))) ∙ sym (short_rest done line (omega arith)) ∙ h.0, refl)
 
-fills_open : (done taken : List Bytes) (line : Bytes) (b : ℕ) → length line + 1 ≡ long_length → Lasts (cut_at done line) taken Open line → Lasts (cut_at done (line ++ b ∷ [])) taken Long (line ++ b ∷ [])
+fills_open : (done taken : List Bytes) (line : Bytes) (b : ℕ) → length line + 1 ≡ long_length
+    → Lasts (cut_at done line) taken Open line → Lasts (cut_at done (line ++ b ∷ [])) taken Long (line ++ b ∷ [])
 fills_open done taken line b full h =
     let size : length (line ++ b ∷ []) ≡ long_length = omega (arith, length-append line (b ∷ [])) in
     let before : shown done ≡ taken = sym (short_rest done line (omega arith)) ∙ h.0 ∙ append-nil taken in

@@ -2,7 +2,9 @@
 //! A line ends at a line feed or with the input. One of 256 bytes or more is long: it is ready as
 //! soon as 256 bytes of it were fed, and the rest of it is skipped.
 
-ghost use Rattle.std.specs.Prelude.{◌≡◌, ◌<◌, ◌≤◌, ◌+◌, ◌^◌, ◌↔◌, ◌⊎◌, ◌++◌, [], ◌∷◌, List, ℕ, IfSome, length, take, drop, false, true, slice_get, slice_index, ◌==◌};
+ghost use Rattle.std.specs.Prelude.{◌≡◌, ◌<◌, ◌≤◌, ◌+◌, ◌^◌, ◌↔◌, ◌⊎◌, ◌++◌, []};
+ghost use Rattle.std.specs.Prelude.{◌∷◌, List, ℕ, IfSome, length, take, drop};
+ghost use Rattle.std.specs.Prelude.{false, true, slice_get, slice_index, ◌==◌};
 ghost use Rattle.daa_lines.specs.LinesOf.{lines_of};
 ghost use Rattle.daa_lines.specs.LinesState.{is_standing};
 ghost use Rattle.daa_lines.specs.Inside.LinesState.{IsSized};
@@ -121,8 +123,9 @@ impl Lines {
         byte == b'\n' || self.has_line()
     }
 
-    /// Takes the first bytes of the piece together, where they make an open line longer and do not
-    /// end it: those before its line feed, as long as it stays shorter than 256. Returns how many.
+    /// Takes the bytes at the front of the piece that make an open line longer and do not end it,
+    /// all together: the bytes before the next line feed, as long as the line stays shorter than
+    /// 256 bytes. Returns how many they are.
     fn grow(&mut self, piece: &[u8]) -> usize
         requires free { is_standing self.old.stage ≡ false }
         requires going { self.old.ended ≡ false }
@@ -210,7 +213,8 @@ impl Lines {
         piece.len()
     }
 
-    /// The bytes of the line that is ready, if there is one of fewer than 256 bytes. It is not taken.
+    /// The bytes of the line that is ready, if there is one of fewer than 256 bytes. It is not
+    /// taken.
     pub fn standing_line(&self) -> Option<&[u8]>
         ensures { IfSome result (λ bytes. (self.now.stage ≡ Stage.Whole)
             × (bytes.now ≡ self.now.line)) }
@@ -278,7 +282,7 @@ impl Lines {
         self.finish();
     }
 
-    /// How many bytes `feed` took so far.
+    /// How many bytes `feed` took so far. A call for other programs: `daidalus` does not make it.
     pub fn fed(&self) -> u64
         ensures { result ≡ self.now.fed }
     {

@@ -1,5 +1,7 @@
 -- Lemmas on texts under names.
-use Rattle.std.proofs.Common.{◌≡◌, ℕ, ◌+◌, ◌<◌, ◌≤◌, Bool, false, true, not, cond, List, [], Bor, ◌∷◌, length, take, map, Option, None, Some, IfSome, Result, Ok, Err, IfOk, IsErr, is_err, IsNone, ◌≢◌, ◌⊎◌, inl, inr, ◌↔◌, refl, sym, ◌∙◌, ap, arith, length-take}
+use Rattle.std.proofs.Common.{◌≡◌, ℕ, ◌+◌, ◌<◌, ◌≤◌, Bool, false, true, not, cond, List, [], Bor, ◌∷◌, length}
+use Rattle.std.proofs.Common.{take, map, Option, None, Some, IfSome, Result, Ok, Err, IfOk, IsErr, is_err}
+use Rattle.std.proofs.Common.{IsNone, ◌≢◌, ◌⊎◌, inl, inr, ◌↔◌, refl, sym, ◌∙◌, ap, arith, length-take}
 use Rattle.std.specs.Prelude.{position, slice_get, string_bytes, vec_items, option_map, option_and_then, MatchOption, String, Vec}
 use Rattle.std.specs.List.{prefix_len}
 use Rattle.std.specs.Slice.{IsItemAt}

@@ -5,22 +5,23 @@ ghost use Rattle.daa_outside.specs.Faults.{one_more};
 
 use crate::faults::{Failed, count_up};
 
-/// Calls, numbered from 0, of which the ones named in `fails` fail.
+/// How many calls were made of an object, numbered from 0, and how many of them failed: each whose
+/// number is in `fails` does.
 #[derive(Drop)]
-pub(crate) struct Calls {
+pub(crate) struct CallCounts {
     pub(crate) fails: Vec<u64>,
     pub(crate) made: u64,
     pub(crate) faults: u64,
 }
 
-impl Calls {
-    /// No call was made yet. The calls of these numbers will fail.
+impl CallCounts {
+    /// No call was made yet. Each call whose number is in `fails` will fail.
     pub(crate) fn new(fails: Vec<u64>) -> Self
         ensures fails { result.fails ≡ fails }
         ensures made { result.made ≡ 0 }
         ensures faults { result.faults ≡ 0 }
     {
-        Calls {
+        CallCounts {
             fails,
             made: 0,
             faults: 0,

@@ -51,7 +51,8 @@ impl CalmSource {
 }
 
 impl Source for CalmSource {
-    ghost use Rattle.std.specs.Prelude.{◌≡◌, ◌≤◌, ◌<◌, Some, length, take, drop, min, IsOkAnd, IfOk, OnErr};
+    ghost use Rattle.std.specs.Prelude.{◌≡◌, ◌≤◌, ◌<◌, Some, length, take};
+    ghost use Rattle.std.specs.Prelude.{drop, min, IsOkAnd, IfOk, OnErr};
     ghost use Rattle.std.specs.Io.KnownBytes.{Consumes, Keeps, IsAtEnd};
     ghost use Rattle.daa_outside.specs.Faults.{HasRisen, one_more};
     ghost use Rattle.daa_outside.specs.Pieces.{moved_by};

@@ -1,10 +1,11 @@
 //! A shelf over texts in memory.
 
-ghost use Rattle.std.specs.Prelude.{◌≡◌, map, position, string_bytes, vec_items, None, Some, MatchOption};
+ghost use Rattle.std.specs.Prelude.{◌≡◌, map, position, string_bytes};
+ghost use Rattle.std.specs.Prelude.{vec_items, None, Some, MatchOption};
 ghost use Rattle.std.specs.Str.{bytes_eq};
 ghost use Rattle.daa_outside.specs.MemShelf.{text_under};
 
-use crate::calls::Calls;
+use crate::calls::CallCounts;
 use crate::shelf::{FetchFault, Shelf, copy_of};
 use std::alloc::Global;
 use std::marker::Model;
@@ -14,7 +15,7 @@ use std::marker::Model;
 pub struct MemShelf {
     names: Vec<String>,
     texts: Vec<Vec<u8>>,
-    calls: Calls,
+    calls: CallCounts,
 }
 
 impl Model for MemShelf {
@@ -47,13 +48,14 @@ impl MemShelf {
         MemShelf {
             names,
             texts,
-            calls: Calls::new(fails),
+            calls: CallCounts::new(fails),
         }
     }
 }
 
 impl Shelf for MemShelf {
-    ghost use Rattle.std.specs.Prelude.{◌≡◌, ◌≢◌, ◌≤◌, ◌<◌, ◌↔◌, ◌⊎◌, Some, length, Contains, IsNone, IsSomeAnd, IfOk, IfSome, IfNone};
+    ghost use Rattle.std.specs.Prelude.{◌≡◌, ◌≢◌, ◌≤◌, ◌<◌, ◌↔◌, ◌⊎◌, Some, length};
+    ghost use Rattle.std.specs.Prelude.{Contains, IsNone, IsSomeAnd, IfOk, IfSome, IfNone};
     ghost use Rattle.daa_outside.specs.Faults.{HasRisen, one_more};
     ghost use Rattle.daa_outside.specs.Shelf.{longest_text};
     ghost use Rattle.daa_outside.specs.MemShelf.{text_under};

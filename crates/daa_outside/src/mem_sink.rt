@@ -2,7 +2,7 @@
 
 ghost use Rattle.std.specs.Prelude.{◌≡◌, ◌≤◌, ◌+◌, ◌++◌, [], length, take, vec_len};
 
-use crate::calls::Calls;
+use crate::calls::CallCounts;
 use crate::faults::Failed;
 use crate::pieces::moved_count;
 use crate::sink::Sink;
@@ -15,7 +15,7 @@ pub struct MemSink {
     space: Vec<u8>,
     used: usize,
     pieces: Vec<usize>,
-    calls: Calls,
+    calls: CallCounts,
 }
 
 impl Model for MemSink {
@@ -55,7 +55,7 @@ impl MemSink {
             space: room,
             used: 0,
             pieces,
-            calls: Calls::new(fails),
+            calls: CallCounts::new(fails),
         }
     }
 
@@ -68,7 +68,8 @@ impl MemSink {
 }
 
 impl Sink for MemSink {
-    ghost use Rattle.std.specs.Prelude.{◌≡◌, ◌≤◌, ◌<◌, ◌+◌, ◌↔◌, ◌⊎◌, Some, length, take, min, Contains, IsErr, IfOk, OnOk, OnErr};
+    ghost use Rattle.std.specs.Prelude.{◌≡◌, ◌≤◌, ◌<◌, ◌+◌, ◌↔◌, ◌⊎◌, Some, length};
+    ghost use Rattle.std.specs.Prelude.{take, min, Contains, IsErr, IfOk, OnOk, OnErr};
     ghost use Rattle.std.specs.Io.KnownBytes.{Appends, Keeps};
     ghost use Rattle.daa_outside.specs.Faults.{HasRisen, one_more};
     ghost use Rattle.daa_outside.specs.Pieces.{moved_by};

@@ -2,7 +2,7 @@
 
 ghost use Rattle.std.specs.Prelude.{◌≡◌};
 
-use crate::calls::Calls;
+use crate::calls::CallCounts;
 use crate::faults::Failed;
 use crate::pieces::hand_out;
 use crate::source::Source;
@@ -14,7 +14,7 @@ pub struct MemSource {
     bytes: Vec<u8>,
     at: usize,
     pieces: Vec<usize>,
-    calls: Calls,
+    calls: CallCounts,
 }
 
 impl Model for MemSource {
@@ -51,13 +51,14 @@ impl MemSource {
             bytes,
             at: 0,
             pieces,
-            calls: Calls::new(fails),
+            calls: CallCounts::new(fails),
         }
     }
 }
 
 impl Source for MemSource {
-    ghost use Rattle.std.specs.Prelude.{◌≡◌, ◌≤◌, ◌<◌, ◌↔◌, Some, length, take, drop, min, Contains, IsErr, IfOk, OnOk, OnErr};
+    ghost use Rattle.std.specs.Prelude.{◌≡◌, ◌≤◌, ◌<◌, ◌↔◌, Some, length, take, drop};
+    ghost use Rattle.std.specs.Prelude.{min, Contains, IsErr, IfOk, OnOk, OnErr};
     ghost use Rattle.std.specs.Io.KnownBytes.{Consumes, Keeps, IsAtEnd};
     ghost use Rattle.daa_outside.specs.Faults.{HasRisen, one_more};
     ghost use Rattle.daa_outside.specs.Pieces.{moved_by};

@@ -1,6 +1,7 @@
 //! Texts by name.
 
-ghost use Rattle.std.specs.Prelude.{◌≡◌, ◌≢◌, ◌≤◌, ◌<◌, ◌⊎◌, ◌↔◌, ℕ, Option, length, IfOk, IfSome, IfNone, IsSomeAnd};
+ghost use Rattle.std.specs.Prelude.{◌≡◌, ◌≢◌, ◌≤◌, ◌<◌, ◌⊎◌, ◌↔◌, ℕ, Option};
+ghost use Rattle.std.specs.Prelude.{length, IfOk, IfSome, IfNone, IsSomeAnd};
 ghost use Rattle.daa_outside.specs.Faults.{HasRisen};
 ghost use Rattle.daa_outside.specs.Shelf.{Texts, longest_text};
 

@@ -237,7 +237,7 @@ impl io::Read for FailsOnce {
     }
 }
 
-/// Its writes and its flushes are calls.
+/// Each write and each flush is a call.
 impl io::Write for FailsOnce {
     fn write(&mut self, buf: &[u8]) -> io::Result<usize> {
         self.call()?;

@@ -48,7 +48,8 @@ lent_ready p answers xs lent workers is opening e =
     subst (λ (zs : List Seat). AllReady p zs answers) (sym e) (opening_ready p xs answers (subst (λ (n : ℕ). AreOpening p xs n answers) (sym is) opening))
 
 -- the same seats in their vector again, after each has worked
-pub worked_again : (p : Pool) (answers : List ℕ) (xs lent ys : List Seat) (workers len : ℕ) → workers_of p ≡ workers → AreOpening p xs workers answers → lent ≡ xs → length ys ≡ length lent → length xs ≡ len
+pub worked_again : (p : Pool) (answers : List ℕ) (xs lent ys : List Seat) (workers len : ℕ)
+    → workers_of p ≡ workers → AreOpening p xs workers answers → lent ≡ xs → length ys ≡ length lent → length xs ≡ len
     → AllWorked p lent ys → AreGatherable p answers (take len (ys ++ drop (length ys) xs))
 worked_again p answers xs lent ys workers len is opening e long all worked =
     let lengths = ap (λ (zs : List Seat). length zs) e in let crew = p.crew in

@@ -26,11 +26,31 @@ dealt_more p seats s count answers a of open' = record {
 
 pub left_opening : (v : View) (n workers : ℕ) (answers : List ℕ) → IsLast v n workers answers → IsOpening (left_behind v) n workers answers
 left_opening v n workers answers l = let o = l.opening in let f = o.free in
-    record { number_is = o.number_is; workers_are = o.workers_are; answers_are = o.answers_are; bound = o.bound; free = record { hand = f.hand; going = f.going }; settled = o.settled; looks = o.looks; moves = o.moves; joined = o.joined }
+    record {
+      number_is = o.number_is;
+      workers_are = o.workers_are;
+      answers_are = o.answers_are;
+      bound = o.bound;
+      free = record { hand = f.hand; going = f.going };
+      settled = o.settled;
+      looks = o.looks;
+      moves = o.moves;
+      joined = o.joined;
+    }
 
 pub next_last : (v : View) (n workers : ℕ) (answers : List ℕ) → IsLast v n workers answers → IsLast (next_seat v) (n + 1) workers answers
 next_last v n workers answers l = let o = l.opening in record {
-  opening = record { number_is = l.made; workers_are = o.workers_are; answers_are = o.answers_are; bound = none; free = record { hand = refl; going = refl }; settled = refl; looks = refl; moves = refl; joined = refl };
+  opening = record {
+    number_is = l.made;
+    workers_are = o.workers_are;
+    answers_are = o.answers_are;
+    bound = none;
+    free = record { hand = refl; going = refl };
+    settled = refl;
+    looks = refl;
+    moves = refl;
+    joined = refl;
+  };
   carries = refl;
   made = ap (λ (k : ℕ). k + 1) l.made;
 }

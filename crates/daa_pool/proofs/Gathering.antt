@@ -1,5 +1,7 @@
 -- The seats of a pool, joined to one, which then reads the answers.
-use Rattle.std.proofs.Common.{◌≡◌, ℕ, ◌+◌, ◌<◌, ◌≤◌, ◌⊎◌, inl, inr, ⊎_elim, eqb, cond, List, [], ◌∷◌, ◌++◌, length, set, slice_index, Some, sym, refl, ap, ◌∙◌, subst, arith, length-set, get_or-set_same, get_or-set_other, below_more}
+use Rattle.std.proofs.Common.{◌≡◌, ℕ, ◌+◌, ◌<◌, ◌≤◌, ◌⊎◌, inl, inr, ⊎_elim, eqb, cond, List, []}
+use Rattle.std.proofs.Common.{◌∷◌, ◌++◌, length, set, slice_index, Some, sym, refl, ap, ◌∙◌, subst}
+use Rattle.std.proofs.Common.{arith, length-set, get_or-set_same, get_or-set_other, below_more}
 use Rattle.std.specs.List.{All, Contains, sum_by}
 use Rattle.std.proofs.lemmas.List.{ext_get_or}
 use Rattle.std.proofs.lemmas.List.Sums.{sum_by_push, sum_by-append}
@@ -58,7 +60,8 @@ gathers_first p seats left seat e done = let both = All-pop (λ s. IsDone p s) s
 pub last_done : (p : Pool) (seats left left' : List Seat) (seat other : Seat) → IsGathering p seats left seat → left ≡ left' ++ other ∷ [] → IsDone p other
 last_done p seats left left' seat other g e = (All-pop (λ s. IsDone p s) left left' (Some other) e g.others).1
 
-pub gathers_more : (p : Pool) (seats left left' : List Seat) (seat seat' other : Seat) → IsGathering p seats left seat → left ≡ left' ++ other ∷ [] → IsDone p seat' → view seat' ≡ gathered (view seat) (view other)
+pub gathers_more : (p : Pool) (seats left left' : List Seat) (seat seat' other : Seat) → IsGathering p seats left seat
+    → left ≡ left' ++ other ∷ [] → IsDone p seat' → view seat' ≡ gathered (view seat) (view other)
     → IsGathering p seats left' seat'
 gathers_more p seats left left' seat seat' other g e done is = record {
   done = done;
@@ -84,7 +87,8 @@ pub reads_first : (p : Pool) (seats left : List Seat) (seat : Seat) (words : Lis
 reads_first p seats left seat words g e long = let d = g.done in let of = d.of in record {
   done = d;
   parts = λ s h. ⊎_elim (λ t. t) (λ t. absurd (Contains-nil s (subst (λ (xs : List Seat). Contains xs s) e t))) (g.parts s h);
-  settled = λ u. let a = g.settled u in let b = ap (λ (xs : List Seat). sum_by (λ s. times u (view s).settled) xs) e in let z : sum_by (λ (s : Seat). times u (view s).settled) [] ≡ 0 = refl in omega arith;
+  settled = λ u. let a = g.settled u in let b = ap (λ (xs : List Seat). sum_by (λ s. times u (view s).settled) xs) e in
+      let z : sum_by (λ (s : Seat). times u (view s).settled) [] ≡ 0 = refl in omega arith;
   answers_are = g.answers_are;
   long = long ∙ sym of.units;
   filled = λ k h. absurd (omega arith);
@@ -93,14 +97,17 @@ reads_first p seats left seat words g e long = let d = g.done in let of = d.of i
 }
 
 -- a seat that has the part of every seat has every number
-pub reads_all : (p : Pool) (seats : List Seat) (seat : Seat) (words : List ℕ) (count : ℕ) → IsReading p seats seat words count → AreAll (workers_of p) seats → (n : ℕ) → n < workers_of p → HasNumber (view seat) n
+pub reads_all : (p : Pool) (seats : List Seat) (seat : Seat) (words : List ℕ) (count : ℕ)
+    → IsReading p seats seat words count
+    → AreAll (workers_of p) seats → (n : ℕ) → n < workers_of p → HasNumber (view seat) n
 reads_all p seats seat words count r all n low = let a = all n low in number (part_of (view a.0)) (r.parts a.0 a.1) a.2
   where
     number : (part : Part) → HasPart (view seat) part → part.number ≡ n → HasNumber (view seat) n
     number part (inl e) is = inl (ap (λ (q : Part). q.number) e ∙ is)
     number part (inr h) is = inr (part, h, is)
 
-pub reads_more : (p : Pool) (seats : List Seat) (seat seat' : Seat) (words : List ℕ) (count word : ℕ) → IsReading p seats seat words count → count < length words → IsDone p seat' → view seat' ≡ view seat
+pub reads_more : (p : Pool) (seats : List Seat) (seat seat' : Seat) (words : List ℕ) (count word : ℕ)
+    → IsReading p seats seat words count → count < length words → IsDone p seat' → view seat' ≡ view seat
     → word ≡ slice_index (view seat).answers count → ((u : ℕ) → times u (view seat).settled ≡ once_below u (length (view seat).answers))
     → IsOneHistory (view seat).answers (view seat).workers (HasPart (view seat)) → IsReading p seats seat' (set words count word) (count + 1)
 reads_more p seats seat seat' words count word r low done is found once history = record {
@@ -116,14 +123,20 @@ reads_more p seats seat seat' words count word r low done is found once history 
   history = λ h. subst (λ (x : View). IsOneHistory x.answers x.workers (HasPart x)) (sym is) history;
 }
 
-pub all_read : (p : Pool) (seats : List Seat) (seat : Seat) (words : List ℕ) (count : ℕ) → IsReading p seats seat words count → length words ≤ count → (answers : List ℕ) → HaveAnswers answers seats → words ≡ answers
+pub all_read : (p : Pool) (seats : List Seat) (seat : Seat) (words : List ℕ) (count : ℕ)
+    → IsReading p seats seat words count
+    → length words ≤ count → (answers : List ℕ) → HaveAnswers answers seats → words ≡ answers
 all_read p seats seat words count r long answers h =
     ext_get_or 0 words (view seat).answers r.long (λ i low. r.filled i (omega arith)) ∙ r.answers_are answers h
 
-pub all_settled : (p : Pool) (seats : List Seat) (seat : Seat) (words : List ℕ) (count n : ℕ) → IsReading p seats seat words count → 0 < count → length words ≡ n → (u : ℕ) → sum_by (λ s. times u (view s).settled) seats ≡ once_below u n
+pub all_settled : (p : Pool) (seats : List Seat) (seat : Seat) (words : List ℕ) (count n : ℕ)
+    → IsReading p seats seat words count
+    → 0 < count → length words ≡ n → (u : ℕ) → sum_by (λ s. times u (view s).settled) seats ≡ once_below u n
 all_settled p seats seat words count n r some e u = sym (r.settled u) ∙ (r.once some u ∙ ap (λ (k : ℕ). once_below u k) (sym r.long ∙ e))
 
-pub all_told : (p : Pool) (seats : List Seat) (seat : Seat) (words : List ℕ) (count : ℕ) → IsReading p seats seat words count → 0 < count → (answers : List ℕ) → HaveAnswers answers seats → IsOneHistory answers (workers_of p) (HasPartOf seats)
+pub all_told : (p : Pool) (seats : List Seat) (seat : Seat) (words : List ℕ) (count : ℕ)
+    → IsReading p seats seat words count
+    → 0 < count → (answers : List ℕ) → HaveAnswers answers seats → IsOneHistory answers (workers_of p) (HasPartOf seats)
 all_told p seats seat words count r some answers h = let t = r.history some in let d = r.done in let of = d.of in record {
   log = t.log;
   core = t.core;

@@ -35,7 +35,8 @@ part_still opening log more part none p = record {
 }
 
 -- steps of the worker itself, and looks that it made before them
-pub part_more : (opening : CoreState) (log more : List Step) (before after : View) (seen : List Look) → after.number ≡ before.number → after.moves ≡ before.moves ++ more → after.looks ≡ before.looks ++ seen
+pub part_more : (opening : CoreState) (log more : List Step) (before after : View) (seen : List Look)
+    → after.number ≡ before.number → after.moves ≡ before.moves ++ more → after.looks ≡ before.looks ++ seen
     → steps_of before.number more ≡ more → ((l : Look) → Contains seen l → WasSo opening log before.number l) → IsPartOf opening log (part_of before) → IsPartOf opening (log ++ more) (part_of after)
 part_more opening log more before after seen same moves looks mine saw p = record {
   moves = ap (λ (n : ℕ). steps_of n (log ++ more)) same

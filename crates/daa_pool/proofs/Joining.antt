@@ -1,5 +1,6 @@
 -- A seat takes in another's view, and once it has all numbers, it reads the answers.
-use Rattle.std.proofs.Common.{◌≡◌, ◌≢◌, ℕ, ◌+◌, ◌-◌, ◌<◌, ◌≤◌, ◌⊎◌, inl, inr, ⊎_elim, Bool, true, false, eqb, cond, List, [], ◌∷◌, length, set, slice_index, sym, refl, ap, ◌∙◌, subst, arith, eq-eqb, ne_eqb}
+use Rattle.std.proofs.Common.{◌≡◌, ◌≢◌, ℕ, ◌+◌, ◌-◌, ◌<◌, ◌≤◌, ◌⊎◌, inl, inr, ⊎_elim, Bool, true, false, eqb, cond}
+use Rattle.std.proofs.Common.{List, [], ◌∷◌, length, set, slice_index, sym, refl, ap, ◌∙◌, subst, arith, eq-eqb, ne_eqb}
 use Rattle.std.proofs.lemmas.Bool.{true≢false}
 use Rattle.std.proofs.lemmas.List.{set-get_or, get_or_past}
 use mathlib.Core.Option.{Option, none, some, some-injective}
@@ -198,7 +199,8 @@ module _ (workers : ℕ) (s : Pools) (r : Ruled workers s) (id other : ℕ) (v w
 
 pub joins : (k : Size) (id other : ℕ) (v w : View) → v.live ≡ true → w.live ≡ true → IsOver w → Joins (Holds k) id v other w (gathered v w) spent
 joins k id other v w alive alive' over s (inl b) at apart at' = absurd (not_blank k.workers k.units s id v b at alive)
-joins k id other v w alive alive' over s (inr r) at apart at' = inr (joins_ruled k.workers s r id other v w at (sym (set_else s.views id other (gathered v w) apart) ∙ at') apart alive alive' over s.homes)
+joins k id other v w alive alive' over s (inr r) at apart at' = inr (joins_ruled k.workers s r id other v w at
+    (sym (set_else s.views id other (gathered v w) apart) ∙ at') apart alive alive' over s.homes)
 
 -- where one view has all numbers, every other is spent
 alone : (workers : ℕ) (s : Pools) (r : Ruled workers s) (id : ℕ) (v : View) → get_elem? s.views id ≡ some v → v.live ≡ true → ((n : ℕ) → n < workers → HasNumber v n)

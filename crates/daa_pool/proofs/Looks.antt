@@ -31,7 +31,14 @@ later_same v = record {
 
 pub later_trans : (u v w : View) (xs ys : List Look) (ms ns : List Step) → IsLater u v xs ms → IsLater v w ys ns → IsLater u w (xs ++ ys) (ms ++ ns)
 later_trans u v w xs ys ms ns a b = let p = a.same_seat in let q = b.same_seat in record {
-  same_seat = record { number = q.number ∙ p.number; workers = q.workers ∙ p.workers; answers = q.answers ∙ p.answers; joined = q.joined ∙ p.joined; carries = q.carries ∙ p.carries; made = q.made ∙ p.made };
+  same_seat = record {
+    number = q.number ∙ p.number;
+    workers = q.workers ∙ p.workers;
+    answers = q.answers ∙ p.answers;
+    joined = q.joined ∙ p.joined;
+    carries = q.carries ∙ p.carries;
+    made = q.made ∙ p.made;
+  };
   settled = b.settled ∙ a.settled;
   looks = b.looks ∙ (ap (λ (ls : List Look). ls ++ ys) a.looks ∙ append_assoc u.looks xs ys);
   moves = b.moves ∙ (ap (λ (ls : List Step). ls ++ ns) a.moves ∙ append_assoc u.moves ms ns);
@@ -139,7 +146,9 @@ short v other word s few = let f = s.free in record {
 pub changed : (v : View) (other word again : ℕ) → IsSeeking v → word ≢ again → Toured v (looked (looked v other word) other again) other (other + 1)
 changed v other word again s ne = let f = s.free in record {
   seen = (look v other word ∷ []) ++ look v other again ∷ [];
-  later = later_trans v (looked v other word) (looked (looked v other word) other again) (look v other word ∷ []) (look v other again ∷ []) [] [] (looked_later v other word) (looked_later (looked v other word) other again);
+  later = later_trans v (looked v other word)
+      (looked (looked v other word) other again) (look v other word ∷ []) (look v other again ∷ []) [] []
+      (looked_later v other word) (looked_later (looked v other word) other again);
   fresh = fresh_more v (looked v other word) (look v other word ∷ []) (look v other again ∷ []) (looked_later v other word) (fresh_one v other word) (fresh_one (looked v other word) other again);
   seeking = record { free = record { hand = f.hand; going = f.going }; bare = s.bare };
   bare = λ o lo hi. let e : other ≡ o = omega arith in inr (
@@ -178,7 +187,15 @@ pub record LooksHome (before after : View) : Type 0 where
   pub shorter : GetsShorter before.number seen
 
 pub looks_home_first : (v : View) (word : ℕ) → LooksHome v (looked_home v word)
-looks_home_first v word = record { seen = look v v.number word ∷ []; later = looked_home_later v word; fresh = fresh_one v v.number word; home = λ o n. looks_at-not v o v.number word n; own = home_one v word; least = at_most_one v word; shorter = shorter_one v.number (look v v.number word) }
+looks_home_first v word = record {
+  seen = look v v.number word ∷ [];
+  later = looked_home_later v word;
+  fresh = fresh_one v v.number word;
+  home = λ o n. looks_at-not v o v.number word n;
+  own = home_one v word;
+  least = at_most_one v word;
+  shorter = shorter_one v.number (look v v.number word);
+}
 
 pub looks_home_more : (u v : View) (word : ℕ) → LooksHome u v → range_len (unpacked word) < range_len v.bound → LooksHome u (looked_home v word)
 looks_home_more u v word a fewer = let l = a.later in let p = l.same_seat in record {
@@ -281,22 +298,26 @@ seeks_first v w number workers unit en ew a = let turn = a.turn in let away : Ar
 
 -- what the second round takes
 pub seeks_second : (v w x : View) (number workers unit : ℕ) → v.number ≡ number → v.workers ≡ workers → Toured v w (number + 1) workers → TakesFrom w x 0 number unit → SeeksWell v x unit
-seeks_second v w x number workers unit en ew a b = let l = a.later in let p = l.same_seat in let away : AreElsewhere v.number (a.seen ++ b.seen) = both_away v.number number workers a.seen b.seen en a.turn b.turn in record {
-  claim = record {
-    seen = a.seen ++ b.seen;
-    steps = b.steps;
-    later = later_trans v w x a.seen b.seen [] b.steps a.later b.later;
-    taking = subst (λ (n : ℕ). IsTaking n b.steps) p.number b.taking;
-    piece = b.piece;
-    shorter = shorter_away v.number (a.seen ++ b.seen) away;
-    brief = λ o n. let s = a.brief o in let t = b.brief o in let y = apart o number workers (λ e. n (e ∙ sym en)) in let z = looks_at-append o a.seen b.seen in omega arith;
-    round = subst (λ (t : ℕ × ℕ). GoesRound t.0 t.1 (a.seen ++ b.seen)) (λ i. (sym en i, sym ew i)) (round_both number workers a.seen b.seen a.turn b.turn);
-  };
-  away = away;
-}
+seeks_second v w x number workers unit en ew a b =
+    let l = a.later in let p = l.same_seat in let away : AreElsewhere v.number (a.seen ++ b.seen) =
+    both_away v.number number workers a.seen b.seen en a.turn b.turn in record {
+      claim = record {
+        seen = a.seen ++ b.seen;
+        steps = b.steps;
+        later = later_trans v w x a.seen b.seen [] b.steps a.later b.later;
+        taking = subst (λ (n : ℕ). IsTaking n b.steps) p.number b.taking;
+        piece = b.piece;
+        shorter = shorter_away v.number (a.seen ++ b.seen) away;
+        brief = λ o n. let s = a.brief o in let t = b.brief o in let y = apart o number workers (λ e. n (e ∙ sym en)) in let z = looks_at-append o a.seen b.seen in omega arith;
+        round = subst (λ (t : ℕ × ℕ). GoesRound t.0 t.1 (a.seen ++ b.seen)) (λ i. (sym en i, sym ew i)) (round_both number workers a.seen b.seen a.turn b.turn);
+      };
+      away = away;
+    }
 
 -- two rounds that take nothing, and then the end
-pub seeks_nothing : (v w x : View) (word number workers : ℕ) → v.number ≡ number → v.workers ≡ workers → Toured v w (number + 1) workers → Toured w x 0 number → range_len (unpacked word) ≡ 0 → length x.settled ≤ length x.answers → SeeksInVain v (ended x word)
+pub seeks_nothing : (v w x : View) (word number workers : ℕ)
+    → v.number ≡ number → v.workers ≡ workers → Toured v w (number + 1) workers → Toured w x 0 number
+    → range_len (unpacked word) ≡ 0 → length x.settled ≤ length x.answers → SeeksInVain v (ended x word)
 seeks_nothing v w x word number workers en ew a b empty few =
     let t : IsLater v x (a.seen ++ b.seen) [] = later_trans v w x a.seen b.seen [] [] a.later b.later in let same_seat = t.same_seat in let s : IsSeeking x = b.seeking in let f = s.free in
     let l : List Look = look x x.number word ∷ [] in
@@ -309,7 +330,8 @@ seeks_nothing v w x word number workers en ew a b empty few =
     let away : AreElsewhere v.number (a.seen ++ b.seen) = both_away v.number number workers a.seen b.seen en a.turn b.turn in record {
       claim = record {
         seen = (a.seen ++ b.seen) ++ l;
-        later = subst (λ (n : ℕ). IsLater v (ended x word) ((a.seen ++ b.seen) ++ l) (by.End n ∷ [])) same_seat.number (later_trans v x (ended x word) (a.seen ++ b.seen) l [] (by.End x.number ∷ []) t e);
+        later = subst (λ (n : ℕ). IsLater v (ended x word) ((a.seen ++ b.seen) ++ l) (by.End n ∷ [])) same_seat.number
+            (later_trans v x (ended x word) (a.seen ++ b.seen) l [] (by.End x.number ∷ []) t e);
         fresh = fresh_more v x (a.seen ++ b.seen) l t (fresh_more v w a.seen b.seen a.later a.fresh b.fresh) (fresh_one x x.number word);
         over = record { hand = f.hand; over = refl };
         empty = (look x x.number word, Contains-append_right (a.seen ++ b.seen) l (look x x.number word) (Contains-push [] (look x x.number word)), same_seat.number, empty);

@@ -1,5 +1,7 @@
 -- The table as it is made, and the first seat told the answers.
-use Rattle.std.proofs.Common.{◌≡◌, ◌≢◌, ℕ, zero, suc, ◌+◌, ◌-◌, ◌^◌, ◌<◌, inl, inr, ⊎_elim, false, eqb, cond, List, [], ◌∷◌, length, set, replicate, sym, refl, ap, ◌∙◌, subst, arith, length-set, get_or-set_same, get_or-set_other}
+use Rattle.std.proofs.Common.{◌≡◌, ◌≢◌, ℕ, zero, suc, ◌+◌, ◌-◌, ◌^◌, ◌<◌, inl, inr, ⊎_elim, false}
+use Rattle.std.proofs.Common.{eqb, cond, List, [], ◌∷◌, length, set, replicate, sym, refl, ap}
+use Rattle.std.proofs.Common.{◌∙◌, subst, arith, length-set, get_or-set_same, get_or-set_other}
 use Rattle.std.proofs.lemmas.Bool.{true≢false}
 use Rattle.std.proofs.lemmas.List.{set-get_or, length-replicate}
 use mathlib.Core.Option.{Option, none, some, some-injective, some-ne-none}

@@ -1,5 +1,7 @@
 -- The steps of a seat on its own range, and on a unit's word.
-use Rattle.std.proofs.Common.{◌≡◌, ◌≢◌, ℕ, ◌+◌, ◌^◌, ◌<◌, ◌≤◌, inl, inr, Bool, true, false, eqb, List, [], ◌∷◌, ◌++◌, length, set, slice_index, sym, refl, ap, ◌∙◌, subst, arith, get_or-set_same, get_or-set_other, eq-eqb, ne_eqb}
+use Rattle.std.proofs.Common.{◌≡◌, ◌≢◌, ℕ, ◌+◌, ◌^◌, ◌<◌, ◌≤◌, inl, inr, Bool, true, false, eqb}
+use Rattle.std.proofs.Common.{List, [], ◌∷◌, ◌++◌, length, set, slice_index, sym, refl, ap, ◌∙◌}
+use Rattle.std.proofs.Common.{subst, arith, get_or-set_same, get_or-set_other, eq-eqb, ne_eqb}
 use Rattle.std.proofs.lemmas.List.{set-get_or, append-nil}
 use mathlib.Core.Option.{none, some}
 use mathlib.Core.Logic.{dite}
@@ -36,7 +38,8 @@ use Rattle.daa_pool.proofs.StepDuties.{IsLike, SamePlace, Moves, follows}
 use Rattle.daa_pool.proofs.Words.{packed_in_order, word_is, shows_range, shows_board, times_settle}
 
 -- only what a seat does has changed, and not its place
-pub same_place : (v : View) (b h : RangeState) (st : List ℕ) (ls : List Look) (o : Bool) (ms : List Step) → SamePlace v (record v { bound = b; hand = h; settled = st; looks = ls; over = o; moves = ms })
+pub same_place : (v : View) (b h : RangeState) (st : List ℕ) (ls : List Look) (o : Bool) (ms : List Step)
+    → SamePlace v (record v { bound = b; hand = h; settled = st; looks = ls; over = o; moves = ms })
 same_place v b h st ls o ms = record { live = refl; same_seat = record { number = refl; workers = refl; answers = refl; joined = refl; carries = refl; made = refl } }
 
 pub like_itself : (c : CoreState) (m : ℕ) → IsLike c c m
@@ -62,7 +65,9 @@ module _ (workers : ℕ) (s : Pools) (r : Ruled workers s) (id : ℕ) (v : View)
       record { in_order = order; first = sym a ∙ f; upto = omega arith }
 
   -- nothing has changed but what the seat has seen, which is a worker's range
-  pub stays : (ws : List ℕ) (w : View) (other : ℕ) → other < workers → w.looks ≡ v.looks ++ look v other (word_at s.words other) ∷ [] → ws ≡ s.words → w.hand ≡ v.hand → w.over ≡ v.over → w.settled ≡ v.settled → w.moves ≡ v.moves
+  pub stays : (ws : List ℕ) (w : View) (other : ℕ)
+      → other < workers → w.looks ≡ v.looks ++ look v other (word_at s.words other) ∷ []
+      → ws ≡ s.words → w.hand ≡ v.hand → w.over ≡ v.over → w.settled ≡ v.settled → w.moves ≡ v.moves
       → (range_at r.core v.number).first ≡ w.bound.first → (range_at r.core v.number).upto ≤ w.bound.upto → Moves workers r.made s.words ws r.core r.core v w
   stays ws w other there looks e hand over settled moves first upto = let o = own in let sh = r.shows in record {
     shaped = r.shaped;
@@ -85,7 +90,8 @@ module _ (workers : ℕ) (s : Pools) (r : Ruled workers s) (id : ℕ) (v : View)
   }
 
   pub looks_home_moves : (ws : List ℕ) → ws ≡ s.words → Moves workers r.made s.words ws r.core r.core v (looked_home v (word_at s.words v.number))
-  looks_home_moves ws e = stays ws (looked_home v (word_at s.words v.number)) v.number known refl e refl refl refl refl (ap (λ (x : RangeState). x.first) home_word) (let b = ap (λ (x : RangeState). x.upto) home_word in omega arith)
+  looks_home_moves ws e = stays ws (looked_home v (word_at s.words v.number)) v.number known refl e refl refl refl refl
+      (ap (λ (x : RangeState). x.first) home_word) (let b = ap (λ (x : RangeState). x.upto) home_word in omega arith)
 
 pub look_home_allowed : (k : Size) (slots id : ℕ) (me : Sat) → me.0.live ≡ true → me.0.over ≡ false
     → Allows (Holds k) slots id me me.0.number (λ n. n) (looks_home (step slots me.0.number 0 0 none) me)
@@ -131,7 +137,13 @@ module _ (workers : ℕ) (s : Pools) (r : Ruled workers s) (id : ℕ) (v : View)
         first = ap (λ (x : RangeState). x.first) (get_or-set_same r.core.ranges v.number (rest_of (range_at r.core v.number)) no_units k ∙ ap rest_of range_is);
         upto = let e = ap (λ (x : RangeState). x.upto) (get_or-set_same r.core.ranges v.number (rest_of (range_at r.core v.number)) no_units k ∙ ap rest_of range_is) in omega arith;
         others = λ m ne. let a = get_or-set_other r.core.ranges v.number m (rest_of (range_at r.core v.number)) no_units ne in
-            record { hand = get_or-set_other r.core.hands v.number m _ no_units ne; over = refl; first = ap (λ (x : RangeState). x.first) a; upto = let e = ap (λ (x : RangeState). x.upto) a in omega arith };
+            record {
+              hand = get_or-set_other r.core.hands v.number m _ no_units ne;
+              over = refl;
+              first =
+                  ap (λ (x : RangeState). x.first) a;
+              upto = let e = ap (λ (x : RangeState). x.upto) a in omega arith;
+            };
         unmade = λ m a b. get_or-set_other s.words v.number m _ 0 (λ e. let p = o.number v.number (inl refl) in let q = p.0 in absurd (omega arith));
         settled = λ u. refl;
         steps = core.Claim v.number ∷ [];
@@ -205,7 +217,8 @@ module _ (workers : ℕ) (s : Pools) (r : Ruled workers s) (id : ℕ) (v : View)
         moves = refl;
         mine = steps_of_own (core.End v.number) v.number refl;
         not_others = λ m n. steps_of_other (core.End v.number) m (λ e. n (sym e));
-        sees = sees_range (opened r.core.answers workers) r.core v _ v.number (word_at s.words v.number) (w.in_order v.number (known workers s r id v at alive)) (home_word workers s r id v at alive) refl;
+        sees = sees_range (opened r.core.answers workers) r.core v _ v.number (word_at s.words v.number)
+            (w.in_order v.number (known workers s r id v at alive)) (home_word workers s r id v at alive) refl;
       }
 
 pub end_allowed : (k : Size) (slots id : ℕ) (me : Sat) → me.0.live ≡ true → IsFree me.0 → range_len me.0.bound ≡ 0
@@ -247,7 +260,9 @@ module _ (workers : ℕ) (s : Pools) (r : Ruled workers s) (id : ℕ) (v : View)
       let low : f < length r.core.answers = subst (λ (xs : List ℕ). f < length xs) o.answers piece.below in
       let D : ℕ → CoreState = λ g. record r.core { hands = set r.core.hands v.number no_units; board = set r.core.board g word } in
       let d : CoreState = moved r.core (core.Settle v.number word) in
-      let none : slice_index r.core.board f ≡ 0 = (in_hand r.core r.shaped r.whole v.number f k (ap (λ (x : RangeState). times_in f x) hand_is ∙ times_in_inside f (range_of f (f + 1)) (omega arith) (omega arith))).1 in
+      let none : slice_index r.core.board f ≡ 0 =
+      (in_hand r.core r.shaped r.whole v.number f k (ap (λ (x : RangeState). times_in f x) hand_is
+      ∙ times_in_inside f (range_of f (f + 1)) (omega arith) (omega arith))).1 in
       let real : word ≢ 0 = (λ z. sh.answers f 0 low (sym (right ∙ ap (λ (xs : List ℕ). slice_index xs f) o.answers) ∙ z)) in
       record {
         shaped = settle_shaped r.core r.shaped r.whole v.number word;
@@ -260,7 +275,9 @@ module _ (workers : ℕ) (s : Pools) (r : Ruled workers s) (id : ℕ) (v : View)
         upto = o.upto;
         others = λ m ne. record { hand = get_or-set_other r.core.hands v.number m no_units no_units ne; over = refl; first = refl; upto = omega arith };
         unmade = λ m a b. get_or-set_other s.words (workers + f) m word 0 (λ e. absurd (omega arith));
-        settled = λ u. subst (λ (g : ℕ). times u (v.settled ++ g ∷ []) + times_on u r.core.board ≡ times u v.settled + times_on u (set r.core.board (hand_at r.core v.number).first word)) (sym (ap (λ (x : RangeState). x.first) piece.hand))
+        settled = λ u. subst (λ (g : ℕ). times u (v.settled ++ g ∷ []) + times_on u r.core.board
+            ≡ times u v.settled + times_on u (set r.core.board (hand_at r.core v.number).first word))
+            (sym (ap (λ (x : RangeState). x.first) piece.hand))
             (subst (λ (g : ℕ). times u (v.settled ++ f ∷ []) + times_on u r.core.board ≡ times u v.settled + times_on u (set r.core.board g word)) (sym first)
             (times_settle u f word v.settled r.core.board (omega arith) none real));
         steps = core.Settle v.number word ∷ [];
@@ -295,10 +312,12 @@ pub look_home_at : (k : Size) (slots id : ℕ) (me : Sat) (i : ℕ) → me.0.num
     → Allows (Holds k) slots id me i (λ n. n) (looks_home (step slots i 0 0 none) me)
 look_home_at k slots id me i e alive going = subst (λ (i : ℕ). Allows (Holds k) slots id me i (λ n. n) (looks_home (step slots i 0 0 none) me)) e (look_home_allowed k slots id me alive going)
 
-pub claim_at : (k : Size) (slots id : ℕ) (me : Sat) (i old new : ℕ) → me.0.number ≡ i → packed me.0.bound ≡ old → packed (rest_of me.0.bound) ≡ new → me.0.live ≡ true → IsFree me.0 → 0 < range_len me.0.bound
+pub claim_at : (k : Size) (slots id : ℕ) (me : Sat) (i old new : ℕ) → me.0.number ≡ i → packed me.0.bound ≡ old
+    → packed (rest_of me.0.bound) ≡ new → me.0.live ≡ true → IsFree me.0 → 0 < range_len me.0.bound
     → Allows (Holds k) slots id me i (λ n. either (eqb n old) new n) (claims (step slots i old new none) me)
 claim_at k slots id me i old new e f g alive free room =
-    subst (λ (t : ℕ × ℕ × ℕ). Allows (Holds k) slots id me t.0 (λ n. either (eqb n t.1) t.2 n) (claims (step slots t.0 t.1 t.2 none) me)) (λ j. (e j, f j, g j)) (claim_allowed k slots id me alive free room)
+    subst (λ (t : ℕ × ℕ × ℕ). Allows (Holds k) slots id me t.0 (λ n. either (eqb n t.1) t.2 n)
+    (claims (step slots t.0 t.1 t.2 none) me)) (λ j. (e j, f j, g j)) (claim_allowed k slots id me alive free room)
 
 pub end_at : (k : Size) (slots id : ℕ) (me : Sat) (i : ℕ) → me.0.number ≡ i → me.0.live ≡ true → IsFree me.0 → range_len me.0.bound ≡ 0
     → Allows (Holds k) slots id me i (λ n. n) (ends (step slots i 0 0 none) me)

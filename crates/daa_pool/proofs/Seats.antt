@@ -1,5 +1,6 @@
 -- A seat is cut in two, and a seat is joined to another.
-use Rattle.std.proofs.Common.{◌≡◌, ◌≢◌, ℕ, zero, suc, ◌+◌, ◌-◌, ◌<◌, ◌≤◌, ◌⊎◌, inl, inr, ⊎_elim, Bool, true, false, eqb, cond, List, [], ◌∷◌, ◌++◌, length, get_or, set, sym, refl, ap, ◌∙◌, subst, arith}
+use Rattle.std.proofs.Common.{◌≡◌, ◌≢◌, ℕ, zero, suc, ◌+◌, ◌-◌, ◌<◌, ◌≤◌, ◌⊎◌, inl, inr, ⊎_elim, Bool, true, false}
+use Rattle.std.proofs.Common.{eqb, cond, List, [], ◌∷◌, ◌++◌, length, get_or, set, sym, refl, ap, ◌∙◌, subst, arith}
 use mathlib.Core.Option.{Option, some, some-injective}
 use mathlib.Core.Logic.{dite}
 use native.Mathlib.Decide.{ℕ_discrete}
@@ -75,7 +76,8 @@ module _ (workers : ℕ) (s : Pools) (r : Ruled workers s) (id : ℕ) (v : View)
         upto = subst (λ (n : ℕ). (range_at r.core n).upto ≤ 0) (sym made_is) (let a = ap (λ (x : RangeState). x.upto) range in omega arith);
       }
 
-  old : (j : ℕ) (x : View) (b : Bool) → (b ≡ true → ⊥) → IsSeated r.core r.log workers r.made r.carrier r.holder j x → IsSeated r.core r.log workers (r.made + 1) last holder' j (record x { carries = b })
+  old : (j : ℕ) (x : View) (b : Bool) → (b ≡ true → ⊥) → IsSeated r.core r.log workers r.made r.carrier r.holder j x
+      → IsSeated r.core r.log workers (r.made + 1) last holder' j (record x { carries = b })
   old j x b bare o = seated_anew r.core r.log workers r.made (r.made + 1) r.carrier last r.holder holder' j x b
       (λ n h. let p = o.number n h in let a = p.0 in (omega arith, holder-old n a ∙ p.1))
       (λ c. absurd (bare c))
@@ -83,8 +85,13 @@ module _ (workers : ℕ) (s : Pools) (r : Ruled workers s) (id : ℕ) (v : View)
 
   held_in : (i n : ℕ) → IsHeld s.views i n → IsHeld (vs ++ next_seat v ∷ []) i n
   held_in i n h = dite (ℕ_discrete i id)
-      (λ e. let is : h.0 ≡ v = some-injective h.0 v (sym h.1 ∙ (ap (λ (k : ℕ). get_elem? s.views k) e ∙ at)) in
-      (left_behind v, at_longer vs (next_seat v ∷ []) i (left_behind v) (ap (λ (k : ℕ). get_elem? vs k) e ∙ set_here s.views id (left_behind v) inside), alive, subst (λ (y : View). HasNumber y n) is h.3))
+      (λ e. let is : h.0 ≡ v = some-injective h.0 v (sym h.1 ∙ (ap (λ (k : ℕ). get_elem? s.views k) e ∙ at)) in (
+        left_behind v,
+        at_longer vs (next_seat v ∷ []) i (left_behind v) (ap (λ (k : ℕ). get_elem? vs k) e
+            ∙ set_here s.views id (left_behind v) inside),
+        alive,
+        subst (λ (y : View). HasNumber y n) is h.3,
+      ))
       (λ ne. (h.0, at_longer vs (next_seat v ∷ []) i h.0 (set_else s.views id i (left_behind v) ne ∙ h.1), h.2, h.3))
 
   pub splits_ruled : (homes : List (Option (Unit {0}))) → Ruled workers (record { words = s.words; homes = homes; views = vs ++ next_seat v ∷ [] })

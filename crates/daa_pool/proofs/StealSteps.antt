@@ -1,5 +1,7 @@
 -- The steps of a seat on another's range, and what it keeps of a stolen half.
-use Rattle.std.proofs.Common.{◌≡◌, ◌≢◌, ℕ, ◌-◌, ◌^◌, ◌<◌, ◌≤◌, inl, inr, true, false, eqb, List, [], ◌∷◌, length, get_or, set, sym, refl, ap, ◌∙◌, subst, arith, get_or-set_same, get_or-set_other, eq-eqb, ne_eqb}
+use Rattle.std.proofs.Common.{◌≡◌, ◌≢◌, ℕ, ◌-◌, ◌^◌, ◌<◌, ◌≤◌, inl, inr, true, false, eqb}
+use Rattle.std.proofs.Common.{List, [], ◌∷◌, length, get_or, set, sym, refl, ap, ◌∙◌, subst}
+use Rattle.std.proofs.Common.{arith, get_or-set_same, get_or-set_other, eq-eqb, ne_eqb}
 use Rattle.std.proofs.lemmas.List.{set-get_or}
 use mathlib.Core.Option.{none, some}
 use mathlib.Core.Logic.{dite}
@@ -32,7 +34,8 @@ use Rattle.daa_pool.proofs.OwnSteps.{same_place, own, known, ranges_known, stays
 -- the other range is seen, and nothing changes
 module _ (workers : ℕ) (s : Pools) (r : Ruled workers s) (id : ℕ) (v : View) (at : get_elem? s.views id ≡ some v) (alive : v.live ≡ true) where
   pub looks_away_moves : (other : ℕ) (ws : List ℕ) → other < workers → ws ≡ s.words → Moves workers r.made s.words ws r.core r.core v (looked v other (word_at s.words other))
-  looks_away_moves other ws there e = let o = own workers s r id v at alive in stays workers s r id v at alive ws (looked v other (word_at s.words other)) other there refl e refl refl refl refl o.first o.upto
+  looks_away_moves other ws there e = let o = own workers s r id v at alive in stays workers s r id v at alive ws
+      (looked v other (word_at s.words other)) other there refl e refl refl refl refl o.first o.upto
 
 pub look_away_at : (k : Size) (slots id : ℕ) (me : play.Sat) (other : ℕ) → me.0.live ≡ true → me.0.over ≡ false → other < k.workers
     → Allows (Holds k) slots id me other (λ n. n) (play.looks_away (step slots other 0 0 none) me)
@@ -89,7 +92,13 @@ module _ (workers : ℕ) (s : Pools) (r : Ruled workers s) (id : ℕ) (v : View)
                   (let a = ap (λ (y : RangeState). y.upto) its in let le : middle_of R ≤ R.upto = omega arith in omega arith);
             })
             (λ n. let a = get_or-set_other r.core.ranges other m (lower_of R) no_units n in
-            record { hand = get_or-set_other r.core.hands v.number m _ no_units ne; over = refl; first = ap (λ (y : RangeState). y.first) a; upto = let e = ap (λ (y : RangeState). y.upto) a in omega arith });
+            record {
+              hand = get_or-set_other r.core.hands v.number m _ no_units ne;
+              over = refl;
+              first =
+                  ap (λ (y : RangeState). y.first) a;
+              upto = let e = ap (λ (y : RangeState). y.upto) a in omega arith;
+            });
         unmade = λ m a b. get_or-set_other s.words other m _ 0 (λ e. let u = r.unmade m a b in let z = u.word in
             let h : word_at s.words m ≡ packed x = ap (λ (n : ℕ). word_at s.words n) e ∙ hit in absurd (omega arith));
         settled = λ u. refl;
@@ -169,7 +178,13 @@ module _ (workers : ℕ) (s : Pools) (r : Ruled workers s) (id : ℕ) (v : View)
         first = ap (λ (x : RangeState). x.first) its;
         upto = let e = ap (λ (x : RangeState). x.upto) its in omega arith;
         others = λ m ne. let a = get_or-set_other r.core.ranges v.number m (rest_of H) no_units ne in
-            record { hand = get_or-set_other r.core.hands v.number m _ no_units ne; over = refl; first = ap (λ (x : RangeState). x.first) a; upto = let e = ap (λ (x : RangeState). x.upto) a in omega arith };
+            record {
+              hand = get_or-set_other r.core.hands v.number m _ no_units ne;
+              over = refl;
+              first =
+                  ap (λ (x : RangeState). x.first) a;
+              upto = let e = ap (λ (x : RangeState). x.upto) a in omega arith;
+            };
         unmade = λ m a b. get_or-set_other s.words v.number m _ 0 (λ e. let p = o.number v.number (inl refl) in let q = p.0 in absurd (omega arith));
         settled = λ u. refl;
         steps = core.Keep v.number ∷ [];
@@ -180,7 +195,8 @@ module _ (workers : ℕ) (s : Pools) (r : Ruled workers s) (id : ℕ) (v : View)
         sees = sees_nothing (opened r.core.answers workers) r.core v _ refl;
       }
 
-pub keep_at : (k : Size) (slots id : ℕ) (me : play.Sat) (i new : ℕ) → me.0.number ≡ i → packed (rest_of me.0.hand) ≡ new → me.0.live ≡ true → me.0.over ≡ false → 2 ≤ range_len me.0.hand → me.0.hand.upto < 2 ^ 32
+pub keep_at : (k : Size) (slots id : ℕ) (me : play.Sat) (i new : ℕ) → me.0.number ≡ i → packed (rest_of me.0.hand) ≡ new
+    → me.0.live ≡ true → me.0.over ≡ false → 2 ≤ range_len me.0.hand → me.0.hand.upto < 2 ^ 32
     → Allows (Holds k) slots id me i (λ _. new) (λ _. play.keeps (step slots i new 0 none) me new)
 keep_at k slots id me i new e en alive going two small = subst (λ (t : ℕ × ℕ). Allows (Holds k) slots id me t.0 (λ _. t.1) (λ _. play.keeps (step slots t.0 t.1 0 none) me t.1)) (λ j. (e j, en j)) it
   where
@@ -190,6 +206,7 @@ keep_at k slots id me i new e en alive going two small = subst (λ (t : ℕ × �
       kept v,
       keeps,
       tt,
-      inr (follows k.workers s r id v (kept v) at alive going (same_place v _ _ _ _ _ _) (set s.words v.number (packed (rest_of v.hand))) _ s.homes (keep_moves k.workers s r id v at alive going two small)),
+      inr (follows k.workers s r id v (kept v) at alive going (same_place v _ _ _ _ _ _) (set s.words v.number
+          (packed (rest_of v.hand))) _ s.homes (keep_moves k.workers s r id v at alive going two small)),
       (refl, refl),
     )

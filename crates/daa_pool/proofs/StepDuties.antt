@@ -165,7 +165,13 @@ module _ (workers : ℕ) (s : Pools) (r : Ruled workers s) (id : ℕ) (v w : Vie
           (λ n. (c.0, set_else s.views id r.carrier w n ∙ c.1, c.2, c.3));
       unmade = λ n a b. let u = r.unmade n a b in
           let ne : n ≢ v.number = (λ e. let p = (own).number v.number (inl refl) in absurd (let q = p.0 in omega arith)) in let l = like n ne in
-          record { word = moves.unmade n a b ∙ u.word; hand = l.hand ∙ u.hand; going = l.over ∙ u.going; moves = steps_of-append n r.log moves.steps ∙ (ap (λ (l : List Step). steps_of n r.log ++ l) (moves.not_others n ne) ∙ (append-nil (steps_of n r.log) ∙ u.moves)) };
+          record {
+            word = moves.unmade n a b ∙ u.word;
+            hand = l.hand ∙ u.hand;
+            going = l.over ∙ u.going;
+            moves = steps_of-append n r.log moves.steps ∙ (ap (λ (l : List Step). steps_of n r.log
+                ++ l) (moves.not_others n ne) ∙ (append-nil (steps_of n r.log) ∙ u.moves));
+          };
       seats = λ j x e l. ⊎_elim
           (λ t. subst (λ (p : ℕ × View). IsSeated d (r.log ++ moves.steps) workers r.made r.carrier r.holder p.0 p.1) (λ i. (sym t.0 i, t.1 i)) own_seated)
           (λ t. other_seated j x t.0 (r.seats j x t.1 l))

@@ -82,7 +82,9 @@ pub record Claims (before after : View) (unit : ℕ) : Type 0 where
   pub brief : IsBrief before.number seen
   pub round : GoesRound before.number before.workers seen
 
--- a call that gives none: it saw the own range empty and each other range short or changing, each as it was after the last step that the worker made before the call, and it ends the worker, which has settled no more units than there are
+-- a call that gives none: it saw the own range empty and each other range short or changing, each as it was after the
+-- last step that the worker made before the call, and it ends the worker, which has settled no more units than there
+-- are
 pub record FindsNothing (before after : View) : Type 0 where
   pub seen : List Look
   pub later : IsLater before after seen (End before.number ∷ [])

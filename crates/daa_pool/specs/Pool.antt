@@ -10,7 +10,8 @@ use Rattle.daa_pool.specs.Seat.{view, workers_of, IsSeatOf, IsOpening}
 -- the first `count` seats of a pool that has just been opened, numbered from 0
 pub record AreOpening (pool : Pool) (seats : List Seat) (count : ℕ) (answers : List ℕ) : Type 0 where
   pub count_is : length seats ≡ count
-  pub each : (number : ℕ) (default : Seat) → number < length seats → IsSeatOf pool (slice_index_or seats number default) × IsOpening (view (slice_index_or seats number default)) number (workers_of pool) answers
+  pub each : (number : ℕ) (default : Seat) → number < length seats → IsSeatOf pool (slice_index_or seats number default)
+      × IsOpening (view (slice_index_or seats number default)) number (workers_of pool) answers
 
 -- every number below the workers is that of one of the seats
 abbrev pub AreAll : ℕ → List Seat → Type 0

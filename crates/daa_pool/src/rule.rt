@@ -2,7 +2,8 @@
 
 ghost use Rattle.std.specs.Prelude.{ℕ, List, []};
 ghost use Rattle.daa_pool.specs.Inside.View.{left_behind, next_seat, gathered, spent};
-ghost use Rattle.daa_pool.specs.Inside.Steps.{begins, looks_home, claims, looks_away, steals, keeps, settles, ends, reads};
+ghost use Rattle.daa_pool.specs.Inside.Steps.{begins, looks_home, claims, looks_away};
+ghost use Rattle.daa_pool.specs.Inside.Steps.{steals, keeps, settles, ends, reads};
 
 use crate::pool::Size;
 use crate::view::View;

@@ -1,7 +1,8 @@
 ghost use Rattle.std.specs.Prelude.{◌≡◌, ℕ, ◌<◌, ◌≤◌, IfOk, OnOk, length};
 ghost use Rattle.std.specs.Thread.{IsSync};
 ghost use Rattle.daa_pool.specs.Inside.Numbers.{numbers};
-ghost use Rattle.daa_pool.specs.Seat.{view, workers_of, units_of, IsSeatOf, IsSameSeat, IsFree, HasPiece, IsReady, IsDone};
+ghost use Rattle.daa_pool.specs.Seat.{view, workers_of, units_of, IsSeatOf};
+ghost use Rattle.daa_pool.specs.Seat.{IsSameSeat, IsFree, HasPiece, IsReady, IsDone};
 ghost use Rattle.daa_pool.specs.Inside.Pool.{AllReady, AllWorked, IsWorked};
 
 use crate::{Look, NoMemory, Part, Piece, Pool, Seat, View, answer_all, unit};
@@ -54,8 +55,8 @@ impl Answers for Numbers {
     ghost real = { λ given. AreAnswers-numbers given.units };
 }
 
-// The same for five units, beside a gate that counts who passes for each unit. It counts too which
-// units are answered before their gate is passed.
+// Answers for five units, beside a gate. It counts who passes for each unit, and which units are
+// answered before their gate is passed.
 #[derive(Drop)]
 struct Watch {
     passes: [AtomicU64; 5],

@@ -16,7 +16,7 @@ pub struct Look {
 pub struct Part {
     /// The number of the worker.
     pub number: u64,
-    /// Its steps of the core, in order.
+    /// The steps of the core that it made, in order.
     pub moves: LinkedList<Step>,
     /// The words that it found where it looked.
     pub looks: LinkedList<Look>,

@@ -24,7 +24,8 @@ impl Pool {
         self.put(seat, piece.unit, word);
     }
 
-    /// Whether the seat is over.
+    /// Whether the seat is over. A call for other programs: `work` needs no such question, and
+    /// `daidalus` does not make it.
     pub fn is_over(&self, seat: &Seat) -> bool
         requires { IsSeatOf self.now seat.now }
         ensures { result ≡ (view seat.now).over }

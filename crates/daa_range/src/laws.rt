@@ -1,7 +1,8 @@
 //! What holds of all ranges and words.
 
 ghost use Rattle.std.specs.Prelude.{◌≡◌, ℕ, ◌+◌, ◌/◌, ◌^◌, ◌<◌, ◌≤◌};
-ghost use Rattle.daa_range.specs.Range.{RangeState, range_of, range_len, IsOrdered, times_in, times_below, lower_of, upper_of, first_unit_of, rest_of};
+ghost use Rattle.daa_range.specs.Range.{RangeState, range_of, range_len, IsOrdered, times_in};
+ghost use Rattle.daa_range.specs.Range.{times_below, lower_of, upper_of, first_unit_of, rest_of};
 ghost use Rattle.daa_range.specs.Word.{packed, first_part, upto_part, IsInOrder, unpacked};
 
 /// A range that is packed is read back, and a word that is in order is its range, packed.

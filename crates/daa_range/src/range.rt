@@ -28,7 +28,8 @@ impl Model for Range {
 }
 
 impl Range {
-    ghost use Rattle.daa_range.specs.Range.{range_of, range_len, IsOrdered, middle_of, lower_of, upper_of, first_unit_of, rest_of};
+    ghost use Rattle.daa_range.specs.Range.{range_of, range_len, IsOrdered, middle_of};
+    ghost use Rattle.daa_range.specs.Range.{lower_of, upper_of, first_unit_of, rest_of};
 
     /// The units from `first` on, below `upto`.
     pub fn new(first: u32, upto: u32) -> Range

@@ -12,7 +12,9 @@ use Rattle.daa_schedule.proofs.Runs.{Good, moved_good}
 
 two_changed : (c : CoreState) (i j : ℕ) (r r' h h' : RangeState) → r ≡ r' → h ≡ h'
     → Good (record c { ranges = set c.ranges i r'; hands = set c.hands j h' }) → Good (record c { ranges = set c.ranges i r; hands = set c.hands j h })
-two_changed c i j r r' h h' e f g = subst (λ (x : RangeState). Good (record c { ranges = set c.ranges i x; hands = set c.hands j h })) (sym e) (subst (λ (x : RangeState). Good (record c { ranges = set c.ranges i r'; hands = set c.hands j x })) (sym f) g)
+two_changed c i j r r' h h' e f g =
+    subst (λ (x : RangeState). Good (record c { ranges = set c.ranges i x; hands = set c.hands j h })) (sym e)
+    (subst (λ (x : RangeState). Good (record c { ranges = set c.ranges i r'; hands = set c.hands j x })) (sym f) g)
 
 pub claim_closes : (c : CoreState) (by : ℕ) (x r h : RangeState) → Good c → fault_of c (Claim by) ≡ None
     → x ≡ get_or c.ranges by x → r ≡ rest_of x → h ≡ first_unit_of x → Good (record c { ranges = set c.ranges by r; hands = set c.hands by h })
@@ -40,20 +42,25 @@ settle_closes c by word f x h g e at ef eh = let k = settles c by word e in let 
 
 -- the units of a range have answers
 pub range_below : (core : CoreState) (worker : ℕ) → Good core → worker < length core.ranges → 0 < range_len (range_at core worker) → (range_at core worker).upto ≤ length core.answers
-range_below core worker g known some = let r : RangeState = range_at core worker in let last = in_range core g.0 g.1 worker (r.upto - 1) known (times_in_inside (r.upto - 1) r (omega arith) (omega arith)) in omega arith
+range_below core worker g known some =
+    let r : RangeState = range_at core worker in let last = in_range core g.0 g.1 worker
+    (r.upto - 1) known (times_in_inside (r.upto - 1) r (omega arith) (omega arith)) in omega arith
 
 -- the units of a hand have answers
 pub hand_below : (core : CoreState) (worker : ℕ) → Good core → worker < length core.ranges → 0 < range_len (hand_at core worker) → (hand_at core worker).upto ≤ length core.answers
-hand_below core worker g known some = let h : RangeState = hand_at core worker in let last = in_hand core g.0 g.1 worker (h.upto - 1) known (times_in_inside (h.upto - 1) h (omega arith) (omega arith)) in let low = last.0 in omega arith
+hand_below core worker g known some = let h : RangeState = hand_at core worker in let last = in_hand core g.0 g.1 worker
+    (h.upto - 1) known (times_in_inside (h.upto - 1) h (omega arith) (omega arith)) in let low = last.0 in omega arith
 
 -- the same of a range, or of a hand, that was read from the fields
-pub range_read : (core after : CoreState) (worker : ℕ) (x : RangeState) → Good core → core ≡ after → worker < length after.ranges → x ≡ get_or core.ranges worker x → 0 < range_len x → x.upto ≤ length after.answers
+pub range_read : (core after : CoreState) (worker : ℕ) (x : RangeState) → Good core → core ≡ after
+    → worker < length after.ranges → x ≡ get_or core.ranges worker x → 0 < range_len x → x.upto ≤ length after.answers
 range_read core after worker x g e known at some = let known' : worker < length core.ranges = subst (λ (d : CoreState). worker < length d.ranges) (sym e) known in
     let is : x ≡ range_at core worker = get_or_read core.ranges worker x known' at no_units in
     subst (λ (d : CoreState). x.upto ≤ length d.answers) e
     (subst (λ (y : RangeState). y.upto ≤ length core.answers) (sym is) (range_below core worker g known' (subst (λ (y : RangeState). 0 < range_len y) is some)))
 
-pub hand_read : (core after : CoreState) (worker : ℕ) (x : RangeState) → Good core → core ≡ after → worker < length after.ranges → x ≡ get_or core.hands worker x → 0 < range_len x → x.upto ≤ length after.answers
+pub hand_read : (core after : CoreState) (worker : ℕ) (x : RangeState) → Good core → core ≡ after
+    → worker < length after.ranges → x ≡ get_or core.hands worker x → 0 < range_len x → x.upto ≤ length after.answers
 hand_read core after worker x g e known at some = let known' : worker < length core.ranges = subst (λ (d : CoreState). worker < length d.ranges) (sym e) known in
     let is : x ≡ hand_at core worker = get_or_read core.hands worker x (hands_known core worker g known') at no_units in
     subst (λ (d : CoreState). x.upto ≤ length d.answers) e

@@ -70,7 +70,10 @@ pub keeps_none : (c : CoreState) (by : ℕ) → Keeps c by → fault_of c (Keep 
 keeps_none c by k = let two = k.two in no_fault (checks c (Keep by)) (stranger_not _ _ k.known, (k.going, (not_none _ (omega arith), (not_short _ _ two, tt))))
 
 pub settles_none : (c : CoreState) (by word : ℕ) → Settles c by word → fault_of c (Settle by word) ≡ None
-settles_none c by word k = let one = k.one in no_fault (checks c (Settle by word)) (stranger_not _ _ k.known, (k.going, (not_none _ (omega arith), (not_short _ _ (omega arith), (not_wrong _ _ k.right, tt)))))
+settles_none c by word k = let one = k.one in no_fault (checks c (Settle by word)) (
+  stranger_not _ _ k.known,
+  (k.going, (not_none _ (omega arith), (not_short _ _ (omega arith), (not_wrong _ _ k.right, tt)))),
+)
 
 pub ends_none : (c : CoreState) (by : ℕ) → has_ended c by ≡ false → Ends c by → fault_of c (End by) ≡ None
 ends_none c by going k = no_fault (checks c (End by)) (stranger_not _ _ k.known, (going, (none_left _ k.free, (none_left _ k.none, tt))))

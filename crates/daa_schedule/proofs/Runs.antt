@@ -16,7 +16,9 @@ use Rattle.daa_schedule.specs.declared.step.Step.TheVariants.{Claim, Steal, Keep
 use Rattle.daa_schedule.specs.declared.step.StepFault.{StepFault}
 use Rattle.daa_range.proofs.Ranges.{times_in_none}
 use Rattle.daa_schedule.proofs.Faults.{claims, steals, keeps, settles, ends}
-use Rattle.daa_schedule.proofs.Steps.{claim_whole, steal_whole, keep_whole, settle_whole, end_whole, claim_shaped, steal_shaped, keep_shaped, settle_shaped, end_shaped, claim_lowers, steal_lowers, keep_lowers, settle_lowers, left_none}
+use Rattle.daa_schedule.proofs.Steps.{claim_whole, steal_whole, keep_whole, settle_whole, end_whole}
+use Rattle.daa_schedule.proofs.Steps.{claim_shaped, steal_shaped, keep_shaped, settle_shaped, end_shaped}
+use Rattle.daa_schedule.proofs.Steps.{claim_lowers, steal_lowers, keep_lowers, settle_lowers, left_none}
 
 abbrev pub Good : CoreState → Type 0
 Good c = IsShaped c × IsWhole c

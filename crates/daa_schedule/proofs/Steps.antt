@@ -1,5 +1,7 @@
 -- Each step that nothing refuses keeps a core shaped and whole, and lowers what is left.
-use Rattle.std.proofs.Common.{◌≡◌, ◌≢◌, ℕ, ◌+◌, ◌-◌, ◌*◌, ◌<◌, ◌≤◌, true, false, eqb, cond, List, length, get_or, set, slice_index, sym, refl, ap, ◌∙◌, subst, arith, length-set, get_or-set_same, get_or-set_other}
+use Rattle.std.proofs.Common.{◌≡◌, ◌≢◌, ℕ, ◌+◌, ◌-◌, ◌*◌, ◌<◌, ◌≤◌, true, false, eqb, cond}
+use Rattle.std.proofs.Common.{List, length, get_or, set, slice_index, sym, refl, ap, ◌∙◌}
+use Rattle.std.proofs.Common.{subst, arith, length-set, get_or-set_same, get_or-set_other}
 use mathlib.Core.Logic.{dite}
 use native.Mathlib.Decide.{ℕ_discrete}
 use Rattle.std.specs.List.{sum_by}
@@ -117,7 +119,9 @@ module _ (c : CoreState) (s : IsShaped c) (w : IsWhole c) where
             dite (ℕ_discrete u f)
             (λ e. let p : times_in u h ≡ 1 = subst (λ (v : ℕ). times_in v h ≡ 1) (sym e) (held_here h k.one) in
             let q : times_on u c.board ≡ 0 = on_none u c.board (ap (λ (v : ℕ). slice_index c.board v) e ∙ here.1) in
-            let q' : times_on u (set c.board f word) ≡ 1 = on_some u (set c.board f word) (λ n. real (sym (get_or-set_same c.board f word 0 low) ∙ (ap (λ (v : ℕ). slice_index (set c.board f word) v) (sym e) ∙ n))) in
+            let q' : times_on u (set c.board f word) ≡ 1 =
+            on_some u (set c.board f word) (λ n. real (sym (get_or-set_same c.board f word 0 low)
+            ∙ (ap (λ (v : ℕ). slice_index (set c.board f word) v) (sym e) ∙ n))) in
             omega arith)
             (λ n. let p : times_in u h ≡ 0 = held_not u h k.one n in
             let q : times_on u (set c.board f word) ≡ times_on u c.board = ap (λ (x : ℕ). cond (eqb x 0) 0 1) (get_or-set_other c.board f u word 0 n) in

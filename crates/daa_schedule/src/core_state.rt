@@ -4,7 +4,8 @@
 ghost use Rattle.std.specs.Prelude.{◌≡◌, ℕ, ◌+◌, ◌<◌, ◌≤◌, ◌^◌, IfOk, None, length, slice_index};
 ghost use Rattle.daa_range.specs.Range.{range_len};
 ghost use Rattle.daa_schedule.specs.Answers.{AreAnswers};
-ghost use Rattle.daa_schedule.specs.CoreState.{worker_count, unit_count, opened, range_at, hand_at, has_ended, word_on};
+ghost use Rattle.daa_schedule.specs.CoreState.{worker_count, unit_count, opened};
+ghost use Rattle.daa_schedule.specs.CoreState.{range_at, hand_at, has_ended, word_on};
 ghost use Rattle.daa_schedule.specs.Step.{fault_of, is_stranger, moved};
 
 use crate::{NoMemory, Step};
@@ -12,7 +13,9 @@ use daa_range::Range;
 use std::alloc::Global;
 use std::marker::Model;
 
-/// Which worker has which units, and what has been answered. Contracts see it as a `CoreState`.
+/// Which worker has which units, and what has been answered. Contracts see it as a `CoreState`. A
+/// type for other programs, with all its calls: the pool of `daidalus` makes none, since its seats
+/// keep their parts themselves.
 #[derive(Drop)]
 pub struct Core {
     answers: Vec<u64>,

@@ -1,8 +1,11 @@
 //! States from numbers: the value, all of whose ranges contracts then know, or which of a caller's
 //! numbers is out of its range.
 
-ghost use Rattle.std.specs.Prelude.{◌≡◌, ◌<◌, length, true, false, slice_get, Some, None, IfOk, IfErr, OnOk, pos};
-ghost use Rattle.daa_state.specs.Checked.{bounds_of, is_within, outside, first_outside, number_of, own_numbers, traffic_numbers, IsTakenAt, AreTaken, fault_at, picture_fault_of};
+ghost use Rattle.std.specs.Prelude.{◌≡◌, ◌<◌, length, true, false, slice_get};
+ghost use Rattle.std.specs.Prelude.{Some, None, IfOk, IfErr, OnOk, pos};
+ghost use Rattle.daa_state.specs.Checked.{bounds_of, is_within, outside, first_outside};
+ghost use Rattle.daa_state.specs.Checked.{number_of, own_numbers, traffic_numbers};
+ghost use Rattle.daa_state.specs.Checked.{IsTakenAt, AreTaken, fault_at, picture_fault_of};
 ghost use Rattle.daa_state.specs.InRange.{IsOwnInRange, IsTrafficInRange, IsPictureInRange};
 ghost use Rattle.daa_state.specs.MomentStep.{has_id};
 ghost use Rattle.daa_state.specs.Picture.{aircraft_of};
@@ -87,7 +90,7 @@ impl Field {
         }
     }
 
-    /// Its name, and its unit in brackets.
+    /// The name of the number, and its unit in brackets.
     fn name(self) -> &'static str {
         match self {
             Field::East => "x (0.001 NM)",

@@ -20,7 +20,8 @@ pub struct Id {
 }
 
 impl Model for Id {
-    ghost use Rattle.std.specs.Prelude.{ℕ, List, ◌≡◌, ◌≤◌, ◌-◌, ◌++◌, length, take, drop, replicate, true};
+    ghost use Rattle.std.specs.Prelude.{ℕ, List, ◌≡◌, ◌≤◌, ◌-◌, ◌++◌};
+    ghost use Rattle.std.specs.Prelude.{length, take, drop, replicate, true};
     ghost use Rattle.daa_state.specs.Id.{is_id};
     ghost use Rattle.daa_state.specs.Inside.IdCells.{padded_is, length_is};
 

@@ -3,7 +3,10 @@
 ghost use Rattle.std.specs.Prelude.{◌≡◌, ◌∷◌, [], pos, negsuc, codes, replicate, None};
 ghost use Rattle.daa_state.specs.WordOf.{word_of};
 ghost use Rattle.daa_state.specs.MomentStep.{step, empty_moment};
-ghost use Rattle.daa_state.specs.Laws.{First256BytesDecide, LongFrom256Bytes, OnlyFormatLinesSayFormats, ReadsAsFourWords, OtherWordsLeaveTheFormat, Format1SaysNoAges, NoAgesLeaveNoAges};
+ghost use Rattle.daa_state.specs.Laws.{First256BytesDecide, LongFrom256Bytes};
+ghost use Rattle.daa_state.specs.Laws.{OnlyFormatLinesSayFormats};
+ghost use Rattle.daa_state.specs.Laws.{ReadsAsFourWords, OtherWordsLeaveTheFormat};
+ghost use Rattle.daa_state.specs.Laws.{Format1SaysNoAges, NoAgesLeaveNoAges};
 
 use crate::fault::LineFault;
 use crate::word::Word;

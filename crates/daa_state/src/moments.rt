@@ -1,10 +1,14 @@
 //! Words to moments.
 
-ghost use Rattle.std.specs.Prelude.{◌≡◌, ◌↔◌, None, IsSome, OnOk, IfSome, IsSomeAnd, OnErr, IfOk, IfErr, Ok, Err, Some, true, false, ◌<◌, ◌≤◌, length, ◌++◌, ◌∷◌, []};
+ghost use Rattle.std.specs.Prelude.{◌≡◌, ◌↔◌, None, IsSome, OnOk, IfSome};
+ghost use Rattle.std.specs.Prelude.{IsSomeAnd, OnErr, IfOk, IfErr, Ok, Err, Some};
+ghost use Rattle.std.specs.Prelude.{true, false, ◌<◌, ◌≤◌, length, ◌++◌, ◌∷◌, []};
 ghost use Rattle.std.specs.Str.{bytes_eq};
-ghost use Rattle.daa_state.specs.InRange.{IsFormat, IsWordInRange, IsOwnInRange, IsTrafficInRange, IsPictureInRange};
+ghost use Rattle.daa_state.specs.InRange.{IsFormat, IsWordInRange, IsOwnInRange};
+ghost use Rattle.daa_state.specs.InRange.{IsTrafficInRange, IsPictureInRange};
 ghost use Rattle.daa_state.specs.Inside.InRange.{IsMomentInRange};
-ghost use Rattle.daa_state.specs.MomentStep.{step, stepped, finished, start, begun_moment, with_own, with_traffic, ended_picture, has_id};
+ghost use Rattle.daa_state.specs.MomentStep.{step, stepped, finished, start, begun_moment};
+ghost use Rattle.daa_state.specs.MomentStep.{with_own, with_traffic, ended_picture, has_id};
 
 use crate::fault::LineFault;
 use crate::id::Id;
@@ -94,9 +98,9 @@ impl Moments {
         }
     }
 
-    /// Takes a word that adds to the open moment, as `take` does, or says that it is another one or
-    /// refused, and changes nothing then. No room for a picture is made ready, which costs more than
-    /// what most lines add.
+    /// Takes a word that adds to the open moment, as `take` does, and returns true. Where the word
+    /// is another one, or would be refused, it returns false and changes nothing. No room for a
+    /// picture is made ready, which costs more than what most lines add.
     #[tactic(auto, unfolding(crate::specs::MomentStep::step))]
     pub fn adds(&mut self, word: &Word) -> bool
         requires range { IsWordInRange word.now }

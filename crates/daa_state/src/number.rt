@@ -1,12 +1,16 @@
 //! Numbers in fields: how they are spelled, and the range of each.
 
-ghost use Rattle.std.specs.Prelude.{◌≡◌, ◌≤◌, ◌<◌, ◌^◌, length, true, false, IsTrue, pos, IfSome, IfOk, MatchOption};
+ghost use Rattle.std.specs.Prelude.{◌≡◌, ◌≤◌, ◌<◌, ◌^◌, length, true, false};
+ghost use Rattle.std.specs.Prelude.{IsTrue, pos, IfSome, IfOk, MatchOption};
 ghost use Rattle.std.specs.Option.{SomeIff};
 ghost use Rattle.std.specs.List.{list_all};
 ghost use Rattle.std.specs.Char.{is_ascii_digit};
-ghost use Rattle.daa_state.specs.Number.{has_minus, digits_of_field, size_of_digits, are_digits, number, number_in, count_in};
-ghost use Rattle.daa_state.specs.Ranges.{positions, altitudes, tracks, ground_speeds, speeds, vertical_speeds, ages, formats, times};
-ghost use Rattle.daa_state.specs.InRange.{IsPosition, IsAltitude, IsTrack, IsGroundSpeed, IsSpeed, IsVerticalSpeed, IsAge, IsFormat};
+ghost use Rattle.daa_state.specs.Number.{has_minus, digits_of_field, size_of_digits};
+ghost use Rattle.daa_state.specs.Number.{are_digits, number, number_in, count_in};
+ghost use Rattle.daa_state.specs.Ranges.{positions, altitudes, tracks, ground_speeds};
+ghost use Rattle.daa_state.specs.Ranges.{speeds, vertical_speeds, ages, formats, times};
+ghost use Rattle.daa_state.specs.InRange.{IsPosition, IsAltitude, IsTrack, IsGroundSpeed};
+ghost use Rattle.daa_state.specs.InRange.{IsSpeed, IsVerticalSpeed, IsAge, IsFormat};
 
 use crate::fault::LineFault;
 

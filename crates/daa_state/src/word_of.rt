@@ -5,7 +5,9 @@ ghost use Rattle.std.specs.Str.Lines.{strip_carriage_return};
 ghost use Rattle.daa_state.specs.Inside.Texts.{texts};
 ghost use Rattle.daa_state.specs.Id.{is_id};
 ghost use Rattle.daa_state.specs.InRange.{IsFormat, IsWordInRange, IsOwnInRange, IsTrafficInRange};
-ghost use Rattle.daa_state.specs.WordOf.{word_of, word_of_fields, word_of_name, is_comment, moment_of, own_of, ownship, traffic_of, aged_traffic_of, aircraft, identifier, format_of, end_of};
+ghost use Rattle.daa_state.specs.WordOf.{word_of, word_of_fields, word_of_name, is_comment};
+ghost use Rattle.daa_state.specs.WordOf.{moment_of, own_of, ownship, traffic_of, aged_traffic_of};
+ghost use Rattle.daa_state.specs.WordOf.{aircraft, identifier, format_of, end_of};
 
 use crate::fault::LineFault;
 use crate::fields::fields;

@@ -10,7 +10,9 @@ use Rattle.clap.proofs.WalkLemmas.{both}
 use Rattle.clap.specs.Facts.{explicit_source, unwrap_or_range}
 use Rattle.clap.specs.Takes.{is_given}
 use Rattle.clap.specs.Values.{read_as}
-use Rattle.clap.specs.Walk.{Names, Row, Rule, Text, action_of, answers_to, default_rows, first_of, has_row, more_values, nothing_held, one_of, reading_by, row_text, rows_after, settled, stop_after, walk, walk_from, with_default}
+use Rattle.clap.specs.Walk.{Names, Row, Rule, Text, action_of, answers_to, default_rows, first_of}
+use Rattle.clap.specs.Walk.{has_row, more_values, nothing_held, one_of, reading_by, row_text}
+use Rattle.clap.specs.Walk.{rows_after, settled, stop_after, walk, walk_from, with_default}
 use Rattle.clap.specs.Kinds.{Kinds, check_kinds}
 use Rattle.std.proofs.lemmas.Bool.{or_parts}
 use Rattle.clap.specs.Faults.{defaults_fault, entered_fault, fault_of, level_fault, settle_fault, walk_fault}

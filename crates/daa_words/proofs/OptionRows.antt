@@ -1,7 +1,8 @@
 -- An option of which each use has a value: where no fault is found, each row that it has has a first value, its parser
 -- takes all its values, they are read as the parser says, and they are its defaults where the words gave none. What
 -- changes rows keeps this.
-use Rattle.std.proofs.Common.{arith, min, ◌+◌, ◌≡◌, ◌∙◌, ◌&&◌, ◌||◌, ◌⊎◌, ◌==◌, ℕ, Bool, cond, true, false, List, [], ◌∷◌, ◌++◌, length, Option, Some, None, true≢false, inl, inr, refl, sym, ap, subst, nat_lt}
+use Rattle.std.proofs.Common.{arith, min, ◌+◌, ◌≡◌, ◌∙◌, ◌&&◌, ◌||◌, ◌⊎◌, ◌==◌, ℕ, Bool, cond, true, false, List, []}
+use Rattle.std.proofs.Common.{◌∷◌, ◌++◌, length, Option, Some, None, true≢false, inl, inr, refl, sym, ap, subst, nat_lt}
 use Rattle.std.specs.Prelude.{⊤, IfSome}
 use Rattle.std.specs.List.{find, fold, list_all}
 use Rattle.std.specs.Option.{option_map_or}
@@ -12,7 +13,10 @@ use Rattle.std.proofs.lemmas.List.Folds.{list_all-append}
 use Rattle.clap.specs.Matches.{count_text}
 use Rattle.clap.specs.ValueTests.{accepts}
 use Rattle.clap.specs.Facts.{explicit_source, parser_of_value, unwrap_or_range}
-use Rattle.clap.specs.Walk.{Held, Row, Rule, Text, action_of, arg_by_id, at_row, count_of, counted, default_rows, has_row, is_empty, more_values, most_values, new_count, reacted, reading_by, settled, settled_rows, stronger, used, used_as, used_by_id, values_or_missing, with_count, with_default, with_values, without}
+use Rattle.clap.specs.Walk.{Held, Row, Rule, Text, action_of, arg_by_id, at_row, count_of, counted}
+use Rattle.clap.specs.Walk.{default_rows, has_row, is_empty, more_values, most_values, new_count, reacted}
+use Rattle.clap.specs.Walk.{reading_by, settled, settled_rows, stronger, used, used_as, used_by_id}
+use Rattle.clap.specs.Walk.{values_or_missing, with_count, with_default, with_values, without}
 use Rattle.clap.specs.Kinds.{Kinds, or_else, range_kinds, request_kinds, value_kinds, values_kinds}
 use Rattle.clap.specs.Faults.{default_fault, defaults_fault, react_fault, repeat_fault, settle_fault, use_fault, values_fault}
 use Rattle.clap.specs.declared.builder.action.ArgAction.{ArgAction}

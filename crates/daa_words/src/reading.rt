@@ -1,6 +1,7 @@
 //! Words into an order, by clap's parse.
 
-ghost use Rattle.std.specs.Prelude.{◌≡◌, ◌≢◌, IfOk, IsErrOf, Some, None, [], map, option_and_then, option_map, string_bytes};
+ghost use Rattle.std.specs.Prelude.{◌≡◌, ◌≢◌, IfOk, IsErrOf, Some, None, [], map};
+ghost use Rattle.std.specs.Prelude.{option_and_then, option_map, string_bytes};
 ghost use Rattle.clap.specs.Words.{fault_of, kind_of, subcommand_of, subcommand_rows_of};
 ghost use Rattle.daa_words.specs.Command.{daidalus};
 ghost use Rattle.daa_words.specs.Order as spec;

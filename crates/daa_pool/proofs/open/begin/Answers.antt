@@ -15,7 +15,9 @@ load-requires g c =
     let real : AreAnswers xs = g.met.A.Answers.real c.args.answers.now in (
       c.requires.table.0,
       c.requires.table.1,
-      subst (λ (t : ℕ × List ℕ). Allows (Holds key) c.args.shared.now.table_id.slots c.args.seat.now.id c.args.seat.now.me 0 (λ n. n) (begins t.0 t.1 (step c.args.shared.now.table_id.slots 0 0 0 none) c.args.seat.now.me))
+      subst (λ (t : ℕ × List ℕ). Allows
+          (Holds key) c.args.shared.now.table_id.slots c.args.seat.now.id c.args.seat.now.me 0
+          (λ n. n) (begins t.0 t.1 (step c.args.shared.now.table_id.slots 0 0 0 none) c.args.seat.now.me))
           (λ i. ((size.0 ∙ sym picked.1) i, sym picked.0 i))
           (begin_allowed key _ c.args.seat.now.id c.args.seat.now.me xs (ap (λ (m : Sat). m.0) c.requires.blank) (omega arith) (sym d) (omega arith) real),
     )

@@ -22,7 +22,9 @@ pub returns-then-found-pack-clause-some : goal.returns-then-found-pack-clause-so
 returns-then-found-pack-clause-some c = let u : View = view c.args.seat.now in let v : View = view c.loop-own.seat in
     let hit = c.try_claim-found.ensures.claimed (c.if-found-pack.true ∙ c.pack.ensures) in
     let unit : v.bound.first ≡ c.own.inside.first = ap (λ (x : RangeState). x.first) (c.loop-own.invariant.bound ∙ sym c.own.view_is) in
-    subst (λ (t : View × ℕ). Claims u t.0 t.1) (λ i. (sym hit.0 i, unit i)) (claimed_home u v c.loop-own.invariant.looks c.loop-own.invariant.free (subst (λ (n : ℕ). n < length v.answers) (sym (ap (λ (x : RangeState). x.first) c.loop-own.invariant.bound)) hit.1))
+    subst (λ (t : View × ℕ). Claims u t.0 t.1) (λ i. (sym hit.0 i, unit i))
+    (claimed_home u v c.loop-own.invariant.looks c.loop-own.invariant.free (subst (λ (n : ℕ). n < length v.answers)
+    (sym (ap (λ (x : RangeState). x.first) c.loop-own.invariant.bound)) hit.1))
 
 pub returns-clause-some : goal.returns-clause-some
 returns-clause-some c = some_after c.seek.result (view c.args.seat.now) (view c.loop-own.seat) (view c.seek.new.seat) c.loop-own.invariant.looks c.seek.ensures.claim

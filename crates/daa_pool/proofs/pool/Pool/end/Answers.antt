@@ -3,5 +3,6 @@ use Rattle.daa_pool.proofs.OwnSteps.{end_at}
 use Rattle.daa_pool.proofs.pool.Pool.end.Goals as goal
 
 pub load-found-requires : goal.load-found-requires
-load-found-requires c = let p = c.args.self.now in let q = c.args.seat.now in let of = c.requires.pool in let wide = p.words in let few = p.units in let crew = p.crew in let n = of.number in let m = q.numbered in
+load-found-requires c = let p = c.args.self.now in let q = c.args.seat.now in let of = c.requires.pool in
+    let wide = p.words in let few = p.units in let crew = p.crew in let n = of.number in let m = q.numbered in
     (of.table, omega arith, end_at p.table.shared.key _ q.seat.id q.seat.me q.number q.numbered q.live c.requires.free.0 c.requires.free.1)

@@ -3,5 +3,7 @@ use Rattle.daa_pool.proofs.StealSteps.{look_away_at}
 use Rattle.daa_pool.proofs.pool.Pool.look_away.Goals as goal
 
 pub load-requires : goal.load-requires
-load-requires c = let p = c.args.self.now in let q = c.args.seat.now in let of = c.requires.pool in let wide = p.words in let few = p.units in let crew = p.crew in let n = of.number in let m = q.numbered in let crew0 = crew.0 in let other = c.requires.other in
+load-requires c = let p = c.args.self.now in let q = c.args.seat.now in
+    let of = c.requires.pool in let wide = p.words in let few = p.units in let crew = p.crew in
+    let n = of.number in let m = q.numbered in let crew0 = crew.0 in let other = c.requires.other in
     (of.table, omega arith, look_away_at p.table.shared.key _ q.seat.id q.seat.me c.args.other q.live c.requires.going (omega arith))

@@ -7,7 +7,9 @@ use Rattle.daa_pool.proofs.pool.Pool.tour.Goals as goal
 pub loop-other-preserved : goal.loop-other-preserved
 loop-other-preserved c = let e = c.visit.ensures in record {
   pool = e.pool;
-  toured = toured_more (view c.args.seat.now) (view c.loop-other.seat) (view c.visit.new.seat) c.args.first c.loop-other.other (c.loop-other.other + 1) (omega arith) (omega arith) c.loop-other.invariant.toured (c.in_default.ensures).claim;
+  toured = toured_more (view c.args.seat.now)
+      (view c.loop-other.seat) (view c.visit.new.seat) c.args.first c.loop-other.other
+      (c.loop-other.other + 1) (omega arith) (omega arith) c.loop-other.invariant.toured (c.in_default.ensures).claim;
 }
 
 pub returns-clause-claim : goal.returns-clause-claim

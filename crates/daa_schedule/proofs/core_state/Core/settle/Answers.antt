@@ -8,4 +8,7 @@ use Rattle.daa_schedule.proofs.Fields.{settle_closes}
 use Rattle.daa_schedule.proofs.core_state.Core.settle.Goals as goal
 
 pub invariant_of-self : goal.invariant_of-self
-invariant_of-self c = settle_closes (state_of c.self.inside) c.args.by c.args.word _ c.index-hand.result.now _ c.self.invariant (subst (λ (d : CoreState). fault_of d (Settle c.args.by c.args.word) ≡ None) (sym c.self.view_is) c.requires) c.index-hand.ensures (ap (λ (s : RangeState). s.first) c.hand.view_is) c.new.ensures
+invariant_of-self c =
+    settle_closes (state_of c.self.inside) c.args.by c.args.word _ c.index-hand.result.now _ c.self.invariant
+    (subst (λ (d : CoreState). fault_of d (Settle c.args.by c.args.word) ≡ None) (sym c.self.view_is) c.requires)
+    c.index-hand.ensures (ap (λ (s : RangeState). s.first) c.hand.view_is) c.new.ensures

@@ -7,4 +7,7 @@ use Rattle.daa_schedule.proofs.Fields.{steal_closes}
 use Rattle.daa_schedule.proofs.core_state.Core.steal.Goals as goal
 
 pub invariant_of-self : goal.invariant_of-self
-invariant_of-self c = steal_closes (state_of c.self.inside) c.args.by c.args.other c.index-range.result.now _ _ c.self.invariant (subst (λ (d : CoreState). fault_of d (Steal c.args.by c.args.other) ≡ None) (sym c.self.view_is) c.requires) c.index-range.ensures c.lower_half.ensures c.upper_half.ensures
+invariant_of-self c =
+    steal_closes (state_of c.self.inside) c.args.by c.args.other c.index-range.result.now _ _ c.self.invariant
+    (subst (λ (d : CoreState). fault_of d (Steal c.args.by c.args.other) ≡ None) (sym c.self.view_is) c.requires)
+    c.index-range.ensures c.lower_half.ensures c.upper_half.ensures
