@@ -100,7 +100,8 @@ module _ (ms : Members) (tau : get_member (codes "tau") ms ≡ None) (tep : get_
   as_before = record {
     unknown = unknown_as_before (numbers_of ms) ms tau tep;
     missing = refl;
-    other = two_fewer (wrong "dthr") (wrong "zthr") (wrong "tthr") (wrong "tcoa") (wrong "lookahead") (wrong "alert") (wrong "tcpa") (wrong "tau") (wrong "tep") (nothing_wrong _ tau) (nothing_wrong _ tep);
+    other = two_fewer (wrong "dthr") (wrong "zthr") (wrong "tthr") (wrong "tcoa") (wrong "lookahead")
+        (wrong "alert") (wrong "tcpa") (wrong "tau") (wrong "tep") (nothing_wrong _ tau) (nothing_wrong _ tep);
     fit = all_fewer
         (fits (pos 1) (pos 10000) "dthr")
         (fits (pos 0) (pos 10000) "zthr")
@@ -122,7 +123,9 @@ module _ (ms : Members) (tau : get_member (codes "tau") ms ≡ None) (tep : get_
 one_fewer : (a b c d e f g h x : Bool) → x ≡ false → (a || (b || (c || (d || (e || (f || (g || (h || (x || false))))))))) ≡ (a || (b || (c || (d || (e || (f || (g || (h || false))))))))
 one_fewer a b c d e f g h x hx = rw hx refl
 
-all_but_one : (a b c x : Bool) → x ≡ true → (a && (b && (c && (true && (true && (true && (true && (true && (x && true))))))))) ≡ (a && (b && (c && (true && (true && (true && (true && (true && true))))))))
+all_but_one : (a b c x : Bool)
+    → x ≡ true → (a && (b && (c && (true && (true && (true && (true && (true && (x && true)))))))))
+    ≡ (a && (b && (c && (true && (true && (true && (true && (true && true))))))))
 all_but_one a b c x hx = rw hx refl
 
 document_unknown : (n : Numbers) (z : ℤ) (ms : Members) → get_member (codes "last_times") ms ≡ None

@@ -315,7 +315,14 @@ pub levels_pass : (w : Written) → fit (rows_of w) ≡ true → list_all level_
 levels_pass w h = (ranges w h).levels
 
 pub accepted : (w : Written) → fit (rows_of w) ≡ true → (full_turn % nat_abs w.numbers.track_step == 0) ≡ true → levels_are_wrong w.numbers.resolve w.levels ≡ false
-    → has_too_many w.numbers ≡ false → IsAccepted (record { numbers = w.numbers; recovery = option_map cylinder_of w.recovery; nearest = asks_nearest w.recovery; last_times = is_set w.last_times; levels = map level_of w.levels })
+    → has_too_many w.numbers ≡ false
+    → IsAccepted (record {
+      numbers = w.numbers;
+      recovery = option_map cylinder_of w.recovery;
+      nearest = asks_nearest w.recovery;
+      last_times = is_set w.last_times;
+      levels = map level_of w.levels;
+    })
 unfolding levels_are_wrong has_too_many
 accepted w fitting divides counted few =
     let r = ranges w fitting in

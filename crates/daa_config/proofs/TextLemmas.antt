@@ -60,7 +60,13 @@ past false e r y h = (refl, h)
 settled : (w : Written) (s : Settings) → settings_of w ≡ Ok s → IsAccepted s
 unfolding settings_of
 settled w s h =
-    let t : Settings = record { numbers = w.numbers; recovery = option_map cylinder_of w.recovery; nearest = asks_nearest w.recovery; last_times = is_set w.last_times; levels = map level_of w.levels } in
+    let t : Settings = record {
+      numbers = w.numbers;
+      recovery = option_map cylinder_of w.recovery;
+      nearest = asks_nearest w.recovery;
+      last_times = is_set w.last_times;
+      levels = map level_of w.levels;
+    } in
     let fit = list_all (λ row. row.fits) (rows_of w) in
     let divides = full_turn % nat_abs w.numbers.track_step == 0 in
     let ranges = past (not (fit && divides)) OutOfRange _ s h in

@@ -1,6 +1,7 @@
 //! Accepts the numbers of a configuration, or says which fault they have.
 
-ghost use Rattle.std.specs.Prelude.{◌≡◌, ◌-ℤ◌, pos, ◌%◌, ◌==◌, nat_abs, true, false, Ok, Err, OnOk, IfOk, IfErr};
+ghost use Rattle.std.specs.Prelude.{◌≡◌, ◌-ℤ◌, pos, ◌%◌, ◌==◌, nat_abs};
+ghost use Rattle.std.specs.Prelude.{true, false, Ok, Err, OnOk, IfOk, IfErr};
 ghost use Rattle.std.specs.List.{list_all};
 ghost use Rattle.daa_fixed.specs.Size.{IsFrom};
 ghost use Rattle.daa_config.specs.ConfigOf.{rows_of, settings_of};
@@ -21,7 +22,8 @@ use crate::rows::{all_fit, document_rows, grid_rows, level_rows, recovery_rows};
 
 /// Whether the numbers at the top are in their ranges.
 fn top_is_in_range(numbers: &Numbers, last_times: &i64) -> bool
-    ensures { result ≡ list_all (λ row. row.fits) (listed.document_rows numbers.now last_times.now) }
+    ensures { result
+        ≡ list_all (λ row. row.fits) (listed.document_rows numbers.now last_times.now) }
 {
     all_fit(&document_rows(numbers, last_times))
 }

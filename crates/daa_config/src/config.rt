@@ -1,6 +1,7 @@
 //! A configuration that was accepted, and its readers.
 
-ghost use Rattle.std.specs.Prelude.{◌≡◌, ◌<◌, ◌+◌, ◌≤◌, length, slice_get, option_map, Some, pos, ℕ, ◌≤ℤ◌, ◌+ℤ◌, ◌*ℤ◌, All, Contains};
+ghost use Rattle.std.specs.Prelude.{◌≡◌, ◌<◌, ◌+◌, ◌≤◌, length, slice_get, option_map};
+ghost use Rattle.std.specs.Prelude.{Some, pos, ℕ, ◌≤ℤ◌, ◌+ℤ◌, ◌*ℤ◌, All, Contains};
 ghost use Rattle.daa_fixed.specs.Size.{IsFrom};
 ghost use Rattle.daa_config.specs.Inside.Stepped.{IsStepped};
 ghost use Rattle.daa_config.specs.Numbers.{count_of};
@@ -74,8 +75,11 @@ impl Model for Config {
 }
 
 impl Config {
-    ghost use Rattle.daa_config.specs.Settings.{IsAccepted, IsLevelAt, IsLevelInRange, rates_of, AreRatesInRange, IsCandidateInRange, IsInBounds, value_bounds};
-    ghost use Rattle.daa_config.specs.Candidates.{grid_of, values_of, least_of, greatest_of, candidates_of, start_of, IsCandidateOf};
+    ghost use Rattle.daa_config.specs.Settings.{IsAccepted, IsLevelAt, IsLevelInRange};
+    ghost use Rattle.daa_config.specs.Settings.{rates_of, AreRatesInRange};
+    ghost use Rattle.daa_config.specs.Settings.{IsCandidateInRange, IsInBounds, value_bounds};
+    ghost use Rattle.daa_config.specs.Candidates.{grid_of, values_of, least_of, greatest_of};
+    ghost use Rattle.daa_config.specs.Candidates.{candidates_of, start_of, IsCandidateOf};
 
     /// A configuration of these numbers.
     pub(crate) fn new(
@@ -127,7 +131,8 @@ impl Config {
         self.nearest
     }
 
-    /// Whether the last times are asked for at which a manoeuvre of each kind may begin.
+    /// Whether last times are asked for: where the present flight is not open, for how many seconds
+    /// it may be kept until a manoeuvre of each kind comes too late.
     pub fn last_times(&self) -> bool
         ensures value { result ≡ self.now.last_times }
         ensures accepted { IsAccepted self.now }

@@ -5,8 +5,10 @@ ghost use Rattle.std.specs.List.{filter_map};
 ghost use Rattle.toml.specs.Data.{get_member, as_table};
 ghost use Rattle.toml.specs.View.{table_view, view, array_view, items_view};
 ghost use Rattle.daa_config.specs.Rows.{list_of};
-ghost use Rattle.daa_config.specs.Document.{levels_in, number_in, grid_by, grid_in, level_by, recovery_by, numbers_by, table_in};
-ghost use Rattle.daa_config.specs.Inside.Rows.{table_at as found_at, list_at as items_at, number_at, grid_at as numbers_at};
+ghost use Rattle.daa_config.specs.Document.{levels_in, number_in, grid_by, grid_in};
+ghost use Rattle.daa_config.specs.Document.{level_by, recovery_by, numbers_by, table_in};
+ghost use Rattle.daa_config.specs.Inside.Rows.{table_at as found_at, list_at as items_at};
+ghost use Rattle.daa_config.specs.Inside.Rows.{number_at, grid_at as numbers_at};
 
 use crate::numbers::{Grid, LevelNumbers, Numbers, RecoveryNumbers};
 use std::alloc::{AllocError, Global};

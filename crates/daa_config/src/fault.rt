@@ -26,8 +26,8 @@ pub enum ConfigFault {
     /// list of tables.
     #[error("fault 5: a value is no whole number, or no table")]
     NotNumber,
-    /// A number is outside its range, `min` is above `max`, `track_step` does not divide 360, or two
-    /// of the keys `tau`, `tcpa` and `tep` of a level are 1.
+    /// A number is outside its range, `min` is above `max`, `track_step` does not divide 360, or
+    /// two of the keys `tau`, `tcpa` and `tep` of a level are 1.
     #[error("fault 6: a number is out of its range")]
     OutOfRange,
     /// There is no level, there are more than four, or `resolve` is above their number.

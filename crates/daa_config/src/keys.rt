@@ -9,7 +9,8 @@ ghost use Rattle.toml.specs.View.{table_view, items_view};
 ghost use Rattle.daa_fixed.specs.Size.{IsFrom};
 ghost use Rattle.daa_config.specs.Rows.{has_other_key, lacks_key, holds_other, list_of};
 ghost use Rattle.daa_config.specs.Rows as listed;
-ghost use Rattle.daa_config.specs.Document.{number_in, grid_in, numbers_by, grid_by, recovery_by, level_by, table_in, levels_in, any_table};
+ghost use Rattle.daa_config.specs.Document.{number_in, grid_in, numbers_by, grid_by, recovery_by};
+ghost use Rattle.daa_config.specs.Document.{level_by, table_in, levels_in, any_table};
 ghost use Rattle.daa_config.specs.Inside.Rows.{row_by, differs_by, table_at as found_at, any_item};
 
 use crate::document::{

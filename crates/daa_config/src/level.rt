@@ -4,7 +4,8 @@ ghost use Rattle.std.specs.Prelude.{◌≡◌, ◌≤◌, ◌*◌, ℕ, pos, nat
 ghost use Rattle.std.specs.List.{list_all};
 ghost use Rattle.daa_fixed.specs.Size.{IsFrom};
 ghost use Rattle.daa_config.specs.Inside.Rows.{level_fits, recovery_fits};
-ghost use Rattle.daa_config.specs.Level.{level_of, cylinder_of, model_of, is_set, asks_one, asks_nearest};
+ghost use Rattle.daa_config.specs.Level.{level_of, cylinder_of, model_of};
+ghost use Rattle.daa_config.specs.Level.{is_set, asks_one, asks_nearest};
 
 use crate::limits::MOST_LEVELS;
 use crate::numbers::{LevelNumbers, RecoveryNumbers};

@@ -24,9 +24,9 @@ pub struct Grid {
     pub rate: i64,
 }
 
-/// The numbers that each configuration has, those of its levels apart: the least level that closes a candidate
-/// which is covered at it, degrees per second, degrees, and the grids in 0.1 kt, ft/min and ft. C
-/// lays it out alike.
+/// The numbers that each configuration has, those of its levels apart: the least level that closes
+/// a candidate which is covered at it, degrees per second, degrees, and the grids in 0.1 kt, ft/min
+/// and ft. C lays it out alike.
 #[repr(C)]
 #[derive(Clone, Copy, Debug, PartialEq, Eq)]
 pub struct Numbers {
@@ -67,8 +67,8 @@ pub struct LevelNumbers {
 }
 
 /// The cylinder that a recovery stays out of, as the text has it: 0.001 NM and ft; and which of the
-/// values that recover soonest is named: the nearest to the present one at 1, the least at 0. C lays
-/// it out alike.
+/// values that recover soonest is named: the nearest to the present one at 1, the least at 0. C
+/// lays it out alike.
 #[repr(C)]
 #[derive(Clone, Copy, Debug, PartialEq, Eq)]
 pub struct RecoveryNumbers {
@@ -85,7 +85,7 @@ pub struct RecoveryNumbers {
 pub struct ConfigNumbers {
     pub numbers: Numbers,
     pub recovery: Option<RecoveryNumbers>,
-    /// 0 or 1: last times are asked for.
+    /// At 1 last times are asked for, at 0 none.
     pub last_times: i64,
     pub levels: ArrayVec<LevelNumbers, MOST_LEVELS>,
 }

@@ -20,7 +20,9 @@ begun_within x s v w g u k n d r d1 n0 nd k0 gu hs hv hw later =
     ((D ⊗ R ⊖ (D ⊗ (X ⊕ S ⊖ K ⊗ W) ⊕ N ⊗ (V ⊖ W))) ⊕ D ⊗ (S ⊖ ⊝ (K ⊗ G)) ⊕ D ⊗ (K ⊗ (U ⊖ W)) ⊕ N ⊗ (V ⊖ ⊝ G) ⊕ N ⊗ (U ⊖ W) ⊕ (D ⊖ N) ⊗ (G ⊕ U))
     (D ⊗ (R ⊕ (K ⊕ lit (pos 1)) ⊗ (G ⊕ U) ⊖ X))
     tt)
-    (six_nonneg _ _ _ _ _ _ (rest _ _ later) (mul_nonneg d _ d0 (rest _ _ hs)) (mul_nonneg d _ d0 (mul_nonneg k _ k0 (rest _ _ hw))) (mul_nonneg n _ n0 (rest _ _ hv)) (mul_nonneg n _ n0 (rest _ _ hw)) (mul_nonneg (d -ℤ n) _ (rest _ _ nd) gu))))
+    (six_nonneg _ _ _ _ _ _
+    (rest _ _ later) (mul_nonneg d _ d0 (rest _ _ hs)) (mul_nonneg d _ d0 (mul_nonneg k _ k0 (rest _ _ hw)))
+    (mul_nonneg n _ n0 (rest _ _ hv)) (mul_nonneg n _ n0 (rest _ _ hw)) (mul_nonneg (d -ℤ n) _ (rest _ _ nd) gu))))
 
 -- what comes near within a time is not far: x is the square of the distance, a the near distance, b the way until then
 pub not_far : (a b x z : ℤ) → pos 0 ≤ℤ a → pos 0 ≤ℤ b → pos 0 ≤ℤ z → (x -ℤ a *ℤ a) ≤ℤ z → (z *ℤ z) ≤ℤ (b *ℤ b *ℤ x) → x ≤ℤ ((a +ℤ b) *ℤ (a +ℤ b))
@@ -58,7 +60,9 @@ not_far a b x z a0 b0 z0 soon slow = by_lt_z ((a +ℤ b) *ℤ (a +ℤ b)) x
         let A = # 0 in let B = # 1 in let X = # 2 in
         ring (a ∷ b ∷ x ∷ []) ((X ⊖ (A ⊕ B) ⊗ (A ⊕ B)) ⊕ (lit (pos 2) ⊗ (A ⊗ B) ⊕ B ⊗ B)) (X ⊖ A ⊗ A) tt
 
-    gap : (a b x : ℤ) → (x -ℤ a *ℤ a) *ℤ (x -ℤ a *ℤ a) -ℤ b *ℤ b *ℤ x ≡ b *ℤ b *ℤ (pos 3 *ℤ (a *ℤ a) +ℤ pos 2 *ℤ (a *ℤ b)) +ℤ (x -ℤ (a +ℤ b) *ℤ (a +ℤ b)) *ℤ (pos 4 *ℤ (a *ℤ b) +ℤ b *ℤ b) +ℤ (x -ℤ (a +ℤ b) *ℤ (a +ℤ b)) *ℤ (x -ℤ (a +ℤ b) *ℤ (a +ℤ b))
+    gap : (a b x : ℤ) → (x -ℤ a *ℤ a) *ℤ (x -ℤ a *ℤ a) -ℤ b *ℤ b *ℤ x
+        ≡ b *ℤ b *ℤ (pos 3 *ℤ (a *ℤ a) +ℤ pos 2 *ℤ (a *ℤ b)) +ℤ (x -ℤ (a +ℤ b) *ℤ (a +ℤ b)) *ℤ
+        (pos 4 *ℤ (a *ℤ b) +ℤ b *ℤ b) +ℤ (x -ℤ (a +ℤ b) *ℤ (a +ℤ b)) *ℤ (x -ℤ (a +ℤ b) *ℤ (a +ℤ b))
     gap a b x =
         let A = # 0 in let B = # 1 in let X = # 2 in
         let W = X ⊖ (A ⊕ B) ⊗ (A ⊕ B) in
@@ -73,7 +77,8 @@ pub apart_within : (a b c d p q : ℤ) → pos 0 ≤ℤ p → pos 0 ≤ℤ q →
 apart_within a b c d p q p0 q0 h k =
     let A = # 0 in let B = # 1 in let C = # 2 in let D = # 3 in let P = # 4 in let Q = # 5 in
     let both : ((a *ℤ a +ℤ b *ℤ b) *ℤ (c *ℤ c +ℤ d *ℤ d)) ≤ℤ ((p *ℤ p) *ℤ (q *ℤ q)) =
-    mul_le_mul (a *ℤ a +ℤ b *ℤ b) (c *ℤ c +ℤ d *ℤ d) (p *ℤ p) (q *ℤ q) (sum_nonneg _ _ (square_nonneg a) (square_nonneg b)) (square_nonneg q) h k (sum_nonneg _ _ (square_nonneg c) (square_nonneg d)) in
+    mul_le_mul (a *ℤ a +ℤ b *ℤ b) (c *ℤ c +ℤ d *ℤ d) (p *ℤ p) (q *ℤ q) (sum_nonneg _ _ (square_nonneg a)
+    (square_nonneg b)) (square_nonneg q) h k (sum_nonneg _ _ (square_nonneg c) (square_nonneg d)) in
     let inner : (neg_ℤ (a *ℤ c +ℤ b *ℤ d) *ℤ neg_ℤ (a *ℤ c +ℤ b *ℤ d)) ≤ℤ ((p *ℤ q) *ℤ (p *ℤ q)) =
     by_rest _ _ _
     (ring (a ∷ b ∷ c ∷ d ∷ p ∷ q ∷ []) ((P ⊗ Q) ⊗ (P ⊗ Q) ⊖ ⊝ (A ⊗ C ⊕ B ⊗ D) ⊗ ⊝ (A ⊗ C ⊕ B ⊗ D)) (((P ⊗ P) ⊗ (Q ⊗ Q) ⊖ (A ⊗ A ⊕ B ⊗ B) ⊗ (C ⊗ C ⊕ D ⊗ D)) ⊕ (A ⊗ D ⊖ B ⊗ C) ⊗ (A ⊗ D ⊖ B ⊗ C)) tt)

@@ -82,4 +82,6 @@ root_within x y h k = by_lt_z y x (λ l. absurd (clash (x *ℤ x) (y *ℤ y) k (
 
 -- a product grows with its factors
 pub mul_le_mul : (x y z w : ℤ) → pos 0 ≤ℤ x → pos 0 ≤ℤ w → x ≤ℤ z → y ≤ℤ w → pos 0 ≤ℤ y → (x *ℤ y) ≤ℤ (z *ℤ w)
-mul_le_mul x y z w x0 w0 h k y0 = le_trans_ℤ (x *ℤ y) (z *ℤ y) (z *ℤ w) (mul_le x z y y0 h) (subst (λ (v : ℤ). v ≤ℤ (z *ℤ w)) (*ℤ_comm y z) (subst (λ (v : ℤ). (y *ℤ z) ≤ℤ v) (*ℤ_comm w z) (mul_le y w z (omega (arith, ints)) k)))
+mul_le_mul x y z w x0 w0 h k y0 =
+    le_trans_ℤ (x *ℤ y) (z *ℤ y) (z *ℤ w) (mul_le x z y y0 h) (subst (λ (v : ℤ). v ≤ℤ (z *ℤ w)) (*ℤ_comm y z)
+    (subst (λ (v : ℤ). (y *ℤ z) ≤ℤ v) (*ℤ_comm w z) (mul_le y w z (omega (arith, ints)) k)))

@@ -12,7 +12,8 @@ pub fn before(p: &Point, q: &Point) -> bool
     (p.num as i128) * (q.den as i128) < (q.num as i128) * (p.den as i128)
 }
 
-/// The greater of the two as fractions, and the first if they are equal.
+/// The greater of the two as fractions, and the first if they are equal. A call for other programs:
+/// `daidalus` does not make it.
 pub fn later(p: &Point, q: &Point) -> Point
     ensures second { IsBefore p.now q.now → result ≡ q.now }
     ensures first { IsInOrder q.now p.now → result ≡ p.now }
@@ -20,7 +21,8 @@ pub fn later(p: &Point, q: &Point) -> Point
     if before(p, q) { *q } else { *p }
 }
 
-/// The lesser of the two as fractions, and the first if they are equal.
+/// The lesser of the two as fractions, and the first if they are equal. A call for other programs:
+/// `daidalus` does not make it.
 pub fn earlier(p: &Point, q: &Point) -> Point
     ensures second { IsBefore q.now p.now → result ≡ q.now }
     ensures first { IsInOrder p.now q.now → result ≡ p.now }

@@ -159,7 +159,8 @@ module _ (leg : Leg) (volume : Volume) (n d : ℤ) where
     tau_closest soon = closest_from_tau (dot_of v v) (cross_of s v) (dot_of s s) (dot_of s v) (pos volume.tthr *ℤ d) (nearing_moves s v nearing) nearing (lagrange s v) soon
 
     pub closest_modified : IsSoon Tcpa leg volume n d → IsSoon Taumod leg volume n d
-    closest_modified soon = tau_from_closest (dot_of v v) (cross_of s v) (dot_of s s) (dot_of s v) (pos volume.dthr *ℤ d) (pos volume.tthr *ℤ d) (nearing_moves s v nearing) nearing (lagrange s v) near soon
+    closest_modified soon = tau_from_closest (dot_of v v) (cross_of s v) (dot_of s s) (dot_of s v)
+        (pos volume.dthr *ℤ d) (pos volume.tthr *ℤ d) (nearing_moves s v nearing) nearing (lagrange s v) near soon
 
     pub modified_entry : IsSoon Taumod leg volume n d → IsSoon Tep leg volume n d
     modified_entry soon = by_lt_z (dot_of (place_at leg later d) v) (pos 0)
@@ -196,7 +197,9 @@ module _ (leg : Leg) (volume : Volume) (n d : ℤ) where
     closest_or_near model soon = entry_is.0 (soon_by_entry model soon)
 
 -- ---- the law of the models
-horizontal_by_model : (inner outer : Model) (leg : Leg) (volume : Volume) (n d : ℤ) → place_of inner ≤ place_of outer → pos 1 ≤ℤ d → ViolatesHorizontally leg (with_model inner volume) n d → ViolatesHorizontally leg (with_model outer volume) n d
+horizontal_by_model : (inner outer : Model) (leg : Leg) (volume : Volume) (n d : ℤ)
+    → place_of inner ≤ place_of outer → pos 1 ≤ℤ d
+    → ViolatesHorizontally leg (with_model inner volume) n d → ViolatesHorizontally leg (with_model outer volume) n d
 horizontal_by_model inner outer leg volume n d order d1 (inl h) = inl h
 horizontal_by_model inner outer leg volume n d order d1 (inr h) =
     inr (record { nearing = h.nearing; soon = soon outer (soon_by leg volume n d d1 h.nearing h.near inner outer order (own inner h.soon)); near = h.near })
@@ -219,7 +222,8 @@ vertical_by_model inner outer leg volume n d (inl h) = inl h
 vertical_by_model inner outer leg volume n d (inr h) = inr (record { nearing = h.nearing; soon = h.soon })
 
 -- what violates by one model violates by each later one
-pub violates_by_model : (inner outer : Model) (leg : Leg) (volume : Volume) (n d : ℤ) → place_of inner ≤ place_of outer → pos 1 ≤ℤ d → Violates leg (with_model inner volume) n d → Violates leg (with_model outer volume) n d
+pub violates_by_model : (inner outer : Model) (leg : Leg) (volume : Volume) (n d : ℤ) → place_of inner ≤ place_of outer
+    → pos 1 ≤ℤ d → Violates leg (with_model inner volume) n d → Violates leg (with_model outer volume) n d
 violates_by_model inner outer leg volume n d order d1 h = record {
   horizontal = horizontal_by_model inner outer leg volume n d order d1 h.horizontal;
   vertical = vertical_by_model inner outer leg volume n d h.vertical;

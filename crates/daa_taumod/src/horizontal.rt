@@ -1,9 +1,10 @@
 //! The horizontal part of the volume: one function for each clause of its definition.
 
-ghost use Rattle.std.specs.Prelude.{◌↔◌, ◌+ℤ◌, ◌*ℤ◌, ◌≤ℤ◌, ◌<ℤ◌, IsTrue, ℤ, pos};
+ghost use Rattle.std.specs.Prelude.{◌≡◌, ◌↔◌, ◌+ℤ◌, ◌*ℤ◌, ◌≤ℤ◌, ◌<ℤ◌, IsTrue, ℤ, pos};
 ghost use Rattle.daa_fixed.specs.Flat.{dot_of};
 ghost use Rattle.daa_fixed.specs.Leg.{IsLegInRange};
-ghost use Rattle.daa_taumod.specs.Volume.{IsVolumeInRange, ViolatesHorizontally, IsNear, IsClosing, IsSoon, PassesNear, place_at};
+ghost use Rattle.daa_taumod.specs.Volume.{IsVolumeInRange, ViolatesHorizontally, IsNear};
+ghost use Rattle.daa_taumod.specs.Volume.{IsClosing, IsSoon, PassesNear, place_at};
 
 use crate::place::{place_later, place_then};
 use crate::threshold::{scaled_square, scaled_threshold};
@@ -61,14 +62,26 @@ fn is_soon(leg: &Leg, volume: &Volume, point: &Point) -> bool
     }
 }
 
+/// `s.s + tthr (s.v)` at a time, times the square of the time's denominator. Where the distance
+/// falls, tau is at most `tthr` if this is at most 0, and modified tau if it is at most `dthr^2`.
+fn tau_sum(leg: &Leg, volume: &Volume, point: &Point) -> i128
+    requires leg { IsLegInRange leg.now }
+    requires volume { IsVolumeInRange volume.now }
+    ensures { let place = place_at leg.now point.now.num point.now.den in
+        result ≡ dot_of place place
+        +ℤ pos volume.now.tthr *ℤ point.now.den *ℤ dot_of place leg.now.velocity.flat }
+{
+    let place = place_then(leg, point);
+    square(&place) + scaled_threshold(volume.tthr, point) * dot(&place, &leg.velocity.flat)
+}
+
 /// Whether tau is at most `tthr`.
 fn is_tau_soon(leg: &Leg, volume: &Volume, point: &Point) -> bool
     requires leg { IsLegInRange leg.now }
     requires volume { IsVolumeInRange volume.now }
     ensures { IsTrue result ↔ IsSoon Model.Tau leg.now volume.now point.now.num point.now.den }
 {
-    let place = place_then(leg, point);
-    square(&place) + scaled_threshold(volume.tthr, point) * dot(&place, &leg.velocity.flat) <= 0
+    tau_sum(leg, volume, point) <= 0
 }
 
 /// Whether the time to the closest approach is at most `tthr`.
@@ -88,9 +101,7 @@ fn is_modified_tau_soon(leg: &Leg, volume: &Volume, point: &Point) -> bool
     requires volume { IsVolumeInRange volume.now }
     ensures { IsTrue result ↔ IsSoon Model.Taumod leg.now volume.now point.now.num point.now.den }
 {
-    let place = place_then(leg, point);
-    square(&place) + scaled_threshold(volume.tthr, point) * dot(&place, &leg.velocity.flat)
-        <= scaled_square(volume.dthr, point)
+    tau_sum(leg, volume, point) <= scaled_square(volume.dthr, point)
 }
 
 /// Whether the time until the distance is `dthr` is at most `tthr`: `tthr` seconds later the

@@ -53,7 +53,7 @@ fn scaled_position(begin: i64, speed: i64, point: &Point) -> i64
     point.den * begin + point.num * speed
 }
 
-/// The same `secs` seconds later.
+/// What begins at `begin` and moves at `speed`, `secs` seconds after the time.
 fn later_position(begin: i64, speed: i64, secs: u32, point: &Point) -> i64
     requires begin { IsWithin 40000000 begin }
     requires speed { IsWithin 40000 speed }

@@ -2,7 +2,8 @@
 
 ghost use Rattle.std.specs.Prelude.{◌↔◌, ◌≤ℤ◌, ◌<ℤ◌, ◌*ℤ◌, IsTrue, pos, unsigned_abs};
 ghost use Rattle.daa_fixed.specs.Leg.{IsLegInRange};
-ghost use Rattle.daa_taumod.specs.Volume.{IsVolumeInRange, ViolatesVertically, IsNearInHeight, IsCoAltitudeSoon, height_at};
+ghost use Rattle.daa_taumod.specs.Volume.{IsVolumeInRange, ViolatesVertically};
+ghost use Rattle.daa_taumod.specs.Volume.{IsNearInHeight, IsCoAltitudeSoon, height_at};
 
 use crate::Volume;
 use crate::place::height_then;

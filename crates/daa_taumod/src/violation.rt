@@ -24,7 +24,8 @@ pub fn violates(leg: &Leg, volume: &Volume, point: &Point) -> bool
 
 /// A law of the models: a violation by one of them is a violation by each later one, with equal
 /// thresholds, in the order tau, time to the closest approach, modified tau, time to the entry
-/// point (the inclusion theorem of the source).
+/// point. It is the theorem of inclusion of Munoz and others, A Family of Well-Clear Boundary
+/// Models.
 pub fn models_are_nested()
     ensures { (inner outer : Model) (leg : Leg) (volume : Volume) (n d : ℤ) →
         place_of inner ≤ place_of outer → pos 1 ≤ℤ d →

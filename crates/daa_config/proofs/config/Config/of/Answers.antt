@@ -24,11 +24,37 @@ new-requires c =
     let n = c.args.numbers.now in
     let w : Written = record { numbers = n; recovery = c.args.recovery.now; last_times = c.args.last_times.now; levels = c.args.levels.now } in
     let e = c.in_ok-test.ensures in
-    subst (λ (recovery : Option Volume). IsAccepted (record { numbers = n; recovery = recovery; nearest = c.names_nearest-nearest.result; last_times = c.asks_last-last_times.result; levels = c.all_in_units-levels.result.items }))
+    subst (λ (recovery : Option Volume). IsAccepted
+    (record {
+      numbers = n;
+      recovery = recovery;
+      nearest = c.names_nearest-nearest.result;
+      last_times = c.asks_last-last_times.result;
+      levels = c.all_in_units-levels.result.items;
+    }))
     (sym c.cylinder_in_units-recovery.ensures)
-    (subst (λ (nearest : Bool). IsAccepted (record { numbers = n; recovery = option_map cylinder_of c.args.recovery.now; nearest = nearest; last_times = c.asks_last-last_times.result; levels = c.all_in_units-levels.result.items }))
+    (subst (λ (nearest : Bool). IsAccepted (record {
+      numbers = n;
+      recovery = option_map cylinder_of c.args.recovery.now;
+      nearest = nearest;
+      last_times = c.asks_last-last_times.result;
+      levels = c.all_in_units-levels.result.items;
+    }))
     (sym c.names_nearest-nearest.ensures)
-    (subst (λ (last : Bool). IsAccepted (record { numbers = n; recovery = option_map cylinder_of c.args.recovery.now; nearest = asks_nearest c.args.recovery.now; last_times = last; levels = c.all_in_units-levels.result.items }))
+    (subst (λ (last : Bool). IsAccepted (record {
+      numbers = n;
+      recovery = option_map cylinder_of c.args.recovery.now;
+      nearest = asks_nearest c.args.recovery.now;
+      last_times = last;
+      levels = c.all_in_units-levels.result.items;
+    }))
     (sym c.asks_last-last_times.ensures)
-    (subst (λ (levels : List Level). IsAccepted (record { numbers = n; recovery = option_map cylinder_of c.args.recovery.now; nearest = asks_nearest c.args.recovery.now; last_times = is_set c.args.last_times.now; levels = levels }))
+    (subst (λ (levels : List Level). IsAccepted
+    (record {
+      numbers = n;
+      recovery = option_map cylinder_of c.args.recovery.now;
+      nearest = asks_nearest c.args.recovery.now;
+      last_times = is_set c.args.last_times.now;
+      levels = levels;
+    }))
     (sym c.all_in_units-levels.ensures) (accepted w e.fit e.divides e.counted e.few))))
