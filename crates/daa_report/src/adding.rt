@@ -3,16 +3,17 @@
 ghost use Rattle.std.specs.Prelude.{◌≡◌, ◌≤◌, ◌+◌, ◌*◌, ◌++◌, length, codes, decimal};
 ghost use Rattle.std.specs.Fmt.{signed_decimal};
 ghost use Rattle.arrayvec.specs.ArrayVec.{array_vec_len};
-ghost use Rattle.daa_report.specs.Lines.{first_text, resolution_text, found_text, seconds_text, number_field};
+ghost use Rattle.daa_report.specs.Lines.{first_text, resolution_text};
+ghost use Rattle.daa_report.specs.Lines.{found_text, seconds_text, number_field};
 ghost use Rattle.std.specs.List.{flat_map};
 
-use crate::line::MOST_BYTES;
+use crate::line::LONGEST_LINE;
 use arrayvec::ArrayVec;
 use daa_config::Resolution;
 use itoa::Buffer;
 
 /// Adds bytes at the end.
-pub(crate) fn add_bytes(line: &mut ArrayVec<u8, MOST_BYTES>, bytes: &[u8])
+pub(crate) fn add_bytes(line: &mut ArrayVec<u8, LONGEST_LINE>, bytes: &[u8])
     requires { array_vec_len line.old + length bytes.now ≤ 64 }
     ensures items { line.new.items ≡ line.old.items ++ bytes.now }
     ensures len { array_vec_len line.new ≡ array_vec_len line.old + length bytes.now }
@@ -21,7 +22,7 @@ pub(crate) fn add_bytes(line: &mut ArrayVec<u8, MOST_BYTES>, bytes: &[u8])
 }
 
 /// Adds a text at the end.
-pub(crate) fn add(line: &mut ArrayVec<u8, MOST_BYTES>, text: &str)
+pub(crate) fn add(line: &mut ArrayVec<u8, LONGEST_LINE>, text: &str)
     requires { array_vec_len line.old + length text.now ≤ 64 }
     ensures items { line.new.items ≡ line.old.items ++ text.now }
     ensures len { array_vec_len line.new ≡ array_vec_len line.old + length text.now }
@@ -30,7 +31,7 @@ pub(crate) fn add(line: &mut ArrayVec<u8, MOST_BYTES>, text: &str)
 }
 
 /// Adds a number at the end, in decimal digits.
-pub(crate) fn add_number(line: &mut ArrayVec<u8, MOST_BYTES>, number: u64)
+pub(crate) fn add_number(line: &mut ArrayVec<u8, LONGEST_LINE>, number: u64)
     requires { array_vec_len line.old + 20 ≤ 64 }
     ensures items { line.new.items ≡ line.old.items ++ decimal number }
     ensures len { array_vec_len line.new ≤ array_vec_len line.old + 20 }
@@ -40,7 +41,7 @@ pub(crate) fn add_number(line: &mut ArrayVec<u8, MOST_BYTES>, number: u64)
 }
 
 /// Adds a number at the end, in decimal digits, with a sign where it is negative.
-pub(crate) fn add_signed(line: &mut ArrayVec<u8, MOST_BYTES>, number: &i32)
+pub(crate) fn add_signed(line: &mut ArrayVec<u8, LONGEST_LINE>, number: &i32)
     requires { array_vec_len line.old + 11 ≤ 64 }
     ensures items { line.new.items ≡ line.old.items ++ signed_decimal number.now }
     ensures len { array_vec_len line.new ≤ array_vec_len line.old + 11 }
@@ -50,7 +51,7 @@ pub(crate) fn add_signed(line: &mut ArrayVec<u8, MOST_BYTES>, number: &i32)
 }
 
 /// Adds the number of a leg, or a dash.
-pub(crate) fn add_first(line: &mut ArrayVec<u8, MOST_BYTES>, first: Option<u32>)
+pub(crate) fn add_first(line: &mut ArrayVec<u8, LONGEST_LINE>, first: Option<u32>)
     requires { array_vec_len line.old + 20 ≤ 64 }
     ensures items { line.new.items ≡ line.old.items ++ first_text first }
     ensures len { array_vec_len line.new ≤ array_vec_len line.old + 20 }
@@ -62,7 +63,7 @@ pub(crate) fn add_first(line: &mut ArrayVec<u8, MOST_BYTES>, first: Option<u32>)
 }
 
 /// Adds what is answered on a side.
-pub(crate) fn add_resolution(line: &mut ArrayVec<u8, MOST_BYTES>, resolution: &Resolution)
+pub(crate) fn add_resolution(line: &mut ArrayVec<u8, LONGEST_LINE>, resolution: &Resolution)
     requires { array_vec_len line.old + 11 ≤ 64 }
     ensures items { line.new.items ≡ line.old.items ++ resolution_text resolution.now }
     ensures len { array_vec_len line.new ≤ array_vec_len line.old + 11 }
@@ -75,7 +76,7 @@ pub(crate) fn add_resolution(line: &mut ArrayVec<u8, MOST_BYTES>, resolution: &R
 }
 
 /// Adds a blank and a text.
-pub(crate) fn add_field(line: &mut ArrayVec<u8, MOST_BYTES>, text: &str)
+pub(crate) fn add_field(line: &mut ArrayVec<u8, LONGEST_LINE>, text: &str)
     requires { array_vec_len line.old + length text.now + 1 ≤ 64 }
     ensures items { line.new.items ≡ line.old.items ++ codes " " ++ text.now }
     ensures len { array_vec_len line.new ≡ array_vec_len line.old + length text.now + 1 }
@@ -85,7 +86,7 @@ pub(crate) fn add_field(line: &mut ArrayVec<u8, MOST_BYTES>, text: &str)
 }
 
 /// Adds a blank and a number with its sign.
-pub(crate) fn add_signed_field(line: &mut ArrayVec<u8, MOST_BYTES>, number: &i32)
+pub(crate) fn add_signed_field(line: &mut ArrayVec<u8, LONGEST_LINE>, number: &i32)
     requires { array_vec_len line.old + 12 ≤ 64 }
     ensures items { line.new.items ≡ line.old.items ++ codes " " ++ signed_decimal number.now }
     ensures len { array_vec_len line.new ≤ array_vec_len line.old + 12 }
@@ -95,7 +96,7 @@ pub(crate) fn add_signed_field(line: &mut ArrayVec<u8, MOST_BYTES>, number: &i32
 }
 
 /// Adds a blank and what is answered on a side.
-pub(crate) fn add_resolution_field(line: &mut ArrayVec<u8, MOST_BYTES>, resolution: &Resolution)
+pub(crate) fn add_resolution_field(line: &mut ArrayVec<u8, LONGEST_LINE>, resolution: &Resolution)
     requires { array_vec_len line.old + 12 ≤ 64 }
     ensures items { line.new.items ≡ line.old.items ++ codes " " ++ resolution_text resolution.now }
     ensures len { array_vec_len line.new ≤ array_vec_len line.old + 12 }
@@ -105,7 +106,7 @@ pub(crate) fn add_resolution_field(line: &mut ArrayVec<u8, MOST_BYTES>, resoluti
 }
 
 /// Adds a blank and a number of at most ten digits.
-pub(crate) fn add_number_field(line: &mut ArrayVec<u8, MOST_BYTES>, number: u32)
+pub(crate) fn add_number_field(line: &mut ArrayVec<u8, LONGEST_LINE>, number: u32)
     requires { array_vec_len line.old + 11 ≤ 64 }
     ensures items { line.new.items ≡ line.old.items ++ number_field number }
     ensures len { array_vec_len line.new ≤ array_vec_len line.old + 11 }
@@ -116,7 +117,7 @@ pub(crate) fn add_number_field(line: &mut ArrayVec<u8, MOST_BYTES>, number: u32)
 }
 
 /// Adds a blank and each of the numbers.
-pub(crate) fn add_number_fields(line: &mut ArrayVec<u8, MOST_BYTES>, numbers: &[u32])
+pub(crate) fn add_number_fields(line: &mut ArrayVec<u8, LONGEST_LINE>, numbers: &[u32])
     requires { array_vec_len line.old + 11 * length numbers.now ≤ 64 }
     ensures items { line.new.items ≡ line.old.items ++ flat_map number_field numbers.now }
     ensures len { array_vec_len line.new ≤ array_vec_len line.old + 11 * length numbers.now }
@@ -127,7 +128,7 @@ pub(crate) fn add_number_fields(line: &mut ArrayVec<u8, MOST_BYTES>, numbers: &[
 }
 
 /// Adds a number of seconds, or that there are none.
-pub(crate) fn add_seconds(line: &mut ArrayVec<u8, MOST_BYTES>, seconds: &Option<u32>)
+pub(crate) fn add_seconds(line: &mut ArrayVec<u8, LONGEST_LINE>, seconds: &Option<u32>)
     requires { array_vec_len line.old + 11 ≤ 64 }
     ensures items { line.new.items ≡ line.old.items ++ seconds_text seconds.now }
     ensures len { array_vec_len line.new ≤ array_vec_len line.old + 11 }
@@ -139,7 +140,7 @@ pub(crate) fn add_seconds(line: &mut ArrayVec<u8, MOST_BYTES>, seconds: &Option<
 }
 
 /// Adds a number of seconds and a value, or that there are none.
-pub(crate) fn add_found(line: &mut ArrayVec<u8, MOST_BYTES>, found: &Option<(u32, i32)>)
+pub(crate) fn add_found(line: &mut ArrayVec<u8, LONGEST_LINE>, found: &Option<(u32, i32)>)
     requires { array_vec_len line.old + 23 ≤ 64 }
     ensures items { line.new.items ≡ line.old.items ++ found_text found.now }
     ensures len { array_vec_len line.new ≤ array_vec_len line.old + 23 }

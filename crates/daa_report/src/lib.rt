@@ -11,8 +11,8 @@ pub use kind_words::kind_word;
 pub use line::Line;
 pub use page::Page;
 pub use writers::{
-    SinkFault, alert, band, config, differs, done, last, moment, now, put, recover, refused,
-    resolve, same,
+    SinkFault, put, write_alert, write_band, write_config, write_differs, write_done, write_last,
+    write_moment, write_now, write_recover, write_refused, write_resolve, write_same,
 };
 
 #[cfg(test)]

@@ -1,7 +1,9 @@
 //! The lines of a report, as values.
 
 ghost use Rattle.std.specs.Prelude.{◌≡◌, ◌≤◌, ◌+◌, ◌*◌, length};
-ghost use Rattle.daa_report.specs.Lines.{alert_line, band_line, config_line, differs_line, done_line, last_line, moment_line, now_line, numbers_line, recover_line, refused_line, resolve_line, same_line};
+ghost use Rattle.daa_report.specs.Lines.{alert_line, band_line, config_line, differs_line};
+ghost use Rattle.daa_report.specs.Lines.{done_line, last_line, moment_line, now_line, numbers_line};
+ghost use Rattle.daa_report.specs.Lines.{recover_line, refused_line, resolve_line, same_line};
 
 use crate::adding::{
     add, add_bytes, add_field, add_first, add_found, add_number, add_number_fields,
@@ -21,13 +23,13 @@ fn bytes_of(id: &Id) -> &[u8]
     id.bytes()
 }
 
-/// The most bytes of a line.
-pub(crate) const MOST_BYTES: usize = 64;
+/// The most bytes of a line of a report.
+pub(crate) const LONGEST_LINE: usize = 64;
 
 /// A line of at most 64 bytes.
 #[derive(Drop)]
 pub struct Line {
-    bytes: ArrayVec<u8, MOST_BYTES>,
+    bytes: ArrayVec<u8, LONGEST_LINE>,
 }
 
 impl Model for Line {
@@ -53,7 +55,7 @@ impl Line {
         ensures text { result ≡ refused_line number code }
         ensures few { length result ≤ 64 }
     {
-        let mut line = ArrayVec::<u8, MOST_BYTES>::new();
+        let mut line = ArrayVec::<u8, LONGEST_LINE>::new();
         add(&mut line, "refused ");
         add_number(&mut line, number);
         add(&mut line, " ");
@@ -68,7 +70,7 @@ impl Line {
         ensures text { result ≡ moment_line time }
         ensures few { length result ≤ 64 }
     {
-        let mut line = ArrayVec::<u8, MOST_BYTES>::new();
+        let mut line = ArrayVec::<u8, LONGEST_LINE>::new();
         add(&mut line, "moment ");
         add_number(&mut line, u64::from(time));
         add(&mut line, "\n");
@@ -81,7 +83,7 @@ impl Line {
         ensures text { result ≡ now_line id.now level }
         ensures few { length result ≤ 64 }
     {
-        let mut line = ArrayVec::<u8, MOST_BYTES>::new();
+        let mut line = ArrayVec::<u8, LONGEST_LINE>::new();
         add(&mut line, "now ");
         add_bytes(&mut line, bytes_of(id));
         add(&mut line, " ");
@@ -96,7 +98,7 @@ impl Line {
         ensures text { result ≡ alert_line id.now level first }
         ensures few { length result ≤ 64 }
     {
-        let mut line = ArrayVec::<u8, MOST_BYTES>::new();
+        let mut line = ArrayVec::<u8, LONGEST_LINE>::new();
         add(&mut line, "alert ");
         add_bytes(&mut line, bytes_of(id));
         add(&mut line, " ");
@@ -113,7 +115,7 @@ impl Line {
         ensures text { result ≡ band_line kind from upto level }
         ensures few { length result ≤ 64 }
     {
-        let mut line = ArrayVec::<u8, MOST_BYTES>::new();
+        let mut line = ArrayVec::<u8, LONGEST_LINE>::new();
         add(&mut line, kind_word(kind));
         add_signed_field(&mut line, &from);
         add_signed_field(&mut line, &upto);
@@ -129,7 +131,7 @@ impl Line {
         ensures text { result ≡ resolve_line kind lower upper }
         ensures few { length result ≤ 64 }
     {
-        let mut line = ArrayVec::<u8, MOST_BYTES>::new();
+        let mut line = ArrayVec::<u8, LONGEST_LINE>::new();
         add(&mut line, "resolve");
         add_field(&mut line, kind_word(kind));
         add_field(&mut line, lower_word(kind));
@@ -147,7 +149,7 @@ impl Line {
         ensures text { result ≡ last_line kind seconds }
         ensures few { length result ≤ 64 }
     {
-        let mut line = ArrayVec::<u8, MOST_BYTES>::new();
+        let mut line = ArrayVec::<u8, LONGEST_LINE>::new();
         add(&mut line, "last");
         add_field(&mut line, kind_word(kind));
         add_seconds(&mut line, &seconds);
@@ -162,7 +164,7 @@ impl Line {
         ensures text { result ≡ recover_line kind found }
         ensures few { length result ≤ 64 }
     {
-        let mut line = ArrayVec::<u8, MOST_BYTES>::new();
+        let mut line = ArrayVec::<u8, LONGEST_LINE>::new();
         add(&mut line, "recover");
         add_field(&mut line, kind_word(kind));
         add_found(&mut line, &found);
@@ -176,7 +178,7 @@ impl Line {
         ensures text { result ≡ done_line time }
         ensures few { length result ≤ 64 }
     {
-        let mut line = ArrayVec::<u8, MOST_BYTES>::new();
+        let mut line = ArrayVec::<u8, LONGEST_LINE>::new();
         add(&mut line, "done ");
         add_number(&mut line, u64::from(time));
         add(&mut line, "\n");
@@ -190,7 +192,7 @@ impl Line {
         ensures text { result ≡ numbers_line word.now numbers.now }
         ensures few { length result ≤ 64 }
     {
-        let mut line = ArrayVec::<u8, MOST_BYTES>::new();
+        let mut line = ArrayVec::<u8, LONGEST_LINE>::new();
         add(&mut line, word);
         add_number_fields(&mut line, numbers);
         add(&mut line, "\n");
@@ -203,7 +205,7 @@ impl Line {
         ensures text { result ≡ config_line code }
         ensures few { length result ≤ 64 }
     {
-        let mut line = ArrayVec::<u8, MOST_BYTES>::new();
+        let mut line = ArrayVec::<u8, LONGEST_LINE>::new();
         add(&mut line, "config ");
         add_number(&mut line, u64::from(code));
         add(&mut line, "\n");
@@ -216,7 +218,7 @@ impl Line {
         ensures text { result ≡ same_line }
         ensures few { length result ≤ 64 }
     {
-        let mut line = ArrayVec::<u8, MOST_BYTES>::new();
+        let mut line = ArrayVec::<u8, LONGEST_LINE>::new();
         add(&mut line, "same\n");
         Line { bytes: line }
     }
@@ -227,7 +229,7 @@ impl Line {
         ensures text { result ≡ differs_line number }
         ensures few { length result ≤ 64 }
     {
-        let mut line = ArrayVec::<u8, MOST_BYTES>::new();
+        let mut line = ArrayVec::<u8, LONGEST_LINE>::new();
         add(&mut line, "differs ");
         add_number(&mut line, number);
         add(&mut line, "\n");

@@ -21,15 +21,15 @@ fn each_line_is_written(rt: HostRuntime) -> Result<(), Fail> {
     let mut out = sink(rt.alloc(), &[])?;
     let id = Id::of(b"A_b-1").ok_or("an identifier")?;
     let said = [
-        refused(&mut out, 18446744073709551615, 14),
-        moment(&mut out, 4294967295),
-        now(&mut out, &id, 4),
-        alert(&mut out, &id, 0, None),
-        alert(&mut out, &id, 3, Some(179)),
-        done(&mut out, 0),
-        config(&mut out, 8),
-        same(&mut out),
-        differs(&mut out, 18446744073709551615),
+        write_refused(&mut out, 18446744073709551615, 14),
+        write_moment(&mut out, 4294967295),
+        write_now(&mut out, &id, 4),
+        write_alert(&mut out, &id, 0, None),
+        write_alert(&mut out, &id, 3, Some(179)),
+        write_done(&mut out, 0),
+        write_config(&mut out, 8),
+        write_same(&mut out),
+        write_differs(&mut out, 18446744073709551615),
         put(
             &mut out,
             Line::numbers("count", &[0, 4294967295]).as_bytes(),
@@ -43,7 +43,10 @@ fn each_line_is_written(rt: HostRuntime) -> Result<(), Fail> {
     }
     assert_eq!(rt;
         out.taken(),
-        b"refused 18446744073709551615 14\nmoment 4294967295\nnow A_b-1 4\nalert A_b-1 0 -\nalert A_b-1 3 179\ndone 0\nconfig 8\nsame\ndiffers 18446744073709551615\ncount 0 4294967295\ndone\nany bytes".as_slice()
+        b"refused 18446744073709551615 14\nmoment 4294967295\nnow A_b-1 4\n\
+          alert A_b-1 0 -\nalert A_b-1 3 179\ndone 0\nconfig 8\nsame\n\
+          differs 18446744073709551615\ncount 0 4294967295\ndone\nany bytes"
+            .as_slice()
     );
     Ok(())
 }
@@ -54,31 +57,35 @@ fn each_band_and_answer_is_written(rt: HostRuntime) -> Result<(), Fail> {
     let mut out = MemSink::over(vec![in alloc; 0; 400]?, Vec::new(alloc), Vec::new(alloc));
     let (keep, none) = (Resolution::Keep, Resolution::Nothing);
     let said = [
-        band(&mut out, Kind::Track, 0, 270, 0),
-        band(&mut out, Kind::Speed, 3600, 10000, 1),
-        band(&mut out, Kind::Climb, -5000, -100, 2),
-        band(&mut out, Kind::Height, -2000, 60000, 4),
-        resolve(&mut out, Kind::Track, Resolution::To(359), none),
-        resolve(&mut out, Kind::Speed, keep, keep),
-        resolve(
+        write_band(&mut out, Kind::Track, 0, 270, 0),
+        write_band(&mut out, Kind::Speed, 3600, 10000, 1),
+        write_band(&mut out, Kind::Climb, -5000, -100, 2),
+        write_band(&mut out, Kind::Height, -2000, 60000, 4),
+        write_resolve(&mut out, Kind::Track, Resolution::To(359), none),
+        write_resolve(&mut out, Kind::Speed, keep, keep),
+        write_resolve(
             &mut out,
             Kind::Climb,
             Resolution::To(-200),
             Resolution::To(0),
         ),
-        resolve(&mut out, Kind::Height, none, Resolution::To(1500)),
-        last(&mut out, Kind::Track, Some(0)),
-        last(&mut out, Kind::Height, Some(179)),
-        last(&mut out, Kind::Speed, None),
-        recover(&mut out, Kind::Climb, Some((179, -10000))),
-        recover(&mut out, Kind::Speed, None),
+        write_resolve(&mut out, Kind::Height, none, Resolution::To(1500)),
+        write_last(&mut out, Kind::Track, Some(0)),
+        write_last(&mut out, Kind::Height, Some(179)),
+        write_last(&mut out, Kind::Speed, None),
+        write_recover(&mut out, Kind::Climb, Some((179, -10000))),
+        write_recover(&mut out, Kind::Speed, None),
     ];
     for one in said {
         assert_eq!(rt; one, Ok(()));
     }
     assert_eq!(rt;
         out.taken(),
-        b"track 0 270 0\ngs 3600 10000 1\nvs -5000 -100 2\nalt -2000 60000 4\nresolve track left 359 right none\nresolve gs down keep up keep\nresolve vs down -200 up 0\nresolve alt down none up 1500\nlast track 0\nlast alt 179\nlast gs none\nrecover vs 179 -10000\nrecover gs none\n".as_slice()
+        b"track 0 270 0\ngs 3600 10000 1\nvs -5000 -100 2\nalt -2000 60000 4\n\
+          resolve track left 359 right none\nresolve gs down keep up keep\n\
+          resolve vs down -200 up 0\nresolve alt down none up 1500\nlast track 0\n\
+          last alt 179\nlast gs none\nrecover vs 179 -10000\nrecover gs none\n"
+            .as_slice()
     );
     Ok(())
 }

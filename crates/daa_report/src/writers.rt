@@ -1,7 +1,9 @@
 //! Writes pieces and lines to a sink.
 
 ghost use Rattle.std.specs.Prelude.{◌≤◌, ◌≡◌, length, drop};
-ghost use Rattle.daa_report.specs.Lines.{alert_line, band_line, config_line, differs_line, done_line, last_line, moment_line, now_line, recover_line, refused_line, resolve_line, same_line};
+ghost use Rattle.daa_report.specs.Lines.{alert_line, band_line, config_line, differs_line};
+ghost use Rattle.daa_report.specs.Lines.{done_line, last_line, moment_line, now_line};
+ghost use Rattle.daa_report.specs.Lines.{recover_line, refused_line, resolve_line, same_line};
 ghost use Rattle.daa_report.specs.Says.{Says};
 
 use crate::line::Line;
@@ -39,32 +41,41 @@ fn rest_from(bytes: &[u8], at: usize) -> &[u8]
     &bytes[at..]
 }
 
-/// Writes that the line of this number, from 1 on, was refused with this code.
-pub fn refused<K: Sink>(sink: &mut K, number: u64, code: u8) -> Result<(), SinkFault>
+/// Writes that the line of this number, from 1 on, was refused with this code. A call for other
+/// programs: `daidalus` makes the line, and writes it with `put`.
+pub fn write_refused<K: Sink>(sink: &mut K, number: u64, code: u8) -> Result<(), SinkFault>
     ensures { Says (K.taken sink.old) (K.taken sink.new) (K.faults sink.old) (K.faults sink.new)
         (refused_line number code) result }
 {
     put(sink, Line::refused(number, code).as_bytes())
 }
 
-/// Writes that the moment of this time, in seconds, begins.
-pub fn moment<K: Sink>(sink: &mut K, time: u32) -> Result<(), SinkFault>
+/// Writes that the moment of this time, in seconds, begins. A call for other programs: `daidalus`
+/// holds the line on a page.
+pub fn write_moment<K: Sink>(sink: &mut K, time: u32) -> Result<(), SinkFault>
     ensures { Says (K.taken sink.old) (K.taken sink.new) (K.faults sink.old) (K.faults sink.new)
         (moment_line time) result }
 {
     put(sink, Line::moment(time).as_bytes())
 }
 
-/// Writes the level of an aircraft now, 0 where none is violated.
-pub fn now<K: Sink>(sink: &mut K, id: &Id, level: u8) -> Result<(), SinkFault>
+/// Writes the level of an aircraft now, 0 where none is violated. A call for other programs:
+/// `daidalus` holds the line on a page.
+pub fn write_now<K: Sink>(sink: &mut K, id: &Id, level: u8) -> Result<(), SinkFault>
     ensures { Says (K.taken sink.old) (K.taken sink.new) (K.faults sink.old) (K.faults sink.new)
         (now_line id.now level) result }
 {
     put(sink, Line::now(id, level).as_bytes())
 }
 
-/// Writes the alert level of an aircraft, and from which leg on: the second, from 0.
-pub fn alert<K: Sink>(sink: &mut K, id: &Id, level: u8, first: Option<u32>) -> Result<(), SinkFault>
+/// Writes the alert level of an aircraft, and from which leg on: the second, from 0. A call for
+/// other programs: `daidalus` holds the line on a page.
+pub fn write_alert<K: Sink>(
+    sink: &mut K,
+    id: &Id,
+    level: u8,
+    first: Option<u32>,
+) -> Result<(), SinkFault>
     ensures { Says (K.taken sink.old) (K.taken sink.new) (K.faults sink.old) (K.faults sink.new)
         (alert_line id.now level first) result }
 {
@@ -72,8 +83,8 @@ pub fn alert<K: Sink>(sink: &mut K, id: &Id, level: u8, first: Option<u32>) -> R
 }
 
 /// Writes that the values of a kind from one up to another, in degrees, 0.1 kt, ft/min or ft, show
-/// this level.
-pub fn band<K: Sink>(
+/// this level. A call for other programs: `daidalus` holds the line on a page.
+pub fn write_band<K: Sink>(
     sink: &mut K,
     kind: Kind,
     from: i32,
@@ -86,9 +97,9 @@ pub fn band<K: Sink>(
     put(sink, Line::band(kind, from, upto, level).as_bytes())
 }
 
-/// Writes the answers on the lower side of a kind, left or down, and on the upper, right or
-/// up.
-pub fn resolve<K: Sink>(
+/// Writes the answers on the lower side of a kind, left or down, and on the upper, right or up. A
+/// call for other programs: `daidalus` holds the line on a page.
+pub fn write_resolve<K: Sink>(
     sink: &mut K,
     kind: Kind,
     lower: Resolution,
@@ -101,8 +112,9 @@ pub fn resolve<K: Sink>(
 }
 
 /// Writes the last time of a kind: for how many seconds the present flight may be kept until a
-/// manoeuvre of the kind comes too late; or that each comes too late now.
-pub fn last<K: Sink>(sink: &mut K, kind: Kind, seconds: Option<u32>) -> Result<(), SinkFault>
+/// manoeuvre of the kind comes too late; or that each comes too late now. A call for other
+/// programs: `daidalus` holds the line on a page.
+pub fn write_last<K: Sink>(sink: &mut K, kind: Kind, seconds: Option<u32>) -> Result<(), SinkFault>
     ensures { Says (K.taken sink.old) (K.taken sink.new) (K.faults sink.old) (K.faults sink.new)
         (last_line kind seconds) result }
 {
@@ -110,8 +122,9 @@ pub fn last<K: Sink>(sink: &mut K, kind: Kind, seconds: Option<u32>) -> Result<(
 }
 
 /// Writes the recovery of a kind: after how many seconds a candidate is clear and the value that it
-/// goes to, in degrees, 0.1 kt, ft/min or ft; or that none is.
-pub fn recover<K: Sink>(
+/// goes to, in degrees, 0.1 kt, ft/min or ft; or that none is. A call for other programs:
+/// `daidalus` holds the line on a page.
+pub fn write_recover<K: Sink>(
     sink: &mut K,
     kind: Kind,
     found: Option<(u32, i32)>,
@@ -122,8 +135,9 @@ pub fn recover<K: Sink>(
     put(sink, Line::recover(kind, found).as_bytes())
 }
 
-/// Writes that the moment of this time, in seconds, ends.
-pub fn done<K: Sink>(sink: &mut K, time: u32) -> Result<(), SinkFault>
+/// Writes that the moment of this time, in seconds, ends. A call for other programs: `daidalus`
+/// holds the line on a page.
+pub fn write_done<K: Sink>(sink: &mut K, time: u32) -> Result<(), SinkFault>
     ensures { Says (K.taken sink.old) (K.taken sink.new) (K.faults sink.old) (K.faults sink.new)
         (done_line time) result }
 {
@@ -131,7 +145,7 @@ pub fn done<K: Sink>(sink: &mut K, time: u32) -> Result<(), SinkFault>
 }
 
 /// Writes that the configuration was refused with this code.
-pub fn config<K: Sink>(sink: &mut K, code: u8) -> Result<(), SinkFault>
+pub fn write_config<K: Sink>(sink: &mut K, code: u8) -> Result<(), SinkFault>
     ensures { Says (K.taken sink.old) (K.taken sink.new) (K.faults sink.old) (K.faults sink.new)
         (config_line code) result }
 {
@@ -139,7 +153,7 @@ pub fn config<K: Sink>(sink: &mut K, code: u8) -> Result<(), SinkFault>
 }
 
 /// Writes that a report is the right one.
-pub fn same<K: Sink>(sink: &mut K) -> Result<(), SinkFault>
+pub fn write_same<K: Sink>(sink: &mut K) -> Result<(), SinkFault>
     ensures { Says (K.taken sink.old) (K.taken sink.new) (K.faults sink.old)
         (K.faults sink.new) same_line result }
 {
@@ -148,7 +162,7 @@ pub fn same<K: Sink>(sink: &mut K) -> Result<(), SinkFault>
 
 /// Writes that a report differs from the right one, and that the line of this number, from 1 on, is
 /// the first that does.
-pub fn differs<K: Sink>(sink: &mut K, line: u64) -> Result<(), SinkFault>
+pub fn write_differs<K: Sink>(sink: &mut K, line: u64) -> Result<(), SinkFault>
     ensures { Says (K.taken sink.old) (K.taken sink.new) (K.faults sink.old) (K.faults sink.new)
         (differs_line line) result }
 {

@@ -11,7 +11,7 @@ use daa_detect::is_hit;
 use daa_legs::{Flight, relative};
 use daa_state::{Own, Traffic};
 
-/// As `first_leg`.
+/// The leg that `first_leg` finds by halving, found second by second.
 pub(crate) fn first_leg_by_seconds(
     config: &Config,
     own: &Own,

@@ -14,4 +14,5 @@ loop-high-preserved c = record {
 }
 
 pub returns-clause-least : goal.returns-clause-least
-returns-clause-least c = halved_least c.args.config.now c.args.own.now c.args.aircraft.now c.args.volume.now c.loop-high.low c.loop-high.high c.args.m c.loop-high.invariant (omega (arith, c.loop-high-test.false))
+returns-clause-least c = halved_least c.args.config.now c.args.own.now c.args.aircraft.now c.args.volume.now
+    c.loop-high.low c.loop-high.high c.args.m c.loop-high.invariant (omega (arith, c.loop-high-test.false))
