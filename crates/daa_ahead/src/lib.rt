@@ -20,6 +20,3 @@ pub use next::{Next, read_next};
 pub use taker::{Calls, Taker};
 pub use threads::ahead;
 pub use turns::{BUFFER, in_turn};
-
-#[cfg(test)]
-mod tests;

@@ -30,6 +30,3 @@ pub use laws::{
 pub use level::Level;
 pub use numbers::{ConfigNumbers, Grid, LevelNumbers, Numbers, RecoveryNumbers};
 pub use reading::{read, read_numbers};
-
-#[cfg(test)]
-mod tests;

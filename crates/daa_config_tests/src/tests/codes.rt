@@ -1,7 +1,7 @@
 //! The code of each fault: 0 means a text that is accepted.
 
-use crate::examples::{FOUR_LEVELS, LARGEST_VALUES, ONE_LEVEL, THREE_LEVELS};
-use crate::{ConfigFault, read};
+use daa_config::examples::{FOUR_LEVELS, LARGEST_VALUES, ONE_LEVEL, THREE_LEVELS};
+use daa_config::{ConfigFault, read};
 use std::alloc::{AllocError, Global};
 use std::error::Error;
 use std::process::Abort;

@@ -1,7 +1,7 @@
 //! What the readers return of the examples.
 
-use crate::examples::{FOUR_LEVELS, LARGEST_VALUES, ONE_LEVEL, THREE_LEVELS};
-use crate::{
+use daa_config::examples::{FOUR_LEVELS, LARGEST_VALUES, ONE_LEVEL, THREE_LEVELS};
+use daa_config::{
     Candidate, Config, ConfigFault, ConfigNumbers, Kind, Level, Rates, Resolution, read,
     read_numbers,
 };

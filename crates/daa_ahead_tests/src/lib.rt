@@ -1,0 +1,5 @@
+//! Tests of daa_ahead.
+#![tactic(auto)]
+
+#[cfg(test)]
+mod tests;

@@ -1,0 +1,5 @@
+//! Tests of daa_config.
+#![tactic(auto)]
+
+#[cfg(test)]
+mod tests;
