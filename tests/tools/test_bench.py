@@ -86,6 +86,25 @@ class Bench(ToolTest):
                 self.assertEqual(ran.returncode, 1, ran.stdout)
                 self.assertRegex(ran.stdout + ran.stderr, "FAILED|status 1")
 
+    def batch_without_memory(self, named):
+        """What is told of a batch that is read ahead, from the last requests of the opening to that for the ring."""
+        words = ["--built", "--task", "batch", "--from", "120", "--upto", "159", "--program", named]
+        return subprocess.run([sys.executable, "-B", os.path.join(TOP, "bench", "refuse_memory"), *words],
+                              env={**os.environ, "TMPDIR": self.folder}, capture_output=True, text=True, timeout=120)
+
+    def test_a_batch_without_lanes_or_a_ring_writes_the_whole_text(self):
+        ran = self.batch_without_memory(program())
+        self.assertEqual((ran.returncode, ran.stderr), (0, ""), ran.stdout)
+        for task in ("batch", "batch from N on"):
+            self.assertRegex(ran.stdout, rf"(?m)^{task} +N = \d+ to 159: status 0, the whole text$")
+
+    def test_a_batch_that_ends_otherwise_without_lanes_is_told(self):
+        other = self.write("other", f'#!/bin/sh\n"{program()}" "$@"\nstatus=$?\n[ "$REFUSE_NTH" = 0 ] || [ $status -ne 0 ] || exit 5\nexit $status\n')
+        os.chmod(other, 0o755)
+        ran = self.batch_without_memory(other)
+        self.assertEqual(ran.returncode, 1, ran.stdout)
+        self.assertIn("WRONG: status 5, 5640 bytes", ran.stdout)
+
     def test_a_run_that_ends_otherwise_where_memory_is_refused_is_told(self):
         other = self.write("other", f'#!/bin/sh\n"{program()}" "$@"\nstatus=$?\n[ $status -ne 6 ] || exit 5\nexit $status\n')
         os.chmod(other, 0o755)
