@@ -3,15 +3,13 @@
 //! workers there are.
 #![tactic(auto)]
 
-mod advice;
 mod alerts;
 mod alone;
 mod beside;
-mod delay;
 mod engine;
 mod filling;
+mod findings;
 mod laws;
-mod rescue;
 mod room;
 mod say;
 mod together;
