@@ -36,7 +36,7 @@ use Rattle.daa_report.specs.Lines.{Text, kind_word, lower_word, upper_word, firs
 use Rattle.daa_engine.specs.Covered.{CoveredAt}
 use Rattle.daa_engine.specs.Longest.{longest_moment}
 use Rattle.daa_bands.specs.Parts.{SplitsByEach}
-use Rattle.daa_engine.specs.MomentText.{AreAircraftLines, AreBandLines, AreResolutions, IsLastLine, IsLastText, IsRecoveryLine, IsRecoveryText, IsMomentText, line_of, of_each, found_of, wants_last, wants_recovery}
+use Rattle.daa_engine.specs.MomentText.{AreAircraftLines, AreBandLines, AreResolutions, IsLastText, IsRecoveryLine, IsRecoveryText, IsMomentText, line_of, of_each, found_of, wants_last, wants_recovery}
 
 -- ---- numbers
 

@@ -19,12 +19,10 @@ ghost use Rattle.daa_engine.specs.Covered.{CoveredAt};
 ghost use Rattle.daa_engine.specs.Longest.{longest_moment};
 ghost use Rattle.daa_engine.specs.MomentText.{IsMomentText};
 
-use crate::advice::advise;
 use crate::alerts::find_alerts;
-use crate::delay::find_delays;
 use crate::engine::{Engine, time_of};
 use crate::filling::fill;
-use crate::rescue::find_rescues;
+use crate::findings::find;
 use crate::say::say;
 use daa_alert::now_level;
 use daa_bands::{Board, Runs, runs};
@@ -81,12 +79,8 @@ pub fn say_moment<K: Sink>(
     // ensures that it is a `u32`
     let _time = time_of(picture);
     let alerts = find_alerts(config, picture);
-    let advice = advise(board, config, &picture.own);
-    let delays = find_delays(config, picture, &advice);
-    let rescues = find_rescues(config, picture, &advice);
-    say(
-        sink, config, picture, board, &alerts, &advice, &delays, &rescues,
-    )
+    let findings = find(config, picture, board);
+    say(sink, config, picture, board, &alerts, &findings)
 }
 
 /// Decides a moment as `decide_in` does, on the same room, and writes its lines to the sink. There

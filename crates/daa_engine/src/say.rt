@@ -4,14 +4,12 @@ ghost use Rattle.std.specs.Prelude.{◌≡◌, length};
 ghost use Rattle.daa_state.specs.Picture.{aircraft_of};
 ghost use Rattle.daa_report.specs.Says.{Says};
 ghost use Rattle.daa_report.specs.Page.{PageSays};
-ghost use Rattle.daa_report.specs.Lines.{moment_line, now_line, alert_line, done_line};
+ghost use Rattle.daa_report.specs.Lines.{moment_line, now_line, alert_line, resolve_line, done_line};
 ghost use Rattle.daa_engine.specs.MomentText.{line_of};
-ghost use Rattle.daa_engine.specs.Inside.Written.{aircraft_text, alerts_text, bands_text, bands_texts, sides_text, advice_text, delay_text, delays_text, rescue_text, rescues_text, written};
+ghost use Rattle.daa_engine.specs.Inside.Written.{aircraft_text, alerts_text, bands_text, last_text, recovery_text, kind_text, kinds_text, written};
 
-use crate::advice::{Advice, Sides};
 use crate::alerts::AircraftAlert;
-use crate::delay::{Delay, Delays};
-use crate::rescue::{Rescue, Rescues};
+use crate::findings::{Finding, Findings};
 use daa_bands::{Band, Board, runs};
 use daa_config::{Config, Kind};
 use daa_outside::Sink;
@@ -107,98 +105,129 @@ fn say_bands<K: Sink>(
     Ok(())
 }
 
-/// Says the lines of all bands.
-fn say_all_bands<K: Sink>(
-    page: &mut Page,
-    sink: &mut K,
-    board: &Board,
-    config: &Config,
-) -> Result<(), SinkFault>
-    ensures { PageSays (K.taken sink.old) (K.taken sink.new) page.old page.new (K.faults sink.old)
-        (K.faults sink.new) (bands_texts config.now board.now) result }
-{
-    say_bands(page, sink, board, config, Kind::Track)?;
-    say_bands(page, sink, board, config, Kind::Speed)?;
-    say_bands(page, sink, board, config, Kind::Climb)?;
-    say_bands(page, sink, board, config, Kind::Height)
-}
-
 /// Says the line of the answers on the sides of a kind.
 fn say_sides<K: Sink>(
     page: &mut Page,
     sink: &mut K,
     kind: Kind,
-    sides: &Sides,
+    finding: &Finding,
 ) -> Result<(), SinkFault>
     ensures { PageSays (K.taken sink.old) (K.taken sink.new) page.old page.new (K.faults sink.old)
-        (K.faults sink.new) (sides_text kind sides.now) result }
+        (K.faults sink.new) (resolve_line kind finding.now.lower finding.now.upper) result }
 {
-    page.say(sink, &Line::resolve(kind, sides.lower, sides.upper))
-}
-
-/// Says the lines of the answers on all sides.
-fn say_advice<K: Sink>(page: &mut Page, sink: &mut K, advice: &Advice) -> Result<(), SinkFault>
-    ensures { PageSays (K.taken sink.old) (K.taken sink.new) page.old page.new (K.faults sink.old)
-        (K.faults sink.new) (advice_text advice.now) result }
-{
-    say_sides(page, sink, Kind::Track, &advice.track)?;
-    say_sides(page, sink, Kind::Speed, &advice.speed)?;
-    say_sides(page, sink, Kind::Climb, &advice.climb)?;
-    say_sides(page, sink, Kind::Height, &advice.height)
+    page.say(sink, &Line::resolve(kind, finding.lower, finding.upper))
 }
 
 /// Says the line of the last time of a kind, where it has one.
-fn say_delay<K: Sink>(
+fn say_last<K: Sink>(
     page: &mut Page,
     sink: &mut K,
     kind: Kind,
-    delay: &Delay,
+    last: Option<Option<u32>>,
 ) -> Result<(), SinkFault>
     ensures { PageSays (K.taken sink.old) (K.taken sink.new) page.old page.new (K.faults sink.old)
-        (K.faults sink.new) (delay_text kind delay.now) result }
+        (K.faults sink.new) (last_text kind last) result }
 {
-    match *delay {
-        Delay::Silent => Ok(()),
-        Delay::Said(found) => page.say(sink, &Line::last(kind, found)),
+    match last {
+        None => Ok(()),
+        Some(found) => page.say(sink, &Line::last(kind, found)),
     }
-}
-
-/// Says the lines of the last times of all kinds that have one.
-fn say_delays<K: Sink>(page: &mut Page, sink: &mut K, delays: &Delays) -> Result<(), SinkFault>
-    ensures { PageSays (K.taken sink.old) (K.taken sink.new) page.old page.new (K.faults sink.old)
-        (K.faults sink.new) (delays_text delays.now) result }
-{
-    say_delay(page, sink, Kind::Track, &delays.track)?;
-    say_delay(page, sink, Kind::Speed, &delays.speed)?;
-    say_delay(page, sink, Kind::Climb, &delays.climb)?;
-    say_delay(page, sink, Kind::Height, &delays.height)
 }
 
 /// Says the line of the recovery of a kind, where it has one.
-fn say_rescue<K: Sink>(
+fn say_recovery<K: Sink>(
     page: &mut Page,
     sink: &mut K,
     kind: Kind,
-    rescue: &Rescue,
+    recovery: Option<Option<(u32, i32)>>,
 ) -> Result<(), SinkFault>
     ensures { PageSays (K.taken sink.old) (K.taken sink.new) page.old page.new (K.faults sink.old)
-        (K.faults sink.new) (rescue_text kind rescue.now) result }
+        (K.faults sink.new) (recovery_text kind recovery) result }
 {
-    match *rescue {
-        Rescue::Silent => Ok(()),
-        Rescue::Said(found) => page.say(sink, &Line::recover(kind, found)),
+    match recovery {
+        None => Ok(()),
+        Some(found) => page.say(sink, &Line::recover(kind, found)),
     }
 }
 
-/// Says the lines of the recoveries of all kinds that have one.
-fn say_rescues<K: Sink>(page: &mut Page, sink: &mut K, rescues: &Rescues) -> Result<(), SinkFault>
+/// A part of the report that has lines of each kind.
+#[derive(Clone, Copy)]
+enum Part {
+    Bands,
+    Resolutions,
+    LastTimes,
+    Recoveries,
+}
+
+/// Says the lines of a part for a kind.
+fn say_kind<K: Sink>(
+    page: &mut Page,
+    sink: &mut K,
+    config: &Config,
+    board: &Board,
+    part: Part,
+    kind: Kind,
+    finding: &Finding,
+) -> Result<(), SinkFault>
     ensures { PageSays (K.taken sink.old) (K.taken sink.new) page.old page.new (K.faults sink.old)
-        (K.faults sink.new) (rescues_text rescues.now) result }
+        (K.faults sink.new) (kind_text config.now board.now part kind finding.now) result }
 {
-    say_rescue(page, sink, Kind::Track, &rescues.track)?;
-    say_rescue(page, sink, Kind::Speed, &rescues.speed)?;
-    say_rescue(page, sink, Kind::Climb, &rescues.climb)?;
-    say_rescue(page, sink, Kind::Height, &rescues.height)
+    match part {
+        Part::Bands => say_bands(page, sink, board, config, kind),
+        Part::Resolutions => say_sides(page, sink, kind, finding),
+        Part::LastTimes => say_last(page, sink, kind, finding.last),
+        Part::Recoveries => say_recovery(page, sink, kind, finding.recovery),
+    }
+}
+
+/// Says the lines of a part for all kinds.
+fn say_kinds<K: Sink>(
+    page: &mut Page,
+    sink: &mut K,
+    config: &Config,
+    board: &Board,
+    part: Part,
+    findings: &Findings,
+) -> Result<(), SinkFault>
+    ensures { PageSays (K.taken sink.old) (K.taken sink.new) page.old page.new (K.faults sink.old)
+        (K.faults sink.new) (kinds_text config.now board.now part findings.now) result }
+{
+    say_kind(
+        page,
+        sink,
+        config,
+        board,
+        part,
+        Kind::Track,
+        &findings.track,
+    )?;
+    say_kind(
+        page,
+        sink,
+        config,
+        board,
+        part,
+        Kind::Speed,
+        &findings.speed,
+    )?;
+    say_kind(
+        page,
+        sink,
+        config,
+        board,
+        part,
+        Kind::Climb,
+        &findings.climb,
+    )?;
+    say_kind(
+        page,
+        sink,
+        config,
+        board,
+        part,
+        Kind::Height,
+        &findings.height,
+    )
 }
 
 /// Says the line that begins a moment.
@@ -240,22 +269,19 @@ fn say_parts<K: Sink>(
     picture: &Picture,
     board: &Board,
     alerts: &[AircraftAlert],
-    advice: &Advice,
-    delays: &Delays,
-    rescues: &Rescues,
+    findings: &Findings,
 ) -> Result<(), SinkFault>
     requires { length alerts.now ≡ length (aircraft_of picture.now) }
     ensures { PageSays (K.taken sink.old) (K.taken sink.new) page.old page.new (K.faults sink.old)
-        (K.faults sink.new) (written config.now picture.now board.now alerts.now advice.now
-        delays.now rescues.now) result }
+        (K.faults sink.new) (written config.now picture.now board.now alerts.now findings.now) result }
 {
     say_head(page, sink, picture)?;
     say_traffic(page, sink, picture, alerts)?;
     page.flush(sink)?;
-    say_all_bands(page, sink, board, config)?;
-    say_advice(page, sink, advice)?;
-    say_delays(page, sink, delays)?;
-    say_rescues(page, sink, rescues)?;
+    say_kinds(page, sink, config, board, Part::Bands, findings)?;
+    say_kinds(page, sink, config, board, Part::Resolutions, findings)?;
+    say_kinds(page, sink, config, board, Part::LastTimes, findings)?;
+    say_kinds(page, sink, config, board, Part::Recoveries, findings)?;
     say_foot(page, sink, picture)
 }
 
@@ -266,18 +292,13 @@ pub(crate) fn say<K: Sink>(
     picture: &Picture,
     board: &Board,
     alerts: &[AircraftAlert],
-    advice: &Advice,
-    delays: &Delays,
-    rescues: &Rescues,
+    findings: &Findings,
 ) -> Result<(), SinkFault>
     requires { length alerts.now ≡ length (aircraft_of picture.now) }
     ensures { Says (K.taken sink.old) (K.taken sink.new) (K.faults sink.old) (K.faults sink.new)
-        (written config.now picture.now board.now alerts.now advice.now delays.now rescues.now)
-        result }
+        (written config.now picture.now board.now alerts.now findings.now) result }
 {
     let mut page = Page::new();
-    say_parts(
-        &mut page, sink, config, picture, board, alerts, advice, delays, rescues,
-    )?;
+    say_parts(&mut page, sink, config, picture, board, alerts, findings)?;
     page.flush(sink)
 }

@@ -5,8 +5,8 @@ use Rattle.daa_engine.proofs.alone.say_moment.Goals as goal
 
 pub returns-clause-says : goal.returns-clause-says
 returns-clause-says g c =
-    reported c.args.config.now c.args.picture.now c.args.board.now c.find_alerts-alerts.result.items c.advise-advice.result c.find_delays-delays.result c.find_rescues-rescues.result _ _ _ _ c.say.result
-    c.requires.board _ _ _ refl refl c.deref.ensures.0 c.levels-levels.ensures.accepted c.find_alerts-alerts.ensures c.advise-advice.ensures c.find_delays-delays.ensures c.find_rescues-rescues.ensures c.say.ensures
+    reported c.args.config.now c.args.picture.now c.args.board.now c.find_alerts-alerts.result.items c.find-findings.result _ _ _ _ c.say.result
+    c.requires.board _ _ _ refl refl c.deref.ensures.0 c.levels-levels.ensures.accepted c.find_alerts-alerts.ensures c.find-findings.ensures c.say.ensures
 
 pub returns-clause-short : goal.returns-clause-short
 returns-clause-short g c text is =
