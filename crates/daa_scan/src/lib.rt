@@ -11,6 +11,8 @@ mod refusal;
 mod scene;
 mod sharing;
 mod table;
+mod tags;
+mod together;
 mod trail;
 mod trunks;
 

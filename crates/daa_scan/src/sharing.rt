@@ -62,8 +62,10 @@ pub(crate) fn walk_ahead(
     trail.past = sure_past(trail, most);
 }
 
-/// After which leg a candidate must leave the trail's flight to be answered by the trail alone, if
-/// there is such a leg: after the hit, or after the last leg that may violate.
+/// The leg after which a candidate must leave the trail's flight to be answered by the trail alone:
+/// where there is a hit, the leg of the hit. Where there is none and every leg that may violate was
+/// walked, it is the last of these: a candidate that leaves after it flies no other leg that may.
+/// Else there is no such leg.
 #[inline(always)]
 fn sure_past(trail: &Trail, lookahead: u32) -> u32
     ensures { IsSure lookahead (record trail.now { past = result }) }
@@ -73,7 +75,7 @@ fn sure_past(trail: &Trail, lookahead: u32) -> u32
     }
     let last = lookahead.min(trail.end);
     if !trail.hit && last <= trail.walked {
-        return last;
+        return last.saturating_sub(1);
     }
     u32::MAX
 }
