@@ -4,9 +4,12 @@ use super::{
     ONE_LEVEL, Outside, PLAIN, gives, gives_front, shelf_with, status_and_text, status_of,
     whole_sink, whole_source,
 };
-use daa_outside::Meeting;
+use daa_outside::{Gate, Meeting};
 use std::alloc::AllocError;
+use std::array;
 use std::process::Abort;
+use std::sync::atomic::AtomicU64;
+use std::sync::atomic::Ordering::SeqCst;
 use std::test::Fail;
 use std::thread::Threads;
 
@@ -199,6 +202,65 @@ fn a_read_fails_behind_a_batch(rt: HostRuntime) -> Result<(), Fail> {
             let taken = text.get(..taken).ok_or("a front of the text")?;
             stops_at_read(&rt, &words, input.as_bytes(), front.len(), fails, taken)?;
         }
+    }
+    Ok(())
+}
+
+/// The events of one piece: a refused line and then a moment, 300 times.
+const EVENTS: usize = 600;
+
+/// A gate that counts who passes, for each event of the piece and for all other units.
+#[derive(Drop)]
+struct Tally {
+    passes: [AtomicU64; EVENTS],
+    beyond: AtomicU64,
+}
+
+impl Tally {
+    fn new() -> Tally {
+        Tally {
+            passes: array::from_fn(|_| AtomicU64::new(0)),
+            beyond: AtomicU64::new(0),
+        }
+    }
+
+    /// How often the gate was passed for an event.
+    fn passes(&self, event: usize) -> u64 {
+        match self.passes.get(event) {
+            Some(count) => count.load(SeqCst),
+            None => 0,
+        }
+    }
+
+    /// Each second event, which is a moment, was passed for once, and no other unit.
+    fn has_passed_each_moment_once(&self) -> bool {
+        (0..EVENTS).all(|event| self.passes(event) == event as u64 % 2)
+            && self.beyond.load(SeqCst) == 0
+    }
+}
+
+impl Gate for Tally {
+    fn pass(&self, _worker: u32, unit: u32) {
+        self.passes
+            .get(unit as usize)
+            .unwrap_or(&self.beyond)
+            .fetch_add(1, SeqCst);
+    }
+}
+
+/// The unit of a moment is its place in the batch.
+#[test]
+fn the_gate_is_passed_once_for_each_moment_of_a_batch(rt: HostRuntime) -> Result<(), Fail> {
+    let input = moments_of(&rt, 300)?;
+    for workers in ["2", "16"] {
+        let words = ["daidalus", "replay", "--config", "c", "--workers", workers];
+        let tally = Tally::new();
+        let mut shelf = shelf_with(&rt, ONE_LEVEL, &[])?;
+        let mut source = whole_source(&rt, input.as_bytes())?;
+        let mut sink = whole_sink(&rt, 100_000)?;
+        let status = status_of(&rt, &words, &mut shelf, &mut source, &mut sink, &tally)?;
+        assert!(rt; status == 1);
+        assert!(rt; tally.has_passed_each_moment_once(), "with {workers}");
     }
     Ok(())
 }
