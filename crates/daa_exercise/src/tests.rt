@@ -7,7 +7,7 @@ use crate::draws::Draws;
 use daa_config::examples::{ONE_LEVEL, THREE_LEVELS};
 use daa_config::read;
 use daa_engine::Engine;
-use daa_outside::{Gate, MemSink, Open};
+use daa_outside::{Gate, Meeting, MemSink, Open};
 use daa_report::SinkFault;
 use daa_state::{Id, Own, Picture, Traffic};
 use std::alloc::Global;
@@ -229,6 +229,22 @@ fn the_gate_is_passed_once_for_each_moment_of_a_batch(rt: HostRuntime) -> Result
         exercise_many(&rt, workers, &tally)?;
         assert!(rt; tally.has_passed_each_once(), "with {workers}");
     }
+    Ok(())
+}
+
+/// Both workers wait at the gate until the other has come. As a thread may not be had, the meeting
+/// is tried five times.
+#[test]
+fn two_workers_decide_moments_at_once(rt: HostRuntime) -> Result<(), Fail> {
+    let mut met = false;
+    for _ in 0..5 {
+        if !met {
+            let meeting = Meeting::of(&rt, 2);
+            exercise_many(&rt, 2, &meeting)?;
+            met = meeting.has_met();
+        }
+    }
+    assert!(rt; met);
     Ok(())
 }
 
