@@ -239,9 +239,12 @@ fn four_workers_meet_at_the_gate(rt: HostRuntime) {
 
 fn may_be_sent<T: Send>() {}
 
-// The check refuses a type that may not be sent between threads.
+fn may_be_shared<T: Sync>() {}
+
+// The check refuses a type that may not be sent between threads, and a pool that may not be shared.
 #[test]
 fn values_may_be_sent() {
+    may_be_shared::<Pool>();
     may_be_sent::<Pool>();
     may_be_sent::<Seat>();
     may_be_sent::<Piece>();
