@@ -5,6 +5,7 @@ ghost use Rattle.daa_engine.specs.Beside.{AreDecided, HasPictureInRange, IsDecid
 
 use crate::alone::decide_in;
 use crate::engine::MOST_CANDIDATES;
+use crate::room::leading_flights;
 use daa_bands::Board;
 use daa_config::Config;
 use daa_legs::{Branch, Trunk};
@@ -41,20 +42,6 @@ pub fn workers_for(config: &Config, weight: usize, workers: usize) -> usize
 {
     let least = LEAST_WORK / (config.total() as usize + SAID);
     (weight / least.max(1)).max(1).min(workers)
-}
-
-/// Eight flights that lead.
-fn leading_flights() -> [Trunk; 8] {
-    [
-        Trunk::new(),
-        Trunk::new(),
-        Trunk::new(),
-        Trunk::new(),
-        Trunk::new(),
-        Trunk::new(),
-        Trunk::new(),
-        Trunk::new(),
-    ]
 }
 
 /// Decides the moment of a slot, on room that is handed in.

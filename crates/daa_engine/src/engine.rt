@@ -32,7 +32,7 @@ use std::thread::Threads;
 const MOST_UNITS: usize = 10176;
 
 /// How many candidates a configuration has at most.
-pub(crate) const MOST_CANDIDATES: usize = 1897;
+pub const MOST_CANDIDATES: usize = 1897;
 
 /// How many flights lead: on two sides of four kinds.
 const LEADS: usize = 8;

@@ -21,6 +21,22 @@ use daa_state::Picture;
 use std::alloc::Global;
 use std::marker::Model;
 
+/// Room for the eight flights that lead, as [`decide_in`] takes it. It is not on the heap.
+pub fn leading_flights() -> [Trunk; 8]
+    ensures { length result ≡ 8 }
+{
+    [
+        Trunk::new(),
+        Trunk::new(),
+        Trunk::new(),
+        Trunk::new(),
+        Trunk::new(),
+        Trunk::new(),
+        Trunk::new(),
+        Trunk::new(),
+    ]
+}
+
 /// Room for the flights that lead and for a branch of each candidate. A thread that has one decides
 /// moments beside others, without memory.
 #[derive(Drop)]

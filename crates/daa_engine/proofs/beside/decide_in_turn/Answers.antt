@@ -1,4 +1,4 @@
-use Rattle.std.proofs.Common.{ℕ, ◌≡◌, ◌∙◌, ◌<◌, arith, length, subst, sym, slice_index_or, slice_set}
+use Rattle.std.proofs.Common.{ℕ, ◌∙◌, ◌<◌, arith, length, subst, sym, slice_index_or, slice_set}
 use Rattle.std.proofs.lemmas.List.{get_or-set_same, get_or-set_other, get_or_default}
 use Rattle.daa_engine.specs.Beside.{IsDecided}
 use Rattle.daa_engine.specs.declared.beside.Slot.{Slot}

@@ -1,4 +1,4 @@
-use Rattle.std.proofs.Common.{◌≡◌, ◌<◌, ◌≤◌, ℕ, length, slice_index_or}
+use Rattle.std.proofs.Common.{◌≡◌, ◌<◌, ◌≤◌, ℕ, slice_index_or}
 use Rattle.daa_engine.specs.Beside.{IsDecided}
 use Rattle.daa_engine.specs.declared.beside.Slot.{Slot}
 use Rattle.daa_engine.proofs.beside.decide_in_turn.Given as goal
