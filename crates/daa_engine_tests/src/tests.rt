@@ -614,28 +614,26 @@ fn expect_report<R: Abort + Threads + Sync + AllocGlobal>(
     Ok(())
 }
 
-#[test]
-fn worked_rows(rt: HostRuntime) -> Result<(), Fail> {
+/// Engines of one worker and of four write the reports of these rows.
+fn expect_rows<R: Abort + Threads + Sync + AllocGlobal>(rt: &R, rows: &[Row]) -> Result<(), Fail> {
     for workers in [1, 4] {
         assert!(rt; 0 < workers && workers <= 16);
-        for row in &ROWS {
-            let mut engine = engine_of_workers(&rt, row.text, row.edits, workers)?;
-            expect_report(&rt, &mut engine, row.shows, row.lines, row.report)?;
+        for row in rows {
+            let mut engine = engine_of_workers(rt, row.text, row.edits, workers)?;
+            expect_report(rt, &mut engine, row.shows, row.lines, row.report)?;
         }
     }
     Ok(())
 }
 
 #[test]
+fn worked_rows(rt: HostRuntime) -> Result<(), Fail> {
+    expect_rows(&rt, &ROWS)
+}
+
+#[test]
 fn last_times_are_told_where_they_are_asked_for(rt: HostRuntime) -> Result<(), Fail> {
-    for workers in [1, 4] {
-        assert!(rt; 0 < workers && workers <= 16);
-        for row in &LAST_TIMES {
-            let mut engine = engine_of_workers(&rt, row.text, row.edits, workers)?;
-            expect_report(&rt, &mut engine, row.shows, row.lines, row.report)?;
-        }
-    }
-    Ok(())
+    expect_rows(&rt, &LAST_TIMES)
 }
 
 #[test]
