@@ -1,7 +1,8 @@
 //! The levels at which each candidate of a moment is covered, as masks. What the workers found
 //! comes in packed words, twelve candidates in each.
 
-ghost use Rattle.std.specs.Prelude.{◌≡◌, ◌<◌, ◌≤◌, ◌+◌, ◌*◌, ◌≢◌, ℕ, slice_index, bit_or, replicate};
+ghost use Rattle.std.specs.Prelude.{◌≡◌, ◌<◌, ◌≤◌, ◌+◌, ◌*◌, ◌≢◌, ℕ};
+ghost use Rattle.std.specs.Prelude.{slice_index, bit_or, replicate};
 ghost use Rattle.daa_fixed.specs.Mask.{HasLevel, IsGreatestLevel};
 ghost use Rattle.daa_config.specs.Packing.{group_size, mask_in};
 ghost use Rattle.daa_bands.specs.Board.{board_size, mask_levels, AddsMask, AddsWord};

@@ -84,7 +84,9 @@ module _ (leg : Leg) (volume : Volume) where
               (sum_nonneg _ _ (mul_nonneg vv _ vv0 (rest _ _ time.upto)) (rest _ _ soon));
         };
         holds = subst (λ (z : ℤ). z ≤ℤ square_of (pos volume.dthr *ℤ (d *ℤ vv))) (sym there)
-            (subst (λ (z : ℤ). (square_of (vv *ℤ s.east -ℤ sv *ℤ leg.velocity.flat.east) +ℤ square_of (vv *ℤ s.north -ℤ sv *ℤ leg.velocity.flat.north)) ≤ℤ square_of z) (assoc (pos volume.dthr) d vv) (at_closest s leg.velocity.flat (pos volume.dthr *ℤ d) c.near vv0));
+            (subst (λ (z : ℤ). (square_of (vv *ℤ s.east -ℤ sv *ℤ leg.velocity.flat.east)
+            +ℤ square_of (vv *ℤ s.north -ℤ sv *ℤ leg.velocity.flat.north)) ≤ℤ square_of z)
+            (assoc (pos volume.dthr) d vv) (at_closest s leg.velocity.flat (pos volume.dthr *ℤ d) c.near vv0));
       }
         where
           at_least_one : (x : ℤ) → pos 0 <ℤ x → pos 1 ≤ℤ x
@@ -167,7 +169,8 @@ axis_beyond b v m r n d y m1 (inl far) time near =
 axis_beyond b v m r n d y m1 (inr far) time near =
     let B = # 0 in let V = # 1 in let R = # 2 in let N = # 3 in let D = # 4 in let M = # 5 in
     let x = d *ℤ b +ℤ n *ℤ v in
-    clash (neg_ℤ x) (pos r *ℤ d) (root_within (neg_ℤ x) (pos r *ℤ d) (mul_nonneg (pos r) d (omega (arith, ints)) (omega (arith, ints, time.fraction))) (rw (mirrored x) (without x y _ (square_nonneg y) near)))
+    clash (neg_ℤ x) (pos r *ℤ d) (root_within (neg_ℤ x) (pos r *ℤ d) (mul_nonneg (pos r) d (omega (arith, ints))
+    (omega (arith, ints, time.fraction))) (rw (mirrored x) (without x y _ (square_nonneg y) near)))
     (below_by_rest (pos r *ℤ d) (neg_ℤ x) (d *ℤ (neg_ℤ (pos r) -ℤ b) +ℤ n *ℤ neg_ℤ v)
     (ring (b ∷ v ∷ pos r ∷ n ∷ d ∷ []) (⊝ (D ⊗ B ⊕ N ⊗ V) ⊖ R ⊗ D) (D ⊗ (⊝ R ⊖ B) ⊕ N ⊗ ⊝ V) tt)
     (positive_between (neg_ℤ (pos r) -ℤ b) (neg_ℤ v) (pos m) n d (omega (arith, ints, m1)) time.fraction time.from time.upto (above b (neg_ℤ (pos r)) far.0)

@@ -133,7 +133,8 @@ module _ (leg : Leg) (volume : Volume) (m : Motion) (is : IsMotion leg volume m)
 
       not_past : pos 0 ≤ℤ neg_ℤ m.rate
       not_past = cancel_le p.den (neg_ℤ m.rate) (omega (arith, ints, p.positive))
-          (swapped (neg_ℤ m.rate) p.den (le_trans_ℤ (pos 0) (p.num *ℤ m.speed_squared) (neg_ℤ m.rate *ℤ p.den) (mul_nonneg p.num m.speed_squared p.not_negative (omega (arith, ints, has_speed))) between.from))
+          (swapped (neg_ℤ m.rate) p.den (le_trans_ℤ (pos 0) (p.num *ℤ m.speed_squared) (neg_ℤ m.rate *ℤ p.den)
+          (mul_nonneg p.num m.speed_squared p.not_negative (omega (arith, ints, has_speed))) between.from))
         where
           swapped : (x y : ℤ) → pos 0 ≤ℤ (x *ℤ y) → pos 0 ≤ℤ (y *ℤ x)
           swapped x y h = subst (λ (z : ℤ). pos 0 ≤ℤ z) (ring (x ∷ y ∷ []) (# 0 ⊗ # 1) (# 1 ⊗ # 0) tt) h
@@ -164,7 +165,9 @@ module _ (leg : Leg) (volume : Volume) (m : Motion) (is : IsMotion leg volume m)
         };
       }
         where
-          nearest : (rate_of m (neg_ℤ m.rate) m.speed_squared *ℤ (rate_of m (neg_ℤ m.rate) m.speed_squared +ℤ pos 0 *ℤ m.speed_squared *ℤ m.speed_squared)) ≤ℤ (m.speed_squared *ℤ m.speed_squared *ℤ m.margin)
+          nearest : (rate_of m (neg_ℤ m.rate) m.speed_squared *ℤ
+              (rate_of m (neg_ℤ m.rate) m.speed_squared +ℤ pos 0 *ℤ m.speed_squared *ℤ m.speed_squared))
+              ≤ℤ (m.speed_squared *ℤ m.speed_squared *ℤ m.margin)
           nearest = by_rest _ _ _
               (ring (m.speed_squared ∷ m.rate ∷ m.margin ∷ [])
               (# 0 ⊗ # 0 ⊗ # 2 ⊕ ⊝ ((# 0 ⊗ # 1 ⊕ ⊝ (# 1) ⊗ # 0) ⊗ ((# 0 ⊗ # 1 ⊕ ⊝ (# 1) ⊗ # 0) ⊕ lit (pos 0) ⊗ # 0 ⊗ # 0))) (# 0 ⊗ # 0 ⊗ # 2) tt)

@@ -209,6 +209,8 @@ module _ (leg : Leg) (volume : Volume) (m : Motion) (is : IsMotion leg volume m)
     )
 
 -- by the time to the entry point, where the distance falls, on a line that passes near
-pub tep_is : (leg : Leg) (volume : Volume) (m : Motion) (is : IsMotion leg volume m) (n d : ℤ) → pos 1 ≤ℤ d → pos 0 ≤ℤ m.margin → rate_of m n d <ℤ pos 0 → volume.model ≡ Tep → IsEntryWithin m volume.tthr n d ↔ ViolatesHorizontally leg volume n d
+pub tep_is : (leg : Leg) (volume : Volume) (m : Motion) (is : IsMotion leg volume m) (n d : ℤ)
+    → pos 1 ≤ℤ d → pos 0 ≤ℤ m.margin → rate_of m n d <ℤ pos 0
+    → volume.model ≡ Tep → IsEntryWithin m volume.tthr n d ↔ ViolatesHorizontally leg volume n d
 tep_is leg volume m is n d d1 passes down =
     tep_by leg volume m is n d d1 passes down (near_is leg volume m is (n +ℤ pos volume.tthr *ℤ d) d (moves leg volume m is n d d1 passes down))

@@ -113,7 +113,9 @@ module _ (leg : Leg) (volume : Volume) where
         to_loss : (x y : ℤ) → x ≤ℤ y → (x -ℤ y) ≤ℤ pos 0
         to_loss x y h = omega (arith, ints)
 
-    module _ (p r m : Point) (p1 : pos 1 ≤ℤ p.den) (r1 : pos 1 ≤ℤ r.den) (m1 : pos 1 ≤ℤ m.den) (mb : IsBetween p r m.num m.den) (least : IsLeast q p r m.num m.den) (n d : ℤ) (b : IsBetween p r n d) where
+    module _ (p r m : Point)
+        (p1 : pos 1 ≤ℤ p.den) (r1 : pos 1 ≤ℤ r.den) (m1 : pos 1 ≤ℤ m.den) (mb : IsBetween p r m.num m.den)
+        (least : IsLeast q p r m.num m.den) (n d : ℤ) (b : IsBetween p r n d) where
       d1 : pos 0 <ℤ d
       d1 = omega (arith, ints, b.fraction)
 
@@ -137,7 +139,9 @@ module _ (leg : Leg) (volume : Volume) where
             (subst (λ (x : ℤ). (value_of q m.num m.den *ℤ (d *ℤ d)) ≤ℤ (x *ℤ (m.den *ℤ m.den))) (value_is n d) (least n d b))
 
         closest_there : IsSoon Tcpa leg volume n d → pv m.num m.den <ℤ pos 0 → IsSoon Tcpa leg volume m.num m.den
-        closest_there s h = closest_still_soon vv cc (pos volume.dthr) (pos volume.tthr) d m.den (pp n d) (pp m.num m.den) (pv n d) (pv m.num m.den) moving d1 e1 (products n d) (products m.num m.den) c.nearing h nearer s
+        closest_there s h =
+            closest_still_soon vv cc (pos volume.dthr) (pos volume.tthr) d m.den (pp n d) (pp m.num m.den)
+            (pv n d) (pv m.num m.den) moving d1 e1 (products n d) (products m.num m.den) c.nearing h nearer s
 
         -- tthr seconds later
         abbrev after : ℤ
@@ -155,7 +159,9 @@ module _ (leg : Leg) (volume : Volume) where
         soon_there : (model : Model) → ¬ (model ≡ Tau) → IsSoon model leg volume n d → pv m.num m.den <ℤ pos 0 → IsSoon model leg volume m.num m.den
         soon_there Tau other s h = absurd (other refl)
         soon_there Tcpa other s h = closest_there s h
-        soon_there Taumod other s h = tau_still_soon vv cc (pos volume.dthr) (pos volume.tthr) d m.den (pp n d) (pp m.num m.den) (pv n d) (pv m.num m.den) moving d1 e1 (products n d) (products m.num m.den) c.nearing h nearer (rest _ _ passes) s
+        soon_there Taumod other s h =
+            tau_still_soon vv cc (pos volume.dthr) (pos volume.tthr) d m.den (pp n d) (pp m.num m.den) (pv n d)
+            (pv m.num m.den) moving d1 e1 (products n d) (products m.num m.den) c.nearing h nearer (rest _ _ passes) s
         soon_there Tep other s h = ⊎_elim
             (λ closest. (entry_is leg volume m.num m.den).1 (inl (closest_there closest h)))
             (λ near. by_lt_z (pv after' m.den) (pos 0) (λ falls. inr (near_after near h falls)) (λ grows. inl grows))
@@ -174,7 +180,9 @@ module _ (leg : Leg) (volume : Volume) where
           fraction = omega (arith, ints, moving);
           from = by_rest _ _ _ refl (cancel_le d _ d1
               (subst (λ (z : ℤ). pos 0 ≤ℤ z) (first_part p.num p.den d sv vv n)
-              (sum_nonneg _ _ (mul_nonneg p.den _ (omega (arith, ints)) (negative (d *ℤ sv +ℤ n *ℤ vv) (rw (dot_at n d) at c.nearing))) (mul_nonneg vv _ (omega (arith, ints, moving)) (rest _ _ b.from)))));
+              (sum_nonneg _ _ (mul_nonneg p.den _
+              (omega (arith, ints)) (negative (d *ℤ sv +ℤ n *ℤ vv) (rw (dot_at n d) at c.nearing)))
+              (mul_nonneg vv _ (omega (arith, ints, moving)) (rest _ _ b.from)))));
           upto = by_rest _ _ _ refl (cancel_le m.den _ e1
               (subst (λ (z : ℤ). pos 0 ≤ℤ z) (last_part r.num r.den m.den sv vv m.num)
               (sum_nonneg _ _ (mul_nonneg vv _ (omega (arith, ints, moving)) (rest _ _ mb.upto)) (mul_nonneg r.den _ (omega (arith, ints)) (rw (dot_at m.num m.den) at h)))));
@@ -204,7 +212,9 @@ module _ (leg : Leg) (volume : Volume) where
 
         late : pos 0 ≤ℤ pv m.num m.den → IsNear leg volume m.num m.den
         late h = near_by_value m.num m.den
-            (no_higher (value_of q m.num m.den) (vv *ℤ vv) (value_of q (neg_ℤ sv) vv) (m.den *ℤ m.den) (mul_pos vv vv moving moving) (square_nonneg m.den) (least (neg_ℤ sv) vv (approach_between h)) approach_near)
+            (no_higher (value_of q m.num m.den) (vv *ℤ vv) (value_of q (neg_ℤ sv) vv) (m.den *ℤ m.den)
+            (mul_pos vv vv moving moving) (square_nonneg m.den) (least (neg_ℤ sv) vv (approach_between h))
+            approach_near)
 
       -- from the closest approach on, by each model
       pub violates_late : pos 0 ≤ℤ pv m.num m.den → ViolatesHorizontally leg volume n d → ViolatesHorizontally leg volume m.num m.den
@@ -229,7 +239,8 @@ pub time_between : (secs : ℕ) (p r : Point) (n d : ℤ) → pos 1 ≤ℤ r.den
 time_between secs p r n d r1 last n0 b = record { fraction = b.fraction; from = n0; upto = until secs p r n d r1 last b }
 
 -- a vertex between two times of a leg is a point in range
-pub vertex_small : (secs : ℕ) (p r : Point) (a b : ℤ) → secs ≤ 180 → pos 1 ≤ℤ r.den → IsTime secs r.num r.den → pos 1 ≤ℤ a → unsigned_abs a < 2 ^ 32 → IsBetween p r (neg_ℤ b) (pos 2 *ℤ a) → neg_ℤ b ≤ℤ pos (2 ^ 41)
+pub vertex_small : (secs : ℕ) (p r : Point) (a b : ℤ) → secs ≤ 180 → pos 1 ≤ℤ r.den → IsTime secs r.num r.den
+    → pos 1 ≤ℤ a → unsigned_abs a < 2 ^ 32 → IsBetween p r (neg_ℤ b) (pos 2 *ℤ a) → neg_ℤ b ≤ℤ pos (2 ^ 41)
 vertex_small secs p r a b small r1 last a1 a2 between =
     le_trans_ℤ (neg_ℤ b) (pos secs *ℤ (pos 2 *ℤ a)) (pos (2 ^ 41)) (until secs p r (neg_ℤ b) (pos 2 *ℤ a) r1 last between) (big secs a small a1 a2)
   where

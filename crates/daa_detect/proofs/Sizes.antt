@@ -45,13 +45,19 @@ module _ {leg : Leg} (r : IsLegInRange leg) where
   pub pnn-kept : to_z w64 (of_z w64 (leg.place.flat.north *ℤ leg.place.flat.north)) ≡ leg.place.flat.north *ℤ leg.place.flat.north
   pnn-kept = to_z-of_z (fits w64 (times (size.pn r) (size.pn r)) (lit< tt))
 
-  pub sv-kept : to_z w64 (of_z w64 (leg.place.flat.east *ℤ leg.velocity.flat.east +ℤ leg.place.flat.north *ℤ leg.velocity.flat.north)) ≡ leg.place.flat.east *ℤ leg.velocity.flat.east +ℤ leg.place.flat.north *ℤ leg.velocity.flat.north
+  pub sv-kept : to_z w64
+      (of_z w64 (leg.place.flat.east *ℤ leg.velocity.flat.east +ℤ leg.place.flat.north *ℤ leg.velocity.flat.north))
+      ≡ leg.place.flat.east *ℤ leg.velocity.flat.east +ℤ leg.place.flat.north *ℤ leg.velocity.flat.north
   sv-kept = to_z-of_z (fits w64 (size.sv r) (lit< tt))
 
-  pub sxv-kept : to_z w64 (of_z w64 (leg.place.flat.east *ℤ leg.velocity.flat.north -ℤ leg.place.flat.north *ℤ leg.velocity.flat.east)) ≡ leg.place.flat.east *ℤ leg.velocity.flat.north -ℤ leg.place.flat.north *ℤ leg.velocity.flat.east
+  pub sxv-kept : to_z w64
+      (of_z w64 (leg.place.flat.east *ℤ leg.velocity.flat.north -ℤ leg.place.flat.north *ℤ leg.velocity.flat.east))
+      ≡ leg.place.flat.east *ℤ leg.velocity.flat.north -ℤ leg.place.flat.north *ℤ leg.velocity.flat.east
   sxv-kept = to_z-of_z (fits w64 (size.sxv r) (lit< tt))
 
-  pub ss-kept : to_z w64 (of_z w64 (leg.place.flat.east *ℤ leg.place.flat.east +ℤ leg.place.flat.north *ℤ leg.place.flat.north)) ≡ leg.place.flat.east *ℤ leg.place.flat.east +ℤ leg.place.flat.north *ℤ leg.place.flat.north
+  pub ss-kept : to_z w64
+      (of_z w64 (leg.place.flat.east *ℤ leg.place.flat.east +ℤ leg.place.flat.north *ℤ leg.place.flat.north))
+      ≡ leg.place.flat.east *ℤ leg.place.flat.east +ℤ leg.place.flat.north *ℤ leg.place.flat.north
   ss-kept = to_z-of_z (fits w64 (size.ss r) (lit< tt))
 
 pub ruleset of_leg = (pe-kept, pn-kept, ve-kept, vn-kept, ee-kept, nn-kept, en-kept, ne-kept, pee-kept, pnn-kept, sv-kept, sxv-kept, ss-kept)

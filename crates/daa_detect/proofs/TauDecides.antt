@@ -29,7 +29,9 @@ use Rattle.daa_detect.proofs.Margin.{rate_is}
 use Rattle.daa_detect.proofs.NearestTimes.{vv, cc, near_there, time_between, vertex_small}
 use Rattle.daa_detect.proofs.TauTimes.{HasTauQuad, tau_quad, soon_violates, slope_is, soon_at_least, soon_at_vertex}
 
-module _ (leg : Leg) (volume : Volume) (m : Motion) (is : IsMotion leg volume m) (r : IsLegInRange leg) (v : IsVolumeInRange volume) (p q : Point) (w : IsWindow leg.secs (ViolatesVertically leg volume) p q) (e : volume.model ≡ Tau) where
+module _ (leg : Leg)
+    (volume : Volume) (m : Motion) (is : IsMotion leg volume m) (r : IsLegInRange leg) (v : IsVolumeInRange volume)
+    (p q : Point) (w : IsWindow leg.secs (ViolatesVertically leg volume) p q) (e : volume.model ≡ Tau) where
   -- soon by tau at no time of the window
   abbrev pub IsClear : Type 0
   IsClear = (n d : ℤ) → IsBetween p q n d → ¬ IsSoon Tau leg volume n d

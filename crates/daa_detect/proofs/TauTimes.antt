@@ -112,8 +112,12 @@ module _ (leg : Leg) (volume : Volume) where
 
     pub soon_at_vertex : pos 0 <ℤ q.a → IsSoon Tau leg volume (neg_ℤ q.b) (pos 2 *ℤ q.a) ↔ (square_of (pos 2 *ℤ cc leg volume) ≤ℤ square_of (pos volume.tthr *ℤ vv leg volume))
     soon_at_vertex a1 = (
-      (λ soon. by_rest _ _ _ refl (cancel_le q.a _ a1 (under q.a (square_of (pos 2 *ℤ cc leg volume)) (square_of (pos volume.tthr *ℤ vv leg volume)) (subst (λ (z : ℤ). z ≤ℤ pos 0) vertex_value (value_if_soon _ _ soon))))),
-      (λ h. soon_by_value _ _ (subst (λ (z : ℤ). z ≤ℤ pos 0) (sym vertex_value) (over q.a (square_of (pos 2 *ℤ cc leg volume)) (square_of (pos volume.tthr *ℤ vv leg volume)) (mul_nonneg q.a _ (omega (arith, ints)) (rest _ _ h))))),
+      (λ soon. by_rest _ _ _ refl (cancel_le q.a _ a1
+          (under q.a (square_of (pos 2 *ℤ cc leg volume)) (square_of (pos volume.tthr *ℤ vv leg volume))
+          (subst (λ (z : ℤ). z ≤ℤ pos 0) vertex_value (value_if_soon _ _ soon))))),
+      (λ h. soon_by_value _ _
+          (subst (λ (z : ℤ). z ≤ℤ pos 0) (sym vertex_value) (over q.a (square_of (pos 2 *ℤ cc leg volume))
+          (square_of (pos volume.tthr *ℤ vv leg volume)) (mul_nonneg q.a _ (omega (arith, ints)) (rest _ _ h))))),
     )
       where
         under : (a x y : ℤ) → (a *ℤ (x -ℤ y)) ≤ℤ pos 0 → pos 0 ≤ℤ (a *ℤ (y -ℤ x))

@@ -20,7 +20,8 @@ use daa_vwindow::window;
 
 /// A time of the leg at which it violates the volume, horizontally and vertically at that one time,
 /// and `None` exactly if it does so at no fraction of the leg. It need not be the first such
-/// time. A leg that stays far away on some axis is refused by a few products of 64 bits.
+/// time. A leg that stays far away on some axis is refused by a few products of 64 bits. A call for
+/// other programs: `daidalus` asks `is_hit` alone.
 pub fn hits(leg: &Leg, volume: &Volume) -> Option<Point>
     requires leg { IsLegInRange leg.now }
     requires volume { IsVolumeInRange volume.now }
@@ -49,7 +50,7 @@ pub fn is_hit(leg: &Leg, volume: &Volume) -> bool
     has_nearest_hit(&near, volume)
 }
 
-/// The same without the box test.
+/// Whether the leg violates the volume at some time, decided without the box test.
 #[inline(never)]
 fn has_nearest_hit(leg: &Leg, volume: &Volume) -> bool
     requires leg { IsLegInRange leg.now }
@@ -59,11 +60,11 @@ fn has_nearest_hit(leg: &Leg, volume: &Volume) -> bool
     nearest_hit(leg, volume).is_some()
 }
 
-/// As `hits`, without the box test. Within the vertical window the nearest time decides: the first
-/// if the distance grows there, the last if it still falls there (by tau with one more), and else
-/// the closest approach, at which a line that comes within `dthr` is within `dthr`. It takes two
-/// products of 128 bits for a line that misses or that is nearest inside the window, else four, and
-/// by tau at most ten.
+/// Answers as `hits` does, without the box test. Within the vertical window the nearest time
+/// decides: the first if the distance grows there, the last if it still falls there (by tau with
+/// one more), and else the closest approach, at which a line that comes within `dthr` is within
+/// `dthr`. It takes two products of 128 bits for a line that misses or that is nearest inside the
+/// window, else four, and by tau at most ten.
 pub(crate) fn nearest_hit(leg: &Leg, volume: &Volume) -> Option<Point>
     requires leg { IsLegInRange leg.now }
     requires volume { IsVolumeInRange volume.now }
@@ -85,8 +86,8 @@ pub(crate) fn nearest_hit(leg: &Leg, volume: &Volume) -> Option<Point>
     Some(closest_approach(&motion))
 }
 
-/// The same where the distance still falls at the last time of the vertical window, so that this is
-/// the nearest: it decides, and by tau one more time.
+/// Answers as `hits` does where the distance still falls at the last time of the vertical window.
+/// This time is the nearest then, and it decides; by tau one more time does too.
 fn falling_hit(
     leg: &Leg,
     volume: &Volume,

@@ -5,7 +5,9 @@ ghost use Rattle.daa_fixed.specs.Flat.{dot_of, square_of};
 ghost use Rattle.daa_fixed.specs.Leg.{IsLegInRange};
 ghost use Rattle.daa_taumod.specs.Volume.{IsVolumeInRange, IsNear, ViolatesHorizontally};
 ghost use Rattle.daa_vwindow.specs.Window.{HasSmallNumbers};
-ghost use Rattle.daa_detect.specs.Inside.Motion.{IsMotion, IsAhead, IsTauWithin, IsModifiedTauWithin, IsNearLater, IsEntryWithin, rate_of, later_rate_of};
+ghost use Rattle.daa_detect.specs.Inside.Motion.{IsMotion, IsAhead, IsTauWithin};
+ghost use Rattle.daa_detect.specs.Inside.Motion.{IsModifiedTauWithin, IsNearLater};
+ghost use Rattle.daa_detect.specs.Inside.Motion.{IsEntryWithin, rate_of, later_rate_of};
 
 use crate::motion::Motion;
 use crate::products::miss;

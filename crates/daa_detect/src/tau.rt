@@ -1,17 +1,20 @@
-//! The decision by tau. Its times need not be one interval: those within `dthr` lie round the
-//! closest approach, and those with `s.s + tthr (s.v) <= 0` round a middle that is `tthr / 2` before
-//! it. So two times of the vertical window decide, the one nearest to the closest approach and the
-//! one nearest to that middle.
+//! The decision by tau. The violating times need not be one interval: the times within `dthr` lie
+//! round the closest approach, and the times with `s.s + tthr (s.v) <= 0` round a middle that is
+//! `tthr / 2` before it. So two times of the vertical window decide, the one nearest to the closest
+//! approach and the one nearest to the middle.
 
-ghost use Rattle.std.specs.Prelude.{◌≡◌, ◌↔◌, ◌≤◌, ◌+ℤ◌, ◌*ℤ◌, ◌≤ℤ◌, ℤ, neg_ℤ, pos, IsTrue, MatchOption};
+ghost use Rattle.std.specs.Prelude.{◌≡◌, ◌↔◌, ◌≤◌, ◌+ℤ◌, ◌*ℤ◌, ◌≤ℤ◌, ℤ};
+ghost use Rattle.std.specs.Prelude.{neg_ℤ, pos, IsTrue, MatchOption};
 ghost use Rattle.daa_fixed.specs.Leg.{IsLegInRange};
 ghost use Rattle.daa_fixed.specs.Point.{IsBetween};
 ghost use Rattle.daa_fixed.specs.Time.{HoldsNever};
 ghost use Rattle.daa_taumod.specs.declared.Model.{Model};
-ghost use Rattle.daa_taumod.specs.Volume.{IsSoon, IsVolumeInRange, Violates, ViolatesHorizontally, ViolatesVertically};
+ghost use Rattle.daa_taumod.specs.Volume.{IsSoon, IsVolumeInRange, Violates};
+ghost use Rattle.daa_taumod.specs.Volume.{ViolatesHorizontally, ViolatesVertically};
 ghost use Rattle.daa_vwindow.specs.Window.{IsWindow, HasSmallNumbers};
 ghost use Rattle.daa_detect.specs.Hit.{IsHit};
-ghost use Rattle.daa_detect.specs.Inside.Motion.{IsMotion, IsTauWithinInMiddle, IsMiddleAhead, rate_of, middle_rate_of};
+ghost use Rattle.daa_detect.specs.Inside.Motion.{IsMotion, IsTauWithinInMiddle};
+ghost use Rattle.daa_detect.specs.Inside.Motion.{IsMiddleAhead, rate_of, middle_rate_of};
 
 use crate::horizontal::{end_if_held, holds_at, rate_at, rate_gain};
 use crate::motion::Motion;
@@ -19,9 +22,9 @@ use crate::products::miss;
 use daa_fixed::{Leg, Point};
 use daa_taumod::Volume;
 
-/// As `hits`, by tau and without the box test, where the distance still falls at the last time of
-/// the vertical window: the one nearest to the closest approach. It is a call of its own, so that
-/// the other models' tests stay short.
+/// Answers as `hits` does, by tau and without the box test, where the distance still falls at the
+/// last time of the vertical window: this is the time nearest to the closest approach. It is a call
+/// of its own, so that the other models' tests stay short.
 #[inline(never)]
 pub(crate) fn tau_hit(
     leg: &Leg,

@@ -185,7 +185,7 @@ fn ahead(tthr: u32, model: Model) -> Volume
     }
 }
 
-// The same with 8 seconds, second by second: modified tau and the entry point count on second 0,
+// Second by second, with a `tthr` of 8 seconds: modified tau and the entry point count on second 0,
 // the closest approach on second 1, and tau on second 3, from 3.74 on.
 #[test]
 fn first_seconds_by_model(rt: HostRuntime) -> Result<(), Fail> {

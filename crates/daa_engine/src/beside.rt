@@ -59,16 +59,20 @@ fn decide_slot(
     decide_in(config, &slot.picture, trunks, branches, &mut slot.board);
 }
 
-/// Decides the moments of the slots, one after the other. The worker passes the gate before each.
+/// Decides the moments of the slots, one after the other. The worker passes the gate before each,
+/// whose unit is its place in the whole: the first is at `start`.
 #[inline(never)]
-fn decide_in_turn<G: Gate>(config: &Config, slots: &mut [Slot], worker: u32, gate: &G)
+fn decide_in_turn<G: Gate>(config: &Config, slots: &mut [Slot], start: usize, worker: u32, gate: &G)
     requires { All HasPictureInRange slots.old }
     ensures { AreDecided config.now slots.old slots.new }
 {
     let mut trunks = leading_flights();
     let mut branches = [Branch::new(); MOST_CANDIDATES];
     for place in 0..slots.len() {
-        gate.pass(worker, place.min(MOST_CANDIDATES) as u32);
+        gate.pass(
+            worker,
+            start.saturating_add(place).min(MOST_CANDIDATES) as u32,
+        );
         decide_slot(config, &mut slots[place], &mut trunks, &mut branches);
     }
 }
@@ -115,6 +119,6 @@ pub fn decide_beside<R: Threads + Sync, G: Gate>(
         &|start: usize, part: &mut [Slot]|
             requires { All HasPictureInRange part.old }
             ensures { AreDecided config.entry.now part.entry.now part.exit.now }
-        { decide_in_turn(config, part, number_of(start, size), gate) },
+        { decide_in_turn(config, part, start, number_of(start, size), gate) },
     );
 }

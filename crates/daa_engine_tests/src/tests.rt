@@ -11,7 +11,7 @@ mod workers;
 use daa_config::examples::{FOUR_LEVELS, LARGEST_VALUES, ONE_LEVEL, THREE_LEVELS};
 use daa_config::{Config, read};
 use daa_detect::is_hit;
-use daa_engine::Engine;
+use daa_engine::{Engine, Room, Slot};
 use daa_legs::{Flight, relative};
 use daa_outside::{MemSink, Open};
 use daa_report::SinkFault;
@@ -614,28 +614,26 @@ fn expect_report<R: Abort + Threads + Sync + AllocGlobal>(
     Ok(())
 }
 
-#[test]
-fn worked_rows(rt: HostRuntime) -> Result<(), Fail> {
+/// Engines of one worker and of four write the reports of these rows.
+fn expect_rows<R: Abort + Threads + Sync + AllocGlobal>(rt: &R, rows: &[Row]) -> Result<(), Fail> {
     for workers in [1, 4] {
         assert!(rt; 0 < workers && workers <= 16);
-        for row in &ROWS {
-            let mut engine = engine_of_workers(&rt, row.text, row.edits, workers)?;
-            expect_report(&rt, &mut engine, row.shows, row.lines, row.report)?;
+        for row in rows {
+            let mut engine = engine_of_workers(rt, row.text, row.edits, workers)?;
+            expect_report(rt, &mut engine, row.shows, row.lines, row.report)?;
         }
     }
     Ok(())
 }
 
 #[test]
+fn worked_rows(rt: HostRuntime) -> Result<(), Fail> {
+    expect_rows(&rt, &ROWS)
+}
+
+#[test]
 fn last_times_are_told_where_they_are_asked_for(rt: HostRuntime) -> Result<(), Fail> {
-    for workers in [1, 4] {
-        assert!(rt; 0 < workers && workers <= 16);
-        for row in &LAST_TIMES {
-            let mut engine = engine_of_workers(&rt, row.text, row.edits, workers)?;
-            expect_report(&rt, &mut engine, row.shows, row.lines, row.report)?;
-        }
-    }
-    Ok(())
+    expect_rows(&rt, &LAST_TIMES)
 }
 
 #[test]
@@ -791,4 +789,6 @@ fn may_be_sent<T: Send>() {}
 #[test]
 fn values_may_be_sent() {
     may_be_sent::<Engine>();
+    may_be_sent::<Room>();
+    may_be_sent::<Slot>();
 }

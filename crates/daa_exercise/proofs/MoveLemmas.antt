@@ -7,7 +7,10 @@ use Rattle.daa_state.specs.declared.word.Own.{Own}
 use Rattle.daa_state.specs.declared.word.Traffic.{Traffic}
 use Rattle.daa_state.specs.declared.word.Picture.{Picture}
 use Rattle.daa_exercise.specs.Inside.Drawing.{after}
-use Rattle.daa_exercise.specs.Moments.{aircraft_counts, own_tracks, own_ground_speeds, own_altitudes, drawn_vertical_speeds, drawn_positions, heights_above, drawn_speeds, name_of, own_at, count_at, aircraft_at, traffic_at, moment_at, draws_at, begin_of, moment_of}
+use Rattle.daa_exercise.specs.Moments.{aircraft_counts, own_tracks, own_ground_speeds, own_altitudes}
+use Rattle.daa_exercise.specs.Moments.{drawn_vertical_speeds, drawn_positions, heights_above}
+use Rattle.daa_exercise.specs.Moments.{drawn_speeds, name_of, own_at, count_at, aircraft_at}
+use Rattle.daa_exercise.specs.Moments.{traffic_at, moment_at, draws_at, begin_of, moment_of}
 use Rattle.daa_exercise.specs.Outputs.{Outputs, outputs_from, picked}
 use Rattle.daa_exercise.proofs.DrawLemmas.{own_of, aircraft_of, outputs_after, none_after, after_after, next_after}
 
@@ -127,7 +130,9 @@ pub traffic_more : (g d e : Lcg) (altitude : ℤ) (i : ℕ) (items all : List Tr
     → (all ≡ traffic_at (outputs_from g) altitude (i + 1) 0) × (e ≡ after (6 * (i + 1)) g)
 unfolding traffic_at
 traffic_more g d e altitude i items all aircraft at rest before is pushed =
-    let here : aircraft ≡ aircraft_at (outputs_from g) altitude (i + 1) (0 + 6 * i) = is ∙ ap (λ (x : Lcg). aircraft_at (outputs_from x) altitude (i + 1) 0) at ∙ aircraft_after g (6 * i) altitude (i + 1)
+    let here : aircraft ≡ aircraft_at (outputs_from g) altitude (i + 1) (0 + 6 * i) =
+    is ∙ ap (λ (x : Lcg). aircraft_at (outputs_from x) altitude (i + 1) 0) at
+    ∙ aircraft_after g (6 * i) altitude (i + 1)
     ∙ ap (aircraft_at (outputs_from g) altitude (i + 1)) (sym (zero-add (6 * i))) in
     let count : 6 * i + 6 ≡ 6 * (i + 1) = omega arith in (
       pushed ∙ ap₂ (λ (xs : List Traffic) (x : Traffic). xs ++ x ∷ []) before here

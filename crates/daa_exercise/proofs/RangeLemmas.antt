@@ -8,7 +8,9 @@ use Rattle.daa_state.specs.Id.{is_id}
 use Rattle.daa_state.specs.InRange.{IsWithin, IsOwnInRange, IsTrafficInRange, IsPictureInRange}
 use Rattle.daa_state.specs.Ranges.{Bounds, positions, altitudes, tracks, ground_speeds, speeds, vertical_speeds}
 use Rattle.daa_state.specs.declared.word.Traffic.{Traffic}
-use Rattle.daa_exercise.specs.Moments.{own_altitudes, own_tracks, own_ground_speeds, drawn_vertical_speeds, aircraft_counts, drawn_positions, heights_above, drawn_speeds, name_of, own_at, count_at, aircraft_at, traffic_at, moment_at}
+use Rattle.daa_exercise.specs.Moments.{own_altitudes, own_tracks, own_ground_speeds, drawn_vertical_speeds}
+use Rattle.daa_exercise.specs.Moments.{aircraft_counts, drawn_positions, heights_above, drawn_speeds}
+use Rattle.daa_exercise.specs.Moments.{name_of, own_at, count_at, aircraft_at, traffic_at, moment_at}
 use Rattle.daa_exercise.specs.Outputs.{Outputs, picked}
 use Rattle.daa_exercise.proofs.MoveLemmas.{traffic_count}
 
@@ -72,7 +74,9 @@ module _ (output : Outputs) where
 
   pub count_few : (at : ℕ) → count_at output at ≤ 8
   unfolding count_at
-  count_few at = let h = (picks aircraft_counts aircraft_counts (output (at + 4)) (omega (arith, ints)) (omega (arith, ints)) (omega (arith, ints))) in size (picked aircraft_counts (output (at + 4))) h.0 h.1
+  count_few at = let h = (picks aircraft_counts aircraft_counts
+      (output (at + 4)) (omega (arith, ints)) (omega (arith, ints)) (omega (arith, ints))) in
+      size (picked aircraft_counts (output (at + 4))) h.0 h.1
     where
       size : (z : ℤ) → pos 0 ≤ℤ z → z ≤ℤ pos 8 → nat_abs z ≤ 8
       size z low high = omega (arith, ints)

@@ -1,5 +1,6 @@
 -- How often each level stands among levels adds up to how many levels there are.
-use Rattle.std.proofs.Common.{◌≡◌, ◌∙◌, ◌⊎◌, inl, inr, ◌<◌, ◌≤◌, ◌+◌, ◌*◌, ℕ, zero, suc, List, [], ◌∷◌, ◌++◌, length, map, refl, sym, ap, arith, subst, zero-add, add-one, suc-mul, zero-mul, length-append}
+use Rattle.std.proofs.Common.{◌≡◌, ◌∙◌, ◌⊎◌, inl, inr, ◌<◌, ◌≤◌, ◌+◌, ◌*◌, ℕ, zero, suc, List, [], ◌∷◌, ◌++◌, length}
+use Rattle.std.proofs.Common.{map, refl, sym, ap, arith, subst, zero-add, add-one, suc-mul, zero-mul, length-append}
 use Rattle.std.specs.Prelude.{slice_index, cond, ◌==◌}
 use Rattle.std.specs.List.{AllByRecursion, AllZip, range_with_len, sum}
 use Rattle.std.proofs.lemmas.Bool.{cases_lt}

@@ -1,5 +1,7 @@
 -- What a tally counts, level after level.
-use Rattle.std.proofs.Common.{◌≡◌, ◌∙◌, ◌⊎◌, inl, inr, ◌<◌, ◌≤◌, ◌+◌, ℕ, zero, suc, pos, List, [], ◌∷◌, ◌++◌, length, take, take_all, below_more, refl, sym, ap, arith, subst, append_assoc, add-one, append-nil}
+use Rattle.std.proofs.Common.{◌≡◌, ◌∙◌, ◌⊎◌, inl, inr, ◌<◌, ◌≤◌, ◌+◌, ℕ, zero, suc, pos}
+use Rattle.std.proofs.Common.{List, [], ◌∷◌, ◌++◌, length, take, take_all, below_more, refl}
+use Rattle.std.proofs.Common.{sym, ap, arith, subst, append_assoc, add-one, append-nil}
 use Rattle.std.specs.Prelude.{slice_index, slice_index_or}
 use Rattle.std.specs.List.{AllZip}
 use Rattle.std.proofs.lemmas.List.{length_push, get_or_push, get_or_append_left}

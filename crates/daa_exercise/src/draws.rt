@@ -4,7 +4,8 @@
 ghost use Rattle.std.specs.Prelude.{◌≡◌, ◌≤◌, ◌+◌, ◌*◌, ◌≤ℤ◌, nat_abs, pos};
 ghost use Rattle.daa_state.specs.InRange.{IsPictureInRange};
 ghost use Rattle.daa_exercise.specs.Inside.Drawing.{after, bounds_of, AreBounds};
-ghost use Rattle.daa_exercise.specs.Moments.{aircraft_counts, name_of, own_at, aircraft_at, traffic_at, draws_at, moment_at};
+ghost use Rattle.daa_exercise.specs.Moments.{aircraft_counts, name_of, own_at};
+ghost use Rattle.daa_exercise.specs.Moments.{aircraft_at, traffic_at, draws_at, moment_at};
 ghost use Rattle.daa_exercise.specs.Outputs.{generator_of, picked, outputs_from};
 
 use arrayvec::ArrayVec;

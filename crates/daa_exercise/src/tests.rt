@@ -7,10 +7,11 @@ use crate::draws::Draws;
 use daa_config::examples::{ONE_LEVEL, THREE_LEVELS};
 use daa_config::read;
 use daa_engine::Engine;
-use daa_outside::{Gate, MemSink, Open};
+use daa_outside::{Gate, Meeting, MemSink, Open};
 use daa_report::SinkFault;
 use daa_state::{Id, Own, Picture, Traffic};
 use std::alloc::Global;
+use std::array;
 use std::process::Abort;
 use std::sync::atomic::AtomicU64;
 use std::sync::atomic::Ordering::SeqCst;
@@ -166,6 +167,84 @@ fn the_gate_is_passed_once_for_each_unit(rt: HostRuntime) -> Result<(), Fail> {
         assert!(rt; moments < 3 || out.taken() == THREE.as_bytes());
         assert_eq!(rt; gate.passes.load(SeqCst), passes);
     }
+    Ok(())
+}
+
+/// How many moments are decided beside one another. They are work for five workers and more.
+const MANY: u32 = 300;
+
+/// Decides so many moments by these workers, who pass this gate.
+fn exercise_many<R: Abort + Threads + Sync + AllocGlobal, G: Gate>(
+    rt: &R,
+    workers: u32,
+    gate: &G,
+) -> Result<(), Fail>
+    requires workers { 0 < workers }
+    requires few { workers ≤ 16 }
+{
+    let config = read(rt.alloc(), ONE_LEVEL.as_bytes())?;
+    let mut engine = Engine::new(rt.alloc(), config, workers)?;
+    let mut out = sink(rt.alloc(), 512, &[], &[])?;
+    let said = exercise(&mut engine, rt, rt.alloc(), 1, MANY, &mut out, gate);
+    assert_eq!(rt; said, Ok(()));
+    Ok(())
+}
+
+/// A gate that counts who passes, for each of the moments and for all other units.
+#[derive(Drop)]
+struct Tally {
+    passes: [AtomicU64; MANY as usize],
+    beyond: AtomicU64,
+}
+
+impl Tally {
+    fn new() -> Tally {
+        Tally {
+            passes: array::from_fn(|_| AtomicU64::new(0)),
+            beyond: AtomicU64::new(0),
+        }
+    }
+
+    /// Each moment was passed for once, and no other unit.
+    fn has_passed_each_once(&self) -> bool {
+        self.passes.iter().all(|count| count.load(SeqCst) == 1) && self.beyond.load(SeqCst) == 0
+    }
+}
+
+impl Gate for Tally {
+    fn pass(&self, _worker: u32, unit: u32) {
+        self.passes
+            .get(unit as usize)
+            .unwrap_or(&self.beyond)
+            .fetch_add(1, SeqCst);
+    }
+}
+
+/// The unit of a moment is its place among those that are decided beside one another.
+#[test]
+fn the_gate_is_passed_once_for_each_moment_of_a_batch(rt: HostRuntime) -> Result<(), Fail> {
+    for workers in [2, 3, 16] {
+        assert!(rt; 0 < workers && workers <= 16);
+        let tally = Tally::new();
+        exercise_many(&rt, workers, &tally)?;
+        assert!(rt; tally.has_passed_each_once(), "with {workers}");
+    }
+    Ok(())
+}
+
+/// Both workers wait at the gate until the other has come. As a thread may not be had, the meeting
+/// is tried five times.
+#[test]
+fn two_workers_decide_moments_at_once(rt: HostRuntime) -> Result<(), Fail> {
+    let mut met = false;
+    for _ in 0..5 {
+        if !met {
+            let meeting = Meeting::of(&rt, 2);
+            exercise_many(&rt, 2, &meeting)?;
+            met = meeting.has_met();
+        }
+    }
+    assert!(rt; met);
     Ok(())
 }
 

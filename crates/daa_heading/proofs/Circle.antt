@@ -75,10 +75,15 @@ total gs s c e n h k p q =
     let o : gs * gs ≤ 10000 * gs = mul-le gs gs 10000 gs h (omega arith) in
     omega (arith, a, b, m, o)
 
-pub velocity-short : (gs d : ℤ) → IsFrom (pos 0) (pos 10000) gs → IsFrom (pos 0) (pos 359) d → unsigned_abs (velocity_of gs d).east * unsigned_abs (velocity_of gs d).east + unsigned_abs (velocity_of gs d).north * unsigned_abs (velocity_of gs d).north ≤ (unsigned_abs gs + 1) * (unsigned_abs gs + 1)
+pub velocity-short : (gs d : ℤ) → IsFrom (pos 0) (pos 10000) gs
+    → IsFrom (pos 0) (pos 359) d → unsigned_abs (velocity_of gs d).east * unsigned_abs (velocity_of gs d).east
+    + unsigned_abs (velocity_of gs d).north * unsigned_abs (velocity_of gs d).north
+    ≤ (unsigned_abs gs + 1) * (unsigned_abs gs + 1)
 unfolding velocity_of
 velocity-short gs (pos d) h k =
-    total (unsigned_abs gs) (unsigned_abs (sine_of (pos d))) (unsigned_abs (cosine_of (pos d))) (unsigned_abs (int_div (gs *ℤ sine_of (pos d)) (pos 10000))) (unsigned_abs (int_div (gs *ℤ cosine_of (pos d)) (pos 10000)))
+    total (unsigned_abs gs) (unsigned_abs (sine_of (pos d)))
+    (unsigned_abs (cosine_of (pos d))) (unsigned_abs (int_div (gs *ℤ sine_of (pos d)) (pos 10000)))
+    (unsigned_abs (int_div (gs *ℤ cosine_of (pos d)) (pos 10000)))
     (omega (arith, ints, h.least, h.most))
     (short_at d (omega (arith, ints, k.most)))
     (omega (arith, quot_times (gs *ℤ sine_of (pos d)), unsigned_abs-mul gs (sine_of (pos d))))

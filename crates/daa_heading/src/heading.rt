@@ -2,7 +2,8 @@
 
 ghost use Rattle.std.specs.Prelude.{◌≡◌, ℤ, pos, ◌*ℤ◌, int_div};
 ghost use Rattle.daa_fixed.specs.Size.{IsFrom, IsWithin};
-ghost use Rattle.daa_heading.specs.Heading.{sine_at, upper_sine, sine_of, cosine_of, velocity_of, IsNearCircle};
+ghost use Rattle.daa_heading.specs.Heading.{sine_at, upper_sine, sine_of};
+ghost use Rattle.daa_heading.specs.Heading.{cosine_of, velocity_of, IsNearCircle};
 
 use daa_fixed::Flat;
 

@@ -500,6 +500,7 @@ fn each_type_may_be_sent_and_a_gate_shared(rt: HostRuntime) {
     may_be_sent::<Failed>();
     may_be_sent::<FetchFault>();
     may_be_sent::<Open>();
+    may_be_sent::<Meeting<HostRuntime>>();
     may_be_shared::<Open>();
     pass(&Open);
     assert!(rt; write(&mut StdSink::new(rt.stdout()), b"") == Ok(0));

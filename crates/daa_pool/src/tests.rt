@@ -220,15 +220,15 @@ fn the_gate_is_passed_once_before_each_answer(rt: HostRuntime) {
     }
 }
 
-// Three workers of four meet at the gate, which one thread can't. As a worker may find nothing to
-// steal by chance, the meeting is tried five times.
+// Each of four workers waits at its first unit until all have come, worker 0 too, which fewer
+// threads can't. As a thread may not be had, the meeting is tried five times.
 #[test]
-fn three_of_four_workers_meet_at_the_gate(rt: HostRuntime) {
+fn four_workers_meet_at_the_gate(rt: HostRuntime) {
     let mut met = false;
     for _ in 0..5 {
         if !met {
             let given = Numbers::new(300);
-            let meeting = Meeting::of(&rt, 3);
+            let meeting = Meeting::of(&rt, 4);
             let mut words = [0; 300];
             let done = answer_all(&rt, rt.alloc(), &given, &meeting, 4, &mut words);
             assert!(rt; done.is_ok());
@@ -240,9 +240,12 @@ fn three_of_four_workers_meet_at_the_gate(rt: HostRuntime) {
 
 fn may_be_sent<T: Send>() {}
 
-// The check refuses a type that may not be sent between threads.
+fn may_be_shared<T: Sync>() {}
+
+// The check refuses a type that may not be sent between threads, and a pool that may not be shared.
 #[test]
 fn values_may_be_sent() {
+    may_be_shared::<Pool>();
     may_be_sent::<Pool>();
     may_be_sent::<Seat>();
     may_be_sent::<Piece>();

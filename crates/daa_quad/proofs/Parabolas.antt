@@ -60,7 +60,8 @@ by_nonneg : (a b n d : ℤ) → pos 0 ≤ℤ a → pos 0 ≤ℤ n → pos 1 ≤�
 by_nonneg a (pos zero) n d ha hn hd h = omega (arith, ints)
 by_nonneg a (negsuc b) n d ha hn hd h = omega (arith, ints)
 by_nonneg a (pos (suc b)) n d ha hn hd h =
-    absurd (clash (pos 2 *ℤ a *ℤ n) (pos (suc b) *ℤ d) (mul_nonneg (pos 2 *ℤ a) n (mul_nonneg (pos 2) a (omega (arith, ints)) ha) hn) (mul_nonneg (pos (suc b)) d (omega (arith, ints)) (omega (arith, ints, hd))) h)
+    absurd (clash (pos 2 *ℤ a *ℤ n) (pos (suc b) *ℤ d) (mul_nonneg (pos 2 *ℤ a) n (mul_nonneg (pos 2) a
+    (omega (arith, ints)) ha) hn) (mul_nonneg (pos (suc b)) d (omega (arith, ints)) (omega (arith, ints, hd))) h)
   where
     clash : (x y : ℤ) → pos 0 ≤ℤ x → pos 0 ≤ℤ y → (x +ℤ y) <ℤ pos 0 → ⊥
     clash x y h k l = omega (arith, ints)

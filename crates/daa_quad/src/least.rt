@@ -9,8 +9,8 @@ use crate::{Quad, Sign, sign_at};
 use daa_fixed::Point;
 
 /// A time of least value from `from` to `upto`; if there are several, which one is left open. If
-/// the vertex `-b/2a` lies between the two, it must be a
-/// point in range; a vertex outside is never made into a point.
+/// the vertex `-b/2a` lies between the two, it must be a point in range; a vertex that does not is
+/// never made into a point. A call for other programs: `daidalus` does not make it.
 pub fn least_point(q: &Quad, from: &Point, upto: &Point) -> Point
     requires in_order { IsInOrder from.now upto.now }
     requires vertex { HasVertexInRange q.now from.now upto.now }
@@ -27,7 +27,8 @@ pub fn least_point(q: &Quad, from: &Point, upto: &Point) -> Point
 }
 
 /// A time from `from` to `upto` at which the value is at most 0, and `None` exactly if it is
-/// above 0 at every fraction between them. The conditions are those of `least_point`.
+/// above 0 at every fraction between them. The conditions are those of `least_point`. A call for
+/// other programs: `daidalus` does not make it.
 pub fn dips(q: &Quad, from: &Point, upto: &Point) -> Option<Point>
     requires in_order { IsInOrder from.now upto.now }
     requires vertex { HasVertexInRange q.now from.now upto.now }

@@ -6,7 +6,8 @@ ghost use Rattle.daa_quad.specs.Quad.{value_of, IsSignOf};
 use crate::{Quad, Sign};
 use daa_fixed::Point;
 
-/// The sign of the value at `at`, which is that of `a num^2 + b num den + c den^2`.
+/// The sign of the value at `at`, which is that of `a num^2 + b num den + c den^2`. A call for
+/// other programs: `daidalus` does not make it.
 pub fn sign_at(q: &Quad, at: &Point) -> Sign
     ensures { IsSignOf (value_of q.now at.now.num at.now.den) result }
 {

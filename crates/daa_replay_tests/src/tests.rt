@@ -52,6 +52,25 @@ const PLAIN: Outside<'static> = Outside {
     most: 1 << 40,
 };
 
+/// A run of these words; all else is as in `PLAIN`.
+fn asking<'a>(words: &'a [&'a str]) -> Outside<'a> {
+    Outside { words, ..PLAIN }
+}
+
+/// A replay under this configuration; all else is as in `PLAIN`.
+fn under(config: &str) -> Outside<'_> {
+    Outside { config, ..PLAIN }
+}
+
+/// A replay whose source gives such pieces and fails at these reads; all else is as in `PLAIN`.
+fn reading<'a>(read_pieces: &'a [usize], read_fails: &'a [u64]) -> Outside<'a> {
+    Outside {
+        read_pieces,
+        read_fails,
+        ..PLAIN
+    }
+}
+
 /// Pieces of one byte, and of seven, for inputs of at most 72 bytes and texts of at most 72 pieces.
 const ONES: [usize; 72] = [1; 72];
 
@@ -130,39 +149,80 @@ fn shelf_with<R: AllocGlobal>(rt: &R, config: &str, fails: &[u64]) -> Result<Mem
     Ok(MemShelf::new(strings(rt, &["c"])?, texts, fails.to_vec(alloc)?))
 }
 
+/// A source of these bytes, in such pieces, which fails at these reads.
+fn source_of<R: AllocGlobal>(
+    rt: &R,
+    bytes: &[u8],
+    pieces: &[usize],
+    fails: &[u64],
+) -> Result<MemSource, AllocError> {
+    let alloc = rt.alloc();
+    Ok(MemSource::new(
+        bytes.to_vec(alloc)?,
+        pieces.to_vec(alloc)?,
+        fails.to_vec(alloc)?,
+    ))
+}
+
+/// A sink of this room, which takes such pieces and fails at these writes.
+fn sink_of<R: AllocGlobal>(
+    rt: &R,
+    room: usize,
+    pieces: &[usize],
+    fails: &[u64],
+) -> Result<MemSink, AllocError> {
+    let alloc = rt.alloc();
+    Ok(MemSink::over(
+        vec![in alloc; 0; room]?,
+        pieces.to_vec(alloc)?,
+        fails.to_vec(alloc)?,
+    ))
+}
+
+/// The status of a run over these objects that reads at most so many bytes. Like [`status_of`], it
+/// promises nothing of them.
+fn status_within<R: Threads + Sync + AllocGlobal>(
+    rt: &R,
+    words: &[&str],
+    shelf: &mut MemShelf,
+    source: &mut MemSource,
+    sink: &mut MemSink,
+    most: u64,
+) -> Result<u8, Fail> {
+    if most == 0 || most > 1 << 40 {
+        return Err("a limit from 1 to 2^40".into());
+    }
+    let words = strings(rt, words)?;
+    Ok(run_within(
+        rt,
+        rt.alloc(),
+        words.as_slice(),
+        shelf,
+        source,
+        sink,
+        &Open,
+        most,
+    ))
+}
+
 /// The status of a run over this shelf and this input, and what the sink took.
 fn status_over<R: Threads + Sync + AllocGlobal>(
     rt: &R,
-    mut shelf: MemShelf,
+    shelf: &mut MemShelf,
     input: &[u8],
     outside: Outside<'_>,
 ) -> Result<(u8, Vec<u8>), Fail> {
-    if outside.most == 0 || outside.most > 1 << 40 {
-        return Err("a limit from 1 to 2^40".into());
-    }
-    let alloc = rt.alloc();
-    let mut source = MemSource::new(
-        input.to_vec(alloc)?,
-        outside.read_pieces.to_vec(alloc)?,
-        outside.read_fails.to_vec(alloc)?,
-    );
-    let mut sink = MemSink::over(
-        vec![in alloc; 0; outside.room]?,
-        outside.write_pieces.to_vec(alloc)?,
-        outside.write_fails.to_vec(alloc)?,
-    );
-    let words = strings(rt, outside.words)?;
-    let status = run_within(
+    let mut source = source_of(rt, input, outside.read_pieces, outside.read_fails)?;
+    let mut sink = sink_of(rt, outside.room, outside.write_pieces, outside.write_fails)?;
+    let status = status_within(
         rt,
-        alloc,
-        words.as_slice(),
-        &mut shelf,
+        outside.words,
+        shelf,
         &mut source,
         &mut sink,
-        &Open,
         outside.most,
-    );
-    Ok((status, sink.taken().to_vec(alloc)?))
+    )?;
+    Ok((status, sink.taken().to_vec(rt.alloc())?))
 }
 
 /// The status of a run over this input, and what the sink took.
@@ -171,8 +231,8 @@ fn status_and_text<R: Threads + Sync + AllocGlobal>(
     input: &[u8],
     outside: Outside<'_>,
 ) -> Result<(u8, Vec<u8>), Fail> {
-    let shelf = shelf_with(rt, outside.config, outside.fetch_fails)?;
-    status_over(rt, shelf, input, outside)
+    let mut shelf = shelf_with(rt, outside.config, outside.fetch_fails)?;
+    status_over(rt, &mut shelf, input, outside)
 }
 
 /// A run ended with this status, and the sink took this text.
@@ -226,14 +286,12 @@ where
 
 /// A source of these bytes, in pieces of any size, that does not fail.
 fn whole_source<R: AllocGlobal>(rt: &R, bytes: &[u8]) -> Result<MemSource, AllocError> {
-    let alloc = rt.alloc();
-    Ok(MemSource::new(bytes.to_vec(alloc)?, Vec::new(alloc), Vec::new(alloc)))
+    source_of(rt, bytes, &[], &[])
 }
 
 /// A sink of this room that takes each piece whole.
 fn whole_sink<R: AllocGlobal>(rt: &R, room: usize) -> Result<MemSink, AllocError> {
-    let alloc = rt.alloc();
-    Ok(MemSink::over(vec![in alloc; 0; room]?, Vec::new(alloc), Vec::new(alloc)))
+    sink_of(rt, room, &[], &[])
 }
 
 #[test]

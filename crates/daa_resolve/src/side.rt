@@ -3,7 +3,8 @@
 ghost use Rattle.std.specs.Prelude.{◌≡◌, ◌↔◌, IsTrue, pos};
 ghost use Rattle.std.specs.Int.{int_rem_euclid};
 ghost use Rattle.daa_config.specs.Limits.{full_turn};
-ghost use Rattle.daa_resolve.specs.Side.{present_of, way_of, distance_of, IsTurn, IsBeyond, IsOnSide};
+ghost use Rattle.daa_resolve.specs.Side.{present_of, way_of, distance_of};
+ghost use Rattle.daa_resolve.specs.Side.{IsTurn, IsBeyond, IsOnSide};
 
 use daa_config::Kind;
 use daa_state::Own;

@@ -26,8 +26,8 @@ use daa_taumod::Volume;
 /// for them.
 const STRIDE: u32 = 16;
 
-/// Walks the trail on to leg `upto`, which is `most` or one before it, or to a hit, where it was not
-/// walked so far. It may be walked some legs farther.
+/// Walks the trail on to leg `upto`, which is `most` or one before it, or to a hit, where it was
+/// not walked so far. It may be walked some legs farther.
 #[inline(always)]
 pub(crate) fn walk_ahead(
     trail: &mut Trail,

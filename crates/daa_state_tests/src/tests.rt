@@ -483,4 +483,6 @@ fn values_may_be_sent() {
     may_be_sent::<OutOfRange>();
     may_be_sent::<Field>();
     may_be_sent::<Traffic>();
+    may_be_sent::<Own>();
+    may_be_sent::<Id>();
 }

@@ -129,7 +129,8 @@ level_in h high n d d0 low up = record {
   below = rw (level_at h n d) (mul_le h high d d0 up);
 }
 
-pub level_window : (secs : ℕ) (h high : ℤ) → neg_ℤ high ≤ℤ h → h ≤ℤ high → (p q : Point) → p.num ≡ pos 0 → p.den ≡ pos 1 → q.num ≡ pos secs → q.den ≡ pos 1 → IsWindow secs (IsInBand h (pos 0) high high) p q
+pub level_window : (secs : ℕ) (h high : ℤ) → neg_ℤ high ≤ℤ h → h ≤ℤ high → (p q : Point) → p.num ≡ pos 0
+    → p.den ≡ pos 1 → q.num ≡ pos secs → q.den ≡ pos 1 → IsWindow secs (IsInBand h (pos 0) high high) p q
 level_window secs h high low up p q pn pd qn qd = record {
   first = rw (pn, pd) (record { fraction = omega (arith, ints); from = omega (arith, ints); upto = omega (arith, ints) });
   last = rw (qn, qd) (record { fraction = omega (arith, ints); from = omega (arith, ints); upto = omega (arith, ints) });

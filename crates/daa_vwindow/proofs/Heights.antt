@@ -1,5 +1,6 @@
 -- The heights that violate are a band.
-use Rattle.std.proofs.Common.{[], ◌∷◌, ◌≡◌, ◌↔◌, ℕ, ◌*◌, ◌<◌, ◌≤◌, ◌⊎◌, inl, inr, ⊎_elim, sym, ap, subst, ◌∙◌, arith, ℤ, pos, negsuc, ◌+ℤ◌, ◌*ℤ◌, ◌-ℤ◌, neg_ℤ, ◌≤ℤ◌, ◌<ℤ◌, unsigned_abs, Option, None, Some}
+use Rattle.std.proofs.Common.{[], ◌∷◌, ◌≡◌, ◌↔◌, ℕ, ◌*◌, ◌<◌, ◌≤◌, ◌⊎◌, inl, inr, ⊎_elim, sym, ap, subst, ◌∙◌, arith}
+use Rattle.std.proofs.Common.{ℤ, pos, negsuc, ◌+ℤ◌, ◌*ℤ◌, ◌-ℤ◌, neg_ℤ, ◌≤ℤ◌, ◌<ℤ◌, unsigned_abs, Option, None, Some}
 use Rattle.std.specs.Prelude.{MatchOption}
 use Rattle.std.proofs.lemmas.Int.{ints}
 use Rattle.daa_fixed.proofs.Ring.{mul_nonneg, ring, #, ⊝, ◌⊕◌, ◌⊗◌}
@@ -17,7 +18,10 @@ use Rattle.daa_vwindow.specs.Inside.Band.{IsInBand}
 use Rattle.daa_vwindow.specs.Window.{IsWindow}
 
 -- a clause about the same times, said otherwise
-pub retarget : (secs : ℕ) (P Q : ℤ → ℤ → Type 0) (r : Option (Point × Point)) → ((n d : ℤ) → IsTime secs n d → (P n d ↔ Q n d)) → MatchOption r (HoldsNever secs P) (λ (p, q). IsWindow secs P p q) → MatchOption r (HoldsNever secs Q) (λ (p, q). IsWindow secs Q p q)
+pub retarget : (secs : ℕ) (P Q : ℤ → ℤ → Type 0) (r : Option (Point × Point))
+    → ((n d : ℤ) → IsTime secs n d → (P n d ↔ Q n d))
+    → MatchOption r (HoldsNever secs P) (λ (p, q). IsWindow secs P p q)
+    → MatchOption r (HoldsNever secs Q) (λ (p, q). IsWindow secs Q p q)
 retarget secs P Q None same h = λ n d t b. h n d t ((same n d t).1 b)
 retarget secs P Q (Some w) same h = record {
   first = h.first;
@@ -69,7 +73,8 @@ neg-times : (m d : ℤ) → neg_ℤ m *ℤ d ≡ neg_ℤ (m *ℤ d)
 neg-times m d = let M = # 0 in let D = # 1 in ring (m ∷ d ∷ []) (⊝ M ⊗ D) (⊝ (M ⊗ D)) tt
 
 -- what rises from h at a, where d h + n a is z
-pub as_band : (h a m : ℤ) (high ahead : ℕ) (n d : ℤ) → pos 1 ≤ℤ a → pos 1 ≤ℤ d → IsMax m (pos high) (pos ahead *ℤ a) → IsEither (d *ℤ h +ℤ n *ℤ a) a (pos high *ℤ d) (pos ahead *ℤ d *ℤ a) ↔ IsInBand h a m (pos high) n d
+pub as_band : (h a m : ℤ) (high ahead : ℕ) (n d : ℤ) → pos 1 ≤ℤ a → pos 1 ≤ℤ d → IsMax m (pos high) (pos ahead *ℤ a)
+    → IsEither (d *ℤ h +ℤ n *ℤ a) a (pos high *ℤ d) (pos ahead *ℤ d *ℤ a) ↔ IsInBand h a m (pos high) n d
 as_band h a m high ahead n d ha hd x =
     let d0 : pos 0 ≤ℤ d = omega (arith, ints) in
     let y : IsMax (m *ℤ d) (pos high *ℤ d) (pos ahead *ℤ d *ℤ a) = subst (λ (z : ℤ). IsMax (m *ℤ d) (pos high *ℤ d) z) (turn (pos ahead) a d) (scaled_max m (pos high) (pos ahead *ℤ a) d d0 x) in
@@ -81,7 +86,9 @@ as_band h a m high ahead n d ha hd x =
     )
 
 module _ (leg : Leg) (volume : Volume) where
-  pub rising : (m : ℤ) → pos 1 ≤ℤ leg.velocity.up → IsMax m (pos volume.zthr) (pos volume.tcoa *ℤ leg.velocity.up) → (n d : ℤ) → IsTime leg.secs n d → IsInBand leg.place.up leg.velocity.up m (pos volume.zthr) n d ↔ ViolatesVertically leg volume n d
+  pub rising : (m : ℤ) → pos 1 ≤ℤ leg.velocity.up
+      → IsMax m (pos volume.zthr) (pos volume.tcoa *ℤ leg.velocity.up) → (n d : ℤ) → IsTime leg.secs n d
+      → IsInBand leg.place.up leg.velocity.up m (pos volume.zthr) n d ↔ ViolatesVertically leg volume n d
   rising m ha x n d t =
       let same = as_band leg.place.up leg.velocity.up m volume.zthr volume.tcoa n d ha t.fraction x in
       let size : pos (unsigned_abs leg.velocity.up) ≡ leg.velocity.up = abs-pos leg.velocity.up ha in (
@@ -102,7 +109,10 @@ module _ (leg : Leg) (volume : Volume) where
       let H = # 0 in let W = # 1 in let N = # 2 in let D = # 3 in
       ring (leg.place.up ∷ leg.velocity.up ∷ n ∷ d ∷ []) ((D ⊗ ⊝ H ⊕ N ⊗ ⊝ W) ⊗ ⊝ W) ((D ⊗ H ⊕ N ⊗ W) ⊗ W) tt
 
-  pub falling : (m : ℤ) → leg.velocity.up <ℤ pos 0 → IsMax m (pos volume.zthr) (pos volume.tcoa *ℤ neg_ℤ leg.velocity.up) → (n d : ℤ) → IsTime leg.secs n d → IsInBand (neg_ℤ leg.place.up) (neg_ℤ leg.velocity.up) m (pos volume.zthr) n d ↔ ViolatesVertically leg volume n d
+  pub falling : (m : ℤ)
+      → leg.velocity.up <ℤ pos 0 → IsMax m (pos volume.zthr) (pos volume.tcoa *ℤ neg_ℤ leg.velocity.up)
+      → (n d : ℤ) → IsTime leg.secs n d → IsInBand (neg_ℤ leg.place.up) (neg_ℤ leg.velocity.up) m (pos volume.zthr) n d
+      ↔ ViolatesVertically leg volume n d
   falling m ha x n d t =
       let a1 : pos 1 ≤ℤ neg_ℤ leg.velocity.up = omega (arith, ints) in
       let same = as_band (neg_ℤ leg.place.up) (neg_ℤ leg.velocity.up) m volume.zthr volume.tcoa n d a1 t.fraction x in

@@ -237,6 +237,10 @@ fn values_may_be_sent() {
     may_be_sent::<Kind>();
     may_be_sent::<Resolution>();
     may_be_sent::<ConfigFault>();
+    may_be_sent::<Candidate>();
+    may_be_sent::<Rates>();
+    may_be_sent::<Level>();
+    may_be_sent::<ConfigNumbers>();
 }
 
 /// The cylinder of a recovery, in units.

@@ -86,15 +86,16 @@ fn the_gate_is_passed_once_for_each_unit_of_several_workers(rt: HostRuntime) -> 
     Ok(())
 }
 
-/// As a worker may find nothing to steal by chance, the meeting is tried five times.
+/// Each of four workers waits at its first unit until all have come, worker 0 too. As a thread may
+/// not be had, the meeting is tried five times.
 #[test]
-fn three_of_four_workers_meet_at_the_gate(rt: HostRuntime) -> Result<(), Fail> {
+fn four_workers_meet_at_the_gate(rt: HostRuntime) -> Result<(), Fail> {
     let picture = picture_in(&EXAMPLE_MOMENT).expect(&rt, "the lines of a moment");
     let mut met = false;
     for _ in 0..5 {
         if !met {
             let mut engine = engine_of_workers(&rt, THREE_LEVELS, &[], 4)?;
-            let meeting = Meeting::of(&rt, 3);
+            let meeting = Meeting::of(&rt, 4);
             engine.decide(&rt, rt.alloc(), &picture, &meeting);
             met = meeting.has_met();
         }

@@ -1,11 +1,11 @@
 //! Reading ahead of the report changes no byte and no status.
 
 use super::{
-    ONE, ONE_LEVEL, ONE_TEXT, ONES, Outside, PLAIN, REPLAY, SEVENS, expect, gives, shelf_with,
-    status_of, whole_sink,
+    ONE, ONE_LEVEL, ONE_TEXT, ONES, Outside, PLAIN, REPLAY, SEVENS, asking, expect, gives,
+    shelf_with, source_of, status_of, whole_sink,
 };
 use daa_ahead::examples::HoldingSource;
-use daa_outside::{Failed, Gate, Meeting, MemSink, MemSource, Open, Sink};
+use daa_outside::{Failed, Gate, Meeting, MemSink, Open, Sink};
 use std::alloc::AllocError;
 use std::process::Abort;
 use std::test::Fail;
@@ -63,11 +63,7 @@ fn reading_ahead_keeps_the_limit_and_goes_far(rt: HostRuntime) -> Result<(), Fai
         };
         gives(&rt, b"\n\n\n\n\n", limited, 8, b"")?;
     }
-    let farthest = Outside {
-        words: FARTHEST,
-        ..PLAIN
-    };
-    gives(&rt, ONE, farthest, 0, ONE_TEXT)
+    gives(&rt, ONE, asking(FARTHEST), 0, ONE_TEXT)
 }
 
 /// With pieces of nine bytes: a read and a write that fail, the most bytes that are read, the
@@ -148,10 +144,9 @@ fn status_held<R: Threads + Sync + AllocGlobal, G: Gate>(
     rt: &R,
     gate: &G,
 ) -> Result<(u8, Vec<u8>), AllocError> {
-    let alloc = rt.alloc();
     let mut shelf = shelf_with(rt, ONE_LEVEL, &[])?;
     let mut source = HoldingSource {
-        inner: MemSource::new(LONGER.to_vec(alloc)?, NINES.to_vec(alloc)?, Vec::new(alloc)),
+        inner: source_of(rt, LONGER, &NINES, &[])?,
         calls: 0,
         waits: 7,
         gate,
@@ -162,7 +157,7 @@ fn status_held<R: Threads + Sync + AllocGlobal, G: Gate>(
         meeting: gate,
     };
     let status = status_of(rt, READINGS[2], &mut shelf, &mut source, &mut sink, &Open)?;
-    Ok((status, sink.inner.taken().to_vec(alloc)?))
+    Ok((status, sink.inner.taken().to_vec(rt.alloc())?))
 }
 
 /// Whether a replay that reads four pieces ahead reads on while it writes the report of a moment.

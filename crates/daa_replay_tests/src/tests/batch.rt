@@ -4,9 +4,12 @@ use super::{
     ONE_LEVEL, Outside, PLAIN, gives, gives_front, shelf_with, status_and_text, status_of,
     whole_sink, whole_source,
 };
-use daa_outside::Meeting;
+use daa_outside::{Gate, Meeting};
 use std::alloc::AllocError;
+use std::array;
 use std::process::Abort;
+use std::sync::atomic::AtomicU64;
+use std::sync::atomic::Ordering::SeqCst;
 use std::test::Fail;
 use std::thread::Threads;
 
@@ -53,20 +56,20 @@ fn alone<R: Abort + Threads + Sync + AllocGlobal>(
     Ok(text)
 }
 
-/// More events than may wait at a time, in pieces of any size and of some 200 moments.
+/// More events than may wait at a time, in pieces of any size and of some 200 moments. The sink has
+/// room for the text and no more, so that a write that is not needed, also of no bytes, fails.
 #[test]
 fn moments_of_a_piece_are_shared_out(rt: HostRuntime) -> Result<(), Fail> {
-    let room = 300_000;
     let input = moments_of(&rt, 1100)?;
-    let text = alone(&rt, input.as_bytes(), room)?;
+    let text = alone(&rt, input.as_bytes(), 300_000)?;
     assert!(rt; text.len() > 240_000);
-    for workers in ["3", "4", "16"] {
+    for workers in ["1", "3", "4", "16"] {
         let words = ["daidalus", "replay", "--config", "c", "--workers", workers];
         for pieces in [&[][..], &[20000; 9]] {
             let outside = Outside {
                 words: &words,
                 read_pieces: pieces,
-                room,
+                room: text.len(),
                 ..PLAIN
             };
             gives(&rt, input.as_bytes(), outside, 1, text.as_slice())?;
@@ -127,6 +130,137 @@ fn a_sink_fails_within_a_batch(rt: HostRuntime) -> Result<(), Fail> {
     let text = alone(&rt, input.as_bytes(), 100_000)?;
     for room in [0, 1, 226, 1000, 20_000, 50_000] {
         gives_front(&rt, input.as_bytes(), PLAIN, text.as_slice(), room)?;
+    }
+    Ok(())
+}
+
+/// A run with these words whose sink takes single bytes, and fails once, at the write behind so many
+/// of them: it took these bytes and no more.
+fn stops_at_write<R: Abort + Threads + Sync + AllocGlobal>(
+    rt: &R,
+    words: &[&str],
+    input: &[u8],
+    text: &[u8],
+    fails: usize,
+) -> Result<(), Fail> {
+    let ones = vec![in rt.alloc(); 1usize; fails]?;
+    let outside = Outside {
+        words,
+        room: text.len(),
+        write_pieces: ones.as_slice(),
+        write_fails: &[fails as u64],
+        ..PLAIN
+    };
+    let front = text.get(..fails).ok_or("a front of the text")?;
+    gives(rt, input, outside, 5, front)
+}
+
+/// A write that fails is not tried again, though the sink would take further bytes.
+#[test]
+fn a_write_fails_within_a_batch(rt: HostRuntime) -> Result<(), Fail> {
+    let input = moments_of(&rt, 300)?;
+    let text = alone(&rt, input.as_bytes(), 100_000)?;
+    for workers in ["1", "3", "4", "16"] {
+        let words = ["daidalus", "replay", "--config", "c", "--workers", workers];
+        for fails in [0, 1, 226, 20_000, 50_000, text.len() - 1] {
+            stops_at_write(&rt, &words, input.as_bytes(), text.as_slice(), fails)?;
+        }
+    }
+    Ok(())
+}
+
+/// A run with these words that reads pieces of this size, and whose read of this number fails: it
+/// writes this text.
+fn stops_at_read<R: Abort + Threads + Sync + AllocGlobal>(
+    rt: &R,
+    words: &[&str],
+    input: &[u8],
+    piece: usize,
+    fails: u64,
+    text: &[u8],
+) -> Result<(), Fail> {
+    let outside = Outside {
+        words,
+        read_pieces: &[piece; 3],
+        read_fails: &[fails],
+        room: 100_000,
+        ..PLAIN
+    };
+    gives(rt, input, outside, 4, text)
+}
+
+/// A read that fails behind a batch is not tried again, though the source would hand out further
+/// moments. What was read before is reported.
+#[test]
+fn a_read_fails_behind_a_batch(rt: HostRuntime) -> Result<(), Fail> {
+    let front = moments_of(&rt, 100)?;
+    let text = alone(&rt, front.as_bytes(), 100_000)?;
+    let input = moments_of(&rt, 300)?;
+    for workers in ["1", "3", "16"] {
+        let words = ["daidalus", "replay", "--config", "c", "--workers", workers];
+        for (fails, taken) in [(0, 0), (1, text.len())] {
+            let taken = text.get(..taken).ok_or("a front of the text")?;
+            stops_at_read(&rt, &words, input.as_bytes(), front.len(), fails, taken)?;
+        }
+    }
+    Ok(())
+}
+
+/// The events of one piece: a refused line and then a moment, 300 times.
+const EVENTS: usize = 600;
+
+/// A gate that counts who passes, for each event of the piece and for all other units.
+#[derive(Drop)]
+struct Tally {
+    passes: [AtomicU64; EVENTS],
+    beyond: AtomicU64,
+}
+
+impl Tally {
+    fn new() -> Tally {
+        Tally {
+            passes: array::from_fn(|_| AtomicU64::new(0)),
+            beyond: AtomicU64::new(0),
+        }
+    }
+
+    /// How often the gate was passed for an event.
+    fn passes(&self, event: usize) -> u64 {
+        match self.passes.get(event) {
+            Some(count) => count.load(SeqCst),
+            None => 0,
+        }
+    }
+
+    /// Each second event, which is a moment, was passed for once, and no other unit.
+    fn has_passed_each_moment_once(&self) -> bool {
+        (0..EVENTS).all(|event| self.passes(event) == event as u64 % 2)
+            && self.beyond.load(SeqCst) == 0
+    }
+}
+
+impl Gate for Tally {
+    fn pass(&self, _worker: u32, unit: u32) {
+        self.passes
+            .get(unit as usize)
+            .unwrap_or(&self.beyond)
+            .fetch_add(1, SeqCst);
+    }
+}
+
+/// The unit of a moment is its place in the batch.
+#[test]
+fn the_gate_is_passed_once_for_each_moment_of_a_batch(rt: HostRuntime) -> Result<(), Fail> {
+    let input = moments_of(&rt, 300)?;
+    for workers in ["2", "16"] {
+        let words = ["daidalus", "replay", "--config", "c", "--workers", workers];
+        let tally = Tally::new();
+        let mut shelf = shelf_with(&rt, ONE_LEVEL, &[])?;
+        let mut source = whole_source(&rt, input.as_bytes())?;
+        let mut sink = whole_sink(&rt, 100_000)?;
+        let status = status_of(&rt, &words, &mut shelf, &mut source, &mut sink, &tally)?;
+        assert!(rt; status == 1);
+        assert!(rt; tally.has_passed_each_moment_once(), "with {workers}");
     }
     Ok(())
 }

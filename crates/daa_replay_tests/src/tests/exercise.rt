@@ -1,7 +1,7 @@
 //! Exercises: the summaries of seeds, which another program found from the definitions.
 
 use super::opening::USAGE;
-use super::{ONE_LEVEL, Outside, PLAIN, gives, gives_front, shelf_with, status_of};
+use super::{ONE_LEVEL, Outside, PLAIN, asking, gives, gives_front, shelf_with, status_of};
 use daa_config::examples::THREE_LEVELS;
 use daa_outside::{MemSource, Open, Void};
 use std::process::Abort;
@@ -96,9 +96,8 @@ fn expect_hundred<R: Abort + Threads + Sync + AllocGlobal>(
     words: &[&str],
 ) -> Result<(), Fail> {
     let outside = Outside {
-        words,
         config: THREE_LEVELS,
-        ..PLAIN
+        ..asking(words)
     };
     gives(rt, b"", outside, 0, HUNDRED)
 }
@@ -165,7 +164,7 @@ static TAKEN: [(&[&str], &[u8]); 3] = [
 #[test]
 fn an_exercise_writes_its_summary(rt: HostRuntime) -> Result<(), Fail> {
     for (words, text) in &TAKEN {
-        gives(&rt, b"", Outside { words, ..PLAIN }, 0, text)?;
+        gives(&rt, b"", asking(words), 0, text)?;
     }
     Ok(())
 }
@@ -209,7 +208,7 @@ static NOT_TAKEN: [&[&str]; 6] = [
 #[test]
 fn words_of_an_exercise_that_are_not_taken(rt: HostRuntime) -> Result<(), Fail> {
     for words in &NOT_TAKEN {
-        gives(&rt, b"", Outside { words, ..PLAIN }, 2, USAGE)?;
+        gives(&rt, b"", asking(words), 2, USAGE)?;
     }
     Ok(())
 }

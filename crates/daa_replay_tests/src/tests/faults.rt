@@ -1,6 +1,6 @@
 //! Limits and faults of the source and the sink.
 
-use super::{ONE, ONE_TEXT, ONES, Outside, PLAIN, gives, gives_front};
+use super::{ONE, ONE_TEXT, ONES, Outside, PLAIN, gives, gives_front, reading};
 use std::process::Abort;
 use std::test::Fail;
 use std::thread::Threads;
@@ -20,12 +20,7 @@ fn the_limit_counts_bytes(rt: HostRuntime) -> Result<(), Fail> {
 
 /// A replay that reads single bytes, and whose read of this number fails before the input's end.
 fn reads_bytes<R: Abort + Threads + Sync + AllocGlobal>(rt: &R, fails: u64) -> Result<(), Fail> {
-    let outside = Outside {
-        read_pieces: &ONES,
-        read_fails: &[fails],
-        ..PLAIN
-    };
-    gives(rt, ONE, outside, 4, b"")
+    gives(rt, ONE, reading(&ONES, &[fails]), 4, b"")
 }
 
 /// Pieces and a read that fails, the status and the text. The end of the input is met once, and
@@ -42,12 +37,7 @@ fn a_read_that_fails_ends_the_run(rt: HostRuntime) -> Result<(), Fail> {
         reads_bytes(&rt, fails)?;
     }
     for (read_pieces, read_fails, status, text) in &READS {
-        let outside = Outside {
-            read_pieces,
-            read_fails,
-            ..PLAIN
-        };
-        gives(&rt, ONE, outside, *status, text)?;
+        gives(&rt, ONE, reading(read_pieces, read_fails), *status, text)?;
     }
     Ok(())
 }
@@ -94,10 +84,8 @@ fn the_first_fault_ends_the_run(rt: HostRuntime) -> Result<(), Fail> {
     let nines = [9; 8];
     for (read_fails, write_fails, status) in [([7u64], [0u64], 5u8), ([6], [0], 4), ([1], [0], 4)] {
         let outside = Outside {
-            read_pieces: &nines,
-            read_fails: &read_fails,
             write_fails: &write_fails,
-            ..PLAIN
+            ..reading(&nines, &read_fails)
         };
         gives(&rt, ONE, outside, status, b"")?;
     }

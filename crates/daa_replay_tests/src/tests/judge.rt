@@ -46,8 +46,8 @@ fn judges<R: Abort + Threads + Sync + AllocGlobal>(
     status: u8,
     text: &[u8],
 ) -> Result<(), Fail> {
-    let shelf = shelf_of_both(rt, states, outside)?;
-    let found = status_over(rt, shelf, report, outside)?;
+    let mut shelf = shelf_of_both(rt, states, outside)?;
+    let found = status_over(rt, &mut shelf, report, outside)?;
     expect(rt, &found, status, text);
     Ok(())
 }

@@ -1,7 +1,7 @@
 //! Lines, their refusals, and the pieces in which they come.
 
 use super::ahead::READINGS;
-use super::{COVERED, ONE, ONE_TEXT, ONES, Outside, PLAIN, REPLAY, SEVENS, gives, whole};
+use super::{COVERED, ONE, ONE_TEXT, ONES, Outside, PLAIN, REPLAY, SEVENS, asking, gives, whole};
 use std::alloc::AllocError;
 use std::test::Fail;
 
@@ -47,8 +47,13 @@ fn lines_give_their_refusals_and_moments(rt: HostRuntime) -> Result<(), Fail> {
     for (input, status, text) in &MOMENTS {
         let text = whole(&rt, text)?;
         for words in [REPLAY, &ALONE] {
-            let outside = Outside { words, ..PLAIN };
-            gives(&rt, input.as_bytes(), outside, *status, text.as_bytes())?;
+            gives(
+                &rt,
+                input.as_bytes(),
+                asking(words),
+                *status,
+                text.as_bytes(),
+            )?;
         }
     }
     gives(&rt, ONE, PLAIN, 0, ONE_TEXT)

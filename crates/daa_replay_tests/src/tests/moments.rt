@@ -1,6 +1,6 @@
 //! Moments and their reports.
 
-use super::{ONE_TEXT, Outside, PLAIN, expect, gives, status_and_text, whole};
+use super::{ONE_TEXT, PLAIN, expect, gives, status_and_text, under, whole};
 use daa_config::examples::LARGEST_VALUES;
 use std::alloc::AllocError;
 use std::test::Fail;
@@ -51,11 +51,7 @@ fn decided<R: Threads + Sync + AllocGlobal>(
 ) -> Result<(u8, Vec<u8>), Fail> {
     let config = config_of(rt, resolve, levels)?;
     let input = moment_with(rt, vertical_speed, traffic)?;
-    let outside = Outside {
-        config: config.as_str(),
-        ..PLAIN
-    };
-    status_and_text(rt, input.as_bytes(), outside)
+    status_and_text(rt, input.as_bytes(), under(config.as_str()))
 }
 
 /// The touch at ten seconds: the track to the west alone is clear.
@@ -235,11 +231,7 @@ fn reports_begin_with_their_aircraft(rt: HostRuntime) -> Result<(), Fail> {
 fn the_largest_values_are_decided(rt: HostRuntime) -> Result<(), Fail> {
     let input =
         b"moment 4294967295\nown -200000 -200000 -2000 45 10000 10000\ntraffic A 200000 200000 60000 -10000 -10000 -10000\nend\n";
-    let outside = Outside {
-        config: LARGEST_VALUES,
-        ..PLAIN
-    };
-    let (status, text) = status_and_text(&rt, input, outside)?;
+    let (status, text) = status_and_text(&rt, input, under(LARGEST_VALUES))?;
     assert!(rt; status == 0);
     assert!(rt; text.starts_with(b"moment 4294967295\nnow A 0\nalert A 0 -\ntrack 0 "));
     assert!(rt; text.ends_with(b"done 4294967295\n"));

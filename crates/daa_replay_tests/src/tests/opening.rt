@@ -1,6 +1,6 @@
 //! Command words and configurations.
 
-use super::{ONE, ONE_TEXT, Outside, PLAIN, REPLAY, gives, gives_front};
+use super::{ONE, ONE_TEXT, Outside, PLAIN, REPLAY, asking, gives, gives_front, under};
 use daa_config::examples::{ONE_LEVEL, THREE_LEVELS};
 use std::process::Abort;
 use std::test::Fail;
@@ -30,27 +30,14 @@ const MISSING: [&str; 4] = ["daidalus", "replay", "--config", "d"];
 #[test]
 fn words_that_are_not_taken_give_the_usage_line(rt: HostRuntime) -> Result<(), Fail> {
     for words in &NOT_TAKEN {
-        gives(&rt, ONE, Outside { words, ..PLAIN }, 2, USAGE)?;
+        gives(&rt, ONE, asking(words), 2, USAGE)?;
     }
-    let outside = Outside {
-        words: &JOINED,
-        ..PLAIN
-    };
-    gives(&rt, ONE, outside, 0, ONE_TEXT)
+    gives(&rt, ONE, asking(&JOINED), 0, ONE_TEXT)
 }
 
 #[test]
 fn an_input_without_lines_gives_nothing(rt: HostRuntime) -> Result<(), Fail> {
-    gives(
-        &rt,
-        b"",
-        Outside {
-            config: THREE_LEVELS,
-            ..PLAIN
-        },
-        0,
-        b"",
-    )
+    gives(&rt, b"", under(THREE_LEVELS), 0, b"")
 }
 
 /// A configuration with other words in the place of some of its own.
@@ -133,7 +120,7 @@ fn refuses<R: Abort + Threads + Sync + AllocGlobal>(
     config: &str,
     text: &[u8],
 ) -> Result<(), Fail> {
-    gives(rt, ONE, Outside { config, ..PLAIN }, 3, text)
+    gives(rt, ONE, under(config), 3, text)
 }
 
 static TEXTS: [(&str, &[u8]); 3] = [
@@ -170,11 +157,7 @@ fn a_kind_may_have_512_values(rt: HostRuntime) -> Result<(), Fail> {
         "min = 1000, max = 1000",
         "min = 0, max = 511",
     )?;
-    let outside = Outside {
-        config: config.as_str(),
-        ..PLAIN
-    };
-    gives(&rt, b"", outside, 0, b"")
+    gives(&rt, b"", under(config.as_str()), 0, b"")
 }
 
 /// And one more may not.
@@ -209,16 +192,8 @@ fn a_shelf_that_fails_ends_the_run(rt: HostRuntime) -> Result<(), Fail> {
 
 #[test]
 fn a_line_before_the_report_may_fail_too(rt: HostRuntime) -> Result<(), Fail> {
-    let no_words = Outside {
-        words: NOT_TAKEN[1],
-        ..PLAIN
-    };
     for room in [0, 20] {
-        gives_front(&rt, ONE, no_words, USAGE, room)?;
+        gives_front(&rt, ONE, asking(NOT_TAKEN[1]), USAGE, room)?;
     }
-    let config = Outside {
-        config: "",
-        ..PLAIN
-    };
-    gives_front(&rt, ONE, config, b"config 4\n", 5)
+    gives_front(&rt, ONE, under(""), b"config 4\n", 5)
 }

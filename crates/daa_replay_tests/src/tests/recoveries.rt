@@ -1,6 +1,6 @@
 //! Reports of moments in which nothing is open, under a configuration that asks for recoveries.
 
-use super::{ONE_TEXT, Outside, PLAIN, gives, whole};
+use super::{ONE_TEXT, PLAIN, gives, under, whole};
 use daa_config::examples::ONE_LEVEL;
 use std::alloc::AllocError;
 use std::test::Fail;
@@ -40,11 +40,7 @@ fn what_leads_out_soonest_is_written(rt: HostRuntime) -> Result<(), Fail> {
     for (table, lines) in &RECOVERIES {
         let config = asking(&rt, table)?;
         let text = report_with(&rt, lines)?;
-        let outside = Outside {
-            config: config.as_str(),
-            ..PLAIN
-        };
-        gives(&rt, BESIDE, outside, 0, text.as_bytes())?;
+        gives(&rt, BESIDE, under(config.as_str()), 0, text.as_bytes())?;
     }
     Ok(())
 }

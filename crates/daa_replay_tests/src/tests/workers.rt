@@ -10,7 +10,7 @@ use std::thread::Threads;
 use std::time::Clock;
 
 /// A gate that counts who passes for each of the first four units, and for all others, and at which
-/// two workers meet.
+/// worker 0 and the first other that comes wait for each other.
 #[derive(Drop)]
 struct Watched<C> {
     meeting: Meeting<C>,
@@ -44,7 +44,7 @@ impl<C: Clock + Sync> Gate for Watched<C> {
             .get(unit as usize)
             .unwrap_or(&self.beyond)
             .fetch_add(1, SeqCst);
-        self.meeting.pass(worker, unit);
+        self.meeting.pass(worker.min(1), unit);
     }
 }
 
@@ -85,7 +85,7 @@ fn expect_four<R: Abort + Threads + Sync + AllocGlobal, G: Gate>(
     Ok(())
 }
 
-/// As a worker may find nothing to steal by chance, the meeting is tried five times.
+/// As a thread may not be had, the meeting is tried five times.
 #[test]
 fn two_workers_meet_at_the_gate(rt: HostRuntime) -> Result<(), Fail> {
     expect_four(&rt, &ONE_WORKER, &Open)?;

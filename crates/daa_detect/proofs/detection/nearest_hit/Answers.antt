@@ -61,4 +61,5 @@ returns c =
     let down : rate_of m first.num first.den <ℤ pos 0 = omega (arith, ints) in
     let up : pos 0 <ℤ rate_of m last.num last.den = omega (arith, ints) in
     let passes : pos 0 ≤ℤ m.margin = omega (arith, ints) in
-    rw (c.closest_approach.ensures.num, c.closest_approach.ensures.den) (approach_hits c.args.leg.now c.args.volume.now m c.motion_of-motion.ensures r v first last c.in_ok-first.ensures.times down up passes)
+    rw (c.closest_approach.ensures.num, c.closest_approach.ensures.den) (approach_hits c.args.leg.now
+    c.args.volume.now m c.motion_of-motion.ensures r v first last c.in_ok-first.ensures.times down up passes)

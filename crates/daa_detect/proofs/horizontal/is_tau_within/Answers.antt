@@ -92,4 +92,6 @@ returns c =
     let f10 = fits w128 (zero_less-within _ (times y y)) (lit< tt) in
     let f11 = fits w128 (times w (plus w g)) (lit< tt) in
     let missed = ap (λ (z : ℤ). neg_ℤ (square_of (c.args.point.now.den *ℤ z))) c.miss.ensures in
-    simp (to_z-of_z, of_motion) (le_test _ _ _ _ (λ i. c.rate_at-rate.ensures i *ℤ (c.rate_at-rate.ensures i +ℤ c.rate_gain.ensures i)) (zero_less (square_of (c.args.point.now.den *ℤ c.miss.result)) ∙ missed))
+    simp (to_z-of_z, of_motion) (le_test _ _ _ _
+    (λ i. c.rate_at-rate.ensures i *ℤ (c.rate_at-rate.ensures i +ℤ c.rate_gain.ensures i))
+    (zero_less (square_of (c.args.point.now.den *ℤ c.miss.result)) ∙ missed))

@@ -40,7 +40,9 @@ returns-then-held c =
     let last = c.args.last.now in
     let down : middle_rate_of c.args.motion.now c.args.volume.now.tthr first.num first.den <ℤ pos 0 = omega (arith, ints) in
     let up : pos 0 <ℤ middle_rate_of c.args.motion.now c.args.volume.now.tthr last.num last.den = omega (arith, ints) in
-    rw (c.middle.ensures.num, c.middle.ensures.den) (middle_hits c.args.leg.now c.args.volume.now c.args.motion.now c.requires.motion r v c.args.first.now c.args.last.now c.requires.window c.requires.tau c.requires.passes down up (c.is_tau_within_in_middle-held.ensures.0 c.if-held.true))
+    rw (c.middle.ensures.num, c.middle.ensures.den) (middle_hits c.args.leg.now
+    c.args.volume.now c.args.motion.now c.requires.motion r v c.args.first.now c.args.last.now c.requires.window
+    c.requires.tau c.requires.passes down up (c.is_tau_within_in_middle-held.ensures.0 c.if-held.true))
 
 pub returns-else-held : goal.returns-else-held
 returns-else-held c =
@@ -50,4 +52,6 @@ returns-else-held c =
     let last = c.args.last.now in
     let down : middle_rate_of c.args.motion.now c.args.volume.now.tthr first.num first.den <ℤ pos 0 = omega (arith, ints) in
     let up : pos 0 <ℤ middle_rate_of c.args.motion.now c.args.volume.now.tthr last.num last.den = omega (arith, ints) in
-    middle_clear c.args.leg.now c.args.volume.now c.args.motion.now c.requires.motion r v c.args.first.now c.args.last.now c.requires.window c.requires.tau c.requires.passes down up (λ h. absurd (cc (c.is_tau_within_in_middle-held.ensures.1 h, c.if-held.false)))
+    middle_clear c.args.leg.now c.args.volume.now c.args.motion.now c.requires.motion
+    r v c.args.first.now c.args.last.now c.requires.window c.requires.tau c.requires.passes down up
+    (λ h. absurd (cc (c.is_tau_within_in_middle-held.ensures.1 h, c.if-held.false)))

@@ -20,4 +20,6 @@ returns-else-deg-le90 c =
     let g : FitsSigned w32 c.sine-else-deg-le90.result = search rules in
     let round : (pos 90 -ℤ c.args.deg) +ℤ pos 360 ≡ pos (unsigned_abs (pos 450 -ℤ c.args.deg)) = omega (arith, ints) in
     let on : pos 450 -ℤ c.args.deg ≡ (pos 90 -ℤ c.args.deg) +ℤ pos 360 = omega (arith, ints) in
-    simp to_z-of_z ((simp to_z-of_z at c.sine-else-deg-le90.ensures) ∙ ap sine_of (on ∙ sym (below_circle (pos 90 -ℤ c.args.deg) (unsigned_abs (pos 450 -ℤ c.args.deg)) round (omega (arith, ints, c.if-deg-le90.false)))))
+    simp to_z-of_z ((simp to_z-of_z at c.sine-else-deg-le90.ensures)
+    ∙ ap sine_of (on ∙ sym (below_circle (pos 90 -ℤ c.args.deg) (unsigned_abs (pos 450 -ℤ c.args.deg)) round
+    (omega (arith, ints, c.if-deg-le90.false)))))

@@ -8,7 +8,9 @@ use Rattle.daa_vwindow.proofs.band.passage.Goals as goal
 first_is : (f low h : ℤ) → FitsSigned w64 low → FitsSigned w64 h → f ≡ int_max (neg_ℤ (to_z w64 (of_z w64 low)) -ℤ to_z w64 (of_z w64 h)) (pos 0) → IsMax f (neg_ℤ low -ℤ h) (pos 0)
 first_is f low h low_fits h_fits e = max_is (neg_ℤ low -ℤ h) (pos 0) (simp to_z-of_z at e)
 
-last_is : (secs : ℕ) (l high h a : ℤ) → FitsSigned w64 high → FitsSigned w64 h → FitsSigned w64 a → l ≡ int_min (to_z w64 (of_z w64 high) -ℤ to_z w64 (of_z w64 h)) (pos secs *ℤ to_z w64 (of_z w64 a)) → IsMin l (high -ℤ h) (pos secs *ℤ a)
+last_is : (secs : ℕ) (l high h a : ℤ) → FitsSigned w64 high → FitsSigned w64 h → FitsSigned w64 a
+    → l ≡ int_min (to_z w64 (of_z w64 high) -ℤ to_z w64 (of_z w64 h)) (pos secs *ℤ to_z w64 (of_z w64 a))
+    → IsMin l (high -ℤ h) (pos secs *ℤ a)
 last_is secs l high h a high_fits h_fits a_fits e = min_is (high -ℤ h) (pos secs *ℤ a) (simp to_z-of_z at e)
 
 pub invariant_of-begin : goal.invariant_of-begin

@@ -13,7 +13,9 @@ loop-i-init c = record {
 
 pub push-requires : goal.push-requires
 push-requires c =
-    let count : length c.loop-i.traffic.items ≡ c.loop-i.i = ap (λ (xs : List Traffic). length xs) c.loop-i.invariant.items ∙ traffic_count (outputs_from c.args.self.now) c.args.own.now.alt c.loop-i.i 0 in
+    let count : length c.loop-i.traffic.items ≡ c.loop-i.i =
+    ap (λ (xs : List Traffic). length xs) c.loop-i.invariant.items
+    ∙ traffic_count (outputs_from c.args.self.now) c.args.own.now.alt c.loop-i.i 0 in
     (omega arith, omega (arith, count, c.loop-i-test.true, c.requires.few))
 
 pub loop-i-preserved : goal.loop-i-preserved
