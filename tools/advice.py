@@ -18,8 +18,10 @@ def first_words(text):
 def advice_on_config(config, text):
     """Advice on a configuration, or None where it is refused, and its text."""
     if config is None:
-        is_states = first_words(text)[:1] in (["moment"], ["format"], ["own"])
-        return ["these are state lines: the configuration comes first, tools/check CONFIG STATES"] if is_states else []
+        if first_words(text)[:1] in (["moment"], ["format"], ["own"]):
+            return ["these are state lines: the configuration comes first, tools/check CONFIG STATES"]
+        is_nasas = re.search(rb"(?m)^\s*\w+[ \t]*=[ \t]*[-+.0-9]+[ \t]*\[[ \t]*[A-Za-z]", text)
+        return ["this looks like NASA's parameters: tools/from_parameters makes a configuration of them"] if is_nasas else []
     return [*on_levels(config), *on_grids(config), *on_recovery(config)]
 
 
@@ -77,7 +79,7 @@ def advice_on_states(moments, refused, text):
         return ["this looks like a configuration: it comes first, tools/check CONFIG STATES"]
     if any(refusal.code == 2 and refusal.why.startswith("'now'") for refusal in refused):
         return ["this looks like a report: the states are what it was made of"]
-    found = []
+    found = [] if moments or refused else ["there is no moment in it"]
     if any(refusal.code == 3 and "traffic has 8 fields" in refusal.why for refusal in refused):
         found.append("aircraft with an age, the eighth number, are of format 2: write the line `format 2` before the first moment")
     return [*found, *on_speeds(moments), *on_places(moments)]

@@ -1,8 +1,10 @@
 """What the tools share: a configuration, state lines and a report, each read once, as docs/FORMATS.md tells them."""
 import argparse
+import contextlib
 import functools
 import os
 import re
+import signal
 import sys
 from typing import NamedTuple
 
@@ -23,28 +25,62 @@ class Problem(Exception):
 
 
 def run_tool(name, main):
-    """Runs a tool's main and ends the process; a problem is told in one line on standard error."""
+    """Runs a tool's main and ends the process; what it can't do is told in one line on standard error. An interrupt ends it as
+    it ends a program that knows of none."""
+    if signal.getsignal(signal.SIGINT) is signal.default_int_handler:
+        signal.signal(signal.SIGINT, signal.SIG_DFL)
+    if sys.stdout is None:
+        tell(f"{name}: standard output is closed")
+        sys.exit(5)
     try:
-        status = main()
+        status = status_of(name, main)
         sys.stdout.flush()
-    except Problem as problem:
-        print(f"{name}: {problem}", file=sys.stderr)
-        status = problem.status
-    except BrokenPipeError:  # whoever read the output has gone
+    except OSError as fault:  # of writing; what can't be read is a problem
+        if not isinstance(fault, BrokenPipeError):
+            tell(f"{name}: the output: {fault.strerror}")
         os.dup2(os.open(os.devnull, os.O_WRONLY), sys.stdout.fileno())
         status = 5
     sys.exit(status)
+
+
+def status_of(name, main):
+    """The status that a main ends with."""
+    try:
+        return main()
+    except Problem as problem:
+        tell(f"{name}: {problem}")
+        return problem.status
+    except SystemExit as end:  # after --help, or words that are not taken
+        return end.code
+
+
+def tell(words):
+    """A line on standard error, where there is one."""
+    if sys.stderr is not None:
+        with contextlib.suppress(OSError):
+            print(words, file=sys.stderr)
+
+
+def standard_input():
+    if sys.stdin is None:
+        raise Problem("standard input is closed", 7)
+    return sys.stdin.buffer
 
 
 def read_bytes(path):
     """The bytes of a file, or of standard input where the name is `-`."""
     try:
         if path == "-":
-            return sys.stdin.buffer.read()
+            return standard_input().read()
         with open(path, "rb") as file:
             return file.read()
     except OSError as fault:
         raise Problem(f"{path}: {fault.strerror}", 7) from None
+
+
+def read_lines(path):
+    """The lines of a text; a byte order mark at its beginning is skipped, and a byte that is no text becomes a sign for that."""
+    return read_bytes(path).decode("utf-8-sig", "replace").splitlines()
 
 
 # The configuration.
@@ -464,14 +500,14 @@ class Report:
         self.moments, self.refused, self.whole = [], [], True
 
 
-NUMBER, ANSWER = r"(-?[0-9]+)", r"(keep|none|-?[0-9]+)"
+NUMBER, ANSWER = r"(-?[0-9]{1,10})", r"(keep|none|-?[0-9]{1,10})"
 REPORT_FORMS = {word: re.compile(form) for word, form in {
-    "refused": r"refused ([0-9]+) ([0-9]+)", "moment": r"moment ([0-9]+)", "now": r"now (\S+) ([0-4])",
-    "alert": r"alert (\S+) ([0-4]) (-|[0-9]+)", "steady": r"steady (\S+) ([0-4])",
+    "refused": r"refused ([0-9]{1,19}) ([0-9]{1,2})", "moment": r"moment ([0-9]{1,10})", "now": r"now (\S+) ([0-4])",
+    "alert": r"alert (\S+) ([0-4]) (-|[0-9]{1,10})", "steady": r"steady (\S+) ([0-4])",
     **{kind: rf"{kind} {NUMBER} {NUMBER} ([0-4])" for kind in KINDS},
     "resolve": rf"resolve (track|gs|vs|alt) (?:left|down) {ANSWER} (?:right|up) {ANSWER}",
-    "last": r"last (track|gs|vs|alt) (none|[0-9]+)",
-    "recover": rf"recover (track|gs|vs|alt) (?:(none)|([0-9]+) {NUMBER})", "done": r"done ([0-9]+)"}.items()}
+    "last": r"last (track|gs|vs|alt) (none|[0-9]{1,10})",
+    "recover": rf"recover (track|gs|vs|alt) (?:(none)|([0-9]{{1,10}}) {NUMBER})", "done": r"done ([0-9]{1,10})"}.items()}
 
 
 @functools.lru_cache(maxsize=1 << 16)
@@ -566,6 +602,8 @@ def hint_on(line):
     word = line.split(" ", 1)[0]
     if word in ("own", "traffic", "end", "format"):
         return "; these are state lines, of which ./daidalus replay makes a report"
+    if word.startswith("#"):
+        return "; a report has no comments, and of state lines ./daidalus replay makes one"
     return "; the configuration was refused, and tools/check says why" if word == "config" else ""
 
 
@@ -583,17 +621,22 @@ def report_events(path):
         event = reader.take(line[:-1].decode("latin-1"))
         if event is not None:
             yield event
-    if not reader.line:
-        raise Problem(f"{reader.name}: no report: {'it has no whole line' if rest.strip() else 'it is empty'}", 4)
+    check_begun(reader, rest)
     if rest or reader.open:
         yield CUT
+
+
+def check_begun(reader, rest):
+    """It is a problem if a reader of a report has taken no line, and only this rest is there."""
+    if not reader.line:
+        raise Problem(f"{reader.name}: no report: {'it has no whole line' if rest.strip() else 'it is empty'}", 4)
 
 
 def lines_of(path):
     """The lines of a file in bytes, each with its end."""
     try:
         if path == "-":
-            yield from sys.stdin.buffer
+            yield from standard_input()
             return
         with open(path, "rb") as file:
             yield from file
@@ -621,7 +664,7 @@ def tell_if_cut(name, report):
 
 
 def say_cut(name):
-    print(f"{name}: the report ends within a moment, which is left out", file=sys.stderr)
+    tell(f"{name}: the report ends within a moment, which is left out")
 
 
 # Encounters.
@@ -657,8 +700,15 @@ def add_pause(parser):
                         help="an encounter begins also after so many seconds without a moment, not only where times fall")
 
 
-def at_least_one(word):
-    """A whole number of at least 1, of the command line."""
-    if not re.fullmatch("[0-9]{1,10}", word) or int(word) < 1:
-        raise argparse.ArgumentTypeError(f"{word} is no whole number of at least 1")
-    return int(word)
+def whole_from(least, most=None):
+    """The type of a word of the command line: a whole number in a range."""
+    said = f"of at least {least}" if most is None else f"from {least} to {most}"
+
+    def taken(word):
+        if not re.fullmatch("[0-9]{1,10}", word) or not least <= int(word) <= (int(word) if most is None else most):
+            raise argparse.ArgumentTypeError(f"{word} is no whole number {said}")
+        return int(word)
+    return taken
+
+
+at_least_one = whole_from(1)

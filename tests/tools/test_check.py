@@ -64,6 +64,7 @@ EDITS = (
     (("alert = 10 }", "alert = 10, last_times = 1 }"),
      [(3, "level 1, last_times is no key; known are dthr, zthr, tthr, tcoa, lookahead, alert, tcpa, tau, tep")]),
     (("resolve = 1", "resolve ="), [(2, "line 1: no value where one is wanted")]),
+    (("resolve = 1", f"resolve = {'9' * 5000}"), [(2, f"line 1: {'9' * 40}.. does not fit 64 bits")]),
 )
 # Lines that are refused, with their codes (the format's own list), in a moment that is open or not.
 LINES_ALONE = {b"#" + b"c" * 255: 1, b"Own": 2, b"own 1 2": 3, b"own 0 0 1000 360 x 0": 6, b"own 0 0 1000 x 360 0": 4,
@@ -149,6 +150,16 @@ class States(ToolTest):
             "in:4: refused 9: moment 5 is not later than moment 5", "in:5: refused 7: own while no moment is open",
             "in:6: refused 7: end while no moment is open", "in: lines 5 to 6 belong to no moment"])
 
+    def test_tells_of_what_a_moment_has_too_often(self):
+        """A second ownship, and a sixty-fifth aircraft."""
+        aircraft = "".join(f"traffic T{number} 0 {number} 0 0 0 0\n" for number in range(1, 66))
+        states = self.write("in.states", "moment 5\nown 0 0 0 0 0 0\nown 1 0 0 0 0 0\n" + aircraft + "end\n")
+        status, out, _ = self.tool("check", CONFIG, states)
+        self.assertEqual((status, out.replace(states, "in").splitlines()), (1, [
+            "in:3: refused 10: moment 5 has an ownship already", "in:68: refused 12: moment 5 has 64 aircraft already",
+            "in: moment 5 is reported without T65", "in: moment 5 keeps its first ownship",
+            "in: moment 5 is reported with its first 64 aircraft"]))
+
     def test_statuses_and_errors(self):
         self.assertEqual(self.tool("check", CONFIG, f"{TOP}/examples/encounter.states"), (0, "", ""))
         status, out, said = self.tool("check", f"{self.folder}/nothing")
@@ -202,6 +213,8 @@ ADVICE = (
     (("min = -5000\nmax = 5000", "min = -83\nmax = 83"), ["vs goes up to 17 feet a minute; if feet a second are meant"]),
     (("max = 50000\nstep = 500", "max = 500\nstep = 5"), ["alt goes up to 500 feet; if flight levels are meant"]),
     (("# [recovery]\n# hdist = 82\n# vdist = 100", "[recovery]\nhdist = 660\nvdist = 450"), ["recovery.hdist = 660 is as far as the level itself"]),
+    (("tthr = 35", "tthr = 30"), ["level 2 reaches farther than level 1 (tthr 30 and 35)"]),
+    (("tcoa = 0\nlookahead = 55", "tcoa = 5\nlookahead = 55"), ["level 3 reaches farther than level 2 (tcoa 0 and 5)"]),
 )
 FAR, NEAR = "traffic A 3000 8000 10000 -1350 0 0\n", "traffic A 3 8 10000 -1350 0 0\n"
 # State lines, and their advice.
@@ -218,6 +231,7 @@ STATES_ADVICE = (
     ("moment 0\nnow A 0\nalert A 0 -\n", ["this looks like a report"]),
     ("time [s],name,sx,sy,alt\n", ["this looks like a recording"]),
     ("resolve = 1\n", ["this looks like a configuration"]),
+    ("", ["there is no moment in it"]), ("# a comment\nformat 2\n", ["there is no moment in it"]),
 )
 
 
@@ -237,7 +251,7 @@ class Advice(ToolTest):
             text = file.read()
         for (old, new), parts in ADVICE:
             self.assertIn(old, text)
-            path = self.write("c.toml", text.replace(old, new, 1 if old.startswith(("zthr", "#", "min", "max")) else -1))
+            path = self.write("c.toml", text.replace(old, new, 1 if old.startswith(("zthr", "tthr", "#", "min", "max")) else -1))
             status, found, out = self.advised(path)
             self.assertEqual(status, 0, out)
             self.assert_advice(found, parts)
@@ -252,8 +266,25 @@ class Advice(ToolTest):
             self.assertEqual((status, out.replace(path, "")), (self.tool("check", CONFIG, path)[0], out.replace(path, "")))
             self.assertEqual("accepted" in out, not parts)
 
-    def test_state_lines_in_the_configurations_place(self):
+    def test_the_least_distance_counts(self):
+        """Of the levels from the corrective one on, level 3 has 300, and recoveries are at 400."""
+        text = PLAIN.replace("level = [ ", "level = [ LEVEL, LEVEL, ").replace("LEVEL", "{ dthr = 660, zthr = 450, tthr = 35, tcoa = 0, lookahead = 10, alert = 10 }")
+        text = "300".join(text.rsplit("660", 1)).replace("gs = { min = 3600, max = 3600", "gs = { min = 3600, max = 4000")
+        text = text.replace("max = 0", "max = 200").replace("resolve = 1", "resolve = 1\nrecovery = { hdist = 400, vdist = 100 }")
+        self.assert_advice(self.advised(self.write("c.toml", text))[1], ["recovery.hdist = 400 is as far as the level itself"])
+        self.assert_advice(self.advised(self.write("c.toml", text.replace("hdist = 400", "hdist = 299")))[1], [])
+
+    def test_another_file_in_the_configurations_place(self):
         self.assert_advice(self.advised(self.write("in.states", "moment 0\nend\n"))[1], ["these are state lines: the configuration comes first"])
+        status, found, _ = self.advised(f"{TOP}/examples/parameters.conf")
+        self.assertEqual(status, 3)
+        self.assert_advice(found, ["this looks like NASA's parameters: tools/from_parameters"])
+        self.assert_advice(self.advised(self.write("c.toml", PLAIN + "x = [ 1 ]\ny = 3\n[z]\n"))[1], [])
+
+    def test_advice_stands_before_refused_lines(self):
+        out = self.advised(CONFIG, self.write("in.states", "time [s],name,sx,sy,alt\n" + "0,A,0,0,0\n" * 9))[2].splitlines()
+        self.assertIn("advice: this looks like a recording", out[0])
+        self.assertEqual(sum("refused 2" in line for line in out[1:]), 10)
 
     def test_what_was_accepted(self):
         """72 tracks, 66 ground speeds, 101 vertical speeds, 101 altitudes and the present flight are 341."""

@@ -5,7 +5,7 @@ import unittest
 from xml.etree import ElementTree
 
 from common import CONFIG, ENCOUNTER, TOP, ToolTest, module, replayed
-from daidalus_files import Band, read_report
+from daidalus_files import Band, read_moments, read_report
 from svg import boxes, ticks
 from test_reports import REPORT
 
@@ -67,6 +67,24 @@ class Pictures(ToolTest):
         self.assertIn(f'stroke="{draw.COLOURS[2]}" fill="none" stroke-width="6"', out)
         self.assertEqual(self.words(self.picture(REPORT)[0]).count("heights"), 0)
 
+    def test_a_recovery_stands_at_its_value(self):
+        """40 degrees of the panel of tracks, which goes from -2.5 to 357.5 on 150 places; not the 12 of its seconds."""
+        root, _ = self.picture(REPORT)
+        top = next(float(box.get("y")) for box in root.iter("{http://www.w3.org/2000/svg}rect") if box.get("height") == "150")
+        marks = [path.get("d") for path in root.iter("{http://www.w3.org/2000/svg}path") if "l4 5l-4 5" in path.get("d")]
+        self.assertEqual(marks[1].split("l")[0], f"M765 {top + 150 * (1 - 42.5 / 360) - 5:.1f}")
+
+    def test_refused_lines_are_marked_where_the_next_moment_begins(self):
+        """After the first of two moments: at half of the width."""
+        self.assertIn('d="M560 ', re.findall(r'<path d="[^"]*v-9"', self.picture(REPORT)[1])[-1])
+
+    def test_an_old_report_is_flown_on(self):
+        """36 s at -135 knots are 1.35 NM, and at 100 ft/min 60 ft."""
+        text = "format 2\n" + STATES.replace("10000 -1350 0 0", "10000 -1350 0 100 36").replace("11000 -1350 0 0", "11000 -1350 0 0 0")
+        report = read_report(self.write("a.report", REPORT))
+        traces = draw.Picture(report.moments, report.refused, read_moments(self.write("in.states", text))).traces()
+        self.assertEqual([place[1:4] for place in traces["A"]], [(1.65, 8, 10060), (2.625, 8, 11000)])
+
     def test_other_states_are_refused(self):
         report = self.write("a.report", REPORT)
         first, second = STATES.split("moment 10")
@@ -91,6 +109,7 @@ class Pictures(ToolTest):
         one, other = (self.picture(REPORT + REPORT, "--encounter", number)[1] for number in ("1", "2"))
         self.assertEqual(one, other)
         self.assertEqual(self.tool("draw", "--encounter", "3", self.write("a.report", report))[0], 4)
+        self.assert_one_line(self.tool("draw", "--encounter", "2", self.write("a.report", REPORT))[2], "has 1 encounter and no number 2")
         self.assertEqual(len(self.words(self.picture(REPORT, "--encounter", "2", "--pause", "5")[0])) > 10, True)
 
     def test_a_title(self):

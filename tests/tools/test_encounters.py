@@ -50,22 +50,23 @@ class WholeEncounters(ToolTest):
         self.assertEqual(self.tool("check", "--advice", CONFIG, self.write("e.states", text))[1],
                          "accepted: 3 levels, 341 candidates; 6000 moments of up to 8 aircraft\n")
 
-    def test_aircraft_fly_as_they_say_and_meet(self):
-        """From second to second each goes as far as its speed says, but for rounding; each is near the ownship at some second."""
+    def test_aircraft_fly_as_they_say(self):
+        """From second to second each goes as far as its speed says, but for rounding."""
         moments = Reader().read(self.made("--seed", "5", "--count", "1", "--seconds", "120").encode())
-        nearest = {}
         for before, after in zip(moments, moments[1:]):
             own = before.own
             self.fly((own.x, own.y, own.alt), (*velocity(own.gs, own.trk), own.vs), after.own[:3])
             for one, other in zip(before.traffic, after.traffic, strict=True):
                 self.assertEqual(one.id, other.id)
                 self.fly(one[1:4], one[4:7], other[1:4])
-        for moment in moments:
-            for it in moment.traffic:
-                near = max(abs(it.x - moment.own.x), abs(it.y - moment.own.y)), abs(it.alt - moment.own.alt)
-                nearest[it.id] = min(nearest.get(it.id, (10 ** 9, 0)), near)
-        self.assertTrue(nearest)
-        self.assertTrue(all(side <= 701 for side, _ in nearest.values()), nearest)
+
+    def test_each_aircraft_is_near_at_a_second_of_the_middle_half(self):
+        """Within 0.7 NM to each side and 800 feet, but for rounding."""
+        for number in range(12):
+            moments, met = list(encounters.encounter(5, number, 120)), set()
+            for own, traffic in moments[30:90]:
+                met |= {it.id for it in traffic if max(abs(it.x - own.x), abs(it.y - own.y)) <= 701 and abs(it.alt - own.alt) <= 801}
+            self.assertEqual(met, {it.id for it in moments[0][1]}, number)
 
     def fly(self, place, speed, then):
         for at, rate, after, size in zip(place, speed, then, (36, 36, 60)):

@@ -43,6 +43,47 @@ class FromDaa(ToolTest):
         self.assertEqual(moments[0].traffic, [Traffic("A", 1000, 2000, 2000, 0, -972, 197)])
         self.assertEqual(self.made(text.replace(" [m/s]", "(m/s)"))[0][0].traffic, moments[0].traffic)
 
+    def test_kilometres_an_hour(self):
+        """185.2 km/h are 100 knots."""
+        moments, _ = self.made("name,time,sx,sy,alt,vx [km/h],vy,vs\nown,0,0,0,0,0,100,0\nA,0,1,0,0,185.2,0,0\n")
+        self.assertEqual(moments[0].traffic[0].vx, 1000)
+
+    def test_semicolons_stand_between_columns_alone(self):
+        """Where the header has one, a comma is no mark; a row with more fields than the header is refused."""
+        text = "name;time;sx;sy;alt;vx;vy;vs\nown;0;0.5;0;1000;0;100;0\n"
+        for given, part in ((text.replace("0.5", "0,5"), "line 2: no number for sx: 'own;0;0,5;0;1000;0;100;0'"),
+                            (text.replace(";", ",").replace("0.5", "0,5"), "line 2 has 9 fields, the header 8: a decimal comma?"),
+                            (PLANE + "Own Ship 0 0 0 0 100 0 0\n", "line 3 has 9 fields, the header 8")):
+            status, out, said = self.tool("from_daa", self.write("in.csv", given))
+            self.assertEqual((status, out), (3, ""))
+            self.assert_one_line(said, part)
+        self.assertEqual(self.made(text.replace("own", "a, b"))[0][0].own, Own(0, 0, 1000, 0, 1000, 0))
+
+    def test_a_byte_order_mark_is_skipped(self):
+        self.assertEqual(len(self.made("\ufeff" + PLANE + "own 0 0 0 0 100 0 0\n")[0]), 1)
+
+    def test_numbers_that_are_too_large(self):
+        """Of the greatest that a float can have, and of that in another unit, which would be infinite."""
+        row = "own 0 0 0 0 100 0 0\nA {} 1 0 {} 0 0 0\n"
+        for text in (PLANE + row.format("1e308", 0), PLANE + row.format(0, "1e308"), PLANE.replace("[ft]", "[km]") + "own 0 0 1e308 0 100 0 0\n",
+                     PLANE.replace("[s]", "[h]") + "own 0 0 0 0 100 0 1e308\n"):
+            status, out, said = self.tool("from_daa", self.write("in.daa", text))
+            self.assertEqual((status, out), (3, ""))
+            self.assert_one_line(said, "1e308 is too large a number for ")
+        text = PLANE + f"own 0 0 0 0 100 0 {'9' * 5000}:00:00\n"
+        self.assertEqual(self.tool("from_daa", self.write("in.daa", text))[0], 3)
+
+    def test_the_plane_against_the_globe(self):
+        """At 60 degrees north, 4 degrees of longitude: in the plane 240 cos 60 = 120 NM, on the globe
+        2 asin(cos 60 sin 2) = 2 asin(0.0174497) = 1.999695 degrees, 119.9817 NM."""
+        _, said = self.made(HEAD + "own 60 10 0 0 100 0 0\nA 60 14 0 0 100 0 0\n")
+        self.assertIn("distances differ by at most 0.0183 NM", said)
+
+    def test_what_rounding_costs_of_a_climb(self):
+        """100.4 and 200.6 become 100 and 201: their difference 101 is off by 0.8."""
+        _, said = self.made(PLANE + "own 0 0 0 0 100 100.4 0\nA 1 0 0 0 0 200.6 0\n")
+        self.assertIn("vertical speed 0.8 ft/min", said)
+
     def test_units_in_a_line_of_their_own(self):
         text = ("id,x,y,z,vx,vy,vz,time\n,km,km,ft,kt,kt,fpm,min\nown,0,0,0,0,60,0,0\nA,1.852,0,0,0,0,0,0\n"
                 "own,0,0,0,0,60,0,1\nA,0,0,0,0,0,0,1\n")
@@ -88,6 +129,8 @@ class FromDaa(ToolTest):
         moments, said = self.made(PLANE + "own 0 0 0 0 100 0 0\nIntruder1 1 0 0 0 0 0 0\nIntruder2 2 0 0 0 0 0 0\nüü 3 0 0 0 0 0 0\n")
         self.assertEqual([aircraft.id for aircraft in moments[0].traffic], ["Intrude1", "Intrude2", "A0"])
         self.assertIn("Intruder1 is written Intrude1", said)
+        moments, _ = self.made(PLANE + "own 0 0 0 0 100 0 0\nA123456789 1 0 0 0 0 0 0\n")
+        self.assertEqual(moments[0].traffic[0].id, "A3456789")
 
     def test_the_ownship_that_is_named(self):
         recording = PLANE + "A 1 0 0 0 50 0 0\nown 0 0 0 0 100 0 0\n"
@@ -144,7 +187,8 @@ class FromDaa(ToolTest):
                            (HEAD, "no report of an aircraft"), (HEAD + "own 60 10 x 90 150 0 3\n", "line 3: no number for alt"),
                            (HEAD.replace("[ft]", "[furlong]") + "own 60 10 1 90 150 0 3\n", "furlong is no unit of alt"),
                            (HEAD + "own 60 10\n", "line 3: no number for trk"), (HEAD + "own 60 10 1 90 nan 0 3\n", "line 3: no number for gs"),
-                           (HEAD.replace("NAME lat", "NAME lat lat"), "the header names lat twice")):
+                           (HEAD.replace("NAME lat", "NAME lat lat"), "the header names lat twice"),
+                           ("name,time,sx,sy,alt,vx,vy,vs\n,0,0,0,0,0,100,0\n", "line 2: no name")):
             status, out, said = self.tool("from_daa", self.write("in.daa", text))
             self.assertEqual((status, out), (3, ""), text)
             self.assert_one_line(said, part)

@@ -91,7 +91,7 @@ class FromParameters(ToolTest):
     def test_units(self):
         """4010 ft are 4010 * 0.3048 / 1852 = 0.65996 NM; 0.05 rad a second are 2.8648 degrees; 5 m/s are 9.719 knots."""
         made, said = self.made(TOP.replace("step_hs = 10 [knot]", "step_hs = 5 [m/s]").replace("min_alt = 100 [ft]", "min_alt = 30.48 [m]")
-                               .replace("lookahead_time = 180 [s]", "lookahead_time = 1 [min]").replace("[knot]", "") + LEVELS.replace("0.66 [nmi]", "4010 [ft]"))
+                               .replace("lookahead_time = 180 [s]", "lookahead_time = 1 [min]") + LEVELS.replace("0.66 [nmi]", "4010 [ft]"))
         self.assertEqual((made["gs"]["step"], made["gs"]["min"], made["alt"]["min"]), (97, 100, 100))
         self.assertEqual([each["dthr"] for each in made["level"]], [660] * 3)
         self.assertEqual([each["lookahead"] for each in made["level"]], [60, 60, 55])
@@ -104,11 +104,16 @@ class FromParameters(ToolTest):
         """The distance is taken as it stands, with the warning; or the one that is given."""
         made, said = self.made(TOP + RECOVERY + LEVELS)
         self.assertLessEqual({"hdist": 660, "vdist": 450}.items(), made["recovery"].items())
-        self.assertTrue(any("39 of 94 closed moments, with 0.08 in 84" in line for line in said), said)
+        self.assertTrue(any("so that fewer recoveries are found" in line for line in said), said)
         self.assertTrue(any("ca_bands = true is left out" in line for line in said), said)
-        made, said = self.made(TOP + RECOVERY + LEVELS, "--hdist", "82", "--vdist", "100")
-        self.assertLessEqual({"hdist": 82, "vdist": 100}.items(), made["recovery"].items())
-        self.assertFalse(any("39 of 94" in line for line in said), said)
+        made, said = self.made(TOP + RECOVERY + LEVELS, "--hdist", "82", "--vdist", "0")
+        self.assertLessEqual({"hdist": 82, "vdist": 0}.items(), made["recovery"].items())
+        self.assertFalse(any("fewer recoveries" in line for line in said), said)
+        made, _ = self.made(TOP + RECOVERY.split("recovery_hdir")[0] + LEVELS)
+        self.assertEqual(made["recovery"]["hdist"], 660)
+        for word, is_there in (("T", True), ("1", True), ("False", False), ("f", False), ("0", False)):
+            self.assertEqual("recovery" in self.made(TOP + RECOVERY.replace("true", word) + LEVELS)[0], is_there, word)
+        self.refused(TOP + "recovery_hdir = yes\n" + LEVELS, "line 21: recovery_hdir = yes: this is none of true, t, 1, false, f, 0")
         made, said = self.made(TOP + RECOVERY.replace("recovery_vs = true", "recovery_vs = false") + LEVELS)
         self.assertIn("recovery", made)
         self.assertTrue(any("of some kinds alone" in line for line in said), said)
@@ -121,6 +126,10 @@ class FromParameters(ToolTest):
             self.assertEqual(made["resolve"], wanted, regions)
             self.assertEqual(any("alert_1_region = NONE: NASA shows no bands of level 1" in line for line in said), regions[0] == "NONE")
         self.refused(TOP + level(1, "FAR", 450, 75, 55), "no level has the region MID or a nearer one")
+        self.assertEqual(self.made(TOP.replace("= MID", "= far") + level(1, "Mid", 450, 75, 55))[0]["resolve"], 1)
+        self.refused(TOP + level(1, "FAR", 450, 75, 55) + level(2, "MIDDLE", 450, 75, 55) + level(3, "NEAR", 450, 55, 25),
+                     "nasa.conf: line 31: one_alert_2_region = MIDDLE: this is none of NONE, FAR, MID, NEAR")
+        self.refused(TOP.replace("= MID", "= NONE") + LEVELS, "line 19: corrective_region = NONE: this is none of FAR, MID, NEAR")
 
     def test_detectors(self):
         plain, _ = self.made(TOP + level(1, "MID", 450, 75, 55))
@@ -136,6 +145,11 @@ class FromParameters(ToolTest):
         self.assertEqual(made["level"][0], {"dthr": 82, "zthr": 100, "tthr": 0, "tcoa": 0, "alert": 55, "lookahead": 75})
         self.refused(TOP + level(1, "MID", 450, 75, 55, model="CD3D"),
                      "there is no such volume here; known are WCV_TAU, WCV_TCPA, WCV_TAUMOD, WCV_TEP, WCV_TAUMOD_SUM, CDCylinder")
+
+    def test_the_lookahead_without_an_early_time(self):
+        made, said = self.made("".join(line for line in (TOP + LEVELS).splitlines(True) if "alert_2_early" not in line))
+        self.assertEqual([each["lookahead"] for each in made["level"]], [75, 55, 55])
+        self.assertIn("from_parameters: one_alert_2_early_alerting_time is missing: lookahead is the alerting time, 55 s", said)
 
     def test_alerters(self):
         other = level(1, "MID", 900, 60, 50, name="two")
@@ -168,7 +182,17 @@ class FromParameters(ToolTest):
         self.refused(text.replace("early_alerting_time = 75", "early_alerting_time = 300"), "write a time of 1 to 180 [s]")
         self.refused(text.replace("TTHR = 35 [s]", "TTHR = 150 [s]"), "which takes whole numbers from 0 to 120")
         self.refused(text.replace("step_vs = 100 [fpm]", "step_vs = 100 [furlong]"), "furlong is no unit of it that is known")
-        self.refused(text.replace("step_vs = 100 [fpm]", "step_vs = many"), "this is no number with a unit in brackets")
+        for word in ("many", "100", "1.2.3 [fpm]", ". [fpm]", "100 fpm"):
+            self.refused(text.replace("step_vs = 100 [fpm]", f"step_vs = {word}"),
+                         f"line 10: step_vs = {word}: this is no number with a unit in brackets, such as 1 [ft/min]")
+        self.refused(text.replace("= 2 [m/s^2]", "= 2"), "line 7: horizontal_accel = 2: this is no number with a unit in brackets")
+        self.refused(text.replace("step_hs = 10", "step_hs = 0.26"), "that is 2.6 of gs.step")
+        for key, value in (("turn_rate", "3 [deg/s]"), ("lookahead_time", "180 [s]"), ("min_hs", "10 [knot]")):
+            for large in ("1e999", "1e308"):
+                self.refused(text.replace(f"{key} = {value}", f"{key} = {large} [{'rad/s' if key == 'turn_rate' else 'h' if key[0] == 'l' else 'knot'}]"),
+                             "this number is too large")
+        self.assertEqual(self.made("\ufeff" + text)[0], WANTED)
+        self.assertTrue(any("left_hdir = 1.2.3 is left out" in line for line in self.made(text.replace("left_hdir = 180 [deg]", "left_hdir = 1.2.3"))[1]))
         self.refused(text.replace("step_vs = 100 [fpm]\n", ""), "the parameter step_vs is missing")
         self.refused(text.replace("min_vs = -6000", "min_vs = 7000"), "vs.min = 7000 is above vs.max = 6000")
         self.refused(TOP, "no alert level in it")

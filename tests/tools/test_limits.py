@@ -15,10 +15,10 @@ LIMITS = {
 
 
 class FromDaa(ToolTest):
-    def made(self, recording):
+    def made(self, recording, wanted=0):
         """The lines that are made of a recording, and what is said."""
         status, out, said = self.tool("from_daa", self.write("in.daa", recording))
-        self.assertEqual(status, 0, said)
+        self.assertEqual(status, wanted, said)
         return out.splitlines(), said
 
     def test_the_cosine_is_that_of_the_middle_latitude(self):
@@ -45,9 +45,10 @@ class FromDaa(ToolTest):
                 self.assertEqual((lines[0], len(lines)), ("moment 0", 3), number)
                 self.assertNotIn("left out", said)
             for number in outside:
-                lines, said = self.made(PLANE + f"{own.format(number)} 0\n")
+                lines, said = self.made(PLANE + f"{own.format(number)} 0\n", 3)
                 self.assertEqual(lines, [], number)
                 self.assertIn("left out: 1 moments whose ownship is out of range", said)
+                self.assertIn(": no moment is left\n", said)
 
     def test_the_closest_approach_is_looked_for_within_an_hour(self):
         """From 150 NM at 100.04 knots, written 100: after an hour they are 50 and 49.96 NM away; after one and a half, at the same place."""

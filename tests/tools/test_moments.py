@@ -46,6 +46,7 @@ class Lines(ToolTest):
         self.assertEqual(len(events), 60)
         ages = [aircraft.age for event in events for aircraft in event.traffic]
         self.assertTrue(0 < sum(age > 0 for age in ages) < len(ages) / 2)
+        self.assertTrue(15 <= max(ages) <= 20)
         report = replayed(CONFIG, out.encode())[1].decode().splitlines()
         alerts = [line.split()[2] for line in report if line.startswith("alert")]
         self.assertEqual(len(alerts), len(ages))

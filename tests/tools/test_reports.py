@@ -1,6 +1,7 @@
 """Reports and their readers: tools/summary and tools/compare, on reports written by hand."""
 import os
 import re
+import signal
 import subprocess
 import time
 import unittest
@@ -32,7 +33,12 @@ NO_REPORTS = (("", "it is empty"), ("hello\n", "line 1 is no line of a report th
               ("moment 0\ndone 0\n", "line 2 ends a moment that is not whole"), ("moment 0\nalert A 0 -\n", "line 2 is an alert of A"),
               ("moment 0\ntrack 5 0 1\n", "line 2 does not rise"), ("moment 0\ntrack 0 5 1\ntrack 5 9 0\n", "line 3 does not rise"),
               ("config 3\n", "line 1 is no line of a report there: 'config 3'; the configuration was refused, and tools/check says why"),
-              ("format 2\nmoment 0\n", "these are state lines, of which ./daidalus replay makes a report"), ("moment", "no whole line"))
+              ("format 2\nmoment 0\n", "these are state lines, of which ./daidalus replay makes a report"), ("moment", "no whole line"),
+              ("# a comment\nmoment 0\n", "a report has no comments, and of state lines ./daidalus replay makes one"),
+              (REPORT.replace("done 0", "done 1"), "line 16 ends a moment that is not whole: 'done 1'"),
+              (REPORT.replace("gs 500 7000", f"gs 500 {'9' * 5000}"), "line 7 is no line of a report there"),
+              (f"moment {'1' * 5000}\n", "line 1 is no line"), (f"refused {'1' * 5000} 3\n", "line 1 is no line"),
+              ("moment 0\ngs 3000 700000000000000000000 0\n", "line 2 is no line"))
 
 
 class Reports(ToolTest):
@@ -213,6 +219,11 @@ class Reports(ToolTest):
         self.assertEqual(list(compare.common_runs(one, other, 5)),
                          [(0, 5, (3, 3)), (10, 10, (0, 3)), (15, 20, (0, 1)), (25, 25, (0, None))])
 
+    def test_compare_takes_standard_input_once(self):
+        status, out, said = self.tool("compare", "-", "-", given=REPORT)
+        self.assertEqual((status, out), (2, ""))
+        self.assertIn("standard input is one report and not two", said)
+
     def test_compare_finds_no_difference_in_one_report(self):
         status, out, _ = self.tool("compare", self.report, self.report)
         self.assertEqual(status, 0)
@@ -227,6 +238,27 @@ class Pipes(unittest.TestCase):
         said = run.stderr.read()
         run.stderr.close()
         self.assertEqual((run.wait(), said), (5, b""))
+
+    def test_an_output_that_cannot_be_written_is_one_line(self):
+        """A full disk, with much output and with little; and an output or an input that is closed."""
+        moments = "tools/moments --seed 1 --moments"
+        for words, status, said in ((f"{moments} 9999 >/dev/full", 5, "moments: the output: No space left on device\n"),
+                                    (f"{moments} 1 >/dev/full", 5, "moments: the output: No space left on device\n"),
+                                    (f"{moments} 1 >&-", 5, "moments: standard output is closed\n"),
+                                    ("tools/summary <&-", 7, "summary: standard input is closed\n"),
+                                    ("tools/check examples/three_levels.toml - <&-", 7, "check: standard input is closed\n"),
+                                    ("tools/summary nothing 2>&-", 7, ""), ("tools/summary nothing 2>/dev/full", 7, "")):
+            run = subprocess.run(["sh", "-c", words], cwd=TOP, capture_output=True, text=True)
+            self.assertEqual((run.returncode, run.stdout, run.stderr), (status, "", said), words)
+
+    def test_an_interrupt_ends_a_tool_by_its_signal(self):
+        run = subprocess.Popen([os.path.join(TOP, "tools", "steady")], stdin=subprocess.PIPE, stdout=subprocess.PIPE, stderr=subprocess.PIPE)
+        run.stdin.write(REPORT.split("refused")[0].encode())
+        run.stdin.flush()
+        self.assertEqual(run.stdout.readline(), b"moment 0\n")
+        run.send_signal(signal.SIGINT)
+        said = run.communicate()[1]
+        self.assertEqual((run.returncode, said), (-signal.SIGINT, b""))
 
     def test_help_tells_the_statuses(self):
         for tool in TOOLS:

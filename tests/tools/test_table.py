@@ -45,6 +45,14 @@ class Tables(ToolTest):
         self.assertEqual(rows[:4], ["encounter,time,kind,from,upto,level", "1,0,track,0,5,3", "1,0,track,10,180,0", "1,0,track,185,355,3"])
         self.assertEqual(len(rows), 1 + 3 + 1 + 1 + 3 + 4 * 1)
 
+    def test_what_is_no_report_has_no_header(self):
+        """Nor is an empty text a report to tools/steady."""
+        for text, part in (("", "no report: it is empty"), ("mom", "no report: it has no whole line"), ("hello\n", "line 1 is no line of a report there")):
+            for words in (("table", "kinds"), ("steady",)):
+                status, out, said = self.tool(*words, self.write("a.report", text))
+                self.assertEqual((status, out), (4, ""), (words, text))
+                self.assert_one_line(said, part)
+
     def test_json_has_the_same_rows(self):
         """Each object has the columns of the CSV, with its texts as numbers, lists or null."""
         for what in ("aircraft", "kinds", "bands"):

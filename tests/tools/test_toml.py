@@ -84,6 +84,12 @@ class Toml(unittest.TestCase):
             self.assertIsNotNone(is_toml(tomllib.loads, text), text)
         self.assertEqual(len(read_toml(("a = " + "[" * 80 + "]" * 80).encode())), 1)
 
+    def test_a_number_of_thousands_of_digits(self):
+        for text in ("a = " + "9" * 5000, "a = -" + "1_" * 5000 + "1", "a = 0x" + "f" * 5000, "a = " + "9" * 5000 + ".0"):
+            with self.assertRaisesRegex(TomlFault, r"^line 1: .{40}\.\. (does not fit 64 bits|is no value)$"):
+                read_toml(text.encode())
+        self.assertEqual(read_toml(b"a = 0b" + b"0" * 5000 + b"1"), {"a": 1})
+
     def test_names_the_line(self):
         with self.assertRaisesRegex(TomlFault, "^line 3: "):
             read_toml(b"a = 1\n\nb = \n")

@@ -79,10 +79,12 @@ class Volumes(ToolTest):
             self.assertTrue(least <= drawn.count("M") <= most, (model, drawn.count("M")))
 
     def test_the_time_to_co_altitude(self):
-        """20 s at 2000 ft/min are 667 ft, more than 450; at 1000 ft/min 333 ft, less."""
+        """20 s at 2000 ft/min are 667 ft, more than 450; at 1000 ft/min 333 ft, less. The box is as high: 280 places are 3.2 times so much."""
         with open(CONFIG, encoding="utf-8") as file:
             path = self.write("c.toml", file.read().replace("tcoa = 0", "tcoa = 20"))
-        self.assertIn("tcoa 20 s at 2000 ft/min: 667 ft", self.tool("volume", path, "--level", "3", "--climb", "2000")[1])
+        out = self.tool("volume", path, "--level", "3", "--climb", "2000")[1]
+        self.assertIn("tcoa 20 s at 2000 ft/min: 667 ft", out)
+        self.assertRegex(out, rf'd="M[0-9.]+ {volume.TOP + 140 - 87.5:g}h[0-9.]+v{280 / 1.6:g}h-[0-9.]+z" fill="{volume.COLOUR}"')
         self.assertNotIn("tcoa", self.tool("volume", path, "--level", "3")[1])
 
     def test_refusals(self):
@@ -90,7 +92,9 @@ class Volumes(ToolTest):
         self.assertEqual((status, out), (3, ""))
         self.assert_one_line(said, "has 3 levels and no level 4")
         self.assertEqual(self.tool("volume", self.write("c.toml", ""))[0], 3)
-        self.assertEqual((self.tool("volume", "nothing")[0], self.tool("volume", CONFIG, "--closing", "0")[0]), (7, 2))
+        self.assertEqual(self.tool("volume", "nothing")[0], 7)
+        for words in (("--closing", "0"), ("--closing", "2001"), ("--climb", "20001")):
+            self.assertEqual(self.tool("volume", CONFIG, *words)[0], 2)
 
 
 if __name__ == "__main__":
