@@ -1,6 +1,6 @@
 /* node in_node.cjs PAGE < JSON [[word, ..], ..]: runs the page's scripts that need no browser on each task, and writes the JSON
  * list of the answers. Tasks: [replay, TOML, states], [faults, TOML], [read, TOML], [report, text], [config, struct],
- * [recording, text, ownship], [trap, TOML, states]; texts are bytes in base64. */
+ * [recording, text, ownship], [columns], [trap, TOML, states]; texts are bytes in base64. */
 "use strict";
 const fs = require("fs");
 const path = require("path");
@@ -55,6 +55,8 @@ const TASKS = {
       return { refused: problem.message };
     }
   },
+
+  columns: () => daa.COLUMNS,
 
   /** Calls the engine with places out of its memory, and then on a moment: what the first call throws, and the report. */
   trap(engine, toml, states) {
