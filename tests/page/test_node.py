@@ -83,6 +83,19 @@ class Module(unittest.TestCase):
         answer = in_node([["trap", bytes_of(RECOVERY), states]])[0]
         self.assertEqual(answer, ["Stopped", replayed(RECOVERY, states)])
 
+    def test_the_longest_report_has_room(self):
+        most = int(re.search(r"DAA_MOST_TEXT (\d+)", text_of(os.path.join(os.path.dirname(EXAMPLES), "crates/daa_c/include/daidalus.h")))[1])
+        self.assertGreaterEqual(in_node([["room", bytes_of(RECOVERY), bytes_of(os.path.join(EXAMPLES, "closed.states"))]])[0], most)
+
+    def test_a_fault_names_its_number(self):
+        found = in_node([["named", bytes_of(RECOVERY), bytes_of(os.path.join(EXAMPLES, "closed.states"))]])[0]
+        self.assertEqual(found, [[name, name] for name in ("x", "y", "alt", "trk", "gs", "vs", "x", "y", "alt", "vx", "vy", "vs", "age")])
+
+    def test_a_column_of_the_strip_has_the_greatest_level(self):
+        """Of 601 moments two share a column, and the last has one of its own: 5 boxes of tracks, one of them in two parts; 2 of it."""
+        for levels in ([3, 0] * 300 + [3], [0, 3] * 300 + [3], [3, 2] * 300 + [3]):
+            self.assertEqual(in_node([["strip", levels]])[0], {"3": 300 * (1 + 5) + 1 + 2})
+
 
 # Wrong configurations and lines.
 
@@ -181,6 +194,13 @@ class Readers(unittest.TestCase):
         texts.append(self.CONFIGS[0].replace(b"resolve = 2", b"resolve = 4"))
         came = self.compare([(text, self.STATES[2]) for text in texts])
         self.assertLessEqual({f"config {code}" for code in range(2, 9)}, came)
+
+    def test_a_missing_key_is_told_at_its_table(self):
+        text = self.CONFIGS[0].replace(b"[gs]\n", b"[gs]\n# here\n")
+        table = text[text.index(b"[gs]"):].partition(b"[vs]")[0]
+        text = text.replace(table, b"\n".join(line for line in table.split(b"\n") if not line.startswith(b"rate")))
+        line = text[:text.index(b"[gs]")].count(b"\n") + 1
+        self.assertEqual(in_node([["read", text]])[0], [[4, "gs.rate is missing", line]])
 
     def test_a_configuration_that_is_too_long(self):
         text = self.CONFIGS[0] + b"#" * 65536
