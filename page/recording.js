@@ -3,26 +3,35 @@
 "use strict";
 function daaRecording(root) {
   const EARTH = Math.PI / 180;
-  const MILES = { nm: 1, nmi: 1, m: 1 / 1852, km: 1 / 1.852, ft: 0.3048 / 1852 };
-  const FEET = { ft: 1, m: 1 / 0.3048, km: 1000 / 0.3048, nm: 1852 / 0.3048, nmi: 1852 / 0.3048 };
-  const KNOTS = { knot: 1, knots: 1, kt: 1, kts: 1, kn: 1, "m/s": 3600 / 1852, mps: 3600 / 1852, "km/h": 1 / 1.852, kph: 1 / 1.852,
-    "ft/s": 0.3048 * 3600 / 1852, fps: 0.3048 * 3600 / 1852, "nmi/h": 1 };
-  const FEET_PER_MINUTE = { fpm: 1, "ft/min": 1, "ft/s": 60, fps: 60, "m/s": 60 / 0.3048, mps: 60 / 0.3048,
-    knot: 1852 / 0.3048 / 60, kt: 1852 / 0.3048 / 60 };
-  const DEGREES = { deg: 1, rad: 180 / Math.PI };
-  const SECONDS = { s: 1, sec: 1, min: 60, h: 3600, hr: 3600, ms: 0.001 };
+  const FOOT = 0.3048; // m
+  const MILE = 1852; // m
+
+  /** Each name of a unit, with its worth. */
+  const worths = (...pairs) => Object.fromEntries(pairs.flatMap(([names, worth]) => names.split(" ").map((name) => [name, worth])));
+
+  // These are the units of tools/units.py; a test compares them.
+  const MILES = worths(["nmi nm", 1], ["m meter", 1 / MILE], ["km", 1000 / MILE], ["ft feet foot", FOOT / MILE]);
+  const FEET = worths(["ft feet foot", 1], ["m meter", 1 / FOOT], ["km", 1000 / FOOT], ["nmi nm", MILE / FOOT]);
+  const KNOTS = worths(["knot knots kt kts kn nmi/h", 1], ["m/s mps", 3600 / MILE], ["km/h kph", 1000 / MILE],
+    ["ft/s fps", (FOOT * 3600) / MILE], ["ft/min fpm", (FOOT * 60) / MILE]);
+  const FEET_PER_MINUTE = worths(["ft/min fpm", 1], ["ft/s fps", 60], ["m/s mps", 60 / FOOT], ["knot knots kt kts kn", MILE / FOOT / 60]);
+  const DEGREES = worths(["deg degree degrees", 1], ["rad", 180 / Math.PI]);
+  const SECONDS = worths(["s sec second seconds", 1], ["min", 60], ["h hr hour", 3600], ["ms", 0.001]);
 
   /** Each column: the names that it goes by, and the units with what they are worth. */
   const COLUMNS = {
-    name: [["name", "aircraft", "id"], null], time: [["time", "tm", "clock", "st"], SECONDS],
+    name: [["name", "aircraft", "id"], null], time: [["time", "tm", "clock", "st"], { ...SECONDS, "hh:mm:ss": 1 }],
     lat: [["lat", "latitude"], DEGREES], lon: [["lon", "long", "longitude"], DEGREES],
     alt: [["alt", "altitude", "sz", "z"], FEET], sx: [["sx", "x"], MILES], sy: [["sy", "y"], MILES],
     trk: [["trk", "track"], DEGREES], gs: [["gs", "groundspeed"], KNOTS],
     vs: [["vs", "verticalspeed", "vz"], FEET_PER_MINUTE], vx: [["vx"], KNOTS], vy: [["vy"], KNOTS],
   };
+  const NEEDED = ["name", "time", "alt", "vs"];
+  const EITHER = [[["lat", "lon"], ["sx", "sy"], "a place (lat lon, or sx sy)"], [["trk", "gs"], ["vx", "vy"], "a speed (trk gs, or vx vy)"]];
   const RANGES = { x: 200000, y: 200000, vx: 10000, vy: 10000, vs: 10000 }; // on both sides of 0
   const ALTITUDES = [-2000, 60000];
   const FASTEST = 10000;
+  const GREATEST = 1e15; // of a recording's numbers: what is farther from 0 is refused
   const OLDEST = 10; // s: as tools/from_daa has it where nothing else is asked
   const MOST_AGE = 60;
   const LAST_SECOND = 4294967295;
@@ -51,14 +60,18 @@ function daaRecording(root) {
 
   // ---- reading
 
+  const shortened = (line) => line.trim().slice(0, 60);
   const trimmed = (cell) => cell.replace(/^[ \t"]+|[ \t"]+$/g, "");
 
+  /** What stands between fields: in all lines a semicolon where the header has one, so that a comma there is one of a number. */
+  const marksOf = (header) => (header.includes(";") ? /;/ : /[,;]/);
+
   /** The fields of a line; a unit in brackets that follows a name stays with it. */
-  function cellsOf(line) {
-    return (/[,;]/.test(line) ? line.split(/[,;]/) : line.trim().split(/\s+(?![[(])/)).map(trimmed);
+  function cellsOf(line, marks) {
+    return (marks.test(line) ? line.split(marks) : line.trim().split(/\s+(?![[(])/)).map(trimmed);
   }
 
-  const unitCellsOf = (line) => (/[,;]/.test(line) ? cellsOf(line) : line.trim().split(/\s+/));
+  const unitCellsOf = (line, marks) => (marks.test(line) ? cellsOf(line, marks) : line.trim().split(/\s+/));
 
   /** A header's name and unit. */
   function splitUnit(cell) {
@@ -72,10 +85,18 @@ function daaRecording(root) {
     return Number.isFinite(found) ? found : null;
   }
 
+  /** A time of day hh:mm:ss in seconds, or a number; null where it is neither. */
+  function timeOf(cell) {
+    const found = /^([0-9]{1,9}):([0-5][0-9]):([0-5][0-9](?:\.[0-9]*)?)$/.exec(cell);
+    return found ? Number(found[1]) * 3600 + Number(found[2]) * 60 + Number(found[3]) : numberOf(cell);
+  }
+
   /** Which column is where, and what a number in it is worth. */
   class Header {
     constructor(line, below) {
-      const named = cellsOf(line).map(splitUnit);
+      this.marks = marksOf(line);
+      const named = cellsOf(line, this.marks).map(splitUnit);
+      this.count = named.length;
       this.places = {};
       this.worth = {};
       for (const [column, [names]] of Object.entries(COLUMNS)) {
@@ -84,27 +105,34 @@ function daaRecording(root) {
         if (at.length) this.places[column] = at[0];
       }
       this.check();
+      const used = this.usedPlaces();
+      this.unused = named.flatMap(([name], place) => (used.has(place) ? [] : [name]));
       this.hasUnitLine = Boolean(below) && this.isUnitLine(below);
-      const units = this.hasUnitLine ? unitCellsOf(below).map((cell) => splitUnit(cell)[1] || cell) : [];
+      const units = this.hasUnitLine ? unitCellsOf(below, this.marks).map((cell) => splitUnit(cell)[1] || cell) : [];
       for (const [column, at] of Object.entries(this.places)) {
         this.worth[column] = this.worthOf(column, at < units.length ? units[at] : named[at][1]);
       }
     }
 
-    has(...columns) { return columns.every((column) => column in this.places); }
+    has(columns) { return columns.every((column) => column in this.places); }
 
     check() {
-      const missing = ["name", "time", "alt", "vs"].filter((column) => !this.has(column));
-      if (!this.has("lat", "lon") && !this.has("sx", "sy")) missing.push("a place (lat lon, or sx sy)");
-      if (!this.has("trk", "gs") && !this.has("vx", "vy")) missing.push("a speed (trk gs, or vx vy)");
+      const missing = NEEDED.filter((column) => !this.has([column]));
+      for (const [one, other, what] of EITHER) if (!this.has(one) && !this.has(other)) missing.push(what);
       if (missing.length) fail(`the header has no column for ${missing.join(", ")}`);
+    }
+
+    /** The places of the columns that a row is made of; of two forms of a place or a speed the first is taken. */
+    usedPlaces() {
+      const used = [...NEEDED, ...EITHER.flatMap(([one, other]) => (this.has(one) ? one : other))];
+      return new Set(used.map((column) => this.places[column]));
     }
 
     /** A line has units if no number stands where a time would. */
     isUnitLine(line) {
-      const cells = unitCellsOf(line);
+      const cells = unitCellsOf(line, this.marks);
       const at = this.places.time;
-      return at < cells.length && numberOf(cells[at]) === null;
+      return at < cells.length && timeOf(cells[at]) === null;
     }
 
     worthOf(column, unit) {
@@ -115,26 +143,32 @@ function daaRecording(root) {
       return units[unit.toLowerCase()];
     }
 
+    valueOf(column, cell, where, line) {
+      const isTimeOfDay = column === "time" && cell.includes(":");
+      const found = isTimeOfDay ? timeOf(cell) : numberOf(cell);
+      if (found === null) fail(`${where}: no number for ${column}: ${shortened(line)}`);
+      const scaled = isTimeOfDay ? found : found * this.worth[column];
+      return Math.abs(scaled) <= GREATEST ? scaled : fail(`${where}: ${shortened(cell)} is too large a number for ${column}`);
+    }
+
     /** A report of an aircraft: s, degrees or NM, ft, knots eastward and northward, ft/min. */
     row(line, number) {
-      const cells = cellsOf(line);
-      const value = (column) => {
-        const at = this.places[column];
-        const found = at < cells.length ? numberOf(cells[at]) : null;
-        return found === null ? fail(`line ${number}: no number for ${column}: ${line.trim().slice(0, 60)}`) : found * this.worth[column];
-      };
-      if (cells.length <= this.places.name) fail(`line ${number}: no name: ${line.trim().slice(0, 60)}`);
+      const cells = cellsOf(line, this.marks);
+      const hint = line.includes(",") ? ": a decimal comma?" : "";
+      if (cells.length > this.count) fail(`line ${number} has ${cells.length} fields, the header ${this.count}${hint}`);
+      if (!cells[this.places.name]) fail(`line ${number}: no name: ${shortened(line)}`);
+      const value = (column) => this.valueOf(column, cells[this.places[column]] ?? "", `line ${number}`, line);
       let speed;
-      if (this.has("trk", "gs")) {
+      if (this.has(["trk", "gs"])) {
         const angle = value("trk") * EARTH;
         speed = [value("gs") * Math.sin(angle), value("gs") * Math.cos(angle)];
       } else speed = [value("vx"), value("vy")];
-      const place = this.has("lat", "lon") ? [value("lat"), value("lon")] : [value("sx"), value("sy")];
+      const place = this.has(["lat", "lon"]) ? [value("lat"), value("lon")] : [value("sx"), value("sy")];
       return { name: cells[this.places.name], time: value("time"), place, alt: value("alt"), east: speed[0], north: speed[1], vs: value("vs") };
     }
   }
 
-  /** The rows of a recording, whether its places are latitudes and longitudes, and how many settings were left out. */
+  /** The rows of a recording, whether its places are latitudes and longitudes, and what of it is not used. */
   function readRows(text) {
     const all = text.split(LINE_ENDS).map((line, i) => [i + 1, line]).filter(([, line]) => line.trim() && !line.trimStart().startsWith("#"));
     const lines = all.filter(([, line]) => !line.includes("="));
@@ -142,7 +176,10 @@ function daaRecording(root) {
     const header = new Header(lines[0][1], lines.length > 1 ? lines[1][1] : "");
     const rows = lines.slice(header.hasUnitLine ? 2 : 1).map(([number, line]) => header.row(line, number));
     if (!rows.length) fail("no report of an aircraft");
-    return { rows, onEarth: header.has("lat", "lon"), settings: all.length - lines.length };
+    const settings = all.length - lines.length;
+    const notes = settings ? [`${settings} lines KEY = VALUE are left out; a configuration says what they say`] : [];
+    if (header.unused.length) notes.push(`not used: the column${header.unused.length > 1 ? "s" : ""} ${header.unused.join(", ")}`);
+    return { rows, onEarth: header.has(["lat", "lon"]), notes };
   }
 
   /** An identifier of at most 8 letters for each name, which keeps the digits at its end. */
@@ -256,23 +293,23 @@ function daaRecording(root) {
 
   /** The state lines of a recording, seen from an aircraft of it (the first where none is named), its names and what is to be told. */
   function fromRecording(text, ownName = null) {
-    const { rows, onEarth, settings } = readRows(text);
+    const { rows, onEarth, notes } = readRows(text);
     const names = [...new Set(rows.map((row) => row.name))];
     const maker = new Maker(rows, onEarth);
-    const states = stateLines(maker.moments(names.includes(ownName) ? ownName : names[0]));
-    const notes = [...maker.ids].filter(([name, short]) => name !== short).map(([name, short]) => `${name} is written ${short}`);
+    const moments = maker.moments(names.includes(ownName) ? ownName : names[0]);
+    for (const [name, short] of maker.ids) if (name !== short) notes.push(`${name} is written ${short}`);
     notes.push(...[...maker.leftOut].map(([why, count]) => `left out: ${count} ${why}`));
-    if (settings) notes.push(`${settings} lines KEY = VALUE are left out`);
-    return { states, names, notes };
+    if (!moments.length) fail(`no moment is left; ${notes.join("; ")}`);
+    return { states: stateLines(moments), names, notes };
   }
 
   /** Whether a text looks like a recording: its first line with fields names columns. */
   function isRecording(text) {
     const first = text.split(LINE_ENDS).find((line) => line.trim() && !line.trimStart().startsWith("#") && !line.includes("="));
-    const named = first ? cellsOf(first).map((cell) => splitUnit(cell)[0]) : [];
-    return COLUMNS.name[0].some((name) => named.includes(name)) && COLUMNS.time[0].some((name) => named.includes(name));
+    const there = first ? cellsOf(first, marksOf(first)).map((cell) => splitUnit(cell)[0]) : [];
+    return ["name", "time"].every((column) => COLUMNS[column][0].some((name) => there.includes(name)));
   }
 
-  Object.assign(root.daa, { fromRecording, isRecording, stateLines, NoRecording });
+  Object.assign(root.daa, { fromRecording, isRecording, stateLines, NoRecording, COLUMNS });
 }
 daaRecording(globalThis);

@@ -83,10 +83,14 @@ void print_answers(const daa_config &config) {
 }
 
 int main(int words, char **word) try {
-    std::ifstream file(words > 1 ? word[1] : "", std::ios::binary);
-    if (!file || words > 3 || (words == 3 && word[2] != std::string("report"))) {
+    if (words != 2 && !(words == 3 && word[2] == std::string("report"))) {
         std::cerr << "usage: one_moment CONFIGURATION [report]\n";
         return 2;
+    }
+    std::ifstream file(word[1], std::ios::binary);
+    if (!file) {
+        std::cerr << word[1] << " cannot be read\n";
+        return 1;
     }
     const std::string text((std::istreambuf_iterator<char>(file)), {});
     daa_config config;

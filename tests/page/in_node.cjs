@@ -1,13 +1,15 @@
 /* node in_node.cjs PAGE < JSON [[word, ..], ..]: runs the page's scripts that need no browser on each task, and writes the JSON
  * list of the answers. Tasks: [replay, TOML, states], [faults, TOML], [read, TOML], [report, text], [config, struct],
- * [recording, text, ownship], [trap, TOML, states]; texts are bytes in base64. */
+ * [recording, text, ownship], [columns], [room, TOML, states], [named, TOML, states], [strip, levels], [trap, TOML, states]; texts
+ * are bytes in base64. */
 "use strict";
 const fs = require("fs");
 const path = require("path");
 const vm = require("vm");
 
 const page = process.argv[2];
-for (const name of ["engine.wasm", "core", "toml", "recording"]) vm.runInThisContext(fs.readFileSync(path.join(page, `${name}.js`), "utf8"));
+const run = (name) => vm.runInThisContext(fs.readFileSync(path.join(page, `${name}.js`), "utf8"));
+["engine.wasm", "core", "toml", "recording"].forEach(run);
 const bytesOf = (text) => new Uint8Array(Buffer.from(text, "base64"));
 
 const TASKS = {
@@ -54,6 +56,49 @@ const TASKS = {
       if (!(problem instanceof daa.NoRecording)) throw problem;
       return { refused: problem.message };
     }
+  },
+
+  columns: () => daa.COLUMNS,
+
+  /** How many bytes a report may have. */
+  room(engine, toml, states) {
+    const { calls } = engine;
+    let room = 0;
+    engine.calls = { ...calls, daa_report(...words) {
+      room = Number(words[6]);
+      return calls.daa_report(...words);
+    } };
+    engine.report(engine.read(bytesOf(toml)), engine.readStates(bytesOf(states))[0].moment);
+    return room;
+  },
+
+  /** Each number of the ownship and of an aircraft is made too great in turn: its name, and the one that the fault has. */
+  named(engine, toml, states) {
+    const config = engine.read(bytesOf(toml));
+    const [{ moment: { own, traffic } }] = engine.readStates(bytesOf(states));
+    return [own, traffic[0]].flatMap((whole) => Object.keys(whole).filter((name) => name !== "id").map((name) => {
+      const wrong = { ...whole, [name]: 300000 };
+      try {
+        engine.report(config, { time: 0, own: whole === own ? wrong : own, traffic: whole === own ? traffic : [wrong] });
+        return [name, null];
+      } catch (problem) {
+        return [name, problem.fault.field];
+      }
+    }));
+  },
+
+  /** How many boxes of each level the strip has, of moments a second apart: in each an aircraft and all tracks have the level. */
+  strip(engine, levels) {
+    Object.assign(daa, { clamp: (value, low, high) => Math.min(Math.max(value, low), high), wrap: (degrees) => (degrees + 360) % 360,
+      paint: String, escape: String });
+    run("strip");
+    const moments = levels.map((_, time) => ({ time, own: { trk: 0 } }));
+    const notes = moments.map((moment, i) => daa.noteOf(moment, { aircraft: [{ id: "A", level: levels[i] }], resolve: { track: {} },
+      bands: { track: [{ from: 0, upto: 270, level: levels[i] }] } }));
+    const svg = { setAttribute() {}, querySelector: () => svg };
+    daa.drawStrip(svg, { width: 1000, height: 150 }, { moments, notes, ids: ["A"], index: 0, step: 90 });
+    const found = [...svg.innerHTML.matchAll(/<path d="([^"]*)"[^>]* data-level="(\d)"/g)];
+    return Object.fromEntries(found.map(([, boxes, level]) => [level, boxes.split("M").length - 1]));
   },
 
   /** Calls the engine with places out of its memory, and then on a moment: what the first call throws, and the report. */

@@ -264,12 +264,13 @@ class Moved(PageTest):
         self.check_shown()
 
     def test_an_old_report_is_flown_on(self):
-        """An aircraft whose report is 20 seconds old stands where it is now, in the report too, and a drag puts it there."""
-        states = "format 2\nmoment 0\nown 0 0 10000 0 3600 0\ntraffic A 3000 8000 10000 -1350 0 0 20\nend\n"
+        """An aircraft whose report is 20 seconds old stands where it is now, in report and table too, and a drag puts it there."""
+        states = "format 2\nmoment 0\nown 0 0 10000 0 3600 0\ntraffic A 3000 8000 10000 -1350 0 600 20\nend\n"
         now = replayed(THREE_LEVELS, states.replace(" 20\n", " 0\n").encode())
         self.page.open_files(self.page.file("late.states", states))
         self.check_shown()
         self.assertNotEqual(self.page.report(), now)
+        self.assertEqual(self.page.js("return document.querySelector('#aircraft tbody tr:nth-child(2)').cells[4].textContent"), "+200")
         self.page.drag("p:A", (30, 10))
         self.check_shown()
         x, y = map(int, re.search(r"traffic A (-?\d+) (-?\d+)", self.page.states()).groups())

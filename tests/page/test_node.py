@@ -14,6 +14,7 @@ from shared import EXAMPLES, HERE, RECOVERY, THREE_LEVELS, Page, bytes_of, momen
 from daidalus_files import examine_config, read_report  # noqa: E402 (after shared, which says where it is)
 
 sys.path.append(os.path.join(os.path.dirname(EXAMPLES), "tests", "tools"))
+from common import module  # noqa: E402 (the folder is no package)
 from exports import numbers_of, rust_structs  # noqa: E402 (the folder is no package)
 
 PROBE = "process.exit(WebAssembly.validate(new Uint8Array([0, 97, 115, 109, 1, 0, 0, 0, 5, 3, 1, 4, 1])) ? 0 : 1)"
@@ -81,6 +82,19 @@ class Module(unittest.TestCase):
         states = bytes_of(os.path.join(EXAMPLES, "closed.states"))
         answer = in_node([["trap", bytes_of(RECOVERY), states]])[0]
         self.assertEqual(answer, ["Stopped", replayed(RECOVERY, states)])
+
+    def test_the_longest_report_has_room(self):
+        most = int(re.search(r"DAA_MOST_TEXT (\d+)", text_of(os.path.join(os.path.dirname(EXAMPLES), "crates/daa_c/include/daidalus.h")))[1])
+        self.assertGreaterEqual(in_node([["room", bytes_of(RECOVERY), bytes_of(os.path.join(EXAMPLES, "closed.states"))]])[0], most)
+
+    def test_a_fault_names_its_number(self):
+        found = in_node([["named", bytes_of(RECOVERY), bytes_of(os.path.join(EXAMPLES, "closed.states"))]])[0]
+        self.assertEqual(found, [[name, name] for name in ("x", "y", "alt", "trk", "gs", "vs", "x", "y", "alt", "vx", "vy", "vs", "age")])
+
+    def test_a_column_of_the_strip_has_the_greatest_level(self):
+        """Of 601 moments two share a column, and the last has one of its own: 5 boxes of tracks, one of them in two parts; 2 of it."""
+        for levels in ([3, 0] * 300 + [3], [0, 3] * 300 + [3], [3, 2] * 300 + [3]):
+            self.assertEqual(in_node([["strip", levels]])[0], {"3": 300 * (1 + 5) + 1 + 2})
 
 
 # Wrong configurations and lines.
@@ -180,6 +194,13 @@ class Readers(unittest.TestCase):
         texts.append(self.CONFIGS[0].replace(b"resolve = 2", b"resolve = 4"))
         came = self.compare([(text, self.STATES[2]) for text in texts])
         self.assertLessEqual({f"config {code}" for code in range(2, 9)}, came)
+
+    def test_a_missing_key_is_told_at_its_table(self):
+        text = self.CONFIGS[0].replace(b"[gs]\n", b"[gs]\n# here\n")
+        table = text[text.index(b"[gs]"):].partition(b"[vs]")[0]
+        text = text.replace(table, b"\n".join(line for line in table.split(b"\n") if not line.startswith(b"rate")))
+        line = text[:text.index(b"[gs]")].count(b"\n") + 1
+        self.assertEqual(in_node([["read", text]])[0], [[4, "gs.rate is missing", line]])
 
     def test_a_configuration_that_is_too_long(self):
         text = self.CONFIGS[0] + b"#" * 65536
@@ -284,12 +305,14 @@ class Readers(unittest.TestCase):
 HEADS = ["NAME lat lon alt trk gs vs time\n[none] [deg] [deg] [ft] [deg] [knot] [fpm] [s]\n",
          "NAME sx sy sz vx vy vz time\n[none] [nmi] [nmi] [ft] [knot] [knot] [fpm] [s]\n",
          "time [s],aircraft,sx [m],sy [m],sz [m],vx [m/s],vy [m/s],vz [m/s]\n",
-         "# made\nconf = 1\nid; tm; x; y; z; trk (rad); gs (m/s); vs\n"]
+         "# made\nconf = 1\nid; tm; x; y; z; trk (rad); gs (m/s); vs\n",
+         "clock [hh:mm:ss];id;latitude [degrees];longitude [degree];altitude [feet];track;groundspeed [km/h];vz [knots]\n",
+         "name st x y z vx vy verticalspeed\nnone hour meter foot meter nmi/h ft/min kn\n"]
 
 
 def recording(draw):
     """A recording of some aircraft, with names that are too long, reports that come late, and numbers out of range."""
-    form = draw.randrange(4)
+    form = draw.randrange(len(HEADS))
     names = draw.sample(["Ownship", "Intruder1", "Intruder2", "A", "B 7".replace(" ", "_"), "x" * 12, "x" * 13, "é1", "N123"], draw.randint(2, 5))
     lines = []
     for second in range(0, 60, 5):
@@ -304,9 +327,16 @@ def recording(draw):
                 cells = [name, number(-9, 9), number(-9, 9), number(0, 9000), number(-400, 400), number(-400, 400), number(-900, 900), time]
             elif form == 2:
                 cells = [time, name, number(-9999, 9999), number(-9999, 9999), number(0, 3000), number(-200, 200), number(-200, 200), number(-5, 5)]
-            else:
+            elif form == 3:
                 cells = [name, time, number(-9, 9), number(-9, 9), number(0, 9000), number(0, 6), number(0, 200), number(-900, 900)]
-            lines.append({0: "  ", 1: "\t", 2: ",", 3: "; "}[form].join(map(str, cells)))
+            elif form == 4:
+                clock = 24 * 3600 - 30 + time
+                cells = [f"{int(clock // 3600)}:{int(clock // 60 % 60):02}:{clock % 60:04.1f}", name, number(33, 34) / wide, number(-97, -96) / wide,
+                         number(0, 9000), number(0, 360), number(0, 900), number(-9, 9)]
+            else:
+                cells = [name, time / 3600, number(-9999, 9999), number(-30000, 30000), number(0, 3000), number(-400, 400), number(-40000, 40000),
+                         number(-9, 9)]
+            lines.append(("  ", "\t", ",", "; ", ";", " ")[form].join(map(str, cells)))
     if draw.random() < 0.2:
         lines[draw.randrange(len(lines))] = draw.choice(["Ownship 1 2", "x,y,z", "A A A A A A A A"])
     return HEADS[form] + "\n".join(lines) + "\n", names
@@ -329,13 +359,43 @@ class Recordings(unittest.TestCase):
         for own in (None, "Intruder1"):
             self.assertEqual(in_node([["recording", text.encode(), own]])[0]["states"], self.from_daa(text, own))
 
+    def refusal(self, text):
+        return in_node([["recording", text.encode(), None]])[0].get("refused")
+
+    def test_columns_and_units_are_those_of_the_tool(self):
+        """Their names and what they are worth, each of them."""
+        wanted = {column: [list(names), units] for column, (names, units) in module("tools/from_daa").COLUMNS.items()}
+        self.assertEqual(in_node([["columns"]])[0], wanted)
+
+    def test_decimal_commas_are_refused(self):
+        """Under a header with semicolons a comma is one of a number; under one with commas there are too many fields."""
+        for mark, told in ((";", "line 2: no number for sx: own;0;0,5;0;1000;0;100;0"), (",", "line 2 has 9 fields, the header 8: a decimal comma?")):
+            head = mark.join("name time sx sy sz trk gs vs".split())
+            self.assertEqual(self.refusal(f"{head}\n" + mark.join(["own", "0", "0,5", "0", "1000", "0", "100", "0"])), told)
+        self.assertEqual(self.refusal("name time sx sy sz trk gs vs\nown 0 0 0 1000 0 100 0 7\n"), "line 2 has 9 fields, the header 8")
+
+    def test_what_no_moment_can_be_made_of_is_refused(self):
+        head, told = "name,time [h],sx,sy,sz [km],trk,gs,vs\n", "line 2: {} is too large a number for {}"
+        for row, why in (("own,0,0,0,1e308,0,0,0", told.format("1e308", "alt")), ("own,1e308,0,0,0,0,0,0", told.format("1e308", "time")),
+                         (",0,0,0,0,0,0,0", "line 2: no name: ,0,0,0,0,0,0,0"), ("own,1,0,0,0,0,0,0\nown,0:00,0,0,0,0,0,0", "line 3: no number for time: own,0:00,0,0,0,0,0,0"),
+                         ("own,0,0,0,99,0,0,0", "no moment is left; left out: 1 moments whose ownship is out of range")):
+            self.assertEqual(self.refusal(head + row), why)
+
+    def test_what_is_told_of_a_recording(self):
+        text = ("a = 1\nname,time,sx,sy,sz,trk,gs,vs,colour,vx,vy\nown,0,0,0,0,0,100,0,red,1,1\n"
+                "Intruder12,0,0,0,70000,0,100,0,,,\nlate,0,0,0,0,0,100,0,,,\nown,20,0,0,0,0,100,0,,,\n")
+        self.assertEqual(in_node([["recording", text.encode(), None]])[0]["notes"], [
+            "1 lines KEY = VALUE are left out; a configuration says what they say", "not used: the columns colour, vx, vy",
+            "Intruder12 is written Intrud12", "left out: 1 aircraft out of range, or more than there may be, in a moment",
+            "left out: 2 aircraft whose report is older than 10 s, in a moment"])
+
     def test_drawn_recordings(self):
         draw = random.Random(3)
-        cases = [(text, draw.choice([None, names[-1]])) for text, names in (recording(draw) for _ in range(60))]
+        cases = [(text, draw.choice([None, names[-1]])) for text, names in (recording(draw) for _ in range(90))]
         refused = 0
         for (text, own), got in zip(cases, in_node([["recording", text.encode(), own] for text, own in cases])):
             right = self.from_daa(text, own)
             self.assertEqual(got.get("states"), right, text[:300])
             refused += right is None
-        self.assertLess(refused, 30)
+        self.assertLess(refused, 45)
         self.assertGreater(refused, 2)

@@ -66,7 +66,14 @@ fn main() -> ExitCode {
             return 2.into();
         }
     };
-    match text_of(&std::fs::read(name).expect("the configuration"), whole) {
+    let configuration = match std::fs::read(name) {
+        Ok(bytes) => bytes,
+        Err(fault) => {
+            eprintln!("{name}: {fault}");
+            return 1.into();
+        }
+    };
+    match text_of(&configuration, whole) {
         Ok(text) => {
             print!("{text}");
             0.into()
