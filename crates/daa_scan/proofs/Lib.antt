@@ -14,7 +14,6 @@ pub mod Refusing
 pub mod Trails
 pub mod Marks
 pub mod Sides
-pub mod TagLemmas
 pub mod SceneMasks
 pub mod Tables
 pub mod Needed

@@ -156,24 +156,6 @@ module _ (settings : Settings) (own : Own) (aircraft : Traffic) (first l : ℕ) 
     left = λ j k u. h.left j k (omega (arith, on, u));
   }
 
-  -- all of them from one to before another
-  pub marked_each : (a b : ℕ) (new : List ℕ) → length new ≡ length masks
-      → ((j : ℕ) → j < length masks → (first + j < a) ⊎ (b ≤ first + j) → slice_index new j ≡ slice_index masks j)
-      → ((j : ℕ) → j < length masks → a ≤ first + j → first + j < b
-      → AddsLevels (MeetsListed settings own aircraft (first + j)) l (slice_index old j) (slice_index masks j)
-      → AddsLevels (MeetsListed settings own aircraft (first + j)) (l + 1) (slice_index old j) (slice_index new j))
-      → a ≤ b → AreMarked settings own aircraft first a l old masks → AreMarked settings own aircraft first b l old new
-  marked_each a b new same others each on h = record {
-    done = λ j k d. ⊎_elim
-        (λ before. subst (λ (m : ℕ). AddsLevels (MeetsListed settings own aircraft (first + j)) (l + 1) (slice_index old j) m) (sym (others j (inside j k) (inl before))) (h.done j (inside j k) before))
-        (λ within. each j (inside j k) within d (h.left j (inside j k) within))
-        (cases_lt (first + j) a);
-    left = λ j k u. subst (λ (m : ℕ). AddsLevels (MeetsListed settings own aircraft (first + j)) l (slice_index old j) m) (sym (others j (inside j k) (inr u))) (h.left j (inside j k) (omega (arith, on, u)));
-  }
-    where
-      inside : (j : ℕ) → j < length new → j < length masks
-      inside j k = subst (λ (n : ℕ). j < n) same k
-
 pub track_first : (s : Settings) → 1 ≡ start_of Track s
 unfolding start_of
 track_first s = refl

@@ -5,6 +5,5 @@ pub mod Nesting
 pub mod Refusal
 pub mod Sharing
 pub mod Trunks
-pub mod Tags
 pub mod Marking
 pub mod Scene

@@ -11,8 +11,6 @@ mod refusal;
 mod scene;
 mod sharing;
 mod table;
-mod tags;
-mod together;
 mod trail;
 mod trunks;
 

@@ -28,8 +28,6 @@ ghost use Rattle.daa_scan.specs.Inside.Marking.{AreTrailsOf, AreSure, AreMarked,
 use crate::nesting::lies_within;
 use crate::refusal::{Seconds, present_leg, present_of, seconds_in_height, seconds_in_plane};
 use crate::sharing::{meets_by_branch, walk_ahead};
-use crate::tags::Asked;
-use crate::together::{are_told, mark_told, met_by, next_end, told_by};
 use crate::trail::Trail;
 use crate::trunks::{Trunks, lead_to};
 use daa_config::{Candidate, Config, Kind, Level};
@@ -37,6 +35,9 @@ use daa_detect::is_hit;
 use daa_fixed::Leg;
 use daa_legs::{Branch, OwnLeg, Trunk};
 use daa_state::{Own, Traffic};
+
+/// So many candidates are passed over by one look at their masks, where none of them is asked.
+const TOGETHER: u32 = 16;
 
 /// How far the flights that lead on both sides of a kind were walked.
 #[derive(Clone, Copy, Debug)]
@@ -113,7 +114,7 @@ fn stretch_of(config: &Config, kind: Kind) -> Stretch
     }
 }
 
-/// Adds level `l + 1` to the masks, which have the levels up to `l`.
+/// Goes on from `l` levels to the next.
 fn mark_level(
     config: &Config,
     own: &Own,
@@ -302,15 +303,10 @@ fn mark_kind(
         upper: begun,
         lower: begun,
     };
-    let tags = trunks.tags();
-    let asked = Asked { l, nested };
     let mut at = from;
     while at < upto {
         let end = next_end(at, upto);
-        let told = told_by(&trails);
-        if are_told(masks, tags, at - first, at, end - at, told, asked) {
-            mark_told(masks, tags, at - first, at, met_by(&trails, told), l);
-        } else {
+        if some_is_open(masks, at - first, end - first, l, nested) {
             for index in at..end {
                 let j = (index - first) as usize;
                 masks[j] = next_mask(
@@ -433,8 +429,55 @@ fn some_has_level(masks: &[u8], first: u32, from: u32, upto: u32, l: u32) -> boo
     has_level(all, l)
 }
 
+/// The end of those candidates from `at` on that are passed over or gone through together.
+#[inline(always)]
+fn next_end(at: u32, upto: u32) -> u32
+    requires { at < upto }
+    ensures after { at < result }
+    ensures within { result ≤ upto }
+    ensures few { result ≤ at + 16 }
+{
+    if upto - at < TOGETHER {
+        upto
+    } else {
+        at + TOGETHER
+    }
+}
+
+/// Whether the level after level `l` is to be tested for one of the masks from number `at` to
+/// before number `end`, as far as one look tells: where it lies within level `l`, some mask has that
+/// one, and some mask has not the level itself. Fewer than are looked at together are not looked
+/// at.
+#[inline(always)]
+fn some_is_open(masks: &[u8], at: u32, end: u32, l: u32, nested: bool) -> bool
+    requires order { at ≤ end }
+    requires end { end ≤ length masks.now }
+    requires together { end ≤ at + 16 }
+    requires some { IsTrue nested → 1 ≤ l }
+    requires few { l < 8 }
+    ensures { result ≡ false → (j : ℕ) → at ≤ j → j < end
+        → (bit_at (slice_index masks.now j) l ≡ 1)
+        ⊎ (IsTrue nested × (bit_at (slice_index masks.now j) (l - 1) ≢ 1)) }
+{
+    if end - at < TOGETHER {
+        return true;
+    }
+    let mut some = 0;
+    let mut all = 255;
+    for i in 0..TOGETHER {
+        // (a sum of 32 bits would keep the compiler from looking at all of them at once)
+        let mask = masks[at as usize + i as usize];
+        some |= mask;
+        all &= mask;
+    }
+    if nested && !has_level(some, l) {
+        return false;
+    }
+    !has_level(all, l + 1)
+}
+
 /// Whether a mask has level `l`.
-pub(crate) fn has_level(mask: u8, l: u32) -> bool
+fn has_level(mask: u8, l: u32) -> bool
     requires some { 1 ≤ l }
     requires few { l ≤ 8 }
     ensures { IsTrue result ↔ (bit_at mask (l - 1) ≡ 1) }

@@ -73,7 +73,7 @@ impl<'a> Scene<'a> {
             picture,
             groups: groups_of(config),
             places: places_near(config, picture),
-            trunks: Trunks::of(trunks, branches, config, needs),
+            trunks: Trunks::of(trunks, branches, needs),
         }
     }
 

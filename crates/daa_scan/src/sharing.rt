@@ -26,8 +26,8 @@ use daa_taumod::Volume;
 /// for them.
 const STRIDE: u32 = 16;
 
-/// Walks the trail on to leg `upto`, which is `most` or one before it, or to a hit, where it was
-/// not walked so far. It may be walked some legs farther.
+/// Walks the trail on to leg `upto`, which is `most` or one before it, or to a hit, where it was not
+/// walked so far. It may be walked some legs farther.
 #[inline(always)]
 pub(crate) fn walk_ahead(
     trail: &mut Trail,
@@ -62,10 +62,8 @@ pub(crate) fn walk_ahead(
     trail.past = sure_past(trail, most);
 }
 
-/// The leg after which a candidate must leave the trail's flight to be answered by the trail alone:
-/// where there is a hit, the leg of the hit. Where there is none and every leg that may violate was
-/// walked, it is the last of these: a candidate that leaves after it flies no other leg that may.
-/// Else there is no such leg.
+/// After which leg a candidate must leave the trail's flight to be answered by the trail alone, if
+/// there is such a leg: after the hit, or after the last leg that may violate.
 #[inline(always)]
 fn sure_past(trail: &Trail, lookahead: u32) -> u32
     ensures { IsSure lookahead (record trail.now { past = result }) }
@@ -75,7 +73,7 @@ fn sure_past(trail: &Trail, lookahead: u32) -> u32
     }
     let last = lookahead.min(trail.end);
     if !trail.hit && last <= trail.walked {
-        return last.saturating_sub(1);
+        return last;
     }
     u32::MAX
 }

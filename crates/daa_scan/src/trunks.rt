@@ -2,7 +2,7 @@
 //! kept by the caller.
 
 ghost use Rattle.std.specs.Prelude.{◌≡◌, ◌<◌, ◌≤◌, Bool, IsTrue, ℕ, ℤ, length, slice_index_or};
-ghost use Rattle.daa_config.specs.Candidates.{candidate_to, candidates_of};
+ghost use Rattle.daa_config.specs.Candidates.{candidate_to};
 ghost use Rattle.daa_config.specs.Settings.{IsCandidateInRange, IsLevelAt, rates_of};
 ghost use Rattle.daa_config.specs.declared.kind.Kind.{Kind};
 ghost use Rattle.daa_config.specs.declared.level.Level.{Level};
@@ -13,10 +13,8 @@ ghost use Rattle.daa_legs.specs.declared.branch.Branch.{Branch};
 ghost use Rattle.daa_legs.specs.declared.own_leg.OwnLeg.{OwnLeg};
 ghost use Rattle.daa_scan.specs.Trunks.{trunk_index, trunk_in, is_needed, AreLeads};
 ghost use Rattle.daa_scan.specs.Inside.Trunks.{IsAhead};
-ghost use Rattle.daa_scan.specs.Inside.Tags.{AreTagsOf};
 
 use crate::needs::Needs;
-use crate::tags::{TAGS, branch_at, tags_of};
 use daa_config::{Candidate, Config, Kind};
 use daa_legs::{Branch, Trunk};
 use daa_state::Own;
@@ -33,14 +31,11 @@ pub(crate) struct Trunks<'a> {
     trunks: &'a [Trunk],
     branches: &'a [Branch],
     needs: Needs,
-    // what most candidates are answered by, side by side
-    tags: [u8; TAGS],
 }
 
 impl<'a> Model for Trunks<'a> {
     ghost use Rattle.std.specs.Prelude.{◌≡◌, length};
     ghost use Rattle.daa_scan.specs.Inside.Trunks.{Shared};
-    ghost use Rattle.daa_scan.specs.Inside.Tags.{AreTagsOf};
 
     ghost Value = { Shared };
 
@@ -50,20 +45,13 @@ impl<'a> Model for Trunks<'a> {
       needs = t.needs;
     } };
 
-    ghost invariant = { λ t. (length t.trunks.now ≡ 8) × (length t.tags ≡ 2048)
-        × AreTagsOf t.branches.now t.tags };
+    ghost invariant = { λ t. length t.trunks.now ≡ 8 };
 }
 
 impl<'a> Trunks<'a> {
-    /// What is kept, with the candidates' tags.
-    pub(crate) fn of(
-        trunks: &'a [Trunk],
-        branches: &'a [Branch],
-        config: &Config,
-        needs: Needs,
-    ) -> Trunks<'a>
-        requires trunks { length trunks.now ≡ 8 }
-        requires branches { length (candidates_of config.now) ≤ length branches.now }
+    /// What is kept.
+    pub(crate) fn of(trunks: &'a [Trunk], branches: &'a [Branch], needs: Needs) -> Trunks<'a>
+        requires { length trunks.now ≡ 8 }
         ensures { result ≡ record {
           trunks = trunks.now;
           branches = branches.now;
@@ -74,7 +62,6 @@ impl<'a> Trunks<'a> {
             trunks,
             branches,
             needs,
-            tags: tags_of(branches, config, &needs),
         }
     }
 
@@ -97,15 +84,7 @@ impl<'a> Trunks<'a> {
         requires { index < length self.now.branches }
         ensures { (d : Branch) → slice_index_or self.now.branches index d ≡ result.now }
     {
-        branch_at(self.branches, index)
-    }
-
-    /// The candidates' tags, by their numbers in the whole list.
-    pub(crate) fn tags(&self) -> &[u8; TAGS]
-        ensures tags { AreTagsOf self.now.branches result.now }
-        ensures length { length result.now ≡ 2048 }
-    {
-        &self.tags
+        &self.branches[index as usize]
     }
 }
 

@@ -22,7 +22,6 @@ module _ (settings : Settings) where
     pub from : stretch.from ≡ start_of kind settings
     pub upto : stretch.upto ≡ start_of kind settings + length (values_of kind settings)
     pub within : stretch.upto ≤ length (candidates_of settings)
-    pub few : stretch.upto ≤ 1897
 
   pub record AreStretchesOf (stretches : Stretches) : Type 0 where
     pub tracks : IsStretchOf Track stretches.tracks

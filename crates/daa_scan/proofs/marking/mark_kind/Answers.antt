@@ -1,4 +1,4 @@
-use Rattle.std.proofs.Common.{◌≡◌, ◌<◌, ◌≤◌, ◌+◌, ◌-◌, ℕ, pos, true, inl, inr, ⊎_elim, refl, sym, ap, subst, ◌∙◌, arith, length, slice_set, Some}
+use Rattle.std.proofs.Common.{◌≡◌, ◌<◌, ◌≤◌, ◌+◌, ◌-◌, ℕ, inl, inr, ⊎_elim, refl, sym, ap, subst, ◌∙◌, arith, length, slice_set, Some}
 use Rattle.std.specs.Prelude.{slice_get, slice_index, slice_index_or}
 use Rattle.std.proofs.lemmas.Option.{slice_get-get_or}
 use Rattle.daa_config.specs.declared.candidate.Candidate.{Candidate}
@@ -6,14 +6,8 @@ use Rattle.daa_config.specs.declared.candidate.Candidate.TheVariants.{Hold}
 use Rattle.daa_config.specs.Candidates.{candidates_of, start_of, values_of}
 use Rattle.daa_scan.specs.Inside.Marking.{AreMarked}
 use Rattle.daa_scan.proofs.Marks.{of_kind, of_kind_in_range, marked_past, marked_asked, marked_on, marked_next, adds_of_listed, adds_listed}
-use Rattle.daa_legs.specs.declared.branch.Branch.{Branch}
 use Rattle.daa_scan.proofs.Sides.{begun, sure_of_none}
-use Rattle.daa_scan.proofs.TagLemmas.{told_next, told_block}
 use Rattle.daa_scan.proofs.marking.mark_kind.Goals as goal
-
--- a branch for places past the table
-nothing : Branch
-nothing = record { velocity = record { flat = record { east = pos 0; north = pos 0 }; up = pos 0 }; rise = pos 0; leaves = 0; settles = 0; upper = true }
 
 pub returns-then-not-has-clause-masks : goal.returns-then-not-has-clause-masks
 returns-then-not-has-clause-masks c before h = marked_past c.args.config.now c.args.own.now c.args.aircraft.now c.args.first c.args.l before c.args.masks.now c.args.kind c.level-level.result.now c.level-level.ensures.accepted c.level-level.ensures.value
@@ -90,8 +84,8 @@ loop-index-preserved c =
       near = omega (arith, c.loop-index-test.true);
     }
 
-pub loop-at-preserved : goal.loop-at-preserved
-loop-at-preserved c = record {
+pub loop-at-preserved-after-loop-index : goal.loop-at-preserved-after-loop-index
+loop-at-preserved-after-loop-index c = record {
   trails = c.loop-index.invariant.trails;
   sure = c.loop-index.invariant.sure;
   masks = λ before h. marked_on c.args.config.now c.args.own.now c.args.aircraft.now c.args.first c.args.l before c.loop-index.masks c.loop-index.index c.next_end-end.result
@@ -101,54 +95,19 @@ loop-at-preserved c = record {
   near = inl c.next_end-end.ensures.within;
 }
 
-pub are_told-requires-clause-masks : goal.are_told-requires-clause-masks
-are_told-requires-clause-masks c = omega (arith, c.max-from.ensures, c.loop-at.invariant.from, c.next_end-end.ensures.after, c.next_end-end.ensures.within, c.min-upto.ensures, c.loop-at-test.true, c.loop-at.auto.masks)
-
-pub are_told-requires-clause-tags : goal.are_told-requires-clause-tags
-are_told-requires-clause-tags c = omega (arith, c.next_end-end.ensures.after, c.next_end-end.ensures.within, c.min-upto.ensures, c.requires.stretch.few, c.tags-tags.ensures.length)
-
-pub mark_told-requires-clause-masks : goal.mark_told-requires-clause-masks
-mark_told-requires-clause-masks c = let whole = c.are_told.ensures.whole c.if-are_told.true in
-    omega (arith, whole, c.max-from.ensures, c.loop-at.invariant.from, c.next_end-end.ensures.after, c.next_end-end.ensures.within, c.min-upto.ensures, c.loop-at-test.true, c.loop-at.auto.masks)
-
-pub mark_told-requires-clause-tags : goal.mark_told-requires-clause-tags
-mark_told-requires-clause-tags c = let whole = c.are_told.ensures.whole c.if-are_told.true in
-    omega (arith, whole, c.next_end-end.ensures.after, c.next_end-end.ensures.within, c.min-upto.ensures, c.requires.stretch.few, c.tags-tags.ensures.length)
-
-pub loop-at-preserved-then-are_told : goal.loop-at-preserved-then-are_told
-loop-at-preserved-then-are_told c =
-    let whole = c.are_told.ensures.whole c.if-are_told.true in
-    let ends : c.next_end-end.result ≡ c.loop-at.at + 16 = omega (arith, whole, c.next_end-end.ensures.few, c.next_end-end.ensures.after) in
-    let begins : c.loop-at.at - c.args.first + c.args.first ≡ c.loop-at.at = omega (arith, c.max-from.ensures, c.loop-at.invariant.from) in
-    record {
-      trails = c.loop-at.invariant.trails;
-      sure = c.loop-at.invariant.sure;
-      masks = λ old h. told_block c.args.config.now c.args.own.now c.args.aircraft.now c.args.first c.args.l old c.loop-at.masks c.mark_told.new.masks c.loop-at.at c.next_end-end.result (c.loop-at.at - c.args.first) begins ends c.mark_told.ensures.length
-          c.mark_told.ensures.others
-          (λ i b.
-          let from : start_of c.args.kind c.args.config.now ≤ c.loop-at.at + i = omega (arith, c.max-from.ensures, c.loop-at.invariant.from, c.requires.stretch.from) in
-          let before : c.loop-at.at + i < start_of c.args.kind c.args.config.now + length (values_of c.args.kind c.args.config.now) = omega (arith, b, ends, c.min-upto.ensures, c.next_end-end.ensures.within, c.requires.stretch.upto) in
-          let there : c.loop-at.at + i < length (candidates_of c.args.config.now) = omega (arith, c.requires.stretch.upto, c.requires.stretch.within, before) in
-          let told : c.loop-at.at + i < length c.tags-tags.result.now = omega (arith, c.tags-tags.ensures.length, before, c.requires.stretch.upto, c.requires.stretch.few) in
-          let candidate : Candidate = slice_index_or (candidates_of c.args.config.now) (c.loop-at.at + i) Hold in
-          let listed : slice_get (candidates_of c.args.config.now) (c.loop-at.at + i) ≡ Some candidate = slice_get-get_or (candidates_of c.args.config.now) (c.loop-at.at + i) Hold there in
-          let of = of_kind c.args.kind c.args.config.now (c.loop-at.at + i) candidate c.level-level.ensures.accepted from before listed in (
-            candidate,
-            listed,
-            told_next c.args.config.now c.args.own.now c.args.aircraft.now c.args.kind c.level-level.result.now c.loop-at.trails c.loop-at.invariant.trails c.loop-at.invariant.sure c.level-level.ensures.in_range.lookahead_most
-                c.told_by-told.result c.met_by.result
-                (record { upper = c.told_by-told.ensures.upper; lower = c.told_by-told.ensures.lower; met_upper = c.met_by.ensures.upper; no_upper = c.met_by.ensures.no_upper; met_lower = c.met_by.ensures.lower; no_lower = c.met_by.ensures.no_lower })
-                (record { l = c.args.l; nested = c.is_nested-nested.result }) c.level-level.ensures.value candidate of.0 of.1 (slice_index_or c.args.trunks.now.branches (c.loop-at.at + i) nothing)
-                (c.requires.trunks.branches.each (c.loop-at.at + i) candidate nothing listed c.args.kind of.0 of.1 (cc (c.has.ensures, c.if-not-has.false)))
-                (slice_index c.tags-tags.result.now (c.loop-at.at + i)) (c.tags-tags.ensures.tags (c.loop-at.at + i) nothing told)
-                (slice_index old (c.loop-at.at - c.args.first + i)) (slice_index c.loop-at.masks (c.loop-at.at - c.args.first + i)) (slice_index c.mark_told.new.masks (c.loop-at.at - c.args.first + i))
-                (c.mark_told.ensures.told i b)
-                c.is_nested-nested.ensures.some (λ t m. c.is_nested-nested.ensures.nested t c.args.own.now candidate c.args.aircraft.now m) (c.are_told.ensures.told c.if-are_told.true i b),
-          ))
-          (c.loop-at.invariant.masks old h);
-      from = omega (arith, c.loop-at.invariant.from, c.next_end-end.ensures.after);
-      near = inl c.next_end-end.ensures.within;
-    }
+pub loop-at-preserved : goal.loop-at-preserved
+loop-at-preserved c = record {
+  trails = c.loop-at.invariant.trails;
+  sure = c.loop-at.invariant.sure;
+  masks = λ before h. marked_asked c.args.config.now c.args.own.now c.args.aircraft.now c.args.first c.args.l before c.loop-at.masks c.loop-at.at c.next_end-end.result (omega (arith, c.next_end-end.ensures.after))
+      (λ j b from d. ⊎_elim
+      (λ t. inl t)
+      (λ (n, clear). inr (c.is_nested-nested.ensures.some n, (λ candidate m. c.is_nested-nested.ensures.nested n c.args.own.now candidate c.args.aircraft.now m), clear))
+      (c.some_is_open.ensures c.if-some_is_open.false j (omega (arith, from)) (omega (arith, d))))
+      (c.loop-at.invariant.masks before h);
+  from = omega (arith, c.loop-at.invariant.from, c.next_end-end.ensures.after);
+  near = inl c.next_end-end.ensures.within;
+}
 
 pub returns-clause-masks : goal.returns-clause-masks
 returns-clause-masks c before h = marked_on c.args.config.now c.args.own.now c.args.aircraft.now c.args.first c.args.l before c.loop-at.masks c.loop-at.at (start_of c.args.kind c.args.config.now + length (values_of c.args.kind c.args.config.now))
