@@ -5,6 +5,7 @@ ghost use Rattle.daa_config.specs.Candidates.{candidates_of};
 ghost use Rattle.daa_state.specs.InRange.{IsPictureInRange};
 ghost use Rattle.daa_engine.specs.EngineState.{IsWorkerCount};
 
+mod room;
 mod workers;
 
 use daa_config::examples::{FOUR_LEVELS, LARGEST_VALUES, ONE_LEVEL, THREE_LEVELS};
