@@ -1,6 +1,6 @@
 //! Exercises whose draws and summary another program found from the definitions.
 
-ghost use Rattle.std.specs.Prelude.{◌≤◌};
+ghost use Rattle.std.specs.Prelude.{◌<◌, ◌≤◌};
 
 use super::*;
 use crate::draws::Draws;

@@ -23,7 +23,10 @@ fn room_of_the_callers_own_gives_the_engines_board(rt: HostRuntime) -> Result<()
     let mut board = Board::new();
     decide_in(config, &picture, &mut trunks, &mut branches, &mut board);
     for index in 0..2048 {
-        assert!(rt; board.mask(index) == engine.board().mask(index), "at {index}");
+        assert!(rt;
+            board.mask(index) == engine.board().mask(index),
+            "at {index}"
+        );
     }
     Ok(())
 }

@@ -1,5 +1,5 @@
 use Rattle.std.proofs.Common.{◌≡◌}
-use Rattle.daa_screen.proofs.tests.publish_ten.Given as goal
+use Rattle.daa_screen.proofs.tests.publish_times.Given as goal
 
 -- the feed is the same
 abbrev pub invariant-loop-time : goal.invariant-loop-time
