@@ -2,7 +2,6 @@
 
 ghost use Rattle.std.specs.Prelude.{◌≡◌, ◌<◌, ◌≤◌, ◌-◌, ◌^◌, true, false, length};
 ghost use Rattle.std.specs.Bool.{Decides};
-ghost use Rattle.daa_config.specs.Settings.{IsAccepted};
 ghost use Rattle.daa_numbers.specs.Boards.{mark_of, level_at, cylinder_at, AreMasksWithin, IsMarked};
 
 use crate::setting::DaaConfig;
@@ -173,7 +172,6 @@ fn are_within(masks: &[u8; BOARD_MASKS], candidates: u32, bits: u8) -> bool
 pub(crate) fn is_decided(asked: &DaaConfig, config: &Config, board: &DaaBoard) -> bool
     ensures yes { result ≡ true → IsMarked asked.now config.now board.now }
     ensures no { result ≡ false → IsMarked asked.now config.now board.now → ⊥ }
-    ensures accepted { IsAccepted config.now }
 {
     let bits = level_bits(config.levels());
     is_mark(board, asked) && are_within(&board.masks, config.total(), bits)

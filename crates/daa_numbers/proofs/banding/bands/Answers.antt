@@ -22,7 +22,7 @@ returns-clause-filled c = λ (_ : pos 0 ≡ pos 0).
       fits = omega (arith, c.if-bands-count.false, c.count.ensures.value, c.fill.auto.bands);
       within = c.fill.ensures.fits;
       marked = marked;
-      are = bands_covered (HasLevelOn masks) s c.of.result c.is_decided.ensures.accepted board c.in-Some.kind _ c.fill.ensures.are;
+      are = bands_covered (HasLevelOn masks) s c.of.result c.count.ensures.accepted board c.in-Some.kind _ c.fill.ensures.are;
     }
 
 pub returns-in_default-clause-no_kind : goal.returns-in_default-clause-no_kind

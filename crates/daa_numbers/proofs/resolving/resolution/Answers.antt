@@ -22,7 +22,7 @@ returns-clause-filled c = λ (_ : pos 0 ≡ pos 0).
       marked = search rules;
       answer = answer;
       is = subst (λ (own : Own). IsResolution (HasLevelOn c.args.board.now.masks) s own k side answer) same
-          (subst (λ (board : List ℕ). IsResolution (HasLevelOn board) s c.in-Ok.found.1 k side answer) c.of.ensures c.nearest.ensures);
+          (subst (λ (board : List ℕ). IsResolution (HasLevelOn board) s c.in-Ok.found.1 k side answer) c.of-board.ensures c.nearest.ensures);
       filled = c.resolution_numbers.ensures;
     }
 
@@ -43,4 +43,17 @@ returns-in_default-side_in-clause-no_side c = λ _.
       kind = c.in-Some.kind;
       kind_is = c.in-Some.ensures.some ∙ to_z-of_z w32 _ fits;
       none = λ side is. c.in_default-side_in.ensures.none side (is ∙ sym (to_z-of_z w32 _ side_fits));
+    }
+
+pub returns-then-not-is_decided-clause-bad_board : goal.returns-then-not-is_decided-clause-bad_board
+returns-then-not-is_decided-clause-bad_board c = λ _.
+    let fits : FitsSigned w32 c.args.kind = search rules in
+    let side_fits : FitsSigned w32 c.args.side = search rules in
+    record {
+      sound = c.in-Ok.ensures.asked.sound;
+      kind = c.in-Some.kind;
+      kind_is = c.in-Some.ensures.some ∙ to_z-of_z w32 _ fits;
+      side = c.in-Some-side_in.side;
+      side_is = c.in-Some-side_in.ensures.some ∙ to_z-of_z w32 _ side_fits;
+      no_board = record { settings = c.in-Ok.found.0; accepted = c.in-Ok.ensures.asked.accepted; other = search rules };
     }
