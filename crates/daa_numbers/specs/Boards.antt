@@ -31,13 +31,15 @@ abbrev pub cylinder_at : ℕ → RecoveryNumbers → RecoveryNumbers
 cylinder_at zero cylinder = no_cylinder
 cylinder_at (suc n) cylinder = cylinder
 
--- the numbers of a kind's values, of a cylinder and of a level, in the order of their structs
+-- the numbers of a kind's values, in the order of their struct
 abbrev pub grid_numbers : Grid → List ℤ
 grid_numbers g = g.min ∷ g.max ∷ g.step ∷ g.rate ∷ []
 
+-- those of a cylinder
 abbrev pub cylinder_numbers : RecoveryNumbers → List ℤ
 cylinder_numbers r = r.hdist ∷ r.vdist ∷ r.nearest ∷ []
 
+-- those of a level
 abbrev pub level_numbers : LevelNumbers → List ℤ
 level_numbers l = l.dthr ∷ l.zthr ∷ l.tthr ∷ l.tcoa ∷ l.lookahead ∷ l.alert ∷ l.tcpa ∷ l.tau ∷ l.tep ∷ []
 

@@ -1,3 +1,4 @@
 -- Cited by private functions, tests and proofs alone; believe only what docs/PROVED.md names here.
+pub mod Asked
 pub mod Codes
 pub mod Lines

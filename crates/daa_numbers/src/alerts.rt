@@ -1,15 +1,16 @@
 //! The alert of an aircraft.
 
-ghost use Rattle.std.specs.Prelude.{◌≡◌, ◌≢◌, pos, Some, IfOk, IfErr};
+ghost use Rattle.std.specs.Prelude.{◌≡◌, ◌≢◌, pos};
 ghost use Rattle.daa_state.specs.InRange.{IsOwnInRange, IsTrafficInRange};
 ghost use Rattle.daa_numbers.specs.Asked.{IsAlertUnder};
 ghost use Rattle.daa_numbers.specs.Refusal.{refusal_of_two, IsCodeOf};
 ghost use Rattle.daa_numbers.specs.Filled.{leg_by, IsFilledAlert};
 ghost use Rattle.daa_numbers.specs.States.{own_of, traffic_of};
 
-use crate::refusal::{Refusal, code};
-use crate::setting::{DaaConfig, accept};
-use crate::states::{DaaOwn, DaaTraffic, checked_own, checked_traffic};
+use crate::asking::config_and_own;
+use crate::refusal::code;
+use crate::setting::DaaConfig;
+use crate::states::{DaaOwn, DaaTraffic, checked_traffic};
 use daa_alert::now_level;
 use daa_config::Config;
 use daa_state::{Own, Traffic};
@@ -47,28 +48,6 @@ fn alert_numbers(config: &Config, own: &Own, aircraft: &Traffic) -> DaaAlert
     }
 }
 
-/// The alert of the aircraft with these numbers.
-fn alert_of(config: &DaaConfig, own: &DaaOwn, traffic: &DaaTraffic) -> Result<DaaAlert, Refusal>
-    ensures filled { IfOk result
-        (IsAlertUnder config.now (own_of own.now) (traffic_of traffic.now)) }
-    ensures refused { IfErr result
-        (λ refusal. refusal_of_two config.now own.now traffic.now ≡ Some refusal) }
-{
-    let config = match accept(config) {
-        Ok(config) => config,
-        Err(fault) => return Err(Refusal::Config(fault)),
-    };
-    let own = match checked_own(own) {
-        Ok(own) => own,
-        Err(refusal) => return Err(refusal),
-    };
-    let traffic = match checked_traffic(traffic) {
-        Ok(traffic) => traffic,
-        Err(refusal) => return Err(refusal),
-    };
-    Ok(alert_numbers(&config, &own, &traffic))
-}
-
 /// Fills in the level of an aircraft now, its alert level and its first leg. Returns 0, or why
 /// nothing was filled in.
 pub fn alert(config: &DaaConfig, own: &DaaOwn, traffic: &DaaTraffic, out: &mut DaaAlert) -> i32
@@ -78,11 +57,14 @@ pub fn alert(config: &DaaConfig, own: &DaaOwn, traffic: &DaaTraffic, out: &mut D
     ensures refused { result ≢ pos 0
         → IsCodeOf (refusal_of_two config.now own.now traffic.now) result }
 {
-    match alert_of(config, own, traffic) {
-        Ok(alert) => {
-            *out = alert;
-            0
-        }
-        Err(refusal) => code(refusal),
-    }
+    let (config, own) = match config_and_own(config, own) {
+        Ok(found) => found,
+        Err(code) => return code,
+    };
+    let traffic = match checked_traffic(traffic) {
+        Ok(traffic) => traffic,
+        Err(refusal) => return code(refusal),
+    };
+    *out = alert_numbers(&config, &own, &traffic);
+    0
 }

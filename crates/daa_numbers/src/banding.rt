@@ -10,7 +10,7 @@ ghost use Rattle.daa_numbers.specs.Refusal.{config_refusal};
 ghost use Rattle.daa_numbers.specs.Filled.{band_of};
 ghost use Rattle.daa_numbers.specs.Numbers.{settings_by};
 
-use crate::boards::{DaaBoard, decided};
+use crate::boards::{DaaBoard, is_decided};
 use crate::codes::{BAD_BOARD, BAD_KIND, SHORT, fault_code, kind_in};
 use crate::setting::{DaaConfig, accept};
 use daa_bands::{Band, Board, runs};
@@ -81,12 +81,12 @@ pub fn bands(
     let Some(kind) = kind_in(kind) else {
         return BAD_KIND;
     };
-    let Some(board) = decided(config, &accepted, board) else {
+    if !is_decided(config, &accepted, board) {
         return BAD_BOARD;
-    };
+    }
     if bands.len() < accepted.count(kind) as usize {
         return SHORT;
     }
-    *count = fill(&accepted, &board, kind, bands);
+    *count = fill(&accepted, &Board::of(&board.masks), kind, bands);
     0
 }

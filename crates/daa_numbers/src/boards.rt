@@ -1,13 +1,11 @@
 //! Boards, marked with the configuration that they were decided under.
 
-ghost use Rattle.std.specs.Prelude.{◌≡◌, ◌<◌, ◌≤◌, ◌-◌, ◌^◌, true, false, length, IfSome, IfNone};
+ghost use Rattle.std.specs.Prelude.{◌≡◌, ◌<◌, ◌≤◌, ◌-◌, ◌^◌, true, false, length};
 ghost use Rattle.std.specs.Bool.{Decides};
-ghost use Rattle.daa_bands.specs.Board.{HasLevelOn, IsBoardOf};
-ghost use Rattle.daa_config.specs.Settings.{IsAccepted};
 ghost use Rattle.daa_numbers.specs.Boards.{mark_of, level_at, cylinder_at, AreMasksWithin, IsMarked};
 
 use crate::setting::DaaConfig;
-use daa_bands::{BOARD_MASKS, Board};
+use daa_bands::BOARD_MASKS;
 use daa_config::{Config, LevelNumbers, RecoveryNumbers};
 
 /// How many numbers a mark has.
@@ -169,18 +167,12 @@ fn are_within(masks: &[u8; BOARD_MASKS], candidates: u32, bits: u8) -> bool
     true
 }
 
-/// The masks of a board, if it is marked with this configuration.
-pub(crate) fn decided(asked: &DaaConfig, config: &Config, board: &DaaBoard) -> Option<Board>
-    ensures masks { IfSome result (λ masks. masks ≡ board.now.masks) }
-    ensures marked { IfSome result (λ _. IsMarked asked.now config.now board.now) }
-    ensures board { IfSome result (IsBoardOf (HasLevelOn board.now.masks) config.now) }
-    ensures other { IfNone result (IsMarked asked.now config.now board.now → ⊥) }
-    ensures accepted { IsAccepted config.now }
+/// Whether a board is marked with this configuration, and says nothing but levels of its
+/// candidates.
+pub(crate) fn is_decided(asked: &DaaConfig, config: &Config, board: &DaaBoard) -> bool
+    ensures yes { result ≡ true → IsMarked asked.now config.now board.now }
+    ensures no { result ≡ false → IsMarked asked.now config.now board.now → ⊥ }
 {
     let bits = level_bits(config.levels());
-    if is_mark(board, asked) && are_within(&board.masks, config.total(), bits) {
-        Some(Board::of(&board.masks))
-    } else {
-        None
-    }
+    is_mark(board, asked) && are_within(&board.masks, config.total(), bits)
 }

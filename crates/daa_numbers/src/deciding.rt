@@ -1,6 +1,6 @@
 //! A moment decided, and the levels that its board shows.
 
-ghost use Rattle.std.specs.Prelude.{◌≡◌, ◌≢◌, ◌≤◌, ◌-◌, ◌^◌, pos, drop, length, Some, IfOk, IfErr};
+ghost use Rattle.std.specs.Prelude.{◌≡◌, ◌≢◌, ◌≤◌, ◌-◌, ◌^◌, pos, drop, length};
 ghost use Rattle.daa_bands.specs.Board.{HasLevelOn, IsBoardOf, mask_levels};
 ghost use Rattle.daa_config.specs.Candidates.{candidates_of};
 ghost use Rattle.daa_config.specs.Settings.{IsAccepted};
@@ -14,33 +14,16 @@ ghost use Rattle.daa_numbers.specs.Numbers.{settings_by};
 ghost use Rattle.daa_numbers.specs.Filled.{AreLevelsOn};
 ghost use Rattle.daa_numbers.specs.States.{picture_of};
 
-use crate::boards::{DaaBoard, decided, mark};
+use crate::asking::config_and_picture;
+use crate::boards::{DaaBoard, is_decided, mark};
 use crate::codes::{BAD_BOARD, SHORT, fault_code};
-use crate::refusal::{Refusal, code};
 use crate::setting::{DaaConfig, accept};
-use crate::states::{DaaOwn, DaaTraffic, picture};
+use crate::states::{DaaOwn, DaaTraffic};
 use daa_bands::Board;
 use daa_config::Config;
-use daa_engine::decide_in;
-use daa_legs::{Branch, Trunk};
+use daa_engine::{MOST_CANDIDATES, decide_in, leading_flights};
+use daa_legs::Branch;
 use daa_state::Picture;
-
-/// The most candidates of a configuration.
-const MOST_CANDIDATES: usize = 1897;
-
-/// Eight flights that lead.
-fn trunks() -> [Trunk; 8] {
-    [
-        Trunk::new(),
-        Trunk::new(),
-        Trunk::new(),
-        Trunk::new(),
-        Trunk::new(),
-        Trunk::new(),
-        Trunk::new(),
-        Trunk::new(),
-    ]
-}
 
 /// The board of a picture.
 #[inline(never)]
@@ -51,31 +34,10 @@ pub(crate) fn decided_board(config: &Config, picture: &Picture) -> Board
     // its clauses say how many there are
     let _total = config.total();
     let mut board = Board::new();
-    let mut trunks = trunks();
+    let mut trunks = leading_flights();
     let mut branches = [Branch::new(); MOST_CANDIDATES];
     decide_in(config, picture, &mut trunks, &mut branches, &mut board);
     board
-}
-
-/// The board of a picture of these numbers.
-fn board_of(asked: &DaaConfig, own: &DaaOwn, traffic: &[DaaTraffic]) -> Result<DaaBoard, Refusal>
-    ensures decided { IfOk result
-        (IsDecided asked.now (picture_of 0 own.now traffic.now)) }
-    ensures refused { IfErr result
-        (λ refusal. refusal_of asked.now own.now traffic.now ≡ Some refusal) }
-{
-    let config = match accept(asked) {
-        Ok(config) => config,
-        Err(fault) => return Err(Refusal::Config(fault)),
-    };
-    let picture = match picture(0, own, traffic) {
-        Ok(picture) => picture,
-        Err(refusal) => return Err(refusal),
-    };
-    Ok(DaaBoard {
-        masks: *decided_board(&config, &picture).masks(),
-        mark: mark(asked),
-    })
 }
 
 /// Fills in the board of a moment. Returns 0, or why nothing was filled in.
@@ -86,13 +48,13 @@ pub fn decide(config: &DaaConfig, own: &DaaOwn, traffic: &[DaaTraffic], board: &
     ensures refused { result ≢ pos 0
         → IsCodeOf (refusal_of config.now own.now traffic.now) result }
 {
-    match board_of(config, own, traffic) {
-        Ok(decided) => {
-            *board = decided;
-            0
-        }
-        Err(refusal) => code(refusal),
-    }
+    let (accepted, picture) = match config_and_picture(config, 0, own, traffic) {
+        Ok(found) => found,
+        Err(code) => return code,
+    };
+    board.masks = *decided_board(&accepted, &picture).masks();
+    board.mark = mark(config);
+    0
 }
 
 /// Fills in the levels that a board shows.
@@ -127,14 +89,14 @@ pub fn levels(config: &DaaConfig, board: &DaaBoard, levels: &mut [u8], count: &m
         Ok(accepted) => accepted,
         Err(fault) => return fault_code(fault),
     };
-    let Some(board) = decided(config, &accepted, board) else {
+    if !is_decided(config, &accepted, board) {
         return BAD_BOARD;
-    };
+    }
     let total = accepted.total() as usize;
     if levels.len() < total {
         return SHORT;
     }
-    show(&accepted, &board, levels);
+    show(&accepted, &Board::of(&board.masks), levels);
     *count = total;
     0
 }

@@ -6,10 +6,10 @@ ghost use Rattle.daa_numbers.specs.Filled.{last_by};
 ghost use Rattle.daa_numbers.specs.Refusal.{refusal_of, IsCodeOf};
 ghost use Rattle.daa_numbers.specs.States.{picture_of};
 
-use crate::codes::{BAD_KIND, NOT_ASKED, kind_in};
-use crate::refusal::{Refusal, code};
-use crate::setting::{DaaConfig, accept};
-use crate::states::{DaaOwn, DaaTraffic, picture};
+use crate::asking::config_picture_and_kind;
+use crate::codes::NOT_ASKED;
+use crate::setting::DaaConfig;
+use crate::states::{DaaOwn, DaaTraffic};
 use daa_last::last_of;
 
 /// The last time of a kind: 1, and for how many seconds, 0 to 179, the present flight may be kept;
@@ -50,16 +50,9 @@ pub fn last(
     ensures refused { result ≢ pos 0 → result ≢ pos 23 → result ≢ pos 26
         → IsCodeOf (refusal_of config.now own.now traffic.now) result }
 {
-    let config = match accept(config) {
-        Ok(config) => config,
-        Err(fault) => return code(Refusal::Config(fault)),
-    };
-    let picture = match picture(0, own, traffic) {
-        Ok(picture) => picture,
-        Err(refusal) => return code(refusal),
-    };
-    let Some(kind) = kind_in(kind) else {
-        return BAD_KIND;
+    let (config, picture, kind) = match config_picture_and_kind(config, own, traffic, &kind) {
+        Ok(found) => found,
+        Err(code) => return code,
     };
     if !config.last_times() {
         return NOT_ASKED;

@@ -5,6 +5,7 @@
 #![tactic(auto)]
 
 mod alerts;
+mod asking;
 mod banding;
 mod boards;
 mod candidates;

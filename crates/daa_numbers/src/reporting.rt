@@ -9,12 +9,12 @@ ghost use Rattle.daa_numbers.specs.Asked.{IsReported, HasLongerText};
 ghost use Rattle.daa_numbers.specs.Refusal.{refusal_of, IsCodeOf};
 ghost use Rattle.daa_numbers.specs.States.{picture_of};
 
+use crate::asking::config_and_picture;
 use crate::codes::SHORT;
 use crate::deciding::decided_board;
-use crate::refusal::{Refusal, code};
-use crate::setting::{DaaConfig, accept};
+use crate::setting::DaaConfig;
 use crate::sheet::Sheet;
-use crate::states::{DaaOwn, DaaTraffic, picture};
+use crate::states::{DaaOwn, DaaTraffic};
 use daa_bands::Board;
 use daa_config::Config;
 use daa_engine::say_moment;
@@ -75,13 +75,9 @@ pub fn report(
     ensures refused { result ≢ pos 0 → result ≢ pos 19
         → IsCodeOf (refusal_of config.now own.now traffic.now) result }
 {
-    let config = match accept(config) {
-        Ok(config) => config,
-        Err(fault) => return code(Refusal::Config(fault)),
-    };
-    let picture = match picture(time, own, traffic) {
-        Ok(picture) => picture,
-        Err(refusal) => return code(refusal),
+    let (config, picture) = match config_and_picture(config, time, own, traffic) {
+        Ok(found) => found,
+        Err(code) => return code,
     };
     match fill(&config, &picture, &decided_board(&config, &picture), text) {
         Some(length) => {

@@ -6,11 +6,12 @@ ghost use Rattle.daa_numbers.specs.Refusal.{refusal_of_own, IsCodeOf};
 ghost use Rattle.daa_numbers.specs.Filled.{resolution_by};
 ghost use Rattle.daa_numbers.specs.States.{own_of};
 
-use crate::boards::{DaaBoard, decided};
+use crate::asking::config_and_own;
+use crate::boards::{DaaBoard, is_decided};
 use crate::codes::{BAD_BOARD, BAD_KIND, BAD_SIDE, kind_in, side_in};
-use crate::refusal::{Refusal, code};
-use crate::setting::{DaaConfig, accept};
-use crate::states::{DaaOwn, checked_own};
+use crate::setting::DaaConfig;
+use crate::states::DaaOwn;
+use daa_bands::Board;
 use daa_config::Resolution;
 use daa_resolve::nearest;
 
@@ -52,13 +53,9 @@ pub fn resolution(
     ensures refused { result ≢ pos 0 → result ≢ pos 23 → result ≢ pos 24 → result ≢ pos 27
         → IsCodeOf (refusal_of_own config.now own.now) result }
 {
-    let accepted = match accept(config) {
-        Ok(accepted) => accepted,
-        Err(fault) => return code(Refusal::Config(fault)),
-    };
-    let own = match checked_own(own) {
-        Ok(own) => own,
-        Err(refusal) => return code(refusal),
+    let (accepted, own) = match config_and_own(config, own) {
+        Ok(found) => found,
+        Err(code) => return code,
     };
     let Some(kind) = kind_in(kind) else {
         return BAD_KIND;
@@ -66,9 +63,10 @@ pub fn resolution(
     let Some(side) = side_in(side) else {
         return BAD_SIDE;
     };
-    let Some(board) = decided(config, &accepted, board) else {
+    if !is_decided(config, &accepted, board) {
         return BAD_BOARD;
-    };
+    }
+    let board = Board::of(&board.masks);
     *out = resolution_numbers(nearest(&board, &accepted, &own, kind, side));
     0
 }

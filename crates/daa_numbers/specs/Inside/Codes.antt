@@ -1,5 +1,8 @@
 -- What the codes of refused numbers are not.
-use Rattle.std.specs.Prelude.{◌≢◌, ℤ, pos}
+use Rattle.std.specs.Prelude.{◌≡◌, ◌≢◌, ℤ, pos, Option}
+use Rattle.daa_numbers.specs.Asked.{HasNoKind}
+use Rattle.daa_numbers.specs.Refusal.{IsCodeOf}
+use Rattle.daa_numbers.specs.declared.refusal.Refusal.{Refusal}
 
 -- the code is none of room that is too short, a kind, a side, what is not asked for, or a board
 pub record IsOfStates (code : ℤ) : Type 0 where
@@ -8,3 +11,14 @@ pub record IsOfStates (code : ℤ) : Type 0 where
   pub side : code ≢ pos 24
   pub asked : code ≢ pos 26
   pub board : code ≢ pos 27
+
+-- the code is that of a refusal, which is there, and no other code
+pub record IsRefused (refusal : Option Refusal) (code : ℤ) : Type 0 where
+  pub is : IsCodeOf refusal code
+  pub some : code ≢ pos 0
+  pub others : IsOfStates code
+
+-- the code is 23, and the number stands for no kind where nothing is refused, or that of a refusal
+pub record IsRefusedOfKind (refusal : Option Refusal) (number code : ℤ) : Type 0 where
+  pub no_kind : code ≡ pos 23 → HasNoKind refusal number
+  pub refused : code ≢ pos 23 → IsRefused refusal code

@@ -1,23 +1,28 @@
-use Rattle.std.proofs.Common.{◌≡◌, ◌∙◌, pos, sym, arith, rules, w32, FitsSigned}
+use Rattle.std.proofs.Common.{◌≡◌, ◌∙◌, pos, subst, sym, arith, rules, w32, FitsSigned}
 use Rattle.std.proofs.lemmas.Int.{to_z-of_z}
-use Rattle.daa_bands.specs.Board.{HasLevelOn}
+use Rattle.daa_bands.specs.Board.{HasLevelOn, IsBoardOf}
 use Rattle.daa_bands.proofs.KindLemmas.{bands_covered}
+use Rattle.daa_numbers.specs.Boards.{IsMarked}
 use Rattle.daa_numbers.specs.Numbers.{settings_by}
+use Rattle.daa_numbers.proofs.BoardLemmas.{board_of_masks}
 use Rattle.daa_numbers.proofs.RefusalLemmas.{accepted_alone}
 use Rattle.daa_numbers.proofs.banding.bands.Goals as goal
 
 pub returns-clause-filled : goal.returns-clause-filled
 returns-clause-filled c = λ (_ : pos 0 ≡ pos 0).
+    let masks = c.args.board.now.masks in let s = c.in-Ok.accepted in
     let fits : FitsSigned w32 c.args.kind = search rules in
+    let marked : IsMarked c.args.config.now s c.args.board.now = search rules in
+    let board : IsBoardOf (HasLevelOn masks) s c.of.result = subst (IsBoardOf (HasLevelOn masks) s) (sym c.of.ensures) (board_of_masks masks s marked.masks) in
     record {
-      settings = c.in-Ok.accepted;
+      settings = s;
       accepted = c.in-Ok.ensures.accepted;
       kind = c.in-Some.kind;
       kind_is = c.in-Some.ensures.some ∙ to_z-of_z w32 _ fits;
       fits = omega (arith, c.if-bands-count.false, c.count.ensures.value, c.fill.auto.bands);
       within = c.fill.ensures.fits;
-      marked = c.in-Some-decided.ensures.marked;
-      are = bands_covered (HasLevelOn c.args.board.now.masks) c.in-Ok.accepted c.in-Some-decided.board c.in-Some-decided.ensures.accepted c.in-Some-decided.ensures.board c.in-Some.kind _ c.fill.ensures.are;
+      marked = marked;
+      are = bands_covered (HasLevelOn masks) s c.of.result c.count.ensures.accepted board c.in-Some.kind _ c.fill.ensures.are;
     }
 
 pub returns-in_default-clause-no_kind : goal.returns-in_default-clause-no_kind

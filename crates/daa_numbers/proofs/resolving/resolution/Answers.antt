@@ -1,53 +1,36 @@
-use Rattle.std.proofs.Common.{◌≡◌, ◌∙◌, sym, ℕ, List, Some, None, subst, pos, rules, w32, FitsSigned}
+use Rattle.std.proofs.Common.{◌≡◌, ◌∙◌, sym, ℕ, List, subst, pos, rules, w32, FitsSigned}
 use Rattle.std.proofs.lemmas.Int.{to_z-of_z}
 use Rattle.daa_bands.specs.Board.{HasLevelOn}
 use Rattle.daa_resolve.specs.Resolution.{IsResolution}
 use Rattle.daa_state.specs.InRange.{IsOwnInRange}
 use Rattle.daa_state.specs.declared.word.Own.{Own}
-use Rattle.daa_numbers.specs.Refusal.{own_refusal}
-use Rattle.daa_numbers.specs.Numbers.{settings_by}
-use Rattle.daa_numbers.specs.declared.refusal.Refusal.TheVariants as refuses
-use Rattle.daa_numbers.proofs.RefusalLemmas.{config_first, config_passed}
 use Rattle.daa_numbers.proofs.resolving.resolution.Goals as goal
 
 pub returns-clause-filled : goal.returns-clause-filled
 returns-clause-filled c = λ (_ : pos 0 ≡ pos 0).
-    let s = c.in-Ok.accepted in let k = c.in-Some.kind in let side = c.in-Some-side_in.side in let answer = c.nearest.result in
+    let s = c.in-Ok.found.0 in let k = c.in-Some.kind in let side = c.in-Some-side_in.side in let answer = c.nearest.result in
     let fits : FitsSigned w32 c.args.kind = search rules in let side_fits : FitsSigned w32 c.args.side = search rules in
-    let same = c.in-Ok-checked_own.ensures.value in
+    let same = c.in-Ok.ensures.asked.is in
     record {
       settings = s;
-      accepted = c.in-Ok.ensures.accepted;
-      own_range = subst IsOwnInRange same c.in-Ok-checked_own.ensures.range;
+      accepted = c.in-Ok.ensures.asked.accepted;
+      own_range = subst IsOwnInRange same c.in-Ok.ensures.asked.range;
       kind = k;
       kind_is = c.in-Some.ensures.some ∙ to_z-of_z w32 _ fits;
       side = side;
       side_is = c.in-Some-side_in.ensures.some ∙ to_z-of_z w32 _ side_fits;
-      marked = c.in-Some-decided.ensures.marked;
+      marked = search rules;
       answer = answer;
       is = subst (λ (own : Own). IsResolution (HasLevelOn c.args.board.now.masks) s own k side answer) same
-          (subst (λ (board : List ℕ). IsResolution (HasLevelOn board) s c.in-Ok-checked_own.own k side answer) c.in-Some-decided.ensures.masks c.nearest.ensures);
+          (subst (λ (board : List ℕ). IsResolution (HasLevelOn board) s c.in-Ok.found.1 k side answer) c.of-board.ensures c.nearest.ensures);
       filled = c.resolution_numbers.ensures;
     }
-
-pub returns-in-Err-clause-refused : goal.returns-in-Err-clause-refused
-returns-in-Err-clause-refused c = λ _ _ _ _.
-    let fits : FitsSigned w32 c.code.result = search rules in
-    (refuses.Config c.in-Err.fault, config_first (settings_by c.args.config.now) c.in-Err.fault (own_refusal c.args.own.now) c.in-Err.ensures.refused, sym (to_z-of_z w32 _ fits ∙ c.code.ensures.value))
-
-pub returns-in-Err-checked_own-clause-refused : goal.returns-in-Err-checked_own-clause-refused
-returns-in-Err-checked_own-clause-refused c = λ _ _ _ _.
-    let fits : FitsSigned w32 c.code-in-Err-checked_own.result = search rules in (
-      c.in-Err-checked_own.refusal,
-      config_passed (settings_by c.args.config.now) c.in-Ok.accepted (own_refusal c.args.own.now) (Some c.in-Err-checked_own.refusal) c.in-Ok.ensures.accepted c.in-Err-checked_own.ensures.refused,
-      sym (to_z-of_z w32 _ fits ∙ c.code-in-Err-checked_own.ensures.value),
-    )
 
 pub returns-in_default-clause-no_kind : goal.returns-in_default-clause-no_kind
 returns-in_default-clause-no_kind c = λ _.
     let fits : FitsSigned w32 c.args.kind = search rules in
     record {
-      sound = config_passed (settings_by c.args.config.now) c.in-Ok.accepted (own_refusal c.args.own.now) None c.in-Ok.ensures.accepted c.in-Ok-checked_own.ensures.sound;
+      sound = c.in-Ok.ensures.asked.sound;
       none = λ kind is. c.in_default.ensures.none kind (is ∙ sym (to_z-of_z w32 _ fits));
     }
 
@@ -56,8 +39,21 @@ returns-in_default-side_in-clause-no_side c = λ _.
     let fits : FitsSigned w32 c.args.kind = search rules in
     let side_fits : FitsSigned w32 c.args.side = search rules in
     record {
-      sound = config_passed (settings_by c.args.config.now) c.in-Ok.accepted (own_refusal c.args.own.now) None c.in-Ok.ensures.accepted c.in-Ok-checked_own.ensures.sound;
+      sound = c.in-Ok.ensures.asked.sound;
       kind = c.in-Some.kind;
       kind_is = c.in-Some.ensures.some ∙ to_z-of_z w32 _ fits;
       none = λ side is. c.in_default-side_in.ensures.none side (is ∙ sym (to_z-of_z w32 _ side_fits));
+    }
+
+pub returns-then-not-is_decided-clause-bad_board : goal.returns-then-not-is_decided-clause-bad_board
+returns-then-not-is_decided-clause-bad_board c = λ _.
+    let fits : FitsSigned w32 c.args.kind = search rules in
+    let side_fits : FitsSigned w32 c.args.side = search rules in
+    record {
+      sound = c.in-Ok.ensures.asked.sound;
+      kind = c.in-Some.kind;
+      kind_is = c.in-Some.ensures.some ∙ to_z-of_z w32 _ fits;
+      side = c.in-Some-side_in.side;
+      side_is = c.in-Some-side_in.ensures.some ∙ to_z-of_z w32 _ side_fits;
+      no_board = record { settings = c.in-Ok.found.0; accepted = c.in-Ok.ensures.asked.accepted; other = search rules };
     }
