@@ -1,4 +1,4 @@
-use Rattle.std.proofs.Common.{◌≤◌, ◌-◌, ◌∙◌, arith, take, drop, length, length-drop, length-take}
+use Rattle.std.proofs.Common.{◌≤◌, ◌+◌, ◌-◌, ◌++◌, ◌∙◌, arith, take, drop, length, length-drop, length-take}
 use Rattle.daa_replay.proofs.FollowsLemmas.{follows-part}
 use Rattle.daa_replay.proofs.events.next_of_lines.Goals as goal
 
@@ -20,3 +20,12 @@ loop-done-preserved c =
       kept = λ bytes given f. c.in_default.ensures.kept (bytes ++ take (done + n) piece) given
           (follows-part bytes piece given c.loop-done.lines c.feed-done.new.self c.loop-done.moments done n within c.feed-done.ensures.kept (i.kept bytes given f));
     }
+
+pub returns-in-Some-clause-kept : goal.returns-in-Some-clause-kept
+returns-in-Some-clause-kept c bytes given f =
+    let piece = c.args.piece.now in
+    let done = c.loop-done.done in
+    let n = c.feed-done.result in
+    let within : n ≤ length piece - done = omega (arith, c.feed-done.ensures.within, length-take (length piece - done) (drop done piece), length-drop done piece) in
+    c.in-Some.ensures.kept (bytes ++ take (done + n) piece) given
+    (follows-part bytes piece given c.loop-done.lines c.feed-done.new.self c.loop-done.moments done n within c.feed-done.ensures.kept (c.loop-done.invariant.kept bytes given f))
