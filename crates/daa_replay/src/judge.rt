@@ -17,7 +17,7 @@ use crate::status::{Status, status_of};
 use daa_engine::Engine;
 use daa_judge::{Found, Matching, Sheet};
 use daa_outside::{Sink, Source};
-use daa_report::{differs, same};
+use daa_report::{write_differs, write_same};
 
 /// Writes the text of an event, and nothing else, on the sheet, which has room for it.
 fn sheet_event(engine: &mut Engine, sheet: &mut Sheet, event: &Event)
@@ -138,8 +138,8 @@ pub(crate) fn run_judge<S: Source, K: Sink>(
         (stream_state (K.taken sink.new) (K.faults sink.new))) }
 {
     match judge_all(engine, sheet, source, states, most) {
-        Found::Alike => status_of(same(sink), Status::Accepted),
-        Found::Differs(line) => status_of(differs(sink, line), Status::Refused),
+        Found::Alike => status_of(write_same(sink), Status::Accepted),
+        Found::Differs(line) => status_of(write_differs(sink, line), Status::Refused),
         Found::Fault => Status::SourceFault,
         Found::Limit => Status::Limit,
     }

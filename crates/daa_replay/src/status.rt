@@ -8,7 +8,7 @@ ghost use Rattle.daa_ahead.specs.Bytes.{stream_state};
 use crate::opening::Unready;
 use daa_config::ConfigFault;
 use daa_outside::Sink;
-use daa_report::{SinkFault, config, put};
+use daa_report::{SinkFault, put, write_config};
 
 /// How a run ended.
 #[derive(Clone, Copy, Debug, PartialEq, Eq)]
@@ -82,7 +82,7 @@ fn write_code<K: Sink>(fault: ConfigFault, sink: &mut K) -> Status
         (stream_state (K.taken sink.new) (K.faults sink.new)) result }
 {
     match fault.code() {
-        Some(code) => status_of(config(sink, code), Status::BadConfiguration),
+        Some(code) => status_of(write_config(sink, code), Status::BadConfiguration),
         None => Status::NoMemory,
     }
 }

@@ -8,9 +8,9 @@ use Rattle.daa_replay.proofs.status.write_code.Goals as goal
 pub returns-in-Some : goal.returns-in-Some
 returns-in-Some g c =
     let old : StreamState = stream_state (g.K.Sink.taken c.args.sink.now) (g.K.Sink.faults c.args.sink.now) in
-    let new : StreamState = stream_state (g.K.Sink.taken c.config.new.sink) (g.K.Sink.faults c.config.new.sink) in
+    let new : StreamState = stream_state (g.K.Sink.taken c.write_config.new.sink) (g.K.Sink.faults c.write_config.new.sink) in
     subst (λ (code : Option ℕ). WritesCode code old new c.status_of.result) (sym (sym c.code.ensures ∙ c.in-Some.is))
-    (writes old new _ c.config.result _ _ c.config.ensures c.status_of.ensures.whole c.status_of.ensures.broken)
+    (writes old new _ c.write_config.result _ _ c.write_config.ensures c.status_of.ensures.whole c.status_of.ensures.broken)
 
 pub returns-in-None : goal.returns-in-None
 returns-in-None g c =
