@@ -11,7 +11,7 @@ use Rattle.daa_replay.specs.declared.events.Left.{Left}
 use Rattle.daa_replay.specs.declared.events.Left.TheVariants as left
 use Rattle.daa_replay.specs.declared.events.Progress.{Progress}
 use Rattle.daa_replay.specs.Lines.{events_of, is_refusal}
-use Rattle.daa_replay.specs.Inside.Events.{CanGive, Gave, HasLines, IsAfter, IsAt, IsBetween, IsFront, IsGiven}
+use Rattle.daa_replay.specs.Inside.Events.{CanGive, Gave, IsAfter, IsAt, IsBetween, IsFront, IsGiven}
 use Rattle.daa_replay.proofs.EventLemmas.{events_begin, events_end}
 use Rattle.daa_replay.proofs.FollowsLemmas.{given_begins, given_now}
 
@@ -22,12 +22,15 @@ module _ (bytes piece : Bytes) (done : ℕ) where
   abbrev fed : Bytes
   fed = bytes ++ take done piece
 
-  -- the events of what was fed are the first ones of the whole piece, whether it is the last or not
-  longer : (last : Bool) → IsFront (events_of fed false) (events_of (bytes ++ piece) last)
-  longer false = subst (λ (b : Bytes). IsFront (events_of fed false) (events_of b false))
+  going_on : IsFront (events_of fed false) (events_of (bytes ++ piece) false)
+  going_on = subst (λ (b : Bytes). IsFront (events_of fed false) (events_of b false))
       (append_assoc bytes (take done piece) (drop done piece) ∙ ap (λ (b : Bytes). bytes ++ b) (take-append-drop done piece))
       (events_begin fed (drop done piece))
-  longer true = front-trans (events_of fed false) (events_of (bytes ++ piece) false) (events_of (bytes ++ piece) true) (longer false) (events_end (bytes ++ piece))
+
+  -- the events of what was fed are the first ones of the whole piece, whether it is the last or not
+  longer : (last : Bool) → IsFront (events_of fed false) (events_of (bytes ++ piece) last)
+  longer false = going_on
+  longer true = front-trans (events_of fed false) (events_of (bytes ++ piece) false) (events_of (bytes ++ piece) true) going_on (events_end (bytes ++ piece))
 
   whole : done ≤ length piece → length piece - done ≡ 0 → fed ≡ bytes ++ piece
   whole within none = ap (λ (b : Bytes). bytes ++ b) (take_all done piece (omega (arith, none)))

@@ -28,9 +28,9 @@ module _ (most : ℕ) (first : StreamState) (before text : Text) where
   compares-on : (result : Found) (more : Text) (m : Matching) (now : StreamState) → Compares result most first (before ++ text) more m now
       → Compares result most first before (text ++ more) m now
   compares-on found.Alike more m now c = subst (λ (t : Text). IsMatched most first t m now) (append_assoc before text more) c
-  compares-on (found.Differs number) more m now c rest = subst (λ (t : Text). Finds t most (found.Differs number) first now) (regroup more rest) (c rest)
-  compares-on found.Fault more m now c rest = subst (λ (t : Text). Finds t most found.Fault first now) (regroup more rest) (c rest)
-  compares-on found.Limit more m now c rest = subst (λ (t : Text). Finds t most found.Limit first now) (regroup more rest) (c rest)
+  compares-on (found.Differs number) more m now c = λ rest. subst (λ (t : Text). Finds t most (found.Differs number) first now) (regroup more rest) (c rest)
+  compares-on found.Fault more m now c = λ rest. subst (λ (t : Text). Finds t most found.Fault first now) (regroup more rest) (c rest)
+  compares-on found.Limit more m now c = λ rest. subst (λ (t : Text). Finds t most found.Limit first now) (regroup more rest) (c rest)
 
 -- what every stop but a match finds
 finds_of : (result : Found) → result ≢ found.Alike → (most : ℕ) (first : StreamState) (text : Text) (m : Matching) (now : StreamState)

@@ -148,11 +148,15 @@ pub(crate) fn next_event(
     ensures all { IfNone result ((done.new ≡ length piece.now) × IsAfter last progress.new) }
     ensures range { IfSome result IsEventInRange }
 {
-    if *done < piece.len() {
-        let found = next_of_lines(&mut progress.lines, &mut progress.moments, piece, done);
-        if let Some(event) = found {
-            return Some(event);
+    match progress.left {
+        Left::Lines => {
+            match next_of_lines(&mut progress.lines, &mut progress.moments, piece, done) {
+                Some(event) => Some(event),
+                None if last => next_of_end(progress),
+                None => None,
+            }
         }
+        Left::End => next_of_end(progress),
+        Left::Nothing => next_of_end(progress),
     }
-    if last { next_of_end(progress) } else { None }
 }

@@ -4,10 +4,12 @@ use Rattle.std.proofs.lemmas.List.Elements.{All-nil}
 use Rattle.daa_config.specs.Settings.{Settings}
 use Rattle.daa_lines.specs.LinesOf.{Bytes}
 use Rattle.daa_outside.specs.Faults.{HasRisen}
+use Rattle.daa_replay.specs.declared.events.Progress.{Progress}
 use Rattle.daa_replay.specs.declared.lines.Event.{Event}
 use Rattle.daa_replay.specs.Lines.{IsEventInRange}
 use Rattle.daa_replay.specs.Inside.Batch.{MovesOn, StopsWithin, TakesTexts}
 use Rattle.daa_replay.specs.Inside.Events.{IsGiven}
+use Rattle.daa_replay.specs.Inside.Replay.{Breaks, Desk, Writes, desk}
 use Rattle.daa_replay.proofs.BatchLemmas.{moves-more, moves-nothing, stops-moved, stops-waiting, takes-waiting}
 use Rattle.daa_replay.proofs.GivenLemmas.{at_start, first_of, given_as, or_false, refused_more}
 use Rattle.daa_replay.proofs.ReportLemmas.{err_both, ok_both, on_err}
@@ -37,7 +39,7 @@ loop-event-preserved g c =
     let event = c.in-Some.event in
     let settings = c.args.engine.now.settings in
     record {
-      at = c.next_event.ensures.at;
+      at = record { within = c.next_event.ensures.at.within; can = c.next_event.ensures.at.can };
       steady = c.in_ok-hold_event.ensures.cause.steady ∙ i.steady;
       same = c.hold_event.ensures.same ∙ i.same;
       range = c.hold_event.ensures.range;
@@ -45,7 +47,7 @@ loop-event-preserved g c =
         x.0 ++ event ∷ [],
         λ bytes given is. subst (λ (l : List Event). IsGiven (bytes ++ take c.next_event.new.done c.args.piece.now) l c.next_event.new.progress)
             (append_assoc given x.0 (event ∷ [])) (c.in-Some.ensures.kept bytes (given ++ x.0) (x.1 bytes given is)),
-        refused_more c.args.progress.now.any_refused c.loop-event.progress.any_refused _ x.0 event x.2 c.any_refusal-progress.ensures,
+        refused_more c.args.progress.now.any_refused c.next_event.new.progress.any_refused _ x.0 event (c.next_event.ensures.same ∙ x.2) c.any_refusal-progress.ensures,
         moves-more settings x.0 c.loop-event.batch.events.items (event ∷ []) c.hold_event.new.batch.events.items _ _ _ x.3
             (subst (λ (s : Settings). MovesOn s (c.loop-event.batch.events.items ++ event ∷ []) c.hold_event.new.batch.events.items (g.K.Sink.taken c.loop-event.sink) (g.K.Sink.taken c.hold_event.new.sink))
             i.same c.in_ok-hold_event.ensures.ok),
@@ -59,7 +61,15 @@ returns-in_err-hold_event-clause-err g c =
     let event = c.in-Some.event in
     let settings = c.args.engine.now.settings in
     let cause = c.in_err-hold_event.ensures.cause in
-    on_err _ _ (record {
+    let progress : Progress = record {
+      lines = c.next_event.new.progress.lines;
+      moments = c.next_event.new.progress.moments;
+      left = c.next_event.new.progress.left;
+      any_refused = c.any_refusal-progress.result;
+    } in
+    let old : Desk = desk settings c.args.progress.now (g.K.Sink.taken c.args.sink.now) (g.K.Sink.faults c.args.sink.now) in
+    let new : Desk = desk c.hold_event.new.engine.settings progress (g.K.Sink.taken c.hold_event.new.sink) (g.K.Sink.faults c.hold_event.new.sink) in
+    on_err _ (Breaks old c.args.piece.now c.args.last new) (record {
       risen = subst (λ (n : ℕ). HasRisen n (g.K.Sink.faults c.hold_event.new.sink)) i.steady cause.risen;
       later = omega (arith, i.steady, cause.later);
       events = x.0 ++ event ∷ [];
@@ -78,7 +88,9 @@ returns-clause-ok g c =
     let settings = c.args.engine.now.settings in
     let waiting = c.loop-event.batch.events.items in
     let all : take c.next_event.new.done c.args.piece.now ≡ c.args.piece.now = take_all c.next_event.new.done c.args.piece.now (omega (arith, c.in_default.ensures.all.0)) in
-    ok_both c.write_batch.result _ _ _ (λ taken steady. record {
+    let old : Desk = desk settings c.args.progress.now (g.K.Sink.taken c.args.sink.now) (g.K.Sink.faults c.args.sink.now) in
+    let new : Desk = desk c.write_batch.new.engine.settings c.next_event.new.progress (g.K.Sink.taken c.write_batch.new.sink) (g.K.Sink.faults c.write_batch.new.sink) in
+    ok_both c.write_batch.result _ _ (Writes old c.args.piece.now c.args.last new) (λ taken steady. record {
       same = c.write_batch.ensures.same ∙ i.same;
       after = c.in_default.ensures.all.1;
       calm = steady ∙ i.steady;
@@ -96,7 +108,9 @@ returns-clause-err g c =
     let x = i.events in
     let settings = c.args.engine.now.settings in
     let waiting = c.loop-event.batch.events.items in
-    err_both c.write_batch.result _ _ _ (λ stops risen. record {
+    let old : Desk = desk settings c.args.progress.now (g.K.Sink.taken c.args.sink.now) (g.K.Sink.faults c.args.sink.now) in
+    let new : Desk = desk c.write_batch.new.engine.settings c.next_event.new.progress (g.K.Sink.taken c.write_batch.new.sink) (g.K.Sink.faults c.write_batch.new.sink) in
+    err_both c.write_batch.result _ _ (Breaks old c.args.piece.now c.args.last new) (λ stops risen. record {
       risen = subst (λ (n : ℕ). HasRisen n (g.K.Sink.faults c.write_batch.new.sink)) i.steady risen;
       later = omega (arith, i.steady, c.write_batch.ensures.cause.later);
       events = x.0;
