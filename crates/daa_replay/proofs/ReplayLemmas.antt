@@ -14,12 +14,11 @@ use Rattle.daa_replay.specs.Outside.{Outside, ShelfState, TakesSome, outside}
 use Rattle.daa_replay.specs.Replay.{ReadsAll}
 use Rattle.daa_replay.specs.Inside.Batch.{TakesTexts}
 use Rattle.daa_replay.specs.Inside.Events.{IsGiven}
-use Rattle.daa_replay.specs.Inside.Moment.{IsBegun}
 use Rattle.daa_replay.specs.Inside.Replay.{Desk, Breaks, EndsAs, Writes}
 use Rattle.daa_replay.specs.Inside.Run.{Leaves, Replays}
 use Rattle.daa_replay.proofs.DeskLemmas.{breaks_join, writes_join}
 use Rattle.daa_replay.proofs.GivenLemmas.{all_of}
-use Rattle.daa_replay.proofs.ReportLemmas.{stops-first, stops-more}
+use Rattle.daa_replay.proofs.ReportLemmas.{IsBegun, stops-first, stops-more}
 use Rattle.daa_replay.proofs.SomeReport.{begun-front}
 
 -- of an input that began at the first desk, these bytes were read

@@ -1,6 +1,7 @@
 -- A beginning of a report.
 use Rattle.std.proofs.Common.{◌≡◌, ◌∙◌, Bool, false, List, [], ◌∷◌, ◌++◌, Result, Ok, Err, refl, ap, append_assoc, inl}
 use Rattle.std.specs.Prelude.{OnErr, OnOk}
+use Rattle.daa_bands.specs.Parts.{SplitsByEach}
 use Rattle.daa_config.specs.Settings.{Settings}
 use Rattle.daa_lines.specs.LinesOf.{Bytes}
 use Rattle.daa_report.specs.Lines.{Text}
@@ -9,7 +10,8 @@ use Rattle.daa_replay.specs.declared.lines.Event.{Event}
 use Rattle.daa_replay.specs.Lines.{events_of}
 use Rattle.daa_replay.specs.Inside.Batch.{StopsWithin}
 use Rattle.daa_replay.specs.Inside.Events.{IsFront}
-use Rattle.daa_replay.specs.Inside.Moment.{BeginsText, IsBegun}
+use Rattle.daa_replay.specs.Inside.Moment.{BeginsText}
+use Rattle.daa_replay.specs.Moment.{IsEventText}
 use Rattle.daa_replay.specs.Outside.{TakesSome}
 use Rattle.daa_replay.proofs.EventLemmas.{events_begin}
 use Rattle.daa_replay.proofs.TextLemmas.{begins-more}
@@ -31,6 +33,18 @@ err_both (Err e) P Q R f p q = f p q
 pub begins-nothing : (settings : Settings) (events : List Event) → BeginsText settings events []
 begins-nothing settings [] = refl
 begins-nothing settings (e ∷ events) = inl refl
+
+module _ (settings : Settings) where
+  -- the texts of the first events, and a beginning of the next one's
+  pub record IsBegun (bytes : Bytes) (ended : Bool) (front : Text) : Type 0 where
+    pub written : List Event
+    pub later : List Event
+    pub events : events_of bytes ended ≡ written ++ later
+    pub whole : Text
+    pub texts : SplitsByEach (IsEventText settings) written whole
+    pub begun : Text
+    pub begins : BeginsText later begun
+    pub together : front ≡ whole ++ begun
 
 module _ {settings : Settings} where
   -- the sink failed within the texts of the first events
