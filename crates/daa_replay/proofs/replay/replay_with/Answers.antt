@@ -1,5 +1,5 @@
-use Rattle.std.proofs.Common.{arith, [], length}
-use Rattle.daa_replay.specs.Inside.Replay.{Desk, desk}
+use Rattle.std.proofs.Common.{arith, rules, [], length}
+use Rattle.daa_replay.specs.Inside.Replay.{CanReport, Desk, desk}
 use Rattle.daa_replay.proofs.GivenLemmas.{fed_so_far}
 use Rattle.daa_replay.proofs.ReplayLemmas.{passes_limit, read_fails, replays_over, write_fails}
 use Rattle.daa_replay.proofs.replay.replay_with.Goals as goal
@@ -8,10 +8,11 @@ pub write_end-requires : goal.write_end-requires
 write_end-requires g c =
     let m = c.in-End.ensures.moves in
     let w = m.given in
-    record {
+    let can : CanReport (desk c.write_all.new.engine.settings c.write_all.new.progress (g.K.Sink.taken c.write_all.new.sink) (g.K.Sink.faults c.write_all.new.sink)) 0 = record {
       between = w.after;
       room = omega (arith, fed_so_far m.taken w.events c.write_all.new.progress w.after (w.gives [] [] c.begin-progress.ensures.given), m.bound, c.requires.bound);
-    }
+    } in
+    search (rules, can)
 
 pub returns-in-End : goal.returns-in-End
 returns-in-End g c before after =
