@@ -43,7 +43,7 @@ module _ (settings : Settings) where
     pub whole : Text
     pub texts : SplitsByEach (IsEventText settings) written whole
     pub begun : Text
-    pub begins : BeginsText later begun
+    pub begins : BeginsText settings later begun
     pub together : front ≡ whole ++ begun
 
 module _ {settings : Settings} where
