@@ -1,27 +1,17 @@
 -- Events that wait, and their texts.
-use Rattle.std.proofs.Common.{ℕ, ◌+◌, ◌-◌, ◌<◌, ◌≤◌, ◌≡◌, ◌∙◌, List, [], ◌∷◌, ◌++◌, length, take, drop, get_or, arith, refl, sym, ap, ap₂, subst, append_assoc, append-nil, inl, inr, ◌||◌, ◌⊎◌}
-use Rattle.std.specs.List.{list_any}
+use Rattle.std.proofs.Common.{ℕ, ◌+◌, ◌-◌, ◌<◌, ◌≤◌, ◌≡◌, ◌∙◌, List, [], ◌∷◌, ◌++◌, length, take, drop, get_or, arith, refl, sym, ap, ap₂, subst, append_assoc, append-nil, inl, inr, ◌⊎◌}
 use Rattle.std.specs.Io.KnownBytes.{Appends}
 use Rattle.std.proofs.KnownBytes.{Appends-nil, Appends-trans}
 use Rattle.std.proofs.lemmas.List.{take_more, take-append-drop}
 use Rattle.daa_bands.specs.Parts.{SplitsByEach}
 use Rattle.daa_config.specs.Settings.{Settings}
-use Rattle.daa_lines.specs.LinesOf.{Bytes}
-use Rattle.daa_lines.specs.LinesState.{LinesState}
-use Rattle.daa_lines.specs.ComesFrom.{ComesFrom}
 use Rattle.daa_report.specs.Lines.{Text}
 use Rattle.daa_report.specs.Says.{AppendsFront}
 use Rattle.daa_ahead.specs.Bytes.{ToldBytes}
 use Rattle.daa_replay.specs.declared.lines.Event.{Event}
-use Rattle.daa_replay.specs.declared.replay.Progress.{Progress}
-use Rattle.daa_replay.specs.Lines.{is_refusal}
 use Rattle.daa_replay.specs.Moment.{IsEventText}
-use Rattle.daa_replay.specs.Inside.Lines.{Follows}
 use Rattle.daa_replay.specs.Inside.Moment.{BeginsText}
-use Rattle.daa_replay.specs.Inside.Replay.{Reports, TakesFront}
-use Rattle.daa_replay.specs.Inside.Batch.{Holds, MovesOn, StopsWithin, TakesTexts}
-use Rattle.daa_replay.proofs.FollowsLemmas.{follows-fed, given_begins}
-use Rattle.daa_replay.proofs.ReportLemmas.{refusals-push, take_two}
+use Rattle.daa_replay.specs.Inside.Batch.{MovesOn, StopsWithin, TakesTexts}
 use Rattle.daa_replay.proofs.TextLemmas.{begins-more, texts-append, texts-push}
 
 -- two ways to cut a text in two: the front ends within the first part, or goes on into the second
@@ -41,6 +31,9 @@ cut (x ∷ front) rest (y ∷ first) second e =
 no_front : (front rest : Text) → [] ≡ front ++ rest → front ≡ []
 no_front [] rest e = refl
 no_front (x ∷ front) rest e = absurd (omega (arith, ap length e))
+
+joined : (all waiting more gone : List Event) → all ≡ gone ++ waiting → all ++ more ≡ gone ++ (waiting ++ more)
+joined all waiting more gone e = ap (λ (l : List Event). l ++ more) e ∙ append_assoc gone waiting more
 
 module _ (settings : Settings) where
   -- no event's text was taken
@@ -213,111 +206,31 @@ module _ (settings : Settings) where
       (stops-before (take place events ++ e ∷ []) (drop (place + 1) events) a c
       (stops-after (take place events) (e ∷ []) a b c t (stops-one e text b c is front)))
 
--- ---- what a run holds
+  -- ---- events that wait
 
-module _ {settings : Settings} where
-  pub holds-none : (first now : ToldBytes) (bytes : Bytes) (p : Progress) → Reports settings first bytes p now → Holds settings first bytes p [] now
-  holds-none first now bytes p r = record {
-    given = r.given;
-    follows = subst (λ (g : List Event). Follows bytes g p.lines p.moments) (sym (append-nil r.given)) r.follows;
-    text = r.text;
-    texts = r.texts;
-    taken = r.taken;
-    refusals = ap (list_any is_refusal) (append-nil r.given) ∙ r.refusals;
+  -- no event came yet
+  pub moves-nothing : (now : ToldBytes) → MovesOn settings [] [] now now
+  moves-nothing now = record { gone = []; all_are = refl; taken = takes-nothing now }
+
+  -- more events came, and the texts of some that waited were taken
+  pub moves-more : (all waiting more left : List Event) (a b c : ToldBytes) → MovesOn settings all waiting a b → MovesOn settings (waiting ++ more) left b c
+      → MovesOn settings (all ++ more) left a c
+  moves-more all waiting more left a b c m n = record {
+    gone = m.gone ++ n.gone;
+    all_are = joined all waiting more m.gone m.all_are ∙ ap (λ (l : List Event). m.gone ++ l) n.all_are ∙ sym (append_assoc m.gone n.gone left);
+    taken = takes-more m.gone n.gone a b c m.taken n.taken;
   }
 
-  pub reports-all : (first now : ToldBytes) (bytes : Bytes) (p : Progress) → Holds settings first bytes p [] now → Reports settings first bytes p now
-  reports-all first now bytes p h = record {
-    given = h.given;
-    follows = subst (λ (g : List Event). Follows bytes g p.lines p.moments) (append-nil h.given) h.follows;
-    text = h.text;
-    texts = h.texts;
-    taken = h.taken;
-    refusals = ap (list_any is_refusal) (sym (append-nil h.given)) ∙ h.refusals;
-  }
+  -- the sink failed within their texts
+  pub stops-moved : (all waiting more : List Event) (a b c : ToldBytes) → MovesOn settings all waiting a b → StopsWithin settings (waiting ++ more) b c
+      → StopsWithin settings (all ++ more) a c
+  stops-moved all waiting more a b c m s =
+      subst (λ (l : List Event). StopsWithin settings l a c) (sym (joined all waiting more m.gone m.all_are)) (stops-after m.gone (waiting ++ more) a b c m.taken s)
 
-  -- an event was given, and waits
-  pub holds-event : (first now : ToldBytes) (bytes : Bytes) (old new : Progress) (waiting : List Event) (event : Event)
-      → ((b : Bytes) (g : List Event) → Follows b g old.lines old.moments → Follows b (g ++ event ∷ []) new.lines new.moments)
-      → new.any_refused ≡ (old.any_refused || is_refusal event)
-      → Holds settings first bytes old waiting now → Holds settings first bytes new (waiting ++ event ∷ []) now
-  holds-event first now bytes old new waiting event kept flag h =
-      let same = append_assoc h.given waiting (event ∷ []) in record {
-        given = h.given;
-        follows = subst (λ (g : List Event). Follows bytes g new.lines new.moments) same (kept bytes (h.given ++ waiting) h.follows);
-        text = h.text;
-        texts = h.texts;
-        taken = h.taken;
-        refusals = ap (list_any is_refusal) (sym same)
-            ∙ refusals-push (h.given ++ waiting) event old.any_refused new.any_refused h.refusals flag;
-      }
+  -- the texts of all that waited were taken
+  pub takes-waiting : (all waiting : List Event) (a b c : ToldBytes) → MovesOn settings all waiting a b → TakesTexts settings waiting b c → TakesTexts settings all a c
+  takes-waiting all waiting a b c m t = subst (λ (l : List Event). TakesTexts settings l a c) (sym m.all_are) (takes-more m.gone waiting a b c m.taken t)
 
-  -- no event was given
-  pub holds-line : (first now : ToldBytes) (bytes : Bytes) (old new : Progress) (waiting : List Event)
-      → ((b : Bytes) (g : List Event) → Follows b g old.lines old.moments → Follows b g new.lines new.moments)
-      → new.any_refused ≡ old.any_refused
-      → Holds settings first bytes old waiting now → Holds settings first bytes new waiting now
-  holds-line first now bytes old new waiting kept flag h = record {
-    given = h.given;
-    follows = kept bytes (h.given ++ waiting) h.follows;
-    text = h.text;
-    texts = h.texts;
-    taken = h.taken;
-    refusals = h.refusals ∙ sym flag;
-  }
-
-  -- the texts of the first of the events that wait were written
-  pub holds-moved : (first before now : ToldBytes) (bytes : Bytes) (p : Progress) (all left : List Event)
-      → Holds settings first bytes p all before → MovesOn settings all left before now → Holds settings first bytes p left now
-  holds-moved first before now bytes p all left h m =
-      let same : h.given ++ all ≡ (h.given ++ m.gone) ++ left = ap (λ (l : List Event). h.given ++ l) m.all_are ∙ sym (append_assoc h.given m.gone left) in record {
-        given = h.given ++ m.gone;
-        follows = subst (λ (g : List Event). Follows bytes g p.lines p.moments) same h.follows;
-        text = h.text ++ m.taken.text;
-        texts = texts-append settings h.given m.gone h.text m.taken.text h.texts m.taken.is;
-        taken = Appends-trans first before now h.text m.taken.text h.taken m.taken.taken;
-        refusals = ap (list_any is_refusal) (sym same) ∙ h.refusals;
-      }
-
-  -- and those of all
-  pub holds-written : (first before now : ToldBytes) (bytes : Bytes) (p : Progress) (all : List Event)
-      → Holds settings first bytes p all before → TakesTexts settings all before now → Reports settings first bytes p now
-  holds-written first before now bytes p all h t =
-      reports-all first now bytes p (holds-moved first before now bytes p all [] h (record { gone = all; all_are = sym (append-nil all); taken = t }))
-
-  -- the sink failed within those of the events that wait
-  pub holds-stops : (first before now : ToldBytes) (bytes : Bytes) (p : Progress) (all : List Event)
-      → Holds settings first bytes p all before → StopsWithin settings all before now → TakesFront settings first now bytes p.lines.ended
-  holds-stops first before now bytes p all h s =
-      let more = given_begins bytes (h.given ++ all) p.lines p.moments h.follows in
-      let same : h.given ++ all ≡ (h.given ++ s.written) ++ s.later = ap (λ (l : List Event). h.given ++ l) s.events_are ∙ sym (append_assoc h.given s.written s.later) in record {
-        text = (h.text ++ s.whole) ++ s.begun;
-        is = record {
-          written = h.given ++ s.written;
-          later = s.later ++ more.0;
-          events = more.1 ∙ ap (λ (l : List Event). l ++ more.0) same ∙ append_assoc (h.given ++ s.written) s.later more.0;
-          whole = h.text ++ s.whole;
-          texts = texts-append settings h.given s.written h.text s.whole h.texts s.texts;
-          begun = s.begun;
-          begins = begins-more settings s.later more.0 s.begun s.begins;
-          together = refl;
-        };
-        taken = subst (λ (x : Text). Appends first now x) (sym (append_assoc h.text s.whole s.begun))
-            (Appends-trans first before now h.text (s.whole ++ s.begun) h.taken s.taken);
-      }
-
-  -- n bytes more were fed, of a piece of which `done` were fed before
-  pub holds-part : (first now : ToldBytes) (bytes piece : Bytes) (old : Progress) (lines : LinesState) (waiting : List Event) (done n : ℕ) → n ≤ length piece - done
-      → ((b : Bytes) (t : List Bytes) → ComesFrom b t old.lines → ComesFrom (b ++ take n (take (length piece - done) (drop done piece))) t lines)
-      → Holds settings first (bytes ++ take done piece) old waiting now → Holds settings first (bytes ++ take (done + n) piece) (record old { lines = lines }) waiting now
-  holds-part first now bytes piece old lines waiting done n within kept h =
-      let part = take n (take (length piece - done) (drop done piece)) in
-      let whole = append_assoc bytes (take done piece) part ∙ ap (λ (x : Bytes). bytes ++ x) (take_two piece done n (length piece - done) within) in
-      subst (λ (x : Bytes). Holds settings first x (record old { lines = lines }) waiting now) whole (record {
-        given = h.given;
-        follows = follows-fed (bytes ++ take done piece) part (h.given ++ waiting) old.lines lines old.moments kept h.follows;
-        text = h.text;
-        texts = h.texts;
-        taken = h.taken;
-        refusals = h.refusals;
-      })
+  -- the sink failed within them
+  pub stops-waiting : (all waiting : List Event) (a b c : ToldBytes) → MovesOn settings all waiting a b → StopsWithin settings waiting b c → StopsWithin settings all a c
+  stops-waiting all waiting a b c m s = subst (λ (l : List Event). StopsWithin settings l a c) (sym m.all_are) (stops-after m.gone waiting a b c m.taken s)

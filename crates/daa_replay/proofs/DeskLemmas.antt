@@ -1,8 +1,8 @@
 -- Pieces that are reported, one after the other.
-use Rattle.std.proofs.Common.{◌≡◌, ◌≤◌, ◌<◌, ◌+◌, ◌^◌, ◌∙◌, ℕ, Bool, true, false, List, [], ◌∷◌, ◌++◌, length, refl, sym, ap, subst, arith, length-append, append-nil, append_assoc}
-use Rattle.std.specs.List.{concat}
+use Rattle.std.proofs.Common.{◌≡◌, ◌≤◌, ◌<◌, ◌+◌, ◌^◌, ◌||◌, ◌∙◌, ℕ, Bool, true, false, List, [], ◌∷◌, ◌++◌, length, refl, sym, ap, subst, arith, length-append, append-nil, append_assoc}
+use Rattle.std.specs.List.{concat, list_any}
 use Rattle.std.specs.Borrow.{Bor, MutBor}
-use Rattle.std.proofs.lemmas.List.Folds.{concat-append}
+use Rattle.std.proofs.lemmas.List.Folds.{concat-append, list_any-append}
 use Rattle.daa_ahead.specs.Bytes.{StreamState, ToldBytes}
 use Rattle.daa_ahead.specs.Moves.{Moves, wants_more}
 use Rattle.daa_ahead.specs.Taker.{CanTake, StopsAfter, Takes, TakesAll, TakesBytes}
@@ -12,39 +12,55 @@ use Rattle.daa_config.specs.Settings.{Settings}
 use Rattle.daa_engine.specs.declared.engine.Engine.{Engine}
 use Rattle.daa_lines.specs.LinesOf.{Bytes}
 use Rattle.daa_outside.specs.Faults.{HasRisen}
-use Rattle.daa_replay.specs.declared.replay.Progress.{Progress}
+use Rattle.daa_replay.specs.declared.events.Progress.{Progress}
 use Rattle.daa_replay.specs.declared.batch.Batch.{Batch}
 use Rattle.daa_replay.specs.declared.moment.Tools.{Tools}
-use Rattle.daa_replay.specs.Inside.Replay.{Desk, desk, IsBetween, CanReport, Writes, Breaks, Steps, Reports, TakesFront}
+use Rattle.daa_replay.specs.declared.lines.Event.{Event}
+use Rattle.daa_replay.specs.Lines.{events_of, is_refusal}
+use Rattle.daa_replay.specs.Inside.Batch.{StopsWithin, TakesTexts}
+use Rattle.daa_replay.specs.Inside.Events.{IsBetween, IsFront, IsGiven}
+use Rattle.daa_replay.specs.Inside.Replay.{Desk, desk, CanReport, Writes, Breaks, Steps}
+use Rattle.daa_replay.proofs.BatchLemmas.{stops-after, takes-more, takes-nothing}
+use Rattle.daa_replay.proofs.GivenLemmas.{fed_so_far, given_as, or_assoc, or_false}
 
 -- ---- pieces put together
 
-writes_nothing : (d e : Desk) → e ≡ d → IsBetween d → Writes d [] e
-writes_nothing d e same between = subst (λ (x : Desk). Writes d [] x) (sym same) (record {
+writes_nothing : (d e : Desk) → e ≡ d → IsBetween d.progress → Writes d [] false e
+writes_nothing d e same between = subst (λ (x : Desk). Writes d [] false x) (sym same) (record {
   same = refl;
-  between = between;
-  fed = omega arith;
+  after = between;
   calm = refl;
-  reports = λ settings first bytes is r. subst (λ (b : Bytes). Reports settings first b d.progress d.taken) (sym (append-nil bytes)) r;
+  events = [];
+  gives = λ bytes given is. given_as bytes (bytes ++ []) given (given ++ []) d.progress (sym (append-nil bytes)) (sym (append-nil given)) is;
+  refusals = sym (or_false d.progress.any_refused);
+  taken = takes-nothing d.settings d.taken;
 })
 
-writes_join : (d e f : Desk) (piece later : Bytes) → Writes d piece e → Writes e later f → Writes d (piece ++ later) f
-writes_join d e f piece later w v = record {
+pub writes_join : (d e f : Desk) (piece later : Bytes) (last : Bool) → Writes d piece false e → Writes e later last f → Writes d (piece ++ later) last f
+writes_join d e f piece later last w v = record {
   same = v.same ∙ w.same;
-  between = v.between;
-  fed = omega (arith, v.fed, w.fed, length-append piece later);
+  after = v.after;
   calm = v.calm ∙ w.calm;
-  reports = λ settings first bytes is r. subst (λ (b : Bytes). Reports settings first b f.progress f.taken) (append_assoc bytes piece later)
-      (v.reports settings first (bytes ++ piece) (w.same ∙ is) (w.reports settings first bytes is r));
+  events = w.events ++ v.events;
+  gives = λ bytes given is. given_as ((bytes ++ piece) ++ later) (bytes ++ (piece ++ later)) ((given ++ w.events) ++ v.events) (given ++ (w.events ++ v.events)) f.progress
+      (append_assoc bytes piece later) (append_assoc given w.events v.events) (v.gives (bytes ++ piece) (given ++ w.events) (w.gives bytes given is));
+  refusals = v.refusals ∙ ap (λ (b : Bool). b || list_any is_refusal v.events) w.refusals
+      ∙ or_assoc d.progress.any_refused (list_any is_refusal w.events) (list_any is_refusal v.events)
+      ∙ ap (λ (b : Bool). d.progress.any_refused || b) (sym (list_any-append is_refusal w.events v.events));
+  taken = takes-more d.settings w.events v.events d.taken e.taken f.taken w.taken
+      (subst (λ (s : Settings). TakesTexts s v.events e.taken f.taken) w.same v.taken);
 }
 
-breaks_join : (d e f : Desk) (piece later : Bytes) → Writes d piece e → Breaks e later f → Breaks d (piece ++ later) f
-breaks_join d e f piece later w v = record {
-  same = v.same ∙ w.same;
+pub breaks_join : (d e f : Desk) (piece later : Bytes) (last : Bool) → Writes d piece false e → Breaks e later last f → Breaks d (piece ++ later) last f
+breaks_join d e f piece later last w v = record {
   risen = subst (λ (n : ℕ). HasRisen n f.faults) w.calm v.risen;
   later = omega (arith, w.calm, v.later);
-  front = λ settings first bytes is r. subst (λ (b : Bytes). TakesFront settings first f.taken b false) (append_assoc bytes piece later)
-      (v.front settings first (bytes ++ piece) (w.same ∙ is) (w.reports settings first bytes is r));
+  events = w.events ++ v.events;
+  begins = λ bytes given is. subst (λ (g : List Event). IsFront g (events_of (bytes ++ (piece ++ later)) last)) (append_assoc given w.events v.events)
+      (subst (λ (b : Bytes). IsFront ((given ++ w.events) ++ v.events) (events_of b last)) (append_assoc bytes piece later)
+      (v.begins (bytes ++ piece) (given ++ w.events) (w.gives bytes given is)));
+  stops = stops-after d.settings w.events v.events d.taken e.taken f.taken w.taken
+      (subst (λ (s : Settings). StopsWithin s v.events e.taken f.taken) w.same v.stops);
 }
 
 concat_last : (front : List Bytes) (last : Bytes) → concat (front ++ last ∷ []) ≡ concat front ++ last
@@ -53,26 +69,36 @@ concat_last front last = concat-append front (last ∷ []) ∙ ap (λ (b : Bytes
 -- ---- a taker whose pieces are steps of a desk
 
 module _ {T : Type 0} (takes : T → Bytes → Bool → T → Type 0) (desk_of : T → Desk) (steps : (t : T) (piece : Bytes) (answer : Bool) (u : T) → takes t piece answer u → Steps (desk_of t) piece answer (desk_of u)) where
-  pub writes_all : (a : T) (pieces : List Bytes) (b : T) → IsBetween (desk_of a) → TakesAll takes a pieces b → Writes (desk_of a) (concat pieces) (desk_of b)
+  pub writes_all : (a : T) (pieces : List Bytes) (b : T) → IsBetween (desk_of a).progress → TakesAll takes a pieces b → Writes (desk_of a) (concat pieces) false (desk_of b)
   unfolding TakesAll
   writes_all a [] b between t = writes_nothing (desk_of a) (desk_of b) (ap desk_of t) between
   writes_all a (piece ∷ pieces) b between t =
       let w = steps a piece true t.0 t.1 in
-      writes_join (desk_of a) (desk_of t.0) (desk_of b) piece (concat pieces) w (writes_all t.0 pieces b w.between t.2)
+      writes_join (desk_of a) (desk_of t.0) (desk_of b) piece (concat pieces) false w (writes_all t.0 pieces b w.after t.2)
 
-  pub steps_bytes : (more : Bool) (a b : T) (bytes : Bytes) → IsBetween (desk_of a) → TakesBytes takes more a b bytes → Steps (desk_of a) bytes more (desk_of b)
-  steps_bytes true a b bytes between t = subst (λ (x : Bytes). Writes (desk_of a) x (desk_of b)) t.bytes_are (writes_all a t.pieces b between t.taken)
+  pub steps_bytes : (more : Bool) (a b : T) (bytes : Bytes) → IsBetween (desk_of a).progress → TakesBytes takes more a b bytes → Steps (desk_of a) bytes more (desk_of b)
+  steps_bytes true a b bytes between t = subst (λ (x : Bytes). Writes (desk_of a) x false (desk_of b)) t.bytes_are (writes_all a t.pieces b between t.taken)
   steps_bytes false a b bytes between t =
       let s = t.taken in
-      subst (λ (x : Bytes). Breaks (desk_of a) x (desk_of b)) (sym (concat_last s.front s.last) ∙ ap concat (sym s.pieces_are) ∙ t.bytes_are)
-      (breaks_join (desk_of a) (desk_of s.mid) (desk_of b) (concat s.front) s.last (writes_all a s.front s.mid between s.wanted) (steps s.mid s.last false b s.refused))
+      subst (λ (x : Bytes). Breaks (desk_of a) x false (desk_of b)) (sym (concat_last s.front s.last) ∙ ap concat (sym s.pieces_are) ∙ t.bytes_are)
+      (breaks_join (desk_of a) (desk_of s.mid) (desk_of b) (concat s.front) s.last false (writes_all a s.front s.mid between s.wanted) (steps s.mid s.last false b s.refused))
 
   -- it may be given a piece after others
-  pub can_report : (most : ℕ) (a : T) (pieces : List Bytes) (later : T) (piece : Bytes) → IsBetween (desk_of a) → (desk_of a).progress.lines.fed + most < 2 ^ 63
+  pub can_report : (most : ℕ) (a : T) (pieces : List Bytes) (later : T) (piece : Bytes) → IsBetween (desk_of a).progress → IsGiven [] [] (desk_of a).progress → most < 2 ^ 63
       → TakesAll takes a pieces later → length (concat (pieces ++ piece ∷ [])) ≤ most → CanReport (desk_of later) (length piece)
-  can_report most a pieces later piece between room t fits =
+  can_report most a pieces later piece between begun bound t fits =
       let w = writes_all a pieces later between t in
-      record { between = w.between; room = omega (arith, w.fed, ap length (concat_last pieces piece), length-append (concat pieces) piece) }
+      record {
+        between = w.after;
+        room = omega (
+          arith,
+          bound,
+          fits,
+          fed_so_far (concat pieces) w.events (desk_of later).progress w.after (w.gives [] [] begun),
+          ap length (concat_last pieces piece),
+          length-append (concat pieces) piece,
+        );
+      }
 
 -- what stays over a piece stays over all
 module _ {T X : Type 0} (takes : T → Bytes → Bool → T → Type 0) (name : T → X) (stays : (t : T) (piece : Bytes) (answer : Bool) (u : T) → takes t piece answer u → name u ≡ name t) where

@@ -8,6 +8,7 @@ use Rattle.daa_state.specs.MomentStep.{MomentsState, Stepped, start, step, finis
 use Rattle.daa_state.proofs.WordLaws.{word_of-take}
 use Rattle.daa_replay.specs.declared.lines.Event.{Event}
 use Rattle.daa_replay.specs.Inside.Lines.{state_after}
+use Rattle.daa_replay.specs.Inside.Events.{IsFront}
 use Rattle.daa_replay.specs.Lines.{line_step, next_state, line_event, end_event, events_from, events_of}
 
 -- the events of lines are those of the first ones, and then those of the others
@@ -55,27 +56,23 @@ events_from-shown state number ended (line ∷ lines) =
     ∙ ap (λ (l : List Event). line_event number (line_step state line) ++ l)
     (events_from-shown (next_state state (line_step state line)) (number + 1) ended lines)
 
--- the second list begins with the first
-abbrev pub BeginsWith : List Event → List Event → Type 0
-BeginsWith whole first = (more : List Event) × (whole ≡ first ++ more)
-
-grows : (ended : Bool) (xs ys : List Bytes) → Begins xs ys → BeginsWith (events_from start 1 ended ys) (events_from start 1 false xs)
+grows : (ended : Bool) (xs ys : List Bytes) → Begins xs ys → IsFront (events_from start 1 false xs) (events_from start 1 ended ys)
 grows ended xs ys b = (
   events_from (state_after start xs) (1 + length xs) ended b.0,
   ap (events_from start 1 ended) b.1 ∙ events_from-append start 1 ended xs b.0,
 )
 
-by_shown : (ended : Bool) (xs ys : List Bytes) → Begins (shown xs) (shown ys) → BeginsWith (events_from start 1 ended ys) (events_from start 1 false xs)
+by_shown : (ended : Bool) (xs ys : List Bytes) → Begins (shown xs) (shown ys) → IsFront (events_from start 1 false xs) (events_from start 1 ended ys)
 by_shown ended xs ys b =
     let g = grows ended (shown xs) (shown ys) b in
     (g.0, sym (events_from-shown start 1 ended ys) ∙ g.1 ∙ ap (λ (l : List Event). l ++ g.0) (events_from-shown start 1 false xs))
 
 -- the events of a longer stream begin with those of the shorter
-pub events_begin : (bytes more : Bytes) → BeginsWith (events_of (bytes ++ more) false) (events_of bytes false)
+pub events_begin : (bytes more : Bytes) → IsFront (events_of bytes false) (events_of (bytes ++ more) false)
 unfolding events_of
 events_begin bytes more = by_shown false (lines_of bytes false) (lines_of (bytes ++ more) false) (lines_begin bytes more)
 
 -- and so do those of a whole input
-pub events_end : (bytes : Bytes) → BeginsWith (events_of bytes true) (events_of bytes false)
+pub events_end : (bytes : Bytes) → IsFront (events_of bytes false) (events_of bytes true)
 unfolding events_of
 events_end bytes = by_shown true (lines_of bytes false) (lines_of bytes true) (lines_end bytes)

@@ -1,6 +1,6 @@
 -- One line more, and the events so far.
-use Rattle.std.proofs.Common.{ℕ, ◌+◌, ◌≡◌, List, [], ◌∷◌, ◌++◌, length, Option, None, Some, arith, refl, sym, ap, ap₂, ◌∙◌, Bool, true, false, append-nil, subst, take, drop, ◌≤◌, append_assoc}
-use Rattle.std.proofs.lemmas.List.{take-append-le, take-append-drop}
+use Rattle.std.proofs.Common.{ℕ, ◌+◌, ◌≡◌, List, [], ◌∷◌, ◌++◌, length, Option, None, Some, arith, refl, sym, ap, ap₂, ◌∙◌, Bool, true, false, append-nil, subst, take, drop, ◌≤◌, ◌-◌, append_assoc}
+use Rattle.std.proofs.lemmas.List.{take-take, drop-take, take-append-drop}
 use Rattle.daa_lines.specs.LinesOf.{Bytes, lines_of, shown}
 use Rattle.daa_lines.specs.LinesState.{LinesState, is_standing}
 use Rattle.daa_lines.specs.ComesFrom.{ComesFrom, standing}
@@ -15,7 +15,8 @@ use Rattle.daa_state.specs.declared.word.Word.{Word}
 use Rattle.daa_lines.proofs.TakingLemmas.{standing_none, standing_one}
 use Rattle.daa_replay.specs.Lines.{line_step, next_state, line_event, end_event, events_from, events_of}
 use Rattle.daa_replay.specs.Inside.Lines.{Follows, state_after, given_with}
-use Rattle.daa_replay.proofs.EventLemmas.{events_from-append, events_begin, events_from-push, events_from-end, events_from-shown, state_after-append}
+use Rattle.daa_replay.specs.Inside.Events.{IsFront}
+use Rattle.daa_replay.proofs.EventLemmas.{events_from-append, events_from-push, events_from-end, events_from-shown, state_after-append}
 
 -- the line that stands is taken, and its event is given
 pub follows-line : (bytes : Bytes) (given : List Event) (old new : LinesState) (before : MomentsState) → is_standing old.stage ≡ true
@@ -99,6 +100,23 @@ follows-fed bytes piece given old new moments kept f = record {
   events_are = f.events_are;
 }
 
+pub take_two : (xs : Bytes) (i n m : ℕ) → n ≤ m → take i xs ++ take n (take m (drop i xs)) ≡ take (i + n) xs
+take_two xs i n m h =
+    ap (λ (r : Bytes). take i xs ++ r) (take-take n m (drop i xs) h ∙ sym (drop-take i n xs))
+    ∙ ap (λ (r : Bytes). r ++ drop i (take (i + n) xs)) (sym (take-take i (i + n) xs (omega arith)))
+    ∙ take-append-drop i (take (i + n) xs)
+
+-- n bytes more of a piece, of which `done` were fed before
+pub follows-part : (bytes piece : Bytes) (given : List Event) (old new : LinesState) (moments : MomentsState) (done n : ℕ) → n ≤ length piece - done
+    → ((b : Bytes) (t : List Bytes) → ComesFrom b t old → ComesFrom (b ++ take n (take (length piece - done) (drop done piece))) t new)
+    → Follows (bytes ++ take done piece) given old moments → Follows (bytes ++ take (done + n) piece) given new moments
+follows-part bytes piece given old new moments done n within kept f =
+    let part = take n (take (length piece - done) (drop done piece)) in
+    subst (λ (b : Bytes). Follows b given new moments)
+    (append_assoc bytes (take done piece) part ∙ ap (λ (b : Bytes). bytes ++ b) (take_two piece done n (length piece - done) within))
+    (follows-fed (bytes ++ take done piece) part given old new moments kept f)
+
+-- the lines in hand changed, and stand for the same bytes and lines
 pub follows-as : (bytes : Bytes) (given : List Event) (old new : LinesState) (moments : MomentsState) → ((b : Bytes) (t : List Bytes) → ComesFrom b t old → ComesFrom b t new)
     → Follows bytes given old moments → Follows bytes given new moments
 follows-as bytes given old new moments kept f = record {
@@ -108,23 +126,9 @@ follows-as bytes given old new moments kept f = record {
   events_are = f.events_are;
 }
 
--- a part of the rest is fed
-pub split_rest : (bytes read rest piece : Bytes) (size count : ℕ) → bytes ≡ read ++ rest → piece ≡ take size rest → count ≤ length piece
-    → bytes ≡ (read ++ take count piece) ++ drop count rest
-split_rest bytes read rest piece size count all front within =
-    let short : count ≤ length (take size rest) = subst (λ (p : Bytes). count ≤ length p) front within in
-    let same : take count piece ≡ take count rest =
-    ap (take count) front ∙ sym (take-append-le count (take size rest) (drop size rest) short) ∙ ap (take count) (take-append-drop size rest) in
-    all ∙ ap (λ (r : Bytes). read ++ r) (sym (take-append-drop count rest) ∙ ap (λ (t : Bytes). t ++ drop count rest) (sym same))
-    ∙ sym (append_assoc read (take count piece) (drop count rest))
-
-pub whole_rest : (bytes read rest : Bytes) → bytes ≡ read ++ rest → length rest ≡ 0 → bytes ≡ read
-whole_rest bytes read [] all none = all ∙ append-nil read
-whole_rest bytes read (b ∷ rest) all none = absurd (omega arith)
-
 -- the events given are the first ones of the bytes fed, also while a line stands
 pub given_begins : (bytes : Bytes) (given : List Event) (lines : LinesState) (moments : MomentsState) → Follows bytes given lines moments
-    → (more : List Event) × (events_of bytes lines.ended ≡ given ++ more)
+    → IsFront given (events_of bytes lines.ended)
 unfolding events_of
 given_begins bytes given lines moments f = (
   events_from (state_after start f.taken) (1 + length f.taken) lines.ended (standing lines.stage lines.line),
@@ -133,13 +137,3 @@ given_begins bytes given lines moments f = (
       ∙ events_from-append start 1 lines.ended f.taken (standing lines.stage lines.line)
       ∙ ap (λ (g : List Event). g ++ events_from (state_after start f.taken) (1 + length f.taken) lines.ended (standing lines.stage lines.line)) (sym f.events_are),
 )
-
--- and they are the first ones of a longer input
-pub given_begins_longer : (bytes more : Bytes) (given : List Event) (lines : LinesState) (moments : MomentsState) → lines.ended ≡ false → Follows bytes given lines moments
-    → (later : List Event) × (events_of (bytes ++ more) false ≡ given ++ later)
-given_begins_longer bytes more given lines moments going f =
-    let now = given_begins bytes given lines moments f in
-    let longer = events_begin bytes more in (
-      now.0 ++ longer.0,
-      longer.1 ∙ ap (λ (e : List Event). e ++ longer.0) (ap (events_of bytes) (sym going) ∙ now.1) ∙ append_assoc given now.0 longer.0,
-    )

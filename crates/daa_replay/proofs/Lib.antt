@@ -1,5 +1,6 @@
 pub mod EventLemmas
 pub mod FollowsLemmas
+pub mod GivenLemmas
 pub mod TextLemmas
 pub mod ReportLemmas
 pub mod BatchLemmas

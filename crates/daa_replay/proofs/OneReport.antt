@@ -9,7 +9,8 @@ use Rattle.daa_replay.specs.declared.lines.Event.{Event}
 use Rattle.daa_replay.specs.declared.lines.Event.TheVariants as event
 use Rattle.daa_replay.specs.Lines.{events_of}
 use Rattle.daa_replay.specs.Moment.{IsEventText, IsReportOf}
-use Rattle.daa_replay.specs.Inside.Moment.{BeginsText, IsBegun}
+use Rattle.daa_replay.specs.Inside.Moment.{BeginsText}
+use Rattle.daa_replay.proofs.ReportLemmas.{IsBegun}
 
 module _ (settings : Settings) (accepted : IsAccepted settings) where
   event_once : (e : Event) (t u : Text) → IsEventText settings e t → IsEventText settings e u → t ≡ u

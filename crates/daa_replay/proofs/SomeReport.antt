@@ -20,9 +20,9 @@ use Rattle.daa_replay.specs.declared.lines.Event.{Event}
 use Rattle.daa_replay.specs.declared.lines.Event.TheVariants as event
 use Rattle.daa_replay.specs.Lines.{line_step, next_state, picture_event, line_event, end_event, events_from, events_of, IsEventInRange}
 use Rattle.daa_replay.specs.Moment.{IsEventText, IsReportOf, IsReportFront}
-use Rattle.daa_replay.specs.Inside.Moment.{IsBegun}
 use Rattle.daa_replay.proofs.PictureLemmas.{Leaves, each_picture}
 use Rattle.daa_replay.proofs.OneReport.{report_once, front_begins}
+use Rattle.daa_replay.proofs.ReportLemmas.{IsBegun}
 
 -- ---- events in range
 

@@ -51,8 +51,8 @@ pub(crate) struct Batch {
 }
 
 impl Lane {
-    /// The lane of a worker, with a sheet of so many bytes or what one needs, if there is memory for
-    /// it.
+    /// The lane of a worker, with a sheet of so many bytes or what one needs, if there is memory
+    /// for it.
     fn new(alloc: Global, number: u32, sheet: usize) -> Option<Lane> {
         let room = Room::new(alloc).ok()?;
         let sheet = Sheet::with_room(alloc, sheet.max(LEAST_SHEET)).ok()?;

@@ -1,22 +1,18 @@
 //! A comparison: of the report of given states, event by event, with what a source hands out.
 
-ghost use Rattle.std.specs.Prelude.{◌≡◌, ◌≢◌, ◌<◌, ◌≤◌, ◌+◌, ◌^◌, ◌++◌, ℕ, [], IfErr, OnOk, false, true, length};
-ghost use Rattle.daa_ahead.specs.Bytes.{StreamState, stream_state};
-ghost use Rattle.daa_config.specs.Settings.{Settings};
-ghost use Rattle.daa_judge.specs.Matching.{HasRoom, IsMatched};
-ghost use Rattle.daa_lines.specs.LinesOf.{Bytes};
-ghost use Rattle.daa_lines.specs.LinesState.{is_standing};
-ghost use Rattle.daa_replay.specs.Inside.Judge.{AfterMatch, ComparesSome, IsJudged, IsWhole, Stops, StopsIn, found_in};
+ghost use Rattle.std.specs.Prelude.{◌≡◌, ◌<◌, ◌≤◌, ◌^◌, length};
+ghost use Rattle.daa_ahead.specs.Bytes.{stream_state};
+ghost use Rattle.daa_judge.specs.Matching.{HasRoom};
+ghost use Rattle.daa_replay.specs.Inside.Judge.{ComparesFirst, ComparesSome, Stops, found_in};
 ghost use Rattle.daa_replay.specs.Lines.{IsEventInRange};
 ghost use Rattle.daa_replay.specs.Judge.{Judged};
 ghost use Rattle.daa_replay.specs.Moment.{IsEventText};
 ghost use Rattle.daa_replay.specs.Outside.{ShelfState, outside};
-ghost use Rattle.daa_replay.specs.Inside.Run.{Judges};
-ghost use Rattle.daa_replay.specs.Inside.Status.{code_of};
+ghost use Rattle.daa_replay.specs.Inside.Run.{Judges, Leaves};
 
-use crate::lines::{Event, take_end, take_event};
+use crate::events::{begin, next_event};
+use crate::lines::Event;
 use crate::moment::write_event_alone;
-use crate::replay::{Progress, any_refusal, begin};
 use crate::status::{Status, status_of};
 use daa_engine::Engine;
 use daa_judge::{Found, Matching, Sheet};
@@ -70,111 +66,7 @@ fn judge_event<S: Source>(
     stop_of(matching.compare(source, sheet.text()))
 }
 
-/// Takes the line that is ready, if there is one, and compares the text of its event.
-fn judge_line<S: Source>(
-    engine: &mut Engine,
-    sheet: &mut Sheet,
-    source: &mut S,
-    matching: &mut Matching,
-    progress: &mut Progress,
-) -> Result<(), Found>
-    requires room { HasRoom matching.old }
-    ensures free { is_standing progress.new.lines.stage ≡ false }
-    ensures ended { progress.new.lines.ended ≡ progress.old.lines.ended }
-    ensures fed { progress.new.lines.fed ≡ progress.old.lines.fed }
-    ensures same { engine.new.settings ≡ engine.old.settings }
-    ensures room { HasRoom matching.new }
-    ensures never_falls { S.faults source.old ≤ S.faults source.new }
-    ensures ok { OnOk result (AfterMatch engine.old.settings progress.old matching.old
-        (stream_state (S.left source.old) (S.faults source.old)) (λ settings most first bytes.
-        IsJudged settings most first bytes progress.new matching.new
-        (stream_state (S.left source.new) (S.faults source.new)))) }
-    ensures err { IfErr result (λ found. AfterMatch engine.old.settings progress.old matching.old
-        (stream_state (S.left source.old) (S.faults source.old)) (λ settings most first bytes.
-        StopsIn settings most first bytes progress.old.lines.ended found
-        (stream_state (S.left source.new) (S.faults source.new)))) }
-{
-    match take_event(&mut progress.lines, &mut progress.moments) {
-        None => Ok(()),
-        Some(event) => {
-            progress.any_refused = any_refusal(progress.any_refused, &event);
-            judge_event(engine, sheet, source, matching, &event)
-        }
-    }
-}
-
-/// Feeds a piece of the states, and compares the texts of the lines that it ends.
-fn judge_piece<S: Source>(
-    engine: &mut Engine,
-    sheet: &mut Sheet,
-    source: &mut S,
-    matching: &mut Matching,
-    progress: &mut Progress,
-    piece: &[u8],
-) -> Result<(), Found>
-    requires room { HasRoom matching.old }
-    requires free { is_standing progress.old.lines.stage ≡ false }
-    requires going { progress.old.lines.ended ≡ false }
-    requires few { progress.old.lines.fed + length piece.now < 2 ^ 63 }
-    ensures free { is_standing progress.new.lines.stage ≡ false }
-    ensures going { progress.new.lines.ended ≡ false }
-    ensures fed { OnOk result (progress.new.lines.fed ≡ progress.old.lines.fed + length piece.now) }
-    ensures same { engine.new.settings ≡ engine.old.settings }
-    ensures room { HasRoom matching.new }
-    ensures never_falls { S.faults source.old ≤ S.faults source.new }
-    ensures ok { OnOk result (AfterMatch engine.old.settings progress.old matching.old
-        (stream_state (S.left source.old) (S.faults source.old)) (λ settings most first bytes.
-        IsJudged settings most first (bytes ++ piece.now) progress.new matching.new
-        (stream_state (S.left source.new) (S.faults source.new)))) }
-    ensures err { IfErr result (λ found. AfterMatch engine.old.settings progress.old matching.old
-        (stream_state (S.left source.old) (S.faults source.old)) (λ settings most first bytes.
-        StopsIn settings most first (bytes ++ piece.now) false found
-        (stream_state (S.left source.new) (S.faults source.new)))) }
-{
-    let mut done = 0;
-    while done < piece.len() {
-        done += progress.lines.feed(&piece[done..]);
-        match judge_line(engine, sheet, source, matching, progress) {
-            Ok(()) => {}
-            Err(found) => return Err(found),
-        }
-    }
-    Ok(())
-}
-
-/// The states are over: compares what their last line gives, and what their end gives.
-fn judge_end<S: Source>(
-    engine: &mut Engine,
-    sheet: &mut Sheet,
-    source: &mut S,
-    matching: &mut Matching,
-    progress: &mut Progress,
-) -> Result<(), Found>
-    requires room { HasRoom matching.old }
-    requires free { is_standing progress.old.lines.stage ≡ false }
-    requires going { progress.old.lines.ended ≡ false }
-    requires few { progress.old.lines.fed < 2 ^ 63 }
-    ensures same { engine.new.settings ≡ engine.old.settings }
-    ensures room { HasRoom matching.new }
-    ensures never_falls { S.faults source.old ≤ S.faults source.new }
-    ensures ok { OnOk result (AfterMatch engine.old.settings progress.old matching.old
-        (stream_state (S.left source.old) (S.faults source.old)) (λ settings most first bytes.
-        IsWhole settings most first bytes matching.new
-        (stream_state (S.left source.new) (S.faults source.new)))) }
-    ensures err { IfErr result (λ found. AfterMatch engine.old.settings progress.old matching.old
-        (stream_state (S.left source.old) (S.faults source.old)) (λ settings most first bytes.
-        StopsIn settings most first bytes true found
-        (stream_state (S.left source.new) (S.faults source.new)))) }
-{
-    progress.lines.end();
-    judge_line(engine, sheet, source, matching, progress)?;
-    match take_end(&progress.lines, &progress.moments) {
-        None => Ok(()),
-        Some(event) => judge_event(engine, sheet, source, matching, &event),
-    }
-}
-
-/// Compares the whole report of the states.
+/// Compares the texts of the events of the states, up to the first that differs.
 fn judge_states<S: Source>(
     engine: &mut Engine,
     sheet: &mut Sheet,
@@ -184,24 +76,21 @@ fn judge_states<S: Source>(
 ) -> Result<(), Found>
     requires room { HasRoom matching.old }
     requires few { length states.now < 2 ^ 63 }
-    ensures room { HasRoom matching.new }
     ensures never_falls { S.faults source.old ≤ S.faults source.new }
-    ensures ok { OnOk result ((most : ℕ) (first : StreamState)
-        → IsMatched most first [] matching.old
-        (stream_state (S.left source.old) (S.faults source.old))
-        → IsWhole engine.old.settings most first states.now matching.new
-        (stream_state (S.left source.new) (S.faults source.new))) }
-    ensures err { IfErr result (λ found. (most : ℕ) (first : StreamState)
-        → IsMatched most first [] matching.old
-        (stream_state (S.left source.old) (S.faults source.old))
-        → StopsIn engine.old.settings most first states.now true found
-        (stream_state (S.left source.new) (S.faults source.new))) }
+    ensures compares { ComparesFirst engine.old.settings states.now (found_in result) matching.old
+        matching.new (stream_state (S.left source.old) (S.faults source.old))
+        (stream_state (S.left source.new) (S.faults source.new)) }
+    ensures stops { Stops result }
 {
     let mut progress = begin();
-    match judge_piece(engine, sheet, source, matching, &mut progress, states) {
-        Ok(()) => judge_end(engine, sheet, source, matching, &mut progress),
-        Err(found) => Err(found),
+    let mut done = 0;
+    while let Some(event) = next_event(&mut progress, states, &mut done, true) {
+        match judge_event(engine, sheet, source, matching, &event) {
+            Ok(()) => {}
+            Err(found) => return Err(found),
+        }
     }
+    Ok(())
 }
 
 /// Compares the bytes of the source, of which at most `most` are read, with the report of
@@ -241,11 +130,12 @@ pub(crate) fn run_judge<S: Source, K: Sink>(
 ) -> Status
     requires bound { most ≤ 2 ^ 40 }
     requires few { length states.now < 2 ^ 63 }
-    ensures { (before after : ShelfState) → Judges engine.old.settings most (code_of result)
+    ensures { (before after : ShelfState)
+        → Leaves (Judges engine.old.settings most states.now) result
         (outside before (stream_state (S.left source.old) (S.faults source.old))
         (stream_state (K.taken sink.old) (K.faults sink.old)))
         (outside after (stream_state (S.left source.new) (S.faults source.new))
-        (stream_state (K.taken sink.new) (K.faults sink.new))) states.now }
+        (stream_state (K.taken sink.new) (K.faults sink.new))) }
 {
     match judge_all(engine, sheet, source, states, most) {
         Found::Alike => status_of(write_same(sink), Status::Accepted),

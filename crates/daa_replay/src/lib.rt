@@ -6,6 +6,7 @@
 #![tactic(auto)]
 
 mod batch;
+mod events;
 mod judge;
 mod laws;
 mod lines;

@@ -5,7 +5,7 @@ ghost use Rattle.daa_replay.specs.Outside.{outside, shelf_state, ShelfState};
 ghost use Rattle.daa_ahead.specs.Bytes.{stream_state};
 ghost use Rattle.daa_replay.specs.Run.{Runs};
 ghost use Rattle.daa_replay.specs.Inside.Status.{code_of};
-ghost use Rattle.daa_replay.specs.Inside.Run.{Performs};
+ghost use Rattle.daa_replay.specs.Inside.Run.{Leaves, Performs};
 ghost use Rattle.daa_replay.specs.Inside.Opening.{WorkIsInRange};
 
 use crate::judge::run_judge;
@@ -125,11 +125,12 @@ pub(crate) fn run_work<R: Threads + Sync, S: Source + Send, K: Sink + Send, G: G
     requires some { 1 ≤ most }
     requires most { most ≤ 2 ^ 40 }
     requires work { WorkIsInRange ready.work }
-    ensures { (before after : ShelfState) → Performs ready.engine.settings most (code_of result)
+    ensures { (before after : ShelfState)
+        → Leaves (Performs ready.engine.settings most ready.work) result
         (outside before (stream_state (S.left source.old) (S.faults source.old))
         (stream_state (K.taken sink.old) (K.faults sink.old)))
         (outside after (stream_state (S.left source.new) (S.faults source.new))
-        (stream_state (K.taken sink.new) (K.faults sink.new))) ready.work }
+        (stream_state (K.taken sink.new) (K.faults sink.new))) }
 {
     let Ready { mut engine, work } = ready;
     match work {

@@ -1,31 +1,24 @@
 //! A replay: feeds the bytes of the source to the lines, and writes the text of each event.
 
-ghost use Rattle.std.specs.Prelude.{All, ◌≡◌, ◌<◌, ◌+◌, ◌^◌, ◌++◌, ◌||◌, [], IfOk, length, false, true, OnOk, OnErr, ◌≤◌, ◌≢◌};
-ghost use Rattle.daa_config.specs.Settings.{Settings};
-ghost use Rattle.daa_lines.specs.LinesOf.{Bytes};
-ghost use Rattle.daa_lines.specs.LinesState.{is_standing};
-ghost use Rattle.daa_report.specs.Says.{HasCause};
-ghost use Rattle.daa_replay.specs.Lines.{IsEventInRange, is_refusal};
-ghost use Rattle.daa_ahead.specs.Bytes.{ToldBytes, stream_state};
-ghost use Rattle.daa_replay.specs.Inside.Replay.{AfterReport, Reports, ReportsAll, TakesFront, CanReport, IsBetween, Steps, desk};
+ghost use Rattle.std.specs.Prelude.{◌≡◌, ◌<◌, ◌^◌, ◌||◌, [], OnOk, OnErr, ◌≤◌, length};
+ghost use Rattle.daa_replay.specs.Lines.{is_refusal};
+ghost use Rattle.daa_ahead.specs.Bytes.{stream_state};
+ghost use Rattle.daa_replay.specs.Inside.Events.{IsBetween, IsGiven};
+ghost use Rattle.daa_replay.specs.Inside.Replay.{Breaks, CanReport, EndsAs, Steps, Writes, desk};
 ghost use Rattle.daa_ahead.specs.Moves.{Moves, wants_more};
 ghost use Rattle.daa_ahead.specs.Taker.{CanTake, TakesBytes};
-ghost use Rattle.daa_outside.specs.Faults.{HasRisen};
 ghost use Rattle.daa_replay.specs.Outside.{ShelfState, outside};
-ghost use Rattle.daa_replay.specs.Inside.Run.{Replays};
-ghost use Rattle.daa_replay.specs.Inside.Batch.{AfterHeld, Holds};
-ghost use Rattle.daa_replay.specs.Inside.Status.{Ends, code_of};
+ghost use Rattle.daa_replay.specs.Inside.Run.{Leaves, Replays};
 
 use crate::batch::{Batch, hold_event, write_batch};
-use crate::lines::{Event, take_end, take_event, takes_addition};
-use crate::moment::{Tools, write_event};
+use crate::events::{Progress, begin, next_event};
+use crate::lines::Event;
+use crate::moment::Tools;
 use crate::status::Status;
 use daa_ahead::{BUFFER, Calls, Ended, Taker, ahead, in_turn};
 use daa_engine::Engine;
-use daa_lines::Lines;
 use daa_outside::{Gate, Sink, Source};
 use daa_report::SinkFault;
-use daa_state::Moments;
 use std::alloc::Global;
 use std::thread::Threads;
 
@@ -34,153 +27,15 @@ const MOST_READ: usize = 1 << 20;
 
 const MOST_READ_ALONE: usize = 1 << 16;
 
-/// How far a run has come: the line in hand, the moments, and whether some line was refused.
-#[derive(Drop)]
-pub(crate) struct Progress {
-    pub(crate) lines: Lines,
-    pub(crate) moments: Moments,
-    pub(crate) any_refused: bool,
-}
-
-/// Nothing was read.
-pub(crate) fn begin() -> Progress
-    ensures free { is_standing result.lines.stage ≡ false }
-    ensures going { result.lines.ended ≡ false }
-    ensures fed { result.lines.fed ≡ 0 }
-    ensures reports { (settings : Settings) (first : ToldBytes)
-        → Reports settings first [] result first }
-{
-    Progress {
-        lines: Lines::new(),
-        moments: Moments::new(),
-        any_refused: false,
-    }
-}
-
 /// Whether some event was a refusal, with this one more.
-pub(crate) fn any_refusal(before: bool, event: &Event) -> bool
+fn any_refusal(before: bool, event: &Event) -> bool
     ensures { result ≡ (before || is_refusal event.now) }
 {
     before || matches!(event, Event::Refused(_, _))
 }
 
-/// Takes the line that is ready, if there is one, and writes the text of its event.
-fn write_line<R: Threads + Sync, K: Sink, G: Gate>(
-    tools: &Tools<'_, R, G>,
-    engine: &mut Engine,
-    progress: &mut Progress,
-    sink: &mut K,
-) -> Result<(), SinkFault>
-    ensures free { is_standing progress.new.lines.stage ≡ false }
-    ensures ended { progress.new.lines.ended ≡ progress.old.lines.ended }
-    ensures fed { progress.new.lines.fed ≡ progress.old.lines.fed }
-    ensures ok { OnOk result (AfterReport engine.old.settings progress.old (K.taken sink.old)
-        (λ settings first bytes. Reports settings first bytes progress.new (K.taken sink.new))) }
-    ensures err { OnErr result (AfterReport engine.old.settings progress.old (K.taken sink.old)
-        (λ settings first bytes. TakesFront settings first
-        (K.taken sink.new) bytes progress.old.lines.ended)) }
-    ensures same { engine.new.settings ≡ engine.old.settings }
-    ensures cause { HasCause (K.faults sink.old) (K.faults sink.new) result }
-{
-    if takes_addition(&mut progress.lines, &mut progress.moments) {
-        return Ok(());
-    }
-    write_next(tools, engine, progress, sink)
-}
-
-/// Takes the line that is ready, whichever it is, and writes the text of its event. This call has
-/// room for a moment, which only a line that ends one needs.
-#[inline(never)]
-fn write_next<R: Threads + Sync, K: Sink, G: Gate>(
-    tools: &Tools<'_, R, G>,
-    engine: &mut Engine,
-    progress: &mut Progress,
-    sink: &mut K,
-) -> Result<(), SinkFault>
-    ensures free { is_standing progress.new.lines.stage ≡ false }
-    ensures ended { progress.new.lines.ended ≡ progress.old.lines.ended }
-    ensures fed { progress.new.lines.fed ≡ progress.old.lines.fed }
-    ensures ok { OnOk result (AfterReport engine.old.settings progress.old (K.taken sink.old)
-        (λ settings first bytes. Reports settings first bytes progress.new (K.taken sink.new))) }
-    ensures err { OnErr result (AfterReport engine.old.settings progress.old (K.taken sink.old)
-        (λ settings first bytes. TakesFront settings first
-        (K.taken sink.new) bytes progress.old.lines.ended)) }
-    ensures same { engine.new.settings ≡ engine.old.settings }
-    ensures cause { HasCause (K.faults sink.old) (K.faults sink.new) result }
-{
-    match take_event(&mut progress.lines, &mut progress.moments) {
-        None => Ok(()),
-        Some(event) => {
-            progress.any_refused = any_refusal(progress.any_refused, &event);
-            write_event(tools, engine, sink, &event)
-        }
-    }
-}
-
-/// Takes the line that is ready, if there is one. Its event waits, or its text is written behind
-/// the texts of the events that wait.
-fn hold_line<R: Threads + Sync, K: Sink, G: Gate>(
-    tools: &Tools<'_, R, G>,
-    engine: &mut Engine,
-    progress: &mut Progress,
-    batch: &mut Batch,
-    sink: &mut K,
-) -> Result<(), SinkFault>
-    requires range { All IsEventInRange batch.old.events.items }
-    ensures range { All IsEventInRange batch.new.events.items }
-    ensures free { is_standing progress.new.lines.stage ≡ false }
-    ensures ended { progress.new.lines.ended ≡ progress.old.lines.ended }
-    ensures fed { progress.new.lines.fed ≡ progress.old.lines.fed }
-    ensures ok { OnOk result (AfterHeld engine.old.settings progress.old batch.old.events.items
-        (K.taken sink.old) (λ settings first bytes. Holds settings first bytes progress.new
-        batch.new.events.items (K.taken sink.new))) }
-    ensures err { OnErr result (AfterHeld engine.old.settings progress.old batch.old.events.items
-        (K.taken sink.old) (λ settings first bytes. TakesFront settings first
-        (K.taken sink.new) bytes progress.old.lines.ended)) }
-    ensures same { engine.new.settings ≡ engine.old.settings }
-    ensures cause { HasCause (K.faults sink.old) (K.faults sink.new) result }
-{
-    if takes_addition(&mut progress.lines, &mut progress.moments) {
-        return Ok(());
-    }
-    hold_next(tools, engine, progress, batch, sink)
-}
-
-/// Takes the line that is ready, whichever it is, and keeps its event. This call has room for a
-/// moment, which only a line that ends one needs.
-#[inline(never)]
-fn hold_next<R: Threads + Sync, K: Sink, G: Gate>(
-    tools: &Tools<'_, R, G>,
-    engine: &mut Engine,
-    progress: &mut Progress,
-    batch: &mut Batch,
-    sink: &mut K,
-) -> Result<(), SinkFault>
-    requires range { All IsEventInRange batch.old.events.items }
-    ensures range { All IsEventInRange batch.new.events.items }
-    ensures free { is_standing progress.new.lines.stage ≡ false }
-    ensures ended { progress.new.lines.ended ≡ progress.old.lines.ended }
-    ensures fed { progress.new.lines.fed ≡ progress.old.lines.fed }
-    ensures ok { OnOk result (AfterHeld engine.old.settings progress.old batch.old.events.items
-        (K.taken sink.old) (λ settings first bytes. Holds settings first bytes progress.new
-        batch.new.events.items (K.taken sink.new))) }
-    ensures err { OnErr result (AfterHeld engine.old.settings progress.old batch.old.events.items
-        (K.taken sink.old) (λ settings first bytes. TakesFront settings first
-        (K.taken sink.new) bytes progress.old.lines.ended)) }
-    ensures same { engine.new.settings ≡ engine.old.settings }
-    ensures cause { HasCause (K.faults sink.old) (K.faults sink.new) result }
-{
-    match take_event(&mut progress.lines, &mut progress.moments) {
-        None => Ok(()),
-        Some(event) => {
-            progress.any_refused = any_refusal(progress.any_refused, &event);
-            hold_event(tools, engine, sink, batch, event)
-        }
-    }
-}
-
-/// Feeds a piece, and writes the texts of the lines that it ends. None of their events waits when
-/// it returns.
+/// Writes the texts of the events of a piece; if it is the last one, also those of the end. None of
+/// them waits when it returns.
 fn write_piece<R: Threads + Sync, K: Sink, G: Gate>(
     tools: &Tools<'_, R, G>,
     engine: &mut Engine,
@@ -188,59 +43,24 @@ fn write_piece<R: Threads + Sync, K: Sink, G: Gate>(
     batch: &mut Batch,
     sink: &mut K,
     piece: &[u8],
+    last: bool,
 ) -> Result<(), SinkFault>
-    requires free { is_standing progress.old.lines.stage ≡ false }
-    requires going { progress.old.lines.ended ≡ false }
-    requires room { progress.old.lines.fed + length piece.now < 2 ^ 63 }
-    ensures free { is_standing progress.new.lines.stage ≡ false }
-    ensures going { progress.new.lines.ended ≡ false }
-    ensures fed { OnOk result (progress.new.lines.fed ≡ progress.old.lines.fed + length piece.now) }
-    ensures ok { OnOk result (AfterReport engine.old.settings progress.old (K.taken sink.old)
-        (λ settings first bytes. Reports settings first (bytes ++ piece.now) progress.new
-        (K.taken sink.new))) }
-    ensures err { OnErr result (AfterReport engine.old.settings progress.old (K.taken sink.old)
-        (λ settings first bytes. TakesFront settings first (K.taken sink.new)
-        (bytes ++ piece.now) false)) }
-    ensures same { engine.new.settings ≡ engine.old.settings }
-    ensures cause { HasCause (K.faults sink.old) (K.faults sink.new) result }
+    requires { CanReport (desk engine.old.settings progress.old (K.taken sink.old)
+        (K.faults sink.old)) (length piece.now) }
+    ensures ok { OnOk result (Writes (desk engine.old.settings progress.old (K.taken sink.old)
+        (K.faults sink.old)) piece.now last
+        (desk engine.new.settings progress.new (K.taken sink.new) (K.faults sink.new))) }
+    ensures err { OnErr result (Breaks (desk engine.old.settings progress.old (K.taken sink.old)
+        (K.faults sink.old)) piece.now last
+        (desk engine.new.settings progress.new (K.taken sink.new) (K.faults sink.new))) }
 {
     batch.clear();
     let mut done = 0;
-    while done < piece.len() {
-        done += progress.lines.feed(&piece[done..]);
-        hold_line(tools, engine, progress, batch, sink)?;
+    while let Some(event) = next_event(progress, piece, &mut done, last) {
+        progress.any_refused = any_refusal(progress.any_refused, &event);
+        hold_event(tools, engine, sink, batch, event)?;
     }
     write_batch(tools, engine, sink, batch)
-}
-
-/// The input is over: writes the text of its last line and that of its end. Returns whether some
-/// line was refused.
-fn write_end<R: Threads + Sync, K: Sink, G: Gate>(
-    tools: &Tools<'_, R, G>,
-    engine: &mut Engine,
-    progress: &mut Progress,
-    sink: &mut K,
-) -> Result<bool, SinkFault>
-    requires free { is_standing progress.old.lines.stage ≡ false }
-    requires going { progress.old.lines.ended ≡ false }
-    requires room { progress.old.lines.fed < 2 ^ 63 }
-    ensures ok { IfOk result (λ refused. AfterReport engine.old.settings progress.old
-        (K.taken sink.old)
-        (λ settings first bytes. ReportsAll settings first bytes refused (K.taken sink.new))) }
-    ensures err { OnErr result (AfterReport engine.old.settings progress.old (K.taken sink.old)
-        (λ settings first bytes. TakesFront settings first (K.taken sink.new) bytes true)) }
-    ensures same { engine.new.settings ≡ engine.old.settings }
-    ensures cause { HasCause (K.faults sink.old) (K.faults sink.new) result }
-{
-    progress.lines.end();
-    write_line(tools, engine, progress, sink)?;
-    match take_end(&progress.lines, &progress.moments) {
-        None => Ok(progress.any_refused),
-        Some(event) => {
-            write_event(tools, engine, sink, &event)?;
-            Ok(any_refusal(progress.any_refused, &event))
-        }
-    }
 }
 
 /// Takes a piece, and returns whether its text was written.
@@ -258,7 +78,7 @@ fn take_piece<R: Threads + Sync, K: Sink, G: Gate>(
         (K.faults sink.old)) piece.now result
         (desk engine.new.settings progress.new (K.taken sink.new) (K.faults sink.new)) }
 {
-    match write_piece(tools, engine, progress, batch, sink, piece) {
+    match write_piece(tools, engine, progress, batch, sink, piece, false) {
         Ok(()) => true,
         Err(_) => false,
     }
@@ -303,9 +123,8 @@ fn write_all<R: Threads + Sync, S: Source + Send, K: Sink + Send, G: Gate>(
     requires some { 1 ≤ most }
     requires buffer { 0 < length buf.old }
     requires bound { most ≤ 2 ^ 40 }
-    requires between { IsBetween
-        (desk engine.old.settings progress.old (K.taken sink.old) (K.faults sink.old)) }
-    requires begun { progress.old.lines.fed ≡ 0 }
+    requires between { IsBetween progress.old }
+    requires begun { IsGiven [] [] progress.old }
     ensures moves { Moves places result most
         (stream_state (S.left source.old) (S.faults source.old))
         (stream_state (S.left source.new) (S.faults source.new))
@@ -326,33 +145,23 @@ fn write_all<R: Threads + Sync, S: Source + Send, K: Sink + Send, G: Gate>(
     read_for(tools, source, places, most, &mut taker, buf)
 }
 
-/// The input is over: writes the rest of the report.
-fn write_rest<R: Threads + Sync, K: Sink, G: Gate>(
+/// The input is over: writes the texts of the events that it still has.
+fn write_end<R: Threads + Sync, K: Sink, G: Gate>(
     tools: &Tools<'_, R, G>,
     engine: &mut Engine,
     progress: &mut Progress,
+    batch: &mut Batch,
     sink: &mut K,
 ) -> Status
-    requires free { is_standing progress.old.lines.stage ≡ false }
-    requires going { progress.old.lines.ended ≡ false }
-    requires room { progress.old.lines.fed < 2 ^ 63 }
-    ensures ended { Ends result }
-    ensures accepted { result ≡ Status.Accepted
-        → AfterReport engine.old.settings progress.old (K.taken sink.old)
-        (λ settings first bytes. ReportsAll settings first bytes false (K.taken sink.new)) }
-    ensures refused { result ≡ Status.Refused
-        → AfterReport engine.old.settings progress.old (K.taken sink.old)
-        (λ settings first bytes. ReportsAll settings first bytes true (K.taken sink.new)) }
-    ensures stopped { result ≡ Status.SinkFault
-        → AfterReport engine.old.settings progress.old (K.taken sink.old)
-        (λ settings first bytes. TakesFront settings first (K.taken sink.new) bytes true) }
-    ensures write { result ≡ Status.SinkFault → HasRisen (K.faults sink.old) (K.faults sink.new) }
-    ensures writes { K.faults sink.old ≤ K.faults sink.new }
-    ensures write_steady { result ≢ Status.SinkFault → K.faults sink.new ≡ K.faults sink.old }
+    requires { CanReport (desk engine.old.settings progress.old (K.taken sink.old)
+        (K.faults sink.old)) 0 }
+    ensures { EndsAs result
+        (desk engine.old.settings progress.old (K.taken sink.old) (K.faults sink.old))
+        (desk engine.new.settings progress.new (K.taken sink.new) (K.faults sink.new)) }
 {
-    match write_end(tools, engine, progress, sink) {
-        Ok(false) => Status::Accepted,
-        Ok(true) => Status::Refused,
+    match write_piece(tools, engine, progress, batch, sink, &[], true) {
+        Ok(()) if progress.any_refused => Status::Refused,
+        Ok(()) => Status::Accepted,
         Err(_) => Status::SinkFault,
     }
 }
@@ -372,11 +181,11 @@ fn replay_with<R: Threads + Sync, S: Source + Send, K: Sink + Send, G: Gate>(
     requires some { 1 ≤ most }
     requires buffer { 0 < length buf.old }
     requires bound { most ≤ 2 ^ 40 }
-    ensures { (before after : ShelfState) → Replays engine.old.settings most (code_of result)
+    ensures { (before after : ShelfState) → Leaves (Replays engine.old.settings most places) result
         (outside before (stream_state (S.left source.old) (S.faults source.old))
         (stream_state (K.taken sink.old) (K.faults sink.old)))
         (outside after (stream_state (S.left source.new) (S.faults source.new))
-        (stream_state (K.taken sink.new) (K.faults sink.new))) places }
+        (stream_state (K.taken sink.new) (K.faults sink.new))) }
 {
     // its clause says that the configuration is accepted
     let _config = engine.config();
@@ -392,15 +201,15 @@ fn replay_with<R: Threads + Sync, S: Source + Send, K: Sink + Send, G: Gate>(
         places,
         most,
     ) {
-        Ended::End => write_rest(tools, engine, &mut progress, sink),
+        Ended::End => write_end(tools, engine, &mut progress, batch, sink),
         Ended::Fault => Status::SourceFault,
         Ended::Limit => Status::Limit,
         Ended::Stopped => Status::SinkFault,
     }
 }
 
-/// A buffer to read into, of a size that goes with the number of workers. It is empty if there is no
-/// memory for it.
+/// A buffer to read into, of a size that goes with the number of workers. It is empty if there is
+/// no memory for it.
 fn buffer_in(alloc: Global, workers: u32) -> Vec<u8> {
     let size = if workers < 2 {
         MOST_READ_ALONE
@@ -426,11 +235,11 @@ pub(crate) fn run_replay<R: Threads + Sync, S: Source + Send, K: Sink + Send, G:
     requires places { places ≤ 1024 }
     requires some { 1 ≤ most }
     requires bound { most ≤ 2 ^ 40 }
-    ensures { (before after : ShelfState) → Replays engine.old.settings most (code_of result)
+    ensures { (before after : ShelfState) → Leaves (Replays engine.old.settings most places) result
         (outside before (stream_state (S.left source.old) (S.faults source.old))
         (stream_state (K.taken sink.old) (K.faults sink.old)))
         (outside after (stream_state (S.left source.new) (S.faults source.new))
-        (stream_state (K.taken sink.new) (K.faults sink.new))) places }
+        (stream_state (K.taken sink.new) (K.faults sink.new))) }
 {
     let mut batch = Batch::new(tools.alloc, engine.workers());
     let mut large = buffer_in(tools.alloc, engine.workers());

@@ -1,19 +1,14 @@
 -- Events that wait, and what is written of them.
 use Rattle.std.specs.Prelude.{◌≡◌, ◌++◌, List, take}
-use Rattle.std.specs.List.{list_any}
 use Rattle.std.specs.Io.KnownBytes.{Appends}
 use Rattle.daa_bands.specs.Parts.{SplitsByEach}
 use Rattle.daa_config.specs.Settings.{Settings}
-use Rattle.daa_lines.specs.LinesOf.{Bytes}
 use Rattle.daa_report.specs.Lines.{Text}
 use Rattle.daa_ahead.specs.Bytes.{ToldBytes}
 use Rattle.daa_replay.specs.declared.lines.Event.{Event}
 use Rattle.daa_replay.specs.declared.batch.Lane.{Lane}
-use Rattle.daa_replay.specs.declared.replay.Progress.{Progress}
-use Rattle.daa_replay.specs.Lines.{is_refusal}
 use Rattle.daa_replay.specs.Moment.{IsEventText}
 use Rattle.daa_replay.specs.Outside.{TakesSome}
-use Rattle.daa_replay.specs.Inside.Lines.{Follows}
 use Rattle.daa_replay.specs.Inside.Moment.{BeginsText}
 
 module _ (settings : Settings) where
@@ -47,21 +42,3 @@ module _ (settings : Settings) where
     pub own : List Event
     pub joined : take lane.end events ≡ take lane.from events ++ own
     pub texts : SplitsByEach (IsEventText settings) own lane.sheet.text
-
-  -- these bytes were fed; the sink, which had taken `first`, took the texts of the events given so
-  -- far, but for the events that wait
-  pub record Holds (first : ToldBytes) (bytes : Bytes) (progress : Progress) (waiting : List Event)
-      (now : ToldBytes) : Type 0 where
-    pub given : List Event
-    pub follows : Follows bytes (given ++ waiting) progress.lines progress.moments
-    pub text : Text
-    pub texts : SplitsByEach (IsEventText settings) given text
-    pub taken : Appends first now text
-    pub refusals : list_any is_refusal (given ++ waiting) ≡ progress.any_refused
-
--- whatever was held so far under these settings, P holds of how it began
-abbrev pub AfterHeld : Settings → Progress → List Event → ToldBytes
-    → (Settings → ToldBytes → Bytes → Type 0) → Type 0
-AfterHeld now progress waiting taken P =
-    (settings : Settings) (first : ToldBytes) (bytes : Bytes) → now ≡ settings
-    → Holds settings first bytes progress waiting taken → P settings first bytes

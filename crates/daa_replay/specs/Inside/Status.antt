@@ -26,19 +26,6 @@ code_of ShelfFault = 7
 code_of Limit = 8
 code_of StatesLong = 9
 
--- the statuses that the end of the input can give
-abbrev pub Ends : Status → Type 0
-Ends Accepted = Unit {0}
-Ends Refused = Unit {0}
-Ends NotTaken = ⊥
-Ends BadConfiguration = ⊥
-Ends SourceFault = ⊥
-Ends SinkFault = Unit {0}
-Ends NoMemory = ⊥
-Ends ShelfFault = ⊥
-Ends Limit = ⊥
-Ends StatesLong = ⊥
-
 -- the line was not written whole, since the sink failed
 pub record BreaksLine (old new : StreamState) (text : Text) : Type 0 where
   pub risen : HasRisen old.faults new.faults

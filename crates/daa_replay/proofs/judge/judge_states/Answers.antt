@@ -1,28 +1,64 @@
-use Rattle.std.proofs.Common.{Some, [], refl}
-use Rattle.std.proofs.lemmas.Result.{IfOk-weaker, IfErr-weaker}
+use Rattle.std.proofs.Common.{◌≡◌, ◌∙◌, ◌++◌, ◌∷◌, [], List, ap, arith, append-nil, refl, subst, sym, take, true, length}
+use Rattle.std.proofs.lemmas.List.{take_all}
+use Rattle.daa_lines.specs.LinesOf.{Bytes}
 use Rattle.daa_ahead.specs.Bytes.{StreamState, stream_state}
-use Rattle.daa_replay.proofs.JudgeLemmas.{begun, stopped-early}
+use Rattle.daa_replay.specs.Lines.{events_of}
+use Rattle.daa_replay.specs.Inside.Events.{IsGiven}
+use Rattle.daa_replay.proofs.GivenLemmas.{all_of, at_start, first_of}
+use Rattle.daa_replay.proofs.JudgeLemmas.{compares-event, compares-nothing}
 use Rattle.daa_replay.proofs.judge.judge_states.Goals as goal
 
-pub returns-in-Err-clause-err : goal.returns-in-Err-clause-err
-returns-in-Err-clause-err g c =
-    let settings = c.args.engine.now.settings in
-    let new : StreamState = stream_state (g.S.Source.left c.judge_piece.new.source) (g.S.Source.faults c.judge_piece.new.source) in
-    λ most first h. stopped-early most first c.args.states.now c.in-Err.found new
-    (c.in-Err.ensures.err settings most first [] refl (begun most first [] c.begin-progress.result c.args.matching.now _ (c.begin-progress.ensures.reports settings (Some [])) h))
+pub loop-event-init : goal.loop-event-init
+loop-event-init g c =
+    let old : StreamState = stream_state (g.S.Source.left c.args.source.now) (g.S.Source.faults c.args.source.now) in
+    record {
+      at = at_start (length c.args.states.now) true c.begin-progress.result c.begin-progress.ensures.between (omega (arith, c.begin-progress.ensures.fed, c.requires.few));
+      same = refl;
+      room = c.requires.room;
+      never_falls = omega arith;
+      events = ([], c.begin-progress.ensures.given, compares-nothing c.args.engine.now.settings c.args.matching.now old);
+    }
 
-pub returns-in-Ok-clause-ok : goal.returns-in-Ok-clause-ok
-returns-in-Ok-clause-ok g c =
-    let settings = c.args.engine.now.settings in
-    IfOk-weaker c.judge_end.result _ _
-    (λ _ whole most first h. whole settings most first c.args.states.now c.in-Ok.ensures.same
-    (c.in-Ok.ensures.ok settings most first [] refl (begun most first [] c.begin-progress.result c.args.matching.now _ (c.begin-progress.ensures.reports settings (Some [])) h)))
-    c.judge_end.ensures.ok
+pub loop-event-preserved : goal.loop-event-preserved
+loop-event-preserved g c =
+    let i = c.loop-event.invariant in
+    let x = i.events in
+    record {
+      at = c.next_event.ensures.at;
+      same = c.judge_event.ensures.same ∙ i.same;
+      room = c.judge_event.ensures.room;
+      never_falls = omega (arith, i.never_falls, c.judge_event.ensures.never_falls);
+      events = (
+        x.0 ++ c.in-Some.event ∷ [],
+        c.in-Some.ensures.kept [] x.0 x.1,
+        compares-event c.args.engine.now.settings c.loop-event.engine.settings i.same x.0 c.in-Some.event _ _ _ _ _ _ _ x.2 c.in-Ok.ensures.compares,
+      );
+    }
 
-pub returns-in-Ok-clause-err : goal.returns-in-Ok-clause-err
-returns-in-Ok-clause-err g c =
-    let settings = c.args.engine.now.settings in
-    IfErr-weaker c.judge_end.result _ _
-    (λ _ stops most first h. stops settings most first c.args.states.now c.in-Ok.ensures.same
-    (c.in-Ok.ensures.ok settings most first [] refl (begun most first [] c.begin-progress.result c.args.matching.now _ (c.begin-progress.ensures.reports settings (Some [])) h)))
-    c.judge_end.ensures.err
+pub returns-in-Err-clause-compares : goal.returns-in-Err-clause-compares
+returns-in-Err-clause-compares g c =
+    let i = c.loop-event.invariant in
+    let x = i.events in
+    let events = x.0 ++ c.in-Some.event ∷ [] in
+    let front = first_of [] c.args.states.now c.next_event.new.done true events c.next_event.new.progress c.next_event.ensures.at (c.in-Some.ensures.kept [] x.0 x.1) in
+    record {
+      events = events;
+      later = front.0;
+      all = front.1;
+      none = λ e. absurd (c.in-Err.ensures.stops e);
+      compares = compares-event c.args.engine.now.settings c.loop-event.engine.settings i.same x.0 c.in-Some.event _ _ _ _ _ _ _ x.2 c.in-Err.ensures.compares;
+    }
+
+pub returns-clause-compares : goal.returns-clause-compares
+returns-clause-compares g c =
+    let i = c.loop-event.invariant in
+    let x = i.events in
+    let fed : take c.next_event.new.done c.args.states.now ≡ c.args.states.now = take_all c.next_event.new.done c.args.states.now (omega (arith, c.in_default.ensures.all.0)) in
+    let given = subst (λ (b : Bytes). IsGiven b x.0 c.next_event.new.progress) fed (c.in_default.ensures.kept [] x.0 x.1) in
+    record {
+      events = x.0;
+      later = [];
+      all = sym (all_of true c.args.states.now x.0 c.next_event.new.progress c.in_default.ensures.all.1 given) ∙ sym (append-nil x.0);
+      none = λ e. refl;
+      compares = x.2;
+    }

@@ -3,7 +3,6 @@ use Rattle.daa_replay.specs.declared.opening.Ready.{Ready}
 use Rattle.daa_replay.specs.declared.opening.Unready.{Unready}
 use Rattle.daa_replay.specs.Outside.{Outside, outside, shelf_state}
 use Rattle.daa_ahead.specs.Bytes.{stream_state}
-use Rattle.daa_replay.specs.Inside.Status.{code_of}
 use Rattle.daa_replay.proofs.RunLemmas.{performs_runs, reason_runs}
 use Rattle.daa_replay.proofs.program.run_words.Goals as goal
 
@@ -17,13 +16,13 @@ returns-in-Ok g c =
     (stream_state (g.K.Sink.taken c.run_work.new.sink) (g.K.Sink.faults c.run_work.new.sink)) in
     let made = c.in-Ok.ensures in
     let ready = c.in-Ok.ready in
-    performs_runs c.args.most (code_of c.run_work.result) (map string_bytes c.args.words.now) old new ready.engine.settings
-    made.kept (made.no_fault (λ e. cc e)) made.opened.0 ready.work made.opened.1 made.opened.2 (c.run_work.ensures old.shelf new.shelf)
+    performs_runs c.args.most (map string_bytes c.args.words.now) old new made.kept made.never_falls ready.engine.settings
+    made.opened.0 ready.work c.run_work.result (made.no_fault (λ e. cc e)) made.opened.1 made.opened.2 (c.run_work.ensures old.shelf new.shelf)
 
 pub returns-in-Err : goal.returns-in-Err
 returns-in-Err g c =
     let made = c.in-Err.ensures in
-    reason_runs c.args.most _ _ _ refl made.kept made.never_falls c.in-Err.why c.write_reason.result made.opened c.write_reason.ensures
+    reason_runs c.args.most _ _ _ made.kept made.never_falls refl c.in-Err.why c.write_reason.result made.opened c.write_reason.ensures
     (λ e. made.risen (ap Err e)) (λ n. made.no_fault (λ e. n (err_is _ _ e)))
   where
     err_is : (a b : Unready) → ◌≡◌ {A = Result Ready Unready} (Err a) (Err b) → a ≡ b

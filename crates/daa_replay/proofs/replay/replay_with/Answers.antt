@@ -1,40 +1,45 @@
-use Rattle.std.proofs.Common.{arith, refl, ◌∙◌, length}
-use Rattle.daa_report.proofs.Appending.{risen_after}
-use Rattle.daa_replay.proofs.ReplayLemmas.{passes_limit, read_fails, replays_over, write_fails, written_now}
+use Rattle.std.proofs.Common.{arith, rules, [], length}
+use Rattle.daa_replay.specs.Inside.Replay.{CanReport, Desk, desk}
+use Rattle.daa_replay.proofs.GivenLemmas.{fed_so_far}
+use Rattle.daa_replay.proofs.ReplayLemmas.{passes_limit, read_fails, replays_over, write_fails}
 use Rattle.daa_replay.proofs.replay.replay_with.Goals as goal
+
+pub write_end-requires : goal.write_end-requires
+write_end-requires g c =
+    let m = c.in-End.ensures.moves in
+    let w = m.given in
+    let can : CanReport (desk c.write_all.new.engine.settings c.write_all.new.progress (g.K.Sink.taken c.write_all.new.sink) (g.K.Sink.faults c.write_all.new.sink)) 0 = record {
+      between = w.after;
+      room = omega (arith, fed_so_far m.taken w.events c.write_all.new.progress w.after (w.gives [] [] c.begin-progress.ensures.given), m.bound, c.requires.bound);
+    } in
+    search (rules, can)
 
 pub returns-in-End : goal.returns-in-End
 returns-in-End g c before after =
     let m = c.in-End.ensures.moves in
-    let w = m.given in
-    let r = m.read in
-    let o = c.write_rest.ensures in
-    replays_over c.args.places c.args.most (length m.taken) m.bound _ _ c.config-config.ensures.accepted c.write_rest.result c.write_all.new.progress _ o.ended
-    (record { bytes = m.taken; handed = r.handed; size = refl; left = r.over; reports = w.reports _ _ _ refl (c.begin-progress.ensures.reports _ _) })
-    (λ s first bytes r. o.accepted s _ first bytes w.same r)
-    (λ s first bytes r. o.refused s _ first bytes w.same r)
-    (λ s first bytes r. o.stopped s _ first bytes w.same r)
-    (λ e. risen_after _ _ _ (omega (arith, w.calm)) (o.write e))
-    r.calm (omega (arith, w.calm, o.writes)) (λ e. o.write_steady e ∙ w.calm)
+    let old : Desk = desk c.args.engine.now.settings c.begin-progress.result (g.K.Sink.taken c.args.sink.now) (g.K.Sink.faults c.args.sink.now) in
+    let mid : Desk = desk c.write_all.new.engine.settings c.write_all.new.progress (g.K.Sink.taken c.write_all.new.sink) (g.K.Sink.faults c.write_all.new.sink) in
+    let new : Desk = desk c.write_end.new.engine.settings c.write_end.new.progress (g.K.Sink.taken c.write_end.new.sink) (g.K.Sink.faults c.write_end.new.sink) in
+    replays_over c.args.places c.args.most before after _ _ old new c.begin-progress.ensures.given m.taken m.bound
+    c.config-config.ensures.accepted c.begin-progress.ensures.refused c.write_end.result mid m.given c.write_end.ensures m.read
 
 pub returns-in-Fault : goal.returns-in-Fault
 returns-in-Fault g c before after =
     let m = c.in-Fault.ensures.moves in
-    let w = m.given in
-    read_fails c.args.places c.args.most (length m.taken) m.bound _ _ m.read.risen m.never_falls w.calm m.taken refl m.read.handed
-    (written_now _ _ m.taken c.write_all.new.progress w.between.going w.between.free (w.reports _ _ _ refl (c.begin-progress.ensures.reports _ _)))
+    let old : Desk = desk c.args.engine.now.settings c.begin-progress.result (g.K.Sink.taken c.args.sink.now) (g.K.Sink.faults c.args.sink.now) in
+    let new : Desk = desk c.write_all.new.engine.settings c.write_all.new.progress (g.K.Sink.taken c.write_all.new.sink) (g.K.Sink.faults c.write_all.new.sink) in
+    read_fails c.args.places c.args.most before after _ _ old new c.begin-progress.ensures.given m.taken m.bound m.never_falls m.given m.read
 
 pub returns-in-Limit : goal.returns-in-Limit
 returns-in-Limit g c before after =
     let m = c.in-Limit.ensures.moves in
-    let w = m.given in
-    passes_limit c.args.places c.args.most _ _ m.taken m.read.next m.read.full m.read.handed
-    (written_now _ _ m.taken c.write_all.new.progress w.between.going w.between.free (w.reports _ _ _ refl (c.begin-progress.ensures.reports _ _)))
-    m.read.calm w.calm
+    let old : Desk = desk c.args.engine.now.settings c.begin-progress.result (g.K.Sink.taken c.args.sink.now) (g.K.Sink.faults c.args.sink.now) in
+    let new : Desk = desk c.write_all.new.engine.settings c.write_all.new.progress (g.K.Sink.taken c.write_all.new.sink) (g.K.Sink.faults c.write_all.new.sink) in
+    passes_limit c.args.places c.args.most before after _ _ old new c.begin-progress.ensures.given m.taken m.bound m.given m.read
 
 pub returns-in-Stopped : goal.returns-in-Stopped
 returns-in-Stopped g c before after =
     let m = c.in-Stopped.ensures.moves in
-    let w = m.given in
-    write_fails c.config-config.ensures.accepted c.args.places c.args.most _ _ m.taken m.bound m.read
-    (w.front _ _ _ refl (c.begin-progress.ensures.reports _ _)) w.risen m.never_falls w.later
+    let old : Desk = desk c.args.engine.now.settings c.begin-progress.result (g.K.Sink.taken c.args.sink.now) (g.K.Sink.faults c.args.sink.now) in
+    let new : Desk = desk c.write_all.new.engine.settings c.write_all.new.progress (g.K.Sink.taken c.write_all.new.sink) (g.K.Sink.faults c.write_all.new.sink) in
+    write_fails c.args.places c.args.most before after _ _ old new c.begin-progress.ensures.given m.taken m.bound c.config-config.ensures.accepted m.never_falls m.given m.read

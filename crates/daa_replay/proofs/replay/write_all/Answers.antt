@@ -10,7 +10,7 @@ read_for-requires-clause-can g c _ _ pieces later piece t fits x same =
     let at : Held g.row.R.Denot g.row.K.Denot g.row.G.Denot → Desk = held_desk g.K.Sink.taken g.K.Sink.faults in (
       subst (λ (b : Bytes). CanReport (at later) (length b)) (sym same)
           (can_report _ at (λ t piece answer u s. subst (λ (b : Bytes). Steps (at t) b answer (at u)) s.1 s.2.met.1) c.args.most _ pieces later piece c.requires.between
-          (omega (arith, c.requires.begun, c.requires.bound)) t fits),
+          c.requires.begun (omega (arith, c.requires.bound)) t fits),
       (
         search rules,
         record { shared = c.type_bounds.sync-R.shared },

@@ -2,7 +2,7 @@ use Rattle.std.proofs.Common.{◌≡◌, ◌∙◌, ap, true, rules}
 use Rattle.daa_lines.specs.LinesState.{is_standing}
 use Rattle.daa_state.specs.WordOf.{word_of}
 use Rattle.daa_replay.proofs.FollowsLemmas.{follows-event}
-use Rattle.daa_replay.proofs.lines.take_event.Goals as goal
+use Rattle.daa_replay.proofs.lines.take_any.Goals as goal
 
 pub returns-clause-kept : goal.returns-clause-kept
 returns-clause-kept c bytes given f =
