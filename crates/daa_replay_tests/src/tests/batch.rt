@@ -134,59 +134,28 @@ fn a_sink_fails_within_a_batch(rt: HostRuntime) -> Result<(), Fail> {
     Ok(())
 }
 
-/// A run with these words whose sink takes single bytes, and fails once, at the write behind so many
-/// of them: it took these bytes and no more.
-fn stops_at_write<R: Abort + Threads + Sync + AllocGlobal>(
-    rt: &R,
-    words: &[&str],
-    input: &[u8],
-    text: &[u8],
-    fails: usize,
-) -> Result<(), Fail> {
-    let ones = vec![in rt.alloc(); 1usize; fails]?;
-    let outside = Outside {
-        words,
-        room: text.len(),
-        write_pieces: ones.as_slice(),
-        write_fails: &[fails as u64],
-        ..PLAIN
-    };
-    let front = text.get(..fails).ok_or("a front of the text")?;
-    gives(rt, input, outside, 5, front)
-}
-
-/// A write that fails is not tried again, though the sink would take further bytes.
+/// A sink takes single bytes, and fails once, at the write behind so many of them: it took these bytes
+/// and no more. A write that fails is not tried again, though the sink would take further bytes.
 #[test]
 fn a_write_fails_within_a_batch(rt: HostRuntime) -> Result<(), Fail> {
     let input = moments_of(&rt, 300)?;
     let text = alone(&rt, input.as_bytes(), 100_000)?;
     for workers in ["1", "3", "4", "16"] {
         let words = ["daidalus", "replay", "--config", "c", "--workers", workers];
-        for fails in [0, 1, 226, 20_000, 50_000, text.len() - 1] {
-            stops_at_write(&rt, &words, input.as_bytes(), text.as_slice(), fails)?;
+        for fails in [0, 1, 226, 20_000, 50_000] {
+            let ones = vec![in rt.alloc(); 1usize; fails]?;
+            let outside = Outside {
+                words: &words,
+                room: text.len(),
+                write_pieces: ones.as_slice(),
+                write_fails: &[fails as u64],
+                ..PLAIN
+            };
+            let front = text.get(..fails).ok_or("a front of the text")?;
+            gives(&rt, input.as_bytes(), outside, 5, front)?;
         }
     }
     Ok(())
-}
-
-/// A run with these words that reads pieces of this size, and whose read of this number fails: it
-/// writes this text.
-fn stops_at_read<R: Abort + Threads + Sync + AllocGlobal>(
-    rt: &R,
-    words: &[&str],
-    input: &[u8],
-    piece: usize,
-    fails: u64,
-    text: &[u8],
-) -> Result<(), Fail> {
-    let outside = Outside {
-        words,
-        read_pieces: &[piece; 3],
-        read_fails: &[fails],
-        room: 100_000,
-        ..PLAIN
-    };
-    gives(rt, input, outside, 4, text)
 }
 
 /// A read that fails behind a batch is not tried again, though the source would hand out further
@@ -199,8 +168,15 @@ fn a_read_fails_behind_a_batch(rt: HostRuntime) -> Result<(), Fail> {
     for workers in ["1", "3", "16"] {
         let words = ["daidalus", "replay", "--config", "c", "--workers", workers];
         for (fails, taken) in [(0, 0), (1, text.len())] {
+            let outside = Outside {
+                words: &words,
+                read_pieces: &[front.len(); 3],
+                read_fails: &[fails],
+                room: 100_000,
+                ..PLAIN
+            };
             let taken = text.get(..taken).ok_or("a front of the text")?;
-            stops_at_read(&rt, &words, input.as_bytes(), front.len(), fails, taken)?;
+            gives(&rt, input.as_bytes(), outside, 4, taken)?;
         }
     }
     Ok(())
