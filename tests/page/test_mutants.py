@@ -44,7 +44,7 @@ MUTANTS = [
     ("playing has a pace of its own", "state.js", '* Number($("speed").value);', "* 20;",
      "test_browser.Timed.test_playing_keeps_the_recordings_own_times"),
     ("old bands stay while a long moment is decided", "state.js", "(isAnswered(view) ? view.said : null)", "view.said",
-     "test_browser.Timed.test_a_long_moment_leaves_the_page_alive"),
+     "test_browser.Timed.test_no_old_band_is_shown_while_a_moment_is_decided"),
     ("the page itself decides a long moment", "desk.js", "this.worker = new Worker(address);", 'throw new Error("none");',
      "test_browser.Timed.test_a_long_moment_leaves_the_page_alive"),
     ("after a trap the instance is not made anew", "core.js", "        this.renew();\n        throw", "        throw",
