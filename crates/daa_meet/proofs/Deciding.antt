@@ -1,6 +1,7 @@
 -- Whether a leg violates a volume at some time is decided by trying: the vertical part holds on one interval, whose ends are
 -- fractions, and within it the time of least distance decides, by tau with one more; so some fraction of a bounded denominator does.
-use Rattle.std.proofs.Common.{◌≡◌, ◌↔◌, ◌⊎◌, inl, inr, ⊎_elim, refl, subst, arith, ℕ, zero, suc, ◌^◌, ◌<◌, ◌≤◌, Bool, true, false, ℤ, pos, negsuc, neg_ℤ, ◌+ℤ◌, ◌-ℤ◌, ◌*ℤ◌, ◌≤ℤ◌, ◌<ℤ◌, unsigned_abs, Option, None, Some}
+use Rattle.std.proofs.Common.{◌≡◌, ◌↔◌, ◌⊎◌, inl, inr, ⊎_elim, refl, subst, arith, ℕ, zero, suc, ◌^◌, ◌<◌, ◌≤◌, Bool}
+use Rattle.std.proofs.Common.{true, false, ℤ, pos, negsuc, neg_ℤ, ◌+ℤ◌, ◌-ℤ◌, ◌*ℤ◌, ◌≤ℤ◌, ◌<ℤ◌, unsigned_abs, Option, None, Some}
 use Rattle.std.specs.Prelude.{IsTrue, MatchOption}
 use Rattle.std.specs.Int.{int_max, int_min}
 use Rattle.std.proofs.lemmas.Int.{ints, by_lt_z}
@@ -102,9 +103,15 @@ module _ (leg : Leg) (volume : Volume) (r : IsLegInRange leg) where
 
   vertical : HasWindow leg.secs (ViolatesVertically leg volume)
   vertical = by_lt_z leg.velocity.up (pos 0)
-      (λ down. moved _ (falling leg volume _ down (max_is _ _ refl)) (passage leg.secs (neg_ℤ leg.place.up) (neg_ℤ leg.velocity.up) (int_max (pos volume.zthr) (pos volume.tcoa *ℤ neg_ℤ leg.velocity.up)) (pos volume.zthr) r.short (turn leg.velocity.up down) (slow_down leg.velocity.up r.up_speed)))
+      (λ down. moved _ (falling leg volume _ down (max_is _ _ refl))
+      (passage leg.secs (neg_ℤ leg.place.up) (neg_ℤ leg.velocity.up)
+      (int_max (pos volume.zthr) (pos volume.tcoa *ℤ neg_ℤ leg.velocity.up)) (pos volume.zthr) r.short
+      (turn leg.velocity.up down) (slow_down leg.velocity.up r.up_speed)))
       (λ not_down. by_lt_z (pos 0) leg.velocity.up
-      (λ up. moved _ (rising leg volume _ (one leg.velocity.up up) (max_is _ _ refl)) (passage leg.secs leg.place.up leg.velocity.up (int_max (pos volume.zthr) (pos volume.tcoa *ℤ leg.velocity.up)) (pos volume.zthr) r.short (one leg.velocity.up up) (slow_up leg.velocity.up r.up_speed)))
+      (λ up. moved _ (rising leg volume _ (one leg.velocity.up up) (max_is _ _ refl))
+      (passage leg.secs leg.place.up leg.velocity.up
+      (int_max (pos volume.zthr) (pos volume.tcoa *ℤ leg.velocity.up)) (pos volume.zthr) r.short
+      (one leg.velocity.up up) (slow_up leg.velocity.up r.up_speed)))
       (λ not_up. moved _ (standing leg volume (still leg.velocity.up not_down not_up)) (level leg.secs leg.place.up (pos volume.zthr) r.short)))
     where
       turn : (a : ℤ) → a <ℤ pos 0 → pos 1 ≤ℤ neg_ℤ a
@@ -195,7 +202,8 @@ decided leg volume r v = let w = vertical leg volume r in by_window w.ends w.is
             ((passes_near-always leg volume o.at.num o.at.den o.at.positive).0 ((passes_near-always leg volume n e b.fraction).1 c.near))
             (soon_at_least leg volume t.quad t.is p q o.at.num o.at.den o.least n e b (subst (λ (w : Model). IsSoon w leg volume n e) tau c.soon))))
 
-    by_nearest : (p q : Point) → UpWindow leg volume p q → (d : HasDistance leg volume) → (m : HasLeast d.quad p q) → (b : Bool) → IsTrue b ↔ Violates leg volume m.at.num m.at.den → IsDecided leg volume
+    by_nearest : (p q : Point) → UpWindow leg volume p q → (d : HasDistance leg volume) → (m : HasLeast d.quad p q)
+        → (b : Bool) → IsTrue b ↔ Violates leg volume m.at.num m.at.den → IsDecided leg volume
     by_nearest p q w d m true h = hit_at p q w m.at m.between (h.0 refl)
     by_nearest p q w d m false h =
         let clear : IsClearAt leg volume m.at = λ x. absurd (cc (h.1 x)) in
@@ -212,7 +220,10 @@ decided leg volume r v = let w = vertical leg volume r in by_window w.ends w.is
         })
         (is_tau volume.model)
 
-    by_window : (ends : Option (Point × Point)) → MatchOption ends (HoldsNever leg.secs (ViolatesVertically leg volume)) (λ (p, q). IsWindow leg.secs (ViolatesVertically leg volume) p q) → IsDecided leg volume
+    by_window : (ends : Option (Point × Point))
+        → MatchOption ends (HoldsNever leg.secs (ViolatesVertically leg volume))
+        (λ (p, q). IsWindow leg.secs (ViolatesVertically leg volume) p q)
+        → IsDecided leg volume
     by_window None h = record { hit = None; is = λ n d t x. h n d t x.vertical }
     by_window (Some e) w =
         let p : Point = e.0 in
@@ -249,7 +260,9 @@ module _ (leg : Leg) (volume : Volume) where
         holds = v.1;
       }
 
-  by_hit : (hit : Option Point) → MatchOption hit (HoldsNever leg.secs (Violates leg volume)) (λ p. IsHit leg volume p.num p.den) → HoldsSometime leg.secs (Violates leg volume) → IsTrue (is_violated_sometime leg volume)
+  by_hit : (hit : Option Point)
+      → MatchOption hit (HoldsNever leg.secs (Violates leg volume)) (λ p. IsHit leg volume p.num p.den)
+      → HoldsSometime leg.secs (Violates leg volume) → IsTrue (is_violated_sometime leg volume)
   by_hit None h s = absurd (h s.num s.den s.time s.holds)
   by_hit (Some p) h s = at_point p.num p.den p.not_negative p.num_bound p.positive p.den_bound h.time.upto h.violates
 

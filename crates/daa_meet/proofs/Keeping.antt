@@ -52,10 +52,16 @@ module _ (settings : Settings) (own : Own) (candidate : Candidate) (aircraft : T
 
   -- a test of the straight rest
   pub rest_tested : (k secs m : ℕ) (rest : OwnLeg) (rel : Leg) (hit : Bool) → rest ≡ own_leg own (rates_of settings) candidate k → FliesOn own (rates_of settings) candidate k → k + secs ≡ m
-      → (IsRunOf own (rates_of settings) candidate k (record { place = rest.place; velocity = rest.velocity; secs = secs }) → HoldsSometime rel.secs (Violates rel volume) ↔ MeetsBetween settings own candidate aircraft volume k (k + secs))
+      → (IsRunOf own (rates_of settings) candidate k
+      (record { place = rest.place; velocity = rest.velocity; secs = secs })
+      → HoldsSometime rel.secs (Violates rel volume)
+      ↔ MeetsBetween settings own candidate aircraft volume k (k + secs))
       → IsTrue hit ↔ HoldsSometime rel.secs (Violates rel volume) → IsTrue hit ↔ MeetsBetween settings own candidate aircraft volume k m
   rest_tested k secs m rest rel hit e on s seconds tests =
-      let there = subst (λ (v : Solid). IsRunOf own (rates_of settings) candidate k (record { place = place_on own (rates_of settings) candidate k; velocity = v; secs = secs })) (sym (on.there k (omega arith)))
+      let there = subst
+      (λ (v : Solid). IsRunOf own (rates_of settings) candidate k
+      (record { place = place_on own (rates_of settings) candidate k; velocity = v; secs = secs }))
+      (sym (on.there k (omega arith)))
       (straight_run own (rates_of settings) candidate k secs on) in
       let run = subst (λ (l : OwnLeg). IsRunOf own (rates_of settings) candidate k (record { place = l.place; velocity = l.velocity; secs = secs })) (sym e) there in
       let o = seconds run in

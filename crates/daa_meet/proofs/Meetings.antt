@@ -21,17 +21,22 @@ use Rattle.daa_meet.specs.Trials.{is_violated_sometime, is_met_within}
 use Rattle.daa_meet.proofs.TrialLemmas.{some_is}
 use Rattle.daa_meet.proofs.Deciding.{sometime_is}
 
-module _ (settings : Settings) (own : Own) (candidate : Candidate) (aircraft : Traffic) (a : IsAccepted settings) (o : IsOwnInRange own) (h : IsCandidateInRange candidate) (t : IsTrafficInRange aircraft) where
+module _ (settings : Settings) (own : Own) (candidate : Candidate) (aircraft : Traffic) (a : IsAccepted settings)
+    (o : IsOwnInRange own) (h : IsCandidateInRange candidate) (t : IsTrafficInRange aircraft) where
   pub leg-in_range : (k : ℕ) → k < 180 → IsLegInRange (relative_leg settings own candidate aircraft k)
   leg-in_range k l = relative_for-in_range 1 (own_leg own (rates_of settings) candidate k) aircraft k
       (record { place = place_on-below own (rates_of settings) candidate o a.rates h k (omega (arith, l)); velocity = velocity_on-below own (rates_of settings) candidate o a.rates h k })
       t (omega (arith, l)) (omega arith) (omega arith)
 
-  pub on_is : (volume : Volume) → IsVolumeInRange volume → (k : ℕ) → k < 180 → IsTrue (is_violated_sometime (relative_leg settings own candidate aircraft k) volume) ↔ ViolatesOn settings own candidate aircraft volume k
+  pub on_is : (volume : Volume) → IsVolumeInRange volume → (k : ℕ) → k < 180
+      → IsTrue (is_violated_sometime (relative_leg settings own candidate aircraft k) volume)
+      ↔ ViolatesOn settings own candidate aircraft volume k
   unfolding relative_for
   on_is volume v k l = sometime_is (relative_leg settings own candidate aircraft k) volume (leg-in_range k l) v
 
-  pub within_is : (volume : Volume) → IsVolumeInRange volume → (m : ℕ) → m ≤ 180 → IsTrue (is_met_within settings own candidate aircraft volume m) ↔ MeetsWithin settings own candidate aircraft volume m
+  pub within_is : (volume : Volume) → IsVolumeInRange volume → (m : ℕ) → m ≤ 180
+      → IsTrue (is_met_within settings own candidate aircraft volume m)
+      ↔ MeetsWithin settings own candidate aircraft volume m
   unfolding is_met_within
   within_is volume v m short =
       let s = some_is (λ k. is_violated_sometime (relative_leg settings own candidate aircraft k) volume) m in (

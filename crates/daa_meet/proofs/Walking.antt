@@ -22,14 +22,20 @@ pub record IsWalkedFrom (settings : Settings) (own : Own) (candidate : Candidate
 
 module _ (settings : Settings) (own : Own) (candidate : Candidate) (aircraft : Traffic) (volume : Volume) where
   -- a test of the next run is one of its seconds
-  pub run_is : (flight : FlightState) (first k : ℕ) (run : OwnRun) (rel : Leg) (b : Bool) → IsWalkedFrom settings own candidate aircraft volume flight first k → IsRunOf flight.own flight.rates flight.candidate flight.taken run
+  pub run_is : (flight : FlightState) (first k : ℕ) (run : OwnRun) (rel : Leg) (b : Bool)
+      → IsWalkedFrom settings own candidate aircraft volume flight first k
+      → IsRunOf flight.own flight.rates flight.candidate flight.taken run
       → (IsRunOf own (rates_of settings) candidate k run → HoldsSometime rel.secs (Violates rel volume) ↔ MeetsBetween settings own candidate aircraft volume k (k + run.secs))
       → IsTrue b ↔ HoldsSometime rel.secs (Violates rel volume) → IsTrue b ↔ MeetsBetween settings own candidate aircraft volume k (k + run.secs)
   run_is flight first k run rel b w r same h =
       let its : IsRunOf own (rates_of settings) candidate k run = subst (λ (f : FlightState). IsRunOf f.own f.rates f.candidate f.taken run) w.at r in
       ((λ t. (same its).0 (h.0 t)), (λ m. h.1 ((same its).1 m)))
 
-  pub run_walked : (flight new : FlightState) (first k secs : ℕ) → IsWalkedFrom settings own candidate aircraft volume flight first k → new ≡ record flight { taken = flight.taken + secs } → ¬ MeetsBetween settings own candidate aircraft volume k (k + secs) → IsWalkedFrom settings own candidate aircraft volume new first (k + secs)
+  pub run_walked : (flight new : FlightState) (first k secs : ℕ)
+      → IsWalkedFrom settings own candidate aircraft volume flight first k
+      → new ≡ record flight { taken = flight.taken + secs }
+      → ¬ MeetsBetween settings own candidate aircraft volume k (k + secs)
+      → IsWalkedFrom settings own candidate aircraft volume new first (k + secs)
   run_walked flight new first k secs w e h = record {
     at = e ∙ ap (λ (f : FlightState). record f { taken = f.taken + secs }) w.at;
     none = λ j from l v. ⊎_elim
@@ -41,7 +47,9 @@ module _ (settings : Settings) (own : Own) (candidate : Candidate) (aircraft : T
   pub met : (first k m upto : ℕ) → first ≤ k → upto ≤ m → MeetsBetween settings own candidate aircraft volume k upto → MeetsBetween settings own candidate aircraft volume first m
   met first k m upto from h e = record { leg = e.leg; not_before = omega (arith, from, e.not_before); before = omega (arith, h, e.before); violates = e.violates }
 
-  pub walked_none : (flight : FlightState) (first m k : ℕ) → m ≤ k → IsWalkedFrom settings own candidate aircraft volume flight first k → MeetsBetween settings own candidate aircraft volume first m → ⊥
+  pub walked_none : (flight : FlightState) (first m k : ℕ) → m ≤ k
+      → IsWalkedFrom settings own candidate aircraft volume flight first k
+      → MeetsBetween settings own candidate aircraft volume first m → ⊥
   walked_none flight first m k h w e = w.none e.leg e.not_before (omega (arith, h, e.before)) e.violates
 
   -- between 0 and m is within m

@@ -5,8 +5,13 @@ use Rattle.daa_meet.proofs.Walking.{run_is, run_walked, met, walked_none}
 use Rattle.daa_meet.proofs.walk.meets_between.Goals as goal
 use Rattle.daa_meet.proofs.walk.meets_between.Goals.{After-is_hit}
 
-hit : (c : After-is_hit) → IsTrue c.is_hit.result ↔ MeetsBetween c.args.config.now c.args.own.now c.args.candidate c.args.aircraft.now c.args.volume.now c.loop-k.k (c.loop-k.k + c.next_run-run.result.secs)
-hit c = run_is c.args.config.now c.args.own.now c.args.candidate c.args.aircraft.now c.args.volume.now c.loop-k.flight c.args.first c.loop-k.k c.next_run-run.result c.relative_run.result c.is_hit.result c.loop-k.invariant.walked c.next_run-run.ensures.run
+hit : (c : After-is_hit)
+    → IsTrue c.is_hit.result
+    ↔ MeetsBetween c.args.config.now c.args.own.now c.args.candidate c.args.aircraft.now c.args.volume.now c.loop-k.k
+    (c.loop-k.k + c.next_run-run.result.secs)
+hit c = run_is c.args.config.now c.args.own.now c.args.candidate c.args.aircraft.now c.args.volume.now c.loop-k.flight
+    c.args.first c.loop-k.k c.next_run-run.result c.relative_run.result c.is_hit.result c.loop-k.invariant.walked
+    c.next_run-run.ensures.run
     (c.relative_run.ensures.seconds c.args.config.now c.args.own.now c.args.candidate c.args.volume.now) c.is_hit.ensures
 
 inside : (c : After-is_hit) → c.loop-k.k + c.next_run-run.result.secs ≤ c.args.upto
@@ -24,13 +29,17 @@ loop-k-init c = record {
 
 pub returns-then-is_hit : goal.returns-then-is_hit
 returns-then-is_hit c = (
-  (λ _. met c.args.config.now c.args.own.now c.args.candidate c.args.aircraft.now c.args.volume.now c.args.first c.loop-k.k c.args.upto (c.loop-k.k + c.next_run-run.result.secs) c.loop-k.invariant.from (inside c.before) ((hit c.before).0 c.if-is_hit.true)),
+  (λ _. met c.args.config.now c.args.own.now c.args.candidate c.args.aircraft.now c.args.volume.now c.args.first
+      c.loop-k.k c.args.upto (c.loop-k.k + c.next_run-run.result.secs) c.loop-k.invariant.from (inside c.before)
+      ((hit c.before).0 c.if-is_hit.true)),
   (λ _. refl),
 )
 
 pub loop-k-preserved : goal.loop-k-preserved
 loop-k-preserved c = record {
-  walked = run_walked c.args.config.now c.args.own.now c.args.candidate c.args.aircraft.now c.args.volume.now c.loop-k.flight c.next_run-run.new.self c.args.first c.loop-k.k c.next_run-run.result.secs c.loop-k.invariant.walked c.next_run-run.ensures.taken
+  walked = run_walked c.args.config.now c.args.own.now c.args.candidate c.args.aircraft.now c.args.volume.now
+      c.loop-k.flight c.next_run-run.new.self c.args.first c.loop-k.k c.next_run-run.result.secs
+      c.loop-k.invariant.walked c.next_run-run.ensures.taken
       (λ m. let t = (hit c.before).1 m in cc (t, c.if-is_hit.false));
   from = omega (arith, c.loop-k.invariant.from);
   upto = inside c.before;
@@ -39,5 +48,7 @@ loop-k-preserved c = record {
 pub returns : goal.returns
 returns c = (
   (λ t. absurd (cc t)),
-  (λ m. absurd (walked_none c.args.config.now c.args.own.now c.args.candidate c.args.aircraft.now c.args.volume.now c.loop-k.flight c.args.first c.args.upto c.loop-k.k c.loop-k-test.false c.loop-k.invariant.walked m)),
+  (λ m. absurd
+      (walked_none c.args.config.now c.args.own.now c.args.candidate c.args.aircraft.now c.args.volume.now
+      c.loop-k.flight c.args.first c.args.upto c.loop-k.k c.loop-k-test.false c.loop-k.invariant.walked m)),
 )
