@@ -57,7 +57,10 @@ module _ (settings : Settings) (a : IsAccepted settings) where
         go (by_test (int_le settings.numbers.resolve (pos l)) (le_is _ _))
         (some_decided (ViolatesDelayed settings own candidate m aircraft level.volume) level.lookahead (λ k lt. on_decided level.volume r.volume k (omega (arith, lt, short))))
       where
-        go : IsDecidable (settings.numbers.resolve ≤ℤ pos l) → IsDecidable ((k : ℕ) × (k < level.lookahead) × ViolatesDelayed settings own candidate m aircraft level.volume k) → IsDecidable (ClosesAt l)
+        go : IsDecidable (settings.numbers.resolve ≤ℤ pos l)
+            → IsDecidable
+            ((k : ℕ) × (k < level.lookahead) × ViolatesDelayed settings own candidate m aircraft level.volume k)
+            → IsDecidable (ClosesAt l)
         go (inl from) (inl (k, before, v)) = inl (record { level = level; closes = record { there = at; from = from }; leg = k; before = before; violates = v })
         go (inl from) (inr none) = inr (λ x.
             let one = one_level settings l x.level level x.closes.there at in
@@ -132,7 +135,9 @@ module _ (settings : Settings) (a : IsAccepted settings) where
         last_below zero le none = (None, record { horizon = horizon; ahead = ahead; none = λ i lt. none i (omega arith) lt })
         last_below (suc n) le none = go (some_open_decided n) (last_below n (omega (arith, le)))
           where
-            go : IsDecidable (IsSomeOpen settings picture kind n) → (((i : ℕ) → n ≤ i → i < horizon → ¬ IsSomeOpen settings picture kind i) → (answer : Option ℕ) × IsLastTime settings picture kind answer)
+            go : IsDecidable (IsSomeOpen settings picture kind n)
+                → (((i : ℕ) → n ≤ i → i < horizon → ¬ IsSomeOpen settings picture kind i)
+                → (answer : Option ℕ) × IsLastTime settings picture kind answer)
                 → (answer : Option ℕ) × IsLastTime settings picture kind answer
             go (inl x) earlier = (Some n, record { horizon = horizon; ahead = ahead; before = omega (arith, le); some = x; none_later = λ i lt before. none i (omega (arith, lt)) before })
             go (inr shut) earlier = earlier (λ i from lt. ⊎_elim

@@ -16,7 +16,8 @@ tested c = leg_tested c.args.config.now c.args.own.now c.args.candidate c.args.m
     c.relative-seen.result c.is_hit.result c.relative-seen.ensures.value c.is_hit.ensures
 
 pub loop-k-init : goal.loop-k-init
-loop-k-init c = walked_first c.args.config.now c.args.own.now c.args.candidate c.args.m c.args.aircraft.now c.args.volume.now c.begin-flight.result c.args.start.now c.begin-flight.ensures c.requires.start
+loop-k-init c = walked_first c.args.config.now c.args.own.now c.args.candidate c.args.m c.args.aircraft.now
+    c.args.volume.now c.begin-flight.result c.args.start.now c.begin-flight.ensures c.requires.start
 
 pub velocity_from-velocity-requires-clause-height : goal.velocity_from-velocity-requires-clause-height
 velocity_from-velocity-requires-clause-height c =
@@ -56,5 +57,7 @@ loop-k-preserved c =
 pub returns : goal.returns
 returns c = (
   (λ t. absurd (cc t)),
-  (λ x. absurd (walked_none c.args.config.now c.args.own.now c.args.candidate c.args.m c.args.aircraft.now c.args.volume.now c.loop-k.flight c.loop-k.place c.args.upto c.loop-k.k c.loop-k-test.false c.loop-k.invariant x)),
+  (λ x. absurd
+      (walked_none c.args.config.now c.args.own.now c.args.candidate c.args.m c.args.aircraft.now c.args.volume.now
+      c.loop-k.flight c.loop-k.place c.args.upto c.loop-k.k c.loop-k-test.false c.loop-k.invariant x)),
 )

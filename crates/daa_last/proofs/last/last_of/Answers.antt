@@ -30,7 +30,8 @@ pub loop-m-init : goal.loop-m-init
 loop-m-init c = tried_first c.args.config.now c.args.picture.now c.args.kind c.horizon_of-horizon.result c.starts_of-m.result c.starts_of-m.ensures
 
 pub leg-requires-clause-k : goal.leg-requires-clause-k
-leg-requires-clause-k c = short c.loop-m.m c.horizon_of-horizon.result c.loop-m-test.true c.loop-m.invariant.within (horizon_short _ _ c.horizon_of-horizon.ensures.accepted c.horizon_of-horizon.ensures.value)
+leg-requires-clause-k c = short c.loop-m.m c.horizon_of-horizon.result c.loop-m-test.true c.loop-m.invariant.within
+    (horizon_short _ _ c.horizon_of-horizon.ensures.accepted c.horizon_of-horizon.ensures.value)
 
 pub is_some_open-requires-clause-start : goal.is_some_open-requires-clause-start
 is_some_open-requires-clause-start c = ap (λ (l : OwnLeg). l.place)
@@ -38,7 +39,9 @@ is_some_open-requires-clause-start c = ap (λ (l : OwnLeg). l.place)
     (before c.loop-m.m c.horizon_of-horizon.result c.loop-m-test.true c.loop-m.invariant.within) c.leg.ensures)
 
 pub is_some_open-requires-clause-m : goal.is_some_open-requires-clause-m
-is_some_open-requires-clause-m c = at_most _ (short c.loop-m.m c.horizon_of-horizon.result c.loop-m-test.true c.loop-m.invariant.within (horizon_short _ _ c.horizon_of-horizon.ensures.accepted c.horizon_of-horizon.ensures.value))
+is_some_open-requires-clause-m c = at_most _
+    (short c.loop-m.m c.horizon_of-horizon.result c.loop-m-test.true c.loop-m.invariant.within
+    (horizon_short _ _ c.horizon_of-horizon.ensures.accepted c.horizon_of-horizon.ensures.value))
 
 pub is_some_open-requires-clause-held : goal.is_some_open-requires-clause-held
 is_some_open-requires-clause-held c = c.loop-m.invariant.clear (c.loop-m.m - 1) (before c.loop-m.m c.loop-m.m c.loop-m-test.true (same c.loop-m.m))

@@ -12,7 +12,8 @@ returns-then-is_closed-2 c free = free c.loop-place.place c.aircraft_at-aircraft
     (closed_late c.args.config.now c.args.picture.now.own c.args.candidate c.args.m c.aircraft_at-aircraft-in-loop-place.result.now (c.is_closed-in-loop-place.ensures.0 c.if-is_closed-2.true))
 
 pub loop-place-preserved : goal.loop-place-preserved
-loop-place-preserved c = clear_more c.args.config.now c.args.picture.now c.args.candidate c.args.m c.loop-place.place c.aircraft_at-aircraft-in-loop-place.result.now c.aircraft_at-aircraft-in-loop-place.ensures.listed
+loop-place-preserved c = clear_more c.args.config.now c.args.picture.now c.args.candidate c.args.m c.loop-place.place
+    c.aircraft_at-aircraft-in-loop-place.result.now c.aircraft_at-aircraft-in-loop-place.ensures.listed
     (λ x.
     let l = late_closed c.args.config.now c.args.picture.now.own c.args.candidate c.args.m c.aircraft_at-aircraft-in-loop-place.result.now
     (c.requires.held c.loop-place.place c.aircraft_at-aircraft-in-loop-place.result.now c.aircraft_at-aircraft-in-loop-place.ensures.listed) x in

@@ -13,5 +13,7 @@ loop-l-preserved c = record {
 pub returns : goal.returns
 returns c = (
   (λ t. absurd (cc t)),
-  (λ x. absurd (open_all c.args.config.now c.args.own.now c.args.candidate c.args.m c.args.aircraft.now c.loop-l.l (omega (arith, c.loop-l-test.false, c.levels-l-end.ensures.value)) c.loop-l.invariant.open_below x)),
+  (λ x. absurd
+      (open_all c.args.config.now c.args.own.now c.args.candidate c.args.m c.args.aircraft.now c.loop-l.l
+      (omega (arith, c.loop-l-test.false, c.levels-l-end.ensures.value)) c.loop-l.invariant.open_below x)),
 )

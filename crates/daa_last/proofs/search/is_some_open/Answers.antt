@@ -33,5 +33,7 @@ loop-index-preserved c = shut_more c.args.config.now c.args.picture.now c.args.k
 pub returns : goal.returns
 returns c = (
   (λ t. absurd (cc t)),
-  (λ x. absurd (shut_all c.args.config.now c.args.picture.now c.args.kind c.args.m c.loop-index.index (omega (arith, c.loop-index-test.false, c.count-index-end.ensures.value)) c.loop-index.invariant x)),
+  (λ x. absurd
+      (shut_all c.args.config.now c.args.picture.now c.args.kind c.args.m c.loop-index.index
+      (omega (arith, c.loop-index-test.false, c.count-index-end.ensures.value)) c.loop-index.invariant x)),
 )

@@ -9,12 +9,15 @@ use Rattle.daa_last.proofs.starts.first_held.Goals as goal
 use Rattle.daa_last.proofs.starts.first_held.Goals.{After-is_hit}
 
 pub relative-requires-clause-leg : goal.relative-requires-clause-leg
-relative-requires-clause-leg c = kept-in_range c.args.own.now (rates_of c.args.config.now) Hold c.args.upto c.loop-k.k c.args.held.now c.leg.result.now c.requires.held c.loop-k-test.true c.requires.upto c.leg.ensures
+relative-requires-clause-leg c = kept-in_range c.args.own.now (rates_of c.args.config.now) Hold c.args.upto c.loop-k.k
+    c.args.held.now c.leg.result.now c.requires.held c.loop-k-test.true c.requires.upto c.leg.ensures
     c.requires.own (subst (λ (r : Rates). AreRatesInRange r) c.rates-rates.ensures.value c.rates-rates.ensures.in_range) tt
 
 tested : (c : After-is_hit) → IsTrue c.is_hit.result ↔ ViolatesOn c.args.config.now c.args.own.now Hold c.args.aircraft.now c.args.volume.now c.loop-k.k
 tested c = leg_tested c.args.config.now c.args.own.now Hold c.args.aircraft.now c.args.volume.now c.loop-k.k c.leg.result.now c.relative.result c.is_hit.result
-    (kept_is c.args.own.now (rates_of c.args.config.now) Hold c.args.upto c.loop-k.k c.args.held.now c.leg.result.now c.requires.held c.loop-k-test.true c.leg.ensures) c.relative.ensures.value c.is_hit.ensures
+    (kept_is c.args.own.now (rates_of c.args.config.now) Hold c.args.upto c.loop-k.k c.args.held.now c.leg.result.now
+    c.requires.held c.loop-k-test.true c.leg.ensures)
+    c.relative.ensures.value c.is_hit.ensures
 
 pub returns-then-is_hit : goal.returns-then-is_hit
 returns-then-is_hit c = record {

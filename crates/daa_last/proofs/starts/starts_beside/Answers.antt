@@ -11,4 +11,5 @@ loop-l-preserved c = record {
 }
 
 pub returns : goal.returns
-returns c = below_all c.args.config.now c.args.own.now c.args.aircraft.now c.args.most c.loop-l.l c.loop-l.starts (omega (arith, c.loop-l-test.false, c.levels-l-end.ensures.value)) c.loop-l.invariant.so_far
+returns c = below_all c.args.config.now c.args.own.now c.args.aircraft.now c.args.most c.loop-l.l c.loop-l.starts
+    (omega (arith, c.loop-l-test.false, c.levels-l-end.ensures.value)) c.loop-l.invariant.so_far

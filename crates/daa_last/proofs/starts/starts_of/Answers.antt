@@ -7,4 +7,5 @@ loop-place-preserved c = before_more c.args.config.now c.args.picture.now c.args
     c.aircraft_at.ensures.listed c.starts_beside-starts.ensures c.loop-place.invariant
 
 pub returns : goal.returns
-returns c = before_all c.args.config.now c.args.picture.now c.args.horizon c.loop-place.place c.loop-place.starts (omega (arith, c.loop-place-test.false, c.len-place-end.ensures.value)) c.loop-place.invariant
+returns c = before_all c.args.config.now c.args.picture.now c.args.horizon c.loop-place.place c.loop-place.starts
+    (omega (arith, c.loop-place-test.false, c.len-place-end.ensures.value)) c.loop-place.invariant
