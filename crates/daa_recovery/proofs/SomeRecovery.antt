@@ -1,5 +1,6 @@
 -- A kind has a recovery: what recovers can be decided.
-use Rattle.std.proofs.Common.{◌≡◌, ◌≢◌, ◌⊎◌, inl, inr, ℕ, zero, suc, ◌+◌, ◌-◌, ◌<◌, ◌≤◌, ℤ, pos, ◌+ℤ◌, ◌*ℤ◌, ◌≤ℤ◌, nat_abs, Option, Some, None, List, [], ◌∷◌, length, max, sym, subst, ap, arith, ⊎_elim, refl}
+use Rattle.std.proofs.Common.{◌≡◌, ◌≢◌, ◌⊎◌, inl, inr, ℕ, zero, suc, ◌+◌, ◌-◌, ◌<◌, ◌≤◌, ℤ, pos, ◌+ℤ◌, ◌*ℤ◌}
+use Rattle.std.proofs.Common.{◌≤ℤ◌, nat_abs, Option, Some, None, List, [], ◌∷◌, length, max, sym, subst, ap, arith, ⊎_elim, refl}
 use Rattle.std.specs.Prelude.{IsTrue, int_le, slice_get}
 use Rattle.std.proofs.lemmas.Bool.{cases_lt}
 use Rattle.std.proofs.lemmas.Int.{ints}
@@ -49,11 +50,15 @@ module _ (p : OutlookState) (is : IsOutlook p) (candidate : Candidate) (c : IsCa
 
     closes_decided : (l : ℕ) (level : Level) → IsLevelAt p.settings l level → IsDecidable (ClosesAt l)
     closes_decided l level at = go (by_test (int_le p.settings.numbers.resolve (pos l)) (le_is _ _))
-        (between_decided p.settings p.picture.own candidate aircraft is.accepted is.picture.own c t level.volume (is.accepted.level l level at).volume m level.lookahead (is.accepted.level l level at).lookahead_most)
+        (between_decided p.settings p.picture.own candidate aircraft is.accepted is.picture.own c t level.volume
+        (is.accepted.level l level at).volume m level.lookahead (is.accepted.level l level at).lookahead_most)
       where
         go : IsDecidable (p.settings.numbers.resolve ≤ℤ pos l) → IsDecidable (MeetsBetween p.settings p.picture.own candidate aircraft level.volume m level.lookahead) → IsDecidable (ClosesAt l)
         go (inl from) (inl x) = inl (record { level = level; closes = record { there = at; from = from }; meets = x })
-        go (inl from) (inr none) = inr (λ x. none (subst (λ (y : Level). MeetsBetween p.settings p.picture.own candidate aircraft y.volume m y.lookahead) (one_level p.settings l x.level level x.closes.there at) x.meets))
+        go (inl from) (inr none) = inr
+            (λ x. none
+            (subst (λ (y : Level). MeetsBetween p.settings p.picture.own candidate aircraft y.volume m y.lookahead)
+            (one_level p.settings l x.level level x.closes.there at) x.meets))
         go (inr early) x = inr (λ x. early x.closes.from)
 
     level_decided : (l : ℕ) → IsDecidable (ClosesAt l)
@@ -70,7 +75,9 @@ module _ (p : OutlookState) (is : IsOutlook p) (candidate : Candidate) (c : IsCa
     ) (some_decided ClosesAt (suc (length p.settings.levels)) (λ l lt. level_decided l))
 
     clear_decided : IsDecidable (IsClear p candidate m aircraft)
-    clear_decided = go closed_decided (within_decided p.settings p.picture.own candidate aircraft is.accepted is.picture.own c t p.cylinder is.cylinder p.horizon (horizon_short p.settings p.horizon is.accepted is.horizon))
+    clear_decided = go closed_decided
+        (within_decided p.settings p.picture.own candidate aircraft is.accepted is.picture.own c t p.cylinder
+        is.cylinder p.horizon (horizon_short p.settings p.horizon is.accepted is.horizon))
       where
         go : IsDecidable (IsClosedFrom p candidate m aircraft) → IsDecidable (IsInCylinder p candidate aircraft) → IsDecidable (IsClear p candidate m aircraft)
         go (inl x) y = inr (λ k. k.open_levels x)

@@ -8,7 +8,9 @@ loop-l-preserved c =
     let f = c.loop-l.invariant.from in
     let from : c.args.config.now.numbers.resolve ≤ℤ pos (c.loop-l.l + 1) = omega (arith, ints, f) in
     record {
-      so_far = horizon_more c.args.config.now c.loop-l.l c.loop-l.horizon c.max-horizon.result c.level-in-loop-l.result.now from c.level-in-loop-l.ensures.value c.max-horizon.ensures c.loop-l.invariant.so_far;
+      so_far = horizon_more c.args.config.now c.loop-l.l c.loop-l.horizon c.max-horizon.result
+          c.level-in-loop-l.result.now from c.level-in-loop-l.ensures.value c.max-horizon.ensures
+          c.loop-l.invariant.so_far;
       from = from;
     }
 

@@ -12,5 +12,9 @@ pub returns : goal.returns
 returns c =
     let p = c.args.self.now in
     let f = from_zero p.settings p.picture.own c.args.course.now.candidate c.args.aircraft.now p.cylinder p.horizon in
-    let b = subst (λ (q : OutlookState). IsTrue c.meets.result ↔ MeetsBetween p.settings p.picture.own c.args.course.now.candidate c.args.aircraft.now q.cylinder 0 q.horizon) c.self.view_is c.meets.ensures in
+    let b = subst
+    (λ (q : OutlookState). IsTrue c.meets.result
+    ↔ MeetsBetween p.settings p.picture.own c.args.course.now.candidate c.args.aircraft.now q.cylinder 0
+    q.horizon)
+    c.self.view_is c.meets.ensures in
     ((λ t. f.0 (b.0 t)), (λ m. b.1 (f.1 m)))

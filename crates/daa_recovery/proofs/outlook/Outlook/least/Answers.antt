@@ -5,4 +5,11 @@ use Rattle.daa_recovery.proofs.Searching.{found_all}
 use Rattle.daa_recovery.proofs.outlook.Outlook.least.Goals as goal
 
 pub returns : goal.returns
-returns c = found_all c.args.self.now c.args.kind c.loop-index.index c.loop-index.found (omega (arith, c.loop-index-test.false, c.count-index-end.ensures.value, ap (λ (p : OutlookState). length (values_of c.args.kind p.settings)) c.self.view_is)) c.loop-index.invariant
+returns c = found_all c.args.self.now c.args.kind c.loop-index.index c.loop-index.found
+    (omega (
+      arith,
+      c.loop-index-test.false,
+      c.count-index-end.ensures.value,
+      ap (λ (p : OutlookState). length (values_of c.args.kind p.settings)) c.self.view_is,
+    ))
+    c.loop-index.invariant

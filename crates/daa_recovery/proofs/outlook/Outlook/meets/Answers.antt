@@ -17,7 +17,8 @@ meets_along-requires-clause-upto c =
 
 pub meets_along-requires-clause-legs : goal.meets_along-requires-clause-legs
 meets_along-requires-clause-legs c =
-    let legs = fewer_legs c.args.self.now.picture.own (rates_of c.args.self.now.settings) c.args.course.now.candidate c.args.self.now.horizon c.args.upto c.args.course.now.legs c.requires.ahead c.requires.course.legs in
+    let legs = fewer_legs c.args.self.now.picture.own (rates_of c.args.self.now.settings) c.args.course.now.candidate
+    c.args.self.now.horizon c.args.upto c.args.course.now.legs c.requires.ahead c.requires.course.legs in
     subst (λ (p : OutlookState). AreLegsOf p.picture.own (rates_of p.settings) c.args.course.now.candidate c.args.upto c.args.course.now.legs) (sym c.self.view_is) legs
 
 pub meets_along-requires-clause-straight : goal.meets_along-requires-clause-straight

@@ -20,7 +20,9 @@ returns-in-Some c =
     let back : to_z w32 (of_z w32 v) ≡ v = to_z-of_z w32 v f in
     let p = c.args.self.now in
     let there = subst (λ (q : OutlookState). slice_get (values_of c.args.kind q.settings) c.args.index ≡ Some v) c.self.view_is c.value-value.ensures.value in
-    let t = renamed p _ (candidate_to c.args.kind v) _ (bound_for p c.args.kind c.args.found v) _ (Some c.in-Some.after) (c.candidate_going_to-candidate.ensures ∙ ap (candidate_to c.args.kind) back) (c.bound.ensures ∙ ap (bound_for p c.args.kind c.args.found) back) c.in-Some.is c.sooner_time.ensures in
+    let t = renamed p _ (candidate_to c.args.kind v) _ (bound_for p c.args.kind c.args.found v) _ (Some c.in-Some.after)
+    (c.candidate_going_to-candidate.ensures ∙ ap (candidate_to c.args.kind) back)
+    (c.bound.ensures ∙ ap (bound_for p c.args.kind c.args.found) back) c.in-Some.is c.sooner_time.ensures in
     subst (λ (z : ℤ). IsFoundBelow p c.args.kind (c.args.index + 1) (Some (record { after = c.in-Some.after; value = z }))) (sym back)
     (found_sooner p c.args.kind c.args.index v there c.args.found c.in-Some.after c.requires.found t)
 
@@ -31,7 +33,9 @@ returns-in-None c =
     let back : to_z w32 (of_z w32 v) ≡ v = to_z-of_z w32 v f in
     let p = c.args.self.now in
     let there = subst (λ (q : OutlookState). slice_get (values_of c.args.kind q.settings) c.args.index ≡ Some v) c.self.view_is c.value-value.ensures.value in
-    let t = renamed p _ (candidate_to c.args.kind v) _ (bound_for p c.args.kind c.args.found v) _ None (c.candidate_going_to-candidate.ensures ∙ ap (candidate_to c.args.kind) back) (c.bound.ensures ∙ ap (bound_for p c.args.kind c.args.found) back) c.in-None.is c.sooner_time.ensures in
+    let t = renamed p _ (candidate_to c.args.kind v) _ (bound_for p c.args.kind c.args.found v) _ None
+    (c.candidate_going_to-candidate.ensures ∙ ap (candidate_to c.args.kind) back)
+    (c.bound.ensures ∙ ap (bound_for p c.args.kind c.args.found) back) c.in-None.is c.sooner_time.ensures in
     found_kept p c.args.kind c.args.index v there c.args.found c.requires.found t
 
 pub bound-requires : goal.bound-requires
