@@ -47,7 +47,10 @@ module _ (scene : SceneState) (n : ℕ) (old new : List ℕ) (room : length (can
         (λ over. past index l over h)
         (cases_lt index (length new));
     no_candidate_past = λ index l beyond low h. ⊎_elim
-        (λ b. ⊎_elim (λ k. board.no_candidate_past index l beyond low k) (λ (w, m). let x = slice_get_within (candidates_of scene.settings) index m.candidate m.listed in absurd (omega (arith, x, beyond))) ((adds index b l low).0 h))
+        (λ b. ⊎_elim (λ k. board.no_candidate_past index l beyond low k)
+        (λ (w, m). let x = slice_get_within (candidates_of scene.settings) index m.candidate m.listed in
+        absurd (omega (arith, x, beyond)))
+        ((adds index b l low).0 h))
         (λ over. past index l over h)
         (cases_lt index (length new));
   }

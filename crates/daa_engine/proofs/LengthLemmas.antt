@@ -1,5 +1,7 @@
 -- How long the text of a moment can be.
-use Rattle.std.proofs.Common.{◌≡◌, ◌<◌, ◌≤◌, ◌+◌, ◌*◌, ◌^◌, ◌++◌, ◌∙◌, ℕ, suc, ℤ, pos, negsuc, ◌≤ℤ◌, Bool, true, false, List, [], ◌∷◌, length, Option, Some, None, option_map, refl, sym, ap, subst, arith, length-append, slice_get}
+use Rattle.std.proofs.Common.{◌≡◌, ◌<◌, ◌≤◌, ◌+◌, ◌*◌, ◌^◌, ◌++◌, ◌∙◌, ℕ, suc, ℤ}
+use Rattle.std.proofs.Common.{pos, negsuc, ◌≤ℤ◌, Bool, true, false, List, [], ◌∷◌, length, Option}
+use Rattle.std.proofs.Common.{Some, None, option_map, refl, sym, ap, subst, arith, length-append, slice_get}
 use Rattle.std.specs.Prelude.{codes, decimal, slice_index, MatchOption}
 use Rattle.std.specs.Option.{unwrap_or}
 use Rattle.daa_legs.specs.Alerts.{IsFirstLeg}
@@ -32,11 +34,13 @@ use Rattle.daa_resolve.specs.declared.side.Side.TheVariants.{Lower, Upper}
 use Rattle.daa_last.specs.Last.{IsLastTime}
 use Rattle.daa_recovery.specs.Recovery.{IsRecovery}
 use Rattle.daa_recovery.specs.declared.recovery.Recovery.{Recovery}
-use Rattle.daa_report.specs.Lines.{Text, kind_word, lower_word, upper_word, first_text, resolution_text, moment_line, now_line, alert_line, band_line, resolve_line, last_line, seconds_text, recover_line, found_text, number_field, done_line}
+use Rattle.daa_report.specs.Lines.{Text, kind_word, lower_word, upper_word, first_text, resolution_text, moment_line, now_line, alert_line}
+use Rattle.daa_report.specs.Lines.{band_line, resolve_line, last_line, seconds_text, recover_line, found_text, number_field, done_line}
 use Rattle.daa_engine.specs.Covered.{CoveredAt}
 use Rattle.daa_engine.specs.Longest.{longest_moment}
 use Rattle.daa_bands.specs.Parts.{SplitsByEach}
-use Rattle.daa_engine.specs.MomentText.{AreAircraftLines, AreBandLines, AreResolutions, IsLastText, IsRecoveryLine, IsRecoveryText, IsMomentText, line_of, of_each, found_of, wants_last, wants_recovery}
+use Rattle.daa_engine.specs.MomentText.{AreAircraftLines, AreBandLines, AreResolutions, IsLastText, IsRecoveryLine, IsRecoveryText}
+use Rattle.daa_engine.specs.MomentText.{IsMomentText, line_of, of_each, found_of, wants_last, wants_recovery}
 
 -- ---- numbers
 

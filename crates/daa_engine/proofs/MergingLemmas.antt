@@ -117,7 +117,11 @@ module _ (s : SceneState) (words board : List ℕ) (are : AreWordsOf s words) (r
           before = before;
           inside = omega arith;
           at = whole;
-          level = ((w.masks (index % 12) (omega arith)).each l low high).1 (subst (λ (i : ℕ). MeetsAt s i (slice_index are.places ((k * group_count s.settings + index / 12) / group_count s.settings)) l) whole
+          level = ((w.masks (index % 12) (omega arith)).each l low high).1
+              (subst
+              (λ (i : ℕ). MeetsAt s i
+              (slice_index are.places ((k * group_count s.settings + index / 12) / group_count s.settings)) l)
+              whole
               (subst (λ (a : ℕ). MeetsAt s index a l) (sym there) meets));
         })
       where

@@ -22,7 +22,9 @@ use Rattle.daa_resolve.proofs.OneResolution.{one_answer}
 use Rattle.daa_report.specs.Lines.{Text, now_line, alert_line, resolve_line, last_line, recover_line, moment_line, done_line}
 use Rattle.daa_engine.specs.Covered.{CoveredAt}
 use Rattle.daa_bands.specs.Parts.{SplitsByEach}
-use Rattle.daa_engine.specs.MomentText.{AreAircraftLines, AreBandLines, AreResolutions, IsLastLine, IsLastText, IsRecoveryLine, IsRecoveryText, IsMomentText, line_of, of_each, wants_last, wants_recovery, found_of}
+use Rattle.daa_engine.specs.MomentText.{AreAircraftLines, AreBandLines, AreResolutions, IsLastLine, IsLastText}
+use Rattle.daa_engine.specs.MomentText.{IsRecoveryLine, IsRecoveryText, IsMomentText, line_of, of_each}
+use Rattle.daa_engine.specs.MomentText.{wants_last, wants_recovery, found_of}
 
 module _ (s : Settings) (p : Picture) where
   aircraft_only : (t : Traffic) (a b : Text) → AreAircraftLines s p t a → AreAircraftLines s p t b → a ≡ b

@@ -32,7 +32,13 @@ module _ (s : Settings) (p : Picture) (unasked : s.last_times ≡ false) where
   module _ (alerts : Text) (bands : Kind → Text) (lower upper : Kind → Resolution) (recoveries : Kind → Text) (lasts : Text) (none : lasts ≡ []) where
     with_no_last : (moment_line p.time ++ (alerts ++ (of_each bands ++ (of_each (λ kind. resolve_line kind (lower kind) (upper kind)) ++ (lasts ++ (of_each recoveries ++ done_line p.time))))))
         ≡ (moment_line p.time ++ (alerts ++ (of_each bands ++ (of_each (λ kind. resolve_line kind (lower kind) (upper kind)) ++ (of_each recoveries ++ done_line p.time)))))
-    with_no_last = ap (λ (x : Text). moment_line p.time ++ (alerts ++ (of_each bands ++ (of_each (λ kind. resolve_line kind (lower kind) (upper kind)) ++ (x ++ (of_each recoveries ++ done_line p.time)))))) none
+    with_no_last = ap
+        (λ (x : Text). moment_line p.time
+        ++ (alerts
+        ++ (of_each bands
+        ++ (of_each (λ kind. resolve_line kind (lower kind) (upper kind))
+        ++ (x ++ (of_each recoveries ++ done_line p.time))))))
+        none
 
   pub without_last_times : (text : Text) → IsMomentText s p text → IsTextWithoutLastTimes s p text
   without_last_times text h = record {

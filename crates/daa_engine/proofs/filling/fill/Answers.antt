@@ -19,9 +19,20 @@ loop-place-preserved c =
     let place : ℕ = c.loop-place.place in
     let old : List ℕ = c.loop-place.masks in
     let new : List ℕ = c.add_levels.new.masks in
-    let adds = subst (λ (x : SceneState). (j : ℕ) → j < length new → AddsLevels (MeetsAt x j place) (length x.settings.levels) (slice_index old j) (slice_index new j)) c.of-scene.ensures c.add_levels.ensures.masks in
+    let adds = subst
+    (λ (x : SceneState). (j : ℕ) → j < length new
+    → AddsLevels (MeetsAt x j place) (length x.settings.levels) (slice_index old j) (slice_index new j))
+    c.of-scene.ensures c.add_levels.ensures.masks in
     record {
-      board = aircraft_more (scene_of c.args.config.now c.args.picture.now) place old new (omega (arith, c.add_levels.ensures.length, c.loop-place.invariant.room, c.total-total.ensures.value, c.total-total.ensures.few)) c.loop-place.invariant.board adds;
+      board = aircraft_more (scene_of c.args.config.now c.args.picture.now) place old new
+          (omega (
+            arith,
+            c.add_levels.ensures.length,
+            c.loop-place.invariant.room,
+            c.total-total.ensures.value,
+            c.total-total.ensures.few,
+          ))
+          c.loop-place.invariant.board adds;
       room = c.add_levels.ensures.length ∙ c.loop-place.invariant.room;
     }
 

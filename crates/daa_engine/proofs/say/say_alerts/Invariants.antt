@@ -8,4 +8,6 @@ use Rattle.daa_engine.proofs.say.say_alerts.Given as goal
 -- the lines of the aircraft so far are said
 abbrev pub invariant-loop-place : goal.invariant-loop-place
 invariant-loop-place g l =
-    PageSays {E = SinkFault} (g.K.Sink.taken l.fn.sink) (g.K.Sink.taken l.sink) l.fn.page l.page (g.K.Sink.faults l.fn.sink) (g.K.Sink.faults l.sink) (flat_map aircraft_text (take l.place (zip l.traffic l.alerts))) (Ok tt)
+    PageSays {E = SinkFault} (g.K.Sink.taken l.fn.sink) (g.K.Sink.taken l.sink) l.fn.page l.page
+    (g.K.Sink.faults l.fn.sink) (g.K.Sink.faults l.sink)
+    (flat_map aircraft_text (take l.place (zip l.traffic l.alerts))) (Ok tt)

@@ -16,20 +16,43 @@ returns-in_err-flush g c = after _ c.in_ok-say_head.ensures (after _ c.in_ok-say
 
 pub returns-in_err-say_kinds : goal.returns-in_err-say_kinds
 unfolding written
-returns-in_err-say_kinds g c = after _ c.in_ok-say_head.ensures (after _ c.in_ok-say_traffic.ensures (after _ c.in_ok-flush.ensures.says (cut _ _ _ c.from_residual-in_err-say_kinds.ensures.1 c.in_err-say_kinds.ensures)))
+returns-in_err-say_kinds g c = after _ c.in_ok-say_head.ensures
+    (after _ c.in_ok-say_traffic.ensures
+    (after _ c.in_ok-flush.ensures.says
+    (cut _ _ _ c.from_residual-in_err-say_kinds.ensures.1 c.in_err-say_kinds.ensures)))
 
 pub returns-in_err-say_kinds-2 : goal.returns-in_err-say_kinds-2
 unfolding written
-returns-in_err-say_kinds-2 g c = after _ c.in_ok-say_head.ensures (after _ c.in_ok-say_traffic.ensures (after _ c.in_ok-flush.ensures.says (after _ c.in_ok-say_kinds.ensures (cut _ _ _ c.from_residual-in_err-say_kinds-2.ensures.1 c.in_err-say_kinds-2.ensures))))
+returns-in_err-say_kinds-2 g c = after _ c.in_ok-say_head.ensures
+    (after _ c.in_ok-say_traffic.ensures
+    (after _ c.in_ok-flush.ensures.says
+    (after _ c.in_ok-say_kinds.ensures
+    (cut _ _ _ c.from_residual-in_err-say_kinds-2.ensures.1 c.in_err-say_kinds-2.ensures))))
 
 pub returns-in_err-say_kinds-3 : goal.returns-in_err-say_kinds-3
 unfolding written
-returns-in_err-say_kinds-3 g c = after _ c.in_ok-say_head.ensures (after _ c.in_ok-say_traffic.ensures (after _ c.in_ok-flush.ensures.says (after _ c.in_ok-say_kinds.ensures (after _ c.in_ok-say_kinds-2.ensures (cut _ _ _ c.from_residual-in_err-say_kinds-3.ensures.1 c.in_err-say_kinds-3.ensures)))))
+returns-in_err-say_kinds-3 g c = after _ c.in_ok-say_head.ensures
+    (after _ c.in_ok-say_traffic.ensures
+    (after _ c.in_ok-flush.ensures.says
+    (after _ c.in_ok-say_kinds.ensures
+    (after _ c.in_ok-say_kinds-2.ensures
+    (cut _ _ _ c.from_residual-in_err-say_kinds-3.ensures.1 c.in_err-say_kinds-3.ensures)))))
 
 pub returns-in_err-say_kinds-4 : goal.returns-in_err-say_kinds-4
 unfolding written
-returns-in_err-say_kinds-4 g c = after _ c.in_ok-say_head.ensures (after _ c.in_ok-say_traffic.ensures (after _ c.in_ok-flush.ensures.says (after _ c.in_ok-say_kinds.ensures (after _ c.in_ok-say_kinds-2.ensures (after _ c.in_ok-say_kinds-3.ensures (cut _ _ _ c.from_residual-in_err-say_kinds-4.ensures.1 c.in_err-say_kinds-4.ensures))))))
+returns-in_err-say_kinds-4 g c = after _ c.in_ok-say_head.ensures
+    (after _ c.in_ok-say_traffic.ensures
+    (after _ c.in_ok-flush.ensures.says
+    (after _ c.in_ok-say_kinds.ensures
+    (after _ c.in_ok-say_kinds-2.ensures
+    (after _ c.in_ok-say_kinds-3.ensures
+    (cut _ _ _ c.from_residual-in_err-say_kinds-4.ensures.1 c.in_err-say_kinds-4.ensures))))))
 
 pub returns : goal.returns
 unfolding written
-returns g c = after _ c.in_ok-say_head.ensures (after _ c.in_ok-say_traffic.ensures (after _ c.in_ok-flush.ensures.says (after _ c.in_ok-say_kinds.ensures (after _ c.in_ok-say_kinds-2.ensures (after _ c.in_ok-say_kinds-3.ensures (after _ c.in_ok-say_kinds-4.ensures c.say_foot.ensures))))))
+returns g c = after _ c.in_ok-say_head.ensures
+    (after _ c.in_ok-say_traffic.ensures
+    (after _ c.in_ok-flush.ensures.says
+    (after _ c.in_ok-say_kinds.ensures
+    (after _ c.in_ok-say_kinds-2.ensures
+    (after _ c.in_ok-say_kinds-3.ensures (after _ c.in_ok-say_kinds-4.ensures c.say_foot.ensures))))))
