@@ -1,5 +1,6 @@
 -- One read more of a comparison.
-use Rattle.std.proofs.Common.{◌≡◌, ◌≢◌, ◌<◌, ◌≤◌, ◌+◌, ◌-◌, ◌++◌, ◌∙◌, ℕ, zero, suc, true, false, [], ◌∷◌, length, take, drop, refl, sym, ap, subst, arith, length-append, length-take, append-nil, append_assoc}
+use Rattle.std.proofs.Common.{◌≡◌, ◌≢◌, ◌<◌, ◌≤◌, ◌+◌, ◌-◌, ◌++◌, ◌∙◌, ℕ, zero, suc, true, false, []}
+use Rattle.std.proofs.Common.{◌∷◌, length, take, drop, refl, sym, ap, subst, arith, length-append, length-take, append-nil, append_assoc}
 use Rattle.std.specs.Prelude.{slice_index}
 use Rattle.std.specs.Io.KnownBytes.{Consumes}
 use Rattle.std.proofs.KnownBytes.{Consumes-trans}
@@ -214,7 +215,10 @@ pub next_matched : (most : ℕ) (first now : StreamState) (before text tail : By
     → IsMatched most first ((before ++ take done text) ++ take count tail) m now → IsMatched most first (before ++ take (done + count) text) m now
 next_matched most first now before text tail done count m e h =
     subst (λ (l : Bytes). IsMatched most first l m now)
-    (ap (λ (l : Bytes). (before ++ take done text) ++ take count l) e ∙ append_assoc before (take done text) (take count (drop done text)) ∙ ap (λ (l : Bytes). before ++ l) (sym (take-add done count text))) h
+    (ap (λ (l : Bytes). (before ++ take done text) ++ take count l) e
+    ∙ append_assoc before (take done text) (take count (drop done text))
+    ∙ ap (λ (l : Bytes). before ++ l) (sym (take-add done count text)))
+    h
 
 pub whole_matched : (most : ℕ) (first now : StreamState) (before text : Bytes) (done : ℕ) (m : Matching) → length text ≤ done
     → IsMatched most first (before ++ take done text) m now → IsMatched most first (before ++ text) m now
@@ -223,6 +227,7 @@ whole_matched most first now before text done m past h = subst (λ (l : Bytes). 
 pub compares_to : (most : ℕ) (first now : StreamState) (before text : Bytes) (done : ℕ) (m : Matching) (f : Found) → f ≢ found.Alike → (tail : Bytes) → tail ≡ drop done text
     → ((rest : Bytes) → Finds ((before ++ take done text) ++ (tail ++ rest)) most f first now) → Compares f most first before text m now
 compares_to most first now before text done m found.Alike other tail e h = absurd (other refl)
-compares_to most first now before text done m (found.Differs number) other tail e h = λ rest. subst (λ (l : Bytes). Finds l most (found.Differs number) first now) (put_tail before text rest tail done e) (h rest)
+compares_to most first now before text done m (found.Differs number) other tail e h = λ rest. subst
+    (λ (l : Bytes). Finds l most (found.Differs number) first now) (put_tail before text rest tail done e) (h rest)
 compares_to most first now before text done m found.Fault other tail e h = λ rest. subst (λ (l : Bytes). Finds l most found.Fault first now) (put_tail before text rest tail done e) (h rest)
 compares_to most first now before text done m found.Limit other tail e h = λ rest. subst (λ (l : Bytes). Finds l most found.Limit first now) (put_tail before text rest tail done e) (h rest)

@@ -5,7 +5,15 @@ use Rattle.daa_judge.proofs.matching.Matching.match_piece.Goals as goal
 
 pub overflow_add-line : goal.overflow_add-line
 overflow_add-line c =
-    omega (arith, c.requires.room, c.requires.bound, c.common-same.ensures.within, c.line_feeds.ensures, feeds-few (take c.common-same.result c.args.piece.now), length-take c.common-same.result c.args.piece.now)
+    omega (
+      arith,
+      c.requires.room,
+      c.requires.bound,
+      c.common-same.ensures.within,
+      c.line_feeds.ensures,
+      feeds-few (take c.common-same.result c.args.piece.now),
+      length-take c.common-same.result c.args.piece.now,
+    )
 
 pub returns-then-same-piece-clause-steps : goal.returns-then-same-piece-clause-steps
 returns-then-same-piece-clause-steps c s t buf r = (
@@ -21,4 +29,12 @@ returns-clause-steps c s t buf r =
 
 pub returns-clause-room : goal.returns-clause-room
 returns-clause-room c =
-    omega (arith, c.requires.room, c.requires.bound, c.common-same.ensures.within, c.line_feeds.ensures, feeds-few (take c.common-same.result c.args.piece.now), length-take c.common-same.result c.args.piece.now)
+    omega (
+      arith,
+      c.requires.room,
+      c.requires.bound,
+      c.common-same.ensures.within,
+      c.line_feeds.ensures,
+      feeds-few (take c.common-same.result c.args.piece.now),
+      length-take c.common-same.result c.args.piece.now,
+    )
