@@ -292,7 +292,7 @@ VX, VY = Field("VX", -10000, 10000, "0.1 kt"), Field("VY", -10000, 10000, "0.1 k
 ID, AGE = Field("ID", 0, 0, ""), Field("AGE", 0, 60, "s")
 FIELDS = {"moment": [Field("T", 0, 2**32 - 1, "s")], "own": [X, Y, ALT, TRK, GS, VS],
           "traffic": [ID, X, Y, ALT, VX, VY, VS], "end": [], "format": [Field("N", 1, 2, "")]}
-MOST_BYTES, MOST_AIRCRAFT = 255, 64
+MOST_LINE_BYTES, MOST_AIRCRAFT = 255, 64
 
 
 class Own(NamedTuple):
@@ -357,8 +357,8 @@ class Reader:
             self.open.refused.append(refusal)
 
     def take(self, line):
-        if len(line) > MOST_BYTES:
-            self.refuse(1, f"more than {MOST_BYTES} bytes")
+        if len(line) > MOST_LINE_BYTES:
+            self.refuse(1, f"more than {MOST_LINE_BYTES} bytes")
             return
         fields = [field for field in re.split(rb"[ \t]+", line.removesuffix(b"\r")) if field]
         if not fields or fields[0].startswith(b"#"):

@@ -8,14 +8,14 @@ ghost use Rattle.daa_state.specs.Id.{is_id, is_id_byte};
 use std::marker::Model;
 
 /// The most bytes that an identifier has.
-const MOST_BYTES: usize = 8;
+const MOST_ID_BYTES: usize = 8;
 
 /// The identifier of an aircraft: 1 to 8 bytes, each an ASCII letter, a digit, an underscore or a
 /// dash. Letters of different case differ. Contracts see it as the list of its bytes.
 #[derive(Clone, Copy, Debug)]
 pub struct Id {
     // The bytes, and zeros after them.
-    cells: [u8; MOST_BYTES],
+    cells: [u8; MOST_ID_BYTES],
     len: usize,
 }
 
@@ -51,7 +51,7 @@ impl Id {
         if !is_id(bytes) {
             return None;
         }
-        let mut cells = [0; MOST_BYTES];
+        let mut cells = [0; MOST_ID_BYTES];
         cells[..bytes.len()].copy_from_slice(bytes);
         Some(Id {
             cells,
@@ -106,7 +106,7 @@ impl Default for Id {
 fn is_id(bytes: &[u8]) -> bool
     ensures { result ≡ is_id bytes.now }
 {
-    !bytes.is_empty() && bytes.len() <= MOST_BYTES && are_id_bytes(bytes)
+    !bytes.is_empty() && bytes.len() <= MOST_ID_BYTES && are_id_bytes(bytes)
 }
 
 /// Whether each byte is allowed in an identifier.

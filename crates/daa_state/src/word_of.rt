@@ -18,7 +18,7 @@ use crate::number::{
 use crate::word::{Own, Traffic, Word};
 
 /// The most bytes of a line that is read.
-const MOST_BYTES: usize = 255;
+const MOST_LINE_BYTES: usize = 255;
 
 /// The word that the line says in this format, 1 or 2, or the first fault that applies, of codes 1
 /// to 6. The answer depends on the line and the format alone. Fields are separated by spaces and
@@ -42,7 +42,7 @@ pub fn read_line(line: &[u8], format: u32) -> Result<Word, LineFault>
     ensures value { result ≡ word_of line.now format }
     ensures range { IfOk result IsWordInRange }
 {
-    if line.len() > MOST_BYTES {
+    if line.len() > MOST_LINE_BYTES {
         return Err(LineFault::LongLine);
     }
     word(format, fields(without_return(line)).as_slice())
