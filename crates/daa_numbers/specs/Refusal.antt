@@ -2,7 +2,7 @@
 use Rattle.std.specs.Prelude.{◌≡◌, ◌+◌, ℕ, ℤ, pos, nat_lt, List, [], ◌∷◌, length, map, Option, Some, None, option_map, Result, Ok, Err, if◌then◌else◌}
 use Rattle.daa_config.specs.Settings.{Settings}
 use Rattle.daa_config.specs.declared.fault.ConfigFault.{ConfigFault}
-use Rattle.daa_state.specs.Checked.{earlier, first_outside, own_numbers, picture_fault_of, traffic_numbers}
+use Rattle.daa_state.specs.Checked.{earlier, first_out_of_range, own_numbers, picture_fault_of, traffic_numbers}
 use Rattle.daa_state.specs.Id.{is_id}
 use Rattle.daa_state.specs.declared.checked.PictureFault.TheVariants as says
 use Rattle.daa_numbers.specs.declared.refusal.Refusal.{Refusal}
@@ -35,12 +35,12 @@ config_refusal (Err fault) = Some (refuses.Config fault)
 
 -- why an ownship is refused
 abbrev pub own_refusal : DaaOwn → Option Refusal
-own_refusal own = option_map (λ fault. refuses.Picture (says.Own fault)) (first_outside (own_numbers (own_of own)))
+own_refusal own = option_map (λ fault. refuses.Picture (says.Own fault)) (first_out_of_range (own_numbers (own_of own)))
 
 -- why an aircraft is refused: its identifier before its numbers
 abbrev pub traffic_refusal : DaaTraffic → Option Refusal
 traffic_refusal aircraft =
-    if is_id (text_of aircraft.id) then option_map (λ fault. refuses.Picture (says.Traffic 0 fault)) (first_outside (traffic_numbers (traffic_of aircraft)))
+    if is_id (text_of aircraft.id) then option_map (λ fault. refuses.Picture (says.Traffic 0 fault)) (first_out_of_range (traffic_numbers (traffic_of aircraft)))
     else Some (refuses.BadId 0)
 
 -- why an ownship and aircraft are refused: too many aircraft, then the first identifier that is not allowed, then why they are no picture

@@ -6,7 +6,8 @@ use Rattle.std.proofs.lemmas.Option.{slice_get_within, slice_get-get_or}
 use Rattle.std.proofs.lemmas.List.{take_more, take_all, drop_more, drop_all}
 use Rattle.std.proofs.lemmas.Bool.{lt-ltb, le-ltb}
 use Rattle.std.proofs.lemmas.List.Elements.{All-nil, All-from_get_or}
-use Rattle.daa_state.specs.Checked.{bounds_of, is_within, outside, first_outside, own_numbers, traffic_numbers, IsTakenAt, AreTaken, fault_at, earlier, fault_from, own_fault, picture_fault_of}
+use Rattle.daa_state.specs.Checked.{bounds_of, is_within, out_of_range, first_out_of_range, own_numbers, traffic_numbers, IsTakenAt}
+use Rattle.daa_state.specs.Checked.{AreTaken, fault_at, earlier, fault_from, own_fault, picture_fault_of}
 use Rattle.daa_state.specs.Id.{is_id}
 use Rattle.daa_state.specs.InRange.{IsWithin, IsOwnInRange, IsTrafficInRange}
 use Rattle.daa_state.specs.Ranges.{Bounds}
@@ -54,25 +55,25 @@ AreWithin [] = Unit {0}
 AreWithin (n ∷ others) = IsWithin (bounds_of n.field) n.number × AreWithin others
 
 first-within : (n : Number) (others : List Number) (b : Bool) → is_within (bounds_of n.field) n.number ≡ b
-    → (if b then first_outside others else Some (outside n.field)) ≡ None → IsWithin (bounds_of n.field) n.number × (first_outside others ≡ None)
+    → (if b then first_out_of_range others else Some (out_of_range n.field)) ≡ None → IsWithin (bounds_of n.field) n.number × (first_out_of_range others ≡ None)
 first-within n others true e none = (is-within (bounds_of n.field) n.number e, none)
 first-within n others false e none = absurd (cc none)
 
-none-outside : (numbers : List Number) → first_outside numbers ≡ None → AreWithin numbers
-unfolding first_outside
-none-outside [] none = tt
-none-outside (n ∷ others) none =
+none_out_of_range : (numbers : List Number) → first_out_of_range numbers ≡ None → AreWithin numbers
+unfolding first_out_of_range
+none_out_of_range [] none = tt
+none_out_of_range (n ∷ others) none =
     let parts = first-within n others (is_within (bounds_of n.field) n.number) refl none in
-    (parts.0, none-outside others parts.1)
+    (parts.0, none_out_of_range others parts.1)
 
-pub own_range : (own : Own) → first_outside (own_numbers own) ≡ None → IsOwnInRange own
+pub own_range : (own : Own) → first_out_of_range (own_numbers own) ≡ None → IsOwnInRange own
 own_range own none =
-    let all = none-outside (own_numbers own) none in
+    let all = none_out_of_range (own_numbers own) none in
     record { x = all.0; y = all.1.0; alt = all.1.1.0; trk = all.1.1.1.0; gs = all.1.1.1.1.0; vs = all.1.1.1.1.1.0 }
 
-pub traffic_range : (aircraft : Traffic) → is_id aircraft.id ≡ true → first_outside (traffic_numbers aircraft) ≡ None → IsTrafficInRange aircraft
+pub traffic_range : (aircraft : Traffic) → is_id aircraft.id ≡ true → first_out_of_range (traffic_numbers aircraft) ≡ None → IsTrafficInRange aircraft
 traffic_range aircraft id none =
-    let all = none-outside (traffic_numbers aircraft) none in
+    let all = none_out_of_range (traffic_numbers aircraft) none in
     record {
       id = id;
       x = all.0;
@@ -145,18 +146,18 @@ fault_many own traffic many =
     rw test
 
 pub fault_few : (own : Own) (traffic : List Traffic) → length traffic ≤ 64
-    → picture_fault_of own traffic ≡ earlier (own_fault (first_outside (own_numbers own))) (fault_from traffic 0 traffic)
+    → picture_fault_of own traffic ≡ earlier (own_fault (first_out_of_range (own_numbers own))) (fault_from traffic 0 traffic)
 unfolding picture_fault_of
 fault_few own traffic few =
     let test : nat_lt 64 (length traffic) ≡ false = le-ltb 64 (length traffic) few in
     rw test
 
-pub fault_own : (own : Own) (traffic : List Traffic) (fault : OutOfRange) → length traffic ≤ 64 → first_outside (own_numbers own) ≡ Some fault
+pub fault_own : (own : Own) (traffic : List Traffic) (fault : OutOfRange) → length traffic ≤ 64 → first_out_of_range (own_numbers own) ≡ Some fault
     → picture_fault_of own traffic ≡ Some (says.Own fault)
 fault_own own traffic fault few wrong =
     fault_few own traffic few ∙ ap (λ (f : Option OutOfRange). earlier (own_fault f) (fault_from traffic 0 traffic)) wrong
 
-pub fault_traffic : (own : Own) (traffic : List Traffic) → length traffic ≤ 64 → first_outside (own_numbers own) ≡ None
+pub fault_traffic : (own : Own) (traffic : List Traffic) → length traffic ≤ 64 → first_out_of_range (own_numbers own) ≡ None
     → picture_fault_of own traffic ≡ fault_from traffic 0 traffic
 fault_traffic own traffic few sound =
     fault_few own traffic few ∙ ap (λ (f : Option OutOfRange). earlier (own_fault f) (fault_from traffic 0 traffic)) sound

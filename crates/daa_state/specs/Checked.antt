@@ -29,17 +29,17 @@ abbrev pub is_within : Bounds → ℤ → Bool
 is_within range n = int_le range.low n && int_le n range.high
 
 -- the report of a number that is out of range
-abbrev pub outside : Field → OutOfRange
-outside field = record { field = field; least = (bounds_of field).low; greatest = (bounds_of field).high }
+abbrev pub out_of_range : Field → OutOfRange
+out_of_range field = record { field = field; least = (bounds_of field).low; greatest = (bounds_of field).high }
 
 -- a number, and what it is
 abbrev pub number_of : Field → ℤ → Number
 number_of field number = record { field = field; number = number }
 
 -- the report of the first of them that is out of its range
-unfoldable pub first_outside : List Number → Option OutOfRange
-first_outside [] = None
-first_outside (n ∷ others) = if is_within (bounds_of n.field) n.number then first_outside others else Some (outside n.field)
+unfoldable pub first_out_of_range : List Number → Option OutOfRange
+first_out_of_range [] = None
+first_out_of_range (n ∷ others) = if is_within (bounds_of n.field) n.number then first_out_of_range others else Some (out_of_range n.field)
 
 -- the numbers of an ownship, in the order of its fields
 abbrev pub own_numbers : Own → List Number
@@ -68,7 +68,7 @@ told_at place None false = None
 
 -- what is wrong with an aircraft at a place of a list
 abbrev pub fault_at : List Traffic → ℕ → Traffic → Option PictureFault
-fault_at traffic place aircraft = told_at place (first_outside (traffic_numbers aircraft)) (has_id aircraft.id (take place traffic))
+fault_at traffic place aircraft = told_at place (first_out_of_range (traffic_numbers aircraft)) (has_id aircraft.id (take place traffic))
 
 -- the first of the two that is there
 abbrev pub earlier : {A : Type 0} → Option A → Option A → Option A
@@ -89,4 +89,4 @@ own_fault None = None
 unfoldable pub picture_fault_of : Own → List Traffic → Option PictureFault
 picture_fault_of own traffic =
     if nat_lt 64 (length traffic) then Some says.TooMany
-    else earlier (own_fault (first_outside (own_numbers own))) (fault_from traffic 0 traffic)
+    else earlier (own_fault (first_out_of_range (own_numbers own))) (fault_from traffic 0 traffic)

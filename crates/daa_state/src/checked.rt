@@ -3,7 +3,7 @@
 
 ghost use Rattle.std.specs.Prelude.{◌≡◌, ◌<◌, length, true, false, slice_get};
 ghost use Rattle.std.specs.Prelude.{Some, None, IfOk, IfErr, OnOk, pos};
-ghost use Rattle.daa_state.specs.Checked.{bounds_of, is_within, outside, first_outside};
+ghost use Rattle.daa_state.specs.Checked.{bounds_of, is_within, out_of_range, first_out_of_range};
 ghost use Rattle.daa_state.specs.Checked.{number_of, own_numbers, traffic_numbers};
 ghost use Rattle.daa_state.specs.Checked.{IsTakenAt, AreTaken, fault_at, picture_fault_of};
 ghost use Rattle.daa_state.specs.InRange.{IsOwnInRange, IsTrafficInRange, IsPictureInRange};
@@ -118,7 +118,7 @@ fn test(number: &Number) -> Result<(), OutOfRange>
     ensures within { OnOk result (is_within (bounds_of number.now.field) number.now.number ≡ true) }
     ensures beyond { IfErr result
         (λ fault. (is_within (bounds_of number.now.field) number.now.number ≡ false)
-        × (fault ≡ outside number.now.field)) }
+        × (fault ≡ out_of_range number.now.field)) }
 {
     let least = number.field.least();
     let greatest = number.field.greatest();
@@ -134,10 +134,10 @@ fn test(number: &Number) -> Result<(), OutOfRange>
 }
 
 /// Whether each number is in the range of its field.
-#[tactic(auto, unfolding(crate::specs::Checked::first_outside))]
+#[tactic(auto, unfolding(crate::specs::Checked::first_out_of_range))]
 fn test_all(numbers: &[Number]) -> Result<(), OutOfRange>
-    ensures within { OnOk result (first_outside numbers.now ≡ None) }
-    ensures refused { IfErr result (λ fault. first_outside numbers.now ≡ Some fault) }
+    ensures within { OnOk result (first_out_of_range numbers.now ≡ None) }
+    ensures refused { IfErr result (λ fault. first_out_of_range numbers.now ≡ Some fault) }
 {
     for number in numbers {
         test(number)?;
@@ -201,8 +201,8 @@ impl Own {
     pub fn check(self) -> Result<Own, OutOfRange>
         ensures value { IfOk result (λ own. own ≡ self) }
         ensures range { IfOk result IsOwnInRange }
-        ensures sound { IfOk result (λ own. first_outside (own_numbers self) ≡ None) }
-        ensures refused { IfErr result (λ fault. first_outside (own_numbers self) ≡ Some fault) }
+        ensures sound { IfOk result (λ own. first_out_of_range (own_numbers self) ≡ None) }
+        ensures refused { IfErr result (λ fault. first_out_of_range (own_numbers self) ≡ Some fault) }
     {
         test_all(&own_numbers(&self))?;
         Ok(self)
@@ -216,9 +216,9 @@ impl Traffic {
     pub fn check(self) -> Result<Traffic, OutOfRange>
         ensures value { IfOk result (λ aircraft. aircraft ≡ self) }
         ensures range { IfOk result IsTrafficInRange }
-        ensures sound { IfOk result (λ aircraft. first_outside (traffic_numbers self) ≡ None) }
+        ensures sound { IfOk result (λ aircraft. first_out_of_range (traffic_numbers self) ≡ None) }
         ensures refused { IfErr result
-            (λ fault. first_outside (traffic_numbers self) ≡ Some fault) }
+            (λ fault. first_out_of_range (traffic_numbers self) ≡ Some fault) }
     {
         // ensures that they are an identifier's
         let _bytes = self.id.bytes();

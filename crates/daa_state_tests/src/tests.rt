@@ -438,7 +438,7 @@ static NUMBER_SENTENCES: [(Field, &str); 9] = [
 ];
 
 /// Of a number that is not -1 to 7.
-fn outside(field: Field) -> OutOfRange {
+fn out_of_range(field: Field) -> OutOfRange {
     OutOfRange {
         field,
         least: -1,
@@ -449,7 +449,7 @@ fn outside(field: Field) -> OutOfRange {
 #[test]
 fn each_fault_of_a_number_has_a_sentence(rt: HostRuntime) -> Result<(), Fail> {
     for (field, wanted) in NUMBER_SENTENCES {
-        let sentence = sentence_of(rt.alloc(), outside(field))?;
+        let sentence = sentence_of(rt.alloc(), out_of_range(field))?;
         assert!(rt; sentence.as_str() == wanted, "{sentence}");
     }
     Ok(())
@@ -459,9 +459,12 @@ fn each_fault_of_a_number_has_a_sentence(rt: HostRuntime) -> Result<(), Fail> {
 fn each_fault_of_a_picture_has_a_sentence(rt: HostRuntime) -> Result<(), Fail> {
     let many = sentence_of(rt.alloc(), PictureFault::TooMany)?;
     assert_eq!(rt; many.as_str(), "there are more than 64 aircraft");
-    let own = sentence_of(rt.alloc(), PictureFault::Own(outside(Field::Altitude)))?;
+    let own = sentence_of(rt.alloc(), PictureFault::Own(out_of_range(Field::Altitude)))?;
     assert_eq!(rt; own.as_str(), "of the ownship, alt (ft) is not -1 to 7");
-    let other = sentence_of(rt.alloc(), PictureFault::Traffic(63, outside(Field::Age)))?;
+    let other = sentence_of(
+        rt.alloc(),
+        PictureFault::Traffic(63, out_of_range(Field::Age)),
+    )?;
     assert_eq!(rt; other.as_str(), "of aircraft 63, age (s) is not -1 to 7");
     let twice = sentence_of(rt.alloc(), PictureFault::SameId(1))?;
     assert_eq!(rt;
