@@ -13,7 +13,7 @@ use crate::asking::config_and_picture;
 use crate::codes::SHORT;
 use crate::deciding::decided_board;
 use crate::setting::DaaConfig;
-use crate::sheet::Sheet;
+use crate::sheet::ArraySheet;
 use crate::states::{DaaOwn, DaaTraffic};
 use daa_bands::Board;
 use daa_config::Config;
@@ -21,7 +21,7 @@ use daa_engine::say_moment;
 use daa_state::Picture;
 
 /// Writes the text of a decided moment on an empty sheet, which has room for it.
-fn write(config: &Config, picture: &Picture, board: &Board, sheet: &mut Sheet)
+fn write(config: &Config, picture: &Picture, board: &Board, sheet: &mut ArraySheet)
     requires picture { IsPictureInRange picture.now }
     requires board { IsBoardOf (CoveredAt config.now picture.now) config.now board.now }
     requires empty { sheet.old.text.items ≡ [] }
@@ -44,7 +44,7 @@ fn fill(config: &Config, picture: &Picture, board: &Board, text: &mut [u8]) -> O
         × IsMomentText config.now picture.now said × (length text.old < length said)) }
     ensures kept { IfNone result (text.new ≡ text.old) }
 {
-    let mut sheet = Sheet::new();
+    let mut sheet = ArraySheet::new();
     write(config, picture, board, &mut sheet);
     let said = sheet.text.as_slice();
     if text.len() < said.len() {

@@ -8,27 +8,28 @@ use daa_outside::{Failed, Sink};
 /// One byte more than the text of a moment has at most.
 const ROOM: usize = 130_177;
 
-/// Room for the text of a moment, and how many writes to it failed: none before it is full.
+/// A sheet in an array, which takes no memory: room for the text of a moment, and how many writes to
+/// it failed. None fails before the sheet is full.
 #[derive(Drop)]
-pub(crate) struct Sheet {
+pub(crate) struct ArraySheet {
     pub(crate) text: ArrayVec<u8, ROOM>,
     pub(crate) faults: u64,
     ghost full: { 0 < faults → length text.items ≡ 130177 },
 }
 
-impl Sheet {
+impl ArraySheet {
     /// A sheet with nothing on it.
-    pub(crate) fn new() -> Sheet
+    pub(crate) fn new() -> ArraySheet
         ensures { result.text.items ≡ [] }
     {
-        Sheet {
+        ArraySheet {
             text: ArrayVec::new(),
             faults: 0,
         }
     }
 }
 
-impl Sink for Sheet {
+impl Sink for ArraySheet {
     ghost use Rattle.std.specs.Prelude.{Some};
 
     ghost taken = { λ s. Some s.text.items };
