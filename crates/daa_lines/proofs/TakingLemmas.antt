@@ -11,7 +11,7 @@ use Rattle.daa_lines.specs.Taking.{IsLineOf, after_taking}
 use Rattle.daa_lines.specs.ComesFrom.{ComesFrom, standing}
 use Rattle.daa_lines.specs.declared.lines.Stage.{Stage}
 use Rattle.daa_lines.specs.declared.lines.Stage.TheVariants.{Open, Whole, Long, Skipping}
-use Rattle.daa_lines.specs.declared.lines.Line.TheVariants as result
+use Rattle.daa_lines.specs.declared.lines.InputLine.TheVariants as result
 
 taking : (bytes : Bytes) (taken : List Bytes) (line : Bytes) (stage : Stage) (ended : Bool) (fed number : ℕ) → IsSized stage line
     → ComesFrom bytes taken (record { line = line; stage = stage; ended = ended; fed = fed; number = number })

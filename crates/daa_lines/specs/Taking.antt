@@ -6,8 +6,8 @@ use Rattle.daa_lines.specs.LinesOf.{Bytes, long_length}
 use Rattle.daa_lines.specs.LinesState.{LinesState, is_standing}
 use Rattle.daa_lines.specs.declared.lines.Stage.{Stage}
 use Rattle.daa_lines.specs.declared.lines.Stage.TheVariants.{Open, Whole, Long, Skipping}
-use Rattle.daa_lines.specs.declared.lines.Line.{Line}
-use Rattle.daa_lines.specs.declared.lines.Line.TheVariants as line
+use Rattle.daa_lines.specs.declared.lines.InputLine.{InputLine}
+use Rattle.daa_lines.specs.declared.lines.InputLine.TheVariants as line
 use Rattle.daa_lines.specs.contracts.lines.Lines.{the_row}
 
 -- after a whole line another begins, and after a long one its rest is skipped
@@ -22,13 +22,13 @@ after_taking c = if is_standing c.stage
     then record c { line = []; stage = stage_after c.stage; number = c.number + 1 } else c
 
 -- the line that is handed out is the one that was ready
-abbrev pub IsHanded : LinesState → Line → Type 0
+abbrev pub IsHanded : LinesState → InputLine → Type 0
 IsHanded c (line.Whole bytes) = (c.stage ≡ Whole) × (bytes.now ≡ c.line) × (length c.line < long_length)
 IsHanded c line.Long = (c.stage ≡ Long) × (length c.line ≡ long_length)
 IsHanded c line.NotYet = is_standing c.stage ≡ false
 
 -- of a line that is not long its bytes are handed out, of a long one that it is long, and of none that there is none yet
-abbrev pub IsLineOf : Option Bytes → Line → Type 0
+abbrev pub IsLineOf : Option Bytes → InputLine → Type 0
 IsLineOf (Some bytes) (line.Whole given) = (given.now ≡ bytes) × (length bytes < long_length)
 IsLineOf (Some bytes) line.Long = long_length ≤ length bytes
 IsLineOf None line.NotYet = Unit {0}

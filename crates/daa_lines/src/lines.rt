@@ -31,7 +31,7 @@ pub enum Stage {
 
 /// What [`Lines::take_line`] hands out: a line, that it is too long, or that none is ready.
 #[derive(Clone, Copy, Debug)]
-pub enum Line<'a> {
+pub enum InputLine<'a> {
     /// A line of at most 255 bytes, without its line feed. A carriage return at its end is kept.
     Whole(&'a [u8]),
     /// A line of 256 bytes or more.
@@ -227,11 +227,11 @@ impl Lines {
 
     /// Takes the line that is ready, if there is one. It returns `NotYet` exactly if there is none,
     /// and `Long` exactly if the line has 256 bytes or more.
-    pub fn take_line(&mut self) -> Line<'_>
+    pub fn take_line(&mut self) -> InputLine<'_>
         ensures* after { sem 𝓛 (LeavesTaken self.entry) }
         ensures handed { IsHanded self.old result }
-        ensures long { (result ≡ Line.Long) ↔ (self.old.stage ≡ Stage.Long) }
-        ensures not_yet { (result ≡ Line.NotYet) ↔ (is_standing self.old.stage ≡ false) }
+        ensures long { (result ≡ InputLine.Long) ↔ (self.old.stage ≡ Stage.Long) }
+        ensures not_yet { (result ≡ InputLine.NotYet) ↔ (is_standing self.old.stage ≡ false) }
         ensures line { (bytes : List ℕ) (taken : List (List ℕ)) → ComesFrom bytes taken self.old
             → IsLineOf (slice_get (lines_of bytes self.old.ended) (length taken)) result }
         ensures kept { (bytes : List ℕ) (taken : List (List ℕ)) → ComesFrom bytes taken self.old
@@ -243,15 +243,15 @@ impl Lines {
                 self.stage = Stage::Open;
                 self.stale = true;
                 self.number += 1;
-                Line::Whole(self.line.as_slice())
+                InputLine::Whole(self.line.as_slice())
             }
             Stage::Long => {
                 self.stage = Stage::Skipping;
                 self.stale = true;
                 self.number += 1;
-                Line::Long
+                InputLine::Long
             }
-            Stage::Open | Stage::Skipping => Line::NotYet,
+            Stage::Open | Stage::Skipping => InputLine::NotYet,
         }
     }
 

@@ -3,7 +3,7 @@
 
 ghost use Rattle.std.specs.Prelude.{◌≡◌, ◌<◌, false};
 
-use crate::{Line, Lines, Stage};
+use crate::{InputLine, Lines, Stage};
 use std::alloc::{AllocError, Global};
 use std::process::Abort;
 use std::test::Fail;
@@ -16,17 +16,17 @@ fn put_line(rt: &impl Abort, lines: &mut Lines, text: &mut Vec<u8>) -> Result<()
     assert!(rt; before < 9);
     let number = b'1' + before as u8;
     match lines.take_line() {
-        Line::Whole(bytes) => {
+        InputLine::Whole(bytes) => {
             text.push(number)?;
             text.push(b'[')?;
             text.extend_from_slice(bytes)?;
             text.push(b']')?;
         }
-        Line::Long => {
+        InputLine::Long => {
             text.push(number)?;
             text.extend_from_slice(b"<long>")?;
         }
-        Line::NotYet => return Ok(()),
+        InputLine::NotYet => return Ok(()),
     }
     assert_eq!(rt; lines.number(), before + 1);
     Ok(())
@@ -150,10 +150,10 @@ fn from_256_bytes_on_a_line_is_long(rt: HostRuntime) -> Result<(), Fail> {
     Ok(())
 }
 
-fn is_whole(line: Line<'_>, wanted: &[u8]) -> bool {
+fn is_whole(line: InputLine<'_>, wanted: &[u8]) -> bool {
     match line {
-        Line::Whole(bytes) => bytes == wanted,
-        Line::Long | Line::NotYet => false,
+        InputLine::Whole(bytes) => bytes == wanted,
+        InputLine::Long | InputLine::NotYet => false,
     }
 }
 
@@ -163,12 +163,12 @@ fn feed_stops_after_a_line_feed(rt: HostRuntime) {
     assert_eq!(rt; (lines.fed(), lines.number()), (0, 0));
     assert_eq!(rt; lines.feed(b""), 0);
     assert_eq!(rt; lines.feed(b"ab"), 2);
-    assert!(rt; matches!(lines.take_line(), Line::NotYet));
+    assert!(rt; matches!(lines.take_line(), InputLine::NotYet));
     assert_eq!(rt; lines.feed(b"c\nd\n"), 2);
     assert_eq!(rt; lines.feed(b"d\n"), 0);
     assert_eq!(rt; (lines.fed(), lines.number()), (4, 0));
     assert!(rt; is_whole(lines.take_line(), b"abc"));
-    assert!(rt; matches!(lines.take_line(), Line::NotYet));
+    assert!(rt; matches!(lines.take_line(), InputLine::NotYet));
     assert_eq!(rt; (lines.fed(), lines.number()), (4, 1));
 }
 
@@ -178,11 +178,11 @@ fn feed_stops_at_256_bytes_and_after_a_long_line(rt: HostRuntime) {
     let letters = [b'a'; 300];
     assert_eq!(rt; lines.feed(&letters), 256);
     assert_eq!(rt; lines.feed(&letters), 0);
-    assert!(rt; matches!(lines.take_line(), Line::Long));
+    assert!(rt; matches!(lines.take_line(), InputLine::Long));
     assert_eq!(rt; lines.feed(&letters), 300);
-    assert!(rt; matches!(lines.take_line(), Line::NotYet));
+    assert!(rt; matches!(lines.take_line(), InputLine::NotYet));
     assert_eq!(rt; lines.feed(b"ab\nc\n"), 3);
-    assert!(rt; matches!(lines.take_line(), Line::NotYet));
+    assert!(rt; matches!(lines.take_line(), InputLine::NotYet));
     assert_eq!(rt; lines.feed(b"c\n"), 2);
     assert!(rt; is_whole(lines.take_line(), b"c"));
     assert_eq!(rt; (lines.fed(), lines.number()), (561, 2));
@@ -196,7 +196,7 @@ fn a_second_end_makes_no_line(rt: HostRuntime) {
     lines.end();
     assert!(rt; is_whole(lines.take_line(), b"a"));
     lines.end();
-    assert!(rt; matches!(lines.take_line(), Line::NotYet));
+    assert!(rt; matches!(lines.take_line(), InputLine::NotYet));
     assert_eq!(rt; (lines.fed(), lines.number()), (1, 1));
 }
 
@@ -205,12 +205,12 @@ fn the_rest_of_a_long_line_makes_no_line(rt: HostRuntime) {
     let mut lines = Lines::new();
     let letters = [b'a'; 300];
     assert_eq!(rt; lines.feed(&letters), 256);
-    assert!(rt; matches!(lines.take_line(), Line::Long));
+    assert!(rt; matches!(lines.take_line(), InputLine::Long));
     assert_eq!(rt; lines.feed(&letters[256..]), 44);
     lines.end();
-    assert!(rt; matches!(lines.take_line(), Line::NotYet));
+    assert!(rt; matches!(lines.take_line(), InputLine::NotYet));
     lines.end();
-    assert!(rt; matches!(lines.take_line(), Line::NotYet));
+    assert!(rt; matches!(lines.take_line(), InputLine::NotYet));
     assert_eq!(rt; (lines.fed(), lines.number()), (300, 1));
 }
 
@@ -220,7 +220,7 @@ fn a_line_that_stands_at_the_end_stands_on(rt: HostRuntime) {
     assert_eq!(rt; lines.feed(b"a\nb"), 2);
     lines.end();
     assert!(rt; is_whole(lines.take_line(), b"a"));
-    assert!(rt; matches!(lines.take_line(), Line::NotYet));
+    assert!(rt; matches!(lines.take_line(), InputLine::NotYet));
 }
 
 fn may_be_sent<T: Send>() {}
@@ -229,6 +229,6 @@ fn may_be_sent<T: Send>() {}
 #[test]
 fn values_may_be_sent() {
     may_be_sent::<Lines>();
-    may_be_sent::<Line<'static>>();
+    may_be_sent::<InputLine<'static>>();
     may_be_sent::<Stage>();
 }
