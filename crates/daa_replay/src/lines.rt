@@ -11,7 +11,7 @@ ghost use Rattle.daa_replay.specs.declared.lines.Event.{Event};
 ghost use Rattle.daa_replay.specs.Inside.Lines.{Follows, given_with, word_step};
 ghost use Rattle.daa_replay.specs.Lines.{IsEventInRange, events_of, line_event, next_state};
 
-use daa_lines::{Line, Lines, Stage};
+use daa_lines::{InputLine, Lines, Stage};
 use daa_state::{LineFault, Moments, Picture, Word, read_line};
 
 /// A line was refused, under its number, or a moment was ended.
@@ -32,9 +32,9 @@ fn take_word(lines: &mut Lines, format: u32) -> Option<Result<Word, LineFault>>
         → ComesFrom bytes (taken ++ standing lines.old.stage lines.old.line) lines.new }
 {
     match lines.take_line() {
-        Line::Whole(bytes) => Some(read_line(bytes, format)),
-        Line::Long => Some(Err(LineFault::LongLine)),
-        Line::NotYet => None,
+        InputLine::Whole(bytes) => Some(read_line(bytes, format)),
+        InputLine::Long => Some(Err(LineFault::LongLine)),
+        InputLine::NotYet => None,
     }
 }
 
@@ -77,9 +77,9 @@ fn pass_line(lines: &mut Lines)
         → ComesFrom bytes (taken ++ standing lines.old.stage lines.old.line) lines.new }
 {
     match lines.take_line() {
-        Line::Whole(_) => (),
-        Line::Long => (),
-        Line::NotYet => (),
+        InputLine::Whole(_) => (),
+        InputLine::Long => (),
+        InputLine::NotYet => (),
     }
 }
 
