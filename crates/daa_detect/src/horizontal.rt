@@ -90,32 +90,41 @@ fn begins_near(leg: &Leg, volume: &Volume) -> bool
     s.east * s.east + s.north * s.north <= dthr * dthr
 }
 
-/// Whether `s.s + secs (s.v)` is at most `dthr^2` at that time, for what moves: with 0 seconds the
-/// distance is at most `dthr`, and where it falls modified tau is at most `secs`. Multiplied by
-/// `v.v`, that compares the product of the rate and the rate `secs` seconds later with the margin.
+/// The rate at a time, multiplied by the rate `secs` seconds later.
+fn rate_product(motion: &Motion, point: &Point, secs: u32) -> i128
+    requires small { HasSmallNumbers point.now }
+    requires secs { secs ≤ 120 }
+    ensures { result ≡ rate_of motion.now point.now.num point.now.den
+        *ℤ later_rate_of motion.now secs point.now.num point.now.den }
+{
+    let rate = rate_at(motion, point);
+    let later = rate + rate_gain(motion, point, secs);
+    rate as i128 * later as i128
+}
+
+/// Whether `s.s + secs (s.v)` is at most `dthr^2` at a time, where the speed is not 0. At 0 seconds
+/// this says that the distance is at most `dthr`; where the distance falls, it says that modified
+/// tau is at most `secs`. Both sides are multiplied by `v.v`: then they are the product of the rates
+/// at the time and `secs` seconds later, and the margin.
 fn is_modified_tau_within(motion: &Motion, point: &Point, secs: u32) -> bool
     requires small { HasSmallNumbers point.now }
     requires secs { secs ≤ 120 }
     ensures { IsTrue result ↔ IsModifiedTauWithin motion.now secs point.now.num point.now.den }
 {
-    let rate = rate_at(motion, point);
-    let later = rate + rate_gain(motion, point, secs);
-    rate as i128 * later as i128 <= (point.den * point.den) as i128 * motion.margin
+    rate_product(motion, point, secs) <= (point.den * point.den) as i128 * motion.margin
 }
 
-/// Whether `s.s + secs (s.v)` is at most 0 at that time, for what moves: where the distance falls,
-/// tau is at most `secs`. Multiplied by `v.v`, that compares the product of the two rates with the
-/// square of the miss.
+/// Whether `s.s + secs (s.v)` is at most 0 at a time, where the speed is not 0. Where the distance
+/// falls, this says that tau is at most `secs`. Both sides are multiplied by `v.v`, and the square of
+/// the miss is taken off: then they are the product of the two rates, and that square below 0.
 fn is_tau_within(leg: &Leg, motion: &Motion, point: &Point, secs: u32) -> bool
     requires leg { IsLegInRange leg.now }
     requires small { HasSmallNumbers point.now }
     requires secs { secs ≤ 120 }
     ensures { IsTrue result ↔ IsTauWithin leg.now motion.now secs point.now.num point.now.den }
 {
-    let rate = rate_at(motion, point);
-    let later = rate + rate_gain(motion, point, secs);
     let miss = (point.den * miss(leg)) as i128;
-    rate as i128 * later as i128 <= -(miss * miss)
+    rate_product(motion, point, secs) <= -(miss * miss)
 }
 
 /// Whether, `secs` seconds later, the distance falls no more or is at most `dthr`, for what moves

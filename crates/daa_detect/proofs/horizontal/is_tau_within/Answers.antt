@@ -1,25 +1,14 @@
-use Rattle.std.proofs.Common.{ℤ, ◌*◌, ◌+ℤ◌, ◌*ℤ◌, ap, neg_ℤ, ◌∙◌, lit<, rules, w64, to_z-of_z}
+use Rattle.std.proofs.Common.{FitsSigned, ℤ, ◌*ℤ◌, ap, neg_ℤ, ◌∙◌, lit<, rules, w64, to_z-of_z}
 use mir.Syntax.{w128}
 use Rattle.daa_fixed.specs.Size.{IsWithin}
-use Rattle.daa_fixed.proofs.Bounds.{times, plus, fits, as_within, le_test, zero_less, zero_less-within}
+use Rattle.daa_fixed.proofs.Bounds.{times, fits, as_within, le_test, zero_less, zero_less-within}
 use Rattle.daa_fixed.specs.Leg.{IsLegInRange}
 use Rattle.daa_fixed.specs.Flat.{square_of}
 use Rattle.daa_fixed.proofs.LegSizes as leg
 use Rattle.daa_fixed.proofs.PointSizes.{IsPointInRange}
 use Rattle.daa_detect.proofs.Sizes as size
-use Rattle.daa_detect.proofs.Sizes.{IsMotionInRange, most_rate, of_motion}
+use Rattle.daa_detect.proofs.Sizes.{of_motion}
 use Rattle.daa_detect.proofs.horizontal.is_tau_within.Goals as goal
-
-pub overflow_add-later : goal.overflow_add-later
-overflow_add-later c =
-    let s : IsMotionInRange c.args.motion.now = search rules in
-    let t : IsPointInRange c.args.point.now = search rules in
-    let u = size.small t c.requires.small in
-    let w : IsWithin most_rate c.rate_at-rate.result = as_within c.rate_at-rate.ensures (size.rate s u) in
-    let g : IsWithin (120 * 40000 * 3200000000) c.rate_gain.result = as_within c.rate_gain.ensures (size.gain s u c.requires.secs) in
-    let f1 = fits w64 w (lit< tt) in
-    let f2 = fits w64 g (lit< tt) in
-    simp to_z-of_z (fits w64 (plus w g) (lit< tt))
 
 pub overflow_mul-miss : goal.overflow_mul-miss
 overflow_mul-miss c =
@@ -33,20 +22,6 @@ overflow_mul-miss c =
 
 pub overflow_mul-result : goal.overflow_mul-result
 overflow_mul-result c =
-    let s : IsMotionInRange c.args.motion.now = search rules in
-    let t : IsPointInRange c.args.point.now = search rules in
-    let u = size.small t c.requires.small in
-    let w : IsWithin most_rate c.rate_at-rate.result = as_within c.rate_at-rate.ensures (size.rate s u) in
-    let g : IsWithin (120 * 40000 * 3200000000) c.rate_gain.result = as_within c.rate_gain.ensures (size.gain s u c.requires.secs) in
-    let f1 = fits w64 w (lit< tt) in
-    let f2 = fits w64 g (lit< tt) in
-    let f3 = fits w64 (plus w g) (lit< tt) in
-    let f4 = fits w128 w (lit< tt) in
-    let f5 = fits w128 (plus w g) (lit< tt) in
-    simp to_z-of_z (fits w128 (times w (plus w g)) (lit< tt))
-
-pub overflow_mul-result-2 : goal.overflow_mul-result-2
-overflow_mul-result-2 c =
     let t : IsPointInRange c.args.point.now = search rules in
     let u = size.small t c.requires.small in
     let r : IsLegInRange c.args.leg.now = search rules in
@@ -72,26 +47,17 @@ overflow_sub-result c =
 
 pub returns : goal.returns
 returns c =
-    let s : IsMotionInRange c.args.motion.now = search rules in
     let t : IsPointInRange c.args.point.now = search rules in
     let u = size.small t c.requires.small in
-    let w : IsWithin most_rate c.rate_at-rate.result = as_within c.rate_at-rate.ensures (size.rate s u) in
-    let g : IsWithin (120 * 40000 * 3200000000) c.rate_gain.result = as_within c.rate_gain.ensures (size.gain s u c.requires.secs) in
-    let f1 = fits w64 w (lit< tt) in
-    let f2 = fits w64 g (lit< tt) in
     let r : IsLegInRange c.args.leg.now = search rules in
     let x : IsWithin 3200000000000 c.miss.result = as_within c.miss.ensures (leg.sxv r) in
     let y = times u.den x in
     let f6 = fits w64 x (lit< tt) in
-    let f3 = fits w64 (plus w g) (lit< tt) in
-    let f4 = fits w128 w (lit< tt) in
-    let f5 = fits w128 (plus w g) (lit< tt) in
     let f7 = fits w64 y (lit< tt) in
     let f8 = fits w128 y (lit< tt) in
     let f9 = fits w128 (times y y) (lit< tt) in
     let f10 = fits w128 (zero_less-within _ (times y y)) (lit< tt) in
-    let f11 = fits w128 (times w (plus w g)) (lit< tt) in
+    let f11 : FitsSigned w128 c.rate_product.result = search rules in
     let missed = ap (λ (z : ℤ). neg_ℤ (square_of (c.args.point.now.den *ℤ z))) c.miss.ensures in
-    simp (to_z-of_z, of_motion) (le_test _ _ _ _
-    (λ i. c.rate_at-rate.ensures i *ℤ (c.rate_at-rate.ensures i +ℤ c.rate_gain.ensures i))
+    simp (to_z-of_z, of_motion) (le_test _ _ _ _ c.rate_product.ensures
     (zero_less (square_of (c.args.point.now.den *ℤ c.miss.result)) ∙ missed))
