@@ -1,11 +1,16 @@
 //! Calls on a moment.
 
 ghost use Rattle.std.specs.Prelude.{◌≡◌, ◌≢◌, pos, ◌≤◌, drop, length, take};
-ghost use Rattle.daa_numbers.specs.Asked.{IsAlertUnder, IsDecided, AreLevelsUnder, HasMoreCandidates, AreBandsUnder, HasKindButNoBoard, HasMoreValues, HasNoKind, IsResolutionUnder, HasNoSide, HasSideButNoBoard, AsksForNone, AsksForNoLast, IsLastUnder, IsRecoveryUnder, IsReported, HasLongerText};
+ghost use Rattle.daa_numbers.specs.Asked.{IsAlertUnder, IsDecided, AreLevelsUnder};
+ghost use Rattle.daa_numbers.specs.Asked.{HasMoreCandidates, AreBandsUnder, HasKindButNoBoard};
+ghost use Rattle.daa_numbers.specs.Asked.{HasMoreValues, HasNoKind, IsResolutionUnder, HasNoSide};
+ghost use Rattle.daa_numbers.specs.Asked.{HasSideButNoBoard, AsksForNone, AsksForNoLast};
+ghost use Rattle.daa_numbers.specs.Asked.{IsLastUnder, IsRecoveryUnder, IsReported, HasLongerText};
 ghost use Rattle.daa_numbers.specs.Boards.{IsNoBoard};
 ghost use Rattle.daa_numbers.specs.Codes.{answer_of};
 ghost use Rattle.daa_numbers.specs.Numbers.{settings_by};
-ghost use Rattle.daa_numbers.specs.Refusal.{refusal_of_two, IsCodeOf, refusal_of, config_refusal, refusal_of_own};
+ghost use Rattle.daa_numbers.specs.Refusal.{refusal_of_two, IsCodeOf, refusal_of};
+ghost use Rattle.daa_numbers.specs.Refusal.{config_refusal, refusal_of_own};
 ghost use Rattle.daa_numbers.specs.States.{own_of, traffic_of, picture_of};
 
 use daa_numbers::{

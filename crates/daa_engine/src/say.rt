@@ -4,9 +4,12 @@ ghost use Rattle.std.specs.Prelude.{◌≡◌, length};
 ghost use Rattle.daa_state.specs.Picture.{aircraft_of};
 ghost use Rattle.daa_report.specs.Says.{Says};
 ghost use Rattle.daa_report.specs.Page.{PageSays};
-ghost use Rattle.daa_report.specs.Lines.{moment_line, now_line, alert_line, resolve_line, done_line};
+ghost use Rattle.daa_report.specs.Lines.{moment_line, now_line, alert_line};
+ghost use Rattle.daa_report.specs.Lines.{resolve_line, done_line};
 ghost use Rattle.daa_engine.specs.MomentText.{line_of};
-ghost use Rattle.daa_engine.specs.Inside.Written.{aircraft_text, alerts_text, bands_text, last_text, recovery_text, kind_text, kinds_text, written};
+ghost use Rattle.daa_engine.specs.Inside.Written.{aircraft_text, alerts_text, bands_text};
+ghost use Rattle.daa_engine.specs.Inside.Written.{last_text, recovery_text, kind_text};
+ghost use Rattle.daa_engine.specs.Inside.Written.{kinds_text, written};
 
 use crate::alerts::AircraftAlert;
 use crate::findings::{Finding, Findings};
@@ -272,8 +275,9 @@ fn say_parts<K: Sink>(
     findings: &Findings,
 ) -> Result<(), SinkFault>
     requires { length alerts.now ≡ length (aircraft_of picture.now) }
-    ensures { PageSays (K.taken sink.old) (K.taken sink.new) page.old page.new (K.faults sink.old)
-        (K.faults sink.new) (written config.now picture.now board.now alerts.now findings.now) result }
+    ensures { PageSays (K.taken sink.old) (K.taken sink.new) page.old page.new
+        (K.faults sink.old) (K.faults sink.new)
+        (written config.now picture.now board.now alerts.now findings.now) result }
 {
     say_head(page, sink, picture)?;
     say_traffic(page, sink, picture, alerts)?;

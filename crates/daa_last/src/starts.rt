@@ -6,7 +6,8 @@ ghost use Rattle.daa_config.specs.declared.candidate.Candidate.TheVariants.{Hold
 ghost use Rattle.daa_config.specs.Settings.{rates_of};
 ghost use Rattle.daa_state.specs.InRange.{IsOwnInRange, IsPictureInRange, IsTrafficInRange};
 ghost use Rattle.daa_legs.specs.Trunk.{AreLegsOf};
-ghost use Rattle.daa_last.specs.Inside.Starts.{AreHeldClear, IsFirstHeld, AreStarts, AreStartsBeside, AreStartsUnder};
+ghost use Rattle.daa_last.specs.Inside.Starts.{AreHeldClear, IsFirstHeld, AreStarts};
+ghost use Rattle.daa_last.specs.Inside.Starts.{AreStartsBeside, AreStartsUnder};
 
 use crate::aircraft::aircraft_at;
 use daa_config::{Config, Level};

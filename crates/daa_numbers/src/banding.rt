@@ -4,7 +4,8 @@ ghost use Rattle.std.specs.Prelude.{◌≡◌, ◌≢◌, ◌≤◌, pos, drop, 
 ghost use Rattle.daa_bands.specs.Board.{HasLevelOn, mask_levels};
 ghost use Rattle.daa_bands.specs.KindBands.{AreKindBands};
 ghost use Rattle.daa_config.specs.Candidates.{values_of};
-ghost use Rattle.daa_numbers.specs.Asked.{AreBandsUnder, HasKindButNoBoard, HasMoreValues, HasNoKind};
+ghost use Rattle.daa_numbers.specs.Asked.{AreBandsUnder, HasKindButNoBoard};
+ghost use Rattle.daa_numbers.specs.Asked.{HasMoreValues, HasNoKind};
 ghost use Rattle.daa_numbers.specs.Codes.{answer_of};
 ghost use Rattle.daa_numbers.specs.Refusal.{config_refusal};
 ghost use Rattle.daa_numbers.specs.Filled.{band_of};

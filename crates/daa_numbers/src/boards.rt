@@ -2,7 +2,8 @@
 
 ghost use Rattle.std.specs.Prelude.{◌≡◌, ◌<◌, ◌≤◌, ◌-◌, ◌^◌, true, false, length};
 ghost use Rattle.std.specs.Bool.{Decides};
-ghost use Rattle.daa_numbers.specs.Boards.{mark_of, level_at, cylinder_at, AreMasksWithin, IsMarked};
+ghost use Rattle.daa_numbers.specs.Boards.{mark_of, level_at, cylinder_at};
+ghost use Rattle.daa_numbers.specs.Boards.{AreMasksWithin, IsMarked};
 
 use crate::setting::DaaConfig;
 use daa_bands::BOARD_MASKS;

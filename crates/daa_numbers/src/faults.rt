@@ -1,7 +1,8 @@
 //! What is wrong with states.
 
 ghost use Rattle.std.specs.Prelude.{◌≡◌, pos};
-ghost use Rattle.daa_numbers.specs.Faults.{plain_fault, ranged_fault, fault_by, number_of_field, IsFaultOf};
+ghost use Rattle.daa_numbers.specs.Faults.{plain_fault, ranged_fault, fault_by};
+ghost use Rattle.daa_numbers.specs.Faults.{number_of_field, IsFaultOf};
 
 use crate::refusal::{Refusal, code};
 use crate::states::{DaaOwn, DaaTraffic, picture};

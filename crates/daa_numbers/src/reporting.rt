@@ -1,6 +1,7 @@
 //! The text of a moment.
 
-ghost use Rattle.std.specs.Prelude.{◌≡◌, ◌≢◌, ◌<◌, ◌≤◌, [], ℕ, List, pos, drop, length, take, IfSome, IfNone};
+ghost use Rattle.std.specs.Prelude.{◌≡◌, ◌≢◌, ◌<◌, ◌≤◌, [], ℕ, List, pos, drop};
+ghost use Rattle.std.specs.Prelude.{length, take, IfSome, IfNone};
 ghost use Rattle.daa_bands.specs.Board.{IsBoardOf};
 ghost use Rattle.daa_engine.specs.Covered.{CoveredAt};
 ghost use Rattle.daa_engine.specs.MomentText.{IsMomentText};

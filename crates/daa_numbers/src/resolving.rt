@@ -1,7 +1,8 @@
 //! The answer on a side of a kind.
 
 ghost use Rattle.std.specs.Prelude.{◌≡◌, ◌≢◌, pos};
-ghost use Rattle.daa_numbers.specs.Asked.{IsResolutionUnder, HasNoKind, HasNoSide, HasSideButNoBoard};
+ghost use Rattle.daa_numbers.specs.Asked.{IsResolutionUnder, HasNoKind};
+ghost use Rattle.daa_numbers.specs.Asked.{HasNoSide, HasSideButNoBoard};
 ghost use Rattle.daa_numbers.specs.Refusal.{refusal_of_own, IsCodeOf};
 ghost use Rattle.daa_numbers.specs.Filled.{resolution_by};
 ghost use Rattle.daa_numbers.specs.States.{own_of};

@@ -1,11 +1,13 @@
 //! States as C has them.
 
-ghost use Rattle.std.specs.Prelude.{◌≡◌, ◌≤◌, length, map, take, Some, None, IsTrue, IfOk, IfErr, OnOk};
+ghost use Rattle.std.specs.Prelude.{◌≡◌, ◌≤◌, length, map, take, Some, None};
+ghost use Rattle.std.specs.Prelude.{IsTrue, IfOk, IfErr, OnOk};
 ghost use Rattle.std.specs.Option.{SomeIff};
 ghost use Rattle.daa_state.specs.Id.{is_id};
 ghost use Rattle.daa_state.specs.InRange.{IsOwnInRange, IsTrafficInRange};
 ghost use Rattle.daa_numbers.specs.Asked.{IsTaken};
-ghost use Rattle.daa_numbers.specs.Refusal.{bad_id_from, own_refusal, traffic_refusal, states_refusal};
+ghost use Rattle.daa_numbers.specs.Refusal.{bad_id_from, own_refusal};
+ghost use Rattle.daa_numbers.specs.Refusal.{traffic_refusal, states_refusal};
 ghost use Rattle.daa_numbers.specs.States.{own_of, text_of, traffic_of, picture_of};
 
 use crate::refusal::Refusal;

@@ -1,6 +1,7 @@
 //! Laws of the definitions, each the contract of a function that does nothing.
 
-ghost use Rattle.std.specs.Prelude.{◌≡◌, ◌≢◌, ◌≤◌, ◌↔◌, ℕ, ℤ, pos, ◌≤ℤ◌, ◌*ℤ◌, None, unsigned_abs, false};
+ghost use Rattle.std.specs.Prelude.{◌≡◌, ◌≢◌, ◌≤◌, ◌↔◌, ℕ, ℤ, pos, ◌≤ℤ◌};
+ghost use Rattle.std.specs.Prelude.{◌*ℤ◌, None, unsigned_abs, false};
 ghost use Rattle.daa_fixed.specs.declared.Leg.{Leg};
 ghost use Rattle.daa_fixed.specs.Flat.{dot_of, square_of};
 ghost use Rattle.daa_taumod.specs.declared.Model.{Model};

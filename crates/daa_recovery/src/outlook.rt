@@ -1,6 +1,7 @@
 //! A configuration with a moment and the cylinder: which candidates recover, and when.
 
-ghost use Rattle.std.specs.Prelude.{◌≡◌, ◌↔◌, ◌<◌, ◌≤◌, ◌+◌, ℕ, int_lt, IsTrue, Some, None, length, slice_get};
+ghost use Rattle.std.specs.Prelude.{◌≡◌, ◌↔◌, ◌<◌, ◌≤◌, ◌+◌, ℕ, int_lt, IsTrue};
+ghost use Rattle.std.specs.Prelude.{Some, None, length, slice_get};
 ghost use Rattle.daa_config.specs.Candidates.{values_of, candidate_to as to_value};
 ghost use Rattle.daa_config.specs.Settings.{IsAccepted, IsCandidateInRange};
 ghost use Rattle.daa_taumod.specs.Volume.{IsVolumeInRange};
@@ -9,8 +10,10 @@ ghost use Rattle.daa_state.specs.InRange.{IsPictureInRange, IsTrafficInRange};
 ghost use Rattle.daa_state.specs.Picture.{aircraft_of};
 ghost use Rattle.daa_recovery.specs.OutlookState.{IsHorizon};
 ghost use Rattle.daa_recovery.specs.Inside.OutlookState.{IsOutlook};
-ghost use Rattle.daa_recovery.specs.Recovery.{IsClosedFrom, IsInCylinder, IsClear, Recovers, IsFound, placed};
-ghost use Rattle.daa_recovery.specs.Inside.Search.{IsCourse, IsFoundBelow, IsBeforeHorizon, bound_for, IsLeastTime};
+ghost use Rattle.daa_recovery.specs.Recovery.{IsClosedFrom, IsInCylinder, IsClear};
+ghost use Rattle.daa_recovery.specs.Recovery.{Recovers, IsFound, placed};
+ghost use Rattle.daa_recovery.specs.Inside.Search.{IsCourse, IsFoundBelow};
+ghost use Rattle.daa_recovery.specs.Inside.Search.{IsBeforeHorizon, bound_for, IsLeastTime};
 
 use crate::course::Course;
 use crate::order::place;
