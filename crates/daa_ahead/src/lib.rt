@@ -1,5 +1,4 @@
-//! Reading in pieces for a taker: in turn with the taking, or ahead of it on a
-//! thread of its own.
+//! Reads in pieces for a taker: reading and taking take turns, or a second thread reads ahead.
 #![tactic(auto)]
 
 mod ended;

@@ -16,7 +16,8 @@ pub enum Next {
     Over(Ended),
 }
 
-/// Reads into the buffer at most `most` bytes; if `most` is 0, whether there is one byte more.
+/// Reads at most `most` bytes into the buffer. If `most` is 0, it finds out whether there is one
+/// byte more.
 pub fn read_next<S: Source>(source: &mut S, buf: &mut [u8], most: u64) -> Next
     requires { 0 < length buf.old }
     ensures is { NextIs result most buf.new (stream_state (S.left source.old) (S.faults source.old))

@@ -59,7 +59,7 @@ impl Board {
         self.masks = [0; BOARD_MASKS];
     }
 
-    /// Gives the candidate at an index, which is below 2048, the levels of a mask besides its own.
+    /// Adds the levels of a mask to those of the candidate at an index, which is below 2048.
     pub fn mark(&mut self, index: u32, mask: u8)
         requires { index < board_size }
         ensures { AddsMask index mask self.old self.new }
@@ -67,8 +67,8 @@ impl Board {
         self.masks[index as usize] |= mask;
     }
 
-    /// Gives each of the twelve candidates of a group, whose indices are from 12 * group on and
-    /// below 2048, the levels that a packed word has of the candidate, besides its own.
+    /// Adds to the levels of the twelve candidates of a group what a packed word says of each of
+    /// them. Their indices begin at 12 * group, and are below 2048.
     pub fn merge_word(&mut self, group: u32, word: u64)
         requires { group_size * group + group_size ≤ board_size }
         ensures { AddsWord group word self.old self.new }
@@ -96,7 +96,7 @@ impl Board {
     }
 }
 
-/// The mask that a packed word has of the candidate at an index of its group.
+/// The mask that a packed word has for the candidate at an index of the group.
 fn mask_at(word: u64, index: u32) -> u8
     requires { index < group_size }
     ensures { result ≡ mask_in word index }

@@ -122,8 +122,8 @@ impl Config {
         self.recovery.as_ref()
     }
 
-    /// Whether a recovery names, of the values that are clear again soonest, the one nearest to the
-    /// present value, and not the least.
+    /// Which of the values that are clear again soonest a recovery names: at true the one nearest
+    /// to the present value, at false the least.
     pub fn nearest(&self) -> bool
         ensures value { result ≡ self.now.nearest }
         ensures accepted { IsAccepted self.now }
@@ -314,8 +314,8 @@ impl Config {
         self.start(Kind::Height) + self.count(Kind::Height)
     }
 
-    /// The candidate at an index of the whole list: Hold at 0, then those of track, ground speed,
-    /// vertical speed and altitude.
+    /// The candidate at an index of the whole list: Hold at 0, then the candidates of track, ground
+    /// speed, vertical speed and altitude.
     pub fn candidate(&self, index: u32) -> Candidate
         requires { index < length (candidates_of self.now) }
         ensures value { slice_get (candidates_of self.now) index ≡ Some result }

@@ -42,8 +42,8 @@ pub(crate) fn list_at<'a>(table: &'a Table, key: &str) -> Option<&'a Array>
     }
 }
 
-/// The whole number at a key, 0 where there is none: whoever reads has seen by then that only a key
-/// that may be left out is missing, and that each place holds what its row asks for.
+/// The whole number at a key, or 0 if there is none. By then `keys.rt` has found that only keys
+/// that may be left out are missing, and that each key holds what its row asks for.
 fn whole_at(table: &Table, key: &str) -> i64
     ensures { result ≡ number_at (table_view table.now) key.now }
 {
@@ -152,7 +152,7 @@ pub(crate) fn last_times_of(document: &Table) -> i64
     whole_at(document, "last_times")
 }
 
-/// The numbers of the document, those of its levels and its recovery and `last_times` apart.
+/// The numbers of the document, without its levels, its recovery and `last_times`.
 pub(crate) fn numbers_of(document: &Table) -> Numbers
     ensures { result ≡ numbers_by (number_in (table_view document.now))
         (grid_in (table_view document.now)) }

@@ -77,7 +77,7 @@ fn is_other(row: &Row, table: &Table) -> bool
     }
 }
 
-/// Whether at a key of the table stands something that may not stand there.
+/// Whether some key of the table holds something that may not stand there.
 #[tactic(auto, using(crate::proofs::KeyLemmas::any_found))]
 fn holds_other_value(rows: &[Row], table: &Table) -> bool
     ensures { result ≡ holds_other (map row_by rows.now) (table_view table.now) }

@@ -23,7 +23,7 @@ pub struct Level {
     pub alert: u32,
 }
 
-/// What a number asks for that is 0 or 1.
+/// Whether a key that is 0 or 1 asks for what it stands for.
 fn is_asked(number: i64) -> bool
     ensures { result ≡ is_set number }
 {

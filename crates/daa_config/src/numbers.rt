@@ -9,7 +9,8 @@ use crate::limits::{FULL_TURN, MOST_LEVELS, MOST_VALUES};
 use arrayvec::ArrayVec;
 
 /// The values `min`, `min + step` and so on up to `max` that a kind of candidate may go to, and by
-/// how much a second may change the present value (of altitudes in ft/min). C lays it out alike.
+/// how much a second may change the present value (of altitudes in ft/min). The layout is that of
+/// C.
 #[repr(C)]
 #[derive(Clone, Copy, Debug, PartialEq, Eq)]
 pub struct Grid {
@@ -24,9 +25,9 @@ pub struct Grid {
     pub rate: i64,
 }
 
-/// The numbers that each configuration has, those of its levels apart: the least level that closes
-/// a candidate which is covered at it, degrees per second, degrees, and the grids in 0.1 kt, ft/min
-/// and ft. C lays it out alike.
+/// The numbers that each configuration has, beside its levels: the level from which on levels close
+/// a candidate, the turn rate in degrees per second, the step of tracks in degrees, and the grids
+/// in 0.1 kt, ft/min and ft. The layout is that of C.
 #[repr(C)]
 #[derive(Clone, Copy, Debug, PartialEq, Eq)]
 pub struct Numbers {
@@ -41,8 +42,9 @@ pub struct Numbers {
     pub alt: Grid,
 }
 
-/// The numbers of a level as the text has them: 0.001 NM, ft, seconds, and which model the volume
-/// goes by: one of the last three is 1, or none where it goes by modified tau. C lays it out alike.
+/// The numbers of a level as the text has them, in 0.001 NM, ft and seconds. The last three say
+/// which model the volume goes by: one of them is 1, or none if the model is modified tau. The
+/// layout is that of C.
 #[repr(C)]
 #[derive(Clone, Copy, Debug, Default, PartialEq, Eq)]
 pub struct LevelNumbers {
@@ -66,9 +68,9 @@ pub struct LevelNumbers {
     pub tep: i64,
 }
 
-/// The cylinder that a recovery stays out of, as the text has it: 0.001 NM and ft; and which of the
-/// values that recover soonest is named: the nearest to the present one at 1, the least at 0. C
-/// lays it out alike.
+/// The cylinder that a recovery stays out of, as the text has it, in 0.001 NM and ft; and which of
+/// the values that recover soonest is named: at 1 the nearest to the present value, at 0 the least.
+/// The layout is that of C.
 #[repr(C)]
 #[derive(Clone, Copy, Debug, PartialEq, Eq)]
 pub struct RecoveryNumbers {

@@ -12,7 +12,7 @@ pub(crate) struct Motion {
     pub(crate) speed_squared: i64,
     /// `s.v`, which is below 0 where the distance falls.
     pub(crate) rate: i64,
-    /// `dthr^2 (v.v) - (s x v)^2`, which is below 0 exactly if it moves on a line that stays
+    /// `dthr^2 (v.v) - (s x v)^2`, which is below 0 exactly if the leg moves on a line that stays
     /// farther off than `dthr`.
     pub(crate) margin: i128,
     ghost speed_bound: { IsWithin 3200000000 speed_squared },

@@ -55,7 +55,7 @@ pub(crate) fn miss(leg: &Leg) -> i64
     s.east * v.north - s.north * v.east
 }
 
-/// What the line leaves of the square of `dthr`, times that of the speed.
+/// The square of `dthr` times the square of the speed, less the square of the miss.
 fn margin(dthr: u32, speed_squared: i64, miss: i64) -> i128
     requires dthr { dthr ≤ 360000 }
     requires speed { IsWithin 3200000000 speed_squared }

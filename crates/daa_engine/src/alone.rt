@@ -38,8 +38,8 @@ use daa_state::{Own, Picture};
 
 /// Decides a moment on room that the caller hands in: bit l - 1 at a candidate's index of the board
 /// is then set exactly where some aircraft of the picture meets the candidate within the lookahead
-/// of level l, and no other bit is. The room needs nothing in it: eight trunks, and a branch for
-/// each candidate of the configuration, of which there are at most 1897.
+/// of level l, and no other bit is. The room is eight trunks, and a branch for each candidate of
+/// the configuration, at most 1897; what is in it before does not matter.
 pub fn decide_in(
     config: &Config,
     picture: &Picture,
@@ -58,9 +58,9 @@ pub fn decide_in(
     fill(board, trunks, branches, needs, config, picture);
 }
 
-/// Writes the lines of a moment to the sink as `report` does, where the board of the moment was
-/// decided before: it is handed in. `SinkFault` comes only where the sink failed; then a beginning
-/// of the lines is written. The lines have at most 130176 bytes together.
+/// Writes the lines of a moment to the sink as `report` does, from a board on which the moment was
+/// decided before. `SinkFault` comes only where the sink failed; then a beginning of the lines is
+/// written. The lines have at most 130176 bytes together.
 pub fn say_moment<K: Sink>(
     config: &Config,
     picture: &Picture,
@@ -83,9 +83,9 @@ pub fn say_moment<K: Sink>(
     say(sink, config, picture, board, &alerts, &findings)
 }
 
-/// Decides a moment as `decide_in` does, on the same room, and writes its lines to the sink. There
-/// need be no engine. `SinkFault` is returned only if the sink failed; then a beginning of the
-/// lines is written. The lines have at most 130176 bytes together.
+/// Decides a moment as `decide_in` does, in room of that kind, and writes its lines to the sink. No
+/// engine is needed. `SinkFault` is returned only if the sink failed; then a beginning of the lines
+/// is written. The lines have at most 130176 bytes together.
 pub fn report_in<K: Sink>(
     config: &Config,
     picture: &Picture,

@@ -44,8 +44,8 @@ pub fn has_one_board()
         → HasLevelOn a index l → HasLevelOn b index l }
 {}
 
-/// What a board shows is what aircraft do: over a board that stands for what is covered, the bands
-/// of a kind, the answer on a side and the level of a candidate are those over what is covered.
+/// What a board shows is what aircraft do: if a board stands for what is covered, its bands, its
+/// answers and its levels are the bands, the answers and the levels of what is covered.
 pub fn boards_show_what_is_covered()
     ensures bands { (settings : Settings) (picture : Picture) (board : List ℕ) (kind : Kind)
         (bands : List Band)
@@ -68,15 +68,15 @@ pub fn boards_show_what_is_covered()
 {}
 
 /// Where a configuration asks neither for last times nor for a recovery, the text is the plain one,
-/// `IsPlainText`, which has no word of either.
+/// `IsPlainText`, which says nothing of either.
 pub fn texts_without_a_recovery_are_as_before()
     ensures { (settings : Settings) (picture : Picture) (text : Text)
         → settings.last_times ≡ false → settings.recovery ≡ None
         → IsMomentText settings picture text ↔ IsPlainText settings picture text }
 {}
 
-/// Where a configuration asks for no last times, the text is that of `IsTextWithoutLastTimes`, which
-/// has no word of them.
+/// Where a configuration asks for no last times, the text is the one of `IsTextWithoutLastTimes`,
+/// which says nothing of last times.
 pub fn texts_without_last_times_are_as_before()
     ensures { (settings : Settings) (picture : Picture) (text : Text)
         → settings.last_times ≡ false
@@ -84,8 +84,8 @@ pub fn texts_without_last_times_are_as_before()
 {}
 
 /// The text of a picture in range, whose time is a `u32`, has at most 130176 bytes: 64 for each of
-/// 2034 lines. It can have four lines more, those of last times, which fit into what shorter lines
-/// leave. So a sheet of one byte more is never full.
+/// 2034 lines. There can be four lines more, of last times: they fit, since other lines are shorter
+/// than 64 bytes. So a sheet that has room for one byte more is never full.
 pub fn texts_are_short()
     ensures { (settings : Settings) (picture : Picture) (text : Text) → IsAccepted settings
         → IsPictureInRange picture

@@ -24,10 +24,9 @@ use std::alloc::Global;
 use std::thread::Threads;
 
 /// Marks the levels at which each candidate is covered, and no others, by this number of workers.
-/// The words are room for their answers, the trunks and the branches for what the workers share.
-/// If no aircraft is in reach there is no unit, and no worker is needed.
-/// `NoMemory` says that there was no memory for the workers; then the board is
-/// unchanged.
+/// The words are room for the workers' answers, the trunks and the branches are room for what the
+/// workers share. If no aircraft is in reach there is no unit, and no worker is needed. `NoMemory`
+/// says that there was no memory for the workers; then the board is unchanged.
 pub(crate) fn fill_together<R: Threads + Sync, G: Gate>(
     rt: &R,
     alloc: Global,
@@ -63,8 +62,8 @@ pub(crate) fn fill_together<R: Threads + Sync, G: Gate>(
     Ok(())
 }
 
-/// Marks the levels at which each candidate is covered, and no others. The words are those of the
-/// scene's units, in order.
+/// Marks the levels at which each candidate is covered, and no others. The words are the answers of
+/// the scene's units, in order.
 fn merge(board: &mut Board, scene: &Scene, words: &[u64])
     requires few { length words.now ≤ most_units }
     requires words { AreWordsOf scene.now words.now }

@@ -28,7 +28,7 @@ enum Step {
     Stop(Found),
 }
 
-/// What a reading that is over says of a report of which more was wanted.
+/// What is found if reading is over while more of the report was still to come.
 fn stop_at(ended: Ended, line: u64) -> Found
     ensures { result ≡ found_at ended line }
 {
@@ -101,9 +101,9 @@ impl Matching {
         }
     }
 
-    /// Compares a text with what the source hands out. At `Alike` the source handed out the text
-    /// and nothing else; at every other answer comparing is over, and that is found of each report
-    /// that begins with what was compared before and goes on with this text.
+    /// Compares a text with what the source hands out. At `Alike` the source handed out exactly
+    /// this text. At every other answer comparing is over, and the answer is right for each report
+    /// that begins with all that was compared before and then this text.
     pub fn compare<S: Source>(&mut self, source: &mut S, text: &[u8]) -> Found
         requires room { HasRoom self.old }
         ensures compares { (most : ℕ) (first : StreamState) (before : Bytes)

@@ -3,7 +3,7 @@
 ghost use Rattle.std.specs.Prelude.{◌≡◌, ◌≢◌, ◌<◌, ◌≤◌, ◌∷◌, [], length, take, slice_index};
 ghost use Rattle.daa_judge.specs.Judged as spec;
 
-/// How many bytes at the front of a piece are those of the other.
+/// How many bytes at their fronts two pieces have in common.
 pub(crate) fn common(piece: &[u8], other: &[u8]) -> usize
     ensures within { result ≤ length piece.now }
     ensures other { result ≤ length other.now }

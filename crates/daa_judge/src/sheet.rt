@@ -64,7 +64,7 @@ impl Sheet {
         }
     }
 
-    /// Its text. A write to it has failed only where it is full.
+    /// The text on the sheet. If a write to the sheet has failed, the sheet is full.
     pub fn text(&self) -> &[u8]
         ensures value { result.now ≡ self.now.text }
         ensures sheet { IsSheet self.now }
@@ -72,7 +72,7 @@ impl Sheet {
         &self.space[..self.used]
     }
 
-    /// Takes back all but its first bytes, and forgets the writes that failed.
+    /// Keeps so many bytes of the text, takes back the others, and forgets the writes that failed.
     pub fn cut(&mut self, len: usize)
         requires { len ≤ length self.old.text }
         ensures { self.new ≡ record self.old { text = take len self.old.text; faults = 0 } }
@@ -81,7 +81,7 @@ impl Sheet {
         self.faults = 0;
     }
 
-    /// Empties it.
+    /// Takes back the whole text, and forgets the writes that failed.
     pub fn clear(&mut self)
         ensures { self.new ≡ record self.old { text = []; faults = 0 } }
     {

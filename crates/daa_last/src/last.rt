@@ -10,11 +10,12 @@ use daa_legs::Trunk;
 use daa_recovery::horizon_of;
 use daa_state::Picture;
 
-/// The greatest number of seconds, at most 179 and below the greatest lookahead of the levels from
-/// `resolve` up, for which the present flight may be kept such that some candidate of the kind that
-/// begins then is open: no aircraft violates such a level at any time of any leg before the level's
-/// lookahead. A later start may be open where an earlier one is not. None exactly if no candidate
-/// of the kind is open at any such number.
+/// The last time of a kind: the greatest number of seconds for which the present flight may be kept
+/// such that some candidate of the kind that begins then is open. It is open if no aircraft
+/// violates a level from `resolve` up at any time of any leg before that level's lookahead. The
+/// number is at most 179, and below the greatest lookahead of these levels. A later start may be
+/// open where an earlier one is not. `None` exactly if no candidate of the kind is open at any such
+/// number.
 pub fn last_of(config: &Config, picture: &Picture, kind: Kind) -> Option<u32>
     requires { IsPictureInRange picture.now }
     ensures { IsLastTime config.now picture.now kind result }

@@ -16,14 +16,14 @@ ghost use Rattle.daa_legs.specs.OwnLeg.{own_leg, place_on};
 ghost use Rattle.daa_last.specs.Delayed.{height_since, leg_delayed, place_delayed};
 ghost use Rattle.daa_last.specs.Last.{IsOpenDelayed, IsLastTime};
 
-/// Delayed by 0 seconds a flight is the candidate's.
+/// A flight that is delayed by 0 seconds is the candidate's flight.
 pub fn delayed_by_0_is_the_candidate()
     ensures { (own : Own) (rates : Rates) (candidate : Candidate) (k : ℕ) →
         leg_delayed own rates 0 candidate k ≡ own_leg own rates candidate k }
 {}
 
-/// Before it begins, a delayed flight is the present one; it begins where that is then, at the
-/// present altitude and the seconds times the vertical speed.
+/// Before it begins, a delayed flight is the present one; it begins where the present flight is
+/// then, above the present altitude by the seconds times the vertical speed.
 pub fn held_before_it_begins()
     ensures legs { (own : Own) (rates : Rates) (m : ℕ) (candidate : Candidate) (k : ℕ) → k < m →
         leg_delayed own rates m candidate k ≡ own_leg own rates Candidate.Hold k }

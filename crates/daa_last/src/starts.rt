@@ -16,8 +16,8 @@ use daa_legs::{Trunk, relative};
 use daa_state::{Own, Picture, Traffic};
 use daa_taumod::Volume;
 
-/// How many delays from 0 on, at most `horizon`, are worth a try: before each of them the present
-/// flight, whose legs are `held`, is clear, and before each further one it is not.
+/// How many delays from 0 on, at most `horizon`, are worth a try: the present flight, whose legs
+/// are `held`, is clear up to each of them, and not up to any further one.
 pub(crate) fn starts_of(config: &Config, picture: &Picture, held: &Trunk, horizon: u32) -> u32
     requires picture { IsPictureInRange picture.now }
     requires horizon { horizon ≤ 180 }
@@ -37,7 +37,7 @@ pub(crate) fn starts_of(config: &Config, picture: &Picture, held: &Trunk, horizo
     starts
 }
 
-/// The same of one aircraft alone.
+/// How many delays, at most `most`, are worth a try beside one aircraft alone.
 fn starts_beside(config: &Config, own: &Own, held: &Trunk, aircraft: &Traffic, most: u32) -> u32
     requires own { IsOwnInRange own.now }
     requires most { most ≤ 180 }
@@ -52,7 +52,7 @@ fn starts_beside(config: &Config, own: &Own, held: &Trunk, aircraft: &Traffic, m
     starts
 }
 
-/// The same of one level alone.
+/// How many delays, at most `most`, are worth a try beside one aircraft at one level alone.
 fn starts_under(
     config: &Config,
     own: &Own,

@@ -10,8 +10,8 @@ ghost use Rattle.daa_lines.specs.Feeding.{bytes_taken};
 
 use crate::lines::Stage;
 
-/// Joined again with line feeds, the stretches are the bytes, and no line feed is in them. Bytes
-/// have no other stretches of which this holds.
+/// The stretches of some bytes, joined with line feeds, are the bytes again, and no stretch has a
+/// line feed in it. Only the stretches of the bytes are so.
 pub fn stretches_are_the_bytes()
     ensures joined { (bytes : Bytes) → join_with_byte line_feed (stretches_of bytes) ≡ bytes }
     ensures without_feeds { (bytes : Bytes) → All HasNoFeed (stretches_of bytes) }
@@ -37,7 +37,7 @@ pub fn pieces_do_not_matter()
         → taken ++ standing lines.stage lines.line ≡ taken' ++ standing lines'.stage lines'.line }
 {}
 
-/// The lines of some bytes, and how many bytes of a piece are taken after some others.
+/// Examples: the lines of some bytes, and how many bytes of a piece are taken after other bytes.
 pub fn worked_examples()
     ensures kept_return { lines_of (codes "a\r\n\nb") false ≡ codes "a\r" ∷ [] ∷ [] }
     ensures rest_at_end { lines_of (codes "a\n\nb") true ≡ codes "a" ∷ [] ∷ codes "b" ∷ [] }

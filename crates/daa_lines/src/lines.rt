@@ -182,10 +182,10 @@ impl Lines {
         matches!(self.stage, Stage::Whole | Stage::Long)
     }
 
-    /// Takes the first bytes of the piece, and returns how many: those up to and with the next line
-    /// feed, but of a line no more than its first 256, and none while a line is ready that is not
-    /// taken yet. The rest of a long line is taken up to and with its line feed. `end` must not
-    /// have been called, and fewer than 2^63 bytes be fed in all.
+    /// Takes bytes from the front of the piece, and returns how many: up to and with the next line
+    /// feed, but no more than the first 256 bytes of a line, and none while a ready line is not
+    /// taken yet. Once a long line is taken, the rest of it is passed over, up to and with its line
+    /// feed. `end` must not have been called before, and fewer than 2^63 bytes may be fed in all.
     #[tactic(auto, unfolding(crate::specs::Inside::Pushing::after_byte))]
     pub fn feed(&mut self, piece: &[u8]) -> usize
         requires going { self.old.ended ≡ false }
@@ -269,8 +269,8 @@ impl Lines {
         self.ended = true;
     }
 
-    /// The input is over: a rest that is not empty becomes a whole line. What is left of a long
-    /// line that was taken becomes none, and a second call changes nothing.
+    /// The input is over: a rest that is not empty becomes a whole line. The rest of a long line
+    /// that was taken is no line, and a second call changes nothing.
     pub fn end(&mut self)
         ensures value { self.new ≡ after_end self.old }
         ensures kept { (bytes : List ℕ) (taken : List (List ℕ)) → ComesFrom bytes taken self.old

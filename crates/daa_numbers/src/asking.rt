@@ -1,4 +1,4 @@
-//! What several calls are asked on: a configuration that is accepted, and states that are taken.
+//! What several calls begin with: a configuration that is accepted, and states that are taken.
 
 ghost use Rattle.std.specs.Prelude.{◌≡◌, IfOk, IfErr};
 ghost use Rattle.daa_numbers.specs.Codes.{kind_number};

@@ -154,7 +154,7 @@ fn level_bits(levels: u32) -> u8
     }
 }
 
-/// Whether the masks of so many candidates have none but these bits, and the others none.
+/// Whether the masks of so many candidates have no bits but these, and all further masks are 0.
 fn are_within(masks: &[u8; BOARD_MASKS], candidates: u32, bits: u8) -> bool
     ensures yes { result ≡ true → AreMasksWithin candidates bits masks.now }
     ensures no { result ≡ false → AreMasksWithin candidates bits masks.now → ⊥ }

@@ -96,8 +96,8 @@ pub(crate) fn checked_own(own: &DaaOwn) -> Result<Own, Refusal>
     }
 }
 
-/// The aircraft of these numbers, where they are in range and its identifier is allowed, which is
-/// looked at first.
+/// The aircraft of these numbers, if its identifier is allowed, which is looked at first, and they
+/// are in range.
 pub(crate) fn checked_traffic(traffic: &DaaTraffic) -> Result<Traffic, Refusal>
     ensures value { IfOk result (λ t. t ≡ traffic_of traffic.now) }
     ensures range { IfOk result IsTrafficInRange }
@@ -114,7 +114,7 @@ pub(crate) fn checked_traffic(traffic: &DaaTraffic) -> Result<Traffic, Refusal>
 }
 
 /// The aircraft of these numbers, where their identifiers are allowed; else the place of the first
-/// whose is not.
+/// one whose identifier is not.
 fn all_aircraft(traffic: &[DaaTraffic]) -> Result<ArrayVec<Traffic, MOST_AIRCRAFT>, usize>
     requires { length traffic.now ≤ 64 }
     ensures value { IfOk result (λ all. all.items ≡ map traffic_of traffic.now) }
@@ -131,8 +131,8 @@ fn all_aircraft(traffic: &[DaaTraffic]) -> Result<ArrayVec<Traffic, MOST_AIRCRAF
     Ok(all)
 }
 
-/// The picture of these numbers, where the engine takes it. Else the first of: too many aircraft,
-/// an identifier that is not allowed, and why the states are no picture.
+/// The picture of these numbers, if the engine takes it. Else the first of these causes: too many
+/// aircraft, an identifier that is not allowed, why the states are no picture.
 pub(crate) fn picture(time: u32, own: &DaaOwn, traffic: &[DaaTraffic]) -> Result<Picture, Refusal>
     ensures value { IfOk result (λ p. p ≡ picture_of time own.now traffic.now) }
     ensures taken { IfOk result IsTaken }

@@ -5,8 +5,8 @@ ghost use Rattle.daa_outside.specs.Faults.{one_more};
 
 use crate::faults::{Failed, count_up};
 
-/// How many calls were made of an object, numbered from 0, and how many of them failed: each whose
-/// number is in `fails` does.
+/// How many calls an object got, and how many of them failed. Calls are numbered from 0, and a call
+/// fails if its number is in `fails`.
 #[derive(Drop)]
 pub(crate) struct CallCounts {
     pub(crate) fails: Vec<u64>,

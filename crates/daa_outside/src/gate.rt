@@ -3,8 +3,8 @@
 /// A gate may hold a worker for a while. Several workers may use it at once. A call promises only
 /// that it returns.
 pub trait Gate: Sync {
-    /// The worker, from 0, is about to answer the unit, from 0. Of several moments that are decided
-    /// side by side each is one unit, whose number is its place among them.
+    /// The worker is about to answer the unit; both are numbered from 0. Where several moments are
+    /// decided side by side, each of them is one unit, and its number is its place among them.
     fn pass(&self, worker: u32, unit: u32);
 }
 

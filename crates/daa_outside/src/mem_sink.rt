@@ -37,9 +37,9 @@ impl Model for MemSink {
 }
 
 impl MemSink {
-    /// A sink that takes as many bytes as `room` has, and overwrites them. Call i takes at
-    /// most `pieces[i]` bytes, where 0 counts as 1, and past the end of `pieces` there is no bound.
-    /// The calls in `fails` fail, and each call once the vector is full, also that of an empty
+    /// A sink that takes as many bytes as `room` has, and overwrites them. Call i takes at most
+    /// `pieces[i]` bytes, where 0 counts as 1, and past the end of `pieces` there is no bound. The
+    /// calls in `fails` fail, and so does each call once the vector is full, also one with an empty
     /// piece. Calls are numbered from 0.
     pub fn over(room: Vec<u8>, pieces: Vec<usize>, fails: Vec<u64>) -> Self
         ensures { result ≡ record {

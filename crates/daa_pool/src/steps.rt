@@ -31,8 +31,8 @@ impl Pool {
             .load::<LookHome>(&mut seat.seat, seat.number as usize)
     }
 
-    /// Exchanges the own range, as it was last seen, for all but its first unit. It answers what it
-    /// found, which is that range where the unit is claimed.
+    /// Exchanges the own range, if it is still as it was last seen, for all but its first unit.
+    /// Returns what it found: the first unit is claimed exactly if that is the range last seen.
     pub(crate) fn try_claim(&self, seat: &mut Seat, own: Range) -> u64
         requires pool { IsSeatOf self.now seat.old }
         requires free { IsFree (view seat.old) }
@@ -65,8 +65,8 @@ impl Pool {
             .load::<LookAway>(&mut seat.seat, other as usize)
     }
 
-    /// Exchanges another range, as it was last seen, for its lower half. It answers what it found,
-    /// which is that range where the upper half is stolen.
+    /// Exchanges another range, if it is still as it was last seen, for its lower half. Returns
+    /// what it found: the upper half is stolen exactly if that is the range last seen.
     pub(crate) fn try_steal(&self, seat: &mut Seat, other: u32, range: Range) -> u64
         requires pool { IsSeatOf self.now seat.old }
         requires free { IsFree (view seat.old) × (range_len (view seat.old).bound ≡ 0) }

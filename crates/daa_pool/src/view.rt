@@ -32,7 +32,7 @@ pub struct View {
     pub workers: u64,
     /// The answers of its pool, in order of units.
     pub answers: LinkedList<u64>,
-    /// The own range begins where this one begins, and ends where this one ends or before.
+    /// The own range begins where this range begins, and ends no later.
     pub bound: Range,
     /// The units in the hand.
     pub hand: Range,

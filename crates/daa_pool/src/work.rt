@@ -11,7 +11,7 @@ use daa_outside::Gate;
 use daa_schedule::Answers;
 
 impl Pool {
-    /// Puts the answer of the unit on the board, whose piece this seat holds. The word is that
+    /// Puts the answer of a unit on the board. The seat holds the unit's piece, and the word is the
     /// answer.
     pub fn settle(&self, seat: &mut Seat, piece: Piece, word: u64)
         requires pool { IsSeatOf self.now seat.old }
@@ -33,8 +33,8 @@ impl Pool {
         seat.over
     }
 
-    /// Claims, passes the gate, answers and settles until a claim finds nothing; the seat is over
-    /// then. The answers are those that the pool was opened for.
+    /// Claims, passes the gate, answers and settles until a claim finds nothing; then the seat is
+    /// over. The answers must be the ones that the pool was opened for.
     pub fn work<A: Answers, G: Gate>(&self, seat: &mut Seat, answers: &A, gate: &G)
         requires ready { IsReady self.now seat.old (A.answers answers.now) }
         ensures done { IsDone self.now seat.new }

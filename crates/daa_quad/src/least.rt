@@ -8,9 +8,9 @@ ghost use Rattle.daa_quad.specs.Inside.Slope.{slope_of};
 use crate::{Quad, Sign, sign_at};
 use daa_fixed::Point;
 
-/// A time of least value from `from` to `upto`; if there are several, which one is left open. If
-/// the vertex `-b/2a` lies between the two, it must be a point in range; a vertex that does not is
-/// never made into a point. A call for other programs: `daidalus` does not make it.
+/// A time from `from` to `upto` at which the value is least; if there are several, any of them. A
+/// vertex `-b/2a` that lies between the two times must be a point in range; another one is never
+/// made into a point. A call for other programs: `daidalus` does not make it.
 pub fn least_point(q: &Quad, from: &Point, upto: &Point) -> Point
     requires in_order { IsInOrder from.now upto.now }
     requires vertex { HasVertexInRange q.now from.now upto.now }
@@ -26,9 +26,9 @@ pub fn least_point(q: &Quad, from: &Point, upto: &Point) -> Point
     vertex(q)
 }
 
-/// A time from `from` to `upto` at which the value is at most 0, and `None` exactly if it is
-/// above 0 at every fraction between them. The conditions are those of `least_point`. A call for
-/// other programs: `daidalus` does not make it.
+/// A time from `from` to `upto` at which the value is at most 0, and `None` exactly if it is above
+/// 0 at every fraction between them. It asks what `least_point` asks. A call for other programs:
+/// `daidalus` does not make it.
 pub fn dips(q: &Quad, from: &Point, upto: &Point) -> Option<Point>
     requires in_order { IsInOrder from.now upto.now }
     requires vertex { HasVertexInRange q.now from.now upto.now }

@@ -79,8 +79,8 @@ impl<'a> Outlook<'a> {
         }
     }
 
-    /// The least time after which a candidate of the kind recovers, and of the values that do then
-    /// the one that comes first.
+    /// The least time after which a candidate of the kind recovers, and the first of the values
+    /// that recover then, in the order that the configuration asks for.
     pub(crate) fn least(&self, kind: Kind) -> Option<Recovery>
         ensures { IsFound self.now kind result }
     {
@@ -106,8 +106,9 @@ impl<'a> Outlook<'a> {
         }
     }
 
-    /// The time that a value has to be below: that of the best so far, or one more if the value
-    /// comes before it.
+    /// A value is better than the best so far if it recovers before this time: the time of the
+    /// best, or one second more if the value comes before the best; the horizon if none was found
+    /// so far.
     fn bound(&self, kind: Kind, found: &Option<Recovery>, value: &i32) -> u32
         requires { IsBeforeHorizon self.now found.now }
         ensures { result ≡ bound_for self.now kind found.now value.now }

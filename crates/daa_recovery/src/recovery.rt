@@ -16,10 +16,11 @@ pub struct Recovery {
     pub value: i32,
 }
 
-/// The least number of seconds after which some candidate of the kind recovers, with one such value:
-/// the least, or with `nearest = 1` the nearest to the present value, on track by the angle of its
-/// turn, and of two at the same distance the right or the greater one. None exactly if none
-/// recovers. The configuration must have a table of recovery.
+/// The least number of seconds after which some candidate of the kind recovers, and one of the
+/// values that recover then: the least, or with `nearest = 1` the nearest to the present value, and
+/// of two equally near ones the one to the right or the greater. How near a track is goes by the
+/// angle of the turn. `None` exactly if no candidate of the kind recovers. The configuration must
+/// have a table of recovery.
 pub fn least(config: &Config, picture: &Picture, kind: Kind) -> Option<Recovery>
     requires asked { config.now.recovery ≢ None }
     requires picture { IsPictureInRange picture.now }

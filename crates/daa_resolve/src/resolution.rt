@@ -14,11 +14,11 @@ use daa_config::{Config, Kind, Resolution};
 use daa_state::Own;
 
 /// The answer on a side of a kind: `Keep` if the present flight is open, else the value of the
-/// nearest open candidate on that side, or `Nothing` if there is none. On track, right has
-/// the candidates that are 1 to 180 degrees to the right and left those 0 to 179 degrees to the
-/// left; on the other kinds up has the values greater than the present one and down the others, so
-/// a candidate with the present value itself is on the side left or down. Source: the DAIDALUS
-/// reference manual, on resolutions relative to a corrective level.
+/// nearest open candidate on that side, or `Nothing` if there is none. A track is on the right if
+/// it is 1 to 180 degrees to the right, and on the left if it is 0 to 179 degrees to the left. On
+/// the other kinds a value is up if it is greater than the present one, and else down. So a
+/// candidate with the present value itself is left or down. Source: the DAIDALUS reference manual,
+/// on resolutions relative to a corrective level.
 pub fn nearest(board: &Board, config: &Config, own: &Own, kind: Kind, side: Side) -> Resolution
     ensures { IsResolution (HasLevelOn board.now) config.now own.now kind side result }
 {
@@ -43,7 +43,8 @@ fn best_index(board: &Board, config: &Config, own: &Own, kind: Kind, side: Side)
     best
 }
 
-/// The nearer of the nearest so far and the next value, if that is open and on the side.
+/// The index of the nearest value so far, or the next index if its value is open, on the side and
+/// nearer.
 fn better_index(
     board: &Board,
     config: &Config,

@@ -31,7 +31,7 @@ pub fn present(own: &Own, kind: Kind) -> i32
     }
 }
 
-/// By how much a value is on from the present one, going up or down.
+/// How far it is from the present value to a value, going up or down: below 0 the other way.
 fn way(side: Side, now: &i32, value: &i32) -> i64
     ensures { result ≡ way_of side now.now value.now }
 {
@@ -41,7 +41,7 @@ fn way(side: Side, now: &i32, value: &i32) -> i64
     }
 }
 
-/// The angle from 0 to 359 degrees that is turned to go some degrees round.
+/// A number of degrees, which may be below 0, as an angle of turning from 0 to 359.
 fn angle(degrees: &i64) -> i64
     ensures { result ≡ int_rem_euclid degrees.now (pos full_turn) }
 {
@@ -61,7 +61,7 @@ pub(crate) fn distance(kind: Kind, side: Side, now: &i32, value: &i32) -> i64
     }
 }
 
-/// Whether an angle of turning to a side is one of that side's.
+/// Whether a track that is reached by turning this angle to a side counts to that side.
 fn is_turn(side: Side, angle: &i64) -> bool
     ensures { IsTrue result ↔ IsTurn side angle.now }
 {

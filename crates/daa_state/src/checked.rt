@@ -234,8 +234,9 @@ fn is_among(traffic: &[Traffic], id: &Id) -> bool
     traffic.iter().any(|aircraft| aircraft.id == *id)
 }
 
-/// Whether the aircraft at a place is in range, and none before it has its identifier; else the
-/// first number that is out of its range, or that one has.
+/// Whether the aircraft at a place is in range, and no aircraft before it has its identifier. The
+/// fault is the first number that is out of its range, or else that an earlier one has the
+/// identifier.
 fn test_aircraft(traffic: &[Traffic], place: usize) -> Result<(), PictureFault>
     requires { place < length traffic.now }
     ensures taken { OnOk result ((t : Traffic) → slice_get traffic.now place ≡ Some t
@@ -259,10 +260,11 @@ fn test_aircraft(traffic: &[Traffic], place: usize) -> Result<(), PictureFault>
 }
 
 impl Picture {
-    /// The picture of this time in seconds, this ownship and these aircraft, where each of their
+    /// The picture of this time in seconds, this ownship and these aircraft, if each of their
     /// numbers is in its range and there are at most 64 aircraft of different identifiers; else why
-    /// it is none. Of several faults it is the first: too many aircraft, then the ownship's first
-    /// number, then the aircraft by their places, of each its first number before its identifier.
+    /// there is none. Of several faults it is the first: too many aircraft, then the ownship's
+    /// first number, then the aircraft by their places, of each its first number before its
+    /// identifier.
     pub fn check(time: u32, own: Own, traffic: &[Traffic]) -> Result<Picture, PictureFault>
         ensures time { IfOk result (λ picture. picture.time ≡ time) }
         ensures own { IfOk result (λ picture. picture.own ≡ own) }

@@ -120,7 +120,7 @@ impl Moments {
         }
     }
 
-    /// The format, 1 or 2, of the lines that come.
+    /// The format, 1 or 2, of the lines that follow.
     pub fn format(&self) -> u32
         ensures value { result ≡ self.now.format }
         ensures range { IsFormat result }

@@ -29,7 +29,7 @@ fn is_near(leg: &Leg, volume: &Volume, point: &Point) -> bool
     square(&place_then(leg, point)) <= scaled_square(volume.dthr, point)
 }
 
-/// Whether it comes within `dthr`, and soon.
+/// Whether the distance falls and the aircraft comes within `dthr`, soon.
 fn is_closing(leg: &Leg, volume: &Volume, point: &Point) -> bool
     requires leg { IsLegInRange leg.now }
     requires volume { IsVolumeInRange volume.now }

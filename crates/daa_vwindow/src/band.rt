@@ -66,7 +66,7 @@ pub(crate) fn passage(
     }
 }
 
-/// The first time at which it is at most `low` below, times its speed.
+/// The first time at which what rises is at most `low` below, times its speed.
 fn first_within(height: i64, low: i64) -> i64
     requires height { IsWithin 40000000 height }
     requires low { IsWithin 40000000 low }
@@ -75,7 +75,7 @@ fn first_within(height: i64, low: i64) -> i64
     (-low - height).max(0)
 }
 
-/// The last time at which it is at most `high` above, times its speed.
+/// The last time at which what rises is at most `high` above, times its speed.
 fn last_within(height: i64, speed: i64, high: i64, secs: u32) -> i64
     requires secs { secs ≤ 180 }
     requires rises { pos 1 ≤ℤ speed }

@@ -5,10 +5,10 @@ ghost use Rattle.daa_words.specs.Laws.{EachTakenOrders, EachOrderIsTaken};
 ghost use Rattle.daa_words.specs.Order.{order_of};
 ghost use Rattle.daa_words.specs.Task as task;
 
-/// Words are taken exactly if clap's own definition finds no fault in them: then there is an
-/// order, for the subcommand, with the text at `--config` and with the numbers that clap reads in
-/// the words, each in its range, and with 4 workers if the words give no `--workers`. No other
-/// words give one.
+/// Words are taken exactly if clap's own definition finds no fault in them: then there is an order,
+/// for the subcommand, with the text at `--config` and with the numbers that clap reads in the
+/// words, each in its range, and with 4 workers if the words give no `--workers`. No other words
+/// give an order.
 pub fn taken_words_give_an_order()
     ensures order { EachTakenOrders }
     ensures only { EachOrderIsTaken }

@@ -50,11 +50,11 @@ fn order_in<'a>(matches: &ArgMatches<'a>) -> Option<Order<'a>>
 /// What the words of a command line ask for, the program's name first. An empty list of words asks
 /// for nothing.
 ///
-/// The fault is `NotTaken` only if the command line does not take the words: clap's own
-/// definition finds a fault in them. A request for help or for a version is such a case. It is
-/// `NoMemory` if memory ran out. The numbers of an order are those at its options, and in their
-/// ranges: 1 to 16 workers, of a replay 0 to 1024 pieces that are read ahead, and of an exercise
-/// any `u32` as its seed and 1 to 10000 moments.
+/// The fault is `NotTaken` only if the command line does not take the words: clap's own definition
+/// finds a fault in them. A request for help or for a version is such a case. The fault is
+/// `NoMemory` if memory ran out. The numbers of an order are the ones at the options, and are in
+/// their ranges: 1 to 16 workers, of a replay 0 to 1024 pieces that are read ahead, and of an
+/// exercise any `u32` as its seed and 1 to 10000 moments.
 #[tactic(auto, unfolding(crate::specs::Order::order_of), using(crate::proofs::WordsLemmas::no_order))]
 pub fn read_words<'a>(alloc: Global, words: &'a [String]) -> Result<Order<'a>, WordsFault>
     ensures taken { IfOk result
