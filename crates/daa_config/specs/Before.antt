@@ -39,10 +39,11 @@ rows_to_recovery n last_times = take 8 (document_rows n last_times)
 abbrev pub document_numbers : Members → Numbers
 document_numbers document = numbers_by (number_in document) (grid_in document)
 
--- all rows of a document, and those up to `recovery`
+-- all rows of a document
 abbrev pub all_of : Members → List Row
 all_of document = document_rows (document_numbers document) (number_in document "last_times")
 
+-- the rows of a document up to `recovery`
 abbrev pub all_before : Members → List Row
 all_before document = rows_to_recovery (document_numbers document) (number_in document "last_times")
 

@@ -22,28 +22,28 @@ levels_in ms = option_map_or (λ ds. filter_map as_table (list_of ds)) (option_a
 
 -- ---- the numbers, each from its key
 
--- the whole number at a key, 0 where there is none: whoever reads has seen that no table differs from its rows, so only a key
+-- the whole number at a key, or 0 if there is none. No table differs from its rows by then, so only a key
 -- that may be left out can be missing
 abbrev pub number_in : Members → String → ℤ
 number_in ms key = option_map_or (λ z. z) (option_and_then as_integer (get_member (codes key) ms)) (pos 0)
 
--- of a kind's table
+-- the numbers of a kind's table
 abbrev pub grid_by : (String → ℤ) → Grid
 grid_by at = record { min = at "min"; max = at "max"; step = at "step"; rate = at "rate" }
 
--- of the kind whose table stands at a key
+-- the numbers of the kind whose table stands at a key
 abbrev pub grid_in : Members → String → Grid
 grid_in ms key = grid_by (number_in (option_map_or (λ t. t) (table_in ms key) no_members))
 
--- of a level's table
+-- the numbers of a level's table
 abbrev pub level_by : (String → ℤ) → LevelNumbers
 level_by at = record { dthr = at "dthr"; zthr = at "zthr"; tthr = at "tthr"; tcoa = at "tcoa"; lookahead = at "lookahead"; alert = at "alert"; tcpa = at "tcpa"; tau = at "tau"; tep = at "tep" }
 
--- of the recovery's table
+-- the numbers of the recovery's table
 abbrev pub recovery_by : (String → ℤ) → RecoveryNumbers
 recovery_by at = record { hdist = at "hdist"; vdist = at "vdist"; nearest = at "nearest" }
 
--- of the document, those of its levels and its recovery and `last_times` apart
+-- the numbers of the document, without its levels, its recovery and `last_times`
 abbrev pub numbers_by : (String → ℤ) → (String → Grid) → Numbers
 numbers_by at grid = record { resolve = at "resolve"; turn_rate = at "turn_rate"; track_step = at "track_step"; gs = grid "gs"; vs = grid "vs"; alt = grid "alt" }
 

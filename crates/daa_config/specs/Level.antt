@@ -7,7 +7,7 @@ use Rattle.daa_config.specs.declared.level.Level.{Level}
 use Rattle.daa_config.specs.declared.numbers.LevelNumbers.{LevelNumbers}
 use Rattle.daa_config.specs.declared.numbers.RecoveryNumbers.{RecoveryNumbers}
 
--- what a number asks for that is 0 or 1
+-- whether a key that is 0 or 1 asks for what it stands for
 abbrev pub is_set : ℤ → Bool
 is_set (pos zero) = false
 is_set _ = true

@@ -45,7 +45,7 @@ are_tables d = option_map_or (λ ds. list_all (λ one. is_some (as_table one)) (
 
 -- ---- the rows
 
--- of the document; `last_times` is 1 where last times are asked for
+-- the rows of the document; `last_times` is 1 where last times are asked for
 abbrev pub document_rows : Numbers → ℤ → List Row
 document_rows n last_times =
     number "resolve" (pos 1) (pos 4) n.resolve
@@ -58,7 +58,7 @@ document_rows n last_times =
     ∷ record (table "recovery") { needed = false }
     ∷ optional "last_times" (pos 1) last_times ∷ []
 
--- of the table of a kind whose values are within these bounds: `max` is from `min` on, and a step is at most the way between the bounds
+-- the rows of the table of a kind whose values are within these bounds: `max` is from `min` on, and a step is at most the way between the bounds
 abbrev pub grid_rows : Bounds → Grid → List Row
 grid_rows values g =
     number "min" values.low values.high g.min
@@ -66,7 +66,7 @@ grid_rows values g =
     ∷ number "step" (pos 1) (values.high -ℤ values.low) g.step
     ∷ number "rate" (pos 1) (pos 10000) g.rate ∷ []
 
--- of a level's table: 0.001 NM, ft, and seconds; `tcpa` is 1 where the time to the closest approach counts, `tau` where tau does,
+-- the rows of a level's table: 0.001 NM, ft, and seconds; `tcpa` is 1 where the time to the closest approach counts, `tau` where tau does,
 -- `tep` where the time until the distance is `dthr` does
 abbrev pub level_rows : LevelNumbers → List Row
 level_rows l =
@@ -80,7 +80,7 @@ level_rows l =
     ∷ optional "tau" (pos 1) l.tau
     ∷ optional "tep" (pos 1) l.tep ∷ []
 
--- of the table of a recovery's cylinder: 0.001 NM and ft; `nearest` is 1 where the value nearest to the present one is named
+-- the rows of the table of a recovery's cylinder: 0.001 NM and ft; `nearest` is 1 where the value nearest to the present one is named
 abbrev pub recovery_rows : RecoveryNumbers → List Row
 recovery_rows r =
     number "hdist" (pos 1) (pos 10000) r.hdist
@@ -98,6 +98,6 @@ has_other_key rows (member key d ms) = not (list_any (λ row. bytes_eq row.key k
 abbrev pub lacks_key : List Row → Members → Bool
 lacks_key rows ms = list_any (λ row. row.needed && is_none (get_member row.key ms)) rows
 
--- at a key stands something that may not stand there
+-- some key holds something that may not stand there
 abbrev pub holds_other : List Row → Members → Bool
 holds_other rows ms = list_any (λ row. option_map_or (λ d. not (row.holds d)) (get_member row.key ms) false) rows

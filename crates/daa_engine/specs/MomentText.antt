@@ -78,7 +78,7 @@ module _ (settings : Settings) (picture : Picture) where
   abbrev pub IsLastLine : Kind → Text → Type 0
   IsLastLine kind text = (found : Option ℕ) × IsLastTime settings picture kind found × (text ≡ last_line kind found)
 
-  -- that line where the kind, with this answer, has one; else no text
+  -- the line of a kind's last time, if the kind, with this answer, has one; else no text
   pub record IsLastText (kind : Kind) (answer : Resolution) (text : Text) : Type 0 where
     pub line : IsTrue (wants_last settings answer) → IsLastLine kind text
     pub none : wants_last settings answer ≡ false → text ≡ []
@@ -87,12 +87,12 @@ module _ (settings : Settings) (picture : Picture) where
   abbrev pub IsRecoveryLine : Kind → Text → Type 0
   IsRecoveryLine kind text = (found : Option Recovery) × IsRecovery settings picture kind found × (text ≡ recover_line kind (option_map found_of found))
 
-  -- that line where the kind, with these answers, has one; else no text
+  -- the line of a kind's recovery, if the kind, with these answers, has one; else no text
   pub record IsRecoveryText (kind : Kind) (lower upper : Resolution) (text : Text) : Type 0 where
     pub line : IsTrue (wants_recovery settings lower upper) → IsRecoveryLine kind text
     pub none : wants_recovery settings lower upper ≡ false → text ≡ []
 
-  -- the text of the moment: its first line, those of the aircraft in the order of the input, the bands of each kind, the
+  -- the text of the moment: its first line, the lines of the aircraft in the order of the input, the bands of each kind, the
   -- answers of each kind, the last times of the kinds if the present flight may not be kept, the recoveries of the kinds whose two
   -- answers are nothing, and its last line
   pub record IsMomentText (text : Text) : Type 0 where

@@ -10,7 +10,7 @@ use Rattle.daa_bands.specs.Parts.{SplitsByEach}
 use Rattle.daa_report.specs.Lines.{Text, moment_line, resolve_line, done_line}
 use Rattle.daa_engine.specs.MomentText.{of_each, AreAircraftLines, AreBandLines, AreResolutions, IsRecoveryText}
 
--- its first line, those of the aircraft in the order of the input, the bands and then the answers of each kind, the recoveries of the
+-- its first line, the lines of the aircraft in the order of the input, the bands and then the answers of each kind, the recoveries of the
 -- kinds whose two answers are nothing, and its last line
 pub record IsTextWithoutLastTimes (settings : Settings) (picture : Picture) (text : Text) : Type 0 where
   pub alerts : Text
@@ -25,7 +25,7 @@ pub record IsTextWithoutLastTimes (settings : Settings) (picture : Picture) (tex
   pub text_is : text ≡ moment_line picture.time
       ++ (alerts ++ (of_each bands ++ (of_each (λ kind. resolve_line kind (lower kind) (upper kind)) ++ (of_each recoveries ++ done_line picture.time))))
 
--- its first line, those of the aircraft in the order of the input, the bands and then the answers of each kind, and its last line
+-- its first line, the lines of the aircraft in the order of the input, the bands and then the answers of each kind, and its last line
 pub record IsPlainText (settings : Settings) (picture : Picture) (text : Text) : Type 0 where
   pub alerts : Text
   pub bands : Kind → Text

@@ -13,7 +13,7 @@ abbrev pub Shows : (P : Bytes → Type 0) → (ended : Bool) → Bytes → Type 
 Shows P ended bytes = (more : Bytes) → (ended ≡ true → more ≡ []) → P (bytes ++ more)
 
 module _ (report : Bytes) (most : ℕ) where
-  -- it was read to its end, and is the report
+  -- what the source hands out was read to its end, and is the report
   pub record IsSame (old new : StreamState) : Type 0 where
     pub handed : HandsOut most old new report
     pub over : IsSpent old.bytes new.bytes

@@ -27,7 +27,7 @@ IsHanded c (line.Whole bytes) = (c.stage ≡ Whole) × (bytes.now ≡ c.line) ×
 IsHanded c line.Long = (c.stage ≡ Long) × (length c.line ≡ long_length)
 IsHanded c line.NotYet = is_standing c.stage ≡ false
 
--- of a line that is not long its bytes are handed out, of a long one that it is long, and of none that there is none yet
+-- a line that is not long is handed out as its bytes, a long one as long, and no line as not yet
 abbrev pub IsLineOf : Option Bytes → InputLine → Type 0
 IsLineOf (Some bytes) (line.Whole given) = (given.now ≡ bytes) × (length bytes < long_length)
 IsLineOf (Some bytes) line.Long = long_length ≤ length bytes

@@ -53,12 +53,12 @@ is_violated leg volume n d = (is_near leg volume n d || is_closing leg volume n 
 
 -- ---- by trying
 
--- it is true at some number below n
+-- a test is true at some number below n
 unfoldable pub some_below : (ℕ → Bool) → ℕ → Bool
 some_below f zero = false
 some_below f (suc n) = f n || some_below f n
 
--- at n / (d + 1), where that is a time of the leg
+-- the volume is violated at n / (d + 1), and that is a time of the leg
 abbrev pub is_violated_at : Leg → Volume → (d n : ℕ) → Bool
 is_violated_at leg volume d n = int_le (pos n) (pos leg.secs *ℤ pos (suc d)) && is_violated leg volume (pos n) (pos (suc d))
 
@@ -66,6 +66,6 @@ is_violated_at leg volume d n = int_le (pos n) (pos leg.secs *ℤ pos (suc d)) &
 unfoldable pub is_violated_sometime : Leg → Volume → Bool
 is_violated_sometime leg volume = some_below (λ d. some_below (is_violated_at leg volume d) (suc (2 ^ 41))) (2 ^ 33)
 
--- on one of the legs before m
+-- the volume is violated on one of the legs before m
 unfoldable pub is_met_within : Settings → Own → Candidate → Traffic → Volume → ℕ → Bool
 is_met_within settings own candidate aircraft volume m = some_below (λ k. is_violated_sometime (relative_leg settings own candidate aircraft k) volume) m

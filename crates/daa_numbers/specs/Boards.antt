@@ -35,15 +35,15 @@ cylinder_at (suc n) cylinder = cylinder
 abbrev pub grid_numbers : Grid → List ℤ
 grid_numbers g = g.min ∷ g.max ∷ g.step ∷ g.rate ∷ []
 
--- those of a cylinder
+-- the numbers of a cylinder
 abbrev pub cylinder_numbers : RecoveryNumbers → List ℤ
 cylinder_numbers r = r.hdist ∷ r.vdist ∷ r.nearest ∷ []
 
--- those of a level
+-- the numbers of a level
 abbrev pub level_numbers : LevelNumbers → List ℤ
 level_numbers l = l.dthr ∷ l.zthr ∷ l.tthr ∷ l.tcoa ∷ l.lookahead ∷ l.alert ∷ l.tcpa ∷ l.tau ∷ l.tep ∷ []
 
--- the mark of a configuration: its numbers, and zeros in the place of those that do not count. A cylinder or level that counts is never all zeros
+-- the mark of a configuration: its numbers, and zeros in the place of each number that does not count. A cylinder or level that counts is never all zeros
 abbrev pub mark_of : DaaConfig → List ℤ
 mark_of c =
     c.numbers.resolve ∷ c.numbers.turn_rate ∷ c.numbers.track_step ∷ grid_numbers c.numbers.gs ++ grid_numbers c.numbers.vs ++ grid_numbers c.numbers.alt

@@ -30,7 +30,7 @@ number_of_field Age = pos 9
 abbrev pub plain_fault : ℤ → ℕ → DaaFault
 plain_fault code place = record { code = code; field = pos 0; least = pos 0; greatest = pos 0; place = place }
 
--- those of a number that is out of its range
+-- the fault of a number that is out of its range: a code, the field, its range, and a place
 abbrev pub ranged_fault : ℤ → ℕ → OutOfRange → DaaFault
 ranged_fault code place fault =
     record { code = code; field = number_of_field fault.field; least = fault.least; greatest = fault.greatest; place = place }

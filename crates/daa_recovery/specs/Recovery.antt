@@ -27,7 +27,7 @@ module _ (p : OutlookState) (candidate : Candidate) where
   abbrev pub IsInCylinder : Traffic → Type 0
   IsInCylinder aircraft = MeetsWithin p.settings p.picture.own candidate aircraft p.cylinder p.horizon
 
-  -- neither holds of the aircraft
+  -- the aircraft neither closes from m on, nor is in the cylinder
   pub record IsClear (m : ℕ) (aircraft : Traffic) : Type 0 where
     pub open_levels : ¬ IsClosedFrom m aircraft
     pub apart : ¬ IsInCylinder aircraft
@@ -60,7 +60,7 @@ module _ (p : OutlookState) (kind : Kind) where
     pub none_sooner : (m : ℕ) → 1 ≤ m → m < r.after → NoneRecovers m
     pub first : (i : ℕ) (value : ℤ) → RecoversAt i r.after value → placed r.value ≤ℤ placed value
 
-  -- that, or None: no value recovers at any time from 1 on before the horizon
+  -- the least recovery, or None: no value recovers at any time from 1 on before the horizon
   abbrev pub IsFound : Option Recovery → Type 0
   IsFound (Some r) = IsLeast r
   IsFound None = (m : ℕ) → 1 ≤ m → m < p.horizon → NoneRecovers m

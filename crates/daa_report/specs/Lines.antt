@@ -18,12 +18,12 @@ kind_word Speed = codes "gs"
 kind_word Climb = codes "vs"
 kind_word Height = codes "alt"
 
--- the word of its lower side
+-- the word of a kind's lower side
 abbrev pub lower_word : Kind → Text
 lower_word Track = codes "left"
 lower_word _ = codes "down"
 
--- the word of its upper side
+-- the word of a kind's upper side
 abbrev pub upper_word : Kind → Text
 upper_word Track = codes "right"
 upper_word _ = codes "up"
@@ -104,6 +104,6 @@ config_line code = codes "config " ++ decimal code ++ codes "\n"
 unfoldable pub same_line : Text
 same_line = codes "same\n"
 
--- the first of its lines that is not the right one has this number
+-- the first line of a report that is not the right one has this number
 unfoldable pub differs_line : ℕ → Text
 differs_line number = codes "differs " ++ decimal number ++ codes "\n"

@@ -20,7 +20,7 @@ pub record Says {E : Type 0} (old new : Option (List ℕ)) (faults_old faults_ne
   pub front : OnErr result (AppendsFront old new text)
   pub cause : HasCause faults_old faults_new result
 
--- the same of some text of which P holds
+-- what `Says` says, of some text of which P holds
 abbrev pub SaysSome : {E : Type 0} → (List ℕ → Type 0) → (old new : Option (List ℕ)) → (faults_old faults_new : ℕ) → Result (Unit {0}) E → Type 0
 SaysSome {E} P old new faults_old faults_new result =
     (text : List ℕ) × P text × Says {E = E} old new faults_old faults_new text result

@@ -36,7 +36,7 @@ out_of_range field = record { field = field; least = (bounds_of field).low; grea
 abbrev pub number_of : Field → ℤ → Number
 number_of field number = record { field = field; number = number }
 
--- the report of the first of them that is out of its range
+-- the report of the first of the numbers that is out of its range
 unfoldable pub first_out_of_range : List Number → Option OutOfRange
 first_out_of_range [] = None
 first_out_of_range (n ∷ others) = if is_within (bounds_of n.field) n.number then first_out_of_range others else Some (out_of_range n.field)

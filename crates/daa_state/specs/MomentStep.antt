@@ -26,7 +26,7 @@ pub record Stepped : Type 0 where
   pub state : MomentsState
   pub picture : Option Picture
 
--- these two as one
+-- a state and a picture, if there is one, as one
 abbrev pub stepped : MomentsState → Option Picture → Stepped
 stepped state picture = record { state = state; picture = picture }
 

@@ -52,7 +52,7 @@ number_in range field = do
   n ← number field
   within range n
 
--- the same, of a range without numbers below 0
+-- the number that a field spells, as `number_in` reads it, of a range without numbers below 0
 unfoldable pub count_in : Bounds → Bytes → Checked ℕ
 count_in range field = do
   n ← number_in range field

@@ -51,7 +51,7 @@ abbrev pub EachTakenOrders : Type 0
 EachTakenOrders =
     (words : List Text) → fault_of daidalus words ≡ [] → (asked : Asked) × AsksFor words asked
 
--- and nowhere else
+-- an order is read only where clap's definition finds no fault
 abbrev pub EachOrderIsTaken : Type 0
 EachOrderIsTaken =
     (words : List Text) (asked : Asked) → order_of words ≡ Some asked → fault_of daidalus words ≡ []

@@ -34,7 +34,7 @@ TaskIsInRange (Replay ahead) = ahead ≤ 1024
 TaskIsInRange (Exercise seed moments) = (seed < 2 ^ 32) × (1 ≤ moments) × (moments ≤ 10000)
 TaskIsInRange (Judge states) = Unit {0}
 
--- so are all numbers of what is asked for
+-- all numbers of what is asked for are in their ranges
 pub record IsInRange (asked : Asked) : Type 0 where
   pub at_least_one : 1 ≤ asked.workers
   pub at_most_16 : asked.workers ≤ 16
