@@ -104,8 +104,8 @@ fn rate_product(motion: &Motion, point: &Point, secs: u32) -> i128
 
 /// Whether `s.s + secs (s.v)` is at most `dthr^2` at a time, where the speed is not 0. At 0 seconds
 /// this says that the distance is at most `dthr`; where the distance falls, it says that modified
-/// tau is at most `secs`. Both sides are multiplied by `v.v`: then they are the product of the rates
-/// at the time and `secs` seconds later, and the margin.
+/// tau is at most `secs`. Multiplied by `v.v` it says that the product of the rates at the time and
+/// `secs` seconds later is at most the margin.
 fn is_modified_tau_within(motion: &Motion, point: &Point, secs: u32) -> bool
     requires small { HasSmallNumbers point.now }
     requires secs { secs ≤ 120 }
@@ -115,8 +115,8 @@ fn is_modified_tau_within(motion: &Motion, point: &Point, secs: u32) -> bool
 }
 
 /// Whether `s.s + secs (s.v)` is at most 0 at a time, where the speed is not 0. Where the distance
-/// falls, this says that tau is at most `secs`. Both sides are multiplied by `v.v`, and the square of
-/// the miss is taken off: then they are the product of the two rates, and that square below 0.
+/// falls, this says that tau is at most `secs`. Multiplied by `v.v` it says that the product of the
+/// two rates is at most the square of the miss, taken below 0.
 fn is_tau_within(leg: &Leg, motion: &Motion, point: &Point, secs: u32) -> bool
     requires leg { IsLegInRange leg.now }
     requires small { HasSmallNumbers point.now }

@@ -8,8 +8,8 @@ use daa_outside::{Failed, Sink};
 /// One byte more than the text of a moment has at most.
 const ROOM: usize = 130_177;
 
-/// A sheet in an array, which takes no memory: room for the text of a moment, and how many writes to
-/// it failed. None fails before the sheet is full.
+/// A sheet in an array, which takes no memory: room for the text of a moment, and how many writes
+/// to it failed. No write fails before it is full.
 #[derive(Drop)]
 pub(crate) struct ArraySheet {
     pub(crate) text: ArrayVec<u8, ROOM>,

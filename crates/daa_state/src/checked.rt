@@ -202,7 +202,8 @@ impl Own {
         ensures value { IfOk result (λ own. own ≡ self) }
         ensures range { IfOk result IsOwnInRange }
         ensures sound { IfOk result (λ own. first_out_of_range (own_numbers self) ≡ None) }
-        ensures refused { IfErr result (λ fault. first_out_of_range (own_numbers self) ≡ Some fault) }
+        ensures refused { IfErr result
+            (λ fault. first_out_of_range (own_numbers self) ≡ Some fault) }
     {
         test_all(&own_numbers(&self))?;
         Ok(self)
