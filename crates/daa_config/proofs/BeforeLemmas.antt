@@ -12,14 +12,11 @@ use Rattle.std.specs.Option.{option_map_or}
 use Rattle.toml.specs.Data.{Data, Members, no_members, member, get_member, as_integer}
 use Rattle.daa_taumod.specs.declared.Model.TheVariants.{Tau, Tcpa, Taumod, Tep}
 use Rattle.daa_config.specs.declared.numbers.LevelNumbers.{LevelNumbers}
-use Rattle.daa_config.specs.declared.fault.ConfigFault.{ConfigFault}
 use Rattle.daa_config.specs.declared.numbers.Numbers.{Numbers}
 use Rattle.daa_config.specs.Before.{IsAsBefore, IsDocumentAsBefore, rows_to_tcpa, rows_to_recovery, numbers_of, document_numbers}
-use Rattle.daa_config.specs.ConfigOf.{Written, config_in, settings_of, written_in}
 use Rattle.daa_config.specs.Document.{number_in}
 use Rattle.daa_config.specs.Level.{is_set}
 use Rattle.daa_config.specs.Rows.{Row, document_rows, level_rows, has_other_key}
-use Rattle.daa_config.specs.Settings.{Settings}
 use Rattle.daa_config.proofs.TextLemmas.{asked_as_written}
 
 -- ---- keys that a table lacks

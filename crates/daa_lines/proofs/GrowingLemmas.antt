@@ -1,18 +1,17 @@
 -- Bytes that make an open line longer, taken together.
-use Rattle.std.proofs.Common.{◌≡◌, ◌<◌, ◌≤◌, ◌+◌, ◌-◌, ◌==◌, ℕ, zero, suc, Bool, true, false}
+use Rattle.std.proofs.Common.{◌≡◌, ◌<◌, ◌≤◌, ◌+◌, ◌==◌, ℕ, zero, suc, false}
 use Rattle.std.proofs.Common.{[], ◌∷◌, ◌++◌, List, take, drop, get_or, length, refl, sym, ap}
-use Rattle.std.proofs.Common.{ap₂, ◌∙◌, arith, subst, append-nil, append_assoc, length-append}
+use Rattle.std.proofs.Common.{◌∙◌, arith, subst, append-nil, append_assoc, length-append}
 use Rattle.std.specs.Prelude.{slice_index}
 use Rattle.std.proofs.lemmas.List.{take_more, length-take}
 use Rattle.std.proofs.lemmas.Bool.Decides.{nat_tests}
 use Rattle.daa_lines.specs.LinesOf.{Bytes, line_feed, long_length}
 use Rattle.daa_lines.specs.LinesState.{LinesState, is_standing}
 use Rattle.daa_lines.specs.Inside.LinesState.{IsSized}
-use Rattle.daa_lines.specs.Inside.Pushing.{after_byte, at_open, at_stage, is_last}
+use Rattle.daa_lines.specs.Inside.Pushing.{after_byte, at_open, is_last}
 use Rattle.daa_lines.specs.Feeding.{bytes_taken}
 use Rattle.daa_lines.specs.ComesFrom.{ComesFrom}
-use Rattle.daa_lines.specs.declared.lines.Stage.{Stage}
-use Rattle.daa_lines.specs.declared.lines.Stage.TheVariants.{Open, Whole, Long, Skipping}
+use Rattle.daa_lines.specs.declared.lines.Stage.TheVariants.{Open}
 use Rattle.daa_lines.proofs.FeedingLemmas.{taken_more}
 use Rattle.daa_lines.proofs.PushingLemmas.{comes-fed}
 

@@ -1,5 +1,5 @@
 -- Identifiers in eight bytes, and aircraft that lines add one after the other.
-use Rattle.std.proofs.Common.{◌≡◌, ◌≢◌, ◌<◌, ◌+◌, ◌++◌, ◌∷◌, [], ◌∙◌, Bool, true, false, ℕ, zero, suc, List, length, map, min, take, drop, slice_set, sym, ap, refl}
+use Rattle.std.proofs.Common.{◌≡◌, ◌≢◌, ◌<◌, ◌+◌, ◌++◌, ◌∷◌, [], ◌∙◌, Bool, true, ℕ, zero, suc, List, length, map, min, take, drop, slice_set, sym, ap, refl}
 use Rattle.std.specs.Prelude.{replicate, ◌||◌}
 use Rattle.std.specs.List.{list_all, list_any}
 use Rattle.std.specs.Str.{bytes_eq}

@@ -1,10 +1,9 @@
 -- With no time thresholds a volume is the cylinder.
-use Rattle.std.proofs.Common.{◌≡◌, ◌↔◌, inl, inr, ⊎_elim, subst, ℤ, pos, ◌≤ℤ◌, ◌*ℤ◌, ◌+ℤ◌, ℕ, unsigned_abs, arith}
+use Rattle.std.proofs.Common.{◌≡◌, ◌↔◌, inl, inr, ℤ, pos, ◌≤ℤ◌, ◌*ℤ◌, ◌+ℤ◌, ℕ, unsigned_abs, arith}
 use Rattle.std.proofs.lemmas.Int.{ints}
 use Rattle.daa_fixed.specs.declared.Leg.{Leg}
 use Rattle.daa_fixed.specs.Flat.{dot_of, square_of}
 use Rattle.daa_fixed.proofs.Ring.{mul_nonneg}
-use Rattle.daa_taumod.specs.declared.Model.{Model}
 use Rattle.daa_taumod.specs.declared.Model.TheVariants.{Taumod}
 use Rattle.daa_taumod.specs.declared.Volume.{Volume}
 use Rattle.daa_taumod.specs.Volume.{place_at, height_at, ViolatesHorizontally, ViolatesVertically, Violates}

@@ -1,13 +1,12 @@
 -- The greatest lookahead of the levels that close.
-use Rattle.std.proofs.Common.{◌≡◌, ℕ, zero, suc, ◌+◌, ◌-◌, ◌<◌, ◌≤◌, pos, ◌≤ℤ◌, ℤ, Some, length, max, refl, sym, subst, ap, ◌∙◌, arith, ⊎_elim}
+use Rattle.std.proofs.Common.{◌≡◌, ℕ, ◌+◌, ◌-◌, ◌≤◌, pos, ◌≤ℤ◌, ℤ, length, max, refl, subst, ap, arith, ⊎_elim}
 use Rattle.std.proofs.lemmas.Bool.{cases_lt}
 use Rattle.std.proofs.lemmas.Int.{ints}
 use Rattle.std.proofs.lemmas.Option.{slice_get_within}
 use Rattle.daa_config.specs.declared.level.Level.{Level}
 use Rattle.daa_config.specs.Settings.{Settings, IsAccepted, IsLevelAt}
 use Rattle.daa_legs.proofs.AtLevel.{one_level}
-use Rattle.daa_recovery.specs.OutlookState.{Closes, IsHorizon, OutlookState}
-use Rattle.daa_recovery.specs.Inside.OutlookState.{IsOutlook}
+use Rattle.daa_recovery.specs.OutlookState.{Closes, IsHorizon}
 
 -- the greatest lookahead of the levels that close up to the number last
 pub record IsHorizonUpTo (settings : Settings) (last m : ℕ) : Type 0 where

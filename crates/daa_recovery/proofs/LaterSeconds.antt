@@ -1,8 +1,8 @@
 -- What recovers at a second recovers at each later one.
-use Rattle.std.proofs.Common.{◌≡◌, ℕ, ◌<◌, ◌≤◌, arith}
+use Rattle.std.proofs.Common.{ℕ, ◌≤◌, arith}
 use Rattle.daa_config.specs.declared.candidate.Candidate.{Candidate}
 use Rattle.daa_recovery.specs.OutlookState.{OutlookState}
-use Rattle.daa_recovery.specs.Recovery.{IsClosedFrom, IsClear, Recovers}
+use Rattle.daa_recovery.specs.Recovery.{Recovers}
 
 pub lasts : (p : OutlookState) (candidate : Candidate) (m n : ℕ) → m ≤ n → Recovers p candidate m → Recovers p candidate n
 lasts p candidate m n le r place aircraft there =

@@ -1,5 +1,5 @@
 -- A kind has no two recoveries.
-use Rattle.std.proofs.Common.{◌≡◌, ℕ, ◌<◌, ◌≤◌, ℤ, ◌≤ℤ◌, Option, Some, None, sym, subst, ap, ap₂, ◌∙◌, arith, ⊎_elim, refl}
+use Rattle.std.proofs.Common.{◌≡◌, ℕ, ◌<◌, ℤ, ◌≤ℤ◌, Option, Some, None, sym, subst, ap, ap₂, ◌∙◌, arith, ⊎_elim, refl}
 use Rattle.std.proofs.lemmas.Bool.{cases_lt}
 use Rattle.std.proofs.lemmas.Int.{ints}
 use Rattle.std.proofs.lemmas.Option.{same_Some}

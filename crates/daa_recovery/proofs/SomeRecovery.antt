@@ -1,13 +1,12 @@
 -- A kind has a recovery: what recovers can be decided.
 use Rattle.std.proofs.Common.{◌≡◌, ◌≢◌, ◌⊎◌, inl, inr, ℕ, zero, suc, ◌+◌, ◌-◌, ◌<◌, ◌≤◌, ℤ, pos, ◌+ℤ◌, ◌*ℤ◌}
-use Rattle.std.proofs.Common.{◌≤ℤ◌, nat_abs, Option, Some, None, List, [], ◌∷◌, length, max, sym, subst, ap, arith, ⊎_elim, refl}
-use Rattle.std.specs.Prelude.{IsTrue, int_le, slice_get}
+use Rattle.std.proofs.Common.{◌≤ℤ◌, nat_abs, Option, Some, None, List, [], ◌∷◌, length, max, sym, subst, arith, ⊎_elim, refl}
+use Rattle.std.specs.Prelude.{int_le, slice_get}
 use Rattle.std.proofs.lemmas.Bool.{cases_lt}
 use Rattle.std.proofs.lemmas.Int.{ints}
 use Rattle.std.proofs.lemmas.Option.{slice_get_within, get_or_from_slice_get}
 use Rattle.std.specs.List.{All}
 use Rattle.daa_taumod.specs.declared.Volume.{Volume}
-use Rattle.daa_taumod.specs.Volume.{IsVolumeInRange}
 use Rattle.daa_config.specs.declared.candidate.Candidate.{Candidate}
 use Rattle.daa_config.specs.declared.kind.Kind.{Kind}
 use Rattle.daa_config.specs.declared.level.Level.{Level}

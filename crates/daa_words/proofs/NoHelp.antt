@@ -1,7 +1,7 @@
 -- The subcommand that is met is not clap's own `help`, where no fault is found.
 use Rattle.std.proofs.Common.{◌≡◌, ◌∙◌, ◌&&◌, ◌||◌, ◌⊎◌, Bool, cond, not, true, false, List, [], ◌∷◌, Option, Some, None, inl, inr, is_some, true≢false, refl, sym, ap, subst, codes}
 use Rattle.std.specs.Prelude.{⊤, IfSome, option_map, unwrap_or}
-use Rattle.std.specs.List.{find, fold, list_any}
+use Rattle.std.specs.List.{find, fold}
 use Rattle.std.specs.Str.{bytes_eq}
 use Rattle.std.proofs.lemmas.Slice.Eq.{bytes_eq-Decides}
 use Rattle.clap.specs.Lexer.{long_of, short_of}

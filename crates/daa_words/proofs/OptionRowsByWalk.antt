@@ -7,13 +7,13 @@ use Rattle.std.specs.Str.{bytes_eq, chars}
 use Rattle.clap.specs.Lexer.{long_of, short_of}
 use Rattle.clap.specs.Facts.{unwrap_or_range}
 use Rattle.clap.specs.Simple.{Shape}
-use Rattle.clap.specs.Walk.{Held, Names, Outcome, Row, Rule, Step, Text, Waiting, Walk, action_of, after_flag}
+use Rattle.clap.specs.Walk.{Held, Names, Outcome, Rule, Step, Text, Waiting, Walk, action_of, after_flag}
 use Rattle.clap.specs.Walk.{after_step, arg_by_id, arg_by_index, arg_by_long, arg_by_short, attached_value}
-use Rattle.clap.specs.Walk.{bundle_met, bundle_step, done, finished, flag_met, idle, is_pending, long_met}
+use Rattle.clap.specs.Walk.{bundle_met, bundle_step, done, flag_met, idle, is_pending, long_met}
 use Rattle.clap.specs.Walk.{long_or_other, next, option, option_met, option_word, plain, plain_word}
-use Rattle.clap.specs.Walk.{positional, positional_held, refused, settled, short_met, short_or_plain}
+use Rattle.clap.specs.Walk.{positional, refused, settled, short_met, short_or_plain}
 use Rattle.clap.specs.Walk.{subcommand, subcommand_met, subcommand_or_other, takes_several, takes_values}
-use Rattle.clap.specs.Walk.{to_positional, trailing, value, waits, walked, walked_from, with_default, word_met}
+use Rattle.clap.specs.Walk.{to_positional, trailing, value, waits, walked, walked_from, word_met}
 use Rattle.clap.specs.Kinds.{Kinds, or_else}
 use Rattle.clap.specs.Faults.{bundle_fault, bundle_step_fault, flag_word_fault, flags_fault, long_fault}
 use Rattle.clap.specs.Faults.{option_fault, other_fault, positional_fault, react_fault, settle_fault}

@@ -1,5 +1,5 @@
 -- What the search for a recovery keeps, and how far it has come: helpers of private functions.
-use Rattle.std.specs.Prelude.{ℕ, ℤ, ◌≡◌, ◌≤◌, ◌<◌, ◌+◌, ◌≤ℤ◌, int_lt, if◌then◌else◌, Option, Some, None}
+use Rattle.std.specs.Prelude.{ℕ, ℤ, ◌≤◌, ◌<◌, ◌+◌, ◌≤ℤ◌, int_lt, if◌then◌else◌, Option, Some, None}
 use Rattle.daa_config.specs.declared.candidate.Candidate.{Candidate}
 use Rattle.daa_config.specs.declared.kind.Kind.{Kind}
 use Rattle.daa_config.specs.Settings.{IsCandidateInRange, rates_of}

@@ -1,4 +1,4 @@
-use Rattle.std.proofs.Common.{rules, subst, sym, ◌++◌}
+use Rattle.std.proofs.Common.{rules, subst, sym}
 use Rattle.rtrb.specs.Ring.{received}
 use Rattle.daa_ahead.specs.Bytes.{Bytes}
 use Rattle.daa_ahead.specs.Inside.Taking.{Joins}

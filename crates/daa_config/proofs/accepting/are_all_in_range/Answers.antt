@@ -1,8 +1,5 @@
-use Rattle.std.proofs.Common.{◌≡◌, ◌∙◌, rules, sym, true, false}
-use Rattle.std.specs.List.{list_all}
+use Rattle.std.proofs.Common.{◌∙◌, sym, true, false}
 use Rattle.daa_config.specs.ConfigOf.{Written}
-use Rattle.daa_config.specs.Inside.Rows.{recovery_fits}
-use Rattle.daa_config.specs.Rows.{document_rows}
 use Rattle.daa_config.proofs.RangeLemmas.{AreKindsFit, levels_decide, recovery_refuses, top_refuses}
 use Rattle.daa_config.proofs.accepting.are_all_in_range.Goals as goal
 

@@ -1,4 +1,4 @@
-use Rattle.std.proofs.Common.{rules, ◌≡◌, ◌<◌, ◌+◌, ◌++◌, ◌∙◌, ℕ, length, take, drop, sym, subst, arith}
+use Rattle.std.proofs.Common.{rules, ◌≡◌, ◌+◌, ◌++◌, ◌∙◌, ℕ, length, take, drop, sym, subst, arith}
 use Rattle.std.proofs.lemmas.List.{length-take}
 use Rattle.daa_lines.specs.LinesState.{LinesState}
 use Rattle.daa_lines.specs.Feeding.{bytes_taken}
