@@ -27,7 +27,7 @@ module _ (p : OutlookState) (candidate : Candidate) where
   abbrev pub IsInCylinder : Traffic → Type 0
   IsInCylinder aircraft = MeetsWithin p.settings p.picture.own candidate aircraft p.cylinder p.horizon
 
-  -- the aircraft neither closes from m on, nor is in the cylinder
+  -- from m on the aircraft violates no level that closes, and it is never in the cylinder
   pub record IsClear (m : ℕ) (aircraft : Traffic) : Type 0 where
     pub open_levels : ¬ IsClosedFrom m aircraft
     pub apart : ¬ IsInCylinder aircraft
