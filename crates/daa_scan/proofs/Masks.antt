@@ -13,32 +13,30 @@ set_same a l = omega (arith, bit_at_or a (2 ^ l) l, bit_at-pow_same l, bit_at-lt
 set_other : (a l j : ℕ) → j ≢ l → bit_at (bit_or a (2 ^ l)) j ≡ bit_at a j
 set_other a l j n = omega (arith, bit_at_or a (2 ^ l) j, bit_at-pow_other l j n)
 
-below : (l j : ℕ) → j ≤ l + 1 → (j ≡ l + 1 → ⊥) → j ≤ l
-below l j h n = ⊎_elim (λ k. omega (arith, k)) (λ k. absurd (n (omega (arith, h, k)))) (cases_lt j (l + 1))
+below : (l j : ℕ) → j ≤ l → (j ≡ l → ⊥) → j ≤ l - 1
+below l j h n = ⊎_elim (λ k. omega (arith, k)) (λ k. absurd (n (omega (arith, h, k)))) (cases_lt j l)
 
 module _ (Holds : ℕ → Type 0) where
   pub add_start : (mask : ℕ) → AddsLevels Holds 0 mask mask
   add_start mask l one = ((λ b. inl b), (λ s. ⊎_elim (λ b. b) (λ (w, x). absurd (omega (arith, one, w))) s))
 
-  wider : (l j old : ℕ) → HasLevel old j ⊎ ((j ≤ l) × Holds j) → HasLevel old j ⊎ ((j ≤ l + 1) × Holds j)
+  wider : (l j old : ℕ) → HasLevel old j ⊎ ((j ≤ l - 1) × Holds j) → HasLevel old j ⊎ ((j ≤ l) × Holds j)
   wider l j old s = ⊎_elim (λ b. inl b) (λ (w, x). inr (omega (arith, w), x)) s
 
-  pub add_set : (l old mask : ℕ) → AddsLevels Holds l old mask → Holds (l + 1) → AddsLevels Holds (l + 1) old (bit_or mask (2 ^ l))
-  add_set l old mask h m j one = ⊎_elim
-      (λ e. let here : bit_at (bit_or mask (2 ^ l)) (j - 1) ≡ 1 = ap (bit_at (bit_or mask (2 ^ l))) (before j one e) ∙ set_same mask l in
+  -- level l, after those before it
+  pub add_set : (l old mask : ℕ) → 1 ≤ l → AddsLevels Holds (l - 1) old mask → Holds l → AddsLevels Holds l old (bit_or mask (2 ^ (l - 1)))
+  add_set l old mask first h m j one = ⊎_elim
+      (λ e. let here : bit_at (bit_or mask (2 ^ (l - 1))) (j - 1) ≡ 1 = ap (λ (i : ℕ). bit_at (bit_or mask (2 ^ (l - 1))) (i - 1)) e ∙ set_same mask (l - 1) in
       ((λ _. inr (omega (arith, e), subst Holds (sym e) m)), (λ _. here)))
-      (λ n. let o = set_other mask l (j - 1) (apart j one n) in let is = h j one in
+      (λ n. let o = set_other mask (l - 1) (j - 1) (apart j one n) in let is = h j one in
       ((λ b. wider l j old (is.0 (sym o ∙ b))), (λ s. o ∙ is.1 (⊎_elim (λ b. inl b) (λ (w, x). inr (below l j w n, x)) s))))
-      (cases_eq j (l + 1))
+      (cases_eq j l)
     where
-      before : (j : ℕ) → 1 ≤ j → j ≡ l + 1 → j - 1 ≡ l
-      before j h e = omega (arith, h, e)
+      apart : (j : ℕ) → 1 ≤ j → (j ≡ l → ⊥) → j - 1 ≢ l - 1
+      apart j h n e = n (omega (arith, first, h, e))
 
-      apart : (j : ℕ) → 1 ≤ j → (j ≡ l + 1 → ⊥) → j - 1 ≢ l
-      apart j h n e = n (omega (arith, h, e))
-
-  -- the next level is there already if it holds
-  pub add_keep : (l old mask : ℕ) → AddsLevels Holds l old mask → (Holds (l + 1) → HasLevel mask (l + 1)) → AddsLevels Holds (l + 1) old mask
+  -- it is there already if it holds
+  pub add_keep : (l old mask : ℕ) → AddsLevels Holds (l - 1) old mask → (Holds l → HasLevel mask l) → AddsLevels Holds l old mask
   add_keep l old mask h k j one = let is = h j one in (
     (λ b. wider l j old (is.0 b)),
     (λ s. ⊎_elim
@@ -46,7 +44,7 @@ module _ (Holds : ℕ → Type 0) where
         (λ (w, x). ⊎_elim
         (λ e. subst (λ (i : ℕ). HasLevel mask i) (sym e) (k (subst Holds e x)))
         (λ n. is.1 (inr (below l j w n, x)))
-        (cases_eq j (l + 1)))
+        (cases_eq j l))
         s),
   )
 

@@ -40,12 +40,12 @@ module _ (settings : Settings) (own : Own) (aircraft : Traffic) where
   idle_all n needs all h kind e l level at = let w = slice_get_within settings.levels (l - 1) level at.there in h l level (omega (arith, w, all)) at kind e
 
   -- a kind that has no seconds within the lookahead does not meet
-  pub never_met : (kind : Kind) (level : Level) (seconds : Seconds) → AreSecondsOf settings own aircraft kind level.volume level.lookahead seconds → level.lookahead ≤ seconds.first
+  pub never_met : (kind : Kind) (level : Level) (seconds : Seconds) → AreSecondsOf settings own aircraft kind level.volume level.lookahead seconds → level.lookahead ≤ seconds.begin
       → (z : ℤ) → ¬ MeetsWithin settings own (candidate_to kind z) aircraft level.volume level.lookahead
   never_met kind level seconds h past z m = h.before z m.leg m.before (omega (arith, m.before, past)) m.violates
 
   -- a level adds the kinds that have seconds
-  pub idle_by : (turns climbs : Bool) (level : Level) (heights way : Seconds) → (turns ≡ false → level.lookahead ≤ heights.first) → (climbs ≡ false → level.lookahead ≤ way.first)
+  pub idle_by : (turns climbs : Bool) (level : Level) (heights way : Seconds) → (turns ≡ false → level.lookahead ≤ heights.begin) → (climbs ≡ false → level.lookahead ≤ way.begin)
       → AreSecondsOf settings own aircraft Track level.volume level.lookahead heights → AreSecondsOf settings own aircraft Speed level.volume level.lookahead heights
       → AreSecondsOf settings own aircraft Climb level.volume level.lookahead way → AreSecondsOf settings own aircraft Height level.volume level.lookahead way
       → IsIdleAt settings own aircraft level (record { turns = turns; climbs = climbs })

@@ -11,9 +11,10 @@ use Rattle.daa_taumod.specs.Volume.{Violates, ViolatesVertically}
 use Rattle.daa_vwindow.specs.Window.{IsWindow}
 use Rattle.daa_config.specs.declared.candidate.Candidate.TheVariants.{Hold}
 use Rattle.daa_config.specs.declared.kind.Kind.{Kind}
+use Rattle.daa_config.specs.declared.kind.Kind.TheVariants.{Track, Speed, Climb, Height}
 use Rattle.daa_config.specs.Candidates.{candidate_to}
 use Rattle.daa_config.specs.declared.level.Level.{Level}
-use Rattle.daa_config.specs.Settings.{Settings, IsLevelAt, rates_of}
+use Rattle.daa_config.specs.Settings.{Settings, IsLevelInRange, rates_of}
 use Rattle.daa_state.specs.declared.word.Own.{Own}
 use Rattle.daa_state.specs.declared.word.Traffic.{Traffic}
 use Rattle.daa_legs.specs.Meeting.{ViolatesOn}
@@ -21,11 +22,10 @@ use Rattle.daa_legs.specs.OwnLeg.{own_leg}
 use Rattle.daa_legs.specs.Relative.{relative_for}
 use Rattle.daa_legs.proofs.SharedWords.{in_height}
 use Rattle.daa_legs.specs.Inside.Shared.{in_plane}
-use Rattle.daa_legs.proofs.AtLevel.{one_level}
-use Rattle.daa_legs.proofs.Shares.{KeepsHeights, KeepsWay, held_in_height, met_in_plane}
+use Rattle.daa_legs.proofs.Shares.{KeepsHeights, KeepsWay, held_in_height, met_in_plane, track-keeps, speed-keeps, climb-keeps, height-keeps}
 use Rattle.daa_legs.proofs.Stretches.{out_second}
 use Rattle.daa_scan.specs.declared.refusal.Seconds.{Seconds}
-use Rattle.daa_scan.specs.Inside.Refusal.{IsSecondOf, AreSecondsInHeight, AreSecondsOf, AreSecondsAt}
+use Rattle.daa_scan.specs.Inside.Refusal.{IsSecondOf, AreSecondsInHeight, AreSecondsOf, AreWindowsOf}
 
 -- ---- the seconds of the vertical window
 -- the first second that ends at n/d or after it, and the last that begins at n/d or before it
@@ -75,7 +75,7 @@ module _ (leg : Leg) (volume : Volume) where
 
   pub window_seconds : (p q : Point) (begin end : ℕ) → IsWindow 180 (ViolatesVertically longest volume) p q
       → ((k : ℕ) → p.num ≤ℤ (pos (k + 1) *ℤ p.den) → begin ≤ k) → ((k : ℕ) → (pos k *ℤ q.den) ≤ℤ q.num → k ≤ end)
-      → AreSecondsInHeight leg volume (record { first = begin; end = end + 1 })
+      → AreSecondsInHeight leg volume (record { begin = begin; end = end + 1 })
   window_seconds p q begin end is firsts lasts k n d b t v =
       let within = (is.exact (n +ℤ pos k *ℤ d) d (out_second 180 k n d b t)).0 (as_longest (n +ℤ pos k *ℤ d) d v) in
       let from = firsts k (ends_after p.num p.den n d k (omega (arith, ints, is.first.fraction)) t.fraction t.upto within.from) in
@@ -108,14 +108,19 @@ module _ (settings : Settings) (own : Own) (aircraft : Traffic) (volume : Volume
   unfolding relative_for
   in_way h = subst (λ (l : Leg). HoldsSometime l.secs (Violates (in_plane l) volume)) (sym present) h
 
-  pub by_way : ((z : ℤ) → KeepsWay own (rates_of settings) (candidate_to kind z)) → (HoldsSometime leg.secs (Violates (in_plane leg) volume) → seconds.first ≡ 0) → seconds.end ≡ 180
+  pub by_way : ((z : ℤ) → KeepsWay own (rates_of settings) (candidate_to kind z)) → (HoldsSometime leg.secs (Violates (in_plane leg) volume) → seconds.begin ≡ 0) → seconds.end ≡ 180
       → AreSecondsOf settings own aircraft kind volume m seconds
   by_way keeps all end = record {
     before = λ z k b lt v. let e = all (in_way (met_in_plane settings own (candidate_to kind z) aircraft volume m (keeps z) (record { leg = k; before = b; violates = v }))) in omega (arith, lt, e);
     after = λ z k b ge v. omega (arith, b, ge, end);
   }
 
--- a number has one level
-pub at_level : (settings : Settings) (own : Own) (aircraft : Traffic) (kind : Kind) (l : ℕ) (level : Level) (seconds : Seconds) → IsLevelAt settings l level
-    → AreSecondsOf settings own aircraft kind level.volume level.lookahead seconds → AreSecondsAt settings own aircraft kind l seconds
-at_level settings own aircraft kind l level seconds at h other there = subst (λ (x : Level). AreSecondsOf settings own aircraft kind x.volume x.lookahead seconds) (one_level settings l level other at there) h
+-- the seconds of each kind at a level
+module _ (settings : Settings) (own : Own) (aircraft : Traffic) (level : Level) (in_range : IsLevelInRange level) (leg : Leg)
+    (present : leg ≡ relative_for level.lookahead (own_leg own (rates_of settings) Hold 0) aircraft 0) (turns climbs : Seconds)
+    (only : AreSecondsInHeight leg level.volume turns) (all : HoldsSometime leg.secs (Violates (in_plane leg) level.volume) → climbs.begin ≡ 0) (end : climbs.end ≡ 180) where
+  pub all_windows : AreWindowsOf settings own aircraft level (record { turns = turns; climbs = climbs })
+  all_windows Track = by_heights settings own aircraft level.volume level.lookahead leg present Track turns in_range.lookahead_most (λ z. track-keeps own (rates_of settings) z) only
+  all_windows Speed = by_heights settings own aircraft level.volume level.lookahead leg present Speed turns in_range.lookahead_most (λ z. speed-keeps own (rates_of settings) z) only
+  all_windows Climb = by_way settings own aircraft level.volume level.lookahead leg present Climb climbs (λ z. climb-keeps own (rates_of settings) z) all end
+  all_windows Height = by_way settings own aircraft level.volume level.lookahead leg present Height climbs (λ z. height-keeps own (rates_of settings) z) all end

@@ -3,8 +3,11 @@ use Rattle.std.proofs.Common.{◌≡◌, ◌∙◌, inl, inr, ℕ, ◌+◌, ◌-
 use Rattle.std.specs.Prelude.{slice_get, slice_index}
 use Rattle.std.proofs.lemmas.List.{get_or-replicate}
 use Rattle.std.proofs.lemmas.Nat.Bits.{bit_at-zero}
-use Rattle.std.proofs.lemmas.Option.{same_Some}
+use Rattle.std.proofs.lemmas.Option.{same_Some, slice_get_within, get_or_from_slice_get}
+use Rattle.std.proofs.lemmas.List.Elements.{All-get_or}
 use Rattle.daa_fixed.specs.Mask.{IsMaskOf}
+use Rattle.daa_state.specs.InRange.{IsPictureInRange, IsTrafficInRange}
+use Rattle.daa_state.specs.declared.word.Picture.{Picture}
 use Rattle.daa_state.specs.Picture.{aircraft_of}
 use Rattle.daa_state.specs.declared.word.Traffic.{Traffic}
 use Rattle.daa_scan.specs.Inside.Marking.{AreMasks}
@@ -23,21 +26,14 @@ module _ (s : SceneState) (at first n : ℕ) (aircraft : Traffic) (old masks : L
     (λ t. is.1 (⊎_elim (λ o. inl o) (λ (w, m). inr (w, (m.candidate, m.listed, (met_at s (first + j) at level m.candidate aircraft m.listed ea).1 m))) t)),
   )
 
-  -- where there was nothing
-  pub masks_alone : old ≡ replicate (length old) 0 → length masks ≡ length old → (j : ℕ) → j < length masks → IsMaskOf (MeetsAt s (first + j) at) n (slice_index masks j)
-  masks_alone clear same j b =
-      let none : slice_index old j ≡ 0 = ap (λ (xs : List ℕ). slice_index xs j) clear ∙ get_or-replicate (length old) j 0 0 (omega (arith, b, same)) in
-      mask_of_added (MeetsAt s (first + j) at) n (slice_index masks j) (subst (λ (m : ℕ). AddsLevels (MeetsAt s (first + j) at) n m (slice_index masks j)) none (masks_at j b))
+-- where there was nothing
+pub masks_alone : (s : SceneState) (at first n : ℕ) (old masks : List ℕ) → ((j : ℕ) → j < length masks → AddsLevels (MeetsAt s (first + j) at) n (slice_index old j) (slice_index masks j)) → old ≡ replicate (length old) 0 → length masks ≡ length old
+    → (j : ℕ) → j < length masks → IsMaskOf (MeetsAt s (first + j) at) n (slice_index masks j)
+masks_alone s at first n old masks h clear same j b =
+    let none : slice_index old j ≡ 0 = ap (λ (xs : List ℕ). slice_index xs j) clear ∙ get_or-replicate (length old) j 0 0 (omega (arith, b, same)) in
+    mask_of_added (MeetsAt s (first + j) at) n (slice_index masks j) (subst (λ (m : ℕ). AddsLevels (MeetsAt s (first + j) at) n m (slice_index masks j)) none (h j b))
 
 -- nothing is met
-pub masks_none : (s : SceneState) (at first n : ℕ) (masks : List ℕ) → ((index l : ℕ) → MeetsAt s index at l → ⊥) → masks ≡ replicate (length masks) 0
-    → (j : ℕ) → j < length masks → IsMaskOf (MeetsAt s (first + j) at) n (slice_index masks j)
-masks_none s at first n masks never clear j b =
-    subst (λ (m : ℕ). IsMaskOf (MeetsAt s (first + j) at) n m) (sym (ap (λ (xs : List ℕ). slice_index xs j) clear ∙ get_or-replicate (length masks) j 0 0 b)) (record {
-      each = λ l one upto. ((λ e. let z = bit_at-zero (l - 1) in absurd (omega (arith, z, e))), (λ m. absurd (never (first + j) l m)));
-      none_above = λ l over e. let z = bit_at-zero (l - 1) in absurd (omega (arith, z, e));
-    })
-
 pub adds_none : (s : SceneState) (at n : ℕ) → ((index l : ℕ) → MeetsAt s index at l → ⊥) → (j mask : ℕ) → AddsLevels (MeetsAt s j at) n mask mask
 adds_none s at n never j mask l one = ((λ b. inl b), (λ t. ⊎_elim (λ b. b) (λ (w, m). absurd (never j l m)) t))
 
@@ -45,3 +41,9 @@ adds_none s at n never j mask l one = ((λ b. inl b), (λ t. ⊎_elim (λ b. b) 
 pub idle_at : (s : SceneState) (trunks : Shared) (at : ℕ) (aircraft : Traffic) → AreFlightsOf s.settings s.picture trunks.needs trunks.trunks trunks.branches → slice_get (aircraft_of s.picture) at ≡ Some aircraft → IsInReachAt s at
     → AreIdle s.settings s.picture.own aircraft trunks.needs
 idle_at s trunks at aircraft h there r = h.idle at aircraft there (subst (λ (t : Traffic). IsInReach s.settings s.picture.own t) (same_Some r.aircraft aircraft (sym r.there ∙ there)) r.reached)
+
+-- the aircraft of a picture in range is in range
+pub traffic_in_range : (picture : Picture) (at : ℕ) (aircraft : Traffic) → IsPictureInRange picture → slice_get (aircraft_of picture) at ≡ Some aircraft → IsTrafficInRange aircraft
+traffic_in_range picture at aircraft p there =
+    let w = slice_get_within (aircraft_of picture) at aircraft there in
+    subst (λ (t : Traffic). IsTrafficInRange t) (get_or_from_slice_get (aircraft_of picture) at aircraft aircraft there) (All-get_or IsTrafficInRange (aircraft_of picture) at aircraft w p.traffic)

@@ -5,33 +5,34 @@ use Rattle.std.proofs.Math.ListN.{set}
 use Rattle.std.proofs.lemmas.Bool.{cases_eq, cases_lt}
 use Rattle.std.proofs.lemmas.List.{get_or-set_same, get_or-set_other, length-set}
 use Rattle.std.proofs.lemmas.Option.{slice_get_within}
-use Rattle.daa_taumod.specs.declared.Volume.{Volume}
 use Rattle.daa_config.specs.declared.candidate.Candidate.{Candidate}
+use Rattle.daa_config.specs.declared.candidate.Candidate.TheVariants.{Hold}
 use Rattle.daa_config.specs.declared.config.Rates.{Rates}
 use Rattle.daa_config.specs.declared.kind.Kind.{Kind}
 use Rattle.daa_config.specs.declared.kind.Kind.TheVariants.{Track, Speed, Climb, Height}
 use Rattle.daa_config.specs.declared.level.Level.{Level}
-use Rattle.daa_config.specs.Candidates.{candidate_to}
+use Rattle.daa_config.specs.Candidates.{candidate_to, candidates_of}
 use Rattle.daa_config.specs.Settings.{Settings, IsLevelAt, rates_of}
 use Rattle.daa_state.specs.declared.word.Own.{Own}
-use Rattle.daa_state.specs.declared.word.Traffic.{Traffic}
 use Rattle.daa_legs.specs.declared.own_leg.OwnLeg.{OwnLeg}
 use Rattle.daa_legs.specs.Branch.{lead_of, FliesAs}
 use Rattle.daa_legs.specs.declared.branch.Branch.{Branch}
 use Rattle.daa_legs.specs.Table.{IsBranchOf}
 use Rattle.daa_legs.specs.Trunk.{AreLegsOf}
-use Rattle.daa_legs.specs.Meeting.{ViolatesOn, MeetsWithin}
 use Rattle.daa_legs.proofs.AtLevel.{one_level}
 use Rattle.daa_scan.specs.declared.refusal.Seconds.{Seconds}
 use Rattle.daa_scan.specs.declared.trail.Trail.{Trail}
 use Rattle.daa_scan.specs.declared.marking.Trails.{Trails}
-use Rattle.daa_scan.specs.Inside.Marking.{AreTrailsOf, AreSure}
+use Rattle.daa_scan.specs.declared.encounter.Round.{Round}
+use Rattle.daa_scan.specs.Inside.Marking.{AreTrailsOf, IsBranchIn, IsNumberOf}
+use Rattle.daa_scan.specs.Inside.Rounds.{settings_in, own_in, aircraft_in, IsHitOn, IsMet, IsClearFrom}
 use Rattle.daa_scan.specs.Inside.Refusal.{AreSecondsOf}
-use Rattle.daa_scan.specs.Inside.Sharing.{IsTrailOf, IsSure}
+use Rattle.daa_scan.specs.Inside.Sharing.{IsSure, IsTrailAt}
 use Rattle.daa_scan.specs.Trunks.{trunk_index, trunk_in, is_needed, AreLeads}
 use Rattle.daa_scan.specs.declared.needs.Needs.{Needs}
 use Rattle.daa_scan.proofs.TrunksWords.{AreLeadsBelow}
 use Rattle.daa_scan.specs.Inside.Trunks.{IsAhead}
+use Rattle.daa_scan.proofs.Marks.{number_there, of_kind, of_kind_in_range}
 use Rattle.daa_scan.proofs.Trails.{fewer_legs, sure_met}
 
 pub ahead_more : (settings : Settings) (l most new : ℕ) (next : Level) → IsAhead settings l most → IsLevelAt settings (l + 1) next → next.lookahead ≤ new → most ≤ new → IsAhead settings (l + 1) new
@@ -87,38 +88,36 @@ module _ (own : Own) (kind : Kind) (upper : Bool) (lead : Candidate) (is : (z : 
   pub leads_of : (candidate : Candidate) (value : ℤ) → candidate ≡ candidate_to kind value → lead ≡ lead_of own candidate upper
   leads_of candidate value c = is value ∙ ap (λ (x : Candidate). lead_of own x upper) (sym c)
 
-  module _ (settings : Settings) (aircraft : Traffic) (volume : Volume) (trails : Trails) (h : AreTrailsOf settings own aircraft volume kind trails) where
-    along : (u : Bool) → upper ≡ u → (z : ℤ) → lead ≡ lead_of own (candidate_to kind z) u
-    along u e z = is z ∙ ap (λ (x : Bool). lead_of own (candidate_to kind z) x) e
+-- one side of a kind
+module _ (round : Round) (kind : Kind) (upper : Bool) (lead : Candidate) (is : (z : ℤ) → lead ≡ lead_of (own_in round) (candidate_to kind z) upper) (trails : Trails) (h : AreTrailsOf round kind trails) where
+  along : (u : Bool) → upper ≡ u → (z : ℤ) → lead ≡ lead_of (own_in round) (candidate_to kind z) u
+  along u e z = is z ∙ ap (λ (x : Bool). lead_of (own_in round) (candidate_to kind z) x) e
 
-    pub upper_trail : upper ≡ true → IsTrailOf settings own lead aircraft volume trails.upper
-    upper_trail e = subst (λ (c : Candidate). IsTrailOf settings own c aircraft volume trails.upper) (sym (along true e (pos 0))) (h.upper (pos 0))
+  pub upper_trail : upper ≡ true → IsTrailAt round lead trails.upper
+  upper_trail e = subst (λ (c : Candidate). IsTrailAt round c trails.upper) (sym (along true e (pos 0))) (h.upper (pos 0))
 
-    pub lower_trail : upper ≡ false → IsTrailOf settings own lead aircraft volume trails.lower
-    lower_trail e = subst (λ (c : Candidate). IsTrailOf settings own c aircraft volume trails.lower) (sym (along false e (pos 0))) (h.lower (pos 0))
+  pub lower_trail : upper ≡ false → IsTrailAt round lead trails.lower
+  lower_trail e = subst (λ (c : Candidate). IsTrailAt round c trails.lower) (sym (along false e (pos 0))) (h.lower (pos 0))
 
-    pub upper_kept : (new : Trail) → upper ≡ true → new.end ≡ trails.upper.end → IsTrailOf settings own lead aircraft volume new → AreTrailsOf settings own aircraft volume kind (record { upper = new; lower = trails.lower })
-    upper_kept new e end t = record {
-      upper = λ z. subst (λ (c : Candidate). IsTrailOf settings own c aircraft volume new) (along true e z) t;
-      lower = h.lower;
-      past_upper = λ z k b past. h.past_upper z k b (omega (arith, past, end));
-      past_lower = h.past_lower;
-    }
+  pub upper_kept : (new : Trail) → upper ≡ true → new.end ≡ trails.upper.end → IsTrailAt round lead new → AreTrailsOf round kind (record { upper = new; lower = trails.lower })
+  upper_kept new e end t = record {
+    upper = λ z. subst (λ (c : Candidate). IsTrailAt round c new) (along true e z) t;
+    lower = h.lower;
+    past_upper = λ z k b past. h.past_upper z k b (omega (arith, past, end));
+    past_lower = h.past_lower;
+  }
 
-    pub lower_kept : (new : Trail) → upper ≡ false → new.end ≡ trails.lower.end → IsTrailOf settings own lead aircraft volume new → AreTrailsOf settings own aircraft volume kind (record { upper = trails.upper; lower = new })
-    lower_kept new e end t = record {
-      upper = h.upper;
-      lower = λ z. subst (λ (c : Candidate). IsTrailOf settings own c aircraft volume new) (along false e z) t;
-      past_upper = h.past_upper;
-      past_lower = λ z k b past. h.past_lower z k b (omega (arith, past, end));
-    }
+  pub lower_kept : (new : Trail) → upper ≡ false → new.end ≡ trails.lower.end → IsTrailAt round lead new → AreTrailsOf round kind (record { upper = trails.upper; lower = new })
+  lower_kept new e end t = record {
+    upper = h.upper;
+    lower = λ z. subst (λ (c : Candidate). IsTrailAt round c new) (along false e z) t;
+    past_upper = h.past_upper;
+    past_lower = λ z k b past. h.past_lower z k b (omega (arith, past, end));
+  }
 
-    -- a candidate of the kind violates nothing from the trail's end on
-    pub upper_past : (candidate : Candidate) (value : ℤ) → candidate ≡ candidate_to kind value → (k : ℕ) → k < 180 → trails.upper.end ≤ k → ¬ ViolatesOn settings own candidate aircraft volume k
-    upper_past candidate value c k b past v = h.past_upper value k b past (subst (λ (x : Candidate). ViolatesOn settings own x aircraft volume k) c v)
-
-    pub lower_past : (candidate : Candidate) (value : ℤ) → candidate ≡ candidate_to kind value → (k : ℕ) → k < 180 → trails.lower.end ≤ k → ¬ ViolatesOn settings own candidate aircraft volume k
-    lower_past candidate value c k b past v = h.past_lower value k b past (subst (λ (x : Candidate). ViolatesOn settings own x aircraft volume k) c v)
+-- a candidate of the kind violates nothing from a trail's end on
+pub past_of : (round : Round) (kind : Kind) (candidate : Candidate) (value : ℤ) (end : ℕ) → candidate ≡ candidate_to kind value → ((z : ℤ) → IsClearFrom round (candidate_to kind z) end) → IsClearFrom round candidate end
+past_of round kind candidate value end e past k b over v = past value k b over (subst (λ (x : Candidate). IsHitOn round x k) e v)
 
 -- what leads on a side is a candidate of the kind
 leads : (own : Own) (kind : Kind) (upper : Bool) (z : ℤ) → (w : ℤ) × (lead_of own (candidate_to kind z) upper ≡ candidate_to kind w)
@@ -128,45 +127,58 @@ leads own Speed upper z = (_, refl)
 leads own Climb upper z = (_, refl)
 leads own Height upper z = (_, refl)
 
--- nothing was walked: a trail is at the first of the kind's seconds
-pub begun : (settings : Settings) (own : Own) (aircraft : Traffic) (volume : Volume) (kind : Kind) (m past : ℕ) (seconds : Seconds) → AreSecondsOf settings own aircraft kind volume m seconds → seconds.first < m
-    → AreTrailsOf settings own aircraft volume kind (record { upper = record { walked = seconds.first; end = seconds.end; hit = false; past = past }; lower = record { walked = seconds.first; end = seconds.end; hit = false; past = past } })
-begun settings own aircraft volume kind m past seconds h b = record { upper = fresh true; lower = fresh false; past_upper = h.after; past_lower = h.after }
-  where
-    fresh : (upper : Bool) (z : ℤ) → IsTrailOf settings own (lead_of own (candidate_to kind z) upper) aircraft volume (record { walked = seconds.first; end = seconds.end; hit = false; past = past })
-    fresh upper z = let w = leads own kind upper z in
-        subst (λ (c : Candidate). IsTrailOf settings own c aircraft volume (record { walked = seconds.first; end = seconds.end; hit = false; past = past })) (sym w.1) (record {
-          none = λ j k. h.before w.0 j (omega (arith, k, b)) k;
-          hit = λ t. absurd (cc t);
-          later = λ j k e. h.after w.0 j k e;
-        })
-
 -- a trail that is sure of no leg
-pub sure_of_none : (m : ℕ) (trail : Trail) → 2 ^ 32 ≤ trail.past + 1 → IsSure m trail
+sure_of_none : (m : ℕ) (trail : Trail) → 2 ^ 32 ≤ trail.past + 1 → IsSure m trail
 sure_of_none m trail most = record {
   hit = λ h n p b. absurd (omega (arith, most, p, b));
   clear = λ c n k p b l. absurd (omega (arith, most, p, b));
 }
 
+-- nothing was walked: a trail is at the first of the kind's seconds
+pub begun : (round : Round) (kind : Kind) (past : ℕ) (seconds : Seconds) → AreSecondsOf (settings_in round) (own_in round) (aircraft_in round) kind round.level.now.volume round.level.now.lookahead seconds
+    → seconds.begin < round.level.now.lookahead → 2 ^ 32 ≤ past + 1
+    → AreTrailsOf round kind (record { upper = record { walked = seconds.begin; end = seconds.end; hit = false; past = past }; lower = record { walked = seconds.begin; end = seconds.end; hit = false; past = past } })
+begun round kind past seconds h b most = record { upper = fresh true; lower = fresh false; past_upper = h.after; past_lower = h.after }
+  where
+    fresh : (upper : Bool) (z : ℤ) → IsTrailAt round (lead_of (own_in round) (candidate_to kind z) upper) (record { walked = seconds.begin; end = seconds.end; hit = false; past = past })
+    fresh upper z = let w = leads (own_in round) kind upper z in
+        subst (λ (c : Candidate). IsTrailAt round c (record { walked = seconds.begin; end = seconds.end; hit = false; past = past })) (sym w.1) (record {
+          along = record {
+            none = λ j k. h.before w.0 j (omega (arith, k, b)) k;
+            hit = λ t. absurd (cc t);
+            later = λ j k e. h.after w.0 j k e;
+          };
+          sure = sure_of_none _ _ most;
+        })
+
 -- what a side's trail answers of a candidate that leaves past what it is sure of
-module _ (settings : Settings) (own : Own) (aircraft : Traffic) (volume : Volume) (kind : Kind) (m : ℕ) (trails : Trails) (h : AreTrailsOf settings own aircraft volume kind trails) (s : AreSure m trails) (short : m ≤ 180) (candidate : Candidate) (value : ℤ) (c : candidate ≡ candidate_to kind value) (branch : Branch)
-    (is : IsBranchOf own (rates_of settings) candidate branch) (b : branch.leaves < 2 ^ 32) where
-  alike : (u : Bool) → branch.upper ≡ u → FliesAs own (rates_of settings) candidate (lead_of own (candidate_to kind value) u) branch.leaves
-  alike u e = subst (λ (x : Candidate). FliesAs own (rates_of settings) candidate (lead_of own x u) branch.leaves) c
-      (subst (λ (x : Bool). FliesAs own (rates_of settings) candidate (lead_of own candidate x) branch.leaves) e is.before)
+module _ (round : Round) (kind : Kind) (trails : Trails) (h : AreTrailsOf round kind trails) (short : round.level.now.lookahead ≤ 180) (candidate : Candidate) (branch : Branch) (is : IsBranchIn round kind candidate branch) (b : branch.leaves < 2 ^ 32) where
+  alike : (u : Bool) → branch.upper ≡ u → FliesAs (own_in round) (rates_of (settings_in round)) candidate (lead_of (own_in round) (candidate_to kind is.value) u) branch.leaves
+  alike u e = subst (λ (x : Candidate). FliesAs (own_in round) (rates_of (settings_in round)) candidate (lead_of (own_in round) x u) branch.leaves) is.is
+      (subst (λ (x : Bool). FliesAs (own_in round) (rates_of (settings_in round)) candidate (lead_of (own_in round) candidate x) branch.leaves) e is.branch_of.before)
 
-  of_kind : (k : ℕ) → ViolatesOn settings own candidate aircraft volume k → ViolatesOn settings own (candidate_to kind value) aircraft volume k
-  of_kind k v = subst (λ (x : Candidate). ViolatesOn settings own x aircraft volume k) c v
+  on_side : (trail : Trail) → (IsTrue branch.upper → trail ≡ trails.upper) → (branch.upper ≡ false → trail ≡ trails.lower) → trail.past < branch.leaves → (u : Bool) → branch.upper ≡ u → IsTrue trail.hit ↔ IsMet round candidate
+  on_side trail up down p true e = subst (λ (x : Trail). IsTrue x.hit ↔ IsMet round candidate) (sym (up e))
+      (sure_met (settings_in round) (own_in round) candidate (lead_of (own_in round) (candidate_to kind is.value) true) (aircraft_in round) round.level.now.volume branch.leaves round.level.now.lookahead (alike true e) trails.upper
+      (h.upper is.value).along (h.upper is.value).sure (subst (λ (x : Trail). x.past < branch.leaves) (up e) p) b short (past_of round kind candidate is.value trails.upper.end is.is h.past_upper))
+  on_side trail up down p false e = subst (λ (x : Trail). IsTrue x.hit ↔ IsMet round candidate) (sym (down e))
+      (sure_met (settings_in round) (own_in round) candidate (lead_of (own_in round) (candidate_to kind is.value) false) (aircraft_in round) round.level.now.volume branch.leaves round.level.now.lookahead (alike false e) trails.lower
+      (h.lower is.value).along (h.lower is.value).sure (subst (λ (x : Trail). x.past < branch.leaves) (down e) p) b short (past_of round kind candidate is.value trails.lower.end is.is h.past_lower))
 
-  on_side : (trail : Trail) → (IsTrue branch.upper → trail ≡ trails.upper) → (branch.upper ≡ false → trail ≡ trails.lower) → trail.past < branch.leaves → (u : Bool) → branch.upper ≡ u
-      → IsTrue trail.hit ↔ MeetsWithin settings own candidate aircraft volume m
-  on_side trail up down p true e = subst (λ (x : Trail). IsTrue x.hit ↔ MeetsWithin settings own candidate aircraft volume m) (sym (up e))
-      (sure_met settings own candidate (lead_of own (candidate_to kind value) true) aircraft volume branch.leaves m (alike true e) trails.upper (h.upper value) s.upper
-      (subst (λ (x : Trail). x.past < branch.leaves) (up e) p) b short (λ k l past v. h.past_upper value k l past (of_kind k v)))
-  on_side trail up down p false e = subst (λ (x : Trail). IsTrue x.hit ↔ MeetsWithin settings own candidate aircraft volume m) (sym (down e))
-      (sure_met settings own candidate (lead_of own (candidate_to kind value) false) aircraft volume branch.leaves m (alike false e) trails.lower (h.lower value) s.lower
-      (subst (λ (x : Trail). x.past < branch.leaves) (down e) p) b short (λ k l past v. h.past_lower value k l past (of_kind k v)))
-
-  pub side_sure : (trail : Trail) → (IsTrue branch.upper → trail ≡ trails.upper) → (branch.upper ≡ false → trail ≡ trails.lower) → trail.past < branch.leaves
-      → IsTrue trail.hit ↔ MeetsWithin settings own candidate aircraft volume m
+  pub side_sure : (trail : Trail) → (IsTrue branch.upper → trail ≡ trails.upper) → (branch.upper ≡ false → trail ≡ trails.lower) → trail.past < branch.leaves → IsTrue trail.hit ↔ IsMet round candidate
   side_sure trail up down p = on_side trail up down p branch.upper refl
+
+-- the branch that is kept for a candidate of a kind that is needed
+pub branch_in : (round : Round) (kind : Kind) (index : ℕ) (branch : Branch) → IsNumberOf (settings_in round) kind index → IsTrue (is_needed round.trunks.now.needs kind) → ((d : Branch) → slice_index_or round.trunks.now.branches index d ≡ branch)
+    → IsBranchIn round kind (slice_index_or (candidates_of (settings_in round)) index Hold) branch
+branch_in round kind index branch n needed found =
+    let s = settings_in round in
+    let candidate : Candidate = slice_index_or (candidates_of (settings_in round)) index Hold in
+    let listed = number_there kind (settings_in round) index n in
+    let of = of_kind kind s index candidate round.known.accepted n.from n.before listed in
+    record {
+      value = of.0;
+      is = of.1;
+      in_range = of_kind_in_range kind s index candidate round.known.accepted n.from n.before listed;
+      branch_of = subst (λ (b : Branch). IsBranchOf (own_in round) (rates_of (settings_in round)) candidate b) (found branch) (round.known.kept.trunks.branches.each index candidate branch listed kind of.0 of.1 needed);
+    }

@@ -4,6 +4,8 @@ pub mod Needs
 pub mod Nesting
 pub mod Refusal
 pub mod Sharing
+pub mod Encounter
+pub mod Rounds
 pub mod Trunks
 pub mod Marking
 pub mod Scene

@@ -2,6 +2,7 @@
 //! be met at all, and how the answers are divided into units of work. Nothing here takes memory.
 #![tactic(auto)]
 
+mod encounter;
 mod laws;
 mod marking;
 mod needs;

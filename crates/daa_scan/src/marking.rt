@@ -2,39 +2,31 @@
 //! level is gone through, and at each level the kinds: what the candidates of a side share of their
 //! flights is tested once.
 
-ghost use Rattle.std.specs.Prelude.{◌≡◌, ◌≢◌, ◌-◌, Bool, ◌<◌, ◌≤◌, ◌^◌, ◌↔◌, ◌+◌, ◌⊎◌, ℕ, ℤ, IsTrue, List, false, length, bit_or, slice_index, slice_get, Some};
-ghost use Rattle.std.specs.Int.{bit_at};
+ghost use Rattle.std.specs.Prelude.{◌≡◌, ◌-◌, ◌<◌, ◌≤◌, ◌^◌, ◌↔◌, ◌+◌, ◌⊎◌, ℕ, IsTrue, List, false, length, bit_or, slice_index};
 ghost use Rattle.daa_fixed.specs.Leg.{IsLegInRange};
+ghost use Rattle.daa_fixed.specs.Mask.{HasLevel};
 ghost use Rattle.daa_fixed.specs.Time.{HoldsSometime};
-ghost use Rattle.daa_taumod.specs.Volume.{IsVolumeInRange, Violates};
-ghost use Rattle.daa_config.specs.Candidates.{candidate_to, candidates_of, start_of, values_of};
-ghost use Rattle.daa_config.specs.Settings.{IsCandidateInRange, IsLevelAt, IsLevelInRange, IsInBounds, value_bounds, rates_of};
+ghost use Rattle.daa_taumod.specs.Volume.{Violates};
+ghost use Rattle.daa_config.specs.Candidates.{start_of, values_of};
+ghost use Rattle.daa_config.specs.Settings.{IsLevelAt};
 ghost use Rattle.daa_config.specs.declared.candidate.Candidate.{Candidate};
-ghost use Rattle.daa_state.specs.declared.word.Own.{Own};
-ghost use Rattle.daa_state.specs.declared.word.Traffic.{Traffic};
-ghost use Rattle.daa_state.specs.InRange.{IsOwnInRange, IsTrafficInRange};
-ghost use Rattle.daa_legs.specs.Branch.{lead_of};
-ghost use Rattle.daa_legs.specs.Table.{IsBranchOf};
-ghost use Rattle.daa_legs.specs.Trunk.{AreLegsOf};
-ghost use Rattle.daa_legs.specs.OwnLeg.{own_leg, IsOwnLegInRange};
-ghost use Rattle.daa_legs.specs.Meeting.{MeetsWithin, Meets, ViolatesOn};
-ghost use Rattle.daa_scan.specs.Adding.{AddsLevels};
-ghost use Rattle.daa_scan.specs.Inside.Refusal.{AreSecondsAt};
-ghost use Rattle.daa_scan.specs.Inside.Sharing.{IsTrailOf, IsSure};
-ghost use Rattle.daa_scan.specs.Trunks.{trunk_in, is_needed, AreIdle};
-ghost use Rattle.daa_scan.specs.Inside.Trunks.{AreTrunksOf};
-ghost use Rattle.daa_scan.specs.Inside.Marking.{AreTrailsOf, AreSure, AreMarked, AreMasks, IsStretchOf, AreStretchesOf};
+ghost use Rattle.daa_config.specs.declared.level.Level.{Level};
+ghost use Rattle.daa_scan.specs.Trunks.{is_needed};
+ghost use Rattle.daa_scan.specs.Inside.Encounter.{AreKeptFor, IsNestedAt};
+ghost use Rattle.daa_scan.specs.Inside.Rounds.{settings_in, own_in, aircraft_in, IsMet, IsClearFrom};
+ghost use Rattle.daa_scan.specs.Inside.Sharing.{IsTrailAt, IsLed, IsBranchBy};
+ghost use Rattle.daa_scan.specs.Inside.Marking.{AreTrailsOf, AreMasks, AreMarkedUpto, AddsNext, IsNumberOf, IsBranchIn, IsStretchOf, AreStretchesOf};
 
+use crate::encounter::{Encounter, Round};
 use crate::nesting::lies_within;
-use crate::refusal::{Seconds, present_leg, present_of, seconds_in_height, seconds_in_plane};
+use crate::refusal::{present_leg, windows_at};
 use crate::sharing::{meets_by_branch, walk_ahead};
 use crate::trail::Trail;
 use crate::trunks::{Trunks, lead_to};
-use daa_config::{Candidate, Config, Kind, Level};
+use daa_config::{Candidate, Config, Kind};
 use daa_detect::is_hit;
 use daa_fixed::Leg;
-use daa_legs::{Branch, OwnLeg, Trunk};
-use daa_state::{Own, Traffic};
+use daa_legs::{Branch, Trunk};
 
 /// So many candidates are passed over by one look at their masks, where none of them is asked.
 const TOGETHER: u32 = 16;
@@ -65,29 +57,18 @@ pub(crate) struct Stretches {
 
 /// Adds to the masks, which are those of the candidates from number `first` of the whole list on,
 /// the levels at which each meets the aircraft. A level that is there already is not tested.
-pub(crate) fn mark_levels(
-    config: &Config,
-    own: &Own,
-    trunks: &Trunks,
-    aircraft: &Traffic,
-    first: u32,
-    masks: &mut [u8],
-)
-    requires own { IsOwnInRange own.now }
-    requires aircraft { IsTrafficInRange aircraft.now }
-    requires trunks { AreTrunksOf config.now own.now trunks.now }
+pub(crate) fn mark_levels(encounter: &Encounter, trunks: &Trunks, first: u32, masks: &mut [u8])
+    requires trunks { AreKeptFor encounter.now.config.now encounter.now.own.now
+        encounter.now.aircraft.now trunks.now }
     requires short { first + length masks.old < 2 ^ 32 }
-    requires idle { AreIdle config.now own.now aircraft.now trunks.now.needs }
-    ensures masks { AreMasks config.now own.now aircraft.now first
-        (length config.now.levels) masks.old masks.new }
+    ensures masks { AreMasks encounter.now.config.now encounter.now.own.now
+        encounter.now.aircraft.now first (length encounter.now.config.now.levels)
+        masks.old masks.new }
     ensures length { length masks.new ≡ length masks.old }
 {
-    let stretches = stretches_of(config);
-    let hold = present_of(config, own);
-    for l in 0..config.levels() {
-        mark_level(
-            config, own, &hold, trunks, aircraft, l, &stretches, first, masks,
-        );
+    let stretches = stretches_of(encounter.config);
+    for done in 0..encounter.config.levels() {
+        mark_level(encounter, trunks, done + 1, &stretches, first, masks);
     }
 }
 
@@ -114,187 +95,105 @@ fn stretch_of(config: &Config, kind: Kind) -> Stretch
     }
 }
 
-/// Goes on from `l` levels to the next.
+/// Goes on to level `l`, where the levels before it were added.
 fn mark_level(
-    config: &Config,
-    own: &Own,
-    hold: &OwnLeg,
+    encounter: &Encounter,
     trunks: &Trunks,
-    aircraft: &Traffic,
     l: u32,
     stretches: &Stretches,
     first: u32,
     masks: &mut [u8],
 )
-    requires own { IsOwnInRange own.now }
-    requires hold { hold.now ≡ own_leg own.now (rates_of config.now) Candidate.Hold 0 }
-    requires in_range { IsOwnLegInRange hold.now }
-    requires aircraft { IsTrafficInRange aircraft.now }
-    requires trunks { AreTrunksOf config.now own.now trunks.now }
-    requires l { l < length config.now.levels }
-    requires few { l < 8 }
-    requires stretches { AreStretchesOf config.now stretches.now }
+    requires trunks { AreKeptFor encounter.now.config.now encounter.now.own.now
+        encounter.now.aircraft.now trunks.now }
+    requires l { (1 ≤ l) × (l ≤ length encounter.now.config.now.levels) }
+    requires stretches { AreStretchesOf encounter.now.config.now stretches.now }
     requires short { first + length masks.old < 2 ^ 32 }
-    requires idle { AreIdle config.now own.now aircraft.now trunks.now.needs }
     ensures masks { (before : List ℕ)
-        → AreMasks config.now own.now aircraft.now first l before masks.old
-        → AreMasks config.now own.now aircraft.now first (l + 1) before masks.new }
+        → AreMasks encounter.now.config.now encounter.now.own.now encounter.now.aircraft.now
+        first (l - 1) before masks.old
+        → AreMasks encounter.now.config.now encounter.now.own.now encounter.now.aircraft.now
+        first l before masks.new }
     ensures length { length masks.new ≡ length masks.old }
 {
-    let level = config.level(l + 1);
-    let present = present_leg(config, own, hold, aircraft, level.lookahead);
-    let heights = seconds_in_height(&present, &level.volume);
-    let way = seconds_in_plane(&present, &level.volume);
-    mark_present(config, own, aircraft, l, level, &present, first, masks);
-    mark_kind(
-        config,
-        own,
+    let level = encounter.config.level(l);
+    let present = present_leg(encounter, level.lookahead);
+    let round = Round {
+        encounter,
         trunks,
-        aircraft,
         l,
-        Kind::Track,
-        heights,
-        stretches.tracks,
-        first,
-        masks,
-    );
-    mark_kind(
-        config,
-        own,
-        trunks,
-        aircraft,
-        l,
-        Kind::Speed,
-        heights,
-        stretches.speeds,
-        first,
-        masks,
-    );
-    mark_kind(
-        config,
-        own,
-        trunks,
-        aircraft,
-        l,
-        Kind::Climb,
-        way,
-        stretches.climbs,
-        first,
-        masks,
-    );
-    mark_kind(
-        config,
-        own,
-        trunks,
-        aircraft,
-        l,
-        Kind::Height,
-        way,
-        stretches.heights,
-        first,
-        masks,
-    );
+        level,
+        windows: windows_at(encounter, level, &present),
+        nested: is_nested(encounter.config, l),
+    };
+    mark_present(&round, &present, first, masks);
+    mark_kind(&round, Kind::Track, stretches.tracks, first, masks);
+    mark_kind(&round, Kind::Speed, stretches.speeds, first, masks);
+    mark_kind(&round, Kind::Climb, stretches.climbs, first, masks);
+    mark_kind(&round, Kind::Height, stretches.heights, first, masks);
+}
+
+/// Whether level `l` lies within the one before it.
+fn is_nested(config: &Config, l: u32) -> bool
+    requires { (1 ≤ l) × (l ≤ length config.now.levels) }
+    ensures { (level : Level) → IsLevelAt config.now l level
+        → IsTrue result → IsNestedAt config.now l level }
+{
+    l > 1 && lies_within(config.level(l), config.level(l - 1))
 }
 
 /// The same of the present flight alone, the first of the whole list, whose seconds up to the
 /// lookahead are one leg.
-fn mark_present(
-    config: &Config,
-    own: &Own,
-    aircraft: &Traffic,
-    l: u32,
-    level: &Level,
-    present: &Leg,
-    first: u32,
-    masks: &mut [u8],
-)
-    requires few { l < 8 }
-    requires level { IsLevelInRange level.now }
-    requires at { IsLevelAt config.now (l + 1) level.now }
+fn mark_present(round: &Round, present: &Leg, first: u32, masks: &mut [u8])
     requires in_range { IsLegInRange present.now }
-    requires seconds { HoldsSometime present.now.secs (Violates present.now level.now.volume)
-        ↔ MeetsWithin config.now own.now Candidate.Hold aircraft.now
-        level.now.volume level.now.lookahead }
+    requires seconds { HoldsSometime present.now.secs
+        (Violates present.now round.now.level.now.volume) ↔ IsMet round.now Candidate.Hold }
     ensures masks { (before : List ℕ)
-        → AreMasks config.now own.now aircraft.now first l before masks.old
-        → AreMarked config.now own.now aircraft.now first 1 l before masks.new }
+        → AreMasks (settings_in round.now) (own_in round.now) (aircraft_in round.now)
+        first (round.now.l - 1) before masks.old
+        → AreMarkedUpto round.now first 1 before masks.new }
     ensures length { length masks.new ≡ length masks.old }
 {
     if first == 0 && masks.len() > 0 {
-        masks[0] = present_mask(config, own, aircraft, l, level, present, masks[0]);
+        masks[0] = present_mask(round, present, masks[0]);
     }
 }
 
-/// The mask of the present flight with one level more.
-fn present_mask(
-    config: &Config,
-    own: &Own,
-    aircraft: &Traffic,
-    l: u32,
-    level: &Level,
-    present: &Leg,
-    mask: u8,
-) -> u8
-    requires few { l < 8 }
-    requires level { IsLevelInRange level.now }
-    requires at { IsLevelAt config.now (l + 1) level.now }
+/// The mask of the present flight with the level.
+fn present_mask(round: &Round, present: &Leg, mask: u8) -> u8
     requires in_range { IsLegInRange present.now }
-    requires seconds { HoldsSometime present.now.secs (Violates present.now level.now.volume)
-        ↔ MeetsWithin config.now own.now Candidate.Hold aircraft.now
-        level.now.volume level.now.lookahead }
-    ensures { (before : ℕ)
-        → AddsLevels (Meets config.now own.now Candidate.Hold aircraft.now) l before mask
-        → AddsLevels (Meets config.now own.now Candidate.Hold aircraft.now) (l + 1) before result }
+    requires seconds { HoldsSometime present.now.secs
+        (Violates present.now round.now.level.now.volume) ↔ IsMet round.now Candidate.Hold }
+    ensures { AddsNext round.now 0 mask result }
 {
-    let met = is_hit(present, &level.volume);
-    with_level(mask, l, met)
+    let met = is_hit(present, &round.level.volume);
+    with_level(mask, round.l, met)
 }
 
-/// The same of the candidates of a kind, after those of the kinds before it, which violate the
-/// level's volume in these seconds alone.
-fn mark_kind(
-    config: &Config,
-    own: &Own,
-    trunks: &Trunks,
-    aircraft: &Traffic,
-    l: u32,
-    kind: Kind,
-    seconds: Seconds,
-    stretch: Stretch,
-    first: u32,
-    masks: &mut [u8],
-)
-    requires own { IsOwnInRange own.now }
-    requires aircraft { IsTrafficInRange aircraft.now }
-    requires trunks { AreTrunksOf config.now own.now trunks.now }
-    requires l { l < length config.now.levels }
-    requires few { l < 8 }
-    requires seconds { AreSecondsAt config.now own.now aircraft.now kind (l + 1) seconds }
-    requires stretch { IsStretchOf config.now kind stretch }
+/// The same of the candidates of a kind, after those of the kinds before it.
+fn mark_kind(round: &Round, kind: Kind, stretch: Stretch, first: u32, masks: &mut [u8])
+    requires stretch { IsStretchOf (settings_in round.now) kind stretch }
     requires short { first + length masks.old < 2 ^ 32 }
-    requires idle { AreIdle config.now own.now aircraft.now trunks.now.needs }
     ensures masks { (before : List ℕ)
-        → AreMarked config.now own.now aircraft.now first (start_of kind config.now) l before
-        masks.old
-        → AreMarked config.now own.now aircraft.now first
-        (start_of kind config.now + length (values_of kind config.now)) l before masks.new }
+        → AreMarkedUpto round.now first (start_of kind (settings_in round.now)) before masks.old
+        → AreMarkedUpto round.now first (start_of kind (settings_in round.now)
+        + length (values_of kind (settings_in round.now))) before masks.new }
     ensures length { length masks.new ≡ length masks.old }
 {
-    let level = config.level(l + 1);
-    if !trunks.has(kind) {
+    if !round.trunks.has(kind) {
         return;
     }
-    if seconds.first >= level.lookahead {
+    let seconds = round.windows.of(kind);
+    if seconds.begin >= round.level.lookahead {
         return;
     }
-    let nested = is_nested(config, l);
     let from = stretch.from.max(first);
     let upto = stretch.upto.min(first + masks.len() as u32);
-    if nested && !some_has_level(masks, first, from, upto, l) {
+    if round.nested && !some_has_level(masks, first, from, upto, round.l - 1) {
         return;
     }
     let begun = Trail {
-        walked: seconds.first,
+        walked: seconds.begin,
         end: seconds.end,
         hit: false,
         past: u32::MAX,
@@ -306,93 +205,39 @@ fn mark_kind(
     let mut at = from;
     while at < upto {
         let end = next_end(at, upto);
-        if some_is_open(masks, at - first, end - first, l, nested) {
+        if some_is_open(round, masks, at - first, end - first) {
             for index in at..end {
                 let j = (index - first) as usize;
-                masks[j] = next_mask(
-                    config,
-                    own,
-                    trunks,
-                    aircraft,
-                    l,
-                    level,
-                    nested,
-                    kind,
-                    index,
-                    &mut trails,
-                    masks[j],
-                );
+                masks[j] = next_mask(round, kind, index, &mut trails, masks[j]);
             }
         }
         at = end;
     }
 }
 
-/// Whether the level after level `l` lies within level `l`.
-fn is_nested(config: &Config, l: u32) -> bool
-    requires l { l < length config.now.levels }
-    requires few { l < 8 }
-    ensures some { IsTrue result → 1 ≤ l }
-    ensures nested { IsTrue result → (own : Own) (candidate : Candidate) (aircraft : Traffic)
-        → Meets config.now own candidate aircraft (l + 1)
-        → Meets config.now own candidate aircraft l }
-{
-    l > 0 && lies_within(config.level(l + 1), config.level(l))
-}
-
-/// The mask of the candidate at an index of the whole list, one of a kind, with the level after
-/// level `l`.
+/// The mask of the candidate at an index of the whole list, one of a kind, with the level.
 #[inline(always)]
-fn next_mask(
-    config: &Config,
-    own: &Own,
-    trunks: &Trunks,
-    aircraft: &Traffic,
-    l: u32,
-    level: &Level,
-    nested: bool,
-    kind: Kind,
-    index: u32,
-    trails: &mut Trails,
-    mask: u8,
-) -> u8
-    ghost candidate: { Candidate }
-    requires own { IsOwnInRange own.now }
-    requires aircraft { IsTrafficInRange aircraft.now }
-    requires few { l < 8 }
-    requires level { IsLevelInRange level.now }
-    requires at { IsLevelAt config.now (l + 1) level.now }
-    requires trunks { AreTrunksOf config.now own.now trunks.now }
-    requires some { IsTrue nested → 1 ≤ l }
-    requires nested { IsTrue nested → (candidate : Candidate)
-        → Meets config.now own.now candidate aircraft.now (l + 1)
-        → Meets config.now own.now candidate aircraft.now l }
-    requires listed { slice_get (candidates_of config.now) index ≡ Some candidate }
-    requires candidate { IsCandidateInRange candidate }
-    requires of { (value : ℤ) × (candidate ≡ candidate_to kind value) }
-    requires trails { AreTrailsOf config.now own.now aircraft.now level.now.volume kind trails.old }
-    requires needed { IsTrue (is_needed trunks.now.needs kind) }
-    requires sure { AreSure level.now.lookahead trails.old }
-    ensures mask { (before : ℕ)
-        → AddsLevels (Meets config.now own.now candidate aircraft.now) l before mask
-        → AddsLevels (Meets config.now own.now candidate aircraft.now) (l + 1) before result }
-    ensures trails { AreTrailsOf config.now own.now aircraft.now level.now.volume kind trails.new }
-    ensures sure { AreSure level.now.lookahead trails.new }
+fn next_mask(round: &Round, kind: Kind, index: u32, trails: &mut Trails, mask: u8) -> u8
+    requires index { IsNumberOf (settings_in round.now) kind index }
+    requires needed { IsTrue (is_needed round.now.trunks.now.needs kind) }
+    requires trails { AreTrailsOf round.now kind trails.old }
+    ensures mask { AddsNext round.now index mask result }
+    ensures trails { AreTrailsOf round.now kind trails.new }
 {
     // most candidates are answered here, so that it is asked before the mask is
-    let branch = trunks.branch(index);
+    let branch = round.trunks.branch(index);
     let trail = trail_on(trails, branch.upper);
     if is_after(branch.leaves, trail.past) {
-        return with_level(mask, l, trail.hit);
+        return with_level(mask, round.l, trail.hit);
     }
-    if nested && !has_level(mask, l) {
+    if round.nested && !has_level(mask, round.l - 1) {
         return mask;
     }
-    if has_level(mask, l + 1) {
+    if has_level(mask, round.l) {
         return mask;
     }
-    let met = meets_shared(config, own, trunks, aircraft, level, kind, branch, trails);
-    with_level(mask, l, met)
+    let met = meets_shared(round, kind, index, branch, trails);
+    with_level(mask, round.l, met)
 }
 
 /// The trail of a side.
@@ -417,10 +262,9 @@ fn is_after(leg: u32, other: u32) -> bool
 fn some_has_level(masks: &[u8], first: u32, from: u32, upto: u32, l: u32) -> bool
     requires from { first ≤ from }
     requires upto { upto ≤ first + length masks.now }
-    requires some { 1 ≤ l }
-    requires few { l < 8 }
+    requires l { (1 ≤ l) × (l ≤ 8) }
     ensures { result ≡ false → (j : ℕ) → from ≤ first + j → first + j < upto
-        → bit_at (slice_index masks.now j) (l - 1) ≢ 1 }
+        → ¬ HasLevel (slice_index masks.now j) l }
 {
     let mut all = 0;
     for index in from..upto {
@@ -444,20 +288,17 @@ fn next_end(at: u32, upto: u32) -> u32
     }
 }
 
-/// Whether the level after level `l` is to be tested for one of the masks from number `at` to
-/// before number `end`, as far as one look tells: where it lies within level `l`, some mask has that
-/// one, and some mask has not the level itself. Fewer than are looked at together are not looked
-/// at.
+/// Whether the level is to be tested for one of the masks from number `at` to before number `end`,
+/// as far as one look tells: some mask has it not, and where it lies within the one before, some
+/// mask has that one. Fewer than are looked at together are not looked at.
 #[inline(always)]
-fn some_is_open(masks: &[u8], at: u32, end: u32, l: u32, nested: bool) -> bool
+fn some_is_open(round: &Round, masks: &[u8], at: u32, end: u32) -> bool
     requires order { at ≤ end }
     requires end { end ≤ length masks.now }
     requires together { end ≤ at + 16 }
-    requires some { IsTrue nested → 1 ≤ l }
-    requires few { l < 8 }
     ensures { result ≡ false → (j : ℕ) → at ≤ j → j < end
-        → (bit_at (slice_index masks.now j) l ≡ 1)
-        ⊎ (IsTrue nested × (bit_at (slice_index masks.now j) (l - 1) ≢ 1)) }
+        → HasLevel (slice_index masks.now j) round.now.l
+        ⊎ (IsTrue round.now.nested × ¬ HasLevel (slice_index masks.now j) (round.now.l - 1)) }
 {
     if end - at < TOGETHER {
         return true;
@@ -470,87 +311,47 @@ fn some_is_open(masks: &[u8], at: u32, end: u32, l: u32, nested: bool) -> bool
         some |= mask;
         all &= mask;
     }
-    if nested && !has_level(some, l) {
+    if round.nested && !has_level(some, round.l - 1) {
         return false;
     }
-    !has_level(all, l + 1)
+    !has_level(all, round.l)
 }
 
 /// Whether a mask has level `l`.
 fn has_level(mask: u8, l: u32) -> bool
-    requires some { 1 ≤ l }
-    requires few { l ≤ 8 }
-    ensures { IsTrue result ↔ (bit_at mask (l - 1) ≡ 1) }
+    requires { (1 ≤ l) × (l ≤ 8) }
+    ensures { IsTrue result ↔ HasLevel mask l }
 {
     mask >> (l - 1) & 1 == 1
 }
 
-/// The mask, with the level after level `l` where that one is met.
+/// The mask, with level `l` where that one is met.
 fn with_level(mask: u8, l: u32, met: bool) -> u8
-    requires { l < 8 }
-    ensures met { IsTrue met → result ≡ bit_or mask (2 ^ l) }
+    requires { (1 ≤ l) × (l ≤ 8) }
+    ensures met { IsTrue met → result ≡ bit_or mask (2 ^ (l - 1)) }
     ensures not_met { met ≡ false → result ≡ mask }
 {
     // (without a branch, as the mask's bits)
-    mask | u8::from(met) << l
+    mask | u8::from(met) << (l - 1)
 }
 
-/// Whether the candidate of a kind that has this branch meets the aircraft within the level's
-/// lookahead.
+/// Whether the candidate at an index of the whole list, one of a kind, that has this branch meets
+/// the aircraft within the level's lookahead.
 #[inline(always)]
-fn meets_shared(
-    config: &Config,
-    own: &Own,
-    trunks: &Trunks,
-    aircraft: &Traffic,
-    level: &Level,
-    kind: Kind,
-    branch: &Branch,
-    trails: &mut Trails,
-) -> bool
+fn meets_shared(round: &Round, kind: Kind, index: u32, branch: &Branch, trails: &mut Trails) -> bool
     ghost candidate: { Candidate }
-    requires own { IsOwnInRange own.now }
-    requires aircraft { IsTrafficInRange aircraft.now }
-    requires level { IsLevelInRange level.now }
-    requires trunks { (upper : Bool) (z : ℤ)
-        → AreLegsOf own.now (rates_of config.now)
-        (lead_of own.now (candidate_to kind z) upper) level.now.lookahead
-        (trunk_in trunks.now.trunks kind upper) }
-    requires candidate { IsCandidateInRange candidate }
-    requires of { (value : ℤ) × (candidate ≡ candidate_to kind value) }
-    requires branch { IsBranchOf own.now (rates_of config.now) candidate branch.now }
-    requires trails { AreTrailsOf config.now own.now aircraft.now level.now.volume kind trails.old }
-    requires sure { AreSure level.now.lookahead trails.old }
-    ensures met { IsTrue result
-        ↔ MeetsWithin config.now own.now candidate aircraft.now level.now.volume
-        level.now.lookahead }
-    ensures trails { AreTrailsOf config.now own.now aircraft.now level.now.volume kind trails.new }
-    ensures sure { AreSure level.now.lookahead trails.new }
+    requires branch { IsBranchIn round.now kind candidate branch.now }
+    requires needed { IsTrue (is_needed round.now.trunks.now.needs kind) }
+    requires trails { AreTrailsOf round.now kind trails.old }
+    ensures met { IsTrue result ↔ IsMet round.now candidate }
+    ensures trails { AreTrailsOf round.now kind trails.new }
 {
-    let lead = lead_to(own, kind, branch.upper);
-    let trunk = trunks.trunk(kind, branch.upper);
+    let lead = lead_to(round.encounter.own, kind, branch.upper);
+    let trunk = round.trunks.trunk(kind, branch.upper);
     if branch.upper {
-        meets_along(
-            config,
-            own,
-            lead,
-            trunk,
-            &mut trails.upper,
-            branch,
-            aircraft,
-            level,
-        )
+        meets_along(round, lead, trunk, branch, &mut trails.upper)
     } else {
-        meets_along(
-            config,
-            own,
-            lead,
-            trunk,
-            &mut trails.lower,
-            branch,
-            aircraft,
-            level,
-        )
+        meets_along(round, lead, trunk, branch, &mut trails.lower)
     }
 }
 
@@ -558,46 +359,22 @@ fn meets_shared(
 /// meets the aircraft within the level's lookahead. The trail is walked on as far as is needed.
 #[inline(always)]
 fn meets_along(
-    config: &Config,
-    own: &Own,
+    round: &Round,
     lead: Candidate,
     trunk: &Trunk,
-    trail: &mut Trail,
     branch: &Branch,
-    aircraft: &Traffic,
-    level: &Level,
+    trail: &mut Trail,
 ) -> bool
     ghost candidate: { Candidate }
-    requires own { IsOwnInRange own.now }
-    requires candidate { IsCandidateInRange candidate }
-    requires lead { IsCandidateInRange lead }
-    requires aircraft { IsTrafficInRange aircraft.now }
-    requires level { IsLevelInRange level.now }
-    requires trunk { AreLegsOf own.now (rates_of config.now) lead level.now.lookahead trunk.now }
-    requires leads { lead ≡ lead_of own.now candidate branch.now.upper }
-    requires branch { IsBranchOf own.now (rates_of config.now) candidate branch.now }
-    requires trail { IsTrailOf config.now own.now lead aircraft.now level.now.volume trail.old }
-    requires later { (k : ℕ) → k < 180 → trail.old.end ≤ k
-        → ¬ ViolatesOn config.now own.now candidate aircraft.now level.now.volume k }
-    requires sure { IsSure level.now.lookahead trail.old }
-    ensures met { IsTrue result
-        ↔ MeetsWithin config.now own.now candidate aircraft.now level.now.volume
-        level.now.lookahead }
-    ensures trail { IsTrailOf config.now own.now lead aircraft.now level.now.volume trail.new }
+    requires lead { IsLed round.now lead trunk.now }
+    requires branch { IsBranchBy round.now lead candidate branch.now }
+    requires trail { IsTrailAt round.now lead trail.old }
+    requires later { IsClearFrom round.now candidate trail.old.end }
+    ensures met { IsTrue result ↔ IsMet round.now candidate }
+    ensures trail { IsTrailAt round.now lead trail.new }
     ensures end { trail.new.end ≡ trail.old.end }
-    ensures sure { IsSure level.now.lookahead trail.new }
 {
-    let upto = branch.leaves.min(level.lookahead);
-    walk_ahead(
-        trail,
-        config,
-        own,
-        lead,
-        trunk,
-        upto,
-        level.lookahead,
-        aircraft,
-        &level.volume,
-    );
-    meets_by_branch(config, own, lead, trunk, trail, branch, aircraft, level)
+    let upto = branch.leaves.min(round.level.lookahead);
+    walk_ahead(round, lead, trunk, trail, upto);
+    meets_by_branch(round, lead, trunk, trail, branch)
 }

@@ -3,19 +3,19 @@
 
 ghost use Rattle.std.specs.Prelude.{◌≡◌, ◌≤◌, ℕ, IsTrue, Some, false, length, slice_get};
 ghost use Rattle.daa_config.specs.Candidates.{candidates_of};
-ghost use Rattle.daa_config.specs.Settings.{IsLevelInRange, rates_of};
-ghost use Rattle.daa_config.specs.declared.candidate.Candidate.{Candidate};
-ghost use Rattle.daa_legs.specs.OwnLeg.{own_leg, IsOwnLegInRange};
+ghost use Rattle.daa_config.specs.Settings.{IsLevelInRange};
 ghost use Rattle.daa_config.specs.declared.kind.Kind.{Kind};
-ghost use Rattle.daa_state.specs.InRange.{IsOwnInRange, IsTrafficInRange, IsPictureInRange};
+ghost use Rattle.daa_state.specs.InRange.{IsPictureInRange};
 ghost use Rattle.daa_state.specs.Picture.{aircraft_of};
 ghost use Rattle.daa_state.specs.declared.word.Traffic.{Traffic};
 ghost use Rattle.daa_scan.specs.Reach.{IsInReach};
 ghost use Rattle.daa_scan.specs.Trunks.{is_needed, AreIdle, AreFlightsOf};
 ghost use Rattle.daa_scan.specs.Inside.Needs.{NeedsMore, IsIdleAt};
+ghost use Rattle.daa_scan.specs.Inside.Encounter.{IsEncounter};
 
+use crate::encounter::Encounter;
 use crate::reach::is_in_reach;
-use crate::refusal::{Seconds, present_leg, present_of, seconds_in_height, seconds_in_plane};
+use crate::refusal::{Seconds, present_leg, present_of, windows_at};
 use crate::table::fill_branches;
 use crate::trunks::fill_trunks;
 use daa_config::{Config, Kind, Level};
@@ -106,10 +106,7 @@ fn with_aircraft(
     hold: &OwnLeg,
     aircraft: &Traffic,
 ) -> Needs
-    requires own { IsOwnInRange own.now }
-    requires hold { hold.now ≡ own_leg own.now (rates_of config.now) Candidate.Hold 0 }
-    requires in_range { IsOwnLegInRange hold.now }
-    requires aircraft { IsTrafficInRange aircraft.now }
+    requires { IsEncounter config.now own.now aircraft.now hold.now }
     ensures more { NeedsMore needs result }
     ensures idle { IsInReach config.now own.now aircraft.now
         → AreIdle config.now own.now aircraft.now result }
@@ -117,46 +114,50 @@ fn with_aircraft(
     if needs.has_all() {
         return needs;
     }
-    if !is_in_reach(config, own, aircraft) {
+    let encounter = Encounter {
+        config,
+        own,
+        aircraft,
+        hold,
+    };
+    if !is_in_reach(&encounter) {
         return needs;
     }
+    with_levels(needs, &encounter)
+}
+
+/// With those of which some candidate may meet the aircraft at some level.
+fn with_levels(needs: Needs, encounter: &Encounter) -> Needs
+    ensures more { NeedsMore needs result }
+    ensures idle { AreIdle encounter.now.config.now encounter.now.own.now
+        encounter.now.aircraft.now result }
+{
     let mut all = needs;
-    for l in 0..config.levels() {
-        all = with_level(all, config, own, hold, aircraft, config.level(l + 1));
+    for l in 0..encounter.config.levels() {
+        all = with_level(all, encounter, encounter.config.level(l + 1));
     }
     all
 }
 
 /// With those of which some candidate may meet the aircraft at the level.
-fn with_level(
-    needs: Needs,
-    config: &Config,
-    own: &Own,
-    hold: &OwnLeg,
-    aircraft: &Traffic,
-    level: &Level,
-) -> Needs
-    requires own { IsOwnInRange own.now }
-    requires hold { hold.now ≡ own_leg own.now (rates_of config.now) Candidate.Hold 0 }
-    requires in_range { IsOwnLegInRange hold.now }
-    requires aircraft { IsTrafficInRange aircraft.now }
+fn with_level(needs: Needs, encounter: &Encounter, level: &Level) -> Needs
     requires level { IsLevelInRange level.now }
     ensures more { NeedsMore needs result }
-    ensures idle { IsIdleAt config.now own.now aircraft.now level.now result }
+    ensures idle { IsIdleAt encounter.now.config.now encounter.now.own.now
+        encounter.now.aircraft.now level.now result }
 {
-    let present = present_leg(config, own, hold, aircraft, level.lookahead);
-    let heights = seconds_in_height(&present, &level.volume);
-    let way = seconds_in_plane(&present, &level.volume);
+    let present = present_leg(encounter, level.lookahead);
+    let windows = windows_at(encounter, level, &present);
     Needs {
-        turns: stays_needed(needs.turns, &heights, level.lookahead),
-        climbs: stays_needed(needs.climbs, &way, level.lookahead),
+        turns: stays_needed(needs.turns, &windows.turns, level.lookahead),
+        climbs: stays_needed(needs.climbs, &windows.climbs, level.lookahead),
     }
 }
 
 /// Whether a kind is needed that was or that has seconds within the lookahead.
 fn stays_needed(before: bool, seconds: &Seconds, lookahead: u32) -> bool
     ensures more { result ≡ false → before ≡ false }
-    ensures none { result ≡ false → lookahead ≤ seconds.now.first }
+    ensures none { result ≡ false → lookahead ≤ seconds.now.begin }
 {
-    before || seconds.first < lookahead
+    before || seconds.begin < lookahead
 }

@@ -5,25 +5,23 @@ ghost use Rattle.std.specs.Prelude.{◌≡◌, ◌↔◌, ◌≤◌, ◌^◌, Is
 ghost use Rattle.daa_fixed.specs.Leg.{IsSolidBelow};
 ghost use Rattle.daa_fixed.specs.Size.{IsWithin};
 ghost use Rattle.daa_config.specs.Settings.{IsLevelInRange};
-ghost use Rattle.daa_state.specs.InRange.{IsOwnInRange, IsTrafficInRange};
 ghost use Rattle.daa_scan.specs.Reach.{size_of, place_now, horizontal_speed, vertical_speed, CanEnter, IsInReach};
 
-use daa_config::{Candidate, Config, Kind, Level};
+use crate::encounter::Encounter;
+use daa_config::{Kind, Level};
 use daa_fixed::Solid;
-use daa_legs::{Flight, relative};
-use daa_state::{Own, Traffic};
+use daa_legs::relative;
 
 /// Whether some level's volume can be entered within its lookahead.
-pub(crate) fn is_in_reach(config: &Config, own: &Own, aircraft: &Traffic) -> bool
-    requires own { IsOwnInRange own.now }
-    requires aircraft { IsTrafficInRange aircraft.now }
-    ensures { IsTrue result ↔ IsInReach config.now own.now aircraft.now }
+pub(crate) fn is_in_reach(encounter: &Encounter) -> bool
+    ensures { IsTrue result ↔ IsInReach encounter.now.config.now encounter.now.own.now
+        encounter.now.aircraft.now }
 {
-    let place = place_at_present(config, own, aircraft);
-    let horizontal = greatest_horizontal_speed(config, own, aircraft);
-    let vertical = greatest_vertical_speed(config, own, aircraft);
-    for l in 0..config.levels() {
-        if can_enter(config.level(l + 1), &place, horizontal, vertical) {
+    let place = place_at_present(encounter);
+    let horizontal = greatest_horizontal_speed(encounter);
+    let vertical = greatest_vertical_speed(encounter);
+    for l in 0..encounter.config.levels() {
+        if can_enter(encounter.config.level(l + 1), &place, horizontal, vertical) {
             return true;
         }
     }
@@ -31,37 +29,34 @@ pub(crate) fn is_in_reach(config: &Config, own: &Own, aircraft: &Traffic) -> boo
 }
 
 /// The ownship minus the aircraft now.
-fn place_at_present(config: &Config, own: &Own, aircraft: &Traffic) -> Solid
-    requires own { IsOwnInRange own.now }
-    requires aircraft { IsTrafficInRange aircraft.now }
-    ensures value { result ≡ place_now own.now aircraft.now }
+fn place_at_present(encounter: &Encounter) -> Solid
+    ensures value { result ≡ place_now encounter.now.own.now encounter.now.aircraft.now }
     ensures size { IsSolidBelow 40000000 result }
 {
-    let leg = Flight::begin(own, config, Candidate::Hold).next_leg();
-    relative(&leg, aircraft, 0).place
+    relative(encounter.hold, encounter.aircraft, 0).place
 }
 
 /// A speed that no relative speed east or north exceeds.
-fn greatest_horizontal_speed(config: &Config, own: &Own, aircraft: &Traffic) -> i64
-    requires own { IsOwnInRange own.now }
-    requires aircraft { IsTrafficInRange aircraft.now }
-    ensures value { result ≡ horizontal_speed config.now own.now aircraft.now }
+fn greatest_horizontal_speed(encounter: &Encounter) -> i64
+    ensures value { result ≡ horizontal_speed encounter.now.config.now encounter.now.own.now
+        encounter.now.aircraft.now }
     ensures size { IsWithin (2 ^ 40) result }
 {
-    let greatest = own.gs.max(config.greatest(Kind::Speed));
+    let aircraft = encounter.aircraft;
+    let greatest = encounter.own.gs.max(encounter.config.greatest(Kind::Speed));
     i64::from(greatest) + 1 + size(aircraft.vx) + size(aircraft.vy)
 }
 
 /// A speed that no relative vertical speed exceeds.
-fn greatest_vertical_speed(config: &Config, own: &Own, aircraft: &Traffic) -> i64
-    requires own { IsOwnInRange own.now }
-    requires aircraft { IsTrafficInRange aircraft.now }
-    ensures value { result ≡ vertical_speed config.now own.now aircraft.now }
+fn greatest_vertical_speed(encounter: &Encounter) -> i64
+    ensures value { result ≡ vertical_speed encounter.now.config.now encounter.now.own.now
+        encounter.now.aircraft.now }
     ensures size { IsWithin (2 ^ 40) result }
 {
-    let first = size(own.vs).max(size(config.least(Kind::Climb)));
+    let config = encounter.config;
+    let first = size(encounter.own.vs).max(size(config.least(Kind::Climb)));
     let second = size(config.greatest(Kind::Climb)).max(i64::from(config.alt_rate()));
-    first.max(second) + size(aircraft.vs)
+    first.max(second) + size(encounter.aircraft.vs)
 }
 
 /// The number without its sign.

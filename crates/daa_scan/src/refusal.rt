@@ -9,27 +9,49 @@ ghost use Rattle.daa_fixed.specs.Time.{HoldsSometime};
 ghost use Rattle.daa_taumod.specs.Volume.{IsVolumeInRange, Violates};
 ghost use Rattle.daa_taumod.specs.declared.Volume.{Volume};
 ghost use Rattle.daa_vwindow.specs.Window.{HasSmallNumbers};
-ghost use Rattle.daa_config.specs.Settings.{rates_of};
-ghost use Rattle.daa_state.specs.InRange.{IsOwnInRange, IsTrafficInRange};
+ghost use Rattle.daa_config.specs.Settings.{IsLevelInRange, rates_of};
+ghost use Rattle.daa_state.specs.InRange.{IsOwnInRange};
 ghost use Rattle.daa_legs.specs.Meeting.{MeetsWithin};
 ghost use Rattle.daa_legs.specs.OwnLeg.{own_leg, IsOwnLegInRange};
 ghost use Rattle.daa_legs.specs.Relative.{relative_for};
 ghost use Rattle.daa_legs.specs.Inside.Shared.{in_plane};
-ghost use Rattle.daa_scan.specs.Inside.Refusal.{AreSecondsInHeight};
+ghost use Rattle.daa_scan.specs.Inside.Refusal.{window_of, AreSecondsInHeight, AreWindowsOf};
 
-use daa_config::{Candidate, Config};
+use crate::encounter::Encounter;
+use daa_config::{Candidate, Config, Kind, Level};
 use daa_detect::is_hit;
 use daa_fixed::{Flat, Leg, Point, Solid};
 use daa_legs::{Flight, OwnLeg, OwnRun, relative_run};
-use daa_state::{Own, Traffic};
+use daa_state::Own;
 use daa_taumod::Volume;
 use daa_vwindow::window;
 
-/// Seconds of a flight, as numbers of its legs: from `first` on, before `end`.
+/// Seconds of a flight, as numbers of its legs: from `begin` on, before `end`.
 #[derive(Clone, Copy, Debug)]
 pub(crate) struct Seconds {
-    pub(crate) first: u32,
+    pub(crate) begin: u32,
     pub(crate) end: u32,
+}
+
+/// The seconds of each kind: of tracks and ground speeds, and of vertical speeds and altitudes.
+#[derive(Clone, Copy, Debug)]
+pub(crate) struct Windows {
+    pub(crate) turns: Seconds,
+    pub(crate) climbs: Seconds,
+}
+
+impl Windows {
+    /// The seconds of a kind.
+    pub(crate) fn of(&self, kind: Kind) -> Seconds
+        ensures { result ≡ window_of self.now kind }
+    {
+        match kind {
+            Kind::Track => self.turns,
+            Kind::Speed => self.turns,
+            Kind::Climb => self.climbs,
+            Kind::Height => self.climbs,
+        }
+    }
 }
 
 /// The longest flight, and so the longest lookahead.
@@ -37,13 +59,13 @@ const LONGEST: u32 = 180;
 
 /// No second.
 const NONE: Seconds = Seconds {
-    first: LONGEST,
+    begin: LONGEST,
     end: LONGEST,
 };
 
 /// Each second.
 const ALL: Seconds = Seconds {
-    first: 0,
+    begin: 0,
     end: LONGEST,
 };
 
@@ -57,38 +79,46 @@ pub(crate) fn present_of(config: &Config, own: &Own) -> OwnLeg
     Flight::begin(own, config, Candidate::Hold).next_leg()
 }
 
-/// So many seconds of the present flight, which has this first leg, as one leg, as the aircraft
-/// sees it.
-pub(crate) fn present_leg(
-    config: &Config,
-    own: &Own,
-    hold: &OwnLeg,
-    aircraft: &Traffic,
-    secs: u32,
-) -> Leg
-    requires own { IsOwnInRange own.now }
-    requires hold { hold.now ≡ own_leg own.now (rates_of config.now) Candidate.Hold 0 }
-    requires in_range { IsOwnLegInRange hold.now }
-    requires aircraft { IsTrafficInRange aircraft.now }
+/// So many seconds of the present flight as one leg, as the aircraft sees it.
+pub(crate) fn present_leg(encounter: &Encounter, secs: u32) -> Leg
     requires some { 1 ≤ secs }
     requires short { secs ≤ 180 }
     ensures value { result ≡ relative_for secs
-        (own_leg own.now (rates_of config.now) Candidate.Hold 0) aircraft.now 0 }
+        (own_leg encounter.now.own.now (rates_of encounter.now.config.now) Candidate.Hold 0)
+        encounter.now.aircraft.now 0 }
     ensures in_range { IsLegInRange result }
     ensures seconds { (volume : Volume) → HoldsSometime result.secs (Violates result volume)
-        ↔ MeetsWithin config.now own.now Candidate.Hold aircraft.now volume secs }
+        ↔ MeetsWithin encounter.now.config.now encounter.now.own.now Candidate.Hold
+        encounter.now.aircraft.now volume secs }
 {
     let run = OwnRun {
-        place: hold.place,
-        velocity: hold.velocity,
+        place: encounter.hold.place,
+        velocity: encounter.hold.velocity,
         secs,
     };
-    relative_run(&run, aircraft, 0)
+    relative_run(&run, encounter.aircraft, 0)
+}
+
+/// The seconds in which the candidates of each kind may violate a level's volume, by the present
+/// flight's seconds up to its lookahead as one leg.
+pub(crate) fn windows_at(encounter: &Encounter, level: &Level, present: &Leg) -> Windows
+    requires level { IsLevelInRange level.now }
+    requires present { present.now ≡ relative_for level.now.lookahead
+        (own_leg encounter.now.own.now (rates_of encounter.now.config.now) Candidate.Hold 0)
+        encounter.now.aircraft.now 0 }
+    requires in_range { IsLegInRange present.now }
+    ensures { AreWindowsOf encounter.now.config.now encounter.now.own.now
+        encounter.now.aircraft.now level.now result }
+{
+    Windows {
+        turns: seconds_in_height(present, &level.volume),
+        climbs: seconds_in_plane(present, &level.volume),
+    }
 }
 
 /// The seconds of a straight flight, flown on as far as any level looks ahead, in which its heights
 /// violate the vertical part of the volume.
-pub(crate) fn seconds_in_height(present: &Leg, volume: &Volume) -> Seconds
+fn seconds_in_height(present: &Leg, volume: &Volume) -> Seconds
     requires present { IsLegInRange present.now }
     requires volume { IsVolumeInRange volume.now }
     ensures { AreSecondsInHeight present.now volume.now result }
@@ -100,7 +130,7 @@ pub(crate) fn seconds_in_height(present: &Leg, volume: &Volume) -> Seconds
     };
     match window(&longest, volume) {
         Some((begin, end)) => Seconds {
-            first: first_second(&begin),
+            begin: first_second(&begin),
             end: last_second(&end) + 1,
         },
         None => NONE,
@@ -126,11 +156,11 @@ fn last_second(time: &Point) -> u32
 
 /// All seconds where the way of the leg over ground violates the horizontal part of the volume at
 /// some time, else none.
-pub(crate) fn seconds_in_plane(leg: &Leg, volume: &Volume) -> Seconds
+fn seconds_in_plane(leg: &Leg, volume: &Volume) -> Seconds
     requires leg { IsLegInRange leg.now }
     requires volume { IsVolumeInRange volume.now }
-    ensures first { HoldsSometime leg.now.secs (Violates (in_plane leg.now) volume.now)
-        → result.first ≡ 0 }
+    ensures begin { HoldsSometime leg.now.secs (Violates (in_plane leg.now) volume.now)
+        → result.begin ≡ 0 }
     ensures end { result.end ≡ 180 }
 {
     if is_hit(&way_alone(leg), volume) {

@@ -3,26 +3,31 @@
 ghost use Rattle.std.specs.Prelude.{◌≡◌, ◌<◌, ◌≤◌, ◌↔◌, ◌+◌, ◌^◌, ℕ, IsTrue, length, replicate, slice_get, slice_index, Contains, Some};
 ghost use Rattle.daa_config.specs.Candidates.{candidates_of};
 ghost use Rattle.daa_fixed.specs.Mask.{IsMaskOf};
-ghost use Rattle.daa_config.specs.Settings.{IsAccepted};
+ghost use Rattle.daa_config.specs.Settings.{IsAccepted, rates_of};
+ghost use Rattle.daa_config.specs.declared.candidate.Candidate.{Candidate};
+ghost use Rattle.daa_legs.specs.OwnLeg.{own_leg, IsOwnLegInRange};
 ghost use Rattle.daa_state.specs.InRange.{IsPictureInRange};
 ghost use Rattle.daa_state.specs.Picture.{aircraft_of};
-ghost use Rattle.daa_scan.specs.Reach.{IsInReachAt};
+ghost use Rattle.daa_scan.specs.Inside.Encounter.{IsEncounter};
+ghost use Rattle.daa_scan.specs.Reach.{IsInReach, IsInReachAt};
 ghost use Rattle.daa_scan.specs.Adding.{AddsLevels};
 ghost use Rattle.daa_scan.specs.SceneState.{MeetsAt};
 ghost use Rattle.daa_scan.specs.Trunks.{AreFlightsOf};
 ghost use Rattle.daa_scan.specs.Units.{group_count, most_groups};
 ghost use Rattle.daa_scan.specs.Packed.{places_in_reach, packed_word, entry_at};
 
+use crate::encounter::Encounter;
 use crate::marking::mark_levels;
 use crate::needs::Needs;
 use crate::reach::is_in_reach;
+use crate::refusal::present_of;
 use crate::trunks::Trunks;
 use arrayvec::ArrayVec;
 use daa_config::packing::{GROUP, WIDTH};
-use daa_config::{Config, Kind};
-use daa_legs::{Branch, Trunk};
+use daa_config::{Candidate, Config, Kind};
+use daa_legs::{Branch, OwnLeg, Trunk};
 use daa_schedule::Answers;
-use daa_state::{MOST_AIRCRAFT, Picture, Traffic};
+use daa_state::{MOST_AIRCRAFT, Own, Picture, Traffic};
 use std::marker::Model;
 
 /// How many candidates a word has.
@@ -37,6 +42,8 @@ pub struct Scene<'a> {
     // the places of the aircraft in reach, in the moment's order
     places: ArrayVec<u32, MOST_AIRCRAFT>,
     trunks: Trunks<'a>,
+    // the first leg of the present flight
+    hold: OwnLeg,
 }
 
 impl<'a> Model for Scene<'a> {
@@ -50,7 +57,7 @@ impl<'a> Model for Scene<'a> {
     ghost invariant = { λ s. IsScene (record {
       settings = s.config.now;
       picture = s.picture.now;
-    }) s.groups s.places.items s.trunks };
+    }) s.groups s.places.items s.trunks s.hold };
 }
 
 impl<'a> Scene<'a> {
@@ -68,12 +75,14 @@ impl<'a> Scene<'a> {
         requires flights { AreFlightsOf config.now picture.now needs trunks.now branches.now }
         ensures { result ≡ record { settings = config.now; picture = picture.now } }
     {
+        let hold = present_of(config, &picture.own);
         Scene {
             config,
             picture,
             groups: groups_of(config),
-            places: places_near(config, picture),
+            places: places_near(config, picture, &hold),
             trunks: Trunks::of(trunks, branches, needs),
+            hold,
         }
     }
 
@@ -106,17 +115,7 @@ impl<'a> Scene<'a> {
             (slice_index masks.new j) }
         ensures length { length masks.new ≡ length masks.old }
     {
-        if !self.in_reach(aircraft) {
-            return;
-        }
-        mark_levels(
-            self.config,
-            &self.picture.own,
-            &self.trunks,
-            self.aircraft(aircraft),
-            first,
-            masks,
-        );
+        self.add_from(first, aircraft, masks);
     }
 
     /// Adds to the masks of the candidates from the first of the whole list on the levels at which
@@ -132,17 +131,28 @@ impl<'a> Scene<'a> {
             (slice_index masks.old j) (slice_index masks.new j) }
         ensures length { length masks.new ≡ length masks.old }
     {
+        self.add_from(0, aircraft, masks);
+    }
+
+    /// The same of the candidates from number `first` of the whole list on.
+    fn add_from(&self, first: u32, aircraft: u32, masks: &mut [u8])
+        requires aircraft { aircraft < length (aircraft_of self.now.picture) }
+        requires short { first + length masks.old < 2 ^ 32 }
+        ensures masks { (j : ℕ) → j < length masks.new
+            → AddsLevels (MeetsAt self.now (first + j) aircraft)
+            (length self.now.settings.levels) (slice_index masks.old j) (slice_index masks.new j) }
+        ensures length { length masks.new ≡ length masks.old }
+    {
         if !self.in_reach(aircraft) {
             return;
         }
-        mark_levels(
-            self.config,
-            &self.picture.own,
-            &self.trunks,
-            self.aircraft(aircraft),
-            0,
-            masks,
-        );
+        let encounter = Encounter {
+            config: self.config,
+            own: &self.picture.own,
+            aircraft: self.aircraft(aircraft),
+            hold: &self.hold,
+        };
+        mark_levels(&encounter, &self.trunks, first, masks);
     }
 
     /// Whether the aircraft is near enough to be met: by its place now, the greatest speeds at
@@ -264,19 +274,35 @@ impl<'a> Answers for Scene<'a> {
     ghost real = { words_real };
 }
 
-/// The places of the aircraft that are near enough to be met at all, in the moment's order.
-fn places_near(config: &Config, picture: &Picture) -> ArrayVec<u32, MOST_AIRCRAFT>
-    requires { IsPictureInRange picture.now }
+/// The places of the aircraft that are near enough to be met at all, in the moment's order, where
+/// the present flight has this first leg.
+fn places_near(config: &Config, picture: &Picture, hold: &OwnLeg) -> ArrayVec<u32, MOST_AIRCRAFT>
+    requires picture { IsPictureInRange picture.now }
+    requires hold { hold.now ≡ own_leg picture.now.own (rates_of config.now) Candidate.Hold 0 }
+    requires in_range { IsOwnLegInRange hold.now }
     ensures { result.items ≡ places_in_reach
         (record { settings = config.now; picture = picture.now }) }
 {
     let mut places = ArrayVec::new();
     for place in 0..picture.traffic.len() as u32 {
-        if is_in_reach(config, &picture.own, &picture.traffic[place as usize]) {
+        if is_near(config, &picture.own, hold, &picture.traffic[place as usize]) {
             places.push(place);
         }
     }
     places
+}
+
+/// Whether an aircraft is.
+fn is_near(config: &Config, own: &Own, hold: &OwnLeg, aircraft: &Traffic) -> bool
+    requires { IsEncounter config.now own.now aircraft.now hold.now }
+    ensures { IsTrue result ↔ IsInReach config.now own.now aircraft.now }
+{
+    is_in_reach(&Encounter {
+        config,
+        own,
+        aircraft,
+        hold,
+    })
 }
 
 /// Whether a place is one of these.

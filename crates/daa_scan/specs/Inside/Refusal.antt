@@ -5,17 +5,26 @@ use Rattle.daa_fixed.specs.declared.Leg.{Leg}
 use Rattle.daa_taumod.specs.Volume.{ViolatesVertically}
 use Rattle.daa_taumod.specs.declared.Volume.{Volume}
 use Rattle.daa_config.specs.declared.kind.Kind.{Kind}
+use Rattle.daa_config.specs.declared.kind.Kind.TheVariants.{Track, Speed, Climb, Height}
 use Rattle.daa_config.specs.declared.level.Level.{Level}
 use Rattle.daa_config.specs.Candidates.{candidate_to}
-use Rattle.daa_config.specs.Settings.{Settings, IsLevelAt}
+use Rattle.daa_config.specs.Settings.{Settings}
 use Rattle.daa_state.specs.declared.word.Own.{Own}
 use Rattle.daa_state.specs.declared.word.Traffic.{Traffic}
 use Rattle.daa_legs.specs.Meeting.{ViolatesOn}
 use Rattle.daa_scan.specs.declared.refusal.Seconds.{Seconds}
+use Rattle.daa_scan.specs.declared.refusal.Windows.{Windows}
+
+-- the seconds of a kind
+abbrev pub window_of : Windows → Kind → Seconds
+window_of windows Track = windows.turns
+window_of windows Speed = windows.turns
+window_of windows Climb = windows.climbs
+window_of windows Height = windows.climbs
 
 -- second k is one of them
 pub record IsSecondOf (seconds : Seconds) (k : ℕ) : Type 0 where
-  pub from : seconds.first ≤ k
+  pub from : seconds.begin ≤ k
   pub upto : k < seconds.end
 
 -- a second of the leg, flown on for 180 seconds, is one of them where the vertical part of the volume holds at a time of it
@@ -25,9 +34,9 @@ AreSecondsInHeight leg volume seconds = (k : ℕ) (n d : ℤ) → k < 180 → Is
 module _ (settings : Settings) (own : Own) (aircraft : Traffic) where
   -- no candidate of the kind violates the volume on one of the first m legs before them, nor on any leg after them
   pub record AreSecondsOf (kind : Kind) (volume : Volume) (m : ℕ) (seconds : Seconds) : Type 0 where
-    pub before : (z : ℤ) (k : ℕ) → k < m → k < seconds.first → ¬ ViolatesOn settings own (candidate_to kind z) aircraft volume k
+    pub before : (z : ℤ) (k : ℕ) → k < m → k < seconds.begin → ¬ ViolatesOn settings own (candidate_to kind z) aircraft volume k
     pub after : (z : ℤ) (k : ℕ) → k < 180 → seconds.end ≤ k → ¬ ViolatesOn settings own (candidate_to kind z) aircraft volume k
 
-  -- the same of level l
-  abbrev pub AreSecondsAt : Kind → ℕ → Seconds → Type 0
-  AreSecondsAt kind l seconds = (level : Level) → IsLevelAt settings l level → AreSecondsOf kind level.volume level.lookahead seconds
+  -- the same of each kind, at a level
+  abbrev pub AreWindowsOf : Level → Windows → Type 0
+  AreWindowsOf level windows = (kind : Kind) → AreSecondsOf kind level.volume level.lookahead (window_of windows kind)

@@ -1,12 +1,19 @@
 -- How far the flight that leads on a side was walked against an aircraft and a volume.
-use Rattle.std.specs.Prelude.{ℕ, ◌≡◌, ◌<◌, ◌≤◌, ◌^◌, IsTrue, false}
+use Rattle.std.specs.Prelude.{ℕ, ◌≡◌, ◌<◌, ◌≤◌, ◌^◌, IsTrue, false, List}
 use Rattle.daa_taumod.specs.declared.Volume.{Volume}
 use Rattle.daa_config.specs.declared.candidate.Candidate.{Candidate}
-use Rattle.daa_config.specs.Settings.{Settings}
+use Rattle.daa_config.specs.Settings.{Settings, IsCandidateInRange, rates_of}
 use Rattle.daa_state.specs.declared.word.Own.{Own}
 use Rattle.daa_state.specs.declared.word.Traffic.{Traffic}
 use Rattle.daa_legs.specs.Meeting.{ViolatesOn}
+use Rattle.daa_legs.specs.declared.branch.Branch.{Branch}
+use Rattle.daa_legs.specs.declared.own_leg.OwnLeg.{OwnLeg}
+use Rattle.daa_legs.specs.Branch.{lead_of}
+use Rattle.daa_legs.specs.Table.{IsBranchOf}
+use Rattle.daa_legs.specs.Trunk.{AreLegsOf}
+use Rattle.daa_scan.specs.declared.encounter.Round.{Round}
 use Rattle.daa_scan.specs.declared.trail.Trail.{Trail}
+use Rattle.daa_scan.specs.Inside.Rounds.{settings_in, own_in, aircraft_in}
 
 -- none of the legs walked violates, and where there is a hit the next one does; from its end on none does
 pub record IsTrailOf (settings : Settings) (own : Own) (lead : Candidate) (aircraft : Traffic) (volume : Volume) (trail : Trail) : Type 0 where
@@ -19,3 +26,19 @@ pub record IsTrailOf (settings : Settings) (own : Own) (lead : Candidate) (aircr
 pub record IsSure (lookahead : ℕ) (trail : Trail) : Type 0 where
   pub hit : IsTrue trail.hit → (n : ℕ) → trail.past < n → n < 2 ^ 32 → (trail.walked < n) × (trail.walked < lookahead)
   pub clear : trail.hit ≡ false → (n k : ℕ) → trail.past < n → n < 2 ^ 32 → k < lookahead → (trail.walked ≤ k → trail.end ≤ k) × (n ≤ k → trail.end ≤ k)
+
+-- the trail along the flight that leads, in a round
+pub record IsTrailAt (round : Round) (lead : Candidate) (trail : Trail) : Type 0 where
+  pub along : IsTrailOf (settings_in round) (own_in round) lead (aircraft_in round) round.level.now.volume trail
+  pub sure : IsSure round.level.now.lookahead trail
+
+-- these are the legs of the flight that leads, as far as the level looks ahead
+pub record IsLed (round : Round) (lead : Candidate) (legs : List OwnLeg) : Type 0 where
+  pub in_range : IsCandidateInRange lead
+  pub legs_of : AreLegsOf (own_in round) (rates_of (settings_in round)) lead round.level.now.lookahead legs
+
+-- the candidate's branch, which leaves the flight that leads on its side
+pub record IsBranchBy (round : Round) (lead candidate : Candidate) (branch : Branch) : Type 0 where
+  pub in_range : IsCandidateInRange candidate
+  pub leads : lead ≡ lead_of (own_in round) candidate branch.upper
+  pub branch_of : IsBranchOf (own_in round) (rates_of (settings_in round)) candidate branch

@@ -2,5 +2,5 @@ use Rattle.daa_scan.specs.Inside.Marking.{AreMasks}
 use Rattle.daa_scan.proofs.marking.mark_levels.Given as goal
 
 -- the levels so far were added
-abbrev pub invariant-loop-l : goal.invariant-loop-l
-invariant-loop-l l = AreMasks l.config l.own l.aircraft l.first l.l l.initial.masks l.masks
+abbrev pub invariant-loop-done : goal.invariant-loop-done
+invariant-loop-done l = AreMasks l.encounter.config.now l.encounter.own.now l.encounter.aircraft.now l.first l.done l.initial.masks l.masks

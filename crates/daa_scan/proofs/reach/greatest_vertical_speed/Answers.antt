@@ -29,34 +29,34 @@ record Parts (m s r w : ℤ) : Type 0 where
   second_size : IsWithin 10000 s
 
 parts : (c : After-size-4) → Parts c.max.result c.size-4.result
-    (int_max (int_max (size_of c.args.own.now.vs) (size_of (least_of Climb c.args.config.now))) (int_max (size_of (greatest_of Climb c.args.config.now)) c.args.config.now.numbers.alt.rate)) (size_of c.args.aircraft.now.vs)
+    (int_max (int_max (size_of c.args.encounter.now.own.now.vs) (size_of (least_of Climb c.args.encounter.now.config.now))) (int_max (size_of (greatest_of Climb c.args.encounter.now.config.now)) c.args.encounter.now.config.now.numbers.alt.rate)) (size_of c.args.encounter.now.aircraft.now.vs)
 parts c =
-    let f1 : FitsSigned w32 c.args.own.now.vs = search rules in
+    let f1 : FitsSigned w32 c.args.encounter.now.own.now.vs = search rules in
     let f2 : FitsSigned w32 c.least.result = search rules in
     let f3 : FitsSigned w32 c.greatest.result = search rules in
     let f4 : FitsSigned w32 c.alt_rate.result = search rules in
-    let f5 : FitsSigned w32 c.args.aircraft.now.vs = search rules in
+    let f5 : FitsSigned w32 c.args.encounter.now.aircraft.now.vs = search rules in
     let g1 : FitsSigned w64 c.size.result = search rules in
     let g2 : FitsSigned w64 c.size-2.result = search rules in
     let g3 : FitsSigned w64 c.size-3.result = search rules in
     let g4 : FitsSigned w64 c.from.result = search rules in
     let g5 : FitsSigned w64 c.max-first.result = search rules in
     let g6 : FitsSigned w64 c.max-second.result = search rules in
-    let e1 : c.size.result ≡ size_of c.args.own.now.vs = simp to_z-of_z at c.size.ensures in
-    let e2 : c.size-2.result ≡ size_of (least_of Climb c.args.config.now) = (simp to_z-of_z at c.size-2.ensures) ∙ ap size_of c.least.ensures.value in
-    let e3 : c.size-3.result ≡ size_of (greatest_of Climb c.args.config.now) = (simp to_z-of_z at c.size-3.ensures) ∙ ap size_of c.greatest.ensures.value in
-    let e4 : c.from.result ≡ c.args.config.now.numbers.alt.rate = (simp to_z-of_z at c.from.ensures) ∙ c.alt_rate.ensures.value in
+    let e1 : c.size.result ≡ size_of c.args.encounter.now.own.now.vs = simp to_z-of_z at c.size.ensures in
+    let e2 : c.size-2.result ≡ size_of (least_of Climb c.args.encounter.now.config.now) = (simp to_z-of_z at c.size-2.ensures) ∙ ap size_of c.least.ensures.value in
+    let e3 : c.size-3.result ≡ size_of (greatest_of Climb c.args.encounter.now.config.now) = (simp to_z-of_z at c.size-3.ensures) ∙ ap size_of c.greatest.ensures.value in
+    let e4 : c.from.result ≡ c.args.encounter.now.config.now.numbers.alt.rate = (simp to_z-of_z at c.from.ensures) ∙ c.alt_rate.ensures.value in
     let m1 = (simp to_z-of_z at c.max-first.ensures.value) ∙ (λ i. int_max (e1 i) (e2 i)) in
     let m2 = (simp to_z-of_z at c.max-second.ensures.value) ∙ (λ i. int_max (e3 i) (e4 i)) in
     let m = (simp to_z-of_z at c.max.ensures.value) ∙ (λ i. int_max (m1 i) (m2 i)) in
-    let s : c.size-4.result ≡ size_of c.args.aircraft.now.vs = simp to_z-of_z at c.size-4.ensures in
+    let s : c.size-4.result ≡ size_of c.args.encounter.now.aircraft.now.vs = simp to_z-of_z at c.size-4.ensures in
     record {
       first = m;
       second = s;
       first_size = as_within m (max_within _ _
-          (max_within _ _ (small _ (range _ c.requires.own.vs)) (small _ (subst (λ (z : ℤ). IsFrom (negsuc 9999) (pos 10000) z) c.least.ensures.value c.least.ensures.in_range)))
+          (max_within _ _ (small _ (range _ c.args.encounter.now.known.own_in_range.vs)) (small _ (subst (λ (z : ℤ). IsFrom (negsuc 9999) (pos 10000) z) c.least.ensures.value c.least.ensures.in_range)))
           (max_within _ _ (small _ (subst (λ (z : ℤ). IsFrom (negsuc 9999) (pos 10000) z) c.greatest.ensures.value c.greatest.ensures.in_range)) (rate_in _ (subst (λ (z : ℤ). IsFrom (pos 1) (pos 10000) z) c.alt_rate.ensures.value c.alt_rate.ensures.in_range))));
-      second_size = as_within s (small _ (range _ c.requires.aircraft.vs));
+      second_size = as_within s (small _ (range _ c.args.encounter.now.known.aircraft_in_range.vs));
     }
 
 pub overflow_add-result : goal.overflow_add-result

@@ -21,7 +21,7 @@ more settings l here P e h n j level k f p = ⊎_elim
 same : (b : Bool) (level : Level) (p q : Solid) (h i v u : ℤ) → p ≡ q → h ≡ i → v ≡ u → IsTrue b ↔ CanEnter level p h v → IsTrue b ↔ CanEnter level q i u
 same b level p q h i v u e f g x = subst (λ (z : Solid). IsTrue b ↔ CanEnter level z i u) e (subst (λ (z : ℤ). IsTrue b ↔ CanEnter level p z u) f (subst (λ (z : ℤ). IsTrue b ↔ CanEnter level p h z) g x))
 
-tested : (c : After-can_enter) → IsTrue c.can_enter.result ↔ CanEnter c.level.result.now (place_now c.args.own.now c.args.aircraft.now) (horizontal_speed c.args.config.now c.args.own.now c.args.aircraft.now) (vertical_speed c.args.config.now c.args.own.now c.args.aircraft.now)
+tested : (c : After-can_enter) → IsTrue c.can_enter.result ↔ CanEnter c.level.result.now (place_now c.args.encounter.now.own.now c.args.encounter.now.aircraft.now) (horizontal_speed c.args.encounter.now.config.now c.args.encounter.now.own.now c.args.encounter.now.aircraft.now) (vertical_speed c.args.encounter.now.config.now c.args.encounter.now.own.now c.args.encounter.now.aircraft.now)
 tested c =
     let f : FitsSigned w64 c.greatest_horizontal_speed-horizontal.result = search rules in
     let g : FitsSigned w64 c.greatest_vertical_speed-vertical.result = search rules in
@@ -31,7 +31,7 @@ pub loop-l-init : goal.loop-l-init
 loop-l-init c j level k f = absurd (omega (arith, k, f.numbered))
 
 pub loop-l-preserved : goal.loop-l-preserved
-loop-l-preserved c = more c.args.config.now c.loop-l.l c.level.result.now _ c.level.ensures.value c.loop-l.invariant (λ r. let t = (tested c.before).1 r in absurd (cc (t, c.if-can_enter.false)))
+loop-l-preserved c = more c.args.encounter.now.config.now c.loop-l.l c.level.result.now _ c.level.ensures.value c.loop-l.invariant (λ r. let t = (tested c.before).1 r in absurd (cc (t, c.if-can_enter.false)))
 
 pub returns-then-can_enter : goal.returns-then-can_enter
 returns-then-can_enter c = (
@@ -42,6 +42,6 @@ returns-then-can_enter c = (
 pub returns : goal.returns
 returns c = (
   (λ t. absurd (cc t)),
-  (λ r. let inside = slice_get_within c.args.config.now.levels (r.number - 1) r.level r.there.there in
+  (λ r. let inside = slice_get_within c.args.encounter.now.config.now.levels (r.number - 1) r.level r.there.there in
       absurd (c.loop-l.invariant r.number r.level (omega (arith, inside, c.levels-l-end.ensures.value, c.loop-l-test.false)) r.there r.enters)),
 )

@@ -5,4 +5,6 @@ use Rattle.daa_scan.specs.Reach.{place_now, horizontal_speed, vertical_speed, Ca
 use Rattle.daa_scan.proofs.reach.is_in_reach.Given as goal
 
 abbrev pub invariant-loop-l : goal.invariant-loop-l
-invariant-loop-l l = (j : ℕ) (level : Level) → j ≤ l.l → IsLevelAt l.config j level → ¬ CanEnter level (place_now l.own l.aircraft) (horizontal_speed l.config l.own l.aircraft) (vertical_speed l.config l.own l.aircraft)
+invariant-loop-l l = (j : ℕ) (level : Level) → j ≤ l.l → IsLevelAt l.encounter.config.now j level
+    → ¬ CanEnter level (place_now l.encounter.own.now l.encounter.aircraft.now) (horizontal_speed l.encounter.config.now l.encounter.own.now l.encounter.aircraft.now)
+    (vertical_speed l.encounter.config.now l.encounter.own.now l.encounter.aircraft.now)

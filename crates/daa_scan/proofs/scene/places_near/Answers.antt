@@ -7,13 +7,13 @@ use Rattle.daa_scan.specs.Packed.{is_reached_at, numbers_below}
 use Rattle.daa_scan.specs.SceneState.{SceneState}
 use Rattle.daa_scan.proofs.Numbers.{none_below, count_small, tested_here, listed_here, passed_here}
 use Rattle.daa_scan.proofs.scene.places_near.Goals as goal
-use Rattle.daa_scan.proofs.scene.places_near.Goals.{then-is_in_reach, else-is_in_reach}
+use Rattle.daa_scan.proofs.scene.places_near.Goals.{then-is_near, else-is_near}
 
 pub push-requires : goal.push-requires
 push-requires c =
     let e = ap length c.loop-place.invariant in
     let few = count_small (is_reached_at (record { settings = c.args.config.now; picture = c.args.picture.now })) c.loop-place.place in
-    (omega arith, omega (arith, e, few, c.loop-place-test.true, c.len-place-end.ensures.value, c.requires.count))
+    (omega arith, omega (arith, e, few, c.loop-place-test.true, c.len-place-end.ensures.value, c.requires.picture.count))
 
 pub loop-place-init : goal.loop-place-init
 loop-place-init c = c.new-places.ensures ∙ sym (none_below _)
@@ -25,10 +25,10 @@ loop-place-preserved c =
     let in_list : n < length (aircraft_of s.picture) = omega (arith, c.loop-place-test.true, c.len-place-end.ensures.value) in
     let at : c.index-deref-place.result ≡ slice_index_or (aircraft_of s.picture) n c.index-deref-place.result = c.index-deref-place.is ∙ ap (λ (ts : List Traffic). slice_index_or ts n c.index-deref-place.result) c.deref.ensures.0 in
     let there : slice_get (aircraft_of s.picture) n ≡ Some c.index-deref-place.result = slice_get_read (aircraft_of s.picture) (length (aircraft_of s.picture)) n _ refl in_list at in
-    let tested = tested_here s n c.index-deref-place.result there c.is_in_reach.result c.is_in_reach.ensures in
-    elim c.if-is_in_reach.branch [
-      | then-is_in_reach w ↦ (λ i. (w.places-is i).items) ∙ w.push.ensures.items ∙ ap (λ (xs : List ℕ). xs ++ (n ∷ [])) c.loop-place.invariant ∙ listed_here s n c.is_in_reach.result tested w.if-is_in_reach.true
-      | else-is_in_reach w ↦ (λ i. (w.places-is i).items) ∙ c.loop-place.invariant ∙ passed_here s n c.is_in_reach.result tested w.if-is_in_reach.false
+    let tested = tested_here s n c.index-deref-place.result there c.is_near.result c.is_near.ensures in
+    elim c.if-is_near.branch [
+      | then-is_near w ↦ (λ i. (w.places-is i).items) ∙ w.push.ensures.items ∙ ap (λ (xs : List ℕ). xs ++ (n ∷ [])) c.loop-place.invariant ∙ listed_here s n c.is_near.result tested w.if-is_near.true
+      | else-is_near w ↦ (λ i. (w.places-is i).items) ∙ c.loop-place.invariant ∙ passed_here s n c.is_near.result tested w.if-is_near.false
     ]
 
 pub returns : goal.returns

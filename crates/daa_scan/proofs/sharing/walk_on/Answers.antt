@@ -1,4 +1,5 @@
 use Rattle.std.proofs.Common.{below_more, refl, ◌∙◌, sym, arith, true≢false}
+use Rattle.daa_scan.specs.Inside.Rounds.{settings_in, own_in, aircraft_in}
 use Rattle.daa_scan.proofs.Trails.{walked_upto}
 use Rattle.daa_scan.proofs.sharing.walk_on.Goals as goal
 
@@ -18,9 +19,11 @@ loop-walked-preserved c = record {
 }
 
 pub returns-clause-trail : goal.returns-clause-trail
-returns-clause-trail c = record {
-  none = walked_upto c.args.config.now c.args.own.now c.args.lead c.args.aircraft.now c.args.volume.now c.loop-walked.trail c.min-last.result c.loop-walked.walked c.args.upto c.loop-walked.invariant.trail c.requires.upto
-      c.loop-walked.invariant.last (omega (arith, c.loop-walked-test.false)) c.loop-walked.invariant.none;
-  hit = λ t. absurd (true≢false (sym t ∙ c.loop-walked.invariant.clear));
-  later = c.loop-walked.invariant.trail.later;
-}
+returns-clause-trail c =
+    let r = c.args.round.now in
+    record {
+      none = walked_upto (settings_in r) (own_in r) c.args.lead (aircraft_in r) r.level.now.volume c.loop-walked.trail c.min-last.result c.loop-walked.walked c.args.upto c.loop-walked.invariant.trail
+          (omega (arith, c.requires.upto, r.known.in_range.lookahead_most)) c.loop-walked.invariant.last (omega (arith, c.loop-walked-test.false)) c.loop-walked.invariant.none;
+      hit = λ t. absurd (true≢false (sym t ∙ c.loop-walked.invariant.clear));
+      later = c.loop-walked.invariant.trail.later;
+    }

@@ -1,0 +1,6 @@
+use Rattle.daa_scan.proofs.Refusing.{all_windows}
+use Rattle.daa_scan.proofs.refusal.windows_at.Goals as goal
+
+pub returns : goal.returns
+returns c = all_windows c.args.encounter.now.config.now c.args.encounter.now.own.now c.args.encounter.now.aircraft.now c.args.level.now c.requires.level c.args.present.now c.requires.present
+    c.seconds_in_height.result c.seconds_in_plane.result c.seconds_in_height.ensures c.seconds_in_plane.ensures.begin c.seconds_in_plane.ensures.end
