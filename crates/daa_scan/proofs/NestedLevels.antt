@@ -17,7 +17,7 @@ use Rattle.daa_config.specs.declared.level.Level.{Level}
 use Rattle.daa_config.specs.Settings.{Settings}
 use Rattle.daa_state.specs.declared.word.Own.{Own}
 use Rattle.daa_state.specs.declared.word.Traffic.{Traffic}
-use Rattle.daa_legs.specs.Meeting.{MeetsWithin}
+use Rattle.daa_legs.specs.Meeting.{ViolatesOn, MeetsWithin}
 use Rattle.daa_legs.proofs.Stretches.{flown_on, place_later}
 use Rattle.daa_scan.specs.Inside.Nesting.{LiesWithin}
 
@@ -131,17 +131,20 @@ module _ (leg : Leg) (inner outer : Volume) (n d : ℤ) (d1 : pos 1 ≤ℤ d) (d
   pub violates_outer : place_of inner.model ≤ place_of outer.model → Violates leg inner n d → Violates leg outer n d
   violates_outer h v = violates_grows outer.model (violates_by_model inner.model outer.model leg inner n d h d1 v)
 
+-- on a leg
+pub hit_outer : (settings : Settings) (own : Own) (candidate : Candidate) (aircraft : Traffic) (inner outer : Level) (k : ℕ) → LiesWithin inner outer
+    → ViolatesOn settings own candidate aircraft inner.volume k → ViolatesOn settings own candidate aircraft outer.volume k
+hit_outer settings own candidate aircraft inner outer k h x = record {
+  num = x.num;
+  den = x.den;
+  time = x.time;
+  holds = violates_outer _ inner.volume outer.volume x.num x.den x.time.fraction h.dthr h.zthr h.tthr h.tcoa h.model x.holds;
+}
+
 pub meets_outer : (settings : Settings) (own : Own) (candidate : Candidate) (aircraft : Traffic) (inner outer : Level) → LiesWithin inner outer
     → MeetsWithin settings own candidate aircraft inner.volume inner.lookahead → MeetsWithin settings own candidate aircraft outer.volume outer.lookahead
-meets_outer settings own candidate aircraft inner outer h m =
-    let x = m.violates in
-    record {
-      leg = m.leg;
-      before = omega (arith, m.before, h.lookahead);
-      violates = record {
-        num = x.num;
-        den = x.den;
-        time = x.time;
-        holds = violates_outer _ inner.volume outer.volume x.num x.den x.time.fraction h.dthr h.zthr h.tthr h.tcoa h.model x.holds;
-      };
-    }
+meets_outer settings own candidate aircraft inner outer h m = record {
+  leg = m.leg;
+  before = omega (arith, m.before, h.lookahead);
+  violates = hit_outer settings own candidate aircraft inner outer m.leg h m.violates;
+}

@@ -1,5 +1,5 @@
 -- The sides of a kind: their leading flights, and how far they were walked.
-use Rattle.std.proofs.Common.{◌≡◌, ◌↔◌, ◌^◌, ℕ, ℤ, pos, ◌+◌, ◌-◌, ◌<◌, ◌≤◌, Bool, [], true, false, List, length, refl, sym, subst, ap, ◌∙◌, arith, ⊎_elim}
+use Rattle.std.proofs.Common.{◌≡◌, ◌↔◌, ◌^◌, ℕ, ℤ, pos, ◌+◌, ◌-◌, ◌<◌, ◌≤◌, max, Bool, [], true, false, List, length, refl, sym, subst, ap, ◌∙◌, arith, ⊎_elim}
 use Rattle.std.specs.Prelude.{IsTrue, slice_index_or}
 use Rattle.std.proofs.Math.ListN.{set}
 use Rattle.std.proofs.lemmas.Bool.{cases_eq, cases_lt}
@@ -17,6 +17,7 @@ use Rattle.daa_state.specs.declared.word.Own.{Own}
 use Rattle.daa_legs.specs.declared.own_leg.OwnLeg.{OwnLeg}
 use Rattle.daa_legs.specs.Branch.{lead_of, FliesAs}
 use Rattle.daa_legs.specs.declared.branch.Branch.{Branch}
+use Rattle.daa_legs.specs.Meeting.{ViolatesOn}
 use Rattle.daa_legs.specs.Table.{IsBranchOf}
 use Rattle.daa_legs.specs.Trunk.{AreLegsOf}
 use Rattle.daa_legs.proofs.AtLevel.{one_level}
@@ -24,7 +25,7 @@ use Rattle.daa_scan.specs.declared.refusal.Seconds.{Seconds}
 use Rattle.daa_scan.specs.declared.trail.Trail.{Trail}
 use Rattle.daa_scan.specs.declared.marking.Trails.{Trails}
 use Rattle.daa_scan.specs.declared.encounter.Round.{Round}
-use Rattle.daa_scan.specs.Inside.Marking.{AreTrailsOf, IsBranchIn, IsNumberOf}
+use Rattle.daa_scan.specs.Inside.Marking.{AreClear, AreTrailsOf, IsBranchIn, IsNumberOf}
 use Rattle.daa_scan.specs.Inside.Rounds.{settings_in, own_in, aircraft_in, IsHitOn, IsMet, IsClearFrom}
 use Rattle.daa_scan.specs.Inside.Refusal.{AreSecondsOf}
 use Rattle.daa_scan.specs.Inside.Sharing.{IsSure, IsTrailAt}
@@ -32,7 +33,9 @@ use Rattle.daa_scan.specs.Trunks.{trunk_index, trunk_in, is_needed, AreLeads}
 use Rattle.daa_scan.specs.declared.needs.Needs.{Needs}
 use Rattle.daa_scan.proofs.TrunksWords.{AreLeadsBelow}
 use Rattle.daa_scan.specs.Inside.Trunks.{IsAhead}
-use Rattle.daa_scan.proofs.Marks.{number_there, of_kind, of_kind_in_range}
+use Rattle.daa_scan.specs.Inside.Encounter.{IsNestedAt}
+use Rattle.daa_scan.proofs.Marks.{level_before, number_there, of_kind, of_kind_in_range}
+use Rattle.daa_scan.proofs.NestedLevels.{hit_outer}
 use Rattle.daa_scan.proofs.Trails.{fewer_legs, sure_met}
 
 pub ahead_more : (settings : Settings) (l most new : ℕ) (next : Level) → IsAhead settings l most → IsLevelAt settings (l + 1) next → next.lookahead ≤ new → most ≤ new → IsAhead settings (l + 1) new
@@ -127,29 +130,43 @@ leads own Speed upper z = (_, refl)
 leads own Climb upper z = (_, refl)
 leads own Height upper z = (_, refl)
 
--- a trail that is sure of no leg
-sure_of_none : (m : ℕ) (trail : Trail) → 2 ^ 32 ≤ trail.past + 1 → IsSure m trail
-sure_of_none m trail most = record {
-  hit = λ h n p b. absurd (omega (arith, most, p, b));
-  clear = λ c n k p b l. absurd (omega (arith, most, p, b));
-}
+-- where a trail begins: the seconds before the kind's are walked, and the legs that are clear
+module _ (round : Round) (kind : Kind) (seconds : Seconds) (h : AreSecondsOf (settings_in round) (own_in round) (aircraft_in round) kind round.level.now.volume round.level.now.lookahead seconds)
+    (some : seconds.begin < round.level.now.lookahead) where
+  pub begun_trail : (upper : Bool) (clear : ℕ) (trail : Trail) → AreClear (settings_in round) (own_in round) (aircraft_in round) kind upper round.l clear
+      → trail.walked ≡ max seconds.begin clear → trail.end ≡ seconds.end → trail.hit ≡ false → IsSure round.level.now.lookahead trail
+      → (z : ℤ) → IsTrailAt round (lead_of (own_in round) (candidate_to kind z) upper) trail
+  begun_trail upper clear trail below walked end none sure z =
+      let w = leads (own_in round) kind upper z in
+      let of : (j : ℕ) → IsHitOn round (lead_of (own_in round) (candidate_to kind z) upper) j → IsHitOn round (candidate_to kind w.0) j = λ j v. subst (λ (c : Candidate). IsHitOn round c j) w.1 v in
+      record {
+        along = record {
+          none = λ j k v. ⊎_elim
+              (λ b. h.before w.0 j (omega (arith, b, some)) b (of j v))
+              (λ g. below round.level.now round.known.there z j (omega (arith, k, walked, g)) v)
+              (cases_lt j seconds.begin);
+          hit = λ t. absurd (cc (t, none));
+          later = λ j k past v. h.after w.0 j k (omega (arith, past, end)) (of j v);
+        };
+        sure = sure;
+      }
 
--- nothing was walked: a trail is at the first of the kind's seconds
-pub begun : (round : Round) (kind : Kind) (past : ℕ) (seconds : Seconds) → AreSecondsOf (settings_in round) (own_in round) (aircraft_in round) kind round.level.now.volume round.level.now.lookahead seconds
-    → seconds.begin < round.level.now.lookahead → 2 ^ 32 ≤ past + 1
-    → AreTrailsOf round kind (record { upper = record { walked = seconds.begin; end = seconds.end; hit = false; past = past }; lower = record { walked = seconds.begin; end = seconds.end; hit = false; past = past } })
-begun round kind past seconds h b most = record { upper = fresh true; lower = fresh false; past_upper = h.after; past_lower = h.after }
-  where
-    fresh : (upper : Bool) (z : ℤ) → IsTrailAt round (lead_of (own_in round) (candidate_to kind z) upper) (record { walked = seconds.begin; end = seconds.end; hit = false; past = past })
-    fresh upper z = let w = leads (own_in round) kind upper z in
-        subst (λ (c : Candidate). IsTrailAt round c (record { walked = seconds.begin; end = seconds.end; hit = false; past = past })) (sym w.1) (record {
-          along = record {
-            none = λ j k. h.before w.0 j (omega (arith, k, b)) k;
-            hit = λ t. absurd (cc t);
-            later = λ j k e. h.after w.0 j k e;
-          };
-          sure = sure_of_none _ _ most;
-        })
+  pub begun_past : (trail : Trail) → trail.end ≡ seconds.end → (z : ℤ) → IsClearFrom round (candidate_to kind z) trail.end
+  begun_past trail end z k b past v = h.after z k b (omega (arith, past, end)) v
+
+-- what is clear at the round's level
+module _ (round : Round) (kind : Kind) (upper : Bool) (n : ℕ) where
+  pub clear_walked : ((z : ℤ) (j : ℕ) → j < n → ¬ IsHitOn round (lead_of (own_in round) (candidate_to kind z) upper) j) → AreClear (settings_in round) (own_in round) (aircraft_in round) kind upper round.l n
+  clear_walked none level at z j b v = none z j b
+      (subst (λ (x : Level). ViolatesOn (settings_in round) (own_in round) (lead_of (own_in round) (candidate_to kind z) upper) (aircraft_in round) x.volume j)
+      (one_level (settings_in round) round.l level round.level.now at round.known.there) v)
+
+  -- where it lies within the one before, what is clear at that one
+  pub clear_within : IsNestedAt (settings_in round) round.l round.level.now → AreClear (settings_in round) (own_in round) (aircraft_in round) kind upper (round.l - 1) n
+      → AreClear (settings_in round) (own_in round) (aircraft_in round) kind upper round.l n
+  clear_within nested below = clear_walked (λ z j b v.
+      let outer = level_before (settings_in round) round.l round.level.now round.known.there nested.some in
+      below outer.0 outer.1 z j b (hit_outer (settings_in round) (own_in round) (lead_of (own_in round) (candidate_to kind z) upper) (aircraft_in round) round.level.now outer.0 j (nested.within outer.0 outer.1) v))
 
 -- what a side's trail answers of a candidate that leaves past what it is sure of
 module _ (round : Round) (kind : Kind) (trails : Trails) (h : AreTrailsOf round kind trails) (short : round.level.now.lookahead ≤ 180) (candidate : Candidate) (branch : Branch) (is : IsBranchIn round kind candidate branch) (b : branch.leaves < 2 ^ 32) where

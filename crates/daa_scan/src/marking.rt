@@ -2,7 +2,7 @@
 //! level is gone through, and at each level the kinds: what the candidates of a side share of their
 //! flights is tested once.
 
-ghost use Rattle.std.specs.Prelude.{◌≡◌, ◌-◌, ◌<◌, ◌≤◌, ◌^◌, ◌↔◌, ◌+◌, ◌⊎◌, ℕ, IsTrue, List, false, length, bit_or, slice_index};
+ghost use Rattle.std.specs.Prelude.{◌≡◌, ◌-◌, ◌<◌, ◌≤◌, ◌^◌, ◌↔◌, ◌+◌, ◌⊎◌, ℕ, IsTrue, List, false, length, max, bit_or, slice_index};
 ghost use Rattle.daa_fixed.specs.Leg.{IsLegInRange};
 ghost use Rattle.daa_fixed.specs.Mask.{HasLevel};
 ghost use Rattle.daa_fixed.specs.Time.{HoldsSometime};
@@ -11,16 +11,18 @@ ghost use Rattle.daa_config.specs.Candidates.{start_of, values_of};
 ghost use Rattle.daa_config.specs.Settings.{IsLevelAt};
 ghost use Rattle.daa_config.specs.declared.candidate.Candidate.{Candidate};
 ghost use Rattle.daa_config.specs.declared.level.Level.{Level};
+ghost use Rattle.daa_state.specs.declared.word.Own.{Own};
+ghost use Rattle.daa_state.specs.declared.word.Traffic.{Traffic};
 ghost use Rattle.daa_scan.specs.Trunks.{is_needed};
 ghost use Rattle.daa_scan.specs.Inside.Encounter.{AreKeptFor, IsNestedAt};
 ghost use Rattle.daa_scan.specs.Inside.Rounds.{settings_in, own_in, aircraft_in, IsMet, IsClearFrom};
-ghost use Rattle.daa_scan.specs.Inside.Sharing.{IsTrailAt, IsLed, IsBranchBy};
-ghost use Rattle.daa_scan.specs.Inside.Marking.{AreTrailsOf, AreMasks, AreMarkedUpto, AddsNext, IsNumberOf, IsBranchIn, IsStretchOf, AreStretchesOf};
+ghost use Rattle.daa_scan.specs.Inside.Sharing.{IsSure, IsTrailAt, IsLed, IsBranchBy};
+ghost use Rattle.daa_scan.specs.Inside.Marking.{AreTrailsOf, AreMasks, AreMarkedUpto, AddsNext, IsNumberOf, IsBranchIn, IsStretchAt, AreStretchesAt};
 
 use crate::encounter::{Encounter, Round};
 use crate::nesting::lies_within;
-use crate::refusal::{present_leg, windows_at};
-use crate::sharing::{meets_by_branch, walk_ahead};
+use crate::refusal::{Seconds, present_leg, windows_at};
+use crate::sharing::{meets_by_branch, sure_past, walk_ahead};
 use crate::trail::Trail;
 use crate::trunks::{Trunks, lead_to};
 use daa_config::{Candidate, Config, Kind};
@@ -38,12 +40,15 @@ pub(crate) struct Trails {
     pub(crate) lower: Trail,
 }
 
-/// Where the candidates of a kind are in the whole list: the number of the first, and that after
-/// the last.
+/// Where the candidates of a kind are in the whole list, the number of the first and that after the
+/// last; and so many legs of the flights that lead on its two sides violate nothing of the level
+/// that was last gone through.
 #[derive(Clone, Copy)]
 pub(crate) struct Stretch {
     pub(crate) from: u32,
     pub(crate) upto: u32,
+    pub(crate) upper: u32,
+    pub(crate) lower: u32,
 }
 
 /// The same of each kind. To find it takes divisions, so that it is found once for all levels.
@@ -66,15 +71,15 @@ pub(crate) fn mark_levels(encounter: &Encounter, trunks: &Trunks, first: u32, ma
         masks.old masks.new }
     ensures length { length masks.new ≡ length masks.old }
 {
-    let stretches = stretches_of(encounter.config);
+    let mut stretches = stretches_of(encounter.config);
     for done in 0..encounter.config.levels() {
-        mark_level(encounter, trunks, done + 1, &stretches, first, masks);
+        mark_level(encounter, trunks, done + 1, &mut stretches, first, masks);
     }
 }
 
-/// Where the candidates of each kind are in the whole list.
+/// Where the candidates of each kind are in the whole list, before any level.
 fn stretches_of(config: &Config) -> Stretches
-    ensures { AreStretchesOf config.now result }
+    ensures { (own : Own) (aircraft : Traffic) → AreStretchesAt config.now own aircraft 0 result }
 {
     Stretches {
         tracks: stretch_of(config, Kind::Track),
@@ -84,14 +89,16 @@ fn stretches_of(config: &Config) -> Stretches
     }
 }
 
-/// Where the candidates of a kind are in the whole list.
+/// Where the candidates of a kind are in the whole list, before any level.
 fn stretch_of(config: &Config, kind: Kind) -> Stretch
-    ensures { IsStretchOf config.now kind result }
+    ensures { (own : Own) (aircraft : Traffic) → IsStretchAt config.now own aircraft kind 0 result }
 {
     let from = config.start(kind);
     Stretch {
         from,
         upto: from + config.count(kind),
+        upper: 0,
+        lower: 0,
     }
 }
 
@@ -100,14 +107,15 @@ fn mark_level(
     encounter: &Encounter,
     trunks: &Trunks,
     l: u32,
-    stretches: &Stretches,
+    stretches: &mut Stretches,
     first: u32,
     masks: &mut [u8],
 )
     requires trunks { AreKeptFor encounter.now.config.now encounter.now.own.now
         encounter.now.aircraft.now trunks.now }
     requires l { (1 ≤ l) × (l ≤ length encounter.now.config.now.levels) }
-    requires stretches { AreStretchesOf encounter.now.config.now stretches.now }
+    requires stretches { AreStretchesAt encounter.now.config.now encounter.now.own.now
+        encounter.now.aircraft.now (l - 1) stretches.old }
     requires short { first + length masks.old < 2 ^ 32 }
     ensures masks { (before : List ℕ)
         → AreMasks encounter.now.config.now encounter.now.own.now encounter.now.aircraft.now
@@ -115,6 +123,8 @@ fn mark_level(
         → AreMasks encounter.now.config.now encounter.now.own.now encounter.now.aircraft.now
         first l before masks.new }
     ensures length { length masks.new ≡ length masks.old }
+    ensures stretches { AreStretchesAt encounter.now.config.now encounter.now.own.now
+        encounter.now.aircraft.now l stretches.new }
 {
     let level = encounter.config.level(l);
     let present = present_leg(encounter, level.lookahead);
@@ -127,10 +137,10 @@ fn mark_level(
         nested: is_nested(encounter.config, l),
     };
     mark_present(&round, &present, first, masks);
-    mark_kind(&round, Kind::Track, stretches.tracks, first, masks);
-    mark_kind(&round, Kind::Speed, stretches.speeds, first, masks);
-    mark_kind(&round, Kind::Climb, stretches.climbs, first, masks);
-    mark_kind(&round, Kind::Height, stretches.heights, first, masks);
+    mark_kind(&round, Kind::Track, &mut stretches.tracks, first, masks);
+    mark_kind(&round, Kind::Speed, &mut stretches.speeds, first, masks);
+    mark_kind(&round, Kind::Climb, &mut stretches.climbs, first, masks);
+    mark_kind(&round, Kind::Height, &mut stretches.heights, first, masks);
 }
 
 /// Whether level `l` lies within the one before it.
@@ -170,16 +180,21 @@ fn present_mask(round: &Round, present: &Leg, mask: u8) -> u8
     with_level(mask, round.l, met)
 }
 
-/// The same of the candidates of a kind, after those of the kinds before it.
-fn mark_kind(round: &Round, kind: Kind, stretch: Stretch, first: u32, masks: &mut [u8])
-    requires stretch { IsStretchOf (settings_in round.now) kind stretch }
+/// The same of the candidates of a kind, after those of the kinds before it. Where the level lies
+/// within the one before, the flights that lead are walked on from where that one let them be.
+fn mark_kind(round: &Round, kind: Kind, stretch: &mut Stretch, first: u32, masks: &mut [u8])
+    requires stretch { IsStretchAt (settings_in round.now) (own_in round.now)
+        (aircraft_in round.now) kind (round.now.l - 1) stretch.old }
     requires short { first + length masks.old < 2 ^ 32 }
     ensures masks { (before : List ℕ)
         → AreMarkedUpto round.now first (start_of kind (settings_in round.now)) before masks.old
         → AreMarkedUpto round.now first (start_of kind (settings_in round.now)
         + length (values_of kind (settings_in round.now))) before masks.new }
     ensures length { length masks.new ≡ length masks.old }
+    ensures stretch { IsStretchAt (settings_in round.now) (own_in round.now)
+        (aircraft_in round.now) kind round.now.l stretch.new }
 {
+    begin_level(round, kind, stretch);
     if !round.trunks.has(kind) {
         return;
     }
@@ -192,15 +207,9 @@ fn mark_kind(round: &Round, kind: Kind, stretch: Stretch, first: u32, masks: &mu
     if round.nested && !some_has_level(masks, first, from, upto, round.l - 1) {
         return;
     }
-    let begun = Trail {
-        walked: seconds.begin,
-        end: seconds.end,
-        hit: false,
-        past: u32::MAX,
-    };
     let mut trails = Trails {
-        upper: begun,
-        lower: begun,
+        upper: begun(seconds, stretch.upper, round.level.lookahead),
+        lower: begun(seconds, stretch.lower, round.level.lookahead),
     };
     let mut at = from;
     while at < upto {
@@ -213,6 +222,39 @@ fn mark_kind(round: &Round, kind: Kind, stretch: Stretch, first: u32, masks: &mu
         }
         at = end;
     }
+    stretch.upper = trails.upper.walked;
+    stretch.lower = trails.lower.walked;
+}
+
+/// What violates nothing of the level before violates nothing of a level that lies within it. Of
+/// another level nothing is known yet.
+fn begin_level(round: &Round, kind: Kind, stretch: &mut Stretch)
+    requires { IsStretchAt (settings_in round.now) (own_in round.now) (aircraft_in round.now) kind
+        (round.now.l - 1) stretch.old }
+    ensures { IsStretchAt (settings_in round.now) (own_in round.now) (aircraft_in round.now) kind
+        round.now.l stretch.new }
+{
+    if !round.nested {
+        stretch.upper = 0;
+        stretch.lower = 0;
+    }
+}
+
+/// A trail of which the seconds before a kind's are walked, and the legs that are clear.
+fn begun(seconds: Seconds, clear: u32, lookahead: u32) -> Trail
+    ensures walked { result.walked ≡ max seconds.begin clear }
+    ensures end { result.end ≡ seconds.end }
+    ensures hit { result.hit ≡ false }
+    ensures sure { IsSure lookahead result }
+{
+    let mut trail = Trail {
+        walked: seconds.begin.max(clear),
+        end: seconds.end,
+        hit: false,
+        past: u32::MAX,
+    };
+    trail.past = sure_past(&trail, lookahead);
+    trail
 }
 
 /// The mask of the candidate at an index of the whole list, one of a kind, with the level.

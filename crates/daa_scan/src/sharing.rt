@@ -47,9 +47,10 @@ pub(crate) fn walk_ahead(
 }
 
 /// After which leg a candidate must leave the trail's flight to be answered by the trail alone, if
-/// there is such a leg: after the hit, or after the last leg that may violate.
+/// there is such a leg: after the hit, or after the last leg that may violate, since it then leaves
+/// where nothing may violate any more.
 #[inline(always)]
-fn sure_past(trail: &Trail, lookahead: u32) -> u32
+pub(crate) fn sure_past(trail: &Trail, lookahead: u32) -> u32
     ensures { IsSure lookahead (record trail.now { past = result }) }
 {
     if trail.hit && trail.walked < lookahead {
@@ -57,7 +58,7 @@ fn sure_past(trail: &Trail, lookahead: u32) -> u32
     }
     let last = lookahead.min(trail.end);
     if !trail.hit && last <= trail.walked {
-        return last;
+        return last.saturating_sub(1);
     }
     u32::MAX
 }

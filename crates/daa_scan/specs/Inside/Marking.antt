@@ -1,16 +1,17 @@
 -- The masks of a stretch of candidates against an aircraft, level by level.
-use Rattle.std.specs.Prelude.{◌≡◌, ℕ, ◌+◌, ◌-◌, ◌<◌, ◌≤◌, ℤ, true, false, List, length, slice_get, slice_index, Some}
+use Rattle.std.specs.Prelude.{◌≡◌, ℕ, ◌+◌, ◌-◌, ◌<◌, ◌≤◌, ℤ, Bool, true, false, List, length, slice_get, slice_index, Some}
 use Rattle.daa_config.specs.declared.candidate.Candidate.{Candidate}
 use Rattle.daa_config.specs.declared.kind.Kind.{Kind}
 use Rattle.daa_config.specs.declared.kind.Kind.TheVariants.{Track, Speed, Climb, Height}
+use Rattle.daa_config.specs.declared.level.Level.{Level}
 use Rattle.daa_config.specs.Candidates.{candidate_to, candidates_of, start_of, values_of}
 use Rattle.daa_scan.specs.Adding.{AddsLevels}
-use Rattle.daa_config.specs.Settings.{Settings, IsCandidateInRange, rates_of}
+use Rattle.daa_config.specs.Settings.{Settings, IsCandidateInRange, IsLevelAt, rates_of}
 use Rattle.daa_state.specs.declared.word.Own.{Own}
 use Rattle.daa_state.specs.declared.word.Traffic.{Traffic}
 use Rattle.daa_legs.specs.Branch.{lead_of}
 use Rattle.daa_legs.specs.declared.branch.Branch.{Branch}
-use Rattle.daa_legs.specs.Meeting.{Meets}
+use Rattle.daa_legs.specs.Meeting.{Meets, ViolatesOn}
 use Rattle.daa_legs.specs.Table.{IsBranchOf}
 use Rattle.daa_scan.specs.declared.encounter.Round.{Round}
 use Rattle.daa_scan.specs.Inside.Rounds.{settings_in, own_in, aircraft_in, IsClearFrom}
@@ -20,24 +21,29 @@ use Rattle.daa_scan.specs.declared.marking.Stretch.{Stretch}
 use Rattle.daa_scan.specs.declared.marking.Stretches.{Stretches}
 
 module _ (settings : Settings) where
-  -- the candidates of the kind, by their numbers in the whole list
-  pub record IsStretchOf (kind : Kind) (stretch : Stretch) : Type 0 where
-    pub from : stretch.from ≡ start_of kind settings
-    pub upto : stretch.upto ≡ start_of kind settings + length (values_of kind settings)
-    pub within : stretch.upto ≤ length (candidates_of settings)
-
-  pub record AreStretchesOf (stretches : Stretches) : Type 0 where
-    pub tracks : IsStretchOf Track stretches.tracks
-    pub speeds : IsStretchOf Speed stretches.speeds
-    pub climbs : IsStretchOf Climb stretches.climbs
-    pub heights : IsStretchOf Height stretches.heights
-
   -- the number of a candidate of the kind
   pub record IsNumberOf (kind : Kind) (index : ℕ) : Type 0 where
     pub from : start_of kind settings ≤ index
     pub before : index < start_of kind settings + length (values_of kind settings)
 
 module _ (settings : Settings) (own : Own) (aircraft : Traffic) where
+  -- the first n legs of the flight that leads on a side of the kind violate nothing of level l
+  abbrev pub AreClear : (kind : Kind) (upper : Bool) (l n : ℕ) → Type 0
+  AreClear kind upper l n = (level : Level) → IsLevelAt settings l level → (z : ℤ) (j : ℕ) → j < n → ¬ ViolatesOn settings own (lead_of own (candidate_to kind z) upper) aircraft level.volume j
+
+  -- the candidates of the kind, by their numbers in the whole list, and what is known of level l
+  pub record IsStretchAt (kind : Kind) (l : ℕ) (stretch : Stretch) : Type 0 where
+    pub from : stretch.from ≡ start_of kind settings
+    pub upto : stretch.upto ≡ start_of kind settings + length (values_of kind settings)
+    pub upper : AreClear kind true l stretch.upper
+    pub lower : AreClear kind false l stretch.lower
+
+  pub record AreStretchesAt (l : ℕ) (stretches : Stretches) : Type 0 where
+    pub tracks : IsStretchAt Track l stretches.tracks
+    pub speeds : IsStretchAt Speed l stretches.speeds
+    pub climbs : IsStretchAt Climb l stretches.climbs
+    pub heights : IsStretchAt Height l stretches.heights
+
   -- the candidate at an index of the whole list meets the aircraft at the level
   abbrev pub MeetsListed : (index l : ℕ) → Type 0
   MeetsListed index l = (candidate : Candidate) × (slice_get (candidates_of settings) index ≡ Some candidate) × Meets settings own candidate aircraft l

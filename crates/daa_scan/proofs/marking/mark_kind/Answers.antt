@@ -1,4 +1,4 @@
-use Rattle.std.proofs.Common.{◌≡◌, ◌<◌, ◌≤◌, ◌+◌, ◌-◌, ℕ, inl, inr, ⊎_elim, refl, sym, subst, arith, length, slice_set}
+use Rattle.std.proofs.Common.{◌≡◌, ◌<◌, ◌≤◌, ◌+◌, ◌-◌, ℕ, inl, inr, ⊎_elim, refl, sym, subst, arith, length, slice_set, true, false}
 use Rattle.std.specs.Prelude.{slice_index}
 use Rattle.daa_config.specs.Candidates.{start_of, values_of}
 use Rattle.daa_scan.specs.declared.refusal.Seconds.{Seconds}
@@ -6,7 +6,7 @@ use Rattle.daa_scan.specs.Inside.Marking.{AreMarkedUpto, AddsNext}
 use Rattle.daa_scan.specs.Inside.Refusal.{AreSecondsOf}
 use Rattle.daa_scan.specs.Inside.Rounds.{settings_in, own_in, aircraft_in}
 use Rattle.daa_scan.proofs.Marks.{meets_before, marked_past, marked_asked, marked_on, marked_next}
-use Rattle.daa_scan.proofs.Sides.{begun}
+use Rattle.daa_scan.proofs.Sides.{begun_trail, begun_past, clear_walked}
 use Rattle.daa_scan.proofs.marking.mark_kind.Goals as goal
 
 pub returns-then-not-has-clause-masks : goal.returns-then-not-has-clause-masks
@@ -32,8 +32,8 @@ returns-then-not-some_has_level-clause-masks c before h =
       omega (arith, nested.some),
       (λ candidate m. meets_before (settings_in r) (own_in r) candidate (aircraft_in r) r.l r.level.now r.known.there nested m),
       c.some_has_level.ensures c.if-not-some_has_level.true j
-          (omega (arith, c.max-from.ensures, c.requires.stretch.from, from))
-          (omega (arith, c.min-upto.ensures, c.requires.stretch.upto, d, b)),
+          (omega (arith, c.max-from.ensures, c.begin_level.ensures.from, from))
+          (omega (arith, c.min-upto.ensures, c.begin_level.ensures.upto, d, b)),
     ))
     h
 
@@ -41,10 +41,16 @@ pub loop-at-init : goal.loop-at-init
 loop-at-init c =
     let r = c.args.round.now in
     let seconds = subst (λ (s : Seconds). AreSecondsOf (settings_in r) (own_in r) (aircraft_in r) c.args.kind r.level.now.volume r.level.now.lookahead s) (sym c.of-seconds.ensures) (r.known.seconds c.args.kind) in
+    let some : c.of-seconds.result.begin < r.level.now.lookahead = omega (arith, c.if-seconds-round.false) in
     record {
-      trails = begun r c.args.kind _ c.of-seconds.result seconds (omega (arith, c.if-seconds-round.false)) (omega arith);
+      trails = record {
+        upper = begun_trail r c.args.kind c.of-seconds.result seconds some true _ c.begun.result c.begin_level.ensures.upper c.begun.ensures.walked c.begun.ensures.end c.begun.ensures.hit c.begun.ensures.sure;
+        lower = begun_trail r c.args.kind c.of-seconds.result seconds some false _ c.begun-2.result c.begin_level.ensures.lower c.begun-2.ensures.walked c.begun-2.ensures.end c.begun-2.ensures.hit c.begun-2.ensures.sure;
+        past_upper = begun_past r c.args.kind c.of-seconds.result seconds some c.begun.result c.begun.ensures.end;
+        past_lower = begun_past r c.args.kind c.of-seconds.result seconds some c.begun-2.result c.begun-2.ensures.end;
+      };
       masks = λ before h. marked_on (settings_in r) (own_in r) (aircraft_in r) c.args.first r.l before c.args.masks.now (start_of c.args.kind (settings_in r)) c.max-from.result
-          (λ j b d. omega (arith, c.max-from.ensures, c.requires.stretch.from, d)) (λ j b u. omega (arith, c.max-from.ensures, c.requires.stretch.from, u)) h;
+          (λ j b d. omega (arith, c.max-from.ensures, c.begin_level.ensures.from, d)) (λ j b u. omega (arith, c.max-from.ensures, c.begin_level.ensures.from, u)) h;
       from = omega arith;
       near = inr refl;
     }
@@ -58,8 +64,8 @@ loop-index-init c = record {
 
 pub next_mask-requires-clause-index : goal.next_mask-requires-clause-index
 next_mask-requires-clause-index c = record {
-  from = omega (arith, c.max-from.ensures, c.loop-at.invariant.from, c.loop-index.auto.index, c.requires.stretch.from);
-  before = omega (arith, c.min-upto.ensures, c.loop-index-test.true, c.next_end-end.ensures.within, c.requires.stretch.upto);
+  from = omega (arith, c.max-from.ensures, c.loop-at.invariant.from, c.loop-index.auto.index, c.begin_level.ensures.from);
+  before = omega (arith, c.min-upto.ensures, c.loop-index-test.true, c.next_end-end.ensures.within, c.begin_level.ensures.upto);
 }
 
 pub loop-index-preserved : goal.loop-index-preserved
@@ -110,9 +116,20 @@ pub returns-clause-masks : goal.returns-clause-masks
 returns-clause-masks c before h =
     let r = c.args.round.now in
     marked_on (settings_in r) (own_in r) (aircraft_in r) c.args.first r.l before c.loop-at.masks c.loop-at.at (start_of c.args.kind (settings_in r) + length (values_of c.args.kind (settings_in r)))
-    (λ j b d. omega (arith, c.loop-at-test.false, c.min-upto.ensures, c.requires.stretch.upto, c.loop-at.auto.masks, b, d))
+    (λ j b d. omega (arith, c.loop-at-test.false, c.min-upto.ensures, c.begin_level.ensures.upto, c.loop-at.auto.masks, b, d))
     (λ j b u. ⊎_elim
-    (λ n. omega (arith, n, c.min-upto.ensures, c.requires.stretch.upto, u))
-    (λ n. omega (arith, n, c.max-from.ensures, c.requires.stretch.from, c.requires.stretch.upto, u))
+    (λ n. omega (arith, n, c.min-upto.ensures, c.begin_level.ensures.upto, u))
+    (λ n. omega (arith, n, c.max-from.ensures, c.begin_level.ensures.from, c.begin_level.ensures.upto, u))
     c.loop-at.invariant.near)
     (c.loop-at.invariant.masks before h)
+
+pub returns-clause-stretch : goal.returns-clause-stretch
+returns-clause-stretch c =
+    let r = c.args.round.now in
+    let trails = c.loop-at.invariant.trails in
+    record {
+      from = c.begin_level.ensures.from;
+      upto = c.begin_level.ensures.upto;
+      upper = clear_walked r c.args.kind true c.loop-at.trails.upper.walked (λ z j b. (trails.upper z).along.none j b);
+      lower = clear_walked r c.args.kind false c.loop-at.trails.lower.walked (λ z j b. (trails.lower z).along.none j b);
+    }
