@@ -15,8 +15,8 @@ ghost use Rattle.daa_state.specs.declared.word.Own.{Own};
 ghost use Rattle.daa_state.specs.declared.word.Traffic.{Traffic};
 ghost use Rattle.daa_scan.specs.Trunks.{is_needed};
 ghost use Rattle.daa_scan.specs.Inside.Encounter.{AreKeptFor, IsNestedAt};
-ghost use Rattle.daa_scan.specs.Inside.Rounds.{settings_in, own_in, aircraft_in, IsMet, IsClearFrom};
-ghost use Rattle.daa_scan.specs.Inside.Sharing.{IsSure, IsTrailAt, IsLed, IsBranchBy};
+ghost use Rattle.daa_scan.specs.Inside.Rounds.{settings_in, own_in, aircraft_in, IsMet};
+ghost use Rattle.daa_scan.specs.Inside.Sharing.{IsSure, IsTrailAt, IsTrailFor, IsLed, IsBranchBy};
 ghost use Rattle.daa_scan.specs.Inside.Marking.{AreTrailsOf, AreMasks, AreMarkedUpto, AddsNext, IsNumberOf, IsBranchIn, IsStretchAt, AreStretchesAt};
 
 use crate::encounter::{Encounter, Round};
@@ -410,8 +410,7 @@ fn meets_along(
     ghost candidate: { Candidate }
     requires lead { IsLed round.now lead trunk.now }
     requires branch { IsBranchBy round.now lead candidate branch.now }
-    requires trail { IsTrailAt round.now lead trail.old }
-    requires later { IsClearFrom round.now candidate trail.old.end }
+    requires trail { IsTrailFor round.now lead candidate trail.old }
     ensures met { IsTrue result ↔ IsMet round.now candidate }
     ensures trail { IsTrailAt round.now lead trail.new }
     ensures end { trail.new.end ≡ trail.old.end }

@@ -133,14 +133,14 @@ fn with_levels(needs: Needs, encounter: &Encounter) -> Needs
         encounter.now.aircraft.now result }
 {
     let mut all = needs;
-    for l in 0..encounter.config.levels() {
-        all = with_level(all, encounter, encounter.config.level(l + 1));
+    for done in 0..encounter.config.levels() {
+        all = needed_at(all, encounter, encounter.config.level(done + 1));
     }
     all
 }
 
 /// With those of which some candidate may meet the aircraft at the level.
-fn with_level(needs: Needs, encounter: &Encounter, level: &Level) -> Needs
+fn needed_at(needs: Needs, encounter: &Encounter, level: &Level) -> Needs
     requires level { IsLevelInRange level.now }
     ensures more { NeedsMore needs result }
     ensures idle { IsIdleAt encounter.now.config.now encounter.now.own.now

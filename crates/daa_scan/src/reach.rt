@@ -20,8 +20,13 @@ pub(crate) fn is_in_reach(encounter: &Encounter) -> bool
     let place = place_at_present(encounter);
     let horizontal = greatest_horizontal_speed(encounter);
     let vertical = greatest_vertical_speed(encounter);
-    for l in 0..encounter.config.levels() {
-        if can_enter(encounter.config.level(l + 1), &place, horizontal, vertical) {
+    for done in 0..encounter.config.levels() {
+        if can_enter(
+            encounter.config.level(done + 1),
+            &place,
+            horizontal,
+            vertical,
+        ) {
             return true;
         }
     }

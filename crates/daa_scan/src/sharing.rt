@@ -7,8 +7,8 @@ ghost use Rattle.daa_config.specs.declared.candidate.Candidate.{Candidate};
 ghost use Rattle.daa_legs.specs.Branch.{FliesOn, velocity_there};
 ghost use Rattle.daa_legs.specs.Table.{IsBranchOf};
 ghost use Rattle.daa_legs.specs.OwnLeg.{place_on};
-ghost use Rattle.daa_scan.specs.Inside.Rounds.{settings_in, own_in, aircraft_in, IsHitOn, IsMet, IsMetFrom, IsClearFrom};
-ghost use Rattle.daa_scan.specs.Inside.Sharing.{IsTrailOf, IsSure, IsTrailAt, IsLed, IsBranchBy};
+ghost use Rattle.daa_scan.specs.Inside.Rounds.{settings_in, own_in, aircraft_in, IsHitOn, IsMet, IsMetFrom};
+ghost use Rattle.daa_scan.specs.Inside.Sharing.{IsTrailOf, IsSure, IsTrailAt, IsTrailFor, IsLed, IsBranchBy};
 
 use crate::encounter::Round;
 use crate::trail::Trail;
@@ -221,10 +221,9 @@ pub(crate) fn meets_by_branch(
     ghost candidate: { Candidate }
     requires lead { IsLed round.now lead trunk.now }
     requires branch { IsBranchBy round.now lead candidate branch.now }
-    requires trail { IsTrailAt round.now lead trail.now }
+    requires trail { IsTrailFor round.now lead candidate trail.now }
     requires walked { trail.now.hit ≡ false → (branch.now.leaves ≤ trail.now.walked)
         ⊎ (round.now.level.now.lookahead ≤ trail.now.walked) }
-    requires later { IsClearFrom round.now candidate trail.now.end }
     ensures { IsTrue result ↔ IsMet round.now candidate }
 {
     if trail.hit && trail.walked < branch.leaves && trail.walked < round.level.lookahead {

@@ -13,7 +13,7 @@ use Rattle.daa_legs.specs.Table.{IsBranchOf}
 use Rattle.daa_legs.specs.Trunk.{AreLegsOf}
 use Rattle.daa_scan.specs.declared.encounter.Round.{Round}
 use Rattle.daa_scan.specs.declared.trail.Trail.{Trail}
-use Rattle.daa_scan.specs.Inside.Rounds.{settings_in, own_in, aircraft_in}
+use Rattle.daa_scan.specs.Inside.Rounds.{settings_in, own_in, aircraft_in, IsClearFrom}
 
 -- none of the legs walked violates, and where there is a hit the next one does; from its end on none does
 pub record IsTrailOf (settings : Settings) (own : Own) (lead : Candidate) (aircraft : Traffic) (volume : Volume) (trail : Trail) : Type 0 where
@@ -31,6 +31,11 @@ pub record IsSure (lookahead : ℕ) (trail : Trail) : Type 0 where
 pub record IsTrailAt (round : Round) (lead : Candidate) (trail : Trail) : Type 0 where
   pub along : IsTrailOf (settings_in round) (own_in round) lead (aircraft_in round) round.level.now.volume trail
   pub sure : IsSure round.level.now.lookahead trail
+
+-- and from its end on the candidate, which leaves that flight, violates nothing either
+pub record IsTrailFor (round : Round) (lead candidate : Candidate) (trail : Trail) : Type 0 where
+  pub at : IsTrailAt round lead trail
+  pub later : IsClearFrom round candidate trail.end
 
 -- these are the legs of the flight that leads, as far as the level looks ahead
 pub record IsLed (round : Round) (lead : Candidate) (legs : List OwnLeg) : Type 0 where

@@ -7,16 +7,18 @@ pub meets_along-requires : goal.meets_along-requires
 meets_along-requires g c =
     let r = c.args.round.now in
     let is = c.requires.0 in
+    let lead = c.lead_to-lead.result in
     let led = c.lead_to-lead.ensures.value in
-    let trunk = trunk_led (own_in r) c.args.kind c.args.branch.now.upper c.lead_to-lead.result led (rates_of (settings_in r)) r.level.now.lookahead r.trunks.now.trunks c.trunk-trunk.result.now
+    let upper = c.args.branch.now.upper in
+    let trunk = trunk_led (own_in r) c.args.kind upper lead led (rates_of (settings_in r)) r.level.now.lookahead r.trunks.now.trunks c.trunk-trunk.result.now
     (λ u z. r.known.kept.trunks.leads r.l r.level.now r.known.there c.args.kind u z c.requires.1.0) c.trunk-trunk.ensures in (
       record { in_range = c.lead_to-lead.ensures.in_range; legs_of = trunk },
       (
-        record { in_range = is.in_range; leads = leads_of (own_in r) c.args.kind c.args.branch.now.upper c.lead_to-lead.result led g.candidate is.value is.is; branch_of = is.branch_of },
-        (
-          upper_trail r c.args.kind c.args.branch.now.upper c.lead_to-lead.result led c.args.trails.now c.requires.1.1 c.if-branch.true,
-          past_of r c.args.kind g.candidate is.value c.args.trails.now.upper.end is.is c.requires.1.1.past_upper,
-        ),
+        record { in_range = is.in_range; leads = leads_of (own_in r) c.args.kind upper lead led g.candidate is.value is.is; branch_of = is.branch_of },
+        record {
+          at = upper_trail r c.args.kind upper lead led c.args.trails.now c.requires.1.1 c.if-branch.true;
+          later = past_of r c.args.kind g.candidate is.value c.args.trails.now.upper.end is.is c.requires.1.1.past_upper;
+        },
       ),
     )
 
@@ -24,16 +26,18 @@ pub meets_along-requires-else-branch : goal.meets_along-requires-else-branch
 meets_along-requires-else-branch g c =
     let r = c.args.round.now in
     let is = c.requires.0 in
+    let lead = c.lead_to-lead.result in
     let led = c.lead_to-lead.ensures.value in
-    let trunk = trunk_led (own_in r) c.args.kind c.args.branch.now.upper c.lead_to-lead.result led (rates_of (settings_in r)) r.level.now.lookahead r.trunks.now.trunks c.trunk-trunk.result.now
+    let upper = c.args.branch.now.upper in
+    let trunk = trunk_led (own_in r) c.args.kind upper lead led (rates_of (settings_in r)) r.level.now.lookahead r.trunks.now.trunks c.trunk-trunk.result.now
     (λ u z. r.known.kept.trunks.leads r.l r.level.now r.known.there c.args.kind u z c.requires.1.0) c.trunk-trunk.ensures in (
       record { in_range = c.lead_to-lead.ensures.in_range; legs_of = trunk },
       (
-        record { in_range = is.in_range; leads = leads_of (own_in r) c.args.kind c.args.branch.now.upper c.lead_to-lead.result led g.candidate is.value is.is; branch_of = is.branch_of },
-        (
-          lower_trail r c.args.kind c.args.branch.now.upper c.lead_to-lead.result led c.args.trails.now c.requires.1.1 c.if-branch.false,
-          past_of r c.args.kind g.candidate is.value c.args.trails.now.lower.end is.is c.requires.1.1.past_lower,
-        ),
+        record { in_range = is.in_range; leads = leads_of (own_in r) c.args.kind upper lead led g.candidate is.value is.is; branch_of = is.branch_of },
+        record {
+          at = lower_trail r c.args.kind upper lead led c.args.trails.now c.requires.1.1 c.if-branch.false;
+          later = past_of r c.args.kind g.candidate is.value c.args.trails.now.lower.end is.is c.requires.1.1.past_lower;
+        },
       ),
     )
 

@@ -27,15 +27,15 @@ tested c =
     let g : FitsSigned w64 c.greatest_vertical_speed-vertical.result = search rules in
     same _ _ _ _ _ _ _ _ c.place_at_present-place.ensures.value c.greatest_horizontal_speed-horizontal.ensures.value c.greatest_vertical_speed-vertical.ensures.value (simp to_z-of_z at c.can_enter.ensures)
 
-pub loop-l-init : goal.loop-l-init
-loop-l-init c j level k f = absurd (omega (arith, k, f.numbered))
+pub loop-done-init : goal.loop-done-init
+loop-done-init c j level k f = absurd (omega (arith, k, f.numbered))
 
-pub loop-l-preserved : goal.loop-l-preserved
-loop-l-preserved c = more c.args.encounter.now.config.now c.loop-l.l c.level.result.now _ c.level.ensures.value c.loop-l.invariant (λ r. let t = (tested c.before).1 r in absurd (cc (t, c.if-can_enter.false)))
+pub loop-done-preserved : goal.loop-done-preserved
+loop-done-preserved c = more c.args.encounter.now.config.now c.loop-done.done c.level.result.now _ c.level.ensures.value c.loop-done.invariant (λ r. let t = (tested c.before).1 r in absurd (cc (t, c.if-can_enter.false)))
 
 pub returns-then-can_enter : goal.returns-then-can_enter
 returns-then-can_enter c = (
-  (λ _. record { number = c.loop-l.l + 1; level = c.level.result.now; there = c.level.ensures.value; enters = (tested c.before).0 c.if-can_enter.true }),
+  (λ _. record { number = c.loop-done.done + 1; level = c.level.result.now; there = c.level.ensures.value; enters = (tested c.before).0 c.if-can_enter.true }),
   (λ _. refl),
 )
 
@@ -43,5 +43,5 @@ pub returns : goal.returns
 returns c = (
   (λ t. absurd (cc t)),
   (λ r. let inside = slice_get_within c.args.encounter.now.config.now.levels (r.number - 1) r.level r.there.there in
-      absurd (c.loop-l.invariant r.number r.level (omega (arith, inside, c.levels-l-end.ensures.value, c.loop-l-test.false)) r.there r.enters)),
+      absurd (c.loop-done.invariant r.number r.level (omega (arith, inside, c.levels-done-end.ensures.value, c.loop-done-test.false)) r.there r.enters)),
 )

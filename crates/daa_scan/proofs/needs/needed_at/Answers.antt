@@ -1,6 +1,6 @@
 use Rattle.daa_config.specs.declared.kind.Kind.TheVariants.{Track, Speed, Climb, Height}
 use Rattle.daa_scan.proofs.Needed.{idle_by, needs_more}
-use Rattle.daa_scan.proofs.needs.with_level.Goals as goal
+use Rattle.daa_scan.proofs.needs.needed_at.Goals as goal
 
 pub returns-clause-more : goal.returns-clause-more
 returns-clause-more c = needs_more c.args.needs c.stays_needed.result c.stays_needed-2.result c.stays_needed.ensures.more c.stays_needed-2.ensures.more
