@@ -28,7 +28,8 @@ use Rattle.daa_scan.proofs.NestedLevels.{meets_outer}
 
 module _ (settings : Settings) (own : Own) (candidate : Candidate) (aircraft : Traffic) (l old mask : ℕ) (is : AddsLevels (Meets settings own candidate aircraft) (l - 1) old mask) where
   -- the level before is not there, and what meets this one meets that one
-  pub none_nested : 1 ≤ l - 1 → (Meets settings own candidate aircraft l → Meets settings own candidate aircraft (l - 1)) → ¬ HasLevel mask (l - 1) → AddsLevels (Meets settings own candidate aircraft) l old mask
+  pub none_nested : 1 ≤ l - 1 → (Meets settings own candidate aircraft l → Meets settings own candidate aircraft (l - 1)) → ¬ HasLevel mask (l - 1)
+      → AddsLevels (Meets settings own candidate aircraft) l old mask
   none_nested one down clear = add_keep (Meets settings own candidate aircraft) l old mask is (λ m. absurd (clear (was_added (Meets settings own candidate aircraft) (l - 1) old mask is one (down m))))
 
   -- the level is there already
@@ -68,7 +69,8 @@ nested_at settings l inner outer two a b within level at = record {
 }
 
 -- a candidate of a kind's part of the whole list goes to a value
-pub of_kind : (k : Kind) (s : Settings) (index : ℕ) (candidate : Candidate) → IsAccepted s → start_of k s ≤ index → index < start_of k s + length (values_of k s) → slice_get (candidates_of s) index ≡ Some candidate
+pub of_kind : (k : Kind) (s : Settings) (index : ℕ) (candidate : Candidate) → IsAccepted s → start_of k s ≤ index → index < start_of k s + length (values_of k s)
+    → slice_get (candidates_of s) index ≡ Some candidate
     → (z : ℤ) × (candidate ≡ candidate_to k z)
 of_kind k s index candidate a h l there =
     let v = value_there k s (index - start_of k s) a (omega (arith, h, l)) in
@@ -76,12 +78,14 @@ of_kind k s index candidate a h l there =
     (_, same_Some candidate _ (sym there ∙ ap (slice_get (candidates_of s)) (sym back) ∙ candidate_at k s (index - start_of k s) _ v.there))
 
 -- and to one in range
-pub of_kind_in_range : (k : Kind) (s : Settings) (index : ℕ) (candidate : Candidate) → IsAccepted s → start_of k s ≤ index → index < start_of k s + length (values_of k s) → slice_get (candidates_of s) index ≡ Some candidate
+pub of_kind_in_range : (k : Kind) (s : Settings) (index : ℕ) (candidate : Candidate) → IsAccepted s → start_of k s ≤ index → index < start_of k s + length (values_of k s)
+    → slice_get (candidates_of s) index ≡ Some candidate
     → IsCandidateInRange candidate
 of_kind_in_range k s index candidate a h l there =
     let v = value_there k s (index - start_of k s) a (omega (arith, h, l)) in
     let back : start_of k s + (index - start_of k s) ≡ index = omega (arith, h) in
-    subst (λ (x : Candidate). IsCandidateInRange x) (sym (same_Some candidate _ (sym there ∙ ap (slice_get (candidates_of s)) (sym back) ∙ candidate_at k s (index - start_of k s) _ v.there))) (in_range-to k _ v.in_range)
+    subst (λ (x : Candidate). IsCandidateInRange x) (sym (same_Some candidate _ (sym there ∙ ap (slice_get (candidates_of s)) (sym back) ∙ candidate_at k s
+    (index - start_of k s) _ v.there))) (in_range-to k _ v.in_range)
 
 -- there is one at each number of a kind
 pub number_there : (k : Kind) (s : Settings) (index : ℕ) → IsNumberOf s k index → slice_get (candidates_of s) index ≡ Some (slice_index_or (candidates_of s) index Hold)
@@ -132,7 +136,8 @@ module _ (settings : Settings) (own : Own) (aircraft : Traffic) (first l : ℕ) 
 
   -- the next of them
   pub marked_next : (j new : ℕ) → j < length masks
-      → (AddsLevels (MeetsListed settings own aircraft (first + j)) (l - 1) (slice_index old j) (slice_index masks j) → AddsLevels (MeetsListed settings own aircraft (first + j)) l (slice_index old j) new)
+      → (AddsLevels (MeetsListed settings own aircraft (first + j)) (l - 1) (slice_index old j) (slice_index masks j)
+      → AddsLevels (MeetsListed settings own aircraft (first + j)) l (slice_index old j) new)
       → AreMarked settings own aircraft first (first + j) l old masks → AreMarked settings own aircraft first (first + j + 1) l old (set masks j new)
   marked_next j new inside is h = record {
     done = λ i b d. ⊎_elim
@@ -141,7 +146,8 @@ module _ (settings : Settings) (own : Own) (aircraft : Traffic) (first l : ℕ) 
         (is (h.left j inside (omega arith)))))
         (λ n. subst (λ (m : ℕ). AddsLevels (MeetsListed settings own aircraft (first + i)) l (slice_index old i) m) (sym (other_place i n)) (h.done i (shorter i b) (before i n d)))
         (cases_eq i j);
-    left = λ i b u. subst (λ (m : ℕ). AddsLevels (MeetsListed settings own aircraft (first + i)) (l - 1) (slice_index old i) m) (sym (other_place i (λ e. omega (arith, e, u)))) (h.left i (shorter i b) (omega (arith, u)));
+    left = λ i b u. subst (λ (m : ℕ). AddsLevels (MeetsListed settings own aircraft (first + i)) (l - 1) (slice_index old i) m) (sym (other_place i (λ e. omega (arith, e, u))))
+        (h.left i (shorter i b) (omega (arith, u)));
   }
     where
       other_place : (i : ℕ) → (i ≡ j → ⊥) → slice_index (set masks j new) i ≡ slice_index masks i
@@ -176,7 +182,8 @@ module _ (settings : Settings) (own : Own) (aircraft : Traffic) (first l : ℕ) 
         (λ within. ⊎_elim
         (λ there. add_keep (MeetsListed settings own aircraft (first + j)) l (slice_index old j) (slice_index masks j) (h.left j k within) (λ m. there))
         (λ (one, down, clear). add_keep (MeetsListed settings own aircraft (first + j)) l (slice_index old j) (slice_index masks j) (h.left j k within)
-        (λ (candidate, there, m). absurd (clear (was_added (MeetsListed settings own aircraft (first + j)) (l - 1) (slice_index old j) (slice_index masks j) (h.left j k within) one (candidate, there, down candidate m)))))
+        (λ (candidate, there, m). absurd (clear (was_added (MeetsListed settings own aircraft (first + j)) (l - 1) (slice_index old j) (slice_index masks j) (h.left j k within) one
+        (candidate, there, down candidate m)))))
         (closed j k within d))
         (cases_lt (first + j) a);
     left = λ j k u. h.left j k (omega (arith, on, u));

@@ -29,9 +29,11 @@ module _ (settings : Settings) (own : Own) (aircraft : Traffic) where
   none_idle needs l level le at = absurd (omega (arith, le, at.numbered))
 
   -- the next level
-  pub idle_next : (l : ℕ) (needs more : Needs) (next : Level) → IsLevelAt settings (l + 1) next → NeedsMore needs more → IsIdleAt settings own aircraft next more → AreIdleBelow l needs → AreIdleBelow (l + 1) more
+  pub idle_next : (l : ℕ) (needs more : Needs) (next : Level) → IsLevelAt settings (l + 1) next → NeedsMore needs more → IsIdleAt settings own aircraft next more
+      → AreIdleBelow l needs → AreIdleBelow (l + 1) more
   idle_next l needs more next at grows is h k level le there kind e z m = ⊎_elim
-      (λ same. is kind e z (subst (λ (x : Level). MeetsWithin settings own (candidate_to kind z) aircraft x.volume x.lookahead) (one_level settings (l + 1) level next (subst (λ (i : ℕ). IsLevelAt settings i level) same there) at) m))
+      (λ same. is kind e z (subst (λ (x : Level). MeetsWithin settings own (candidate_to kind z) aircraft x.volume x.lookahead)
+      (one_level settings (l + 1) level next (subst (λ (i : ℕ). IsLevelAt settings i level) same there) at) m))
       (λ n. h k level (below l k le n) there kind (grows kind e) z m)
       (cases_eq k (l + 1))
 

@@ -70,7 +70,8 @@ module _ (s v : Flat) (t u : ℤ) (h : t ≤ℤ u) where
       turned : (x : ℤ) → x ≤ℤ pos 0 → pos 0 ≤ℤ neg_ℤ x
       turned x h = omega (arith, ints)
 
-module _ (leg : Leg) (inner outer : Volume) (n d : ℤ) (d1 : pos 1 ≤ℤ d) (dthr : inner.dthr ≤ outer.dthr) (zthr : inner.zthr ≤ outer.zthr) (tthr : inner.tthr ≤ outer.tthr) (tcoa : inner.tcoa ≤ outer.tcoa) where
+module _ (leg : Leg) (inner outer : Volume) (n d : ℤ) (d1 : pos 1 ≤ℤ d) (dthr : inner.dthr ≤ outer.dthr) (zthr : inner.zthr ≤ outer.zthr) (tthr : inner.tthr ≤ outer.tthr)
+    (tcoa : inner.tcoa ≤ outer.tcoa) where
   -- tthr seconds later
   abbrev later : ℕ → Flat
   later secs = flown_on (place_at leg n d) leg.velocity.flat (pos secs *ℤ d)
@@ -81,7 +82,8 @@ module _ (leg : Leg) (inner outer : Volume) (n d : ℤ) (d1 : pos 1 ≤ℤ d) (d
   entry_grows (inl s) = inl (never_falls_again (place_at leg n d) leg.velocity.flat (pos inner.tthr *ℤ d) (pos outer.tthr *ℤ d) (scaled_le inner.tthr outer.tthr d d1 tthr) s)
   entry_grows (inr s) = by_lt_z (dot_of (later outer.tthr) leg.velocity.flat) (pos 0)
       (λ l. inr (le_trans_ℤ _ _ _
-      (nearer_later (place_at leg n d) leg.velocity.flat (pos inner.tthr *ℤ d) (pos outer.tthr *ℤ d) (scaled_le inner.tthr outer.tthr d d1 tthr) (below (dot_of (later outer.tthr) leg.velocity.flat) l))
+      (nearer_later (place_at leg n d) leg.velocity.flat (pos inner.tthr *ℤ d) (pos outer.tthr *ℤ d) (scaled_le inner.tthr outer.tthr d d1 tthr)
+      (below (dot_of (later outer.tthr) leg.velocity.flat) l))
       (le_trans_ℤ _ _ _ s (square_le inner.dthr outer.dthr d d1 dthr))))
       (λ l. inl l)
     where
@@ -94,9 +96,11 @@ module _ (leg : Leg) (inner outer : Volume) (n d : ℤ) (d1 : pos 1 ≤ℤ d) (d
 
   soon_grows : (w : Model) → dot_of (place_at leg n d) leg.velocity.flat <ℤ pos 0 → IsSoon w leg inner n d → IsSoon w leg outer n d
   soon_grows Tau nearing s =
-      le_trans_ℤ _ _ _ (later_soon (dot_of (place_at leg n d) (place_at leg n d)) (dot_of (place_at leg n d) leg.velocity.flat) (pos inner.tthr) (pos outer.tthr) d (scaled_le inner.tthr outer.tthr d d1 tthr) nearing) s
+      le_trans_ℤ _ _ _ (later_soon (dot_of (place_at leg n d) (place_at leg n d)) (dot_of (place_at leg n d) leg.velocity.flat) (pos inner.tthr) (pos outer.tthr) d
+      (scaled_le inner.tthr outer.tthr d d1 tthr) nearing) s
   soon_grows Taumod nearing s =
-      le_trans_ℤ _ _ _ (later_soon (dot_of (place_at leg n d) (place_at leg n d)) (dot_of (place_at leg n d) leg.velocity.flat) (pos inner.tthr) (pos outer.tthr) d (scaled_le inner.tthr outer.tthr d d1 tthr) nearing)
+      le_trans_ℤ _ _ _ (later_soon (dot_of (place_at leg n d) (place_at leg n d)) (dot_of (place_at leg n d) leg.velocity.flat) (pos inner.tthr) (pos outer.tthr) d
+      (scaled_le inner.tthr outer.tthr d d1 tthr) nearing)
       (le_trans_ℤ _ _ _ s (square_le inner.dthr outer.dthr d d1 dthr))
   soon_grows Tcpa nearing s = le_trans_ℤ _ _ _ s (mul_le _ _ _ (dot_nonneg leg.velocity.flat) (scaled_le inner.tthr outer.tthr d d1 tthr))
   soon_grows Tep nearing s =

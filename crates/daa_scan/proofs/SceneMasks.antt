@@ -19,7 +19,8 @@ use Rattle.daa_scan.specs.Adding.{AddsLevels}
 use Rattle.daa_scan.proofs.Masks.{mask_of_added}
 use Rattle.daa_scan.proofs.Masking.{met_at}
 
-module _ (s : SceneState) (at first n : ℕ) (aircraft : Traffic) (old masks : List ℕ) (ea : slice_get (aircraft_of s.picture) at ≡ Some aircraft) (h : AreMasks s.settings s.picture.own aircraft first n old masks) where
+module _ (s : SceneState) (at first n : ℕ) (aircraft : Traffic) (old masks : List ℕ) (ea : slice_get (aircraft_of s.picture) at ≡ Some aircraft)
+    (h : AreMasks s.settings s.picture.own aircraft first n old masks) where
   pub masks_at : (j : ℕ) → j < length masks → AddsLevels (MeetsAt s (first + j) at) n (slice_index old j) (slice_index masks j)
   masks_at j b level one = let is = h j b level one in (
     (λ y. ⊎_elim (λ o. inl o) (λ (w, (x, e, m)). inr (w, (met_at s (first + j) at level x aircraft e ea).0 m)) (is.0 y)),
@@ -27,7 +28,8 @@ module _ (s : SceneState) (at first n : ℕ) (aircraft : Traffic) (old masks : L
   )
 
 -- where there was nothing
-pub masks_alone : (s : SceneState) (at first n : ℕ) (old masks : List ℕ) → ((j : ℕ) → j < length masks → AddsLevels (MeetsAt s (first + j) at) n (slice_index old j) (slice_index masks j)) → old ≡ replicate (length old) 0 → length masks ≡ length old
+pub masks_alone : (s : SceneState) (at first n : ℕ) (old masks : List ℕ) → ((j : ℕ) → j < length masks
+    → AddsLevels (MeetsAt s (first + j) at) n (slice_index old j) (slice_index masks j)) → old ≡ replicate (length old) 0 → length masks ≡ length old
     → (j : ℕ) → j < length masks → IsMaskOf (MeetsAt s (first + j) at) n (slice_index masks j)
 masks_alone s at first n old masks h clear same j b =
     let none : slice_index old j ≡ 0 = ap (λ (xs : List ℕ). slice_index xs j) clear ∙ get_or-replicate (length old) j 0 0 (omega (arith, b, same)) in
@@ -38,7 +40,8 @@ pub adds_none : (s : SceneState) (at n : ℕ) → ((index l : ℕ) → MeetsAt s
 adds_none s at n never j mask l one = ((λ b. inl b), (λ t. ⊎_elim (λ b. b) (λ (w, m). absurd (never j l m)) t))
 
 -- what is in reach needs no kind that is not kept
-pub idle_at : (s : SceneState) (trunks : Shared) (at : ℕ) (aircraft : Traffic) → AreFlightsOf s.settings s.picture trunks.needs trunks.trunks trunks.branches → slice_get (aircraft_of s.picture) at ≡ Some aircraft → IsInReachAt s at
+pub idle_at : (s : SceneState) (trunks : Shared) (at : ℕ) (aircraft : Traffic) → AreFlightsOf s.settings s.picture trunks.needs trunks.trunks trunks.branches
+    → slice_get (aircraft_of s.picture) at ≡ Some aircraft → IsInReachAt s at
     → AreIdle s.settings s.picture.own aircraft trunks.needs
 idle_at s trunks at aircraft h there r = h.idle at aircraft there (subst (λ (t : Traffic). IsInReach s.settings s.picture.own t) (same_Some r.aircraft aircraft (sym r.there ∙ there)) r.reached)
 

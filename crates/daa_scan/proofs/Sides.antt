@@ -92,7 +92,8 @@ module _ (own : Own) (kind : Kind) (upper : Bool) (lead : Candidate) (is : (z : 
   leads_of candidate value c = is value ∙ ap (λ (x : Candidate). lead_of own x upper) (sym c)
 
 -- one side of a kind
-module _ (round : Round) (kind : Kind) (upper : Bool) (lead : Candidate) (is : (z : ℤ) → lead ≡ lead_of (own_in round) (candidate_to kind z) upper) (trails : Trails) (h : AreTrailsOf round kind trails) where
+module _ (round : Round) (kind : Kind) (upper : Bool) (lead : Candidate) (is : (z : ℤ) → lead ≡ lead_of (own_in round) (candidate_to kind z) upper) (trails : Trails)
+    (h : AreTrailsOf round kind trails) where
   along : (u : Bool) → upper ≡ u → (z : ℤ) → lead ≡ lead_of (own_in round) (candidate_to kind z) u
   along u e z = is z ∙ ap (λ (x : Bool). lead_of (own_in round) (candidate_to kind z) x) e
 
@@ -119,7 +120,8 @@ module _ (round : Round) (kind : Kind) (upper : Bool) (lead : Candidate) (is : (
   }
 
 -- a candidate of the kind violates nothing from a trail's end on
-pub past_of : (round : Round) (kind : Kind) (candidate : Candidate) (value : ℤ) (end : ℕ) → candidate ≡ candidate_to kind value → ((z : ℤ) → IsClearFrom round (candidate_to kind z) end) → IsClearFrom round candidate end
+pub past_of : (round : Round) (kind : Kind) (candidate : Candidate) (value : ℤ) (end : ℕ) → candidate ≡ candidate_to kind value
+    → ((z : ℤ) → IsClearFrom round (candidate_to kind z) end) → IsClearFrom round candidate end
 past_of round kind candidate value end e past k b over v = past value k b over (subst (λ (x : Candidate). IsHitOn round x k) e v)
 
 -- what leads on a side is a candidate of the kind
@@ -156,7 +158,8 @@ module _ (round : Round) (kind : Kind) (seconds : Seconds) (h : AreSecondsOf (se
 
 -- what is clear at the round's level
 module _ (round : Round) (kind : Kind) (upper : Bool) (n : ℕ) where
-  pub clear_walked : ((z : ℤ) (j : ℕ) → j < n → ¬ IsHitOn round (lead_of (own_in round) (candidate_to kind z) upper) j) → AreClear (settings_in round) (own_in round) (aircraft_in round) kind upper round.l n
+  pub clear_walked : ((z : ℤ) (j : ℕ) → j < n → ¬ IsHitOn round (lead_of (own_in round) (candidate_to kind z) upper) j)
+      → AreClear (settings_in round) (own_in round) (aircraft_in round) kind upper round.l n
   clear_walked none level at z j b v = none z j b
       (subst (λ (x : Level). ViolatesOn (settings_in round) (own_in round) (lead_of (own_in round) (candidate_to kind z) upper) (aircraft_in round) x.volume j)
       (one_level (settings_in round) round.l level round.level.now at round.known.there) v)
@@ -166,27 +169,33 @@ module _ (round : Round) (kind : Kind) (upper : Bool) (n : ℕ) where
       → AreClear (settings_in round) (own_in round) (aircraft_in round) kind upper round.l n
   clear_within nested below = clear_walked (λ z j b v.
       let outer = level_before (settings_in round) round.l round.level.now round.known.there nested.some in
-      below outer.0 outer.1 z j b (hit_outer (settings_in round) (own_in round) (lead_of (own_in round) (candidate_to kind z) upper) (aircraft_in round) round.level.now outer.0 j (nested.within outer.0 outer.1) v))
+      below outer.0 outer.1 z j b (hit_outer (settings_in round) (own_in round) (lead_of (own_in round) (candidate_to kind z) upper) (aircraft_in round) round.level.now outer.0 j
+      (nested.within outer.0 outer.1) v))
 
 -- what a side's trail answers of a candidate that leaves past what it is sure of
-module _ (round : Round) (kind : Kind) (trails : Trails) (h : AreTrailsOf round kind trails) (short : round.level.now.lookahead ≤ 180) (candidate : Candidate) (branch : Branch) (is : IsBranchIn round kind candidate branch) (b : branch.leaves < 2 ^ 32) where
+module _ (round : Round) (kind : Kind) (trails : Trails) (h : AreTrailsOf round kind trails) (short : round.level.now.lookahead ≤ 180) (candidate : Candidate) (branch : Branch)
+    (is : IsBranchIn round kind candidate branch) (b : branch.leaves < 2 ^ 32) where
   alike : (u : Bool) → branch.upper ≡ u → FliesAs (own_in round) (rates_of (settings_in round)) candidate (lead_of (own_in round) (candidate_to kind is.value) u) branch.leaves
   alike u e = subst (λ (x : Candidate). FliesAs (own_in round) (rates_of (settings_in round)) candidate (lead_of (own_in round) x u) branch.leaves) is.is
       (subst (λ (x : Bool). FliesAs (own_in round) (rates_of (settings_in round)) candidate (lead_of (own_in round) candidate x) branch.leaves) e is.branch_of.before)
 
-  on_side : (trail : Trail) → (IsTrue branch.upper → trail ≡ trails.upper) → (branch.upper ≡ false → trail ≡ trails.lower) → trail.past < branch.leaves → (u : Bool) → branch.upper ≡ u → IsTrue trail.hit ↔ IsMet round candidate
+  on_side : (trail : Trail) → (IsTrue branch.upper → trail ≡ trails.upper) → (branch.upper ≡ false → trail ≡ trails.lower) → trail.past < branch.leaves → (u : Bool)
+      → branch.upper ≡ u → IsTrue trail.hit ↔ IsMet round candidate
   on_side trail up down p true e = subst (λ (x : Trail). IsTrue x.hit ↔ IsMet round candidate) (sym (up e))
-      (sure_met (settings_in round) (own_in round) candidate (lead_of (own_in round) (candidate_to kind is.value) true) (aircraft_in round) round.level.now.volume branch.leaves round.level.now.lookahead (alike true e) trails.upper
+      (sure_met (settings_in round) (own_in round) candidate (lead_of (own_in round) (candidate_to kind is.value) true)
+      (aircraft_in round) round.level.now.volume branch.leaves round.level.now.lookahead (alike true e) trails.upper
       (h.upper is.value).along (h.upper is.value).sure (subst (λ (x : Trail). x.past < branch.leaves) (up e) p) b short (past_of round kind candidate is.value trails.upper.end is.is h.past_upper))
   on_side trail up down p false e = subst (λ (x : Trail). IsTrue x.hit ↔ IsMet round candidate) (sym (down e))
-      (sure_met (settings_in round) (own_in round) candidate (lead_of (own_in round) (candidate_to kind is.value) false) (aircraft_in round) round.level.now.volume branch.leaves round.level.now.lookahead (alike false e) trails.lower
+      (sure_met (settings_in round) (own_in round) candidate (lead_of (own_in round) (candidate_to kind is.value) false)
+      (aircraft_in round) round.level.now.volume branch.leaves round.level.now.lookahead (alike false e) trails.lower
       (h.lower is.value).along (h.lower is.value).sure (subst (λ (x : Trail). x.past < branch.leaves) (down e) p) b short (past_of round kind candidate is.value trails.lower.end is.is h.past_lower))
 
   pub side_sure : (trail : Trail) → (IsTrue branch.upper → trail ≡ trails.upper) → (branch.upper ≡ false → trail ≡ trails.lower) → trail.past < branch.leaves → IsTrue trail.hit ↔ IsMet round candidate
   side_sure trail up down p = on_side trail up down p branch.upper refl
 
 -- the branch that is kept for a candidate of a kind that is needed
-pub branch_in : (round : Round) (kind : Kind) (index : ℕ) (branch : Branch) → IsNumberOf (settings_in round) kind index → IsTrue (is_needed round.trunks.now.needs kind) → ((d : Branch) → slice_index_or round.trunks.now.branches index d ≡ branch)
+pub branch_in : (round : Round) (kind : Kind) (index : ℕ) (branch : Branch) → IsNumberOf (settings_in round) kind index → IsTrue (is_needed round.trunks.now.needs kind)
+    → ((d : Branch) → slice_index_or round.trunks.now.branches index d ≡ branch)
     → IsBranchIn round kind (slice_index_or (candidates_of (settings_in round)) index Hold) branch
 branch_in round kind index branch n needed found =
     let s = settings_in round in
@@ -197,5 +206,6 @@ branch_in round kind index branch n needed found =
       value = of.0;
       is = of.1;
       in_range = of_kind_in_range kind s index candidate round.known.accepted n.from n.before listed;
-      branch_of = subst (λ (b : Branch). IsBranchOf (own_in round) (rates_of (settings_in round)) candidate b) (found branch) (round.known.kept.trunks.branches.each index candidate branch listed kind of.0 of.1 needed);
+      branch_of = subst (λ (b : Branch). IsBranchOf (own_in round) (rates_of (settings_in round)) candidate b) (found branch)
+          (round.known.kept.trunks.branches.each index candidate branch listed kind of.0 of.1 needed);
     }

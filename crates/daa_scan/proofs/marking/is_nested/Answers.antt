@@ -3,4 +3,5 @@ use Rattle.daa_scan.proofs.Marks.{nested_at}
 use Rattle.daa_scan.proofs.marking.is_nested.Goals as goal
 
 pub returns-then-l-gt1 : goal.returns-then-l-gt1
-returns-then-l-gt1 c level at t = nested_at c.args.config.now c.args.l c.level.result.now c.level-then-l-gt1.result.now (omega (arith, c.if-l-gt1.true)) c.level.ensures.value c.level-then-l-gt1.ensures.value (c.lies_within.ensures.0 t) level at
+returns-then-l-gt1 c level at t = nested_at c.args.config.now c.args.l c.level.result.now c.level-then-l-gt1.result.now
+    (omega (arith, c.if-l-gt1.true)) c.level.ensures.value c.level-then-l-gt1.ensures.value (c.lies_within.ensures.0 t) level at

@@ -18,7 +18,8 @@ returns-then-not-has-clause-masks c before h =
 pub returns-then-seconds-round-clause-masks : goal.returns-then-seconds-round-clause-masks
 returns-then-seconds-round-clause-masks c before h =
     let r = c.args.round.now in
-    let seconds = subst (λ (s : Seconds). AreSecondsOf (settings_in r) (own_in r) (aircraft_in r) c.args.kind r.level.now.volume r.level.now.lookahead s) (sym c.of-seconds.ensures) (r.known.seconds c.args.kind) in
+    let seconds = subst (λ (s : Seconds). AreSecondsOf (settings_in r) (own_in r) (aircraft_in r) c.args.kind r.level.now.volume r.level.now.lookahead s) (sym c.of-seconds.ensures)
+    (r.known.seconds c.args.kind) in
     marked_past (settings_in r) (own_in r) (aircraft_in r) c.args.first r.l before c.args.masks.now c.args.kind r.level.now r.known.accepted r.known.there
     (λ z m. seconds.before z m.leg m.before (omega (arith, m.before, c.if-seconds-round.true)) m.violates) h
 
@@ -40,12 +41,15 @@ returns-then-not-some_has_level-clause-masks c before h =
 pub loop-at-init : goal.loop-at-init
 loop-at-init c =
     let r = c.args.round.now in
-    let seconds = subst (λ (s : Seconds). AreSecondsOf (settings_in r) (own_in r) (aircraft_in r) c.args.kind r.level.now.volume r.level.now.lookahead s) (sym c.of-seconds.ensures) (r.known.seconds c.args.kind) in
+    let seconds = subst (λ (s : Seconds). AreSecondsOf (settings_in r) (own_in r) (aircraft_in r) c.args.kind r.level.now.volume r.level.now.lookahead s) (sym c.of-seconds.ensures)
+    (r.known.seconds c.args.kind) in
     let some : c.of-seconds.result.begin < r.level.now.lookahead = omega (arith, c.if-seconds-round.false) in
     record {
       trails = record {
-        upper = begun_trail r c.args.kind c.of-seconds.result seconds some true _ c.begun.result c.begin_level.ensures.upper c.begun.ensures.walked c.begun.ensures.end c.begun.ensures.hit c.begun.ensures.sure;
-        lower = begun_trail r c.args.kind c.of-seconds.result seconds some false _ c.begun-2.result c.begin_level.ensures.lower c.begun-2.ensures.walked c.begun-2.ensures.end c.begun-2.ensures.hit c.begun-2.ensures.sure;
+        upper = begun_trail r c.args.kind c.of-seconds.result seconds some true _ c.begun.result c.begin_level.ensures.upper c.begun.ensures.walked c.begun.ensures.end
+            c.begun.ensures.hit c.begun.ensures.sure;
+        lower = begun_trail r c.args.kind c.of-seconds.result seconds some false _ c.begun-2.result c.begin_level.ensures.lower c.begun-2.ensures.walked c.begun-2.ensures.end
+            c.begun-2.ensures.hit c.begun-2.ensures.sure;
         past_upper = begun_past r c.args.kind c.of-seconds.result seconds some c.begun.result c.begun.ensures.end;
         past_lower = begun_past r c.args.kind c.of-seconds.result seconds some c.begun-2.result c.begun-2.ensures.end;
       };
@@ -101,7 +105,8 @@ loop-at-preserved c =
     let r = c.args.round.now in
     record {
       trails = c.loop-at.invariant.trails;
-      masks = λ before h. marked_asked (settings_in r) (own_in r) (aircraft_in r) c.args.first r.l before c.loop-at.masks c.loop-at.at c.next_end-end.result (omega (arith, c.next_end-end.ensures.after))
+      masks = λ before h. marked_asked (settings_in r) (own_in r) (aircraft_in r) c.args.first r.l before c.loop-at.masks c.loop-at.at c.next_end-end.result
+          (omega (arith, c.next_end-end.ensures.after))
           (λ j b from d. ⊎_elim
           (λ t. inl t)
           (λ (n, clear). let nested = r.known.within n in

@@ -42,9 +42,11 @@ meets_along-requires-else-branch g c =
     )
 
 pub returns-then-branch-clause-trails : goal.returns-then-branch-clause-trails
-returns-then-branch-clause-trails g c = upper_kept c.args.round.now c.args.kind c.args.branch.now.upper c.lead_to-lead.result c.lead_to-lead.ensures.value c.args.trails.now c.requires.1.1 c.meets_along.new.trail c.if-branch.true
+returns-then-branch-clause-trails g c = upper_kept c.args.round.now c.args.kind c.args.branch.now.upper c.lead_to-lead.result c.lead_to-lead.ensures.value c.args.trails.now
+    c.requires.1.1 c.meets_along.new.trail c.if-branch.true
     c.meets_along.ensures.end c.meets_along.ensures.trail
 
 pub returns-else-branch-clause-trails : goal.returns-else-branch-clause-trails
-returns-else-branch-clause-trails g c = lower_kept c.args.round.now c.args.kind c.args.branch.now.upper c.lead_to-lead.result c.lead_to-lead.ensures.value c.args.trails.now c.requires.1.1 c.meets_along-else-branch.new.trail c.if-branch.false
+returns-else-branch-clause-trails g c = lower_kept c.args.round.now c.args.kind c.args.branch.now.upper c.lead_to-lead.result c.lead_to-lead.ensures.value c.args.trails.now
+    c.requires.1.1 c.meets_along-else-branch.new.trail c.if-branch.false
     c.meets_along-else-branch.ensures.end c.meets_along-else-branch.ensures.trail

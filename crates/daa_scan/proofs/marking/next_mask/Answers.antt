@@ -21,7 +21,8 @@ returns-then-is_after-clause-mask c old is =
     let tested = side_sure r c.args.kind c.args.trails.now c.requires.trails r.known.in_range.lookahead_most candidate c.branch-branch.result.now branch after.1
     c.trail_on-trail.result c.trail_on-trail.ensures.upper c.trail_on-trail.ensures.lower after.0 in
     adds_by (settings_in r) (own_in r) (aircraft_in r) c.args.index candidate (number_there c.args.kind (settings_in r) c.args.index c.requires.index) r.l old c.args.mask c.with_level.result
-    (λ h. one_more (settings_in r) (own_in r) candidate (aircraft_in r) r.l old c.args.mask h r.level.now r.known.there c.trail_on-trail.result.hit c.with_level.result tested c.with_level.ensures.met c.with_level.ensures.not_met)
+    (λ h. one_more (settings_in r) (own_in r) candidate (aircraft_in r) r.l old c.args.mask h r.level.now r.known.there c.trail_on-trail.result.hit c.with_level.result tested
+    c.with_level.ensures.met c.with_level.ensures.not_met)
     is
 
 pub returns-then-not-has_level-clause-mask : goal.returns-then-not-has_level-clause-mask
@@ -30,7 +31,8 @@ returns-then-not-has_level-clause-mask c old is =
     let candidate : Candidate = slice_index_or (candidates_of (settings_in r)) c.args.index Hold in
     let nested = r.known.within c.if-round.true in
     adds_by (settings_in r) (own_in r) (aircraft_in r) c.args.index candidate (number_there c.args.kind (settings_in r) c.args.index c.requires.index) r.l old c.args.mask c.args.mask
-    (λ h. none_nested (settings_in r) (own_in r) candidate (aircraft_in r) r.l old c.args.mask h (omega (arith, nested.some)) (meets_before (settings_in r) (own_in r) candidate (aircraft_in r) r.l r.level.now r.known.there nested)
+    (λ h. none_nested (settings_in r) (own_in r) candidate (aircraft_in r) r.l old c.args.mask h (omega (arith, nested.some))
+    (meets_before (settings_in r) (own_in r) candidate (aircraft_in r) r.l r.level.now r.known.there nested)
     (λ b. let t = c.has_level.ensures.1 b in cc (t, c.if-not-has_level.true)))
     is
 
@@ -43,7 +45,10 @@ returns-then-has_level-clause-mask c old is =
     is
 
 pub meets_shared-met-requires : goal.meets_shared-met-requires
-meets_shared-met-requires c = (branch_in c.args.round.now c.args.kind c.args.index c.branch-branch.result.now c.requires.index c.requires.needed c.branch-branch.ensures, (c.requires.needed, c.requires.trails))
+meets_shared-met-requires c = (
+  branch_in c.args.round.now c.args.kind c.args.index c.branch-branch.result.now c.requires.index c.requires.needed c.branch-branch.ensures,
+  (c.requires.needed, c.requires.trails),
+)
 
 pub returns-clause-mask : goal.returns-clause-mask
 returns-clause-mask c old is =

@@ -20,4 +20,9 @@ loop-done-preserved c =
 pub returns-clause-idle : goal.returns-clause-idle
 returns-clause-idle c =
     let e = c.args.encounter.now in
-    idle_all e.config.now e.own.now e.aircraft.now c.loop-done.done c.loop-done.all (omega (arith, c.loop-done-test.false, c.loop-done.auto.done-end, c.levels-done-end.ensures.value)) c.loop-done.invariant.below
+    idle_all e.config.now e.own.now e.aircraft.now c.loop-done.done c.loop-done.all (omega (
+      arith,
+      c.loop-done-test.false,
+      c.loop-done.auto.done-end,
+      c.levels-done-end.ensures.value,
+    )) c.loop-done.invariant.below

@@ -28,7 +28,8 @@ record Parts (f x y g vx vy : ℤ) : Type 0 where
   second_size : IsWithin 10000 x
   third_size : IsWithin 10000 y
 
-parts : (c : After-size-2) → Parts c.from.result c.size.result c.size-2.result (int_max c.args.encounter.now.own.now.gs (greatest_of Speed c.args.encounter.now.config.now)) c.args.encounter.now.aircraft.now.vx c.args.encounter.now.aircraft.now.vy
+parts : (c : After-size-2) → Parts c.from.result c.size.result c.size-2.result (int_max c.args.encounter.now.own.now.gs (greatest_of Speed c.args.encounter.now.config.now))
+    c.args.encounter.now.aircraft.now.vx c.args.encounter.now.aircraft.now.vy
 parts c =
     let f1 : FitsSigned w32 c.args.encounter.now.own.now.gs = search rules in
     let f2 : FitsSigned w32 c.greatest.result = search rules in
@@ -36,14 +37,16 @@ parts c =
     let f4 : FitsSigned w32 c.args.encounter.now.aircraft.now.vx = search rules in
     let f5 : FitsSigned w32 c.args.encounter.now.aircraft.now.vy = search rules in
     let m : c.max-greatest.result ≡ int_max c.args.encounter.now.own.now.gs c.greatest.result = simp to_z-of_z at c.max-greatest.ensures.value in
-    let e : c.from.result ≡ int_max c.args.encounter.now.own.now.gs (greatest_of Speed c.args.encounter.now.config.now) = (simp to_z-of_z at c.from.ensures) ∙ m ∙ ap (int_max c.args.encounter.now.own.now.gs) c.greatest.ensures.value in
+    let e : c.from.result ≡ int_max c.args.encounter.now.own.now.gs (greatest_of Speed c.args.encounter.now.config.now) = (simp to_z-of_z at c.from.ensures) ∙ m ∙ ap
+    (int_max c.args.encounter.now.own.now.gs) c.greatest.ensures.value in
     let ex : c.size.result ≡ size_of c.args.encounter.now.aircraft.now.vx = simp to_z-of_z at c.size.ensures in
     let ey : c.size-2.result ≡ size_of c.args.encounter.now.aircraft.now.vy = simp to_z-of_z at c.size-2.ensures in
     record {
       first = e;
       second = ex;
       third = ey;
-      first_size = as_within e (greater _ _ c.args.encounter.now.known.own_in_range.gs.0 c.args.encounter.now.known.own_in_range.gs.1 (subst (λ (z : ℤ). IsFrom (pos 0) (pos 10000) z) c.greatest.ensures.value c.greatest.ensures.in_range));
+      first_size = as_within e (greater _ _ c.args.encounter.now.known.own_in_range.gs.0 c.args.encounter.now.known.own_in_range.gs.1
+          (subst (λ (z : ℤ). IsFrom (pos 0) (pos 10000) z) c.greatest.ensures.value c.greatest.ensures.in_range));
       second_size = as_within ex (small _ c.args.encounter.now.known.aircraft_in_range.vx);
       third_size = as_within ey (small _ c.args.encounter.now.known.aircraft_in_range.vy);
     }

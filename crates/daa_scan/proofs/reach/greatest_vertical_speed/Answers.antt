@@ -29,7 +29,8 @@ record Parts (m s r w : ℤ) : Type 0 where
   second_size : IsWithin 10000 s
 
 parts : (c : After-size-4) → Parts c.max.result c.size-4.result
-    (int_max (int_max (size_of c.args.encounter.now.own.now.vs) (size_of (least_of Climb c.args.encounter.now.config.now))) (int_max (size_of (greatest_of Climb c.args.encounter.now.config.now)) c.args.encounter.now.config.now.numbers.alt.rate)) (size_of c.args.encounter.now.aircraft.now.vs)
+    (int_max (int_max (size_of c.args.encounter.now.own.now.vs) (size_of (least_of Climb c.args.encounter.now.config.now)))
+    (int_max (size_of (greatest_of Climb c.args.encounter.now.config.now)) c.args.encounter.now.config.now.numbers.alt.rate)) (size_of c.args.encounter.now.aircraft.now.vs)
 parts c =
     let f1 : FitsSigned w32 c.args.encounter.now.own.now.vs = search rules in
     let f2 : FitsSigned w32 c.least.result = search rules in
@@ -54,8 +55,10 @@ parts c =
       first = m;
       second = s;
       first_size = as_within m (max_within _ _
-          (max_within _ _ (small _ (range _ c.args.encounter.now.known.own_in_range.vs)) (small _ (subst (λ (z : ℤ). IsFrom (negsuc 9999) (pos 10000) z) c.least.ensures.value c.least.ensures.in_range)))
-          (max_within _ _ (small _ (subst (λ (z : ℤ). IsFrom (negsuc 9999) (pos 10000) z) c.greatest.ensures.value c.greatest.ensures.in_range)) (rate_in _ (subst (λ (z : ℤ). IsFrom (pos 1) (pos 10000) z) c.alt_rate.ensures.value c.alt_rate.ensures.in_range))));
+          (max_within _ _ (small _ (range _ c.args.encounter.now.known.own_in_range.vs)) (small _
+          (subst (λ (z : ℤ). IsFrom (negsuc 9999) (pos 10000) z) c.least.ensures.value c.least.ensures.in_range)))
+          (max_within _ _ (small _ (subst (λ (z : ℤ). IsFrom (negsuc 9999) (pos 10000) z) c.greatest.ensures.value c.greatest.ensures.in_range))
+          (rate_in _ (subst (λ (z : ℤ). IsFrom (pos 1) (pos 10000) z) c.alt_rate.ensures.value c.alt_rate.ensures.in_range))));
       second_size = as_within s (small _ (range _ c.args.encounter.now.known.aircraft_in_range.vs));
     }
 

@@ -11,7 +11,8 @@ use Rattle.daa_scan.proofs.reach.is_in_reach.Goals as goal
 use Rattle.daa_scan.proofs.reach.is_in_reach.Goals.{After-can_enter}
 
 -- at one more level
-more : (settings : Settings) (l : ℕ) (here : Level) (P : Level → Type 0) → IsLevelAt settings (l + 1) here → ((j : ℕ) (level : Level) → j ≤ l → IsLevelAt settings j level → ¬ P level) → ¬ P here → (j : ℕ) (level : Level) → j ≤ l + 1 → IsLevelAt settings j level → ¬ P level
+more : (settings : Settings) (l : ℕ) (here : Level) (P : Level → Type 0) → IsLevelAt settings (l + 1) here
+    → ((j : ℕ) (level : Level) → j ≤ l → IsLevelAt settings j level → ¬ P level) → ¬ P here → (j : ℕ) (level : Level) → j ≤ l + 1 → IsLevelAt settings j level → ¬ P level
 more settings l here P e h n j level k f p = ⊎_elim
     (λ lt. h j level (omega (arith, lt)) f p)
     (λ ge. let same : j ≡ l + 1 = omega (arith, k, ge) in
@@ -19,19 +20,24 @@ more settings l here P e h n j level k f p = ⊎_elim
     (cases_lt j (l + 1))
 
 same : (b : Bool) (level : Level) (p q : Solid) (h i v u : ℤ) → p ≡ q → h ≡ i → v ≡ u → IsTrue b ↔ CanEnter level p h v → IsTrue b ↔ CanEnter level q i u
-same b level p q h i v u e f g x = subst (λ (z : Solid). IsTrue b ↔ CanEnter level z i u) e (subst (λ (z : ℤ). IsTrue b ↔ CanEnter level p z u) f (subst (λ (z : ℤ). IsTrue b ↔ CanEnter level p h z) g x))
+same b level p q h i v u e f g x = subst (λ (z : Solid). IsTrue b ↔ CanEnter level z i u) e
+    (subst (λ (z : ℤ). IsTrue b ↔ CanEnter level p z u) f (subst (λ (z : ℤ). IsTrue b ↔ CanEnter level p h z) g x))
 
-tested : (c : After-can_enter) → IsTrue c.can_enter.result ↔ CanEnter c.level.result.now (place_now c.args.encounter.now.own.now c.args.encounter.now.aircraft.now) (horizontal_speed c.args.encounter.now.config.now c.args.encounter.now.own.now c.args.encounter.now.aircraft.now) (vertical_speed c.args.encounter.now.config.now c.args.encounter.now.own.now c.args.encounter.now.aircraft.now)
+tested : (c : After-can_enter) → IsTrue c.can_enter.result ↔ CanEnter c.level.result.now (place_now c.args.encounter.now.own.now c.args.encounter.now.aircraft.now)
+    (horizontal_speed c.args.encounter.now.config.now c.args.encounter.now.own.now c.args.encounter.now.aircraft.now)
+    (vertical_speed c.args.encounter.now.config.now c.args.encounter.now.own.now c.args.encounter.now.aircraft.now)
 tested c =
     let f : FitsSigned w64 c.greatest_horizontal_speed-horizontal.result = search rules in
     let g : FitsSigned w64 c.greatest_vertical_speed-vertical.result = search rules in
-    same _ _ _ _ _ _ _ _ c.place_at_present-place.ensures.value c.greatest_horizontal_speed-horizontal.ensures.value c.greatest_vertical_speed-vertical.ensures.value (simp to_z-of_z at c.can_enter.ensures)
+    same _ _ _ _ _ _ _ _ c.place_at_present-place.ensures.value c.greatest_horizontal_speed-horizontal.ensures.value c.greatest_vertical_speed-vertical.ensures.value
+    (simp to_z-of_z at c.can_enter.ensures)
 
 pub loop-done-init : goal.loop-done-init
 loop-done-init c j level k f = absurd (omega (arith, k, f.numbered))
 
 pub loop-done-preserved : goal.loop-done-preserved
-loop-done-preserved c = more c.args.encounter.now.config.now c.loop-done.done c.level.result.now _ c.level.ensures.value c.loop-done.invariant (λ r. let t = (tested c.before).1 r in absurd (cc (t, c.if-can_enter.false)))
+loop-done-preserved c = more c.args.encounter.now.config.now c.loop-done.done c.level.result.now _ c.level.ensures.value c.loop-done.invariant
+    (λ r. let t = (tested c.before).1 r in absurd (cc (t, c.if-can_enter.false)))
 
 pub returns-then-can_enter : goal.returns-then-can_enter
 returns-then-can_enter c = (

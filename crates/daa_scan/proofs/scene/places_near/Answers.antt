@@ -23,7 +23,8 @@ loop-place-preserved c =
     let s : SceneState = record { settings = c.args.config.now; picture = c.args.picture.now } in
     let n : ℕ = c.loop-place.place in
     let in_list : n < length (aircraft_of s.picture) = omega (arith, c.loop-place-test.true, c.len-place-end.ensures.value) in
-    let at : c.index-deref-place.result ≡ slice_index_or (aircraft_of s.picture) n c.index-deref-place.result = c.index-deref-place.is ∙ ap (λ (ts : List Traffic). slice_index_or ts n c.index-deref-place.result) c.deref.ensures.0 in
+    let at : c.index-deref-place.result ≡ slice_index_or (aircraft_of s.picture) n c.index-deref-place.result = c.index-deref-place.is ∙ ap
+    (λ (ts : List Traffic). slice_index_or ts n c.index-deref-place.result) c.deref.ensures.0 in
     let there : slice_get (aircraft_of s.picture) n ≡ Some c.index-deref-place.result = slice_get_read (aircraft_of s.picture) (length (aircraft_of s.picture)) n _ refl in_list at in
     let tested = tested_here s n c.index-deref-place.result there c.is_near.result c.is_near.ensures in
     elim c.if-is_near.branch [

@@ -11,7 +11,8 @@ returns-then-trail-round g c =
     let r = c.args.round.now in
     let by = c.requires.1.0 in
     let alike = flies_as_lead (own_in r) (rates_of (settings_in r)) g.candidate c.args.lead c.args.branch.now by.leads by.branch_of in (
-      (λ _. hit_meets (settings_in r) (own_in r) g.candidate c.args.lead (aircraft_in r) r.level.now.volume c.args.branch.now.leaves r.level.now.lookahead alike c.args.trail.now c.requires.1.1.0.at.along
+      (λ _. hit_meets (settings_in r) (own_in r) g.candidate c.args.lead (aircraft_in r) r.level.now.volume c.args.branch.now.leaves r.level.now.lookahead alike c.args.trail.now
+          c.requires.1.1.0.at.along
           c.if-trail.true c.if-trail-branch.true c.if-trail-round.true),
       (λ _. refl),
     )
@@ -30,7 +31,8 @@ returns-then-branch-last g c = (
       let r = c.args.round.now in
       let by = c.requires.1.0 in
       let alike = flies_as_lead (own_in r) (rates_of (settings_in r)) g.candidate c.args.lead c.args.branch.now by.leads by.branch_of in
-      let e = later_meets (settings_in r) (own_in r) g.candidate c.args.lead (aircraft_in r) r.level.now.volume c.args.branch.now.leaves r.level.now.lookahead alike c.args.trail.now c.requires.1.1.0.at.along (never g c) m in
+      let e = later_meets (settings_in r) (own_in r) g.candidate c.args.lead (aircraft_in r) r.level.now.volume c.args.branch.now.leaves r.level.now.lookahead alike
+      c.args.trail.now c.requires.1.1.0.at.along (never g c) m in
       absurd (c.requires.1.1.0.later e.leg (omega (arith, e.before, r.known.in_range.lookahead_most)) (omega (arith, e.not_before, e.before, c.min-last.ensures, c.if-branch-last.true)) e.violates)),
 )
 
@@ -46,7 +48,9 @@ returns g c =
     let r = c.args.round.now in
     let by = c.requires.1.0 in
     let alike = flies_as_lead (own_in r) (rates_of (settings_in r)) g.candidate c.args.lead c.args.branch.now by.leads by.branch_of in (
-      (λ t. meets_later (settings_in r) (own_in r) g.candidate c.args.lead (aircraft_in r) r.level.now.volume c.args.branch.now.leaves r.level.now.lookahead alike c.args.trail.now c.requires.1.1.0.at.along (c.meets_after.ensures.0 t)),
+      (λ t. meets_later (settings_in r) (own_in r) g.candidate c.args.lead (aircraft_in r) r.level.now.volume c.args.branch.now.leaves r.level.now.lookahead alike c.args.trail.now
+          c.requires.1.1.0.at.along (c.meets_after.ensures.0 t)),
       (λ m. c.meets_after.ensures.1
-          (later_meets (settings_in r) (own_in r) g.candidate c.args.lead (aircraft_in r) r.level.now.volume c.args.branch.now.leaves r.level.now.lookahead alike c.args.trail.now c.requires.1.1.0.at.along (never_later g c) m)),
+          (later_meets (settings_in r) (own_in r) g.candidate c.args.lead (aircraft_in r) r.level.now.volume c.args.branch.now.leaves r.level.now.lookahead alike c.args.trail.now
+          c.requires.1.1.0.at.along (never_later g c) m)),
     )

@@ -16,7 +16,8 @@ relative-requires-clause-leg g c =
     let rates = rates_of (settings_in r) in
     let k = c.args.branch.now.leaves in
     let short : c.args.branch.now.leaves < 180 = omega (arith, c.requires.1.1.0, r.known.in_range.lookahead_most) in
-    let own = own_by_branch (own_in r) rates g.candidate c.args.branch.now c.args.place.now c.own_leg_of-first.result c.requires.1.0 c.requires.1.1.1.0 short c.requires.1.1.1.1 c.own_leg_of-first.ensures in
+    let own = own_by_branch (own_in r) rates g.candidate c.args.branch.now c.args.place.now c.own_leg_of-first.result c.requires.1.0 c.requires.1.1.1.0 short c.requires.1.1.1.1
+    c.own_leg_of-first.ensures in
     subst (λ (l : OwnLeg). IsOwnLegInRange l) (sym own) (own_leg-in_range (own_in r) rates g.candidate k r.encounter.now.known.own_in_range r.known.accepted.rates c.requires.0 (omega (arith, short)))
 
 pub end_of-requires : goal.end_of-requires
@@ -25,7 +26,8 @@ end_of-requires g c =
     let rates = rates_of (settings_in r) in
     let k = c.args.branch.now.leaves in
     let short : c.args.branch.now.leaves < 180 = omega (arith, c.requires.1.1.0, r.known.in_range.lookahead_most) in
-    let own = own_by_branch (own_in r) rates g.candidate c.args.branch.now c.args.place.now c.own_leg_of-first.result c.requires.1.0 c.requires.1.1.1.0 short c.requires.1.1.1.1 c.own_leg_of-first.ensures in
+    let own = own_by_branch (own_in r) rates g.candidate c.args.branch.now c.args.place.now c.own_leg_of-first.result c.requires.1.0 c.requires.1.1.1.0 short c.requires.1.1.1.1
+    c.own_leg_of-first.ensures in
     subst (λ (l : OwnLeg). IsOwnLegInRange l) (sym own) (own_leg-in_range (own_in r) rates g.candidate k r.encounter.now.known.own_in_range r.known.accepted.rates c.requires.0 (omega (arith, short)))
 
 pub returns-then-is_hit : goal.returns-then-is_hit
@@ -34,8 +36,10 @@ returns-then-is_hit g c =
     let rates = rates_of (settings_in r) in
     let k = c.args.branch.now.leaves in
     let short : c.args.branch.now.leaves < 180 = omega (arith, c.requires.1.1.0, r.known.in_range.lookahead_most) in
-    let own = own_by_branch (own_in r) rates g.candidate c.args.branch.now c.args.place.now c.own_leg_of-first.result c.requires.1.0 c.requires.1.1.1.0 short c.requires.1.1.1.1 c.own_leg_of-first.ensures in
-    let tested = leg_tested (settings_in r) (own_in r) g.candidate (aircraft_in r) r.level.now.volume k c.own_leg_of-first.result c.relative.result c.is_hit.result own c.relative.ensures.value c.is_hit.ensures in
+    let own = own_by_branch (own_in r) rates g.candidate c.args.branch.now c.args.place.now c.own_leg_of-first.result c.requires.1.0 c.requires.1.1.1.0 short c.requires.1.1.1.1
+    c.own_leg_of-first.ensures in
+    let tested = leg_tested (settings_in r) (own_in r) g.candidate (aircraft_in r) r.level.now.volume k c.own_leg_of-first.result c.relative.result c.is_hit.result own
+    c.relative.ensures.value c.is_hit.ensures in
     let f = from_next (settings_in r) (own_in r) g.candidate (aircraft_in r) r.level.now.volume k r.level.now.lookahead c.requires.1.1.0 in
     ((λ _. f.1 (inl (tested.0 c.if-is_hit.true))), (λ _. refl))
 
@@ -48,7 +52,8 @@ meets_on_rest-requires g c =
     let rates = rates_of (settings_in r) in
     let k = c.args.branch.now.leaves in
     let short : c.args.branch.now.leaves < 180 = omega (arith, c.requires.1.1.0, r.known.in_range.lookahead_most) in
-    let own = own_by_branch (own_in r) rates g.candidate c.args.branch.now c.args.place.now c.own_leg_of-first.result c.requires.1.0 c.requires.1.1.1.0 short c.requires.1.1.1.1 c.own_leg_of-first.ensures in
+    let own = own_by_branch (own_in r) rates g.candidate c.args.branch.now c.args.place.now c.own_leg_of-first.result c.requires.1.0 c.requires.1.1.1.0 short c.requires.1.1.1.1
+    c.own_leg_of-first.ensures in
     let place = c.end_of.ensures ∙ ap (λ (l : OwnLeg). plus l.place l.velocity) own ∙ place-next (own_in r) rates g.candidate k in
     let on = subst (λ (n : ℕ). FliesOn (own_in r) rates g.candidate n) (next k c.args.branch.now.settles c.requires.1.1.1.0 c.requires.1.0.near.1) c.requires.1.0.after in
     (c.requires.0, (c.requires.1.0.velocity, (place, on)))
@@ -59,8 +64,10 @@ returns g c =
     let rates = rates_of (settings_in r) in
     let k = c.args.branch.now.leaves in
     let short : c.args.branch.now.leaves < 180 = omega (arith, c.requires.1.1.0, r.known.in_range.lookahead_most) in
-    let own = own_by_branch (own_in r) rates g.candidate c.args.branch.now c.args.place.now c.own_leg_of-first.result c.requires.1.0 c.requires.1.1.1.0 short c.requires.1.1.1.1 c.own_leg_of-first.ensures in
-    let tested = leg_tested (settings_in r) (own_in r) g.candidate (aircraft_in r) r.level.now.volume k c.own_leg_of-first.result c.relative.result c.is_hit.result own c.relative.ensures.value c.is_hit.ensures in
+    let own = own_by_branch (own_in r) rates g.candidate c.args.branch.now c.args.place.now c.own_leg_of-first.result c.requires.1.0 c.requires.1.1.1.0 short c.requires.1.1.1.1
+    c.own_leg_of-first.ensures in
+    let tested = leg_tested (settings_in r) (own_in r) g.candidate (aircraft_in r) r.level.now.volume k c.own_leg_of-first.result c.relative.result c.is_hit.result own
+    c.relative.ensures.value c.is_hit.ensures in
     let f = from_next (settings_in r) (own_in r) g.candidate (aircraft_in r) r.level.now.volume k r.level.now.lookahead c.requires.1.1.0 in (
       (λ t. f.1 (inr (c.meets_on_rest.ensures.0 t))),
       (λ m. ⊎_elim
