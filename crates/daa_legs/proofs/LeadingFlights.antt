@@ -41,13 +41,13 @@ toward_there x y r h k =
     let b = int_min_is (x +ℤ r) y in
     omega (arith, ints)
 
-toward_short : (x y r : ℤ) → pos 0 ≤ℤ r → r ≤ℤ (y -ℤ x) → toward_of x y r ≡ x +ℤ r
+pub toward_short : (x y r : ℤ) → pos 0 ≤ℤ r → r ≤ℤ (y -ℤ x) → toward_of x y r ≡ x +ℤ r
 toward_short x y r h k =
     let a = int_max_is (x -ℤ r) (int_min (x +ℤ r) y) in
     let b = int_min_is (x +ℤ r) y in
     omega (arith, ints)
 
-toward_short_down : (x y r : ℤ) → pos 0 ≤ℤ r → r ≤ℤ (x -ℤ y) → toward_of x y r ≡ x -ℤ r
+pub toward_short_down : (x y r : ℤ) → pos 0 ≤ℤ r → r ≤ℤ (x -ℤ y) → toward_of x y r ≡ x -ℤ r
 toward_short_down x y r h k =
     let a = int_max_is (x -ℤ r) (int_min (x +ℤ r) y) in
     let b = int_min_is (x +ℤ r) y in

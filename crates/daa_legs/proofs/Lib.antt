@@ -16,5 +16,6 @@ pub mod VectorSizes
 pub mod Shares
 pub mod LeadingFlights
 pub mod Turning
+pub mod Ways
 pub mod Branching
 pub mod TrunkLemmas

@@ -11,10 +11,9 @@ use Rattle.daa_fixed.specs.Leg.{plus, IsSolidBelow}
 use Rattle.daa_state.specs.InRange.{IsOwnInRange}
 use Rattle.daa_state.specs.declared.word.Own.{Own}
 use Rattle.daa_legs.specs.declared.own_leg.OwnLeg.{OwnLeg}
-use Rattle.daa_legs.specs.FlightState.{FlightState}
-use Rattle.daa_legs.specs.OwnLeg.{place_on, own_leg}
+use Rattle.daa_legs.specs.OwnLeg.{own_place, place_on, own_leg}
 use Rattle.daa_legs.specs.Motion.{velocity_on}
-use Rattle.daa_legs.proofs.Places.{place-next, place_on-below, velocity_on-below}
+use Rattle.daa_legs.proofs.Places.{place-start, place-next, place_on-below, velocity_on-below}
 use Rattle.daa_legs.specs.Trunk.{AreLegsOf}
 
 module _ (own : Own) (rates : Rates) (candidate : Candidate) where
@@ -30,9 +29,9 @@ module _ (own : Own) (rates : Rates) (candidate : Candidate) where
         j b;
   }
 
-  -- the flight that has taken k legs
-  pub next_kept : (flight : FlightState) (k : ℕ) (leg : OwnLeg) → flight ≡ record { own = own; rates = rates; candidate = candidate; taken = k } → leg ≡ own_leg flight.own flight.rates flight.candidate flight.taken → leg ≡ own_leg own rates candidate k
-  next_kept flight k leg e l = l ∙ ap (λ (f : FlightState). own_leg f.own f.rates f.candidate f.taken) e
+  -- a flight begins where the ownship is
+  pub first_place : (place : Solid) → place ≡ own_place own → place ≡ place_on own rates candidate 0
+  first_place place e = place-start own rates candidate place (ap (λ (x : Solid). x.flat.east) e) (ap (λ (x : Solid). x.flat.north) e) (ap (λ (x : Solid). x.up) e)
 
   -- the leg from a place on, which ends at the next
   pub leg_kept : (r : Rates) (k : ℕ) (place velocity : Solid) → r ≡ rates → place ≡ place_on own rates candidate k → velocity ≡ velocity_on own r candidate k → record { place = place; velocity = velocity } ≡ own_leg own rates candidate k

@@ -16,10 +16,10 @@ use Rattle.daa_legs.proofs.LeadingFlights.{within, track_same, track_settled}
 use Rattle.daa_legs.proofs.ClosedForms.{rem_range, rem_small}
 use Rattle.daa_legs.proofs.Turns.{turned_right, turned_left}
 
-le_true : (x y : ℤ) → x ≤ℤ y → int_le x y ≡ true
+pub le_true : (x y : ℤ) → x ≤ℤ y → int_le x y ≡ true
 le_true x y h = (le_test x y x y refl refl).1 h
 
-le_false : (x y : ℤ) → y <ℤ x → int_le x y ≡ false
+pub le_false : (x y : ℤ) → y <ℤ x → int_le x y ≡ false
 le_false x y h = go (int_le x y) refl
   where
     go : (b : Bool) → int_le x y ≡ b → int_le x y ≡ false
@@ -79,10 +79,10 @@ left_over track c x y h l m =
     least a p q = let u = int_min_is x a in let v = int_min_is y a in omega (arith, ints)
 
 -- an angle is from 0 to 359
-angle_least : (track c : ℤ) → pos 0 ≤ℤ right_angle track c
+pub angle_least : (track c : ℤ) → pos 0 ≤ℤ right_angle track c
 angle_least track c = let b = rem_range (c -ℤ track) in omega (arith, ints, b.least)
 
-angle_most : (track c : ℤ) → pos 0 ≤ℤ (pos 360 -ℤ right_angle track c)
+pub angle_most : (track c : ℤ) → pos 0 ≤ℤ (pos 360 -ℤ right_angle track c)
 angle_most track c = let b = rem_range (c -ℤ track) in omega (arith, ints, b.most)
 
 module _ (own : Own) (rates : Rates) (r0 : pos 0 ≤ℤ rates.turn) (t : IsFrom (pos 0) (pos 359) own.trk) (c : ℤ) (n : ℕ) where

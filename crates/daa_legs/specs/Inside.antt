@@ -2,3 +2,4 @@
 pub mod FlightState
 pub mod Shared
 pub mod Branch
+pub mod OnWay

@@ -1,6 +1,6 @@
 //! How a candidate's flight leaves the one that leads on its side.
 
-ghost use Rattle.std.specs.Prelude.{◌≡◌, ◌≤◌, ◌<◌, ◌+◌, ◌*◌, ◌^◌, ℤ, ◌≤ℤ◌, ◌+ℤ◌, ◌-ℤ◌, ◌*ℤ◌, pos, negsuc, true, false, IsTrue};
+ghost use Rattle.std.specs.Prelude.{◌≡◌, ◌≤◌, ◌<◌, ◌+◌, ◌*◌, ◌^◌, ℕ, ℤ, ◌≤ℤ◌, ◌+ℤ◌, ◌-ℤ◌, ◌*ℤ◌, pos, negsuc, true, false, IsTrue};
 ghost use Rattle.daa_fixed.specs.Size.{IsFrom, IsWithin};
 ghost use Rattle.daa_config.specs.Settings.{IsCandidateInRange, AreRatesInRange};
 ghost use Rattle.daa_config.specs.declared.candidate.Candidate.{Candidate};
@@ -8,11 +8,13 @@ ghost use Rattle.daa_state.specs.InRange.{IsOwnInRange};
 ghost use Rattle.daa_heading.specs.Heading.{velocity_of};
 ghost use Rattle.daa_legs.specs.Branch.{lead_of, FliesAs, FliesOn};
 ghost use Rattle.daa_legs.specs.Inside.Branch.{IsWholeLegs};
+ghost use Rattle.daa_legs.specs.Inside.OnWay.{IsOnWay};
 ghost use Rattle.daa_legs.specs.Table.{IsBranchOf};
 ghost use Rattle.daa_legs.specs.Motion.{vertical_speed_on};
 ghost use Rattle.daa_legs.specs.Turn.{right_angle};
 
 use crate::motion::velocity_at_end;
+use crate::turn::round;
 use daa_config::{Candidate, Rates};
 use daa_fixed::{Flat, Solid, feet};
 use daa_heading::velocity;
@@ -108,9 +110,10 @@ pub fn branch_from(
     }
 }
 
-/// Where the candidate's flight leaves the leading one.
+/// Where the candidate's flight leaves the leading one. Before that its value changes by its rate
+/// each second.
 #[inline(always)]
-fn parting_of(own: &Own, rates: &Rates, candidate: Candidate, share: u64) -> Parting
+pub(crate) fn parting_of(own: &Own, rates: &Rates, candidate: Candidate, share: u64) -> Parting
     requires own { IsOwnInRange own.now }
     requires rates { AreRatesInRange rates.now }
     requires candidate { IsCandidateInRange candidate }
@@ -123,6 +126,8 @@ fn parting_of(own: &Own, rates: &Rates, candidate: Candidate, share: u64) -> Par
         → (a : ℤ) × (candidate ≡ Candidate.Height a) }
     ensures rise { result.leaves < result.settles
         → result.rise ≡ vertical_speed_on own.now rates.now candidate result.leaves }
+    ensures way { (k : ℕ) → k < result.leaves
+        → IsOnWay own.now rates.now candidate result.upper k }
 {
     match candidate {
         Candidate::Hold => Parting {
@@ -220,7 +225,7 @@ fn turn_away(track: i32, c: i32, rate: i32, share: u64) -> Way
     ensures left_legs { result.upper ≡ false
         → IsWholeLegs (pos 360 -ℤ right_angle track c) rate result.legs }
 {
-    let right = (c - track).rem_euclid(360);
+    let right = round(c - track);
     if right <= 180 {
         Way {
             upper: true,

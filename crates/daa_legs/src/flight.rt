@@ -5,7 +5,7 @@ ghost use Rattle.daa_fixed.specs.Leg.{plus, IsSolidBelow};
 ghost use Rattle.daa_config.specs.Settings.{IsCandidateInRange, rates_of};
 ghost use Rattle.daa_state.specs.InRange.{IsOwnInRange};
 ghost use Rattle.daa_legs.specs.Motion.{velocity_on};
-ghost use Rattle.daa_legs.specs.OwnLeg.{own_leg, IsOwnLegInRange};
+ghost use Rattle.daa_legs.specs.OwnLeg.{own_place, own_leg, IsOwnLegInRange};
 ghost use Rattle.daa_legs.specs.Runs.{IsRunOf, IsLongest, IsOwnRunInRange};
 
 use crate::motion::velocity_from;
@@ -67,13 +67,7 @@ impl Flight {
             rates: config.rates(),
             candidate,
             taken: 0,
-            place: Solid {
-                flat: Flat {
-                    east: mils(own.x),
-                    north: mils(own.y),
-                },
-                up: feet(own.alt),
-            },
+            place: place_now(own),
             present: velocity(own.gs, own.trk),
         }
     }
@@ -140,6 +134,20 @@ impl Flight {
     {
         self.place = sum(&self.place, velocity);
         self.taken += 1;
+    }
+}
+
+/// Where the ownship is now.
+pub(crate) fn place_now(own: &Own) -> Solid
+    requires { IsOwnInRange own.now }
+    ensures { result ≡ own_place own.now }
+{
+    Solid {
+        flat: Flat {
+            east: mils(own.x),
+            north: mils(own.y),
+        },
+        up: feet(own.alt),
     }
 }
 

@@ -7,9 +7,10 @@ ghost use Rattle.daa_config.specs.Settings.{IsCandidateInRange, AreRatesInRange}
 ghost use Rattle.daa_state.specs.InRange.{IsOwnInRange};
 ghost use Rattle.daa_heading.specs.Heading.{sine_of, cosine_of, velocity_of};
 ghost use Rattle.daa_legs.specs.Branch.{velocity_there};
+ghost use Rattle.daa_legs.specs.Inside.OnWay.{IsOnWay, step_of};
 ghost use Rattle.daa_legs.specs.Motion.{track_on, ground_speed_on, vertical_speed_on, velocity_on};
 
-use crate::turn::turn;
+use crate::turn::{round, turn};
 use daa_config::{Candidate, Rates};
 use daa_fixed::{Flat, Solid, feet, toward};
 use daa_heading::{velocity, velocity_from_unit};
@@ -33,30 +34,74 @@ pub(crate) fn velocity_at(own: &Own, rates: &Rates, candidate: Candidate, k: u32
     }
 }
 
-/// The velocity on leg `k` of a candidate that keeps the present track, whose sine and cosine are
-/// known.
+/// The velocity on leg `k` while the candidate's value changes by its rate each second, where the
+/// present way over ground of a second is known, and the sine and cosine of the present track.
 #[inline(always)]
-pub(crate) fn velocity_on_track(
+pub(crate) fn velocity_on_way(
     own: &Own,
     rates: &Rates,
     candidate: Candidate,
+    upper: bool,
     k: u32,
-    sine: i32,
-    cosine: i32,
+    present: &Flat,
+    track: (i32, i32),
 ) -> Solid
     requires own { IsOwnInRange own.now }
     requires rates { AreRatesInRange rates.now }
     requires candidate { IsCandidateInRange candidate }
     requires k { k < 180 }
-    requires keeps { track_on own.now rates.now candidate k ≡ own.now.trk }
-    requires sine { sine ≡ sine_of own.now.trk }
-    requires cosine { cosine ≡ cosine_of own.now.trk }
+    requires present { present.now ≡ velocity_of own.now.gs own.now.trk }
+    requires sine { track.0 ≡ sine_of own.now.trk }
+    requires cosine { track.1 ≡ cosine_of own.now.trk }
+    requires way { IsOnWay own.now rates.now candidate upper k }
     ensures { result ≡ velocity_on own.now rates.now candidate k }
 {
-    Solid {
-        flat: velocity_from_unit(ground_speed_at(own, rates, candidate, k), sine, cosine),
-        up: vertical_speed_at(own, rates, candidate, k),
+    match candidate {
+        Candidate::Hold => solid_velocity(present, own.vs),
+        Candidate::Track(_) => {
+            let track = round(own.trk + steps(k, rates.turn, upper));
+            velocity_along(own.gs, track, own.vs)
+        }
+        Candidate::Speed(_) => {
+            let gs = own.gs + steps(k, rates.gs, upper);
+            velocity_at_speed(own, gs, track)
+        }
+        Candidate::Climb(_) => solid_velocity(present, own.vs + steps(k, rates.vs, upper)),
+        Candidate::Height(_) => solid_velocity(present, steps(1, rates.alt, upper)),
     }
+}
+
+/// What so many seconds change at a rate, to the right or up, or else to the left or down.
+#[inline(always)]
+fn steps(secs: u32, rate: i32, upper: bool) -> i32
+    requires secs { secs ≤ 180 }
+    requires rate { IsFrom (pos 1) (pos 10000) rate }
+    ensures value { result ≡ pos secs *ℤ step_of upper rate }
+    ensures size { IsWithin 1800000 result }
+{
+    secs as i32 * step(rate, upper)
+}
+
+/// What a second changes at a rate.
+#[inline(always)]
+fn step(rate: i32, upper: bool) -> i32
+    requires { IsFrom (pos 1) (pos 10000) rate }
+    ensures value { result ≡ step_of upper rate }
+    ensures size { IsWithin 10000 result }
+{
+    if upper { rate } else { -rate }
+}
+
+/// The velocity at a ground speed along the present track, whose sine and cosine are known.
+#[inline(always)]
+fn velocity_at_speed(own: &Own, gs: i32, track: (i32, i32)) -> Solid
+    requires own { IsOwnInRange own.now }
+    requires gs { IsFrom (pos 0) (pos 10000) gs }
+    requires sine { track.0 ≡ sine_of own.now.trk }
+    requires cosine { track.1 ≡ cosine_of own.now.trk }
+    ensures { result ≡ record { flat = velocity_of gs own.now.trk; up = own.now.vs } }
+{
+    solid_velocity(&velocity_from_unit(gs, track.0, track.1), own.vs)
 }
 
 /// The velocity on leg `k`, where the present way over ground of a second is known.

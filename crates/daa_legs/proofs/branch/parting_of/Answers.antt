@@ -1,4 +1,4 @@
-use Rattle.std.proofs.Common.{rules, ◌≡◌, ◌+◌, sym, subst, ◌∙◌, FitsSigned, w32, w64, to_z-of_z, ℤ, pos, negsuc, to_z, ap, ◌*ℤ◌, arith}
+use Rattle.std.proofs.Common.{rules, ◌≡◌, ◌+◌, ◌<◌, ℕ, ◌≤ℤ◌, sym, subst, ◌∙◌, FitsSigned, w32, w64, to_z-of_z, ℤ, pos, negsuc, to_z, ap, ◌*ℤ◌, arith}
 use Rattle.std.proofs.lemmas.Int.{ints}
 use Rattle.daa_config.specs.declared.candidate.Candidate.{Candidate}
 use Rattle.daa_config.specs.declared.candidate.Candidate.TheVariants.{Track, Speed, Climb, Height}
@@ -10,6 +10,8 @@ use Rattle.daa_fixed.proofs.Bounds.{within}
 use Rattle.daa_legs.proofs.StateRanges.{own_track}
 use Rattle.daa_legs.proofs.LeadingFlights.{speed_branch, climb_branch, height_branch, height_rest, straight_at_once, hold_on}
 use Rattle.daa_legs.proofs.Turning.{track_branch}
+use Rattle.daa_legs.proofs.Ways.{track_way, speed_way, climb_way, height_way, way_is}
+use Rattle.daa_legs.specs.Inside.OnWay.{IsOnWay}
 use Rattle.daa_legs.proofs.Branching.{before_is, after_is, near_is, none_own, rise_is}
 use Rattle.daa_legs.proofs.branch.parting_of.Goals as goal
 use Rattle.daa_legs.proofs.branch.parting_of.Goals.{After-parting_after, After-parting_after-in-Speed, After-parting_after-in-Climb, After-rest_of-rise}
@@ -17,13 +19,15 @@ use Rattle.daa_legs.proofs.branch.parting_of.Goals.{After-parting_after, After-p
 pub returns-in-Hold-clause-after : goal.returns-in-Hold-clause-after
 returns-in-Hold-clause-after c = subst (λ (x : Candidate). FliesOn c.args.own.now c.args.rates.now x 0) (sym c.in-Hold.is) (hold_on c.args.own.now c.args.rates.now)
 
-tracks : (c : After-parting_after) → FliesAs c.args.own.now c.args.rates.now (Track c.in-Track.c) (lead_of c.args.own.now (Track c.in-Track.c) c.turn_away.result.upper) (c.turn_away.result.legs + 1) × FliesOn c.args.own.now c.args.rates.now (Track c.in-Track.c) (c.turn_away.result.legs + 1)
+tracks : (c : After-parting_after) → FliesAs c.args.own.now c.args.rates.now (Track c.in-Track.c) (lead_of c.args.own.now (Track c.in-Track.c) c.turn_away.result.upper) (c.turn_away.result.legs + 1) × FliesOn c.args.own.now c.args.rates.now (Track c.in-Track.c) (c.turn_away.result.legs + 1) × ((k : ℕ) → k < c.turn_away.result.legs + 1 → IsOnWay c.args.own.now c.args.rates.now (Track c.in-Track.c) c.turn_away.result.upper k)
 tracks c =
     let f1 : FitsSigned w32 c.args.own.now.trk = search rules in
     let f2 : FitsSigned w32 c.in-Track.c = search rules in
     let f3 : FitsSigned w32 c.args.rates.now.turn = search rules in
     let e = simp to_z-of_z at c.turn_away.ensures in
-    track_branch c.args.own.now c.args.rates.now c.in-Track.c c.turn_away.result.upper c.turn_away.result.legs (omega (arith, ints, c.requires.rates.turn.least)) (own_track c.requires.own) (subst (λ (x : Candidate). IsCandidateInRange x) c.in-Track.is c.requires.candidate) e.right e.left e.right_legs e.left_legs
+    let r0 : pos 0 ≤ℤ c.args.rates.now.turn = omega (arith, ints, c.requires.rates.turn.least) in
+    let b = track_branch c.args.own.now c.args.rates.now c.in-Track.c c.turn_away.result.upper c.turn_away.result.legs r0 (own_track c.requires.own) (subst (λ (x : Candidate). IsCandidateInRange x) c.in-Track.is c.requires.candidate) e.right e.left e.right_legs e.left_legs in
+    (b.0, b.1, track_way c.args.own.now c.args.rates.now c.in-Track.c c.turn_away.result.upper c.turn_away.result.legs r0 e.right e.left e.right_legs e.left_legs)
 
 pub returns-in-Track-clause-before : goal.returns-in-Track-clause-before
 returns-in-Track-clause-before c = before_is c.args.own.now c.args.rates.now _ _ _ _ c.in-Track.is c.parting_after.ensures (tracks c).0
@@ -34,7 +38,7 @@ returns-in-Track-clause-after c = after_is c.args.own.now c.args.rates.now _ _ _
 pub returns-in-Track-clause-near : goal.returns-in-Track-clause-near
 returns-in-Track-clause-near c = near_is _ _ c.parting_after.ensures (omega arith) (omega arith)
 
-speeds : (c : After-parting_after-in-Speed) → FliesAs c.args.own.now c.args.rates.now (Speed c.in-Speed.g) (lead_of c.args.own.now (Speed c.in-Speed.g) c.way_to.result.upper) (c.way_to.result.legs + 1) × FliesOn c.args.own.now c.args.rates.now (Speed c.in-Speed.g) (c.way_to.result.legs + 1)
+speeds : (c : After-parting_after-in-Speed) → FliesAs c.args.own.now c.args.rates.now (Speed c.in-Speed.g) (lead_of c.args.own.now (Speed c.in-Speed.g) c.way_to.result.upper) (c.way_to.result.legs + 1) × FliesOn c.args.own.now c.args.rates.now (Speed c.in-Speed.g) (c.way_to.result.legs + 1) × ((k : ℕ) → k < c.way_to.result.legs + 1 → IsOnWay c.args.own.now c.args.rates.now (Speed c.in-Speed.g) c.way_to.result.upper k)
 speeds c =
     let n1 : FitsSigned w32 c.args.own.now.gs = search rules in
     let n2 : FitsSigned w32 c.in-Speed.g = search rules in
@@ -46,7 +50,9 @@ speeds c =
     let n6 : FitsSigned w64 c.args.own.now.gs = subst (λ (z : ℤ). FitsSigned w64 z) now n4 in
     let n7 : FitsSigned w64 c.in-Speed.g = subst (λ (z : ℤ). FitsSigned w64 z) to n5 in
     let e = simp (now, to, to_z-of_z) at c.way_to.ensures in
-    speed_branch c.args.own.now c.args.rates.now c.in-Speed.g c.way_to.result.upper c.way_to.result.legs (omega (arith, ints, c.requires.rates.gs.least)) (subst (λ (x : Candidate). IsCandidateInRange x) c.in-Speed.is c.requires.candidate) e.up e.down e.up_legs e.down_legs
+    let r0 : pos 0 ≤ℤ c.args.rates.now.gs = omega (arith, ints, c.requires.rates.gs.least) in
+    let b = speed_branch c.args.own.now c.args.rates.now c.in-Speed.g c.way_to.result.upper c.way_to.result.legs r0 (subst (λ (x : Candidate). IsCandidateInRange x) c.in-Speed.is c.requires.candidate) e.up e.down e.up_legs e.down_legs in
+    (b.0, b.1, speed_way c.args.own.now c.args.rates.now c.in-Speed.g c.way_to.result.upper c.way_to.result.legs r0 e.up e.down e.up_legs e.down_legs)
 
 pub returns-in-Speed-clause-before : goal.returns-in-Speed-clause-before
 returns-in-Speed-clause-before c = before_is c.args.own.now c.args.rates.now _ _ _ _ c.in-Speed.is c.parting_after-in-Speed.ensures (speeds c).0
@@ -57,7 +63,7 @@ returns-in-Speed-clause-after c = after_is c.args.own.now c.args.rates.now _ _ _
 pub returns-in-Speed-clause-near : goal.returns-in-Speed-clause-near
 returns-in-Speed-clause-near c = near_is _ _ c.parting_after-in-Speed.ensures (omega arith) (omega arith)
 
-climbs : (c : After-parting_after-in-Climb) → FliesAs c.args.own.now c.args.rates.now (Climb c.in-Climb.w) (lead_of c.args.own.now (Climb c.in-Climb.w) c.way_to-in-Climb.result.upper) (c.way_to-in-Climb.result.legs + 1) × FliesOn c.args.own.now c.args.rates.now (Climb c.in-Climb.w) (c.way_to-in-Climb.result.legs + 1)
+climbs : (c : After-parting_after-in-Climb) → FliesAs c.args.own.now c.args.rates.now (Climb c.in-Climb.w) (lead_of c.args.own.now (Climb c.in-Climb.w) c.way_to-in-Climb.result.upper) (c.way_to-in-Climb.result.legs + 1) × FliesOn c.args.own.now c.args.rates.now (Climb c.in-Climb.w) (c.way_to-in-Climb.result.legs + 1) × ((k : ℕ) → k < c.way_to-in-Climb.result.legs + 1 → IsOnWay c.args.own.now c.args.rates.now (Climb c.in-Climb.w) c.way_to-in-Climb.result.upper k)
 climbs c =
     let n1 : FitsSigned w32 c.args.own.now.vs = search rules in
     let n2 : FitsSigned w32 c.in-Climb.w = search rules in
@@ -69,7 +75,9 @@ climbs c =
     let n6 : FitsSigned w64 c.args.own.now.vs = subst (λ (z : ℤ). FitsSigned w64 z) now n4 in
     let n7 : FitsSigned w64 c.in-Climb.w = subst (λ (z : ℤ). FitsSigned w64 z) to n5 in
     let e = simp (now, to, to_z-of_z) at c.way_to-in-Climb.ensures in
-    climb_branch c.args.own.now c.args.rates.now c.in-Climb.w c.way_to-in-Climb.result.upper c.way_to-in-Climb.result.legs (omega (arith, ints, c.requires.rates.vs.least)) (subst (λ (x : Candidate). IsCandidateInRange x) c.in-Climb.is c.requires.candidate) e.up e.down e.up_legs e.down_legs
+    let r0 : pos 0 ≤ℤ c.args.rates.now.vs = omega (arith, ints, c.requires.rates.vs.least) in
+    let b = climb_branch c.args.own.now c.args.rates.now c.in-Climb.w c.way_to-in-Climb.result.upper c.way_to-in-Climb.result.legs r0 (subst (λ (x : Candidate). IsCandidateInRange x) c.in-Climb.is c.requires.candidate) e.up e.down e.up_legs e.down_legs in
+    (b.0, b.1, climb_way c.args.own.now c.args.rates.now c.in-Climb.w c.way_to-in-Climb.result.upper c.way_to-in-Climb.result.legs r0 e.up e.down e.up_legs e.down_legs)
 
 pub returns-in-Climb-clause-before : goal.returns-in-Climb-clause-before
 returns-in-Climb-clause-before c = before_is c.args.own.now c.args.rates.now _ _ _ _ c.in-Climb.is c.parting_after-in-Climb.ensures (climbs c).0
@@ -89,7 +97,7 @@ returns-in-Speed-clause-level c h = absurd (none_own _ _ c.parting_after-in-Spee
 pub returns-in-Climb-clause-level : goal.returns-in-Climb-clause-level
 returns-in-Climb-clause-level c h = absurd (none_own _ _ c.parting_after-in-Climb.ensures (omega arith) h)
 
-heights : (c : After-rest_of-rise) → FliesAs c.args.own.now c.args.rates.now (Height c.in-Height.a) (lead_of c.args.own.now (Height c.in-Height.a) c.way_to-way.result.upper) c.way_to-way.result.legs × FliesOn c.args.own.now c.args.rates.now (Height c.in-Height.a) (c.way_to-way.result.legs + 1) × (c.rest_of-rise.result ≡ vertical_speed_on c.args.own.now c.args.rates.now (Height c.in-Height.a) c.way_to-way.result.legs)
+heights : (c : After-rest_of-rise) → FliesAs c.args.own.now c.args.rates.now (Height c.in-Height.a) (lead_of c.args.own.now (Height c.in-Height.a) c.way_to-way.result.upper) c.way_to-way.result.legs × FliesOn c.args.own.now c.args.rates.now (Height c.in-Height.a) (c.way_to-way.result.legs + 1) × (c.rest_of-rise.result ≡ vertical_speed_on c.args.own.now c.args.rates.now (Height c.in-Height.a) c.way_to-way.result.legs) × ((k : ℕ) → k < c.way_to-way.result.legs → IsOnWay c.args.own.now c.args.rates.now (Height c.in-Height.a) c.way_to-way.result.upper k)
 heights c =
     let n1 : FitsSigned w32 c.args.own.now.alt = search rules in
     let n2 : FitsSigned w32 c.in-Height.a = search rules in
@@ -102,8 +110,13 @@ heights c =
     let n7 : FitsSigned w64 (pos 60 *ℤ c.in-Height.a) = subst (λ (z : ℤ). FitsSigned w64 z) to n5 in
     let e = simp (now, to, to_z-of_z) at c.way_to-way.ensures in
     let r = simp (now, to, to_z-of_z) at c.rest_of-rise.ensures in
-    let b = height_branch c.args.own.now c.args.rates.now c.in-Height.a c.way_to-way.result.upper c.way_to-way.result.legs (omega (arith, ints, c.requires.rates.alt.least)) (subst (λ (x : Candidate). IsCandidateInRange x) c.in-Height.is c.requires.candidate) e.up e.down e.up_legs e.down_legs in
-    (b.0, b.1, height_rest c.args.own.now c.args.rates.now c.in-Height.a c.way_to-way.result.upper c.way_to-way.result.legs c.rest_of-rise.result (omega (arith, ints, c.requires.rates.alt.least)) e.up e.down e.up_legs e.down_legs r.up r.down)
+    let r0 : pos 0 ≤ℤ c.args.rates.now.alt = omega (arith, ints, c.requires.rates.alt.least) in
+    let b = height_branch c.args.own.now c.args.rates.now c.in-Height.a c.way_to-way.result.upper c.way_to-way.result.legs r0 (subst (λ (x : Candidate). IsCandidateInRange x) c.in-Height.is c.requires.candidate) e.up e.down e.up_legs e.down_legs in (
+      b.0,
+      b.1,
+      height_rest c.args.own.now c.args.rates.now c.in-Height.a c.way_to-way.result.upper c.way_to-way.result.legs c.rest_of-rise.result r0 e.up e.down e.up_legs e.down_legs r.up r.down,
+      height_way c.args.own.now c.args.rates.now c.in-Height.a c.way_to-way.result.upper c.way_to-way.result.legs r0 e.up e.down e.up_legs e.down_legs,
+    )
 
 pub rest_of-rise-requires-clause-target : goal.rest_of-rise-requires-clause-target
 rest_of-rise-requires-clause-target c =
@@ -158,3 +171,19 @@ returns-in-Speed-clause-rise c h = absurd (none_own _ _ c.parting_after-in-Speed
 
 pub returns-in-Climb-clause-rise : goal.returns-in-Climb-clause-rise
 returns-in-Climb-clause-rise c h = absurd (none_own _ _ c.parting_after-in-Climb.ensures (omega arith) h)
+
+-- the way of its value
+pub returns-in-Track-clause-way : goal.returns-in-Track-clause-way
+returns-in-Track-clause-way c = way_is c.args.own.now c.args.rates.now _ _ _ _ c.in-Track.is c.parting_after.ensures (tracks c).2
+
+pub returns-in-Speed-clause-way : goal.returns-in-Speed-clause-way
+returns-in-Speed-clause-way c = way_is c.args.own.now c.args.rates.now _ _ _ _ c.in-Speed.is c.parting_after-in-Speed.ensures (speeds c).2
+
+pub returns-in-Climb-clause-way : goal.returns-in-Climb-clause-way
+returns-in-Climb-clause-way c = way_is c.args.own.now c.args.rates.now _ _ _ _ c.in-Climb.is c.parting_after-in-Climb.ensures (climbs c).2
+
+pub returns-then-rise-eq0-clause-way : goal.returns-then-rise-eq0-clause-way
+returns-then-rise-eq0-clause-way c = way_is c.args.own.now c.args.rates.now _ _ _ _ c.in-Height.is c.parting_at.ensures (heights c.before.before).3
+
+pub returns-else-rise-eq0-clause-way : goal.returns-else-rise-eq0-clause-way
+returns-else-rise-eq0-clause-way c = way_is c.args.own.now c.args.rates.now _ _ _ _ c.in-Height.is c.parting_short_of.ensures (heights c.before.before).3
