@@ -13,6 +13,7 @@ pub mod AtLevel
 pub mod Walks
 pub mod Arriving
 pub mod VectorSizes
+pub mod Divisors
 pub mod Shares
 pub mod LeadingFlights
 pub mod Turning

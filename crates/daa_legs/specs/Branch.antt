@@ -1,6 +1,6 @@
 -- How a candidate's flight leaves the one that leads on its side: before some leg both fly alike, and from that leg or the next on
 -- the candidate flies straight on.
-use Rattle.std.specs.Prelude.{◌≡◌, ℕ, ◌<◌, ◌≤◌, pos, negsuc, ◌+ℤ◌, Bool, if◌then◌else◌}
+use Rattle.std.specs.Prelude.{◌≡◌, ℕ, ℤ, ◌<◌, ◌≤◌, pos, negsuc, ◌+ℤ◌, Bool, if◌then◌else◌}
 use Rattle.std.specs.Int.{int_rem_euclid}
 use Rattle.daa_fixed.specs.declared.Solid.{Solid}
 use Rattle.daa_heading.specs.Heading.{velocity_of}
@@ -17,6 +17,14 @@ lead_of own (Track c) upper = Track (int_rem_euclid (own.trk +ℤ (if upper then
 lead_of own (Speed g) upper = Speed (if upper then pos 10000 else pos 0)
 lead_of own (Climb w) upper = Climb (if upper then pos 10000 else negsuc 9999)
 lead_of own (Height a) upper = Height (if upper then pos 60000 else negsuc 1999)
+
+-- the rate at which the candidate's value changes, if it has one
+abbrev pub rate_for : Rates → Candidate → ℤ
+rate_for rates Hold = rates.turn
+rate_for rates (Track c) = rates.turn
+rate_for rates (Speed g) = rates.gs
+rate_for rates (Climb w) = rates.vs
+rate_for rates (Height a) = rates.alt
 
 -- the velocity at which a candidate flies on once its value is reached
 unfoldable pub velocity_there : Own → Candidate → Solid

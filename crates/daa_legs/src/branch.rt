@@ -6,13 +6,14 @@ ghost use Rattle.daa_config.specs.Settings.{IsCandidateInRange, AreRatesInRange}
 ghost use Rattle.daa_config.specs.declared.candidate.Candidate.{Candidate};
 ghost use Rattle.daa_state.specs.InRange.{IsOwnInRange};
 ghost use Rattle.daa_heading.specs.Heading.{velocity_of};
-ghost use Rattle.daa_legs.specs.Branch.{lead_of, FliesAs, FliesOn};
+ghost use Rattle.daa_legs.specs.Branch.{rate_for, lead_of, FliesAs, FliesOn};
 ghost use Rattle.daa_legs.specs.Inside.Branch.{IsWholeLegs};
 ghost use Rattle.daa_legs.specs.Inside.OnWay.{IsOnWay};
 ghost use Rattle.daa_legs.specs.Table.{IsBranchOf};
 ghost use Rattle.daa_legs.specs.Motion.{vertical_speed_on};
 ghost use Rattle.daa_legs.specs.Turn.{right_angle};
 
+use crate::divisor::Divisor;
 use crate::motion::velocity_at_end;
 use crate::turn::round;
 use daa_config::{Candidate, Rates};
@@ -79,28 +80,28 @@ pub fn branch_of(own: &Own, rates: &Rates, candidate: Candidate) -> Branch
     requires candidate { IsCandidateInRange candidate }
     ensures { IsBranchOf own.now rates.now candidate result }
 {
-    branch_from(own, rates, candidate, &velocity(own.gs, own.trk), 0)
+    let divisor = divisor_for(rates, candidate);
+    branch_from(own, rates, candidate, &velocity(own.gs, own.trk), &divisor)
 }
 
-/// The branch of a candidate, for a caller that knows the present way over ground of a second and
-/// guesses how many 2^32nds of a second a unit of the candidate's kind takes: the branch is right
-/// with any guess, and a right guess saves a division.
+/// The branch of a candidate, for a caller that knows the present way over ground of a second, and
+/// made the rate ready at which the candidate's value changes.
 #[inline(always)]
 pub fn branch_from(
     own: &Own,
     rates: &Rates,
     candidate: Candidate,
     present: &Flat,
-    share: u64,
+    divisor: &Divisor,
 ) -> Branch
     requires own { IsOwnInRange own.now }
     requires rates { AreRatesInRange rates.now }
     requires candidate { IsCandidateInRange candidate }
-    requires share { share ≤ 2 ^ 32 }
+    requires divisor { pos divisor.now.rate ≡ rate_for rates.now candidate }
     requires present { present.now ≡ velocity_of own.now.gs own.now.trk }
     ensures { IsBranchOf own.now rates.now candidate result }
 {
-    let parting = parting_of(own, rates, candidate, share);
+    let parting = parting_of(own, rates, candidate, divisor);
     Branch {
         velocity: velocity_at_end(own, candidate, present),
         rise: parting.rise,
@@ -113,11 +114,16 @@ pub fn branch_from(
 /// Where the candidate's flight leaves the leading one. Before that its value changes by its rate
 /// each second.
 #[inline(always)]
-pub(crate) fn parting_of(own: &Own, rates: &Rates, candidate: Candidate, share: u64) -> Parting
+pub(crate) fn parting_of(
+    own: &Own,
+    rates: &Rates,
+    candidate: Candidate,
+    divisor: &Divisor,
+) -> Parting
     requires own { IsOwnInRange own.now }
     requires rates { AreRatesInRange rates.now }
     requires candidate { IsCandidateInRange candidate }
-    requires share { share ≤ 2 ^ 32 }
+    requires divisor { pos divisor.now.rate ≡ rate_for rates.now candidate }
     ensures before { FliesAs own.now rates.now candidate
         (lead_of own.now candidate result.upper) result.leaves }
     ensures after { FliesOn own.now rates.now candidate result.settles }
@@ -136,17 +142,17 @@ pub(crate) fn parting_of(own: &Own, rates: &Rates, candidate: Candidate, share: 
             settles: 0,
             rise: 0,
         },
-        Candidate::Track(c) => parting_after(turn_away(own.trk, c, rates.turn, share)),
+        Candidate::Track(c) => parting_after(turn_away(own.trk, c, rates.turn, divisor)),
         Candidate::Speed(g) => {
-            parting_after(way_to(i64::from(own.gs), i64::from(g), rates.gs, share))
+            parting_after(way_to(i64::from(own.gs), i64::from(g), rates.gs, divisor))
         }
         Candidate::Climb(w) => {
-            parting_after(way_to(i64::from(own.vs), i64::from(w), rates.vs, share))
+            parting_after(way_to(i64::from(own.vs), i64::from(w), rates.vs, divisor))
         }
         Candidate::Height(a) => {
             let now = feet(own.alt);
             let target = feet(a);
-            let way = way_to(now, target, rates.alt, share);
+            let way = way_to(now, target, rates.alt, divisor);
             let rise = rest_of(now, target, rates.alt, way);
             if rise == 0 {
                 parting_at(way)
@@ -213,11 +219,11 @@ fn parting_short_of(way: Way, rise: i64) -> Parting
 
 /// The turn from a track to another.
 #[inline(always)]
-fn turn_away(track: i32, c: i32, rate: i32, share: u64) -> Way
+fn turn_away(track: i32, c: i32, rate: i32, divisor: &Divisor) -> Way
     requires track { IsFrom (pos 0) (pos 359) track }
     requires c { IsFrom (pos 0) (pos 359) c }
     requires rate { IsFrom (pos 1) (pos 10000) rate }
-    requires share { share ≤ 2 ^ 32 }
+    requires divisor { pos divisor.now.rate ≡ rate }
     ensures right { IsTrue result.upper → right_angle track c ≤ℤ pos 180 }
     ensures left { result.upper ≡ false → pos 181 ≤ℤ right_angle track c }
     ensures right_legs { IsTrue result.upper → IsWholeLegs (right_angle track c) rate result.legs }
@@ -229,23 +235,23 @@ fn turn_away(track: i32, c: i32, rate: i32, share: u64) -> Way
     if right <= 180 {
         Way {
             upper: true,
-            legs: whole_legs(i64::from(right), rate, share),
+            legs: whole_legs(i64::from(right), rate, divisor),
         }
     } else {
         Way {
             upper: false,
-            legs: whole_legs(i64::from(360 - right), rate, share),
+            legs: whole_legs(i64::from(360 - right), rate, divisor),
         }
     }
 }
 
 /// The way from a value to another.
 #[inline(always)]
-fn way_to(now: i64, target: i64, rate: i32, share: u64) -> Way
+fn way_to(now: i64, target: i64, rate: i32, divisor: &Divisor) -> Way
     requires now { IsWithin 3600000 now }
     requires target { IsWithin 3600000 target }
     requires rate { IsFrom (pos 1) (pos 10000) rate }
-    requires share { share ≤ 2 ^ 32 }
+    requires divisor { pos divisor.now.rate ≡ rate }
     ensures up { IsTrue result.upper → now ≤ℤ target }
     ensures down { result.upper ≡ false → target ≤ℤ now }
     ensures up_legs { IsTrue result.upper → IsWholeLegs (target -ℤ now) rate result.legs }
@@ -255,12 +261,12 @@ fn way_to(now: i64, target: i64, rate: i32, share: u64) -> Way
     if now <= target {
         Way {
             upper: true,
-            legs: whole_legs(target - now, rate, share),
+            legs: whole_legs(target - now, rate, divisor),
         }
     } else {
         Way {
             upper: false,
-            legs: whole_legs(now - target, rate, share),
+            legs: whole_legs(now - target, rate, divisor),
         }
     }
 }
@@ -284,65 +290,26 @@ fn rest_of(now: i64, target: i64, rate: i32, way: Way) -> i64
 
 /// How many whole seconds at a rate fit into a way.
 #[inline(always)]
-fn whole_legs(way: i64, rate: i32, share: u64) -> u32
+fn whole_legs(way: i64, rate: i32, divisor: &Divisor) -> u32
     requires way { IsFrom (pos 0) (pos 7200000) way }
     requires rate { IsFrom (pos 1) (pos 10000) rate }
-    requires share { share ≤ 2 ^ 32 }
+    requires divisor { pos divisor.now.rate ≡ rate }
     ensures legs { IsWholeLegs way rate result }
     ensures few { result ≤ 7200000 }
 {
-    legs_by_share(way as u32, rate as u32, share)
+    divisor.times_in(way as u32)
 }
 
-/// How often a rate fits into a way. What the share says is tried, and only where it is wrong the
-/// way is divided by the rate.
-#[inline(always)]
-fn legs_by_share(way: u32, rate: u32, share: u64) -> u32
-    requires way { way ≤ 7200000 }
-    requires some { 1 ≤ rate }
-    requires rate { rate ≤ 10000 }
-    requires share { share ≤ 2 ^ 32 }
-    ensures below { result * rate ≤ way }
-    ensures above { way ≤ result * rate + rate }
-    ensures few { result ≤ 7200000 }
+/// The rate at which the candidate's value changes, made ready.
+pub(crate) fn divisor_for(rates: &Rates, candidate: Candidate) -> Divisor
+    requires { AreRatesInRange rates.now }
+    ensures { pos result.rate ≡ rate_for rates.now candidate }
 {
-    let guess = shared(way, share);
-    if fits(way, rate, guess) {
-        guess
-    } else {
-        divided(way, rate)
+    match candidate {
+        Candidate::Hold => Divisor::of(rates.turn),
+        Candidate::Track(_) => Divisor::of(rates.turn),
+        Candidate::Speed(_) => Divisor::of(rates.gs),
+        Candidate::Climb(_) => Divisor::of(rates.vs),
+        Candidate::Height(_) => Divisor::of(rates.alt),
     }
-}
-
-/// A way's share of seconds.
-#[inline(always)]
-fn shared(way: u32, share: u64) -> u32
-    requires way { way ≤ 7200000 }
-    requires share { share ≤ 2 ^ 32 }
-    ensures { result ≤ 7200000 }
-{
-    ((u64::from(way) * share) >> 32) as u32
-}
-
-/// Whether so many whole seconds at a rate fit into a way, and no more.
-#[inline(always)]
-fn fits(way: u32, rate: u32, legs: u32) -> bool
-    requires few { legs ≤ 7200000 }
-    requires rate { rate ≤ 10000 }
-    ensures { IsTrue result → (legs * rate ≤ way) × (way ≤ legs * rate + rate) }
-{
-    let flown = u64::from(legs) * u64::from(rate);
-    flown <= u64::from(way) && u64::from(way) <= flown + u64::from(rate)
-}
-
-/// How many whole seconds at a rate fit into a way, by a division.
-#[inline(never)]
-fn divided(way: u32, rate: u32) -> u32
-    requires way { way ≤ 7200000 }
-    requires some { 1 ≤ rate }
-    ensures below { result * rate ≤ way }
-    ensures above { way ≤ result * rate + rate }
-    ensures few { result ≤ 7200000 }
-{
-    way / rate
 }

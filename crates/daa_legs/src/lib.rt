@@ -4,6 +4,7 @@
 #![tactic(auto)]
 
 mod branch;
+mod divisor;
 mod encounter;
 mod flight;
 mod joint;
@@ -15,6 +16,7 @@ mod trunk;
 mod turn;
 
 pub use branch::{Branch, branch_from, branch_of};
+pub use divisor::Divisor;
 pub use encounter::{relative, relative_run};
 pub use flight::Flight;
 pub use joint::end_of;

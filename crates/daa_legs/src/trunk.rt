@@ -10,7 +10,7 @@ ghost use Rattle.daa_legs.specs.OwnLeg.{place_on};
 ghost use Rattle.daa_legs.specs.Inside.OnWay.{IsOnWay};
 ghost use Rattle.daa_legs.specs.declared.own_leg.OwnLeg.{OwnLeg};
 
-use crate::branch::parting_of;
+use crate::branch::{divisor_for, parting_of};
 use crate::flight::{place_now, sum};
 use crate::motion::{velocity_at_end, velocity_on_way};
 use crate::own_leg::OwnLeg;
@@ -126,7 +126,8 @@ fn keep_legs(legs: &mut [OwnLeg], own: &Own, rates: &Rates, candidate: Candidate
     // a copy, which no write of a leg can change, so that what is found of it alone is found once
     let own = *own;
     let present = velocity(own.gs, own.trk);
-    let parting = parting_of(&own, rates, candidate, 0);
+    let divisor = divisor_for(rates, candidate);
+    let parting = parting_of(&own, rates, candidate, &divisor);
     let rest = velocity_at_end(&own, candidate, &present);
     let last = own_velocity(&rest, parting.rise);
     let leaves = parting.leaves.min(most);

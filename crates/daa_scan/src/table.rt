@@ -1,11 +1,11 @@
 //! The table of the candidates' branches.
 
-ghost use Rattle.std.specs.Prelude.{◌≡◌, ◌<◌, ◌≤◌, ◌+◌, ◌^◌, ℤ, pos, length, slice_get, Some};
-ghost use Rattle.daa_fixed.specs.Size.{IsFrom};
+ghost use Rattle.std.specs.Prelude.{◌≡◌, ◌<◌, ◌≤◌, ◌+◌, ℤ, pos, length, slice_get, Some};
 ghost use Rattle.daa_config.specs.Candidates.{candidate_to, candidates_of, start_of, values_of};
 ghost use Rattle.daa_config.specs.Settings.{IsCandidateInRange, AreRatesInRange};
 ghost use Rattle.daa_state.specs.InRange.{IsOwnInRange};
 ghost use Rattle.daa_heading.specs.Heading.{velocity_of};
+ghost use Rattle.daa_legs.specs.Branch.{rate_for};
 ghost use Rattle.daa_legs.specs.Table.{IsBranchOf};
 ghost use Rattle.daa_scan.specs.Trunks.{AreBranchesOf};
 ghost use Rattle.daa_scan.specs.Inside.Trunks.{AreBranchesBelow};
@@ -14,7 +14,7 @@ use crate::needs::Needs;
 use daa_config::{Candidate, Config, Kind, Rates};
 use daa_fixed::Flat;
 use daa_heading::velocity;
-use daa_legs::{Branch, branch_from};
+use daa_legs::{Branch, Divisor, branch_from};
 use daa_state::Own;
 
 /// Keeps the branch of each candidate of the kinds that are needed, by the candidate's number in
@@ -60,7 +60,7 @@ fn fill_kind(
     if !needs.has(kind) {
         return;
     }
-    let share = share_of(&rates, kind);
+    let divisor = divisor_of(&rates, kind);
     for index in 0..config.count(kind) {
         let candidate = candidate_in(config, kind, index);
         keep(
@@ -69,7 +69,7 @@ fn fill_kind(
             &rates,
             candidate,
             present,
-            share,
+            &divisor,
         );
     }
 }
@@ -83,40 +83,30 @@ fn keep(
     rates: &Rates,
     candidate: Candidate,
     present: &Flat,
-    share: u64,
+    divisor: &Divisor,
 )
     requires own { IsOwnInRange own.now }
     requires rates { AreRatesInRange rates.now }
     requires candidate { IsCandidateInRange candidate }
     requires present { present.now ≡ velocity_of own.now.gs own.now.trk }
-    requires share { share ≤ 2 ^ 32 }
+    requires divisor { pos divisor.now.rate ≡ rate_for rates.now candidate }
     ensures { IsBranchOf own.now rates.now candidate branch.new }
 {
-    *branch = branch_from(own, rates, candidate, present, share);
+    *branch = branch_from(own, rates, candidate, present, divisor);
 }
 
-/// How many 2^32nds of a second a unit of the kind takes at its rate, rounded up: the one division
-/// for all its candidates. Nothing rests on its value, since a branch tries what comes of it.
+/// The rate of a kind, made ready: the one division for all its candidates.
 #[inline(always)]
-fn share_of(rates: &Rates, kind: Kind) -> u64
+fn divisor_of(rates: &Rates, kind: Kind) -> Divisor
     requires { AreRatesInRange rates.now }
-    ensures { result ≤ 2 ^ 32 }
+    ensures { (z : ℤ) → pos result.rate ≡ rate_for rates.now (candidate_to kind z) }
 {
-    let rate = match kind {
-        Kind::Track => rates.turn,
-        Kind::Speed => rates.gs,
-        Kind::Climb => rates.vs,
-        Kind::Height => rates.alt,
-    };
-    share_at(rate)
-}
-
-/// The same at a rate.
-fn share_at(rate: i32) -> u64
-    requires { IsFrom (pos 1) (pos 10000) rate }
-    ensures { result ≤ 2 ^ 32 }
-{
-    u64::from(u32::MAX / rate as u32) + 1
+    match kind {
+        Kind::Track => Divisor::of(rates.turn),
+        Kind::Speed => Divisor::of(rates.gs),
+        Kind::Climb => Divisor::of(rates.vs),
+        Kind::Height => Divisor::of(rates.alt),
+    }
 }
 
 /// The candidate at an index of a kind's list.
@@ -126,6 +116,7 @@ fn candidate_in(config: &Config, kind: Kind, index: u32) -> Candidate
     ensures value { slice_get (candidates_of config.now)
         (start_of kind config.now + index) ≡ Some result }
     ensures in_range { IsCandidateInRange result }
+    ensures of { (z : ℤ) × (result ≡ candidate_to kind z) }
 {
     let value = config.value(kind, index);
     match kind {

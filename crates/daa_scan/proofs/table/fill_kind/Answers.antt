@@ -1,7 +1,8 @@
-use Rattle.std.proofs.Common.{◌≡◌, ◌+◌, ◌∙◌, ℕ, refl, ap, subst, arith, length, slice_set, Some}
+use Rattle.std.proofs.Common.{◌≡◌, ◌+◌, ◌∙◌, ℕ, refl, ap, sym, subst, arith, length, slice_set, Some}
 use Rattle.std.specs.Prelude.{slice_get}
 use Rattle.daa_config.specs.Candidates.{candidates_of, start_of, values_of}
 use Rattle.daa_config.specs.declared.config.Rates.{Rates}
+use Rattle.daa_legs.specs.Branch.{rate_for}
 use Rattle.daa_legs.specs.Table.{IsBranchOf}
 use Rattle.daa_scan.specs.Inside.Trunks.{AreBranchesBelow}
 use Rattle.daa_scan.proofs.Tables.{next_filled, next_length, passed_over}
@@ -34,3 +35,8 @@ pub returns-clause-branches : goal.returns-clause-branches
 returns-clause-branches c =
     let all : c.start-start.result + c.loop-index.index ≡ start_of c.args.kind c.args.config.now + length (values_of c.args.kind c.args.config.now) = omega (arith, c.start-start.ensures.value, c.loop-index-test.false, c.loop-index.auto.index-end, c.count-index-end.ensures.value) in
     subst (λ (n : ℕ). AreBranchesBelow c.args.config.now c.args.own.now c.args.needs.now n c.loop-index.branches) all c.loop-index.invariant.filled
+
+pub keep-requires-clause-divisor : goal.keep-requires-clause-divisor
+keep-requires-clause-divisor c =
+    let o = c.candidate_in-candidate.ensures.of in
+    c.divisor_of-divisor.ensures o.0 ∙ ap (rate_for c.rates-rates.result) (sym o.1)
