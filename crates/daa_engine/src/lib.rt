@@ -12,6 +12,7 @@ mod findings;
 mod laws;
 mod room;
 mod say;
+mod tickets;
 mod together;
 
 pub use alone::{decide_in, report_in, say_moment};
@@ -24,3 +25,4 @@ pub use laws::{
     texts_without_last_times_are_as_before,
 };
 pub use room::{Room, leading_flights};
+pub use tickets::Tickets;
