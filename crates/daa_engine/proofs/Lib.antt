@@ -2,7 +2,6 @@ pub mod Covered
 pub mod FillingLemmas
 pub mod AlertLemmas
 pub mod LoopLemmas
-pub mod BesideLemmas
 pub mod TextLemmas
 pub mod OneText
 pub mod SomeText

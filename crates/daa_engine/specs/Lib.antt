@@ -1,5 +1,4 @@
 pub mod Covered
-pub mod Beside
 pub mod EngineState
 pub mod MomentText
 pub mod PlainText

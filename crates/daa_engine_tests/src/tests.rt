@@ -11,7 +11,7 @@ mod workers;
 use daa_config::examples::{FOUR_LEVELS, LARGEST_VALUES, ONE_LEVEL, THREE_LEVELS};
 use daa_config::{Config, read};
 use daa_detect::is_hit;
-use daa_engine::{Engine, Room, Slot};
+use daa_engine::{Engine, Room};
 use daa_legs::{Flight, relative};
 use daa_outside::{MemSink, Open};
 use daa_report::SinkFault;
@@ -790,5 +790,4 @@ fn may_be_sent<T: Send>() {}
 fn values_may_be_sent() {
     may_be_sent::<Engine>();
     may_be_sent::<Room>();
-    may_be_sent::<Slot>();
 }

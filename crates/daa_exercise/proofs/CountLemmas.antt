@@ -1,5 +1,5 @@
 -- What is counted of one moment more.
-use Rattle.std.proofs.Common.{◌≡◌, ◌∙◌, ◌⊎◌, inl, inr, ◌<◌, ◌≤◌, ◌+◌, ℕ, List, ◌++◌, length, map, take, refl, sym, ap, arith, subst, add-one, zero-add, length-append}
+use Rattle.std.proofs.Common.{◌≡◌, ◌∙◌, ◌⊎◌, inl, inr, ◌<◌, ◌≤◌, ◌+◌, ℕ, zero, suc, List, ◌++◌, length, map, take, refl, sym, ap, arith, subst, add-one, zero-add, length-append}
 use Rattle.std.specs.Prelude.{Option, Result, slice_index, ◌==◌}
 use Rattle.std.specs.List.{range_with_len}
 use Rattle.std.proofs.lemmas.Bool.{cases_lt}
@@ -22,7 +22,7 @@ use Rattle.daa_state.specs.Picture.{aircraft_of}
 use Rattle.daa_state.specs.declared.word.Picture.{Picture}
 use Rattle.daa_report.specs.Says.{Says, SaysSome}
 use Rattle.daa_engine.specs.Covered.{CoveredAt}
-use Rattle.daa_exercise.specs.Inside.Counting.{Adds, AreCounted, CountsPicture, HasCounted, HasRoomFor, IsRoomy, tally_of, written}
+use Rattle.daa_exercise.specs.Inside.Counting.{Adds, AreCounted, AreLevelsFrom, CountsPicture, HasCounted, HasRoomFor, IsRoomy, aircraft_from, tally_of, written}
 use Rattle.daa_exercise.specs.Levels.{HasAlerts, HasShown, AreLevels, aircraft_in, counts_of, how_often}
 use Rattle.daa_exercise.specs.Moments.{moment_of}
 use Rattle.daa_exercise.specs.Summary.{IsSummaryOf, summary_text}
@@ -64,12 +64,12 @@ count_few top level levels = go (cases_lt level (top + 1))
 
 -- ---- one moment more
 
-module _ (Has : Picture → List ℕ → Type 0) (output : Outputs) where
-  pub counted_next : (count : ℕ) (picture : Picture) (a b : List ℕ) → ((levels : List ℕ) → Has picture levels → length levels ≤ 512) → picture ≡ moment_of output count
-      → HasCounted Has output count a → Adds (Has picture) a b → HasCounted Has output (count + 1) b
+module _ (Has : Picture → List ℕ → Type 0) (output : Outputs) (time : ℕ) where
+  pub counted_next : (count : ℕ) (picture : Picture) (a b : List ℕ) → ((levels : List ℕ) → Has picture levels → length levels ≤ 512)
+      → picture ≡ moment_of output (time + count) → HasCounted Has output time count a → Adds (Has picture) a b → HasCounted Has output time (count + 1) b
   counted_next count picture a b most is h (here, has, more) = record {
     levels = h.levels ++ here;
-    are = subst (λ (n : ℕ). AreLevels Has output n (h.levels ++ here)) (sym (add-one count)) (record {
+    are = subst (λ (n : ℕ). AreLevelsFrom Has output time n (h.levels ++ here)) (sym (add-one count)) (record {
       first = h.levels;
       second = here;
       first_is = h.are;
@@ -80,7 +80,7 @@ module _ (Has : Picture → List ℕ → Type 0) (output : Outputs) where
     few = (let m = most here has in let f = h.few in let e = length-append h.levels here in omega (arith, m, f, e));
   }
 
-  pub room_of : (count : ℕ) (tally : List ℕ) → count < 10000 → HasCounted Has output count tally → HasRoomFor 512 tally
+  pub room_of : (count : ℕ) (tally : List ℕ) → count < 10000 → HasCounted Has output time count tally → HasRoomFor 512 tally
   room_of count tally lt h level =
       let e = ap (λ (xs : List ℕ). slice_index xs level) h.counted in
       let m = count_few mask_levels level h.levels in
@@ -101,29 +101,38 @@ pub aircraft_next : (output : Outputs) (count : ℕ) → aircraft_in output (cou
 unfolding aircraft_in
 aircraft_next output count = sum_by-map-range_with_len_more (λ (n : ℕ). n) (λ time. length (aircraft_of (moment_of output time))) 0 count count (zero-add count)
 
-module _ (s : Settings) (output : Outputs) (ok : IsAccepted s) where
-  pub all_next : (count : ℕ) (picture : Picture) (old new : Counts) → IsPictureInRange picture → picture ≡ moment_of output count → AreCounted s output count old
-      → CountsPicture s picture old new → AreCounted s output (count + 1) new
-  all_next count picture old new in' is h k = record {
-    aircraft = k.aircraft ∙ ap (λ (n : ℕ). n + length (aircraft_of picture)) h.aircraft
-        ∙ ap (λ (p : Picture). aircraft_in output count + length (aircraft_of p)) is ∙ sym (aircraft_next output count);
-    few = (let e = k.aircraft in let f = h.few in let m = in'.count in omega (arith, e, f, m));
-    alerts = counted_next (HasAlerts s) output count picture old.alerts new.alerts (alerts_few s picture in') is h.alerts k.alerts;
-    track = counted_next (λ p. HasShown s p Track) output count picture old.track new.track (shown_few s picture Track ok) is h.track k.track;
-    speed = counted_next (λ p. HasShown s p Speed) output count picture old.speed new.speed (shown_few s picture Speed ok) is h.speed k.speed;
-    climb = counted_next (λ p. HasShown s p Climb) output count picture old.climb new.climb (shown_few s picture Climb ok) is h.climb k.climb;
-    height = counted_next (λ p. HasShown s p Height) output count picture old.height new.height (shown_few s picture Height ok) is h.height k.height;
-  }
+pub aircraft_from_none : (output : Outputs) (time : ℕ) → aircraft_from output time 0 ≡ 0
+unfolding aircraft_from
+aircraft_from_none output time = refl
 
-  pub roomy : (count : ℕ) (counts : Counts) → count < 10000 → AreCounted s output count counts → IsRoomy counts
-  roomy count counts lt h = record {
-    aircraft = (let f = h.few in omega (arith, f, lt));
-    alerts = room_for 64 512 counts.alerts (omega arith) (room_of (HasAlerts s) output count counts.alerts lt h.alerts);
-    track = room_of (λ p. HasShown s p Track) output count counts.track lt h.track;
-    speed = room_of (λ p. HasShown s p Speed) output count counts.speed lt h.speed;
-    climb = room_of (λ p. HasShown s p Climb) output count counts.climb lt h.climb;
-    height = room_of (λ p. HasShown s p Height) output count counts.height lt h.height;
-  }
+pub aircraft_from_next : (output : Outputs) (time count : ℕ)
+    → aircraft_from output time (count + 1) ≡ aircraft_from output time count + length (aircraft_of (moment_of output (time + count)))
+unfolding aircraft_from
+aircraft_from_next output time count =
+    sum_by-map-range_with_len_more (λ (n : ℕ). n) (λ (t : ℕ). length (aircraft_of (moment_of output t))) time count (time + count) refl
+
+pub all_next : (s : Settings) (output : Outputs) → IsAccepted s → (time count : ℕ) (picture : Picture) (old new : Counts) → IsPictureInRange picture
+    → picture ≡ moment_of output (time + count) → AreCounted s output time count old → CountsPicture s picture old new → AreCounted s output time (count + 1) new
+all_next s output ok time count picture old new in' is h k = record {
+  aircraft = k.aircraft ∙ ap (λ (n : ℕ). n + length (aircraft_of picture)) h.aircraft
+      ∙ ap (λ (p : Picture). aircraft_from output time count + length (aircraft_of p)) is ∙ sym (aircraft_from_next output time count);
+  few = (let e = k.aircraft in let f = h.few in let m = in'.count in omega (arith, e, f, m));
+  alerts = counted_next (HasAlerts s) output time count picture old.alerts new.alerts (alerts_few s picture in') is h.alerts k.alerts;
+  track = counted_next (λ p. HasShown s p Track) output time count picture old.track new.track (shown_few s picture Track ok) is h.track k.track;
+  speed = counted_next (λ p. HasShown s p Speed) output time count picture old.speed new.speed (shown_few s picture Speed ok) is h.speed k.speed;
+  climb = counted_next (λ p. HasShown s p Climb) output time count picture old.climb new.climb (shown_few s picture Climb ok) is h.climb k.climb;
+  height = counted_next (λ p. HasShown s p Height) output time count picture old.height new.height (shown_few s picture Height ok) is h.height k.height;
+}
+
+pub roomy : (s : Settings) (output : Outputs) (time count : ℕ) (counts : Counts) → count < 10000 → AreCounted s output time count counts → IsRoomy counts
+roomy s output time count counts lt h = record {
+  aircraft = (let f = h.few in omega (arith, f, lt));
+  alerts = room_for 64 512 counts.alerts (omega arith) (room_of (HasAlerts s) output time count counts.alerts lt h.alerts);
+  track = room_of (λ p. HasShown s p Track) output time count counts.track lt h.track;
+  speed = room_of (λ p. HasShown s p Speed) output time count counts.speed lt h.speed;
+  climb = room_of (λ p. HasShown s p Climb) output time count counts.climb lt h.climb;
+  height = room_of (λ p. HasShown s p Height) output time count counts.height lt h.height;
+}
 
 -- ---- what is written of the counts is the summary
 
@@ -131,7 +140,22 @@ upto_top : (top : ℕ) (levels : List ℕ) → top ≤ 8 → take (top + 1) (cou
 unfolding counts_of
 upto_top top levels few = take-map-range_with_len (how_often levels) 0 9 (top + 1) (omega arith)
 
-module _ (s : Settings) (seed moments : ℕ) (counts : Counts) (h : AreCounted s (outputs_of seed) moments counts) where
+-- the moments from the first on
+first_levels : (Has : Picture → List ℕ → Type 0) (output : Outputs) (count : ℕ) (levels : List ℕ) → AreLevelsFrom Has output 0 count levels → AreLevels Has output count levels
+first_levels Has output zero levels e = e
+first_levels Has output (suc count) levels are = record {
+  first = are.first;
+  second = are.second;
+  first_is = first_levels Has output count are.first are.first_is;
+  second_is = subst (λ (t : ℕ). Has (moment_of output t) are.second) (zero-add count) are.second_is;
+  joined = are.joined;
+}
+
+first_aircraft : (output : Outputs) (count : ℕ) → aircraft_from output 0 count ≡ aircraft_in output count
+unfolding aircraft_from aircraft_in
+first_aircraft output count = refl
+
+module _ (s : Settings) (seed moments : ℕ) (counts : Counts) (h : AreCounted s (outputs_of seed) 0 moments counts) where
   shown : Kind → List ℕ
   shown Track = h.track.levels
   shown Speed = h.speed.levels
@@ -140,10 +164,10 @@ module _ (s : Settings) (seed moments : ℕ) (counts : Counts) (h : AreCounted s
 
   are_shown : (kind : Kind) → AreLevels (λ picture. HasShown s picture kind) (outputs_of seed) moments (shown kind)
   unfolding shown
-  are_shown Track = h.track.are
-  are_shown Speed = h.speed.are
-  are_shown Climb = h.climb.are
-  are_shown Height = h.height.are
+  are_shown Track = first_levels (λ p. HasShown s p Track) (outputs_of seed) moments h.track.levels h.track.are
+  are_shown Speed = first_levels (λ p. HasShown s p Speed) (outputs_of seed) moments h.speed.levels h.speed.are
+  are_shown Climb = first_levels (λ p. HasShown s p Climb) (outputs_of seed) moments h.climb.levels h.climb.are
+  are_shown Height = first_levels (λ p. HasShown s p Height) (outputs_of seed) moments h.height.levels h.height.are
 
   tallied : (kind : Kind) → tally_of counts kind ≡ counts_of mask_levels (shown kind)
   unfolding shown
@@ -164,27 +188,25 @@ module _ (s : Settings) (seed moments : ℕ) (counts : Counts) (h : AreCounted s
       let alerts = counted_upto top counts.alerts h.alerts.levels e few h.alerts.counted in
       let kinds : (kind : Kind) → take (top + 1) (tally_of counts kind) ≡ counts_of (length s.levels) (shown kind) = λ kind.
       counted_upto top (tally_of counts kind) (shown kind) e few (tallied kind) in
-      let count = h.aircraft in
+      let count = h.aircraft ∙ first_aircraft (outputs_of seed) moments in
       λ i. summary_text seed moments (count i) (alerts i) (λ kind. kinds kind i)
 
   pub is_summary : (top : ℕ) → IsAccepted s → top ≡ length s.levels → IsSummaryOf s seed moments (written seed moments top counts)
   is_summary top ok e = record {
     alerts = h.alerts.levels;
     shown = shown;
-    alerts_are = h.alerts.are;
+    alerts_are = first_levels (HasAlerts s) (outputs_of seed) moments h.alerts.levels h.alerts.are;
     shown_are = are_shown;
     text_is = text_is top e (let few = ok.few_levels in omega (arith, e, few));
   }
 
 -- ---- all moments are counted, and the text is said
 
-pub said : {E : Type 0} (s : Settings) (seed moments time top : ℕ) (counts : Counts) (piece items : List ℕ) (a b : Option (List ℕ)) (x y : ℕ) (r : Result (Unit {0}) E)
-    → IsAccepted s → top ≡ length s.levels → time ≤ moments → moments ≤ time → AreCounted s (outputs_of seed) time counts → piece ≡ items
+pub said : {E : Type 0} (s : Settings) (seed moments top : ℕ) (counts : Counts) (piece items : List ℕ) (a b : Option (List ℕ)) (x y : ℕ) (r : Result (Unit {0}) E)
+    → IsAccepted s → top ≡ length s.levels → AreCounted s (outputs_of seed) 0 moments counts → piece ≡ items
     → items ≡ written seed moments top counts → Says {E = E} a b x y piece r → SaysSome {E = E} (IsSummaryOf s seed moments) a b x y r
-said {E} s seed moments time top counts piece items a b x y r ok e low high h same is told =
-    let all : time ≡ moments = omega arith in
-    let counted = subst (λ (n : ℕ). AreCounted s (outputs_of seed) n counts) all h in (
-      written seed moments top counts,
-      is_summary s seed moments counts counted top ok e,
-      subst (λ (t : List ℕ). Says {E = E} a b x y t r) (same ∙ is) told,
-    )
+said {E} s seed moments top counts piece items a b x y r ok e h same is told = (
+  written seed moments top counts,
+  is_summary s seed moments counts h top ok e,
+  subst (λ (t : List ℕ). Says {E = E} a b x y t r) (same ∙ is) told,
+)

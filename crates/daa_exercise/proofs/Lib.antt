@@ -4,6 +4,7 @@ pub mod RangeLemmas
 pub mod TakenLemmas
 pub mod TallyLemmas
 pub mod CountLemmas
+pub mod JoinLemmas
 pub mod SumLemmas
 pub mod OneSummary
 pub mod ExampleLemmas

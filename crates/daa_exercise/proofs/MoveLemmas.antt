@@ -81,25 +81,32 @@ module _ (g : Lcg) where
 
 -- ---- one moment after another
 
--- before a moment of a time the outputs of all earlier ones are drawn; then this is the moment, and those of the next follow
-pub next_is : (g d e : Lcg) (time : ℕ) (picture : Picture) → d ≡ after (begin_of (outputs_from g) time) g → picture ≡ moment_at (outputs_from d) time 0
-    → e ≡ after (draws_at (outputs_from d) 0) d → (picture ≡ moment_of (outputs_from g) time) × (e ≡ after (begin_of (outputs_from g) (time + 1)) g)
+-- before a moment of a time the outputs of all earlier ones are drawn; after its own those of the next one follow
+pub next_follows : (g d e : Lcg) (time : ℕ) → d ≡ after (begin_of (outputs_from g) time) g → e ≡ after (draws_at (outputs_from d) 0) d
+    → e ≡ after (begin_of (outputs_from g) (time + 1)) g
 unfolding begin_of
-next_is g d e time picture at is rest =
-    let b = begin_of (outputs_from g) time in (
-      is ∙ ap (λ (x : Lcg). moment_at (outputs_from x) time 0) at ∙ moment_after g b time,
-      rest ∙ ap (λ (x : Lcg). after (draws_at (outputs_from x) 0) x) at ∙ ap (λ (n : ℕ). after n (after b g)) (draws_after g b) ∙ after_after b (draws_at (outputs_from g) b) g
-          ∙ ap (λ (n : ℕ). after n g) (next time),
-    )
-  where
-    next : (time : ℕ) → begin_of (outputs_from g) time + draws_at (outputs_from g) (begin_of (outputs_from g) time) ≡ begin_of (outputs_from g) (time + 1)
-    next time = ap (begin_of (outputs_from g)) (sym (add-one time))
+next_follows g d e time at rest =
+    let b = begin_of (outputs_from g) time in
+    let next : b + draws_at (outputs_from g) b ≡ begin_of (outputs_from g) (time + 1) = ap (begin_of (outputs_from g)) (sym (add-one time)) in
+    rest ∙ ap (λ (x : Lcg). after (draws_at (outputs_from x) 0) x) at ∙ ap (λ (n : ℕ). after n (after b g)) (draws_after g b)
+    ∙ after_after b (draws_at (outputs_from g) b) g ∙ ap (λ (n : ℕ). after n g) next
+
+-- and this is the moment
+pub next_is : (g d : Lcg) (time : ℕ) (picture : Picture) → d ≡ after (begin_of (outputs_from g) time) g → picture ≡ moment_at (outputs_from d) time 0
+    → picture ≡ moment_of (outputs_from g) time
+next_is g d time picture at is = is ∙ ap (λ (x : Lcg). moment_at (outputs_from x) time 0) at ∙ moment_after g (begin_of (outputs_from g) time) time
 
 -- ---- the parts of a moment, drawn one after another
 
-pub count_drawn : (g d : Lcg) (count : ℕ) → d ≡ after 4 g → count ≡ nat_abs (picked aircraft_counts (outputs_from d 0)) → count ≡ count_at (outputs_from g) 0
+count_drawn : (g d : Lcg) (count : ℕ) → d ≡ after 4 g → count ≡ nat_abs (picked aircraft_counts (outputs_from d 0)) → count ≡ count_at (outputs_from g) 0
 unfolding count_at
 count_drawn g d count at is = is ∙ ap (λ (x : Lcg). nat_abs (picked aircraft_counts (outputs_from x 0))) at ∙ ap (λ (w : ℕ). nat_abs (picked aircraft_counts w)) (outputs_after 4 0 g)
+
+-- the outputs of a moment are left behind: four, one, and six for each aircraft
+pub draws_drawn : (g g1 g2 g3 : Lcg) (count : ℕ) → g1 ≡ after 4 g → g2 ≡ after 1 g1 → g3 ≡ after (6 * count) g2
+    → count ≡ nat_abs (picked aircraft_counts (outputs_from g1 0)) → g3 ≡ after (draws_at (outputs_from g) 0) g
+draws_drawn g g1 g2 g3 count e1 e2 e3 is_count =
+    e3 ∙ ap (after (6 * count)) (next_after 4 g g1 g2 e1 e2) ∙ after_after 5 (6 * count) g ∙ ap (λ (c : ℕ). after (5 + 6 * c) g) (count_drawn g g1 count e1 is_count)
 
 pub moment_drawn : (g g1 g2 g3 : Lcg) (time count : ℕ) (own : Own) (items : List Traffic) → g1 ≡ after 4 g → g2 ≡ after 1 g1 → g3 ≡ after (6 * count) g2
     → own ≡ own_at (outputs_from g) 0 → count ≡ nat_abs (picked aircraft_counts (outputs_from g1 0)) → items ≡ traffic_at (outputs_from g2) own.alt count 0
@@ -112,7 +119,7 @@ moment_drawn g g1 g2 g3 time count own items e1 e2 e3 is_own is_count is_traffic
     ∙ ap (λ (w : Outputs). traffic_at w own.alt count 0) (left_after g 5) ∙ traffic_moved (outputs_from g) 5 own.alt count 0
     ∙ ap₂ (λ (o : Own) (c : ℕ). traffic_at (outputs_from g) o.alt c 5) is_own n in (
       (λ i. picture_of time (is_own i) (traffic i)),
-      e3 ∙ ap (after (6 * count)) at ∙ after_after 5 (6 * count) g ∙ ap (λ (c : ℕ). after (5 + 6 * c) g) n,
+      draws_drawn g g1 g2 g3 count e1 e2 e3 is_count,
     )
 
 -- ---- one aircraft after another

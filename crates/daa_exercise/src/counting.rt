@@ -1,6 +1,6 @@
 //! Counts the levels of one moment after another.
 
-ghost use Rattle.std.specs.Prelude.{◌≡◌, ◌<◌, length, slice_index_or};
+ghost use Rattle.std.specs.Prelude.{◌≡◌, ◌<◌, ℕ, length, slice_index_or};
 ghost use Rattle.daa_alert.specs.Alert.{IsAlertOf};
 ghost use Rattle.daa_state.specs.Picture.{aircraft_of};
 ghost use Rattle.daa_state.specs.declared.word.Traffic.{Traffic};
@@ -8,8 +8,8 @@ ghost use Rattle.daa_bands.specs.Board.{HasLevelOn, IsBoardOf, mask_levels};
 ghost use Rattle.daa_bands.specs.KindBands.{AreShown};
 ghost use Rattle.daa_engine.specs.Covered.{CoveredAt};
 ghost use Rattle.daa_state.specs.InRange.{IsPictureInRange};
-ghost use Rattle.daa_exercise.specs.Inside.Counting.{Adds, AreCounted, CountsPicture};
-ghost use Rattle.daa_exercise.specs.Inside.Counting.{HasRoomFor, IsRoomy};
+ghost use Rattle.daa_exercise.specs.Inside.Counting.{Adds, AddsUp, AreCounted, CountsPicture};
+ghost use Rattle.daa_exercise.specs.Inside.Counting.{HasRoomFor, HaveAllRoom, IsRoomy};
 ghost use Rattle.daa_exercise.specs.Levels.{HasAlerts};
 ghost use Rattle.daa_exercise.specs.Outputs.{Outputs};
 ghost use Rattle.daa_config.specs.Settings.{IsAccepted, Settings};
@@ -20,7 +20,7 @@ use daa_bands::Board;
 use daa_config::{Config, Kind};
 use daa_state::Picture;
 
-/// What is counted of the moments so far: the aircraft, how often each level was an aircraft's
+/// What is counted of some moments: the aircraft, how often each level was an aircraft's
 /// alert level, and how often it was the shown level of a candidate of each kind.
 #[derive(Drop)]
 pub(crate) struct Counts {
@@ -34,9 +34,10 @@ pub(crate) struct Counts {
 
 impl Counts {
     /// No moment is counted.
-    #[tactic(auto, unfolding(crate::specs::Levels::aircraft_in))]
+    #[tactic(auto, unfolding(crate::specs::Inside::Counting::aircraft_from))]
     pub(crate) fn new() -> Counts
-        ensures { (settings : Settings) (output : Outputs) → AreCounted settings output 0 result }
+        ensures { (settings : Settings) (output : Outputs) (time : ℕ)
+            → AreCounted settings output time 0 result }
     {
         Counts {
             aircraft: 0,
@@ -62,6 +63,19 @@ impl Counts {
         count_shown(&mut self.speed, config, board, Kind::Speed);
         count_shown(&mut self.climb, config, board, Kind::Climb);
         count_shown(&mut self.height, config, board, Kind::Height);
+    }
+
+    /// Counts what others counted besides.
+    pub(crate) fn add_all(&mut self, others: &Counts)
+        requires { HaveAllRoom self.old others.now }
+        ensures { AddsUp self.old others.now self.new }
+    {
+        self.aircraft += others.aircraft;
+        self.alerts.add_all(&others.alerts);
+        self.track.add_all(&others.track);
+        self.speed.add_all(&others.speed);
+        self.climb.add_all(&others.climb);
+        self.height.add_all(&others.height);
     }
 }
 

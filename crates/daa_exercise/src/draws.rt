@@ -152,31 +152,52 @@ impl Draws {
         }
     }
 
-    /// So many aircraft, numbered from 1.
-    fn next_traffic(&mut self, own: &Own, count: u32) -> ArrayVec<Traffic, MOST_AIRCRAFT>
+    /// Draws so many aircraft, numbered from 1, in place of those of a list.
+    fn draw_traffic(
+        &mut self,
+        own: &Own,
+        count: u32,
+        traffic: &mut ArrayVec<Traffic, MOST_AIRCRAFT>,
+    )
         requires low { pos 0 ≤ℤ own.now.alt }
         requires high { own.now.alt ≤ℤ pos 20000 }
         requires few { count ≤ 8 }
-        ensures value { result.items ≡ traffic_at (outputs_from self.old) own.now.alt count 0 }
+        ensures value { traffic.new.items ≡ traffic_at (outputs_from self.old) own.now.alt count 0 }
         ensures rest { self.new ≡ after (6 * count) self.old }
     {
-        let mut traffic = ArrayVec::new();
+        traffic.clear();
         for i in 0..count {
             traffic.push(self.next_aircraft(own, i + 1));
         }
-        traffic
     }
 
-    /// The moment of a time, of the next outputs.
-    pub(crate) fn next_moment(&mut self, time: u32) -> Picture
-        ensures value { result ≡ moment_at (outputs_from self.old) time 0 }
+    /// Draws the moment of a time, of the next outputs, into a picture.
+    pub(crate) fn draw_moment(&mut self, time: u32, picture: &mut Picture)
+        ensures value { picture.new ≡ moment_at (outputs_from self.old) time 0 }
         ensures rest { self.new ≡ after (draws_at (outputs_from self.old) 0) self.old }
-        ensures in_range { IsPictureInRange result }
+        ensures in_range { IsPictureInRange picture.new }
     {
         let own = self.next_own();
         let count = self.next_count();
-        let traffic = self.next_traffic(&own, count);
-        Picture { time, own, traffic }
+        self.draw_traffic(&own, count, &mut picture.traffic);
+        picture.own = own;
+        picture.time = time;
+    }
+
+    /// Leaves out so many outputs.
+    fn skip(&mut self, count: u32)
+        ensures { self.new ≡ after count self.old }
+    {
+        self.generator.advance(u64::from(count));
+    }
+
+    /// Leaves out the outputs of the next moment.
+    pub(crate) fn skip_moment(&mut self)
+        ensures { self.new ≡ after (draws_at (outputs_from self.old) 0) self.old }
+    {
+        self.skip(4);
+        let count = self.next_count();
+        self.skip(6 * count);
     }
 }
 

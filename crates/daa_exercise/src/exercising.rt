@@ -1,175 +1,92 @@
 //! An exercise of an engine.
 
-ghost use Rattle.std.specs.Prelude.{◌≡◌, ◌≤◌, ◌<◌, ◌+◌, length};
+ghost use Rattle.std.specs.Prelude.{◌≡◌, ◌≤◌};
+ghost use Rattle.daa_state.specs.InRange.{IsPictureInRange};
 ghost use Rattle.daa_report.specs.Says.{SaysSome};
-ghost use Rattle.daa_exercise.specs.Inside.Batch.{AreMoments, HaveBoards, IsAt, IsDrawnTo};
-ghost use Rattle.daa_exercise.specs.Inside.Counting.{AreCounted};
+ghost use Rattle.daa_exercise.specs.Inside.Counting.{AreCounted, CountsPicture, IsRoomy};
 ghost use Rattle.daa_exercise.specs.Outputs.{outputs_of};
 ghost use Rattle.daa_exercise.specs.Summary.{IsSummaryOf};
 
+use crate::beside::{clerks_in, count_beside};
 use crate::counting::Counts;
-use crate::draws::Draws;
+use crate::sequence::{Sequence, empty_picture};
 use crate::summary::summary;
-use arrayvec::ArrayVec;
-use daa_bands::Board;
-use daa_config::Config;
-use daa_engine::{Engine, Slot, decide_beside};
+use daa_engine::Engine;
 use daa_outside::{Gate, Sink};
 use daa_report::{SinkFault, put};
-use daa_state::{Own, Picture};
+use daa_state::Picture;
 use std::alloc::Global;
 use std::thread::Threads;
 
-/// How many moments are decided beside one another at most. They take some 5 MB.
-const MOST_SLOTS: u32 = 1024;
-
-/// A slot for a moment that is still to be drawn.
-fn empty_slot() -> Slot {
-    Slot {
-        picture: Picture {
-            time: 0,
-            own: Own {
-                x: 0,
-                y: 0,
-                alt: 0,
-                trk: 0,
-                gs: 0,
-                vs: 0,
-            },
-            traffic: ArrayVec::new(),
-        },
-        board: Board::new(),
-    }
-}
-
-/// Slots for so many moments, which are decided beside one another: none with one worker or without
-/// memory.
-fn slots_in(alloc: Global, workers: u32, moments: u32) -> Vec<Slot> {
-    if workers < 2 {
-        return Vec::new(alloc);
-    }
-    let count = moments.min(MOST_SLOTS);
-    match Vec::with_capacity(alloc, count as usize) {
-        Ok(mut slots) => {
-            for _place in 0..count {
-                let _added = slots.push(empty_slot());
-            }
-            slots
-        }
-        Err(_) => Vec::new(alloc),
-    }
-}
-
-/// Draws a moment for each slot, from a time on.
-fn draw_slots(draws: &mut Draws, slots: &mut [Slot], seed: u32, time: u32)
-    requires drawn { IsDrawnTo seed time draws.old }
-    requires few { time + length slots.old ≤ 10000 }
-    ensures drawn { IsDrawnTo seed (time + length slots.old) draws.new }
-    ensures same_length { length slots.new ≡ length slots.old }
-    ensures moments { AreMoments seed time slots.new }
-{
-    for place in 0..slots.len() {
-        slots[place].picture = draws.next_moment(time + place as u32);
-    }
-}
-
-/// Counts the moments of the slots, which are decided.
-fn count_slots(counts: &mut Counts, config: &Config, slots: &[Slot], seed: u32, time: u32)
-    requires counted { AreCounted config.now (outputs_of seed) time counts.old }
-    requires few { time + length slots.now ≤ 10000 }
-    requires moments { AreMoments seed time slots.now }
-    requires boards { HaveBoards config.now slots.now }
-    ensures { AreCounted config.now (outputs_of seed) (time + length slots.now) counts.new }
-{
-    // its clause says that the configuration is accepted
-    let _levels = config.levels();
-    for place in 0..slots.len() {
-        let slot = &slots[place];
-        counts.add(config, &slot.picture, &slot.board);
-    }
-}
-
-/// Draws a moment for each slot, decides them beside one another, and counts them.
-fn exercise_slots<R: Threads + Sync, G: Gate>(
-    rt: &R,
-    config: &Config,
-    workers: usize,
-    draws: &mut Draws,
-    counts: &mut Counts,
-    slots: &mut [Slot],
-    seed: u32,
-    time: u32,
-    gate: &G,
-)
-    requires workers { 0 < workers }
-    requires at { IsAt config.now seed time draws.old counts.old }
-    requires few { time + length slots.old ≤ 10000 }
-    ensures { IsAt config.now seed (time + length slots.old) draws.new counts.new }
-{
-    draw_slots(draws, slots, seed, time);
-    decide_beside(rt, config, slots, workers, gate);
-    count_slots(counts, config, slots, seed, time);
-}
-
-/// Draws a moment, decides it, and counts it.
-fn exercise_one<R: Threads + Sync, G: Gate>(
+/// Decides a moment and counts it.
+fn count_one<R: Threads + Sync, G: Gate>(
     engine: &mut Engine,
     rt: &R,
     alloc: Global,
-    draws: &mut Draws,
+    picture: &Picture,
     counts: &mut Counts,
-    seed: u32,
-    time: u32,
     gate: &G,
 )
-    requires at { IsAt engine.old.settings seed time draws.old counts.old }
-    requires few { time < 10000 }
+    requires picture { IsPictureInRange picture.now }
+    requires room { IsRoomy counts.old }
     ensures kept { engine.new ≡ record engine.old { board = engine.new.board } }
-    ensures at { IsAt engine.old.settings seed (time + 1) draws.new counts.new }
+    ensures counted { CountsPicture engine.old.settings picture.now counts.old counts.new }
 {
-    let picture = draws.next_moment(time);
-    engine.decide(rt, alloc, &picture, gate);
-    counts.add(engine.config(), &picture, engine.board());
+    engine.decide(rt, alloc, picture, gate);
+    counts.add(engine.config(), picture, engine.board());
 }
 
-/// Decides and counts one moment or several, from a time on. Returns the time of the next moment.
-fn exercise_some<R: Threads + Sync, G: Gate>(
+/// Counts the first moments of a seed, one after the other.
+fn count_in_turn<R: Threads + Sync, G: Gate>(
     engine: &mut Engine,
     rt: &R,
     alloc: Global,
-    draws: &mut Draws,
-    counts: &mut Counts,
-    slots: &mut [Slot],
     seed: u32,
-    time: u32,
     moments: u32,
     gate: &G,
-) -> u32
-    requires at { IsAt engine.old.settings seed time draws.old counts.old }
-    requires left { time < moments }
+) -> Counts
     requires few { moments ≤ 10000 }
     ensures kept { engine.new ≡ record engine.old { board = engine.new.board } }
-    ensures at { IsAt engine.old.settings seed result draws.new counts.new }
-    ensures later { time < result }
-    ensures within { result ≤ moments }
+    ensures counted { AreCounted engine.old.settings (outputs_of seed) 0 moments result }
 {
-    let count = slots.len().min((moments - time) as usize);
-    if count < 2 {
-        exercise_one(engine, rt, alloc, draws, counts, seed, time, gate);
-        return time + 1;
+    // its clause says that it is accepted
+    let _config = engine.config();
+    let mut sequence = Sequence::of(seed);
+    let mut picture = empty_picture();
+    let mut counts = Counts::new();
+    for _time in 0..moments {
+        sequence.draw(&mut picture);
+        count_one(engine, rt, alloc, &picture, &mut counts, gate);
     }
-    exercise_slots(
+    counts
+}
+
+/// Counts the first moments of a seed: side by side where there are several workers and moments,
+/// and memory.
+fn count_all<R: Threads + Sync, G: Gate>(
+    engine: &mut Engine,
+    rt: &R,
+    alloc: Global,
+    seed: u32,
+    moments: u32,
+    gate: &G,
+) -> Counts
+    requires few { moments ≤ 10000 }
+    ensures kept { engine.new ≡ record engine.old { board = engine.new.board } }
+    ensures counted { AreCounted engine.old.settings (outputs_of seed) 0 moments result }
+{
+    let mut clerks = clerks_in(alloc, engine.config(), engine.workers(), moments);
+    if clerks.is_empty() {
+        return count_in_turn(engine, rt, alloc, seed, moments, gate);
+    }
+    count_beside(
         rt,
         engine.config(),
-        engine.workers() as usize,
-        draws,
-        counts,
-        &mut slots[..count],
+        clerks.as_mut_slice(),
         seed,
-        time,
+        moments,
         gate,
-    );
-    time + count as u32
+    )
 }
 
 /// Decides the moments that a seed draws, as many as are asked for, at most 10000, and writes their
@@ -194,23 +111,6 @@ pub fn exercise<R: Threads + Sync, K: Sink, G: Gate>(
         (K.taken sink.new) (K.faults sink.old) (K.faults sink.new) result }
 {
     let top = engine.config().levels();
-    let mut draws = Draws::of(seed);
-    let mut counts = Counts::new();
-    let mut slots = slots_in(alloc, engine.workers(), moments);
-    let mut time = 0;
-    while time < moments {
-        time = exercise_some(
-            engine,
-            rt,
-            alloc,
-            &mut draws,
-            &mut counts,
-            slots.as_mut_slice(),
-            seed,
-            time,
-            moments,
-            gate,
-        );
-    }
+    let counts = count_all(engine, rt, alloc, seed, moments, gate);
     put(sink, summary(seed, moments, top, &counts).as_slice())
 }

@@ -2,10 +2,13 @@
 //! the summary written.
 #![tactic(auto)]
 
+mod beside;
+mod clerk;
 mod counting;
 mod draws;
 mod exercising;
 mod laws;
+mod sequence;
 mod summary;
 mod tally;
 

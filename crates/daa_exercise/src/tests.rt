@@ -3,7 +3,7 @@
 ghost use Rattle.std.specs.Prelude.{◌<◌, ◌≤◌};
 
 use super::*;
-use crate::draws::Draws;
+use crate::sequence::{Sequence, empty_picture};
 use daa_config::examples::{ONE_LEVEL, THREE_LEVELS};
 use daa_config::read;
 use daa_engine::Engine;
@@ -110,7 +110,8 @@ fn three_moments_of_one_level(rt: HostRuntime) -> Result<(), Fail> {
 /// The numbers that the first moment of a seed draws, in their order.
 #[test]
 fn the_first_moment_of_a_seed(rt: HostRuntime) {
-    let picture = Draws::of(7).next_moment(0);
+    let mut picture = empty_picture();
+    Sequence::of(7).draw(&mut picture);
     let own = Own {
         x: 0,
         y: 0,
@@ -220,7 +221,7 @@ impl Gate for Tally {
     }
 }
 
-/// The unit of a moment is its place among those that are decided beside one another.
+/// The unit of a moment that is decided beside others is its time.
 #[test]
 fn the_gate_is_passed_once_for_each_moment_of_a_batch(rt: HostRuntime) -> Result<(), Fail> {
     for workers in [2, 3, 16] {

@@ -1,14 +1,17 @@
 -- How far the levels of an exercise are counted.
-use Rattle.std.specs.Prelude.{◌≡◌, ◌+◌, ◌*◌, ◌≤◌, ℕ, List, ◌++◌, length, slice_index, take}
+use Rattle.std.specs.Prelude.{◌≡◌, ◌+◌, ◌*◌, ◌≤◌, ℕ, zero, suc, List, [], ◌++◌, length, map, slice_index, take}
+use Rattle.std.specs.List.{range_with_len, sum}
 use Rattle.daa_config.specs.Settings.{Settings}
 use Rattle.daa_config.specs.declared.kind.Kind.{Kind}
 use Rattle.daa_config.specs.declared.kind.Kind.TheVariants.{Track, Speed, Climb, Height}
 use Rattle.daa_state.specs.Picture.{aircraft_of}
 use Rattle.daa_state.specs.declared.word.Picture.{Picture}
 use Rattle.daa_bands.specs.Board.{mask_levels}
+use Rattle.daa_bands.specs.Parts.{SplitsInto}
 use Rattle.daa_report.specs.Lines.{Text}
 use Rattle.daa_exercise.specs.Outputs.{Outputs}
-use Rattle.daa_exercise.specs.Levels.{HasAlerts, HasShown, AreLevels, aircraft_in, counts_of}
+use Rattle.daa_exercise.specs.Levels.{HasAlerts, HasShown, counts_of}
+use Rattle.daa_exercise.specs.Moments.{moment_of}
 use Rattle.daa_exercise.specs.Summary.{summary_text}
 use Rattle.daa_exercise.specs.declared.counting.Counts.{Counts}
 
@@ -26,12 +29,31 @@ HasRoomFor n tally = (level : ℕ) → slice_index tally level + n ≤ 429496729
 abbrev pub Adds : (List ℕ → Type 0) → (old new : List ℕ) → Type 0
 Adds Has old new = (here : List ℕ) × Has here × CountsMore here old new
 
--- it has counted the levels of the first `count` moments, at most 512 of each
-pub record HasCounted (Has : Picture → List ℕ → Type 0) (output : Outputs) (count : ℕ) (tally : List ℕ) : Type 0 where
+-- a tally that counted what the first of two counted, and then what the second counted
+abbrev pub Joins : (first second both : List ℕ) → Type 0
+Joins first second both = (here more : List ℕ) → first ≡ counts_of mask_levels here → second ≡ counts_of mask_levels more → both ≡ counts_of mask_levels (here ++ more)
+
+-- each count of two tallies can be added
+abbrev pub HaveRoom : (first second : List ℕ) → Type 0
+HaveRoom first second = (level : ℕ) → slice_index first level + slice_index second level ≤ 4294967295
+
+-- ---- the moments from a time on
+
+-- the levels of each of so many moments from a time on, one moment after the other
+abbrev pub AreLevelsFrom : (Picture → List ℕ → Type 0) → Outputs → (time count : ℕ) → List ℕ → Type 0
+AreLevelsFrom Has output time zero levels = levels ≡ []
+AreLevelsFrom Has output time (suc count) levels = SplitsInto (AreLevelsFrom Has output time count) (Has (moment_of output (time + count))) levels
+
+-- a tally has counted these levels, at most 512 of each moment
+pub record HasCounted (Has : Picture → List ℕ → Type 0) (output : Outputs) (time count : ℕ) (tally : List ℕ) : Type 0 where
   pub levels : List ℕ
-  pub are : AreLevels Has output count levels
+  pub are : AreLevelsFrom Has output time count levels
   pub counted : tally ≡ counts_of mask_levels levels
   pub few : length levels ≤ 512 * count
+
+-- how many aircraft there are in these moments
+unfoldable pub aircraft_from : Outputs → (time count : ℕ) → ℕ
+aircraft_from output time count = sum (map (λ (t : ℕ). length (aircraft_of (moment_of output t))) (range_with_len time count))
 
 -- ---- all that is counted
 
@@ -53,15 +75,33 @@ pub record CountsPicture (settings : Settings) (picture : Picture) (old new : Co
   pub climb : Adds (HasShown settings picture Climb) old.climb new.climb
   pub height : Adds (HasShown settings picture Height) old.height new.height
 
--- the first `count` moments are counted
-pub record AreCounted (settings : Settings) (output : Outputs) (count : ℕ) (counts : Counts) : Type 0 where
-  pub aircraft : counts.aircraft ≡ aircraft_in output count
+-- what the first of two counted is counted, and what the second counted
+pub record AddsUp (first second both : Counts) : Type 0 where
+  pub aircraft : both.aircraft ≡ first.aircraft + second.aircraft
+  pub alerts : Joins first.alerts second.alerts both.alerts
+  pub track : Joins first.track second.track both.track
+  pub speed : Joins first.speed second.speed both.speed
+  pub climb : Joins first.climb second.climb both.climb
+  pub height : Joins first.height second.height both.height
+
+-- the counts of both can be added
+pub record HaveAllRoom (first second : Counts) : Type 0 where
+  pub aircraft : first.aircraft + second.aircraft ≤ 4294967295
+  pub alerts : HaveRoom first.alerts second.alerts
+  pub track : HaveRoom first.track second.track
+  pub speed : HaveRoom first.speed second.speed
+  pub climb : HaveRoom first.climb second.climb
+  pub height : HaveRoom first.height second.height
+
+-- so many moments from a time on are counted
+pub record AreCounted (settings : Settings) (output : Outputs) (time count : ℕ) (counts : Counts) : Type 0 where
+  pub aircraft : counts.aircraft ≡ aircraft_from output time count
   pub few : counts.aircraft ≤ 64 * count
-  pub alerts : HasCounted (HasAlerts settings) output count counts.alerts
-  pub track : HasCounted (λ picture. HasShown settings picture Track) output count counts.track
-  pub speed : HasCounted (λ picture. HasShown settings picture Speed) output count counts.speed
-  pub climb : HasCounted (λ picture. HasShown settings picture Climb) output count counts.climb
-  pub height : HasCounted (λ picture. HasShown settings picture Height) output count counts.height
+  pub alerts : HasCounted (HasAlerts settings) output time count counts.alerts
+  pub track : HasCounted (λ picture. HasShown settings picture Track) output time count counts.track
+  pub speed : HasCounted (λ picture. HasShown settings picture Speed) output time count counts.speed
+  pub climb : HasCounted (λ picture. HasShown settings picture Climb) output time count counts.climb
+  pub height : HasCounted (λ picture. HasShown settings picture Height) output time count counts.height
 
 -- ---- what is written of it
 
