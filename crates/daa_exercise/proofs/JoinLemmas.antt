@@ -1,6 +1,8 @@
 -- What is counted of moments, and of those that come next, is what is counted of both.
-use Rattle.std.proofs.Common.{◌≡◌, ◌∙◌, ◌<◌, ◌≤◌, ◌+◌, ◌-◌, ℕ, zero, suc, List, ◌++◌, length, refl, sym, ap, ap₂, arith, subst, add-zero, add-suc, add-one, add_assoc, zero-add, append-nil, append_assoc, length-append}
+use Rattle.std.proofs.Common.{◌≡◌, ◌∙◌, ◌<◌, ◌≤◌, ◌+◌, ◌-◌, ℕ, zero, suc, List, [], ◌∷◌, ◌++◌, length, refl, sym, ap, ap₂, arith, subst, add-zero, add-suc, add-one, add_assoc, zero-add, append-nil, append_assoc, length-append}
 use Rattle.std.specs.Prelude.{slice_index, cond, ◌==◌}
+use Rattle.std.specs.List.{All}
+use Rattle.std.proofs.lemmas.List.Elements.{All-push}
 use Rattle.std.proofs.lemmas.List.FromFn.{fill_by_all, get_or-map-range_with_len}
 use Rattle.std.proofs.lemmas.List.Sums.{sum_by-append}
 use Rattle.daa_bands.specs.Board.{mask_levels}
@@ -174,3 +176,9 @@ all_gathered s output left end counts none h =
     let at : left ≡ 0 = omega (arith, none) in
     let all : end - left ≡ end = omega (arith, none) in
     subst (λ (n : ℕ). AreCounted s output 0 n counts) all (subst (λ (t : ℕ). AreCounted s output t (end - left) counts) at h)
+
+-- the parts of a clerk, and one that it counted of a sequence of the same seed
+pub parts_pushed : (s : Settings) (seed other : ℕ) (parts all : List Part) (part : Part) → all ≡ parts ++ part ∷ [] → other ≡ seed → All (IsPart s seed) parts
+    → IsPart s other part → All (IsPart s seed) all
+parts_pushed s seed other parts all part e same are is =
+    subst (All (IsPart s seed)) (sym e) (All-push (IsPart s seed) parts part are (subst (λ (n : ℕ). IsPart s n part) same is))

@@ -1,5 +1,5 @@
 -- What a tally counts, level after level.
-use Rattle.std.proofs.Common.{◌≡◌, ◌∙◌, ◌⊎◌, inl, inr, ◌<◌, ◌≤◌, ◌+◌, ℕ, zero, suc, pos}
+use Rattle.std.proofs.Common.{◌≡◌, ◌∙◌, ◌<◌, ◌≤◌, ◌+◌, ℕ, zero, suc, pos}
 use Rattle.std.proofs.Common.{List, [], ◌∷◌, ◌++◌, length, take, take_all, below_more, refl}
 use Rattle.std.proofs.Common.{sym, ap, arith, subst, append_assoc, add-one, append-nil}
 use Rattle.std.specs.Prelude.{slice_index, slice_index_or}
