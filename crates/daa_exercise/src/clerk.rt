@@ -84,6 +84,7 @@ impl Desk {
         requires some { from < upto }
         requires few { upto ≤ 10000 }
         ensures part { IsPart config.now sequence.old.seed result }
+        ensures from { result.from ≡ from }
         ensures upto { result.upto ≡ upto }
         ensures seed { sequence.new.seed ≡ sequence.old.seed }
     {
