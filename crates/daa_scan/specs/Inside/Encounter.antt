@@ -1,7 +1,6 @@
 -- What is known of the ownship and one aircraft of a moment, and of both at one level.
 use Rattle.std.specs.Prelude.{◌≡◌, ◌-◌, ◌≤◌, ℕ, Bool, IsTrue}
 use Rattle.daa_config.specs.declared.candidate.Candidate.TheVariants.{Hold}
-use Rattle.daa_config.specs.declared.kind.Kind.{Kind}
 use Rattle.daa_config.specs.declared.level.Level.{Level}
 use Rattle.daa_config.specs.Settings.{Settings, IsAccepted, IsLevelAt, IsLevelInRange, rates_of}
 use Rattle.daa_state.specs.declared.word.Own.{Own}

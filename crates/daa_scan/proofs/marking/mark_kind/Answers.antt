@@ -1,4 +1,4 @@
-use Rattle.std.proofs.Common.{◌≡◌, ◌<◌, ◌≤◌, ◌+◌, ◌-◌, ℕ, inl, inr, ⊎_elim, refl, sym, subst, arith, length, slice_set, true, false}
+use Rattle.std.proofs.Common.{◌≡◌, ◌<◌, ◌+◌, ◌-◌, ℕ, inl, inr, ⊎_elim, refl, sym, subst, arith, length, slice_set, true, false}
 use Rattle.std.specs.Prelude.{slice_index}
 use Rattle.daa_config.specs.Candidates.{start_of, values_of}
 use Rattle.daa_scan.specs.declared.refusal.Seconds.{Seconds}
