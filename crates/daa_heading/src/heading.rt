@@ -1,8 +1,8 @@
 //! Sine and cosine of whole degrees, and the velocity along a heading.
 
-ghost use Rattle.std.specs.Prelude.{◌≡◌, ℤ, pos, ◌*ℤ◌, int_div};
+ghost use Rattle.std.specs.Prelude.{◌≡◌, ℤ, pos, ◌-ℤ◌, ◌*ℤ◌, int_div};
 ghost use Rattle.daa_fixed.specs.Size.{IsFrom, IsWithin};
-ghost use Rattle.daa_heading.specs.Heading.{sine_at, upper_sine, sine_of};
+ghost use Rattle.daa_heading.specs.Heading.{sine_at, sine_of};
 ghost use Rattle.daa_heading.specs.Heading.{cosine_of, velocity_of, IsNearCircle};
 
 use daa_fixed::Flat;
@@ -54,7 +54,16 @@ pub fn unit(deg: i32) -> (i32, i32)
     ensures sine { result.0 ≡ sine_of deg }
     ensures cosine { result.1 ≡ cosine_of deg }
 {
-    (sine(deg), cosine(deg))
+    // quarter by quarter: one choice for both
+    if deg <= 90 {
+        (table_sine(deg), table_sine(90 - deg))
+    } else if deg <= 180 {
+        (table_sine(180 - deg), lower_sine(deg - 90))
+    } else if deg <= 270 {
+        (lower_sine(deg - 180), lower_sine(270 - deg))
+    } else {
+        (lower_sine(360 - deg), table_sine(deg - 270))
+    }
 }
 
 /// A law of the table: at each of the 360 degrees the squares of sine and cosine add up to
@@ -73,46 +82,18 @@ fn share(gs: i32, part: i32) -> i64
     i64::from(gs * part / 10000)
 }
 
-/// The cosine of 0 to 359 degrees, by the sine of the angle to 90 degrees.
-fn cosine(deg: i32) -> i32
-    requires { IsFrom (pos 0) (pos 359) deg }
-    ensures { result ≡ cosine_of deg }
-{
-    if deg <= 90 {
-        sine(90 - deg)
-    } else {
-        sine(450 - deg)
-    }
-}
-
-/// The sine of 0 to 359 degrees.
-fn sine(deg: i32) -> i32
-    requires { IsFrom (pos 0) (pos 359) deg }
-    ensures { result ≡ sine_of deg }
-{
-    if deg <= 180 {
-        half_sine(deg)
-    } else {
-        -half_sine(deg - 180)
-    }
-}
-
-/// The sine of 0 to 180 degrees.
-fn half_sine(deg: i32) -> i32
-    requires { IsFrom (pos 0) (pos 180) deg }
-    ensures { result ≡ upper_sine deg }
-{
-    if deg <= 90 {
-        table_sine(deg)
-    } else {
-        table_sine(180 - deg)
-    }
-}
-
 /// The sine of 0 to 90 degrees.
 fn table_sine(deg: i32) -> i32
     requires { IsFrom (pos 0) (pos 90) deg }
     ensures { result ≡ sine_at deg }
 {
     i32::from(SINES[deg as usize])
+}
+
+/// The sine of 0 to 90 degrees, with the other sign.
+fn lower_sine(deg: i32) -> i32
+    requires { IsFrom (pos 0) (pos 90) deg }
+    ensures { result ≡ pos 0 -ℤ sine_at deg }
+{
+    -table_sine(deg)
 }

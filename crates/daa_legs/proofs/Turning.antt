@@ -4,7 +4,7 @@ use Rattle.std.proofs.lemmas.Int.{ints, int_min_is, by_lt_z}
 use Rattle.std.specs.Prelude.{IsTrue, int_le}
 use Rattle.std.specs.Int.{int_min, int_rem_euclid}
 use Rattle.daa_fixed.specs.Size.{IsFrom}
-use Rattle.daa_fixed.proofs.Bounds.{le_test}
+use Rattle.daa_heading.proofs.Quarters.{le_true, le_false}
 use Rattle.daa_config.specs.declared.config.Rates.{Rates}
 use Rattle.daa_config.specs.declared.candidate.Candidate.TheVariants.{Track}
 use Rattle.daa_state.specs.declared.word.Own.{Own}
@@ -15,16 +15,6 @@ use Rattle.daa_legs.proofs.Arriving.{rem_back, rem_on, turned-arrives}
 use Rattle.daa_legs.proofs.LeadingFlights.{within, track_same, track_settled}
 use Rattle.daa_legs.proofs.ClosedForms.{rem_range, rem_small}
 use Rattle.daa_legs.proofs.Turns.{turned_right, turned_left}
-
-pub le_true : (x y : ℤ) → x ≤ℤ y → int_le x y ≡ true
-le_true x y h = (le_test x y x y refl refl).1 h
-
-pub le_false : (x y : ℤ) → y <ℤ x → int_le x y ≡ false
-le_false x y h = go (int_le x y) refl
-  where
-    go : (b : Bool) → int_le x y ≡ b → int_le x y ≡ false
-    go true e = let l = (le_test x y x y refl refl).0 e in absurd (omega (arith, ints, h, l))
-    go false e = e
 
 -- the angle to the track that is so many degrees to the right
 pub angle_to : (track a : ℤ) → IsFrom (pos 0) (pos 359) track → IsFrom (pos 0) (pos 359) a → right_angle track (int_rem_euclid (track +ℤ a) (pos 360)) ≡ a

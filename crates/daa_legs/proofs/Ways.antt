@@ -24,7 +24,8 @@ use Rattle.daa_legs.proofs.StateRanges.{own_speed}
 use Rattle.daa_legs.proofs.CandidateCases.{next_product, product_nonneg}
 use Rattle.daa_legs.proofs.LeadingFlights.{within, toward_short, toward_short_down}
 use Rattle.daa_legs.proofs.Turns.{turned_right, turned_left}
-use Rattle.daa_legs.proofs.Turning.{le_true, le_false, angle_least, angle_most}
+use Rattle.daa_heading.proofs.Quarters.{le_true, le_false}
+use Rattle.daa_legs.proofs.Turning.{angle_least, angle_most}
 
 back : (x : ℤ) (k : ℕ) (r : ℤ) → x -ℤ pos k *ℤ r ≡ x +ℤ pos k *ℤ neg_ℤ r
 back x k r = let X = # 0 in let K = # 1 in let R = # 2 in ring (x ∷ pos k ∷ r ∷ []) (X ⊖ (K ⊗ R)) (X ⊕ (K ⊗ (⊝ R))) tt
