@@ -52,6 +52,7 @@ impl Model for Flight {
 impl Flight {
     /// The flight to what the candidate asks for, at the configuration's rates, before its first
     /// leg.
+    #[inline(always)]
     pub fn begin(own: &Own, config: &Config, candidate: Candidate) -> Flight
         requires own { IsOwnInRange own.now }
         requires candidate { IsCandidateInRange candidate }
@@ -73,6 +74,7 @@ impl Flight {
     }
 
     /// The next second: leg `k` after `k` legs were taken. A flight has 180 of them.
+    #[inline(always)]
     pub fn next_leg(&mut self) -> OwnLeg
         requires { self.old.taken < 180 }
         ensures leg { result ≡ own_leg self.old.own self.old.rates
@@ -110,6 +112,7 @@ impl Flight {
     }
 
     /// The velocity of the next second.
+    #[inline(always)]
     fn velocity_ahead(&self) -> Solid
         requires { self.now.taken < 180 }
         ensures value { result ≡ velocity_on self.now.own self.now.rates
@@ -126,6 +129,7 @@ impl Flight {
     }
 
     /// Takes the next second, which has this velocity.
+    #[inline(always)]
     fn advance(&mut self, velocity: &Solid)
         requires left { self.old.taken < 180 }
         requires velocity { velocity.now ≡ velocity_on self.old.own self.old.rates

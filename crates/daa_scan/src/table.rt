@@ -64,7 +64,7 @@ fn fill_kind(
     for index in 0..config.count(kind) {
         let candidate = candidate_in(config, kind, index);
         keep(
-            &mut branches[(start + index) as usize],
+            &mut branches[start as usize + index as usize],
             own,
             &rates,
             candidate,
