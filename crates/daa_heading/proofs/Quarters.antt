@@ -66,7 +66,8 @@ cosine_3 d g h = by_lt_z d (pos 270)
     (λ l. let e : (pos 450 -ℤ d) -ℤ pos 180 ≡ pos 270 -ℤ d = omega (arith, ints) in
     ap (λ (z : ℤ). pos 0 -ℤ sine_at z) (sym e) ∙ sine_3 (pos 450 -ℤ d) (omega (arith, ints, l)) (omega (arith, ints, g)) ∙ far d (omega (arith, ints, g)) (omega (arith, ints, l)))
     (λ m. let e : pos 270 ≡ d = omega (arith, ints, h, m) in
-    subst (λ (z : ℤ). pos 0 -ℤ sine_at (pos 270 -ℤ z) ≡ cosine_of z) e (zero_sine ∙ sine_2 (pos 180) (omega (arith, ints)) (omega (arith, ints)) ∙ far (pos 270) (omega (arith, ints)) (omega (arith, ints))))
+    subst (λ (z : ℤ). pos 0 -ℤ sine_at (pos 270 -ℤ z) ≡ cosine_of z) e (zero_sine ∙ sine_2 (pos 180) (omega (arith, ints)) (omega (arith, ints))
+    ∙ far (pos 270) (omega (arith, ints)) (omega (arith, ints))))
 
 pub cosine_4 : (d : ℤ) → pos 270 <ℤ d → d <ℤ pos 360 → sine_at (d -ℤ pos 270) ≡ cosine_of d
 cosine_4 d g h =

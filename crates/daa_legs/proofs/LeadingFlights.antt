@@ -118,7 +118,8 @@ module _ (own : Own) (rates : Rates) where
   unfolding velocity_on ground_speed_on track_on vertical_speed_on velocity_there
   climb_settled c k e = λ i. record { flat = velocity_of own.gs own.trk; up = e i }
 
-  height_same : (c d : ℤ) (k : ℕ) → height_after own rates c k ≡ height_after own rates d k → height_after own rates c (k + 1) ≡ height_after own rates d (k + 1) → velocity_on own rates (Height c) k ≡ velocity_on own rates (Height d) k
+  height_same : (c d : ℤ) (k : ℕ) → height_after own rates c k ≡ height_after own rates d k → height_after own rates c (k + 1) ≡ height_after own rates d (k + 1)
+      → velocity_on own rates (Height c) k ≡ velocity_on own rates (Height d) k
   unfolding velocity_on ground_speed_on track_on vertical_speed_on
   height_same c d k e f = λ i. record { flat = velocity_of own.gs own.trk; up = f i -ℤ e i }
 
@@ -139,10 +140,16 @@ module _ (own : Own) (rates : Rates) where
 
   -- a speed that rises, and one that falls
   pub speed_up : (g : ℤ) (n : ℕ) → pos 0 ≤ℤ rates.gs → own.gs ≤ℤ g → g ≤ℤ pos 10000 → IsWholeLegs (g -ℤ own.gs) rates.gs n → FliesAs own rates (Speed g) (Speed (pos 10000)) (n + 1)
-  speed_up g n r0 h k legs = record { same = λ j b. speed_same g (pos 10000) j (toward_as own.gs g (pos 10000) (pos j *ℤ rates.gs) (product_nonneg j rates.gs r0) h k (within rates.gs r0 (g -ℤ own.gs) n legs (omega (arith, ints, h)) j (omega (arith, b)))) }
+  speed_up g n r0 h k legs = record {
+    same = λ j b. speed_same g (pos 10000) j (toward_as own.gs g (pos 10000) (pos j *ℤ rates.gs) (product_nonneg j rates.gs r0) h k (within
+        rates.gs r0 (g -ℤ own.gs) n legs (omega (arith, ints, h)) j (omega (arith, b))));
+  }
 
   pub speed_down : (g : ℤ) (n : ℕ) → pos 0 ≤ℤ rates.gs → g ≤ℤ own.gs → pos 0 ≤ℤ g → IsWholeLegs (own.gs -ℤ g) rates.gs n → FliesAs own rates (Speed g) (Speed (pos 0)) (n + 1)
-  speed_down g n r0 h k legs = record { same = λ j b. speed_same g (pos 0) j (toward_as_down own.gs g (pos 0) (pos j *ℤ rates.gs) (product_nonneg j rates.gs r0) h k (within rates.gs r0 (own.gs -ℤ g) n legs (omega (arith, ints, h)) j (omega (arith, b)))) }
+  speed_down g n r0 h k legs = record {
+    same = λ j b. speed_same g (pos 0) j (toward_as_down own.gs g (pos 0) (pos j *ℤ rates.gs) (product_nonneg j rates.gs r0) h k (within
+        rates.gs r0 (own.gs -ℤ g) n legs (omega (arith, ints, h)) j (omega (arith, b))));
+  }
 
   arrived_up : (x y rate : ℤ) (n k : ℕ) → pos 0 ≤ℤ rate → x ≤ℤ y → IsWholeLegs (y -ℤ x) rate n → n < k → toward_of x y (pos k *ℤ rate) ≡ y
   arrived_up x y rate n k r0 h legs b = let a = legs.after k b in toward_there x y (pos k *ℤ rate) (omega (arith, ints, product_nonneg k rate r0, h)) (omega (arith, ints, a))
@@ -157,22 +164,31 @@ module _ (own : Own) (rates : Rates) where
   speed_arrives_down g n r0 h legs = record { there = λ k b. speed_settled g k (arrived_down own.gs g rates.gs n k r0 h legs (omega (arith, b))) }
 
   pub climb_up : (w : ℤ) (n : ℕ) → pos 0 ≤ℤ rates.vs → own.vs ≤ℤ w → w ≤ℤ pos 10000 → IsWholeLegs (w -ℤ own.vs) rates.vs n → FliesAs own rates (Climb w) (Climb (pos 10000)) (n + 1)
-  climb_up w n r0 h k legs = record { same = λ j b. climb_same w (pos 10000) j (toward_as own.vs w (pos 10000) (pos j *ℤ rates.vs) (product_nonneg j rates.vs r0) h k (within rates.vs r0 (w -ℤ own.vs) n legs (omega (arith, ints, h)) j (omega (arith, b)))) }
+  climb_up w n r0 h k legs = record {
+    same = λ j b. climb_same w (pos 10000) j (toward_as own.vs w (pos 10000) (pos j *ℤ rates.vs) (product_nonneg j rates.vs r0) h k (within
+        rates.vs r0 (w -ℤ own.vs) n legs (omega (arith, ints, h)) j (omega (arith, b))));
+  }
 
-  pub height_up : (a : ℤ) (n : ℕ) → pos 0 ≤ℤ rates.alt → (pos 60 *ℤ own.alt) ≤ℤ (pos 60 *ℤ a) → a ≤ℤ pos 60000 → IsWholeLegs (pos 60 *ℤ a -ℤ pos 60 *ℤ own.alt) rates.alt n → FliesAs own rates (Height a) (Height (pos 60000)) n
+  pub height_up : (a : ℤ) (n : ℕ) → pos 0 ≤ℤ rates.alt → (pos 60 *ℤ own.alt) ≤ℤ (pos 60 *ℤ a) → a ≤ℤ pos 60000 → IsWholeLegs (pos 60 *ℤ a -ℤ pos 60 *ℤ own.alt) rates.alt n
+      → FliesAs own rates (Height a) (Height (pos 60000)) n
   height_up a n r0 h k legs = record {
     same = λ j b. height_same a (pos 60000) j
-        (toward_as (pos 60 *ℤ own.alt) (pos 60 *ℤ a) (pos 60 *ℤ pos 60000) (pos j *ℤ rates.alt) (product_nonneg j rates.alt r0) h (omega (arith, ints, k)) (within rates.alt r0 (pos 60 *ℤ a -ℤ pos 60 *ℤ own.alt) n legs (omega (arith, ints, h)) j (omega (arith, b))))
+        (toward_as (pos 60 *ℤ own.alt) (pos 60 *ℤ a) (pos 60 *ℤ pos 60000) (pos j *ℤ rates.alt) (product_nonneg j rates.alt r0) h (omega (arith, ints, k)) (within rates.alt r0
+        (pos 60 *ℤ a -ℤ pos 60 *ℤ own.alt) n legs (omega (arith, ints, h)) j (omega (arith, b))))
         (toward_as (pos 60 *ℤ own.alt) (pos 60 *ℤ a) (pos 60 *ℤ pos 60000) (pos (j + 1) *ℤ rates.alt) (product_nonneg (j + 1) rates.alt r0) h (omega (arith, ints, k)) (legs.before j b));
   }
 
-  pub height_arrives_up : (a : ℤ) (n : ℕ) → pos 0 ≤ℤ rates.alt → (pos 60 *ℤ own.alt) ≤ℤ (pos 60 *ℤ a) → IsWholeLegs (pos 60 *ℤ a -ℤ pos 60 *ℤ own.alt) rates.alt n → FliesOn own rates (Height a) (n + 1)
+  pub height_arrives_up : (a : ℤ) (n : ℕ) → pos 0 ≤ℤ rates.alt → (pos 60 *ℤ own.alt) ≤ℤ (pos 60 *ℤ a) → IsWholeLegs (pos 60 *ℤ a -ℤ pos 60 *ℤ own.alt) rates.alt n
+      → FliesOn own rates (Height a) (n + 1)
   height_arrives_up a n r0 h legs =
       let there : (k : ℕ) → n < k → height_after own rates a k ≡ pos 60 *ℤ a = λ k b. arrived_up (pos 60 *ℤ own.alt) (pos 60 *ℤ a) rates.alt n k r0 h legs b in
       record { there = λ k b. height_settled a k (there k (omega (arith, b))) (there (k + 1) (omega (arith, b))) }
 
   pub climb_down : (w : ℤ) (n : ℕ) → pos 0 ≤ℤ rates.vs → w ≤ℤ own.vs → negsuc 9999 ≤ℤ w → IsWholeLegs (own.vs -ℤ w) rates.vs n → FliesAs own rates (Climb w) (Climb (negsuc 9999)) (n + 1)
-  climb_down w n r0 h k legs = record { same = λ j b. climb_same w (negsuc 9999) j (toward_as_down own.vs w (negsuc 9999) (pos j *ℤ rates.vs) (product_nonneg j rates.vs r0) h k (within rates.vs r0 (own.vs -ℤ w) n legs (omega (arith, ints, h)) j (omega (arith, b)))) }
+  climb_down w n r0 h k legs = record {
+    same = λ j b. climb_same w (negsuc 9999) j (toward_as_down own.vs w (negsuc 9999) (pos j *ℤ rates.vs) (product_nonneg j rates.vs r0) h k
+        (within rates.vs r0 (own.vs -ℤ w) n legs (omega (arith, ints, h)) j (omega (arith, b))));
+  }
 
   pub climb_arrives_up : (w : ℤ) (n : ℕ) → pos 0 ≤ℤ rates.vs → own.vs ≤ℤ w → IsWholeLegs (w -ℤ own.vs) rates.vs n → FliesOn own rates (Climb w) (n + 1)
   climb_arrives_up w n r0 h legs = record { there = λ k b. climb_settled w k (arrived_up own.vs w rates.vs n k r0 h legs (omega (arith, b))) }
@@ -180,14 +196,17 @@ module _ (own : Own) (rates : Rates) where
   pub climb_arrives_down : (w : ℤ) (n : ℕ) → pos 0 ≤ℤ rates.vs → w ≤ℤ own.vs → IsWholeLegs (own.vs -ℤ w) rates.vs n → FliesOn own rates (Climb w) (n + 1)
   climb_arrives_down w n r0 h legs = record { there = λ k b. climb_settled w k (arrived_down own.vs w rates.vs n k r0 h legs (omega (arith, b))) }
 
-  pub height_down : (a : ℤ) (n : ℕ) → pos 0 ≤ℤ rates.alt → (pos 60 *ℤ a) ≤ℤ (pos 60 *ℤ own.alt) → negsuc 1999 ≤ℤ a → IsWholeLegs (pos 60 *ℤ own.alt -ℤ pos 60 *ℤ a) rates.alt n → FliesAs own rates (Height a) (Height (negsuc 1999)) n
+  pub height_down : (a : ℤ) (n : ℕ) → pos 0 ≤ℤ rates.alt → (pos 60 *ℤ a) ≤ℤ (pos 60 *ℤ own.alt) → negsuc 1999 ≤ℤ a → IsWholeLegs (pos 60 *ℤ own.alt -ℤ pos 60 *ℤ a) rates.alt n
+      → FliesAs own rates (Height a) (Height (negsuc 1999)) n
   height_down a n r0 h k legs = record {
     same = λ j b. height_same a (negsuc 1999) j
-        (toward_as_down (pos 60 *ℤ own.alt) (pos 60 *ℤ a) (pos 60 *ℤ negsuc 1999) (pos j *ℤ rates.alt) (product_nonneg j rates.alt r0) h (omega (arith, ints, k)) (within rates.alt r0 (pos 60 *ℤ own.alt -ℤ pos 60 *ℤ a) n legs (omega (arith, ints, h)) j (omega (arith, b))))
+        (toward_as_down (pos 60 *ℤ own.alt) (pos 60 *ℤ a) (pos 60 *ℤ negsuc 1999) (pos j *ℤ rates.alt) (product_nonneg j rates.alt r0) h (omega (arith, ints, k)) (within rates.alt
+        r0 (pos 60 *ℤ own.alt -ℤ pos 60 *ℤ a) n legs (omega (arith, ints, h)) j (omega (arith, b))))
         (toward_as_down (pos 60 *ℤ own.alt) (pos 60 *ℤ a) (pos 60 *ℤ negsuc 1999) (pos (j + 1) *ℤ rates.alt) (product_nonneg (j + 1) rates.alt r0) h (omega (arith, ints, k)) (legs.before j b));
   }
 
-  pub height_arrives_down : (a : ℤ) (n : ℕ) → pos 0 ≤ℤ rates.alt → (pos 60 *ℤ a) ≤ℤ (pos 60 *ℤ own.alt) → IsWholeLegs (pos 60 *ℤ own.alt -ℤ pos 60 *ℤ a) rates.alt n → FliesOn own rates (Height a) (n + 1)
+  pub height_arrives_down : (a : ℤ) (n : ℕ) → pos 0 ≤ℤ rates.alt → (pos 60 *ℤ a) ≤ℤ (pos 60 *ℤ own.alt) → IsWholeLegs (pos 60 *ℤ own.alt -ℤ pos 60 *ℤ a) rates.alt n
+      → FliesOn own rates (Height a) (n + 1)
   height_arrives_down a n r0 h legs =
       let there : (k : ℕ) → n < k → height_after own rates a k ≡ pos 60 *ℤ a = λ k b. arrived_down (pos 60 *ℤ own.alt) (pos 60 *ℤ a) rates.alt n k r0 h legs b in
       record { there = λ k b. height_settled a k (there k (omega (arith, b))) (there (k + 1) (omega (arith, b))) }
@@ -201,7 +220,8 @@ module _ (own : Own) (rates : Rates) where
       → vertical_speed_on own rates (Height a) n ≡ (pos 60 *ℤ a -ℤ pos 60 *ℤ own.alt) -ℤ pos n *ℤ rates.alt
   rest_up a n r0 h legs =
       let w = within rates.alt r0 (pos 60 *ℤ a -ℤ pos 60 *ℤ own.alt) n legs (omega (arith, ints, h)) n (omega arith) in
-      let e = height_rises a n _ (toward_short (pos 60 *ℤ own.alt) (pos 60 *ℤ a) (pos n *ℤ rates.alt) (product_nonneg n rates.alt r0) w) (arrived_up (pos 60 *ℤ own.alt) (pos 60 *ℤ a) rates.alt n (n + 1) r0 h legs (omega arith)) in
+      let e = height_rises a n _ (toward_short (pos 60 *ℤ own.alt) (pos 60 *ℤ a) (pos n *ℤ rates.alt) (product_nonneg n rates.alt r0) w) (arrived_up (pos 60 *ℤ own.alt) (pos 60 *ℤ
+      a) rates.alt n (n + 1) r0 h legs (omega arith)) in
       e ∙ parts (pos 60 *ℤ own.alt) (pos 60 *ℤ a) (pos n *ℤ rates.alt)
     where
       parts : (x y r : ℤ) → y -ℤ (x +ℤ r) ≡ (y -ℤ x) -ℤ r
@@ -211,7 +231,8 @@ module _ (own : Own) (rates : Rates) where
       → vertical_speed_on own rates (Height a) n ≡ (pos 60 *ℤ a -ℤ pos 60 *ℤ own.alt) +ℤ pos n *ℤ rates.alt
   rest_down a n r0 h legs =
       let w = within rates.alt r0 (pos 60 *ℤ own.alt -ℤ pos 60 *ℤ a) n legs (omega (arith, ints, h)) n (omega arith) in
-      let e = height_rises a n _ (toward_short_down (pos 60 *ℤ own.alt) (pos 60 *ℤ a) (pos n *ℤ rates.alt) (product_nonneg n rates.alt r0) w) (arrived_down (pos 60 *ℤ own.alt) (pos 60 *ℤ a) rates.alt n (n + 1) r0 h legs (omega arith)) in
+      let e = height_rises a n _ (toward_short_down (pos 60 *ℤ own.alt) (pos 60 *ℤ a) (pos n *ℤ rates.alt) (product_nonneg n rates.alt r0) w) (arrived_down (pos 60 *ℤ own.alt)
+      (pos 60 *ℤ a) rates.alt n (n + 1) r0 h legs (omega arith)) in
       e ∙ parts (pos 60 *ℤ own.alt) (pos 60 *ℤ a) (pos n *ℤ rates.alt)
     where
       parts : (x y r : ℤ) → y -ℤ (x -ℤ r) ≡ (y -ℤ x) +ℤ r
@@ -233,14 +254,16 @@ module _ (own : Own) (rates : Rates) where
   climb_branch w false n r0 f up down ul dl = (climb_down w n r0 (down refl) f.least (dl refl), climb_arrives_down w n r0 (down refl) (dl refl))
 
   pub height_branch : (a : ℤ) (upper : Bool) (n : ℕ) → pos 0 ≤ℤ rates.alt → IsFrom (negsuc 1999) (pos 60000) a
-      → (IsTrue upper → (pos 60 *ℤ own.alt) ≤ℤ (pos 60 *ℤ a)) → (upper ≡ false → (pos 60 *ℤ a) ≤ℤ (pos 60 *ℤ own.alt)) → (IsTrue upper → IsWholeLegs (pos 60 *ℤ a -ℤ pos 60 *ℤ own.alt) rates.alt n) → (upper ≡ false → IsWholeLegs (pos 60 *ℤ own.alt -ℤ pos 60 *ℤ a) rates.alt n)
+      → (IsTrue upper → (pos 60 *ℤ own.alt) ≤ℤ (pos 60 *ℤ a)) → (upper ≡ false → (pos 60 *ℤ a) ≤ℤ (pos 60 *ℤ own.alt)) → (IsTrue upper
+      → IsWholeLegs (pos 60 *ℤ a -ℤ pos 60 *ℤ own.alt) rates.alt n) → (upper ≡ false → IsWholeLegs (pos 60 *ℤ own.alt -ℤ pos 60 *ℤ a) rates.alt n)
       → FliesAs own rates (Height a) (lead_of own (Height a) upper) n × FliesOn own rates (Height a) (n + 1)
   unfolding lead_of
   height_branch a true n r0 f up down ul dl = (height_up a n r0 (up refl) f.most (ul refl), height_arrives_up a n r0 (up refl) (ul refl))
   height_branch a false n r0 f up down ul dl = (height_down a n r0 (down refl) f.least (dl refl), height_arrives_down a n r0 (down refl) (dl refl))
 
   pub height_rest : (a : ℤ) (upper : Bool) (n : ℕ) (rise : ℤ) → pos 0 ≤ℤ rates.alt
-      → (IsTrue upper → (pos 60 *ℤ own.alt) ≤ℤ (pos 60 *ℤ a)) → (upper ≡ false → (pos 60 *ℤ a) ≤ℤ (pos 60 *ℤ own.alt)) → (IsTrue upper → IsWholeLegs (pos 60 *ℤ a -ℤ pos 60 *ℤ own.alt) rates.alt n) → (upper ≡ false → IsWholeLegs (pos 60 *ℤ own.alt -ℤ pos 60 *ℤ a) rates.alt n)
+      → (IsTrue upper → (pos 60 *ℤ own.alt) ≤ℤ (pos 60 *ℤ a)) → (upper ≡ false → (pos 60 *ℤ a) ≤ℤ (pos 60 *ℤ own.alt)) → (IsTrue upper
+      → IsWholeLegs (pos 60 *ℤ a -ℤ pos 60 *ℤ own.alt) rates.alt n) → (upper ≡ false → IsWholeLegs (pos 60 *ℤ own.alt -ℤ pos 60 *ℤ a) rates.alt n)
       → (IsTrue upper → rise ≡ (pos 60 *ℤ a -ℤ pos 60 *ℤ own.alt) -ℤ pos n *ℤ rates.alt) → (upper ≡ false → rise ≡ (pos 60 *ℤ a -ℤ pos 60 *ℤ own.alt) +ℤ pos n *ℤ rates.alt)
       → rise ≡ vertical_speed_on own rates (Height a) n
   height_rest a true n rise r0 up down ul dl ur dr = ur refl ∙ sym (rest_up a n r0 (up refl) (ul refl))

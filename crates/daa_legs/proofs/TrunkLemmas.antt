@@ -20,7 +20,8 @@ module _ (own : Own) (rates : Rates) (candidate : Candidate) where
   pub kept_none : (legs : List OwnLeg) → length legs ≡ 180 → AreLegsOf own rates candidate 0 legs
   kept_none legs e = record { room = e; each = λ k d h. absurd (omega (arith, h)) }
 
-  pub kept_more : (k : ℕ) (legs : List OwnLeg) (leg : OwnLeg) → k < 180 → AreLegsOf own rates candidate k legs → leg ≡ own_leg own rates candidate k → AreLegsOf own rates candidate (k + 1) (set legs k leg)
+  pub kept_more : (k : ℕ) (legs : List OwnLeg) (leg : OwnLeg) → k < 180 → AreLegsOf own rates candidate k legs → leg ≡ own_leg own rates candidate k
+      → AreLegsOf own rates candidate (k + 1) (set legs k leg)
   kept_more k legs leg short h e = record {
     room = length-set legs k leg ∙ h.room;
     each = λ j d b. below_more (λ (i : ℕ). slice_index_or (set legs k leg) i d ≡ own_leg own rates candidate i) k
@@ -34,10 +35,12 @@ module _ (own : Own) (rates : Rates) (candidate : Candidate) where
   first_place place e = place-start own rates candidate place (ap (λ (x : Solid). x.flat.east) e) (ap (λ (x : Solid). x.flat.north) e) (ap (λ (x : Solid). x.up) e)
 
   -- the leg from a place on, which ends at the next
-  pub leg_kept : (r : Rates) (k : ℕ) (place velocity : Solid) → r ≡ rates → place ≡ place_on own rates candidate k → velocity ≡ velocity_on own r candidate k → record { place = place; velocity = velocity } ≡ own_leg own rates candidate k
+  pub leg_kept : (r : Rates) (k : ℕ) (place velocity : Solid) → r ≡ rates → place ≡ place_on own rates candidate k → velocity ≡ velocity_on own r candidate k
+      → record { place = place; velocity = velocity } ≡ own_leg own rates candidate k
   leg_kept r k place velocity e p v = λ i. record { place = p i; velocity = (v ∙ ap (λ (x : Rates). velocity_on own x candidate k) e) i }
 
-  pub place_after : (k : ℕ) (place velocity next : Solid) → record { place = place; velocity = velocity } ≡ own_leg own rates candidate k → next ≡ plus place velocity → next ≡ place_on own rates candidate (k + 1)
+  pub place_after : (k : ℕ) (place velocity next : Solid) → record { place = place; velocity = velocity } ≡ own_leg own rates candidate k → next ≡ plus place velocity
+      → next ≡ place_on own rates candidate (k + 1)
   place_after k place velocity next l e = e ∙ ap (λ (x : OwnLeg). plus x.place x.velocity) l ∙ place-next own rates candidate k
 
   -- both are in range

@@ -40,7 +40,8 @@ right_alike track c d x h k l m =
     least : (a b : ℤ) → x ≤ℤ a → x ≤ℤ b → int_min x a ≡ int_min x b
     least a b p q = let u = int_min_is x a in let v = int_min_is x b in omega (arith, ints)
 
-left_alike : (track c d x : ℤ) → pos 180 <ℤ right_angle track c → pos 180 <ℤ right_angle track d → x ≤ℤ (pos 360 -ℤ right_angle track c) → x ≤ℤ (pos 360 -ℤ right_angle track d) → turned track c x ≡ turned track d x
+left_alike : (track c d x : ℤ) → pos 180 <ℤ right_angle track c → pos 180 <ℤ right_angle track d → x ≤ℤ (pos 360 -ℤ right_angle track c) → x ≤ℤ (pos 360 -ℤ right_angle track d)
+    → turned track c x ≡ turned track d x
 left_alike track c d x h k l m =
     sym (turned_left track c x (le_false _ _ h))
     ∙ ap (λ (z : ℤ). int_rem_euclid (track -ℤ z) (pos 360)) (least (pos 360 -ℤ right_angle track c) (pos 360 -ℤ right_angle track d) l m)
@@ -85,7 +86,8 @@ module _ (own : Own) (rates : Rates) (r0 : pos 0 ≤ℤ rates.turn) (t : IsFrom 
         track_same own rates c _ k k (right_alike own.trk c _ x h (omega (arith, ints, half)) l (omega (arith, ints, half, h, l)));
   }
 
-  pub turn_left : pos 181 ≤ℤ right_angle own.trk c → IsWholeLegs (pos 360 -ℤ right_angle own.trk c) rates.turn n → FliesAs own rates (Track c) (Track (int_rem_euclid (own.trk +ℤ pos 181) (pos 360))) (n + 1)
+  pub turn_left : pos 181 ≤ℤ right_angle own.trk c → IsWholeLegs (pos 360 -ℤ right_angle own.trk c) rates.turn n
+      → FliesAs own rates (Track c) (Track (int_rem_euclid (own.trk +ℤ pos 181) (pos 360))) (n + 1)
   turn_left h legs = record {
     same = λ k b.
         let x : ℤ = pos k *ℤ rates.turn in
@@ -107,7 +109,8 @@ module _ (own : Own) (rates : Rates) (r0 : pos 0 ≤ℤ rates.turn) (t : IsFrom 
   }
 
 pub track_branch : (own : Own) (rates : Rates) (c : ℤ) (upper : Bool) (n : ℕ) → pos 0 ≤ℤ rates.turn → IsFrom (pos 0) (pos 359) own.trk → IsFrom (pos 0) (pos 359) c
-    → (IsTrue upper → right_angle own.trk c ≤ℤ pos 180) → (upper ≡ false → pos 181 ≤ℤ right_angle own.trk c) → (IsTrue upper → IsWholeLegs (right_angle own.trk c) rates.turn n) → (upper ≡ false → IsWholeLegs (pos 360 -ℤ right_angle own.trk c) rates.turn n)
+    → (IsTrue upper → right_angle own.trk c ≤ℤ pos 180) → (upper ≡ false → pos 181 ≤ℤ right_angle own.trk c) → (IsTrue upper → IsWholeLegs (right_angle own.trk c) rates.turn n)
+    → (upper ≡ false → IsWholeLegs (pos 360 -ℤ right_angle own.trk c) rates.turn n)
     → FliesAs own rates (Track c) (lead_of own (Track c) upper) (n + 1) × FliesOn own rates (Track c) (n + 1)
 unfolding lead_of
 track_branch own rates c true n r0 t d right left rl ll = (turn_right own rates r0 t c n (right refl) (rl refl), right_arrives own rates r0 t c n d (right refl) (rl refl))

@@ -37,7 +37,8 @@ one_step : (x y z s : ℤ) (k : ℕ) → y ≡ x +ℤ pos (k + 1) *ℤ s → z �
 one_step x y z s k e f = let n = next_product k s in omega (arith, ints, e, f, n)
 
 module _ (own : Own) (rates : Rates) where
-  stepped : (x y rate : ℤ) (upper : Bool) (n : ℕ) → pos 0 ≤ℤ rate → (IsTrue upper → x ≤ℤ y) → (upper ≡ false → y ≤ℤ x) → (IsTrue upper → IsWholeLegs (y -ℤ x) rate n) → (upper ≡ false → IsWholeLegs (x -ℤ y) rate n)
+  stepped : (x y rate : ℤ) (upper : Bool) (n : ℕ) → pos 0 ≤ℤ rate → (IsTrue upper → x ≤ℤ y) → (upper ≡ false → y ≤ℤ x) → (IsTrue upper → IsWholeLegs (y -ℤ x) rate n)
+      → (upper ≡ false → IsWholeLegs (x -ℤ y) rate n)
       → (k : ℕ) → k ≤ n → toward_of x y (pos k *ℤ rate) ≡ x +ℤ pos k *ℤ step_of upper rate
   stepped x y rate true n r0 up down ul dl k h =
       let u = up refl in
@@ -48,11 +49,13 @@ module _ (own : Own) (rates : Rates) where
       let w = within own rates rate r0 (x -ℤ y) n (dl refl) (omega (arith, ints, d)) k h in
       toward_short_down x y (pos k *ℤ rate) (product_nonneg k rate r0) w ∙ back x k rate
 
-  pub speed_way : (g : ℤ) (upper : Bool) (n : ℕ) → pos 0 ≤ℤ rates.gs → (IsTrue upper → own.gs ≤ℤ g) → (upper ≡ false → g ≤ℤ own.gs) → (IsTrue upper → IsWholeLegs (g -ℤ own.gs) rates.gs n) → (upper ≡ false → IsWholeLegs (own.gs -ℤ g) rates.gs n)
+  pub speed_way : (g : ℤ) (upper : Bool) (n : ℕ) → pos 0 ≤ℤ rates.gs → (IsTrue upper → own.gs ≤ℤ g) → (upper ≡ false → g ≤ℤ own.gs) → (IsTrue upper
+      → IsWholeLegs (g -ℤ own.gs) rates.gs n) → (upper ≡ false → IsWholeLegs (own.gs -ℤ g) rates.gs n)
       → (k : ℕ) → k < n + 1 → IsOnWay own rates (Speed g) upper k
   speed_way g upper n r0 up down ul dl k h = stepped own.gs g rates.gs upper n r0 up down ul dl k (omega (arith, h))
 
-  pub climb_way : (w : ℤ) (upper : Bool) (n : ℕ) → pos 0 ≤ℤ rates.vs → (IsTrue upper → own.vs ≤ℤ w) → (upper ≡ false → w ≤ℤ own.vs) → (IsTrue upper → IsWholeLegs (w -ℤ own.vs) rates.vs n) → (upper ≡ false → IsWholeLegs (own.vs -ℤ w) rates.vs n)
+  pub climb_way : (w : ℤ) (upper : Bool) (n : ℕ) → pos 0 ≤ℤ rates.vs → (IsTrue upper → own.vs ≤ℤ w) → (upper ≡ false → w ≤ℤ own.vs) → (IsTrue upper
+      → IsWholeLegs (w -ℤ own.vs) rates.vs n) → (upper ≡ false → IsWholeLegs (own.vs -ℤ w) rates.vs n)
       → (k : ℕ) → k < n + 1 → IsOnWay own rates (Climb w) upper k
   climb_way w upper n r0 up down ul dl k h = stepped own.vs w rates.vs upper n r0 up down ul dl k (omega (arith, h))
 
@@ -69,7 +72,8 @@ module _ (own : Own) (rates : Rates) where
   track_way c true n r0 right left rl ll k h =
       let r = right refl in
       let l = within own rates rates.turn r0 (right_angle own.trk c) n (rl refl) (angle_least own.trk c) k (omega (arith, h)) in (
-        sym (turned_right own.trk c (pos k *ℤ rates.turn) (le_true (right_angle own.trk c) (pos 180) r)) ∙ ap (λ (z : ℤ). int_rem_euclid (own.trk +ℤ z) (pos 360)) (least (pos k *ℤ rates.turn) (right_angle own.trk c) l),
+        sym (turned_right own.trk c (pos k *ℤ rates.turn) (le_true (right_angle own.trk c) (pos 180) r))
+            ∙ ap (λ (z : ℤ). int_rem_euclid (own.trk +ℤ z) (pos 360)) (least (pos k *ℤ rates.turn) (right_angle own.trk c) l),
         omega (arith, ints, l, r),
       )
   track_way c false n r0 right left rl ll k h =
@@ -82,8 +86,10 @@ module _ (own : Own) (rates : Rates) where
       )
 
   -- of a branch that is known
-  pub way_is : (candidate known : Candidate) (b c : Parting) → candidate ≡ known → b ≡ c → ((k : ℕ) → k < c.leaves → IsOnWay own rates known c.upper k) → (k : ℕ) → k < b.leaves → IsOnWay own rates candidate b.upper k
-  way_is candidate known b c e is h k l = subst (λ (x : Candidate). IsOnWay own rates x b.upper k) (sym e) (subst (λ (y : Parting). (j : ℕ) → j < y.leaves → IsOnWay own rates known y.upper j) (sym is) h k l)
+  pub way_is : (candidate known : Candidate) (b c : Parting) → candidate ≡ known → b ≡ c → ((k : ℕ) → k < c.leaves → IsOnWay own rates known c.upper k) → (k : ℕ) → k < b.leaves
+      → IsOnWay own rates candidate b.upper k
+  way_is candidate known b c e is h k l = subst (λ (x : Candidate). IsOnWay own rates x b.upper k) (sym e) (subst (λ (y : Parting). (j : ℕ) → j < y.leaves
+      → IsOnWay own rates known y.upper j) (sym is) h k l)
 
   -- ---- the velocity there
   pub track_there : (c t : ℤ) (k : ℕ) (v : Solid) → v ≡ record { flat = velocity_of own.gs t; up = own.vs } → turned own.trk c (pos k *ℤ rates.turn) ≡ t → v ≡ velocity_on own rates (Track c) k
@@ -98,7 +104,8 @@ module _ (own : Own) (rates : Rates) where
   unfolding velocity_on ground_speed_on track_on vertical_speed_on
   climb_there w up k v e h = e ∙ (λ i. record { flat = velocity_of own.gs own.trk; up = sym h i })
 
-  pub height_there : (a up : ℤ) (k : ℕ) (v : Solid) → v ≡ record { flat = velocity_of own.gs own.trk; up = up } → height_after own rates a (k + 1) -ℤ height_after own rates a k ≡ up → v ≡ velocity_on own rates (Height a) k
+  pub height_there : (a up : ℤ) (k : ℕ) (v : Solid) → v ≡ record { flat = velocity_of own.gs own.trk; up = up }
+      → height_after own rates a (k + 1) -ℤ height_after own rates a k ≡ up → v ≡ velocity_on own rates (Height a) k
   unfolding velocity_on ground_speed_on track_on vertical_speed_on
   height_there a up k v e h = e ∙ (λ i. record { flat = velocity_of own.gs own.trk; up = sym h i })
 

@@ -19,14 +19,17 @@ use Rattle.daa_legs.proofs.branch.parting_of.Goals.{After-parting_after, After-p
 pub returns-in-Hold-clause-after : goal.returns-in-Hold-clause-after
 returns-in-Hold-clause-after c = subst (λ (x : Candidate). FliesOn c.args.own.now c.args.rates.now x 0) (sym c.in-Hold.is) (hold_on c.args.own.now c.args.rates.now)
 
-tracks : (c : After-parting_after) → FliesAs c.args.own.now c.args.rates.now (Track c.in-Track.c) (lead_of c.args.own.now (Track c.in-Track.c) c.turn_away.result.upper) (c.turn_away.result.legs + 1) × FliesOn c.args.own.now c.args.rates.now (Track c.in-Track.c) (c.turn_away.result.legs + 1) × ((k : ℕ) → k < c.turn_away.result.legs + 1 → IsOnWay c.args.own.now c.args.rates.now (Track c.in-Track.c) c.turn_away.result.upper k)
+tracks : (c : After-parting_after) → FliesAs c.args.own.now c.args.rates.now (Track c.in-Track.c) (lead_of c.args.own.now (Track c.in-Track.c) c.turn_away.result.upper)
+    (c.turn_away.result.legs + 1) × FliesOn c.args.own.now c.args.rates.now (Track c.in-Track.c) (c.turn_away.result.legs + 1) × ((k : ℕ) → k < c.turn_away.result.legs + 1
+    → IsOnWay c.args.own.now c.args.rates.now (Track c.in-Track.c) c.turn_away.result.upper k)
 tracks c =
     let f1 : FitsSigned w32 c.args.own.now.trk = search rules in
     let f2 : FitsSigned w32 c.in-Track.c = search rules in
     let f3 : FitsSigned w32 c.args.rates.now.turn = search rules in
     let e = simp to_z-of_z at c.turn_away.ensures in
     let r0 : pos 0 ≤ℤ c.args.rates.now.turn = omega (arith, ints, c.requires.rates.turn.least) in
-    let b = track_branch c.args.own.now c.args.rates.now c.in-Track.c c.turn_away.result.upper c.turn_away.result.legs r0 (own_track c.requires.own) (subst (λ (x : Candidate). IsCandidateInRange x) c.in-Track.is c.requires.candidate) e.right e.left e.right_legs e.left_legs in
+    let b = track_branch c.args.own.now c.args.rates.now c.in-Track.c c.turn_away.result.upper c.turn_away.result.legs r0 (own_track c.requires.own) (subst (λ (x : Candidate).
+    IsCandidateInRange x) c.in-Track.is c.requires.candidate) e.right e.left e.right_legs e.left_legs in
     (b.0, b.1, track_way c.args.own.now c.args.rates.now c.in-Track.c c.turn_away.result.upper c.turn_away.result.legs r0 e.right e.left e.right_legs e.left_legs)
 
 pub returns-in-Track-clause-before : goal.returns-in-Track-clause-before
@@ -38,7 +41,9 @@ returns-in-Track-clause-after c = after_is c.args.own.now c.args.rates.now _ _ _
 pub returns-in-Track-clause-near : goal.returns-in-Track-clause-near
 returns-in-Track-clause-near c = near_is _ _ c.parting_after.ensures (omega arith) (omega arith)
 
-speeds : (c : After-parting_after-in-Speed) → FliesAs c.args.own.now c.args.rates.now (Speed c.in-Speed.g) (lead_of c.args.own.now (Speed c.in-Speed.g) c.way_to.result.upper) (c.way_to.result.legs + 1) × FliesOn c.args.own.now c.args.rates.now (Speed c.in-Speed.g) (c.way_to.result.legs + 1) × ((k : ℕ) → k < c.way_to.result.legs + 1 → IsOnWay c.args.own.now c.args.rates.now (Speed c.in-Speed.g) c.way_to.result.upper k)
+speeds : (c : After-parting_after-in-Speed) → FliesAs c.args.own.now c.args.rates.now (Speed c.in-Speed.g) (lead_of c.args.own.now (Speed c.in-Speed.g) c.way_to.result.upper)
+    (c.way_to.result.legs + 1) × FliesOn c.args.own.now c.args.rates.now (Speed c.in-Speed.g) (c.way_to.result.legs + 1) × ((k : ℕ) → k < c.way_to.result.legs + 1
+    → IsOnWay c.args.own.now c.args.rates.now (Speed c.in-Speed.g) c.way_to.result.upper k)
 speeds c =
     let n1 : FitsSigned w32 c.args.own.now.gs = search rules in
     let n2 : FitsSigned w32 c.in-Speed.g = search rules in
@@ -51,7 +56,8 @@ speeds c =
     let n7 : FitsSigned w64 c.in-Speed.g = subst (λ (z : ℤ). FitsSigned w64 z) to n5 in
     let e = simp (now, to, to_z-of_z) at c.way_to.ensures in
     let r0 : pos 0 ≤ℤ c.args.rates.now.gs = omega (arith, ints, c.requires.rates.gs.least) in
-    let b = speed_branch c.args.own.now c.args.rates.now c.in-Speed.g c.way_to.result.upper c.way_to.result.legs r0 (subst (λ (x : Candidate). IsCandidateInRange x) c.in-Speed.is c.requires.candidate) e.up e.down e.up_legs e.down_legs in
+    let b = speed_branch c.args.own.now c.args.rates.now c.in-Speed.g c.way_to.result.upper c.way_to.result.legs r0 (subst (λ (x : Candidate). IsCandidateInRange x) c.in-Speed.is
+    c.requires.candidate) e.up e.down e.up_legs e.down_legs in
     (b.0, b.1, speed_way c.args.own.now c.args.rates.now c.in-Speed.g c.way_to.result.upper c.way_to.result.legs r0 e.up e.down e.up_legs e.down_legs)
 
 pub returns-in-Speed-clause-before : goal.returns-in-Speed-clause-before
@@ -63,7 +69,9 @@ returns-in-Speed-clause-after c = after_is c.args.own.now c.args.rates.now _ _ _
 pub returns-in-Speed-clause-near : goal.returns-in-Speed-clause-near
 returns-in-Speed-clause-near c = near_is _ _ c.parting_after-in-Speed.ensures (omega arith) (omega arith)
 
-climbs : (c : After-parting_after-in-Climb) → FliesAs c.args.own.now c.args.rates.now (Climb c.in-Climb.w) (lead_of c.args.own.now (Climb c.in-Climb.w) c.way_to-in-Climb.result.upper) (c.way_to-in-Climb.result.legs + 1) × FliesOn c.args.own.now c.args.rates.now (Climb c.in-Climb.w) (c.way_to-in-Climb.result.legs + 1) × ((k : ℕ) → k < c.way_to-in-Climb.result.legs + 1 → IsOnWay c.args.own.now c.args.rates.now (Climb c.in-Climb.w) c.way_to-in-Climb.result.upper k)
+climbs : (c : After-parting_after-in-Climb) → FliesAs c.args.own.now c.args.rates.now (Climb c.in-Climb.w) (lead_of c.args.own.now (Climb c.in-Climb.w)
+    c.way_to-in-Climb.result.upper) (c.way_to-in-Climb.result.legs + 1) × FliesOn c.args.own.now c.args.rates.now (Climb c.in-Climb.w) (c.way_to-in-Climb.result.legs + 1)
+    × ((k : ℕ) → k < c.way_to-in-Climb.result.legs + 1 → IsOnWay c.args.own.now c.args.rates.now (Climb c.in-Climb.w) c.way_to-in-Climb.result.upper k)
 climbs c =
     let n1 : FitsSigned w32 c.args.own.now.vs = search rules in
     let n2 : FitsSigned w32 c.in-Climb.w = search rules in
@@ -76,7 +84,8 @@ climbs c =
     let n7 : FitsSigned w64 c.in-Climb.w = subst (λ (z : ℤ). FitsSigned w64 z) to n5 in
     let e = simp (now, to, to_z-of_z) at c.way_to-in-Climb.ensures in
     let r0 : pos 0 ≤ℤ c.args.rates.now.vs = omega (arith, ints, c.requires.rates.vs.least) in
-    let b = climb_branch c.args.own.now c.args.rates.now c.in-Climb.w c.way_to-in-Climb.result.upper c.way_to-in-Climb.result.legs r0 (subst (λ (x : Candidate). IsCandidateInRange x) c.in-Climb.is c.requires.candidate) e.up e.down e.up_legs e.down_legs in
+    let b = climb_branch c.args.own.now c.args.rates.now c.in-Climb.w c.way_to-in-Climb.result.upper c.way_to-in-Climb.result.legs r0 (subst (λ (x : Candidate). IsCandidateInRange
+    x) c.in-Climb.is c.requires.candidate) e.up e.down e.up_legs e.down_legs in
     (b.0, b.1, climb_way c.args.own.now c.args.rates.now c.in-Climb.w c.way_to-in-Climb.result.upper c.way_to-in-Climb.result.legs r0 e.up e.down e.up_legs e.down_legs)
 
 pub returns-in-Climb-clause-before : goal.returns-in-Climb-clause-before
@@ -97,7 +106,10 @@ returns-in-Speed-clause-level c h = absurd (none_own _ _ c.parting_after-in-Spee
 pub returns-in-Climb-clause-level : goal.returns-in-Climb-clause-level
 returns-in-Climb-clause-level c h = absurd (none_own _ _ c.parting_after-in-Climb.ensures (omega arith) h)
 
-heights : (c : After-rest_of-rise) → FliesAs c.args.own.now c.args.rates.now (Height c.in-Height.a) (lead_of c.args.own.now (Height c.in-Height.a) c.way_to-way.result.upper) c.way_to-way.result.legs × FliesOn c.args.own.now c.args.rates.now (Height c.in-Height.a) (c.way_to-way.result.legs + 1) × (c.rest_of-rise.result ≡ vertical_speed_on c.args.own.now c.args.rates.now (Height c.in-Height.a) c.way_to-way.result.legs) × ((k : ℕ) → k < c.way_to-way.result.legs → IsOnWay c.args.own.now c.args.rates.now (Height c.in-Height.a) c.way_to-way.result.upper k)
+heights : (c : After-rest_of-rise) → FliesAs c.args.own.now c.args.rates.now (Height c.in-Height.a) (lead_of c.args.own.now (Height c.in-Height.a) c.way_to-way.result.upper)
+    c.way_to-way.result.legs × FliesOn c.args.own.now c.args.rates.now (Height c.in-Height.a) (c.way_to-way.result.legs + 1)
+    × (c.rest_of-rise.result ≡ vertical_speed_on c.args.own.now c.args.rates.now (Height c.in-Height.a) c.way_to-way.result.legs) × ((k : ℕ) → k < c.way_to-way.result.legs
+    → IsOnWay c.args.own.now c.args.rates.now (Height c.in-Height.a) c.way_to-way.result.upper k)
 heights c =
     let n1 : FitsSigned w32 c.args.own.now.alt = search rules in
     let n2 : FitsSigned w32 c.in-Height.a = search rules in
@@ -111,7 +123,8 @@ heights c =
     let e = simp (now, to, to_z-of_z) at c.way_to-way.ensures in
     let r = simp (now, to, to_z-of_z) at c.rest_of-rise.ensures in
     let r0 : pos 0 ≤ℤ c.args.rates.now.alt = omega (arith, ints, c.requires.rates.alt.least) in
-    let b = height_branch c.args.own.now c.args.rates.now c.in-Height.a c.way_to-way.result.upper c.way_to-way.result.legs r0 (subst (λ (x : Candidate). IsCandidateInRange x) c.in-Height.is c.requires.candidate) e.up e.down e.up_legs e.down_legs in (
+    let b = height_branch c.args.own.now c.args.rates.now c.in-Height.a c.way_to-way.result.upper c.way_to-way.result.legs r0 (subst (λ (x : Candidate). IsCandidateInRange x)
+    c.in-Height.is c.requires.candidate) e.up e.down e.up_legs e.down_legs in (
       b.0,
       b.1,
       height_rest c.args.own.now c.args.rates.now c.in-Height.a c.way_to-way.result.upper c.way_to-way.result.legs c.rest_of-rise.result r0 e.up e.down e.up_legs e.down_legs r.up r.down,

@@ -25,8 +25,10 @@ angle c = let f : FitsSigned w32 c.args.rates.now.turn = search rules in ap (λ 
 
 near : (c : After-steps) → IsFrom (negsuc 359) (pos 719) (c.args.own.now.trk +ℤ c.steps.result)
 near c =
-    let w : IsOnWay c.args.own.now c.args.rates.now (Track c.in-Track.field-0) c.args.upper c.args.k = subst (λ (x : Candidate). IsOnWay c.args.own.now c.args.rates.now x c.args.upper c.args.k) c.in-Track.is c.requires.way in
-    subst (λ (z : ℤ). IsFrom (negsuc 359) (pos 719) z) (sym (angle c)) (near_round c.args.own.now.trk c.args.rates.now.turn c.args.k c.args.upper (own_track c.requires.own) (omega (arith, ints, c.requires.rates.turn.least)) w.1)
+    let w : IsOnWay c.args.own.now c.args.rates.now (Track c.in-Track.field-0) c.args.upper c.args.k = subst (λ (x : Candidate). IsOnWay c.args.own.now c.args.rates.now x
+    c.args.upper c.args.k) c.in-Track.is c.requires.way in
+    subst (λ (z : ℤ). IsFrom (negsuc 359) (pos 719) z) (sym (angle c)) (near_round c.args.own.now.trk c.args.rates.now.turn c.args.k c.args.upper (own_track c.requires.own) (omega
+    (arith, ints, c.requires.rates.turn.least)) w.1)
 
 pub round-track-requires : goal.round-track-requires
 round-track-requires c =
@@ -45,7 +47,8 @@ returns-in-Track c =
     let f4 : FitsSigned w32 c.round-track.result = search rules in
     let f5 : FitsSigned w32 c.args.own.now.gs = search rules in
     let f6 : FitsSigned w32 c.args.own.now.vs = search rules in
-    let w : IsOnWay c.args.own.now c.args.rates.now (Track c.in-Track.field-0) c.args.upper c.args.k = subst (λ (x : Candidate). IsOnWay c.args.own.now c.args.rates.now x c.args.upper c.args.k) c.in-Track.is c.requires.way in
+    let w : IsOnWay c.args.own.now c.args.rates.now (Track c.in-Track.field-0) c.args.upper c.args.k = subst (λ (x : Candidate). IsOnWay c.args.own.now c.args.rates.now x
+    c.args.upper c.args.k) c.in-Track.is c.requires.way in
     let round : c.round-track.result ≡ int_rem_euclid (c.args.own.now.trk +ℤ c.steps.result) (pos 360) = simp to_z-of_z at c.round-track.ensures.value in
     let is : c.velocity_along.result ≡ record { flat = velocity_of c.args.own.now.gs c.round-track.result; up = c.args.own.now.vs } = simp to_z-of_z at c.velocity_along.ensures in
     track_there c.args.own.now c.args.rates.now c.in-Track.field-0 c.round-track.result c.args.k c.velocity_along.result is
@@ -56,11 +59,13 @@ returns-in-Track c =
 there : (c : After-steps-in-Speed) → toward_of c.args.own.now.gs c.in-Speed.field-0 (pos c.args.k *ℤ c.args.rates.now.gs) ≡ c.args.own.now.gs +ℤ c.steps-in-Speed.result
 there c =
     let f : FitsSigned w32 c.args.rates.now.gs = search rules in
-    let w : IsOnWay c.args.own.now c.args.rates.now (Speed c.in-Speed.field-0) c.args.upper c.args.k = subst (λ (x : Candidate). IsOnWay c.args.own.now c.args.rates.now x c.args.upper c.args.k) c.in-Speed.is c.requires.way in
+    let w : IsOnWay c.args.own.now c.args.rates.now (Speed c.in-Speed.field-0) c.args.upper c.args.k = subst (λ (x : Candidate). IsOnWay c.args.own.now c.args.rates.now x
+    c.args.upper c.args.k) c.in-Speed.is c.requires.way in
     w ∙ sym (ap (λ (z : ℤ). c.args.own.now.gs +ℤ z) (simp to_z-of_z at c.steps-in-Speed.ensures.value))
 
 speed : (c : After-steps-in-Speed) → IsFrom (pos 0) (pos 10000) (c.args.own.now.gs +ℤ c.steps-in-Speed.result)
-speed c = speed_small c.args.own.now c.args.rates.now c.in-Speed.field-0 (c.args.own.now.gs +ℤ c.steps-in-Speed.result) c.args.k c.requires.own c.requires.rates (subst (λ (x : Candidate). IsCandidateInRange x) c.in-Speed.is c.requires.candidate) (there c)
+speed c = speed_small c.args.own.now c.args.rates.now c.in-Speed.field-0 (c.args.own.now.gs +ℤ c.steps-in-Speed.result) c.args.k c.requires.own c.requires.rates (subst (λ (x :
+    Candidate). IsCandidateInRange x) c.in-Speed.is c.requires.candidate) (there c)
 
 pub velocity_at_speed-requires-clause-gs : goal.velocity_at_speed-requires-clause-gs
 velocity_at_speed-requires-clause-gs c =
@@ -75,7 +80,8 @@ returns-in-Speed c =
     let f1 : FitsSigned w32 c.args.own.now.gs = search rules in
     let f2 : FitsSigned w32 c.steps-in-Speed.result = search rules in
     let f3 : FitsSigned w32 (c.args.own.now.gs +ℤ c.steps-in-Speed.result) = fits w32 (from_within 10000 tt tt (speed p)) (lit< tt) in
-    let is : c.velocity_at_speed.result ≡ record { flat = velocity_of (c.args.own.now.gs +ℤ c.steps-in-Speed.result) c.args.own.now.trk; up = c.args.own.now.vs } = simp to_z-of_z at c.velocity_at_speed.ensures in
+    let is : c.velocity_at_speed.result ≡ record { flat = velocity_of (c.args.own.now.gs +ℤ c.steps-in-Speed.result) c.args.own.now.trk; up = c.args.own.now.vs } = simp to_z-of_z
+    at c.velocity_at_speed.ensures in
     speed_there c.args.own.now c.args.rates.now c.in-Speed.field-0 (c.args.own.now.gs +ℤ c.steps-in-Speed.result) c.args.k c.velocity_at_speed.result is (there p)
     ∙ ap (λ (x : Candidate). velocity_on c.args.own.now c.args.rates.now x c.args.k) (sym c.in-Speed.is)
 
@@ -87,7 +93,8 @@ returns-in-Climb c =
     let f3 : FitsSigned w32 c.args.rates.now.vs = search rules in
     let vs : IsWithin 10000 c.args.own.now.vs = from_within 10000 tt tt (own_climb c.requires.own) in
     let f4 : FitsSigned w32 (c.args.own.now.vs +ℤ c.steps-in-Climb.result) = fits w32 (plus vs c.steps-in-Climb.ensures.size) (lit< tt) in
-    let w : IsOnWay c.args.own.now c.args.rates.now (Climb c.in-Climb.field-0) c.args.upper c.args.k = subst (λ (x : Candidate). IsOnWay c.args.own.now c.args.rates.now x c.args.upper c.args.k) c.in-Climb.is c.requires.way in
+    let w : IsOnWay c.args.own.now c.args.rates.now (Climb c.in-Climb.field-0) c.args.upper c.args.k = subst (λ (x : Candidate). IsOnWay c.args.own.now c.args.rates.now x
+    c.args.upper c.args.k) c.in-Climb.is c.requires.way in
     let is : c.solid_velocity-in-Climb.result ≡ record { flat = c.args.present.now; up = c.args.own.now.vs +ℤ c.steps-in-Climb.result } = simp to_z-of_z at c.solid_velocity-in-Climb.ensures in
     climb_there c.args.own.now c.args.rates.now c.in-Climb.field-0 (c.args.own.now.vs +ℤ c.steps-in-Climb.result) c.args.k c.solid_velocity-in-Climb.result
     (is ∙ (λ i. record { flat = c.requires.present i; up = c.args.own.now.vs +ℤ c.steps-in-Climb.result }))
@@ -98,7 +105,8 @@ pub returns-in-Height : goal.returns-in-Height
 returns-in-Height c =
     let f2 : FitsSigned w32 c.steps-in-Height.result = search rules in
     let f3 : FitsSigned w32 c.args.rates.now.alt = search rules in
-    let w : IsOnWay c.args.own.now c.args.rates.now (Height c.in-Height.field-0) c.args.upper c.args.k = subst (λ (x : Candidate). IsOnWay c.args.own.now c.args.rates.now x c.args.upper c.args.k) c.in-Height.is c.requires.way in
+    let w : IsOnWay c.args.own.now c.args.rates.now (Height c.in-Height.field-0) c.args.upper c.args.k = subst (λ (x : Candidate). IsOnWay c.args.own.now c.args.rates.now x
+    c.args.upper c.args.k) c.in-Height.is c.requires.way in
     let is : c.solid_velocity-in-Height.result ≡ record { flat = c.args.present.now; up = c.steps-in-Height.result } = simp to_z-of_z at c.solid_velocity-in-Height.ensures in
     height_there c.args.own.now c.args.rates.now c.in-Height.field-0 c.steps-in-Height.result c.args.k c.solid_velocity-in-Height.result
     (is ∙ (λ i. record { flat = c.requires.present i; up = c.steps-in-Height.result }))

@@ -26,7 +26,8 @@ keep_straight-place-requires-clause-velocity c k a b =
     let same : c.parting_of-parting.result.leaves ≡ k = omega (arith, a, b, c.min-leaves.ensures, c.min-settles.ensures, p.near.1) in
     let last : c.own_velocity-last.result ≡ record { flat = c.velocity_at_end-rest.result.flat; up = c.parting_of-parting.result.rise } = simp to_z-of_z at c.own_velocity-last.ensures in
     let o = p.level later in
-    last ∙ sym (rises c.args.own.now c.args.rates.now c.args.candidate o.0 c.parting_of-parting.result.leaves c.velocity_at_end-rest.result c.parting_of-parting.result.rise o.1 c.velocity_at_end-rest.ensures (p.rise later))
+    last ∙ sym (rises c.args.own.now c.args.rates.now c.args.candidate o.0 c.parting_of-parting.result.leaves c.velocity_at_end-rest.result c.parting_of-parting.result.rise o.1
+    c.velocity_at_end-rest.ensures (p.rise later))
     ∙ ap (velocity_on c.args.own.now c.args.rates.now c.args.candidate) same
 
 pub keep_straight-requires-clause-velocity : goal.keep_straight-requires-clause-velocity
