@@ -1,8 +1,9 @@
 -- Events that wait, and their texts.
-use Rattle.std.proofs.Common.{ℕ, ◌+◌, ◌-◌, ◌<◌, ◌≤◌, ◌≡◌, ◌∙◌, List, [], ◌∷◌, ◌++◌, length, take, drop, get_or, arith, refl, sym, ap, ap₂, subst, append_assoc, append-nil, inl, inr, ◌⊎◌}
+use Rattle.std.proofs.Common.{ℕ, ◌+◌, ◌<◌, ◌≡◌, ◌∙◌, All, List, [], ◌∷◌, ◌++◌, length, take, drop, get_or, arith, refl, sym, ap, ap₂, subst, append_assoc, append-nil, length-append, inl, inr, ◌⊎◌}
 use Rattle.std.specs.Io.KnownBytes.{Appends}
 use Rattle.std.proofs.KnownBytes.{Appends-nil, Appends-trans}
 use Rattle.std.proofs.lemmas.List.{take_more, take-append-drop}
+use Rattle.std.proofs.lemmas.List.Elements.{All-weaker}
 use Rattle.daa_bands.specs.Parts.{SplitsByEach}
 use Rattle.daa_config.specs.Settings.{Settings}
 use Rattle.daa_report.specs.Lines.{Text}
@@ -11,7 +12,8 @@ use Rattle.daa_ahead.specs.Bytes.{ToldBytes}
 use Rattle.daa_replay.specs.declared.lines.Event.{Event}
 use Rattle.daa_replay.specs.Moment.{IsEventText}
 use Rattle.daa_replay.specs.Inside.Moment.{BeginsText}
-use Rattle.daa_replay.specs.Inside.Batch.{MovesOn, StopsWithin, TakesTexts}
+use Rattle.daa_replay.specs.declared.batch.Part.{Part}
+use Rattle.daa_replay.specs.Inside.Batch.{AddsText, AddsTexts, HasTexts, IsPart, MovesOn, StopsWithin, TakesTexts}
 use Rattle.daa_replay.proofs.TextLemmas.{begins-more, texts-append, texts-push}
 
 -- two ways to cut a text in two: the front ends within the first part, or goes on into the second
@@ -162,30 +164,79 @@ module _ (settings : Settings) where
     taken = s.taken;
   }
 
-  -- ---- a lane
+  -- ---- parts of a sheet
 
-  pub own-none : (events : List Event) (from : ℕ) → take from events ≡ take from events ++ []
-  own-none events from = sym (append-nil (take from events))
+  -- no text was added
+  pub adds-none : (events : List Event) (from : ℕ) (sheet : Text) → AddsTexts settings events from from sheet sheet
+  adds-none events from sheet = (
+    [],
+    record { own = []; joined = sym (append-nil (take from events)); texts = refl },
+    sym (append-nil sheet),
+  )
 
-  pub own-more : (events own : List Event) (from end : ℕ) (e : Event) → end < length events → e ≡ get_or events end e → take end events ≡ take from events ++ own
+  own_more : (events own : List Event) (from end : ℕ) (e : Event) → end < length events → e ≡ get_or events end e → take end events ≡ take from events ++ own
       → take (end + 1) events ≡ take from events ++ (own ++ e ∷ [])
-  own-more events own from end e within same joined =
+  own_more events own from end e within same joined =
       take_more events end e within ∙ ap₂ (λ (l : List Event) (x : Event). l ++ x ∷ []) joined (sym same)
       ∙ append_assoc (take from events) own (e ∷ [])
 
-  -- the texts of a lane were taken after those of the events before it
-  pub takes-lane : (events own : List Event) (from end : ℕ) (text : Text) (a b c : ToldBytes) → take end events ≡ take from events ++ own
-      → SplitsByEach (IsEventText settings) own text → TakesTexts settings (take from events) a b → Appends b c text → TakesTexts settings (take end events) a c
-  takes-lane events own from end text a b c joined texts t appends =
-      subst (λ (l : List Event). TakesTexts settings l a c) (sym joined)
-      (takes-more (take from events) own a b c t (record { text = text; is = texts; taken = appends }))
+  -- that of one event more
+  pub adds-more : (events : List Event) (from end : ℕ) (e : Event) (a b c : Text) → end < length events → e ≡ get_or events end e → AddsTexts settings events from end a b
+      → AddsText settings e b c → AddsTexts settings events from (end + 1) a c
+  adds-more events from end e a b c within same all one = (
+    all.0 ++ one.0,
+    record {
+      own = all.1.own ++ e ∷ [];
+      joined = own_more events all.1.own from end e within same all.1.joined;
+      texts = texts-push settings all.1.own e all.0 one.0 all.1.texts one.1;
+    },
+    one.2 ∙ ap (λ (t : Text). t ++ one.0) all.2 ∙ append_assoc a all.0 one.0,
+  )
+
+  -- what was added is a part
+  pub part-added : (events : List Event) (old new : Text) (part : Part) → AddsTexts settings events part.from part.upto old new → part.start ≡ length old → part.end ≡ length new
+      → IsPart settings events new part
+  part-added events old new part added start end = record {
+    before = old;
+    text = added.0;
+    after = [];
+    sheet_is = added.2 ∙ ap (λ (t : Text). old ++ t) (sym (append-nil added.0));
+    start_is = start;
+    end_is = end ∙ ap length added.2 ∙ length-append old added.0;
+    texts = added.1;
+  }
+
+  part_stays : (events : List Event) (old new more : Text) → new ≡ old ++ more → (part : Part) → IsPart settings events old part → IsPart settings events new part
+  part_stays events old new more grows part p = record {
+    before = p.before;
+    text = p.text;
+    after = p.after ++ more;
+    sheet_is = grows ∙ ap (λ (t : Text). t ++ more) p.sheet_is ∙ append_assoc p.before (p.text ++ p.after) more
+        ∙ ap (λ (t : Text). p.before ++ t) (append_assoc p.text p.after more);
+    start_is = p.start_is;
+    end_is = p.end_is;
+    texts = p.texts;
+  }
+
+  -- the parts stay where texts are added
+  pub parts-stay : (events : List Event) (from upto : ℕ) (old new : Text) (parts : List Part) → AddsTexts settings events from upto old new → All (IsPart settings events old) parts
+      → All (IsPart settings events new) parts
+  parts-stay events from upto old new parts added all =
+      All-weaker (IsPart settings events old) (IsPart settings events new) (part_stays events old new added.0 added.2) parts all
+
+  -- the texts of a part were taken after those of the events before it
+  pub takes-part : (events : List Event) (from upto : ℕ) (text : Text) (a b c : ToldBytes) → HasTexts settings events from upto text → TakesTexts settings (take from events) a b
+      → Appends b c text → TakesTexts settings (take upto events) a c
+  takes-part events from upto text a b c p t appends =
+      subst (λ (l : List Event). TakesTexts settings l a c) (sym p.joined)
+      (takes-more (take from events) p.own a b c t (record { text = text; is = p.texts; taken = appends }))
 
   -- the sink failed within them
-  pub stops-lane : (events own : List Event) (from end : ℕ) (text : Text) (a b c : ToldBytes) → take end events ≡ take from events ++ own
-      → SplitsByEach (IsEventText settings) own text → TakesTexts settings (take from events) a b → AppendsFront b c text → StopsWithin settings events a c
-  stops-lane events own from end text a b c joined texts t front =
-      subst (λ (l : List Event). StopsWithin settings l a c) (ap (λ (l : List Event). l ++ drop end events) (sym joined) ∙ take-append-drop end events)
-      (stops-before (take from events ++ own) (drop end events) a c (stops-after (take from events) own a b c t (stops-front own text b c texts front)))
+  pub stops-part : (events : List Event) (from upto : ℕ) (text : Text) (a b c : ToldBytes) → HasTexts settings events from upto text → TakesTexts settings (take from events) a b
+      → AppendsFront b c text → StopsWithin settings events a c
+  stops-part events from upto text a b c p t front =
+      subst (λ (l : List Event). StopsWithin settings l a c) (ap (λ (l : List Event). l ++ drop upto events) (sym p.joined) ∙ take-append-drop upto events)
+      (stops-before (take from events ++ p.own) (drop upto events) a c (stops-after (take from events) p.own a b c t (stops-front p.own text b c p.texts front)))
 
   -- ---- one event after the other
 

@@ -1,18 +1,19 @@
 //! Events that wait, and their texts, which the workers make side by side.
 
-ghost use Rattle.std.specs.Prelude.{◌≡◌, ◌≤◌, ◌<◌, ◌++◌, ◌∷◌, [], All, IfOk, IfSome, OnErr, OnOk, Some, None, IfNone, true, false, length, take};
+ghost use Rattle.std.specs.Prelude.{◌≡◌, ◌≤◌, ◌<◌, ◌++◌, ◌∷◌, List, [], All, IfOk, IfSome, OnErr, OnOk, Some, None, IfNone, true, false, length, take};
 ghost use Rattle.daa_ahead.specs.Bytes.{ToldBytes};
 ghost use Rattle.daa_config.specs.Settings.{Settings};
 ghost use Rattle.daa_report.specs.Says.{HasCause, SaysSome};
+ghost use Rattle.daa_replay.specs.declared.lines.Event.{Event};
 ghost use Rattle.daa_replay.specs.Lines.{IsEventInRange};
 ghost use Rattle.daa_replay.specs.Moment.{IsEventText};
-ghost use Rattle.daa_replay.specs.Inside.Batch.{AddsText, IsFilled, MovesOn, StopsWithin, TakesTexts};
+ghost use Rattle.daa_replay.specs.Inside.Batch.{AddsText, AddsTexts, HasTexts, IsFilled, IsPart, MovesOn, StopsWithin, TakesTexts};
 
 use crate::lines::Event;
 use crate::moment::{Tools, write_event, write_refusal};
 use daa_bands::Board;
 use daa_config::Config;
-use daa_engine::{Engine, Room, weight_of, workers_for};
+use daa_engine::{Engine, Room, Tickets, weight_of, workers_for};
 use daa_judge::Sheet;
 use daa_outside::{Gate, Sink};
 use daa_report::{SinkFault, put};
@@ -29,18 +30,72 @@ const SHEETS: usize = 1 << 21;
 /// How many bytes a sheet has at least: room for the text of any event.
 const LEAST_SHEET: usize = 130177;
 
-/// What a worker needs: its number, room to decide in, a board and a sheet, and which events are
-/// its own: from one place up to another. The sheet has the texts of its events from the first up
-/// to `end`.
+/// How many events a chunk has at most, which a worker takes at once.
+const MOST_IN_CHUNK: usize = 8;
+
+/// How many chunks there are at least for each worker, where there are enough events.
+const CHUNKS_EACH: usize = 16;
+
+/// How many parts a lane has at most: as many as there are chunks.
+const MOST_PARTS: usize = MOST_EVENTS / MOST_IN_CHUNK;
+
+/// A part of a sheet: its bytes from `start` up to `end` are the texts of the events from one place
+/// up to another.
+#[derive(Clone, Copy)]
+pub(crate) struct Part {
+    pub(crate) from: usize,
+    pub(crate) upto: usize,
+    pub(crate) start: usize,
+    pub(crate) end: usize,
+}
+
+/// The text of a part, and up to which event it goes.
+#[derive(Clone, Copy)]
+pub(crate) struct Piece<'a> {
+    pub(crate) text: &'a [u8],
+    pub(crate) upto: usize,
+}
+
+/// The chunks of events that no worker has taken: each has so many events, and the first begins at
+/// a place.
+#[derive(Drop)]
+struct Chunks {
+    tickets: Tickets,
+    begin: usize,
+    size: usize,
+}
+
+impl Chunks {
+    /// No worker has taken one of the chunks of the events from a place on.
+    fn new(events: &[Event], begin: usize, workers: usize) -> Chunks {
+        let left = events.len().saturating_sub(begin);
+        let most = workers.saturating_mul(CHUNKS_EACH).max(1);
+        Chunks {
+            tickets: Tickets::new(),
+            begin,
+            size: (left / most).max(1).min(MOST_IN_CHUNK),
+        }
+    }
+
+    /// Takes the next chunk: the place of its first event.
+    fn draw(&self) -> usize {
+        self.begin
+            .saturating_add(self.tickets.draw().saturating_mul(self.size))
+    }
+}
+
+/// What a worker needs: its number, room to decide in, a board and a sheet of so many bytes, and
+/// the parts that its sheet has, in the order in which they were written, which is also that of
+/// their events. No part has more bytes than `most`.
 #[derive(Drop)]
 pub(crate) struct Lane {
     number: u32,
     pub(crate) room: Room,
     pub(crate) board: Board,
     pub(crate) sheet: Sheet,
-    pub(crate) from: usize,
-    pub(crate) upto: usize,
-    pub(crate) end: usize,
+    pub(crate) parts: Vec<Part>,
+    size: usize,
+    most: usize,
 }
 
 /// The events that wait, and a lane for each worker. Without a lane none waits.
@@ -54,16 +109,18 @@ impl Lane {
     /// The lane of a worker, with a sheet of so many bytes or what one needs, if there is memory
     /// for it.
     fn new(alloc: Global, number: u32, sheet: usize) -> Option<Lane> {
+        let size = sheet.max(LEAST_SHEET);
         let room = Room::new(alloc).ok()?;
-        let sheet = Sheet::with_room(alloc, sheet.max(LEAST_SHEET)).ok()?;
+        let sheet = Sheet::with_room(alloc, size).ok()?;
+        let parts = Vec::with_capacity(alloc, MOST_PARTS).ok()?;
         Some(Lane {
             number,
             room,
             board: Board::new(),
             sheet,
-            from: 0,
-            upto: 0,
-            end: 0,
+            parts,
+            size,
+            most: 0,
         })
     }
 
@@ -78,8 +135,7 @@ impl Lane {
         requires { IsEventInRange event.now }
         ensures says { SaysSome (IsEventText config.now event.now) (Some self.old.sheet.text)
             (Some self.new.sheet.text) self.old.sheet.faults self.new.sheet.faults result }
-        ensures from { self.new.from ≡ self.old.from }
-        ensures end { self.new.end ≡ self.old.end }
+        ensures parts { self.new.parts.items ≡ self.old.parts.items }
     {
         match event {
             Event::Refused(number, fault) => {
@@ -99,8 +155,7 @@ impl Lane {
         ensures added { result ≡ true
             → AddsText config.now event.now self.old.sheet.text self.new.sheet.text }
         ensures kept { result ≡ false → self.new.sheet.text ≡ self.old.sheet.text }
-        ensures from { self.new.from ≡ self.old.from }
-        ensures end { self.new.end ≡ self.old.end }
+        ensures parts { self.new.parts.items ≡ self.old.parts.items }
     {
         let before = self.sheet.text().len();
         match self.say(config, event, unit, gate) {
@@ -112,20 +167,115 @@ impl Lane {
         }
     }
 
-    /// Writes the texts of its events on the sheet, as far as there is room.
-    fn fill<G: Gate>(&mut self, config: &Config, events: &[Event], gate: &G)
+    /// Adds the texts of the events from one place up to another to the sheet, as far as there is
+    /// room. Returns up to which event they are there.
+    fn add_all<G: Gate>(
+        &mut self,
+        config: &Config,
+        events: &[Event],
+        from: usize,
+        upto: usize,
+        gate: &G,
+    ) -> usize
+        requires { All IsEventInRange events.now }
+        ensures added { AddsTexts config.now events.now from result self.old.sheet.text
+            self.new.sheet.text }
+        ensures parts { self.new.parts.items ≡ self.old.parts.items }
+    {
+        let mut end = from;
+        let upto = upto.min(events.len());
+        for place in from..upto {
+            if !self.add(config, &events[place], place.min(MOST_EVENTS) as u32, gate) {
+                return end;
+            }
+            end = place + 1;
+        }
+        end
+    }
+
+    /// Notes a part of the sheet, if it has an event, and if there is room for it.
+    fn note(&mut self, part: Part)
+        ensures { (settings : Settings) (events : List Event)
+            → IsFilled settings events self.old → IsPart settings events self.old.sheet.text part
+            → IsFilled settings events self.new }
+    {
+        if part.from < part.upto && self.parts.len() < self.parts.capacity() {
+            self.parts.push_reserved(part);
+        }
+    }
+
+    /// Writes the texts of the events from one place up to another on the sheet, behind its other
+    /// parts, as far as there is room.
+    fn write<G: Gate>(
+        &mut self,
+        config: &Config,
+        events: &[Event],
+        from: usize,
+        upto: usize,
+        gate: &G,
+    )
+        requires range { All IsEventInRange events.now }
+        requires filled { IsFilled config.now events.now self.old }
+        ensures { IsFilled config.now events.now self.new }
+    {
+        let start = self.sheet.text().len();
+        let upto = self.add_all(config, events, from, upto, gate);
+        let end = self.sheet.text().len();
+        self.most = self.most.max(end.saturating_sub(start));
+        self.note(Part {
+            from,
+            upto,
+            start,
+            end,
+        });
+    }
+
+    /// Whether the sheet has room for twice as much as any of its parts has.
+    fn has_room(&self) -> bool {
+        let left = self.size.saturating_sub(self.sheet.text().len());
+        self.most.saturating_mul(2) <= left
+    }
+
+    /// Takes chunks, one after the other, and writes the texts of their events on the sheet, while
+    /// it has room and no other worker has taken them.
+    fn fill<G: Gate>(&mut self, config: &Config, events: &[Event], chunks: &Chunks, gate: &G)
         requires { All IsEventInRange events.now }
         ensures { IsFilled config.now events.now self.new }
     {
         self.sheet.clear();
-        self.end = self.from;
-        let upto = self.upto.min(events.len());
-        for place in self.from..upto {
-            if !self.add(config, &events[place], place.min(MOST_EVENTS) as u32, gate) {
+        self.parts.clear();
+        self.most = 0;
+        for _ in 0..MOST_PARTS {
+            if !self.has_room() {
                 return;
             }
-            self.end = place + 1;
+            let from = chunks.draw();
+            if events.len() <= from {
+                return;
+            }
+            self.write(config, events, from, from.saturating_add(chunks.size), gate);
         }
+    }
+
+    /// The part that begins with the event at a place, if the sheet has it.
+    fn piece_from(&self, from: usize) -> Option<Piece<'_>>
+        ensures { (settings : Settings) (events : List Event) → IsFilled settings events self.now
+            → IfSome result
+            (λ piece. HasTexts settings events from piece.upto piece.text.now) }
+    {
+        let parts = self.parts.as_slice();
+        let place = parts
+            .binary_search_by_key(&from, |part: &Part| part.from)
+            .ok()?;
+        let part = parts[place];
+        if part.from != from {
+            return None;
+        }
+        let text = self.sheet.text().get(part.start..part.end)?;
+        Some(Piece {
+            text,
+            upto: part.upto,
+        })
     }
 }
 
@@ -220,45 +370,21 @@ fn weight_from(events: &[Event], from: usize) -> usize {
     sum
 }
 
-/// Up to which place the events from another on have this weight.
-fn upto_weight(events: &[Event], from: usize, weight: usize) -> usize {
-    let mut sum = 0usize;
-    for place in from..events.len() {
-        if weight <= sum {
-            return place;
-        }
-        sum = sum.saturating_add(weight_in(&events[place]));
-    }
-    events.len()
-}
-
-/// Divides the events from a place on among the lanes, so that each has about the same weight.
-fn share(lanes: &mut [Lane], events: &[Event], done: usize, weight: usize) {
-    let mut left = lanes.len();
-    let mut weight = weight;
-    let mut from = done;
-    for lane in lanes {
-        let size = weight.div_ceil(left.max(1));
-        lane.from = from;
-        from = upto_weight(events, from, size);
-        lane.upto = from;
-        weight = weight.saturating_sub(size);
-        left = left.saturating_sub(1);
-    }
-}
-
-/// Each worker writes the texts of its lane's events on its sheet, side by side with the others.
+/// The workers write the texts of the events from a place on upon their sheets, side by side: each
+/// takes the next chunk as soon as it is free.
 fn fill_lanes<R: Threads + Sync, G: Gate>(
     tools: &Tools<'_, R, G>,
     config: &Config,
     lanes: &mut [Lane],
     events: &[Event],
+    done: usize,
 )
     requires some { 1 ≤ length lanes.old }
     requires range { All IsEventInRange events.now }
     ensures { All (IsFilled config.now events.now) lanes.new }
 {
     let count = lanes.len();
+    let chunks = &Chunks::new(events, done, count);
     let gate = tools.gate;
     thread::for_each_mut(
         tools.rt,
@@ -267,12 +393,26 @@ fn fill_lanes<R: Threads + Sync, G: Gate>(
         &|_number: usize, lane: &mut Lane|
             requires { All IsEventInRange events.now }
             ensures { IsFilled config.entry.now events.entry.now lane.exit.now }
-        { lane.fill(config, events, gate) },
+        { lane.fill(config, events, chunks, gate) },
     );
 }
 
-/// Writes the texts on the sheets to the sink, where the first `done` events are written, up to the
-/// first event that is on no sheet. Returns how many events are written then.
+/// The part that begins with the event at a place, if a sheet has it.
+fn piece_from<'a>(lanes: &'a [Lane], from: usize) -> Option<Piece<'a>>
+    ensures { (settings : Settings) (events : List Event) → All (IsFilled settings events) lanes.now
+        → IfSome result (λ piece. HasTexts settings events from piece.upto piece.text.now) }
+{
+    for place in 0..lanes.len() {
+        if let Some(piece) = lanes[place].piece_from(from) {
+            return Some(piece);
+        }
+    }
+    None
+}
+
+/// Writes the texts on the sheets to the sink in the order of the events, where the first `done`
+/// are written, up to the first event that is on no sheet. Returns how many events are written
+/// then.
 fn write_lanes<K: Sink>(
     sink: &mut K,
     config: &Config,
@@ -290,13 +430,12 @@ fn write_lanes<K: Sink>(
     ensures cause { HasCause (K.faults sink.old) (K.faults sink.new) result }
 {
     let mut upto = done;
-    for place in 0..lanes.len() {
-        let lane = &lanes[place];
-        if lane.from != upto {
+    for _ in done..events.len() {
+        let Some(piece) = piece_from(lanes, upto) else {
             return Ok(upto);
-        }
-        put(sink, lane.sheet.text())?;
-        upto = lane.end;
+        };
+        put(sink, piece.text)?;
+        upto = piece.upto;
     }
     Ok(upto)
 }
@@ -325,8 +464,7 @@ fn write_round<R: Threads + Sync, K: Sink, G: Gate>(
     let weight = weight_from(events, done);
     let count = workers_for(config, weight, lanes.len());
     let used = &mut lanes[..count];
-    share(used, events, done, weight);
-    fill_lanes(tools, config, used, events);
+    fill_lanes(tools, config, used, events, done);
     write_lanes(sink, config, used, events, done)
 }
 

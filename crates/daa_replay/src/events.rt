@@ -1,14 +1,14 @@
 //! The events of an input, one after the other, as its bytes come in pieces. A replay writes their
 //! texts, and a comparison compares them.
 
-ghost use Rattle.std.specs.Prelude.{◌≡◌, ◌<◌, ◌≤◌, ◌+◌, ◌-◌, ◌++◌, List, [], true, false, IfNone, IfSome, length, take};
+ghost use Rattle.std.specs.Prelude.{◌≡◌, ◌<◌, ◌≤◌, ◌+◌, ◌-◌, ◌++◌, List, [], true, false, IfSome, length, take};
 ghost use Rattle.daa_lines.specs.LinesOf.{Bytes};
 ghost use Rattle.daa_replay.specs.declared.lines.Event.{Event};
 ghost use Rattle.daa_replay.specs.Lines.{IsEventInRange, events_of};
 ghost use Rattle.daa_replay.specs.Inside.Lines.{Follows, given_with};
-ghost use Rattle.daa_replay.specs.Inside.Events.{CanGive, HasEnd, HasLines, IsAfter, IsAt, IsBetween, IsGiven, events_at_end};
+ghost use Rattle.daa_replay.specs.Inside.Events.{CanGive, HasEnd, HasLines, IsAfter, IsAt, IsBetween, IsGiven, IsMore, events_at_end};
 
-use crate::lines::{Event, take_end, take_event};
+use crate::lines::{Event, take_any, take_end, takes_addition};
 use daa_lines::Lines;
 use daa_state::Moments;
 
@@ -48,7 +48,10 @@ pub(crate) fn begin() -> Progress
     }
 }
 
-/// Feeds bytes of a piece, of which the first `done` are fed, until a line gives an event.
+/// Feeds bytes of a piece, of which the first `done` are fed, up to a line that does more than begin
+/// a moment or add to it, and returns its event, if it has one. The lines before it are taken on the
+/// way, without room for an event.
+#[inline(always)]
 fn next_of_lines(
     lines: &mut Lines,
     moments: &mut Moments,
@@ -63,14 +66,13 @@ fn next_of_lines(
         → Follows (bytes ++ take done.old piece.now) given lines.old moments.old
         → Follows (bytes ++ take done.new piece.now) (given_with given result) lines.new
         moments.new }
-    ensures further { IfSome result (λ event. done.old < done.new) }
-    ensures all { IfNone result (done.new ≡ length piece.now) }
+    ensures further { done.old < length piece.now → done.old < done.new }
     ensures range { IfSome result IsEventInRange }
 {
     while *done < piece.len() {
         *done += lines.feed(&piece[*done..]);
-        if let Some(event) = take_event(lines, moments) {
-            return Some(event);
+        if !takes_addition(lines, moments) {
+            return take_any(lines, moments);
         }
     }
     None
@@ -89,7 +91,7 @@ fn last_line(progress: &mut Progress) -> Option<Event>
 {
     progress.lines.end();
     progress.left = Left::End;
-    take_event(&mut progress.lines, &mut progress.moments)
+    take_any(&mut progress.lines, &mut progress.moments)
 }
 
 /// The event of the end of the input. Nothing is left.
@@ -106,30 +108,44 @@ fn last_event(progress: &mut Progress) -> Option<Event>
     take_end(&progress.lines, &progress.moments)
 }
 
-/// The next event once all bytes are fed: of the last line, or of the end.
+/// Once all bytes are fed: the event of the last line, or of the end, if it has one.
 fn next_of_end(progress: &mut Progress) -> Option<Event>
     requires can { CanGive progress.old.left true 0 progress.old.lines }
     ensures can { CanGive progress.new.left true 0 progress.new.lines }
     ensures same { progress.new.any_refused ≡ progress.old.any_refused }
     ensures kept { (bytes : Bytes) (given : List Event) → IsGiven bytes given progress.old
         → IsGiven bytes (given_with given result) progress.new }
-    ensures further { IfSome result (λ event.
-        events_at_end progress.new.left < events_at_end progress.old.left) }
-    ensures all { IfNone result (progress.new.left ≡ Left.Nothing) }
+    ensures further { 0 < events_at_end progress.old.left
+        → events_at_end progress.new.left < events_at_end progress.old.left }
     ensures range { IfSome result IsEventInRange }
 {
     match progress.left {
-        Left::Lines => match last_line(progress) {
-            Some(event) => Some(event),
-            None => last_event(progress),
-        },
+        Left::Lines => last_line(progress),
         Left::End => last_event(progress),
         Left::Nothing => None,
     }
 }
 
-/// The next event of a piece, of which the first `done` bytes are fed. Of the last piece this is
-/// also that of a line without a line feed, and that of the end.
+/// Whether a piece, of which the first `done` bytes are fed, may still give an event. The last one
+/// may also give that of a line without a line feed, and that of the end.
+pub(crate) fn has_more(progress: &Progress, piece: &[u8], done: usize, last: bool) -> bool
+    requires at { IsAt (length piece.now) done last progress.now }
+    ensures more { result ≡ true → IsMore (length piece.now) done last progress.now.left }
+    ensures all { result ≡ false → (done ≡ length piece.now) × IsAfter last progress.now }
+{
+    if done < piece.len() {
+        return true;
+    }
+    match progress.left {
+        Left::Lines => last,
+        Left::End => true,
+        Left::Nothing => false,
+    }
+}
+
+/// Goes on in a piece that has more, of which the first `done` bytes are fed, by a line or by the
+/// end of the input, and returns its event, if it has one.
+#[inline(always)]
 pub(crate) fn next_event(
     progress: &mut Progress,
     piece: &[u8],
@@ -137,25 +153,21 @@ pub(crate) fn next_event(
     last: bool,
 ) -> Option<Event>
     requires at { IsAt (length piece.now) done.old last progress.old }
+    requires more { IsMore (length piece.now) done.old last progress.old.left }
     ensures at { IsAt (length piece.now) done.new last progress.new }
     ensures same { progress.new.any_refused ≡ progress.old.any_refused }
     ensures kept { (bytes : Bytes) (given : List Event)
         → IsGiven (bytes ++ take done.old piece.now) given progress.old
         → IsGiven (bytes ++ take done.new piece.now) (given_with given result) progress.new }
-    ensures further { IfSome result (λ event.
-        (length piece.now - done.new) + events_at_end progress.new.left
-        < (length piece.now - done.old) + events_at_end progress.old.left) }
-    ensures all { IfNone result ((done.new ≡ length piece.now) × IsAfter last progress.new) }
+    ensures further { (length piece.now - done.new) + events_at_end progress.new.left
+        < (length piece.now - done.old) + events_at_end progress.old.left }
     ensures range { IfSome result IsEventInRange }
 {
     match progress.left {
-        Left::Lines => {
-            match next_of_lines(&mut progress.lines, &mut progress.moments, piece, done) {
-                Some(event) => Some(event),
-                None if last => next_of_end(progress),
-                None => None,
-            }
+        Left::Lines if *done < piece.len() => {
+            next_of_lines(&mut progress.lines, &mut progress.moments, piece, done)
         }
+        Left::Lines => next_of_end(progress),
         Left::End => next_of_end(progress),
         Left::Nothing => next_of_end(progress),
     }

@@ -10,7 +10,7 @@ ghost use Rattle.daa_replay.specs.Moment.{IsEventText};
 ghost use Rattle.daa_replay.specs.Outside.{ShelfState, outside};
 ghost use Rattle.daa_replay.specs.Inside.Run.{Judges, Leaves};
 
-use crate::events::{begin, next_event};
+use crate::events::{begin, has_more, next_event};
 use crate::lines::Event;
 use crate::moment::write_event_alone;
 use crate::status::{Status, status_of};
@@ -84,10 +84,12 @@ fn judge_states<S: Source>(
 {
     let mut progress = begin();
     let mut done = 0;
-    while let Some(event) = next_event(&mut progress, states, &mut done, true) {
-        match judge_event(engine, sheet, source, matching, &event) {
-            Ok(()) => {}
-            Err(found) => return Err(found),
+    while has_more(&progress, states, done, true) {
+        if let Some(event) = next_event(&mut progress, states, &mut done, true) {
+            match judge_event(engine, sheet, source, matching, &event) {
+                Ok(()) => {}
+                Err(found) => return Err(found),
+            }
         }
     }
     Ok(())

@@ -83,10 +83,10 @@ fn pass_line(lines: &mut Lines)
     }
 }
 
-/// Takes the line that is ready where it adds to the open moment, as most lines do, and else
+/// Takes the line that is ready where it begins a moment or adds to it, as most lines do, and else
 /// changes nothing. It has no event then, and no room for one is made ready.
 #[inline(never)]
-fn takes_addition(lines: &mut Lines, moments: &mut Moments) -> bool
+pub(crate) fn takes_addition(lines: &mut Lines, moments: &mut Moments) -> bool
     ensures free { result ≡ true → is_standing lines.new.stage ≡ false }
     ensures ended { lines.new.ended ≡ lines.old.ended }
     ensures fed { lines.new.fed ≡ lines.old.fed }
@@ -104,10 +104,10 @@ fn takes_addition(lines: &mut Lines, moments: &mut Moments) -> bool
     true
 }
 
-/// Takes the line that is ready, whichever it is, and returns its event, if it has one. This call
+/// Takes the line that is ready, if there is one, and returns its event, if it has one. This call
 /// has room for a moment, which only a line that ends one needs.
 #[inline(never)]
-fn take_any(lines: &mut Lines, moments: &mut Moments) -> Option<Event>
+pub(crate) fn take_any(lines: &mut Lines, moments: &mut Moments) -> Option<Event>
     ensures free { is_standing lines.new.stage ≡ false }
     ensures ended { lines.new.ended ≡ lines.old.ended }
     ensures fed { lines.new.fed ≡ lines.old.fed }
@@ -117,21 +117,6 @@ fn take_any(lines: &mut Lines, moments: &mut Moments) -> Option<Event>
 {
     let word = take_word(lines, moments.format())?;
     step(moments, lines.number(), word)
-}
-
-/// Takes the line that is ready, if there is one, and returns its event, if it has one.
-pub(crate) fn take_event(lines: &mut Lines, moments: &mut Moments) -> Option<Event>
-    ensures free { is_standing lines.new.stage ≡ false }
-    ensures ended { lines.new.ended ≡ lines.old.ended }
-    ensures fed { lines.new.fed ≡ lines.old.fed }
-    ensures kept { (bytes : Bytes) (given : List Event) → Follows bytes given lines.old moments.old
-        → Follows bytes (given_with given result) lines.new moments.new }
-    ensures range { IfSome result IsEventInRange }
-{
-    if takes_addition(lines, moments) {
-        return None;
-    }
-    take_any(lines, moments)
 }
 
 /// The event of the end of the input, if it has one.

@@ -11,7 +11,7 @@ ghost use Rattle.daa_replay.specs.Outside.{ShelfState, outside};
 ghost use Rattle.daa_replay.specs.Inside.Run.{Leaves, Replays};
 
 use crate::batch::{Batch, hold_event, write_batch};
-use crate::events::{Progress, begin, next_event};
+use crate::events::{Progress, begin, has_more, next_event};
 use crate::lines::Event;
 use crate::moment::Tools;
 use crate::status::Status;
@@ -56,9 +56,14 @@ fn write_piece<R: Threads + Sync, K: Sink, G: Gate>(
 {
     batch.clear();
     let mut done = 0;
-    while let Some(event) = next_event(progress, piece, &mut done, last) {
-        progress.any_refused = any_refusal(progress.any_refused, &event);
-        hold_event(tools, engine, sink, batch, event)?;
+    while has_more(progress, piece, done, last) {
+        if let Some(event) = next_event(progress, piece, &mut done, last) {
+            progress.any_refused = any_refusal(progress.any_refused, &event);
+            match hold_event(tools, engine, sink, batch, event) {
+                Ok(()) => {}
+                Err(fault) => return Err(fault),
+            }
+        }
     }
     write_batch(tools, engine, sink, batch)
 }

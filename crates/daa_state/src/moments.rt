@@ -98,9 +98,9 @@ impl Moments {
         }
     }
 
-    /// Takes a word that adds to the open moment, as `take` does, and returns true. Where the word
-    /// is another one, or would be refused, it returns false and changes nothing. No room for a
-    /// picture is made ready, which costs more than what most lines add.
+    /// Takes a word that begins a moment or adds to the open one, as `take` does, and returns true.
+    /// Where the word is another one, or would be refused, it returns false and changes nothing. No
+    /// room for a picture is made ready, which costs more than what most lines add.
     #[tactic(auto, unfolding(crate::specs::MomentStep::step))]
     pub fn adds(&mut self, word: &Word) -> bool
         requires range { IsWordInRange word.now }
@@ -108,6 +108,13 @@ impl Moments {
         ensures unchanged { result ≡ false → self.new ≡ self.old }
     {
         match word {
+            Word::Moment(time) => match begin(&self.moment, self.last, *time) {
+                Ok(moment) => {
+                    self.moment = Some(moment);
+                    true
+                }
+                Err(_) => false,
+            },
             Word::Own(own) => match add_own(&mut self.moment, *own) {
                 Ok(()) => true,
                 Err(_) => false,

@@ -2,6 +2,7 @@
 
 use crate::tests::{NORTH, engine_of, engine_of_workers, picture_in};
 use daa_config::examples::{ONE_LEVEL, THREE_LEVELS};
+use daa_engine::Tickets;
 use daa_outside::{Gate, Meeting, Open};
 use daa_state::Picture;
 use std::process::Abort;
@@ -128,5 +129,22 @@ fn any_number_of_workers_gives_one_board(rt: HostRuntime) -> Result<(), Fail> {
             );
         }
     }
+    Ok(())
+}
+
+/// Draws so many numbers, and says whether each was the next one.
+fn draws_in_turn(tickets: &Tickets, count: usize) -> bool {
+    let mut all = true;
+    for number in 0..count {
+        all = all && tickets.draw() == number;
+    }
+    all
+}
+
+#[test]
+fn tickets_are_drawn_in_turn(rt: HostRuntime) -> Result<(), Fail> {
+    let tickets = Tickets::new();
+    assert!(rt; draws_in_turn(&tickets, 100));
+    assert!(rt; tickets.draw() == 100);
     Ok(())
 }

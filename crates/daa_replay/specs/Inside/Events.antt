@@ -1,5 +1,5 @@
 -- How far the events of an input were given, and which may still be.
-use Rattle.std.specs.Prelude.{ℕ, ◌≡◌, ◌<◌, ◌≤◌, ◌+◌, ◌-◌, ◌^◌, ◌++◌, Bool, true, false, List}
+use Rattle.std.specs.Prelude.{ℕ, ◌≡◌, ◌<◌, ◌≤◌, ◌+◌, ◌-◌, ◌^◌, ◌++◌, ◌⊎◌, Bool, true, false, List}
 use Rattle.daa_lines.specs.LinesOf.{Bytes}
 use Rattle.daa_lines.specs.LinesState.{LinesState, is_standing}
 use Rattle.daa_state.specs.MomentStep.{MomentsState}
@@ -53,6 +53,10 @@ abbrev pub events_at_end : Left → ℕ
 events_at_end left.Lines = 2
 events_at_end left.End = 1
 events_at_end left.Nothing = 0
+
+-- bytes of a piece are not fed yet, or it is the last, and its end was not reached
+abbrev pub IsMore : (size done : ℕ) → (last : Bool) → Left → Type 0
+IsMore size done last left = (done < size) ⊎ ((last ≡ true) × (0 < events_at_end left))
 
 -- no line is ready, and the input is not over
 pub record IsBetween (p : Progress) : Type 0 where

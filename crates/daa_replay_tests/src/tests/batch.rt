@@ -78,6 +78,50 @@ fn moments_of_a_piece_are_shared_out(rt: HostRuntime) -> Result<(), Fail> {
     Ok(())
 }
 
+/// Adds a moment with so many aircraft, and a line that is refused.
+fn add_moment<R: AllocGlobal>(
+    rt: &R,
+    input: &mut String,
+    time: u32,
+    aircraft: u32,
+) -> Result<(), AllocError> {
+    let head = format!(in rt.alloc(); "moment {time}\nown 0 0 1000 0 3600 0\n")?;
+    input.push_str(head.as_str())?;
+    for i in 0..aircraft {
+        let line = format!(in rt.alloc(); "traffic A{i} {i} 0 1000 0 3600 0\n")?;
+        input.push_str(line.as_str())?;
+    }
+    input.push_str("x\nend\n")
+}
+
+/// So many moments of one aircraft; each eighth has 64.
+fn uneven_moments<R: AllocGlobal>(rt: &R, count: u32) -> Result<String, AllocError> {
+    let mut input = String::new(rt.alloc());
+    for time in 0..count {
+        let aircraft = if time % 8 == 0 { 64 } else { 1 };
+        add_moment(rt, &mut input, time, aircraft)?;
+    }
+    Ok(input)
+}
+
+/// A few crowded moments among light ones: whoever is free takes the next ones, and the texts come
+/// in the order of the input. The sink has room for them and no more.
+#[test]
+fn uneven_moments_are_shared_out(rt: HostRuntime) -> Result<(), Fail> {
+    let input = uneven_moments(&rt, 400)?;
+    let text = alone(&rt, input.as_bytes(), 400_000)?;
+    for workers in ["2", "3", "4", "16"] {
+        let words = ["daidalus", "replay", "--config", "c", "--workers", workers];
+        let outside = Outside {
+            words: &words,
+            room: text.len(),
+            ..PLAIN
+        };
+        gives(&rt, input.as_bytes(), outside, 1, text.as_slice())?;
+    }
+    Ok(())
+}
+
 /// The pieces that are read ahead are shared out as they come.
 #[test]
 fn moments_of_joined_pieces_are_shared_out(rt: HostRuntime) -> Result<(), Fail> {

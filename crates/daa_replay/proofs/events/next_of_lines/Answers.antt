@@ -1,4 +1,7 @@
-use Rattle.std.proofs.Common.{◌≤◌, ◌+◌, ◌-◌, ◌++◌, ◌∙◌, arith, take, drop, length, length-drop, length-take}
+use Rattle.std.proofs.Common.{◌≤◌, ◌+◌, ◌-◌, ◌++◌, ◌∙◌, arith, take, drop, length, length-drop, length-take, subst, sym}
+use Rattle.daa_lines.specs.LinesState.{LinesState}
+use Rattle.daa_state.specs.MomentStep.{MomentsState}
+use Rattle.daa_replay.specs.Inside.Lines.{Follows}
 use Rattle.daa_replay.proofs.FollowsLemmas.{follows-part}
 use Rattle.daa_replay.proofs.events.next_of_lines.Goals as goal
 
@@ -13,19 +16,23 @@ loop-done-preserved c =
       within = omega (arith, i.within);
       forward = omega (arith, i.forward);
       lines = record {
-        free = c.take_event.ensures.free;
-        going = c.take_event.ensures.ended ∙ c.feed.ensures.going;
-        room = omega (arith, c.take_event.ensures.fed, c.feed.ensures.fed, i.lines.room);
+        free = c.takes_addition.ensures.free c.if-not-takes_addition.false;
+        going = c.takes_addition.ensures.ended ∙ c.feed.ensures.going;
+        room = omega (arith, c.takes_addition.ensures.fed, c.feed.ensures.fed, i.lines.room);
       };
-      kept = λ bytes given f. c.in_default.ensures.kept (bytes ++ take (done + n) piece) given
+      kept = λ bytes given f. c.takes_addition.ensures.kept c.if-not-takes_addition.false (bytes ++ take (done + n) piece) given
           (follows-part bytes piece given c.loop-done.lines c.feed.new.self c.loop-done.moments done n within c.feed.ensures.kept (i.kept bytes given f));
     }
 
-pub returns-in-Some-clause-kept : goal.returns-in-Some-clause-kept
-returns-in-Some-clause-kept c bytes given f =
+pub returns-then-not-takes_addition-clause-kept : goal.returns-then-not-takes_addition-clause-kept
+returns-then-not-takes_addition-clause-kept c bytes given f =
     let piece = c.args.piece.now in
     let done = c.loop-done.done in
     let n = c.feed.result in
+    let fed = bytes ++ take (done + n) piece in
+    let same = c.takes_addition.ensures.unchanged c.if-not-takes_addition.true in
     let within : n ≤ length piece - done = omega (arith, c.feed.ensures.within, length-take (length piece - done) (drop done piece), length-drop done piece) in
-    c.in-Some.ensures.kept (bytes ++ take (done + n) piece) given
-    (follows-part bytes piece given c.loop-done.lines c.feed.new.self c.loop-done.moments done n within c.feed.ensures.kept (c.loop-done.invariant.kept bytes given f))
+    c.take_any.ensures.kept fed given
+    (subst (λ (l : LinesState). Follows fed given l c.takes_addition.new.moments) (sym same.0)
+    (subst (λ (m : MomentsState). Follows fed given c.feed.new.self m) (sym same.1)
+    (follows-part bytes piece given c.loop-done.lines c.feed.new.self c.loop-done.moments done n within c.feed.ensures.kept (c.loop-done.invariant.kept bytes given f))))

@@ -9,8 +9,8 @@ use Rattle.daa_replay.specs.Inside.Events.{IsAt, IsGiven, events_at_end}
 use Rattle.daa_replay.specs.Inside.Judge.{ComparesSome}
 use Rattle.daa_replay.proofs.judge.judge_states.Given as goal
 
-abbrev pub invariant-loop-event : goal.invariant-loop-event
-invariant-loop-event g l = record {
+abbrev pub invariant-loop-progress : goal.invariant-loop-progress
+invariant-loop-progress g l = record {
   at : IsAt (length l.states) l.done true l.progress;
   same : l.engine.settings ≡ l.fn.engine.settings;
   room : HasRoom l.matching;
@@ -20,5 +20,5 @@ invariant-loop-event g l = record {
       (stream_state (g.S.Source.left l.fn.source) (g.S.Source.faults l.fn.source)) (stream_state (g.S.Source.left l.source) (g.S.Source.faults l.source));
 }
 
-abbrev pub decreases-loop-event : goal.decreases-loop-event
-decreases-loop-event g l = (length l.states - l.done) + events_at_end l.progress.left
+abbrev pub decreases-loop-progress : goal.decreases-loop-progress
+decreases-loop-progress g l = (length l.states - l.done) + events_at_end l.progress.left

@@ -1,4 +1,4 @@
-use Rattle.std.proofs.Common.{◌≡◌, ◌≤◌, ◌+◌, ◌-◌, ◌++◌, ◌||◌, All, List, length, take}
+use Rattle.std.proofs.Common.{◌≡◌, ◌+◌, ◌-◌, ◌++◌, ◌||◌, All, List, length, take}
 use Rattle.std.specs.List.{list_any}
 use Rattle.daa_lines.specs.LinesOf.{Bytes}
 use Rattle.daa_replay.specs.declared.lines.Event.{Event}
@@ -7,8 +7,8 @@ use Rattle.daa_replay.specs.Inside.Batch.{MovesOn}
 use Rattle.daa_replay.specs.Inside.Events.{IsAt, IsGiven, events_at_end}
 use Rattle.daa_replay.proofs.replay.write_piece.Given as goal
 
-abbrev pub invariant-loop-event : goal.invariant-loop-event
-invariant-loop-event g l = record {
+abbrev pub invariant-loop-progress : goal.invariant-loop-progress
+invariant-loop-progress g l = record {
   at : IsAt (length l.piece) l.done l.last l.progress;
   steady : g.K.Sink.faults l.sink ≡ g.K.Sink.faults l.fn.sink;
   same : l.engine.settings ≡ l.fn.engine.settings;
@@ -19,5 +19,5 @@ invariant-loop-event g l = record {
       × MovesOn l.fn.engine.settings events l.batch.events.items (g.K.Sink.taken l.fn.sink) (g.K.Sink.taken l.sink);
 }
 
-abbrev pub decreases-loop-event : goal.decreases-loop-event
-decreases-loop-event g l = (length l.piece - l.done) + events_at_end l.progress.left
+abbrev pub decreases-loop-progress : goal.decreases-loop-progress
+decreases-loop-progress g l = (length l.piece - l.done) + events_at_end l.progress.left
