@@ -1,7 +1,7 @@
 //! A moment decided in the caller's own thread, and what is asked after it. Nothing here starts a
 //! thread or takes memory.
 
-ghost use Rattle.std.specs.Prelude.{◌≡◌, ◌≢◌, ◌<◌, ◌≤◌, None, length, slice_index_or};
+ghost use Rattle.std.specs.Prelude.{◌≡◌, ◌≢◌, ◌<◌, ◌≤◌, None, length, min, slice_index_or};
 ghost use Rattle.daa_bands.specs.Board.{HasLevelOn, IsBoardOf, mask_levels};
 ghost use Rattle.daa_bands.specs.KindBands.{AreKindBands};
 ghost use Rattle.daa_config.specs.Candidates.{candidates_of};
@@ -49,11 +49,13 @@ pub fn decide_in(
 )
     requires picture { IsPictureInRange picture.now }
     requires trunks { length trunks.old ≡ 8 }
-    requires branches { length (candidates_of config.now) ≤ length branches.old }
+    requires branches { min (length (candidates_of config.now)) 1897 ≤ length branches.old }
     ensures board { IsBoardOf (CoveredAt config.now picture.now) config.now board.new }
     ensures trunks { length trunks.new ≡ 8 }
     ensures branches { length branches.new ≡ length branches.old }
 {
+    // ensures that there are at most 1897 candidates
+    let _total = config.total();
     let needs = fill_flights(trunks, branches, config, picture);
     fill(board, trunks, branches, needs, config, picture);
 }
@@ -96,7 +98,7 @@ pub fn report_in<K: Sink>(
 ) -> Result<(), SinkFault>
     requires picture { IsPictureInRange picture.now }
     requires trunks { length trunks.old ≡ 8 }
-    requires branches { length (candidates_of config.now) ≤ length branches.old }
+    requires branches { min (length (candidates_of config.now)) 1897 ≤ length branches.old }
     ensures board { IsBoardOf (CoveredAt config.now picture.now) config.now board.new }
     ensures trunks { length trunks.new ≡ 8 }
     ensures branches { length branches.new ≡ length branches.old }

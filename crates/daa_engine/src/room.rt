@@ -71,8 +71,6 @@ impl Room {
         requires { IsPictureInRange picture.now }
         ensures { IsBoardOf (CoveredAt config.now picture.now) config.now board.new }
     {
-        // ensures that its numbers are in range
-        let _levels = config.levels();
         decide_in(
             config,
             picture,
@@ -97,8 +95,6 @@ impl Room {
         ensures says { SaysSome (IsMomentText config.now picture.now) (K.taken sink.old)
             (K.taken sink.new) (K.faults sink.old) (K.faults sink.new) result }
     {
-        // ensures that its numbers are in range
-        let _levels = config.levels();
         report_in(
             config,
             picture,

@@ -31,8 +31,6 @@ pub(crate) fn decided_board(config: &Config, picture: &Picture) -> Board
     requires { IsPictureInRange picture.now }
     ensures { IsBoardOf (CoveredAt config.now picture.now) config.now result }
 {
-    // its clauses say how many there are
-    let _total = config.total();
     let mut board = Board::new();
     let mut trunks = leading_flights();
     let mut branches = [Branch::new(); MOST_CANDIDATES];
