@@ -17,7 +17,6 @@ fn room_of_the_callers_own_gives_the_engines_board(rt: HostRuntime) -> Result<()
     let mut engine = engine_of(&rt, THREE_LEVELS, &[])?;
     engine.decide(&rt, rt.alloc(), &picture, &Open);
     let config = engine.config();
-    let _total = config.total();
     let mut trunks = leading_flights();
     let mut branches = [Branch::new(); MOST_CANDIDATES];
     let mut board = Board::new();
