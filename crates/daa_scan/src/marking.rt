@@ -152,8 +152,8 @@ fn is_nested(config: &Config, l: u32) -> bool
     l > 1 && lies_within(config.level(l), config.level(l - 1))
 }
 
-/// The same of the present flight alone, the first of the whole list, whose seconds up to the
-/// lookahead are one leg.
+/// Adds the level to the mask of the present flight alone, the first of the whole list, whose
+/// seconds up to the lookahead are one leg.
 fn mark_present(round: &Round, present: &Leg, first: u32, masks: &mut [u8])
     requires in_range { IsLegInRange present.now }
     requires seconds { HoldsSometime present.now.secs
@@ -180,8 +180,9 @@ fn present_mask(round: &Round, present: &Leg, mask: u8) -> u8
     with_level(mask, round.l, met)
 }
 
-/// The same of the candidates of a kind, after those of the kinds before it. Where the level lies
-/// within the one before, the flights that lead are walked on from where that one let them be.
+/// Adds the level to the masks of the candidates of a kind, after those of the kinds before it.
+/// Where the level lies within the one before, the flights that lead are walked on from where that
+/// one let them be.
 fn mark_kind(round: &Round, kind: Kind, stretch: &mut Stretch, first: u32, masks: &mut [u8])
     requires stretch { IsStretchAt (settings_in round.now) (own_in round.now)
         (aircraft_in round.now) kind (round.now.l - 1) stretch.old }
@@ -226,8 +227,8 @@ fn mark_kind(round: &Round, kind: Kind, stretch: &mut Stretch, first: u32, masks
     stretch.lower = trails.lower.walked;
 }
 
-/// What violates nothing of the level before violates nothing of a level that lies within it. Of
-/// another level nothing is known yet.
+/// Keeps what is clear of the level before if this level lies within it: what violates nothing of
+/// that one violates nothing of this one. Else nothing is known yet.
 fn begin_level(round: &Round, kind: Kind, stretch: &mut Stretch)
     requires { IsStretchAt (settings_in round.now) (own_in round.now) (aircraft_in round.now) kind
         (round.now.l - 1) stretch.old }

@@ -292,7 +292,8 @@ fn places_near(config: &Config, picture: &Picture, hold: &OwnLeg) -> ArrayVec<u3
     places
 }
 
-/// Whether an aircraft is.
+/// Whether an aircraft is near enough to be met at all, where the present flight has this first
+/// leg.
 fn is_near(config: &Config, own: &Own, hold: &OwnLeg, aircraft: &Traffic) -> bool
     requires { IsEncounter config.now own.now aircraft.now hold.now }
     ensures { IsTrue result ↔ IsInReach config.now own.now aircraft.now }
