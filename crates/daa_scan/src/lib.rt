@@ -18,6 +18,3 @@ mod trunks;
 pub use laws::worked_examples;
 pub use needs::{Needs, fill_flights};
 pub use scene::Scene;
-
-#[cfg(test)]
-mod tests;

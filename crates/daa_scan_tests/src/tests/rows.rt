@@ -4,10 +4,10 @@ ghost use Rattle.daa_config.specs.Settings.{IsCandidateInRange};
 ghost use Rattle.daa_state.specs.InRange.{IsOwnInRange, IsPictureInRange, IsTrafficInRange};
 
 use super::{Settings, branches_for, config_of, eight, masks_of, picture_in};
-use crate::{Scene, fill_flights};
 use daa_config::examples::{FOUR_LEVELS, ONE_LEVEL, THREE_LEVELS};
 use daa_config::{Candidate, Config};
 use daa_meet::meets_between;
+use daa_scan::{Scene, fill_flights};
 use daa_state::examples::{ABEAM, CLIMBING, NORTH};
 use daa_state::{Own, Picture, Traffic};
 use std::process::Abort;

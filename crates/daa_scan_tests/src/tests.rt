@@ -11,9 +11,9 @@ mod reaching;
 mod rows;
 mod words;
 
-use super::*;
 use daa_config::{Config, read};
 use daa_legs::{Branch, Trunk};
+use daa_scan::{Scene, fill_flights};
 use daa_schedule::Answers;
 use daa_state::{Moments, Picture, read_line};
 use std::alloc::{AllocError, Global};
@@ -126,7 +126,14 @@ fn count_in_reach(config: &Config, picture: &Picture) -> u32
     let mut trunks = eight();
     let mut branches = branches_for(config);
     let needs = fill_flights(&mut trunks, &mut branches, config, picture);
-    Scene::of(config, picture, &trunks, &branches, needs).count_in_reach()
+    let scene = Scene::of(config, picture, &trunks, &branches, needs);
+    let mut count = 0u32;
+    for place in 0..picture.traffic.len() {
+        if scene.in_reach(place as u32) {
+            count = count.saturating_add(1);
+        }
+    }
+    count
 }
 
 /// Whether the first aircraft of a moment is in reach.

@@ -1,0 +1,5 @@
+//! Tests of daa_scan.
+#![tactic(auto)]
+
+#[cfg(test)]
+mod tests;
