@@ -28,7 +28,7 @@ use Rattle.daa_scan.specs.declared.encounter.Round.{Round}
 use Rattle.daa_scan.specs.Inside.Marking.{AreClear, AreTrailsOf, IsBranchIn, IsNumberOf}
 use Rattle.daa_scan.specs.Inside.Rounds.{settings_in, own_in, aircraft_in, IsHitOn, IsMet, IsClearFrom}
 use Rattle.daa_scan.specs.Inside.Refusal.{AreSecondsOf}
-use Rattle.daa_scan.specs.Inside.Sharing.{IsSure, IsTrailAt}
+use Rattle.daa_scan.specs.Inside.Sharing.{IsSure, IsTrailAt, AnswersBy}
 use Rattle.daa_scan.specs.Trunks.{trunk_index, trunk_in, is_needed, AreLeads}
 use Rattle.daa_scan.specs.declared.needs.Needs.{Needs}
 use Rattle.daa_scan.proofs.TrunksWords.{AreLeadsBelow}
@@ -133,24 +133,25 @@ leads own Climb upper z = (_, refl)
 leads own Height upper z = (_, refl)
 
 -- where a trail begins: the seconds before the kind's are walked, and the legs that are clear
-module _ (round : Round) (kind : Kind) (seconds : Seconds) (h : AreSecondsOf (settings_in round) (own_in round) (aircraft_in round) kind round.level.now.volume round.level.now.lookahead seconds)
-    (some : seconds.begin < round.level.now.lookahead) where
+module _ (round : Round) (kind : Kind) (seconds : Seconds) (h : AreSecondsOf (settings_in round) (own_in round) (aircraft_in round) kind round.level.volume round.level.lookahead seconds)
+    (some : seconds.begin < round.level.lookahead) where
   pub begun_trail : (upper : Bool) (clear : ℕ) (trail : Trail) → AreClear (settings_in round) (own_in round) (aircraft_in round) kind upper round.l clear
-      → trail.walked ≡ max seconds.begin clear → trail.end ≡ seconds.end → trail.hit ≡ false → IsSure round.level.now.lookahead trail
+      → trail.walked ≡ max seconds.begin clear → trail.end ≡ seconds.end → trail.hit ≡ false → IsSure round.level.lookahead trail → trail.answer ≡ 0
       → (z : ℤ) → IsTrailAt round (lead_of (own_in round) (candidate_to kind z) upper) trail
-  begun_trail upper clear trail below walked end none sure z =
+  begun_trail upper clear trail below walked end none sure nothing z =
       let w = leads (own_in round) kind upper z in
       let of : (j : ℕ) → IsHitOn round (lead_of (own_in round) (candidate_to kind z) upper) j → IsHitOn round (candidate_to kind w.0) j = λ j v. subst (λ (c : Candidate). IsHitOn round c j) w.1 v in
       record {
         along = record {
           none = λ j k v. ⊎_elim
               (λ b. h.before w.0 j (omega (arith, b, some)) b (of j v))
-              (λ g. below round.level.now round.known.there z j (omega (arith, k, walked, g)) v)
+              (λ g. below round.level round.known.there z j (omega (arith, k, walked, g)) v)
               (cases_lt j seconds.begin);
           hit = λ t. absurd (cc (t, none));
           later = λ j k past v. h.after w.0 j k (omega (arith, past, end)) (of j v);
         };
         sure = sure;
+        answers = record { hit = λ t. absurd (cc (t, none)); clear = λ _. nothing };
       }
 
   pub begun_past : (trail : Trail) → trail.end ≡ seconds.end → (z : ℤ) → IsClearFrom round (candidate_to kind z) trail.end
@@ -162,18 +163,18 @@ module _ (round : Round) (kind : Kind) (upper : Bool) (n : ℕ) where
       → AreClear (settings_in round) (own_in round) (aircraft_in round) kind upper round.l n
   clear_walked none level at z j b v = none z j b
       (subst (λ (x : Level). ViolatesOn (settings_in round) (own_in round) (lead_of (own_in round) (candidate_to kind z) upper) (aircraft_in round) x.volume j)
-      (one_level (settings_in round) round.l level round.level.now at round.known.there) v)
+      (one_level (settings_in round) round.l level round.level at round.known.there) v)
 
   -- where it lies within the one before, what is clear at that one
-  pub clear_within : IsNestedAt (settings_in round) round.l round.level.now → AreClear (settings_in round) (own_in round) (aircraft_in round) kind upper (round.l - 1) n
+  pub clear_within : IsNestedAt (settings_in round) round.l round.level → AreClear (settings_in round) (own_in round) (aircraft_in round) kind upper (round.l - 1) n
       → AreClear (settings_in round) (own_in round) (aircraft_in round) kind upper round.l n
   clear_within nested below = clear_walked (λ z j b v.
-      let outer = level_before (settings_in round) round.l round.level.now round.known.there nested.some in
-      below outer.0 outer.1 z j b (hit_outer (settings_in round) (own_in round) (lead_of (own_in round) (candidate_to kind z) upper) (aircraft_in round) round.level.now outer.0 j
+      let outer = level_before (settings_in round) round.l round.level round.known.there nested.some in
+      below outer.0 outer.1 z j b (hit_outer (settings_in round) (own_in round) (lead_of (own_in round) (candidate_to kind z) upper) (aircraft_in round) round.level outer.0 j
       (nested.within outer.0 outer.1) v))
 
 -- what a side's trail answers of a candidate that leaves past what it is sure of
-module _ (round : Round) (kind : Kind) (trails : Trails) (h : AreTrailsOf round kind trails) (short : round.level.now.lookahead ≤ 180) (candidate : Candidate) (branch : Branch)
+module _ (round : Round) (kind : Kind) (trails : Trails) (h : AreTrailsOf round kind trails) (short : round.level.lookahead ≤ 180) (candidate : Candidate) (branch : Branch)
     (is : IsBranchIn round kind candidate branch) (b : branch.leaves < 2 ^ 32) where
   alike : (u : Bool) → branch.upper ≡ u → FliesAs (own_in round) (rates_of (settings_in round)) candidate (lead_of (own_in round) (candidate_to kind is.value) u) branch.leaves
   alike u e = subst (λ (x : Candidate). FliesAs (own_in round) (rates_of (settings_in round)) candidate (lead_of (own_in round) x u) branch.leaves) is.is
@@ -183,12 +184,19 @@ module _ (round : Round) (kind : Kind) (trails : Trails) (h : AreTrailsOf round 
       → branch.upper ≡ u → IsTrue trail.hit ↔ IsMet round candidate
   on_side trail up down p true e = subst (λ (x : Trail). IsTrue x.hit ↔ IsMet round candidate) (sym (up e))
       (sure_met (settings_in round) (own_in round) candidate (lead_of (own_in round) (candidate_to kind is.value) true)
-      (aircraft_in round) round.level.now.volume branch.leaves round.level.now.lookahead (alike true e) trails.upper
+      (aircraft_in round) round.level.volume branch.leaves round.level.lookahead (alike true e) trails.upper
       (h.upper is.value).along (h.upper is.value).sure (subst (λ (x : Trail). x.past < branch.leaves) (up e) p) b short (past_of round kind candidate is.value trails.upper.end is.is h.past_upper))
   on_side trail up down p false e = subst (λ (x : Trail). IsTrue x.hit ↔ IsMet round candidate) (sym (down e))
       (sure_met (settings_in round) (own_in round) candidate (lead_of (own_in round) (candidate_to kind is.value) false)
-      (aircraft_in round) round.level.now.volume branch.leaves round.level.now.lookahead (alike false e) trails.lower
+      (aircraft_in round) round.level.volume branch.leaves round.level.lookahead (alike false e) trails.lower
       (h.lower is.value).along (h.lower is.value).sure (subst (λ (x : Trail). x.past < branch.leaves) (down e) p) b short (past_of round kind candidate is.value trails.lower.end is.is h.past_lower))
+
+  answers_on : (trail : Trail) → (IsTrue branch.upper → trail ≡ trails.upper) → (branch.upper ≡ false → trail ≡ trails.lower) → (u : Bool) → branch.upper ≡ u → AnswersBy round.l trail
+  answers_on trail up down true e = subst (λ (x : Trail). AnswersBy round.l x) (sym (up e)) (h.upper is.value).answers
+  answers_on trail up down false e = subst (λ (x : Trail). AnswersBy round.l x) (sym (down e)) (h.lower is.value).answers
+
+  pub side_answers : (trail : Trail) → (IsTrue branch.upper → trail ≡ trails.upper) → (branch.upper ≡ false → trail ≡ trails.lower) → AnswersBy round.l trail
+  side_answers trail up down = answers_on trail up down branch.upper refl
 
   pub side_sure : (trail : Trail) → (IsTrue branch.upper → trail ≡ trails.upper) → (branch.upper ≡ false → trail ≡ trails.lower) → trail.past < branch.leaves → IsTrue trail.hit ↔ IsMet round candidate
   side_sure trail up down p = on_side trail up down p branch.upper refl

@@ -23,13 +23,13 @@ pub(crate) struct Encounter<'a> {
 /// An encounter at a level, which is level `l`, from 1 on.
 #[derive(Clone, Copy)]
 pub(crate) struct Round<'a> {
-    pub(crate) encounter: &'a Encounter<'a>,
+    pub(crate) encounter: Encounter<'a>,
     pub(crate) trunks: &'a Trunks<'a>,
     pub(crate) l: u32,
-    pub(crate) level: &'a Level,
+    pub(crate) level: Level,
     pub(crate) windows: Windows,
     /// Whether the level lies within the one before it.
     pub(crate) nested: bool,
-    ghost known: { IsRound encounter.now.config.now encounter.now.own.now encounter.now.aircraft.now
-        trunks.now l level.now windows nested },
+    ghost known: { IsRound encounter.config.now encounter.own.now encounter.aircraft.now
+        trunks.now l level windows nested },
 }

@@ -2,7 +2,7 @@
 //! level is gone through, and at each level the kinds: what the candidates of a side share of their
 //! flights is tested once.
 
-ghost use Rattle.std.specs.Prelude.{◌≡◌, ◌-◌, ◌<◌, ◌≤◌, ◌^◌, ◌↔◌, ◌+◌, ◌⊎◌, ℕ, IsTrue, List, false, length, max, bit_or, slice_index};
+ghost use Rattle.std.specs.Prelude.{◌≡◌, ◌-◌, ◌<◌, ◌≤◌, ◌^◌, ◌↔◌, ◌+◌, ◌⊎◌, ℕ, IsTrue, List, false, length, max, bit_or, slice_index, slice_index_or};
 ghost use Rattle.daa_fixed.specs.Leg.{IsLegInRange};
 ghost use Rattle.daa_fixed.specs.Mask.{HasLevel};
 ghost use Rattle.daa_fixed.specs.Time.{HoldsSometime};
@@ -11,6 +11,7 @@ ghost use Rattle.daa_config.specs.Candidates.{start_of, values_of};
 ghost use Rattle.daa_config.specs.Settings.{IsLevelAt};
 ghost use Rattle.daa_config.specs.declared.candidate.Candidate.{Candidate};
 ghost use Rattle.daa_config.specs.declared.level.Level.{Level};
+ghost use Rattle.daa_legs.specs.declared.branch.Branch.{Branch};
 ghost use Rattle.daa_state.specs.declared.word.Own.{Own};
 ghost use Rattle.daa_state.specs.declared.word.Traffic.{Traffic};
 ghost use Rattle.daa_scan.specs.Trunks.{is_needed};
@@ -129,10 +130,10 @@ fn mark_level(
     let level = encounter.config.level(l);
     let present = present_leg(encounter, level.lookahead);
     let round = Round {
-        encounter,
+        encounter: *encounter,
         trunks,
         l,
-        level,
+        level: *level,
         windows: windows_at(encounter, level, &present),
         nested: is_nested(encounter.config, l),
     };
@@ -157,7 +158,7 @@ fn is_nested(config: &Config, l: u32) -> bool
 fn mark_present(round: &Round, present: &Leg, first: u32, masks: &mut [u8])
     requires in_range { IsLegInRange present.now }
     requires seconds { HoldsSometime present.now.secs
-        (Violates present.now round.now.level.now.volume) ↔ IsMet round.now Candidate.Hold }
+        (Violates present.now round.now.level.volume) ↔ IsMet round.now Candidate.Hold }
     ensures masks { (before : List ℕ)
         → AreMasks (settings_in round.now) (own_in round.now) (aircraft_in round.now)
         first (round.now.l - 1) before masks.old
@@ -173,7 +174,7 @@ fn mark_present(round: &Round, present: &Leg, first: u32, masks: &mut [u8])
 fn present_mask(round: &Round, present: &Leg, mask: u8) -> u8
     requires in_range { IsLegInRange present.now }
     requires seconds { HoldsSometime present.now.secs
-        (Violates present.now round.now.level.now.volume) ↔ IsMet round.now Candidate.Hold }
+        (Violates present.now round.now.level.volume) ↔ IsMet round.now Candidate.Hold }
     ensures { AddsNext round.now 0 mask result }
 {
     let met = is_hit(present, &round.level.volume);
@@ -212,13 +213,16 @@ fn mark_kind(round: &Round, kind: Kind, stretch: &mut Stretch, first: u32, masks
         upper: begun(seconds, stretch.upper, round.level.lookahead),
         lower: begun(seconds, stretch.lower, round.level.lookahead),
     };
+    // lent once, since a write of a mask could change what lends it, for all the compiler knows
+    let branches = round.trunks.branches();
     let mut at = from;
     while at < upto {
         let end = next_end(at, upto);
         if some_is_open(round, masks, at - first, end - first) {
             for index in at..end {
                 let j = (index - first) as usize;
-                masks[j] = next_mask(round, kind, index, &mut trails, masks[j]);
+                let branch = &branches[index as usize];
+                masks[j] = next_mask(round, kind, index, branch, &mut trails, masks[j]);
             }
         }
         at = end;
@@ -247,31 +251,42 @@ fn begun(seconds: Seconds, clear: u32, lookahead: u32) -> Trail
     ensures end { result.end ≡ seconds.end }
     ensures hit { result.hit ≡ false }
     ensures sure { IsSure lookahead result }
+    ensures answer { result.answer ≡ 0 }
 {
     let mut trail = Trail {
         walked: seconds.begin.max(clear),
         end: seconds.end,
         hit: false,
         past: u32::MAX,
+        answer: 0,
     };
     trail.past = sure_past(&trail, lookahead);
     trail
 }
 
-/// The mask of the candidate at an index of the whole list, one of a kind, with the level.
+/// The mask of the candidate at an index of the whole list, one of a kind that has this branch, with
+/// the level.
 #[inline(always)]
-fn next_mask(round: &Round, kind: Kind, index: u32, trails: &mut Trails, mask: u8) -> u8
+fn next_mask(
+    round: &Round,
+    kind: Kind,
+    index: u32,
+    branch: &Branch,
+    trails: &mut Trails,
+    mask: u8,
+) -> u8
     requires index { IsNumberOf (settings_in round.now) kind index }
+    requires branch { (d : Branch)
+        → slice_index_or round.now.trunks.now.branches index d ≡ branch.now }
     requires needed { IsTrue (is_needed round.now.trunks.now.needs kind) }
     requires trails { AreTrailsOf round.now kind trails.old }
     ensures mask { AddsNext round.now index mask result }
     ensures trails { AreTrailsOf round.now kind trails.new }
 {
     // most candidates are answered here, so that it is asked before the mask is
-    let branch = round.trunks.branch(index);
     let trail = trail_on(trails, branch.upper);
     if is_after(branch.leaves, trail.past) {
-        return with_level(mask, round.l, trail.hit);
+        return mask | trail.answer;
     }
     if round.nested && !has_level(mask, round.l - 1) {
         return mask;
@@ -285,11 +300,11 @@ fn next_mask(round: &Round, kind: Kind, index: u32, trails: &mut Trails, mask: u
 
 /// The trail of a side.
 #[inline(always)]
-fn trail_on(trails: &Trails, upper: bool) -> Trail
-    ensures upper { IsTrue upper → result ≡ trails.now.upper }
-    ensures lower { upper ≡ false → result ≡ trails.now.lower }
+fn trail_on(trails: &Trails, upper: bool) -> &Trail
+    ensures upper { IsTrue upper → result.now ≡ trails.now.upper }
+    ensures lower { upper ≡ false → result.now ≡ trails.now.lower }
 {
-    if upper { trails.upper } else { trails.lower }
+    if upper { &trails.upper } else { &trails.lower }
 }
 
 /// Whether a leg is after another.

@@ -1,7 +1,7 @@
 //! What the candidates of one side share against an aircraft: the walk along the flight that leads
 //! on their side.
 
-ghost use Rattle.std.specs.Prelude.{◌≡◌, ◌≤◌, ◌<◌, ◌+◌, ◌↔◌, ◌⊎◌, IsTrue, false};
+ghost use Rattle.std.specs.Prelude.{◌≡◌, ◌≤◌, ◌<◌, ◌+◌, ◌-◌, ◌^◌, ◌↔◌, ◌⊎◌, IsTrue, false};
 ghost use Rattle.daa_config.specs.Settings.{IsCandidateInRange, rates_of};
 ghost use Rattle.daa_config.specs.declared.candidate.Candidate.{Candidate};
 ghost use Rattle.daa_legs.specs.Branch.{FliesOn, velocity_there};
@@ -32,7 +32,7 @@ pub(crate) fn walk_ahead(
     upto: u32,
 )
     requires lead { IsLed round.now lead trunk.now }
-    requires upto { upto ≤ round.now.level.now.lookahead }
+    requires upto { upto ≤ round.now.level.lookahead }
     requires trail { IsTrailAt round.now lead trail.old }
     ensures trail { IsTrailAt round.now lead trail.new }
     ensures done { trail.new.hit ≡ false → upto ≤ trail.new.walked }
@@ -44,6 +44,18 @@ pub(crate) fn walk_ahead(
     let far = stride_end(trail.walked, upto, round.level.lookahead);
     walk_on(round, lead, trunk, trail, far);
     trail.past = sure_past(trail, round.level.lookahead);
+    trail.answer = answer_of(trail.hit, round.l);
+}
+
+/// What is added to the masks of candidates that the trail alone answers: level `l` where there is
+/// a hit.
+#[inline(always)]
+fn answer_of(hit: bool, l: u32) -> u8
+    requires { (1 ≤ l) × (l ≤ 8) }
+    ensures hit { IsTrue hit → result ≡ 2 ^ (l - 1) }
+    ensures clear { hit ≡ false → result ≡ 0 }
+{
+    u8::from(hit) << (l - 1)
 }
 
 /// After which leg a candidate must leave the trail's flight to be answered by the trail alone, if
@@ -85,11 +97,11 @@ fn stride_end(walked: u32, upto: u32, most: u32) -> u32
 #[inline(never)]
 fn walk_on(round: &Round, lead: Candidate, trunk: &Trunk, trail: &mut Trail, upto: u32)
     requires lead { IsLed round.now lead trunk.now }
-    requires upto { upto ≤ round.now.level.now.lookahead }
+    requires upto { upto ≤ round.now.level.lookahead }
     requires trail { IsTrailOf (settings_in round.now) (own_in round.now) lead
-        (aircraft_in round.now) round.now.level.now.volume trail.old }
+        (aircraft_in round.now) round.now.level.volume trail.old }
     ensures trail { IsTrailOf (settings_in round.now) (own_in round.now) lead
-        (aircraft_in round.now) round.now.level.now.volume trail.new }
+        (aircraft_in round.now) round.now.level.volume trail.new }
     ensures done { trail.new.hit ≡ false → upto ≤ trail.new.walked }
     ensures end { trail.new.end ≡ trail.old.end }
 {
@@ -113,7 +125,7 @@ fn walk_on(round: &Round, lead: Candidate, trunk: &Trunk, trail: &mut Trail, upt
 #[inline(always)]
 fn violates_on(round: &Round, lead: Candidate, trunk: &Trunk, k: u32) -> bool
     requires lead { IsLed round.now lead trunk.now }
-    requires k { k < round.now.level.now.lookahead }
+    requires k { k < round.now.level.lookahead }
     ensures { IsTrue result ↔ IsHitOn round.now lead k }
 {
     is_hit(
@@ -129,7 +141,7 @@ fn meets_after(round: &Round, lead: Candidate, trunk: &Trunk, branch: &Branch) -
     ghost candidate: { Candidate }
     requires lead { IsLed round.now lead trunk.now }
     requires branch { IsBranchBy round.now lead candidate branch.now }
-    requires leaves { branch.now.leaves < round.now.level.now.lookahead }
+    requires leaves { branch.now.leaves < round.now.level.lookahead }
     ensures { IsTrue result ↔ IsMetFrom round.now candidate branch.now.leaves }
 {
     let k = branch.leaves;
@@ -142,14 +154,15 @@ fn meets_after(round: &Round, lead: Candidate, trunk: &Trunk, branch: &Branch) -
 }
 
 /// Whether the candidate that has this branch, and which is at this place when it leaves the trunk,
-/// meets the aircraft then or later. It leaves by a leg of its own.
-#[inline(always)]
+/// meets the aircraft then or later. It leaves by a leg of its own. Few do, so that this is a call:
+/// what it keeps at hand would cost each of the others.
+#[inline(never)]
 fn meets_from_own_leg(round: &Round, branch: &Branch, place: &Solid) -> bool
     ghost candidate: { Candidate }
     requires candidate { IsCandidateInRange candidate }
     requires branch { IsBranchOf (own_in round.now) (rates_of (settings_in round.now))
         candidate branch.now }
-    requires leaves { branch.now.leaves < round.now.level.now.lookahead }
+    requires leaves { branch.now.leaves < round.now.level.lookahead }
     requires later { branch.now.leaves < branch.now.settles }
     requires place { place.now ≡ place_on (own_in round.now) (rates_of (settings_in round.now))
         candidate branch.now.leaves }
@@ -223,7 +236,7 @@ pub(crate) fn meets_by_branch(
     requires branch { IsBranchBy round.now lead candidate branch.now }
     requires trail { IsTrailFor round.now lead candidate trail.now }
     requires walked { trail.now.hit ≡ false → (branch.now.leaves ≤ trail.now.walked)
-        ⊎ (round.now.level.now.lookahead ≤ trail.now.walked) }
+        ⊎ (round.now.level.lookahead ≤ trail.now.walked) }
     ensures { IsTrue result ↔ IsMet round.now candidate }
 {
     if trail.hit && trail.walked < branch.leaves && trail.walked < round.level.lookahead {

@@ -79,12 +79,11 @@ impl<'a> Trunks<'a> {
         &self.trunks[trunk_index(kind, upper) as usize]
     }
 
-    /// The branch of the candidate at an index of the whole list.
-    pub(crate) fn branch(&self, index: u32) -> &Branch
-        requires { index < length self.now.branches }
-        ensures { (d : Branch) → slice_index_or self.now.branches index d ≡ result.now }
+    /// The branches, by the candidates' indices in the whole list.
+    pub(crate) fn branches(&self) -> &[Branch]
+        ensures { result.now ≡ self.now.branches }
     {
-        &self.branches[index as usize]
+        self.branches
     }
 }
 

@@ -1,5 +1,5 @@
 -- How far the flight that leads on a side was walked against an aircraft and a volume.
-use Rattle.std.specs.Prelude.{ℕ, ◌≡◌, ◌<◌, ◌≤◌, ◌^◌, IsTrue, false, List}
+use Rattle.std.specs.Prelude.{ℕ, ◌≡◌, ◌-◌, ◌<◌, ◌≤◌, ◌^◌, IsTrue, false, List}
 use Rattle.daa_taumod.specs.declared.Volume.{Volume}
 use Rattle.daa_config.specs.declared.candidate.Candidate.{Candidate}
 use Rattle.daa_config.specs.Settings.{Settings, IsCandidateInRange, rates_of}
@@ -27,10 +27,16 @@ pub record IsSure (lookahead : ℕ) (trail : Trail) : Type 0 where
   pub hit : IsTrue trail.hit → (n : ℕ) → trail.past < n → n < 2 ^ 32 → (trail.walked < n) × (trail.walked < lookahead)
   pub clear : trail.hit ≡ false → (n k : ℕ) → trail.past < n → n < 2 ^ 32 → k < lookahead → (trail.walked ≤ k → trail.end ≤ k) × (n ≤ k → trail.end ≤ k)
 
+-- its answer is level l where there is a hit
+pub record AnswersBy (l : ℕ) (trail : Trail) : Type 0 where
+  pub hit : IsTrue trail.hit → trail.answer ≡ 2 ^ (l - 1)
+  pub clear : trail.hit ≡ false → trail.answer ≡ 0
+
 -- the trail along the flight that leads, in a round
 pub record IsTrailAt (round : Round) (lead : Candidate) (trail : Trail) : Type 0 where
-  pub along : IsTrailOf (settings_in round) (own_in round) lead (aircraft_in round) round.level.now.volume trail
-  pub sure : IsSure round.level.now.lookahead trail
+  pub along : IsTrailOf (settings_in round) (own_in round) lead (aircraft_in round) round.level.volume trail
+  pub sure : IsSure round.level.lookahead trail
+  pub answers : AnswersBy round.l trail
 
 -- and from its end on the candidate, which leaves that flight, violates nothing either
 pub record IsTrailFor (round : Round) (lead candidate : Candidate) (trail : Trail) : Type 0 where
@@ -40,7 +46,7 @@ pub record IsTrailFor (round : Round) (lead candidate : Candidate) (trail : Trai
 -- these are the legs of the flight that leads, as far as the level looks ahead
 pub record IsLed (round : Round) (lead : Candidate) (legs : List OwnLeg) : Type 0 where
   pub in_range : IsCandidateInRange lead
-  pub legs_of : AreLegsOf (own_in round) (rates_of (settings_in round)) lead round.level.now.lookahead legs
+  pub legs_of : AreLegsOf (own_in round) (rates_of (settings_in round)) lead round.level.lookahead legs
 
 -- the candidate's branch, which leaves the flight that leads on its side
 pub record IsBranchBy (round : Round) (lead candidate : Candidate) (branch : Branch) : Type 0 where

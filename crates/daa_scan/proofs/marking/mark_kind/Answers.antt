@@ -1,5 +1,8 @@
-use Rattle.std.proofs.Common.{◌≡◌, ◌<◌, ◌+◌, ◌-◌, ℕ, inl, inr, ⊎_elim, refl, sym, subst, arith, length, slice_set, true, false}
-use Rattle.std.specs.Prelude.{slice_index}
+use Rattle.std.proofs.Common.{◌≡◌, ◌<◌, ◌+◌, ◌-◌, ℕ, List, inl, inr, ⊎_elim, refl, sym, subst, ap, ◌∙◌, arith, length, slice_set, true, false}
+use Rattle.std.specs.Prelude.{slice_index, slice_index_or}
+use Rattle.std.proofs.lemmas.Option.{same_Some, slice_get-get_or}
+use Rattle.daa_config.proofs.CandidateLemmas.{kind_within}
+use Rattle.daa_legs.specs.declared.branch.Branch.{Branch}
 use Rattle.daa_config.specs.Candidates.{start_of, values_of}
 use Rattle.daa_scan.specs.declared.refusal.Seconds.{Seconds}
 use Rattle.daa_scan.specs.Inside.Marking.{AreMarkedUpto, AddsNext}
@@ -12,15 +15,15 @@ use Rattle.daa_scan.proofs.marking.mark_kind.Goals as goal
 pub returns-then-not-has-clause-masks : goal.returns-then-not-has-clause-masks
 returns-then-not-has-clause-masks c before h =
     let r = c.args.round.now in
-    marked_past (settings_in r) (own_in r) (aircraft_in r) c.args.first r.l before c.args.masks.now c.args.kind r.level.now r.known.accepted r.known.there
-    (r.known.kept.idle c.args.kind (cc (c.has.ensures, c.if-not-has.true)) r.l r.level.now r.known.there) h
+    marked_past (settings_in r) (own_in r) (aircraft_in r) c.args.first r.l before c.args.masks.now c.args.kind r.level r.known.accepted r.known.there
+    (r.known.kept.idle c.args.kind (cc (c.has.ensures, c.if-not-has.true)) r.l r.level r.known.there) h
 
 pub returns-then-seconds-round-clause-masks : goal.returns-then-seconds-round-clause-masks
 returns-then-seconds-round-clause-masks c before h =
     let r = c.args.round.now in
-    let seconds = subst (λ (s : Seconds). AreSecondsOf (settings_in r) (own_in r) (aircraft_in r) c.args.kind r.level.now.volume r.level.now.lookahead s) (sym c.of-seconds.ensures)
+    let seconds = subst (λ (s : Seconds). AreSecondsOf (settings_in r) (own_in r) (aircraft_in r) c.args.kind r.level.volume r.level.lookahead s) (sym c.of-seconds.ensures)
     (r.known.seconds c.args.kind) in
-    marked_past (settings_in r) (own_in r) (aircraft_in r) c.args.first r.l before c.args.masks.now c.args.kind r.level.now r.known.accepted r.known.there
+    marked_past (settings_in r) (own_in r) (aircraft_in r) c.args.first r.l before c.args.masks.now c.args.kind r.level r.known.accepted r.known.there
     (λ z m. seconds.before z m.leg m.before (omega (arith, m.before, c.if-seconds-round.true)) m.violates) h
 
 pub returns-then-not-some_has_level-clause-masks : goal.returns-then-not-some_has_level-clause-masks
@@ -31,7 +34,7 @@ returns-then-not-some_has_level-clause-masks c before h =
     marked_asked (settings_in r) (own_in r) (aircraft_in r) c.args.first r.l before c.args.masks.now start (start + length (values_of c.args.kind (settings_in r))) (omega arith)
     (λ j b from d. inr (
       omega (arith, nested.some),
-      (λ candidate m. meets_before (settings_in r) (own_in r) candidate (aircraft_in r) r.l r.level.now r.known.there nested m),
+      (λ candidate m. meets_before (settings_in r) (own_in r) candidate (aircraft_in r) r.l r.level r.known.there nested m),
       c.some_has_level.ensures c.if-not-some_has_level.true j
           (omega (arith, c.max-from.ensures, c.begin_level.ensures.from, from))
           (omega (arith, c.min-upto.ensures, c.begin_level.ensures.upto, d, b)),
@@ -41,15 +44,15 @@ returns-then-not-some_has_level-clause-masks c before h =
 pub loop-at-init : goal.loop-at-init
 loop-at-init c =
     let r = c.args.round.now in
-    let seconds = subst (λ (s : Seconds). AreSecondsOf (settings_in r) (own_in r) (aircraft_in r) c.args.kind r.level.now.volume r.level.now.lookahead s) (sym c.of-seconds.ensures)
+    let seconds = subst (λ (s : Seconds). AreSecondsOf (settings_in r) (own_in r) (aircraft_in r) c.args.kind r.level.volume r.level.lookahead s) (sym c.of-seconds.ensures)
     (r.known.seconds c.args.kind) in
-    let some : c.of-seconds.result.begin < r.level.now.lookahead = omega (arith, c.if-seconds-round.false) in
+    let some : c.of-seconds.result.begin < r.level.lookahead = omega (arith, c.if-seconds-round.false) in
     record {
       trails = record {
         upper = begun_trail r c.args.kind c.of-seconds.result seconds some true _ c.begun.result c.begin_level.ensures.upper c.begun.ensures.walked c.begun.ensures.end
-            c.begun.ensures.hit c.begun.ensures.sure;
+            c.begun.ensures.hit c.begun.ensures.sure c.begun.ensures.answer;
         lower = begun_trail r c.args.kind c.of-seconds.result seconds some false _ c.begun-2.result c.begin_level.ensures.lower c.begun-2.ensures.walked c.begun-2.ensures.end
-            c.begun-2.ensures.hit c.begun-2.ensures.sure;
+            c.begun-2.ensures.hit c.begun-2.ensures.sure c.begun-2.ensures.answer;
         past_upper = begun_past r c.args.kind c.of-seconds.result seconds some c.begun.result c.begun.ensures.end;
         past_lower = begun_past r c.args.kind c.of-seconds.result seconds some c.begun-2.result c.begun-2.ensures.end;
       };
@@ -65,6 +68,23 @@ loop-index-init c = record {
   masks = λ before h. h;
   near = omega (arith, c.next_end-end.ensures.after);
 }
+
+-- the branch of the candidate at the index
+pub bounds-branches-index : goal.bounds-branches-index
+bounds-branches-index c =
+    let r = c.args.round.now in
+    let room = r.known.kept.trunks.branches.room in
+    let same : length c.branches-branches.result.now ≡ length r.trunks.now.branches = ap (λ (b : List Branch). length b) c.branches-branches.ensures in
+    omega (arith, c.min-upto.ensures, c.loop-index-test.true, c.next_end-end.ensures.within, c.begin_level.ensures.upto, kind_within c.args.kind (settings_in r), room, same)
+
+pub next_mask-requires-clause-branch : goal.next_mask-requires-clause-branch
+next_mask-requires-clause-branch c d =
+    let r = c.args.round.now in
+    let room = r.known.kept.trunks.branches.room in
+    let inside : c.loop-index.index < length r.trunks.now.branches = omega (arith, c.min-upto.ensures, c.loop-index-test.true, c.next_end-end.ensures.within, c.begin_level.ensures.upto,
+    kind_within c.args.kind (settings_in r), room) in
+    same_Some _ _ (sym (slice_get-get_or r.trunks.now.branches c.loop-index.index d inside) ∙ slice_get-get_or r.trunks.now.branches c.loop-index.index _ inside)
+    ∙ ap (λ (b : List Branch). slice_index_or b c.loop-index.index _) (sym c.branches-branches.ensures)
 
 pub next_mask-requires-clause-index : goal.next_mask-requires-clause-index
 next_mask-requires-clause-index c = record {
@@ -110,7 +130,7 @@ loop-at-preserved c =
           (λ j b from d. ⊎_elim
           (λ t. inl t)
           (λ (n, clear). let nested = r.known.within n in
-          inr (omega (arith, nested.some), (λ candidate m. meets_before (settings_in r) (own_in r) candidate (aircraft_in r) r.l r.level.now r.known.there nested m), clear))
+          inr (omega (arith, nested.some), (λ candidate m. meets_before (settings_in r) (own_in r) candidate (aircraft_in r) r.l r.level r.known.there nested m), clear))
           (c.some_is_open.ensures c.if-some_is_open.false j (omega (arith, from)) (omega (arith, d))))
           (c.loop-at.invariant.masks before h);
       from = omega (arith, c.loop-at.invariant.from, c.next_end-end.ensures.after);

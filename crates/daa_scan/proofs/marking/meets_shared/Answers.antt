@@ -10,8 +10,8 @@ meets_along-requires g c =
     let lead = c.lead_to-lead.result in
     let led = c.lead_to-lead.ensures.value in
     let upper = c.args.branch.now.upper in
-    let trunk = trunk_led (own_in r) c.args.kind upper lead led (rates_of (settings_in r)) r.level.now.lookahead r.trunks.now.trunks c.trunk-trunk.result.now
-    (λ u z. r.known.kept.trunks.leads r.l r.level.now r.known.there c.args.kind u z c.requires.1.0) c.trunk-trunk.ensures in (
+    let trunk = trunk_led (own_in r) c.args.kind upper lead led (rates_of (settings_in r)) r.level.lookahead r.trunks.now.trunks c.trunk-trunk.result.now
+    (λ u z. r.known.kept.trunks.leads r.l r.level r.known.there c.args.kind u z c.requires.1.0) c.trunk-trunk.ensures in (
       record { in_range = c.lead_to-lead.ensures.in_range; legs_of = trunk },
       (
         record { in_range = is.in_range; leads = leads_of (own_in r) c.args.kind upper lead led g.candidate is.value is.is; branch_of = is.branch_of },
@@ -29,8 +29,8 @@ meets_along-requires-else-branch g c =
     let lead = c.lead_to-lead.result in
     let led = c.lead_to-lead.ensures.value in
     let upper = c.args.branch.now.upper in
-    let trunk = trunk_led (own_in r) c.args.kind upper lead led (rates_of (settings_in r)) r.level.now.lookahead r.trunks.now.trunks c.trunk-trunk.result.now
-    (λ u z. r.known.kept.trunks.leads r.l r.level.now r.known.there c.args.kind u z c.requires.1.0) c.trunk-trunk.ensures in (
+    let trunk = trunk_led (own_in r) c.args.kind upper lead led (rates_of (settings_in r)) r.level.lookahead r.trunks.now.trunks c.trunk-trunk.result.now
+    (λ u z. r.known.kept.trunks.leads r.l r.level r.known.there c.args.kind u z c.requires.1.0) c.trunk-trunk.ensures in (
       record { in_range = c.lead_to-lead.ensures.in_range; legs_of = trunk },
       (
         record { in_range = is.in_range; leads = leads_of (own_in r) c.args.kind upper lead led g.candidate is.value is.is; branch_of = is.branch_of },

@@ -11,13 +11,13 @@ returns-then-trail-round g c =
     let r = c.args.round.now in
     let by = c.requires.1.0 in
     let alike = flies_as_lead (own_in r) (rates_of (settings_in r)) g.candidate c.args.lead c.args.branch.now by.leads by.branch_of in (
-      (λ _. hit_meets (settings_in r) (own_in r) g.candidate c.args.lead (aircraft_in r) r.level.now.volume c.args.branch.now.leaves r.level.now.lookahead alike c.args.trail.now
+      (λ _. hit_meets (settings_in r) (own_in r) g.candidate c.args.lead (aircraft_in r) r.level.volume c.args.branch.now.leaves r.level.lookahead alike c.args.trail.now
           c.requires.1.1.0.at.along
           c.if-trail.true c.if-trail-branch.true c.if-trail-round.true),
       (λ _. refl),
     )
 
-never : (g : Over) (c : Then-branch-last g) (k : ℕ) → c.args.trail.now.walked ≤ k → k < c.args.branch.now.leaves → k < c.args.round.now.level.now.lookahead → ⊥
+never : (g : Over) (c : Then-branch-last g) (k : ℕ) → c.args.trail.now.walked ≤ k → k < c.args.branch.now.leaves → k < c.args.round.now.level.lookahead → ⊥
 never g c k h a b = elim c.else-trail.branch [
   | else-trail-via-then-trail+then-trail-branch+else-trail-round w ↦ omega (arith, w.if-trail-round.false, h, a, b)
   | else-trail-via-then-trail+else-trail-branch w ↦ omega (arith, w.if-trail-branch.false, h, a, b)
@@ -31,12 +31,12 @@ returns-then-branch-last g c = (
       let r = c.args.round.now in
       let by = c.requires.1.0 in
       let alike = flies_as_lead (own_in r) (rates_of (settings_in r)) g.candidate c.args.lead c.args.branch.now by.leads by.branch_of in
-      let e = later_meets (settings_in r) (own_in r) g.candidate c.args.lead (aircraft_in r) r.level.now.volume c.args.branch.now.leaves r.level.now.lookahead alike
+      let e = later_meets (settings_in r) (own_in r) g.candidate c.args.lead (aircraft_in r) r.level.volume c.args.branch.now.leaves r.level.lookahead alike
       c.args.trail.now c.requires.1.1.0.at.along (never g c) m in
       absurd (c.requires.1.1.0.later e.leg (omega (arith, e.before, r.known.in_range.lookahead_most)) (omega (arith, e.not_before, e.before, c.min-last.ensures, c.if-branch-last.true)) e.violates)),
 )
 
-never_later : (g : Over) (c : After-meets_after g) (k : ℕ) → c.args.trail.now.walked ≤ k → k < c.args.branch.now.leaves → k < c.args.round.now.level.now.lookahead → ⊥
+never_later : (g : Over) (c : After-meets_after g) (k : ℕ) → c.args.trail.now.walked ≤ k → k < c.args.branch.now.leaves → k < c.args.round.now.level.lookahead → ⊥
 never_later g c k h a b = elim c.else-trail.branch [
   | else-trail-via-then-trail+then-trail-branch+else-trail-round w ↦ omega (arith, w.if-trail-round.false, h, a, b)
   | else-trail-via-then-trail+else-trail-branch w ↦ omega (arith, w.if-trail-branch.false, h, a, b)
@@ -48,9 +48,9 @@ returns g c =
     let r = c.args.round.now in
     let by = c.requires.1.0 in
     let alike = flies_as_lead (own_in r) (rates_of (settings_in r)) g.candidate c.args.lead c.args.branch.now by.leads by.branch_of in (
-      (λ t. meets_later (settings_in r) (own_in r) g.candidate c.args.lead (aircraft_in r) r.level.now.volume c.args.branch.now.leaves r.level.now.lookahead alike c.args.trail.now
+      (λ t. meets_later (settings_in r) (own_in r) g.candidate c.args.lead (aircraft_in r) r.level.volume c.args.branch.now.leaves r.level.lookahead alike c.args.trail.now
           c.requires.1.1.0.at.along (c.meets_after.ensures.0 t)),
       (λ m. c.meets_after.ensures.1
-          (later_meets (settings_in r) (own_in r) g.candidate c.args.lead (aircraft_in r) r.level.now.volume c.args.branch.now.leaves r.level.now.lookahead alike c.args.trail.now
+          (later_meets (settings_in r) (own_in r) g.candidate c.args.lead (aircraft_in r) r.level.volume c.args.branch.now.leaves r.level.lookahead alike c.args.trail.now
           c.requires.1.1.0.at.along (never_later g c) m)),
     )

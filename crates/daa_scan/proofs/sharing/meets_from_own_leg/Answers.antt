@@ -18,7 +18,7 @@ relative-requires-clause-leg g c =
     let short : c.args.branch.now.leaves < 180 = omega (arith, c.requires.1.1.0, r.known.in_range.lookahead_most) in
     let own = own_by_branch (own_in r) rates g.candidate c.args.branch.now c.args.place.now c.own_leg_of-first.result c.requires.1.0 c.requires.1.1.1.0 short c.requires.1.1.1.1
     c.own_leg_of-first.ensures in
-    subst (λ (l : OwnLeg). IsOwnLegInRange l) (sym own) (own_leg-in_range (own_in r) rates g.candidate k r.encounter.now.known.own_in_range r.known.accepted.rates c.requires.0 (omega (arith, short)))
+    subst (λ (l : OwnLeg). IsOwnLegInRange l) (sym own) (own_leg-in_range (own_in r) rates g.candidate k r.encounter.known.own_in_range r.known.accepted.rates c.requires.0 (omega (arith, short)))
 
 pub end_of-requires : goal.end_of-requires
 end_of-requires g c =
@@ -28,7 +28,7 @@ end_of-requires g c =
     let short : c.args.branch.now.leaves < 180 = omega (arith, c.requires.1.1.0, r.known.in_range.lookahead_most) in
     let own = own_by_branch (own_in r) rates g.candidate c.args.branch.now c.args.place.now c.own_leg_of-first.result c.requires.1.0 c.requires.1.1.1.0 short c.requires.1.1.1.1
     c.own_leg_of-first.ensures in
-    subst (λ (l : OwnLeg). IsOwnLegInRange l) (sym own) (own_leg-in_range (own_in r) rates g.candidate k r.encounter.now.known.own_in_range r.known.accepted.rates c.requires.0 (omega (arith, short)))
+    subst (λ (l : OwnLeg). IsOwnLegInRange l) (sym own) (own_leg-in_range (own_in r) rates g.candidate k r.encounter.known.own_in_range r.known.accepted.rates c.requires.0 (omega (arith, short)))
 
 pub returns-then-is_hit : goal.returns-then-is_hit
 returns-then-is_hit g c =
@@ -38,9 +38,9 @@ returns-then-is_hit g c =
     let short : c.args.branch.now.leaves < 180 = omega (arith, c.requires.1.1.0, r.known.in_range.lookahead_most) in
     let own = own_by_branch (own_in r) rates g.candidate c.args.branch.now c.args.place.now c.own_leg_of-first.result c.requires.1.0 c.requires.1.1.1.0 short c.requires.1.1.1.1
     c.own_leg_of-first.ensures in
-    let tested = leg_tested (settings_in r) (own_in r) g.candidate (aircraft_in r) r.level.now.volume k c.own_leg_of-first.result c.relative.result c.is_hit.result own
+    let tested = leg_tested (settings_in r) (own_in r) g.candidate (aircraft_in r) r.level.volume k c.own_leg_of-first.result c.relative.result c.is_hit.result own
     c.relative.ensures.value c.is_hit.ensures in
-    let f = from_next (settings_in r) (own_in r) g.candidate (aircraft_in r) r.level.now.volume k r.level.now.lookahead c.requires.1.1.0 in
+    let f = from_next (settings_in r) (own_in r) g.candidate (aircraft_in r) r.level.volume k r.level.lookahead c.requires.1.1.0 in
     ((λ _. f.1 (inl (tested.0 c.if-is_hit.true))), (λ _. refl))
 
 next : (n s : ℕ) → n < s → s ≤ n + 1 → s ≡ n + 1
@@ -66,9 +66,9 @@ returns g c =
     let short : c.args.branch.now.leaves < 180 = omega (arith, c.requires.1.1.0, r.known.in_range.lookahead_most) in
     let own = own_by_branch (own_in r) rates g.candidate c.args.branch.now c.args.place.now c.own_leg_of-first.result c.requires.1.0 c.requires.1.1.1.0 short c.requires.1.1.1.1
     c.own_leg_of-first.ensures in
-    let tested = leg_tested (settings_in r) (own_in r) g.candidate (aircraft_in r) r.level.now.volume k c.own_leg_of-first.result c.relative.result c.is_hit.result own
+    let tested = leg_tested (settings_in r) (own_in r) g.candidate (aircraft_in r) r.level.volume k c.own_leg_of-first.result c.relative.result c.is_hit.result own
     c.relative.ensures.value c.is_hit.ensures in
-    let f = from_next (settings_in r) (own_in r) g.candidate (aircraft_in r) r.level.now.volume k r.level.now.lookahead c.requires.1.1.0 in (
+    let f = from_next (settings_in r) (own_in r) g.candidate (aircraft_in r) r.level.volume k r.level.lookahead c.requires.1.1.0 in (
       (λ t. f.1 (inr (c.meets_on_rest.ensures.0 t))),
       (λ m. ⊎_elim
           (λ v. let t = tested.1 v in absurd (cc (t, c.if-is_hit.false)))

@@ -11,15 +11,15 @@ pub relative_run-requires-clause-run : goal.relative_run-requires-clause-run
 relative_run-requires-clause-run g c =
     let r = c.args.round.now in
     let rates = rates_of (settings_in r) in
-    let own = r.encounter.now.known.own_in_range in
+    let own = r.encounter.known.own_in_range in
     let velocity = rest_velocity (own_in r) rates g.candidate c.args.k c.args.velocity.now own r.known.accepted.rates c.requires.0 c.requires.1.0 c.requires.1.1.1 in
-    rest_in_range (own_in r) rates g.candidate c.args.k (r.level.now.lookahead - c.args.k) (record { place = c.args.place.now; velocity = c.args.velocity.now }) own r.known.accepted.rates c.requires.0
+    rest_in_range (own_in r) rates g.candidate c.args.k (r.level.lookahead - c.args.k) (record { place = c.args.place.now; velocity = c.args.velocity.now }) own r.known.accepted.rates c.requires.0
     (omega (arith, c.if-k-round.false, r.known.in_range.lookahead_most)) c.requires.1.1.0 velocity (omega (arith, c.if-k-round.false))
 
 pub returns : goal.returns
 returns g c =
     let r = c.args.round.now in
-    rest_tested (settings_in r) (own_in r) g.candidate (aircraft_in r) r.level.now.volume c.args.k (r.level.now.lookahead - c.args.k) r.level.now.lookahead
+    rest_tested (settings_in r) (own_in r) g.candidate (aircraft_in r) r.level.volume c.args.k (r.level.lookahead - c.args.k) r.level.lookahead
     (record { place = c.args.place.now; velocity = c.args.velocity.now }) c.relative_run.result c.is_hit.result
     c.requires.1.1.0 c.requires.1.0 c.requires.1.1.1 (omega (arith, c.if-k-round.false))
-    (c.relative_run.ensures.seconds (settings_in r) (own_in r) g.candidate r.level.now.volume) c.is_hit.ensures
+    (c.relative_run.ensures.seconds (settings_in r) (own_in r) g.candidate r.level.volume) c.is_hit.ensures

@@ -10,14 +10,14 @@ pub relative-requires-clause-leg : goal.relative-requires-clause-leg
 relative-requires-clause-leg c =
     let r = c.args.round.now in
     let rates = rates_of (settings_in r) in
-    subst (λ (l : OwnLeg). IsOwnLegInRange l) (sym (kept_is (own_in r) rates c.args.lead r.level.now.lookahead c.args.k c.args.trunk.now c.leg.result.now c.requires.lead.legs_of
+    subst (λ (l : OwnLeg). IsOwnLegInRange l) (sym (kept_is (own_in r) rates c.args.lead r.level.lookahead c.args.k c.args.trunk.now c.leg.result.now c.requires.lead.legs_of
     c.requires.k c.leg.ensures))
-    (own_leg-in_range (own_in r) rates c.args.lead c.args.k r.encounter.now.known.own_in_range r.known.accepted.rates c.requires.lead.in_range
+    (own_leg-in_range (own_in r) rates c.args.lead c.args.k r.encounter.known.own_in_range r.known.accepted.rates c.requires.lead.in_range
     (omega (arith, c.requires.k, r.known.in_range.lookahead_most)))
 
 pub returns : goal.returns
 returns c =
     let r = c.args.round.now in
-    leg_tested (settings_in r) (own_in r) c.args.lead (aircraft_in r) r.level.now.volume c.args.k c.leg.result.now c.relative.result c.is_hit.result
-    (kept_is (own_in r) (rates_of (settings_in r)) c.args.lead r.level.now.lookahead c.args.k c.args.trunk.now c.leg.result.now c.requires.lead.legs_of c.requires.k c.leg.ensures)
+    leg_tested (settings_in r) (own_in r) c.args.lead (aircraft_in r) r.level.volume c.args.k c.leg.result.now c.relative.result c.is_hit.result
+    (kept_is (own_in r) (rates_of (settings_in r)) c.args.lead r.level.lookahead c.args.k c.args.trunk.now c.leg.result.now c.requires.lead.legs_of c.requires.k c.leg.ensures)
     c.relative.ensures.value c.is_hit.ensures

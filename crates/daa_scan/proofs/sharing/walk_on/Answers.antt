@@ -22,7 +22,7 @@ pub returns-clause-trail : goal.returns-clause-trail
 returns-clause-trail c =
     let r = c.args.round.now in
     record {
-      none = walked_upto (settings_in r) (own_in r) c.args.lead (aircraft_in r) r.level.now.volume c.loop-walked.trail c.min-last.result c.loop-walked.walked c.args.upto c.loop-walked.invariant.trail
+      none = walked_upto (settings_in r) (own_in r) c.args.lead (aircraft_in r) r.level.volume c.loop-walked.trail c.min-last.result c.loop-walked.walked c.args.upto c.loop-walked.invariant.trail
           (omega (arith, c.requires.upto, r.known.in_range.lookahead_most)) c.loop-walked.invariant.last (omega (arith, c.loop-walked-test.false)) c.loop-walked.invariant.none;
       hit = λ t. absurd (true≢false (sym t ∙ c.loop-walked.invariant.clear));
       later = c.loop-walked.invariant.trail.later;

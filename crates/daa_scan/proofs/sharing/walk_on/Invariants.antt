@@ -7,7 +7,7 @@ use Rattle.daa_scan.proofs.sharing.walk_on.Given as goal
 abbrev pub invariant-loop-walked : goal.invariant-loop-walked
 invariant-loop-walked l = record {
   none : (j : ℕ) → j < l.walked → ¬ IsHitOn l.round l.fn.lead j;
-  trail : IsTrailOf (settings_in l.round) (own_in l.round) l.fn.lead (aircraft_in l.round) l.round.level.now.volume l.trail;
+  trail : IsTrailOf (settings_in l.round) (own_in l.round) l.fn.lead (aircraft_in l.round) l.round.level.volume l.trail;
   clear : l.trail.hit ≡ false;
   last : l.last ≡ min l.fn.upto l.trail.end;
   end : l.trail.end ≡ l.fn.trail.end;
