@@ -191,7 +191,8 @@ module _ (round : Round) (kind : Kind) (trails : Trails) (h : AreTrailsOf round 
       (aircraft_in round) round.level.volume branch.leaves round.level.lookahead (alike false e) trails.lower
       (h.lower is.value).along (h.lower is.value).sure (subst (λ (x : Trail). x.past < branch.leaves) (down e) p) b short (past_of round kind candidate is.value trails.lower.end is.is h.past_lower))
 
-  answers_on : (trail : Trail) → (IsTrue branch.upper → trail ≡ trails.upper) → (branch.upper ≡ false → trail ≡ trails.lower) → (u : Bool) → branch.upper ≡ u → AnswersBy round.l trail
+  answers_on : (trail : Trail) → (IsTrue branch.upper → trail ≡ trails.upper) → (branch.upper ≡ false → trail ≡ trails.lower) → (u : Bool)
+      → branch.upper ≡ u → AnswersBy round.l trail
   answers_on trail up down true e = subst (λ (x : Trail). AnswersBy round.l x) (sym (up e)) (h.upper is.value).answers
   answers_on trail up down false e = subst (λ (x : Trail). AnswersBy round.l x) (sym (down e)) (h.lower is.value).answers
 

@@ -20,7 +20,8 @@ returns-then-is_after-clause-mask c old is =
     trail c.trail_on-trail.ensures.upper c.trail_on-trail.ensures.lower after.0 in
     let answers = side_answers r c.args.kind c.args.trails.now c.requires.trails r.known.in_range.lookahead_most candidate c.args.branch.now branch after.1
     trail c.trail_on-trail.ensures.upper c.trail_on-trail.ensures.lower in
-    adds_by (settings_in r) (own_in r) (aircraft_in r) c.args.index candidate (number_there c.args.kind (settings_in r) c.args.index c.requires.index) r.l old c.args.mask (bit_or c.args.mask trail.answer)
+    adds_by (settings_in r) (own_in r) (aircraft_in r) c.args.index candidate (number_there c.args.kind (settings_in r) c.args.index c.requires.index) r.l old c.args.mask
+    (bit_or c.args.mask trail.answer)
     (λ h. one_more (settings_in r) (own_in r) candidate (aircraft_in r) r.l old c.args.mask h r.level r.known.there trail.hit (bit_or c.args.mask trail.answer) tested
     (λ met. ap (bit_or c.args.mask) (answers.hit met))
     (λ none. ap (bit_or c.args.mask) (answers.clear none) ∙ or_zero_r c.args.mask))
