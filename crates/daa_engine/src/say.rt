@@ -1,9 +1,10 @@
-//! Writes what was found of a moment.
+//! Writes what was found of a moment. To say a line is to hold it back until there is no room for
+//! one more, or the text ends.
 
 ghost use Rattle.std.specs.Prelude.{◌≡◌, length};
 ghost use Rattle.daa_state.specs.Picture.{aircraft_of};
 ghost use Rattle.daa_report.specs.Says.{Says};
-ghost use Rattle.daa_report.specs.Page.{PageSays};
+ghost use Rattle.daa_report.specs.Held.{SaysOrHolds};
 ghost use Rattle.daa_report.specs.Lines.{moment_line, now_line, alert_line};
 ghost use Rattle.daa_report.specs.Lines.{resolve_line, done_line};
 ghost use Rattle.daa_engine.specs.MomentText.{line_of};
@@ -16,140 +17,142 @@ use crate::findings::{Finding, Findings};
 use daa_bands::{Band, Board, runs};
 use daa_config::{Config, Kind};
 use daa_outside::Sink;
-use daa_report::{Line, Page, SinkFault};
+use daa_report::{HeldLines, Line, SinkFault};
 use daa_state::{Picture, Traffic};
 
 /// Says the level of an aircraft now.
 fn say_now<K: Sink>(
-    page: &mut Page,
+    held: &mut HeldLines,
     sink: &mut K,
     aircraft: &Traffic,
     found: &AircraftAlert,
 ) -> Result<(), SinkFault>
-    ensures { PageSays (K.taken sink.old) (K.taken sink.new) page.old page.new (K.faults sink.old)
-        (K.faults sink.new) (now_line aircraft.now.id found.now.level_now) result }
+    ensures { SaysOrHolds (K.taken sink.old) (K.taken sink.new) held.old held.new
+        (K.faults sink.old) (K.faults sink.new)
+        (now_line aircraft.now.id found.now.level_now) result }
 {
-    page.say(sink, &Line::now(&aircraft.id, found.level_now))
+    held.say(sink, &Line::now(&aircraft.id, found.level_now))
 }
 
 /// Says the alert of an aircraft.
 fn say_alert<K: Sink>(
-    page: &mut Page,
+    held: &mut HeldLines,
     sink: &mut K,
     aircraft: &Traffic,
     found: &AircraftAlert,
 ) -> Result<(), SinkFault>
-    ensures { PageSays (K.taken sink.old) (K.taken sink.new) page.old page.new (K.faults sink.old)
-        (K.faults sink.new) (alert_line aircraft.now.id found.now.alert.level found.now.alert.first)
-        result }
+    ensures { SaysOrHolds (K.taken sink.old) (K.taken sink.new) held.old held.new
+        (K.faults sink.old) (K.faults sink.new)
+        (alert_line aircraft.now.id found.now.alert.level found.now.alert.first) result }
 {
     let alert = found.alert;
-    page.say(sink, &Line::alert(&aircraft.id, alert.level, alert.first))
+    held.say(sink, &Line::alert(&aircraft.id, alert.level, alert.first))
 }
 
 /// Says the two lines of an aircraft.
 fn say_aircraft<K: Sink>(
-    page: &mut Page,
+    held: &mut HeldLines,
     sink: &mut K,
     aircraft: &Traffic,
     found: &AircraftAlert,
 ) -> Result<(), SinkFault>
-    ensures { PageSays (K.taken sink.old) (K.taken sink.new) page.old page.new (K.faults sink.old)
-        (K.faults sink.new) (aircraft_text (aircraft.now, found.now)) result }
+    ensures { SaysOrHolds (K.taken sink.old) (K.taken sink.new) held.old held.new
+        (K.faults sink.old) (K.faults sink.new) (aircraft_text (aircraft.now, found.now)) result }
 {
-    say_now(page, sink, aircraft, found)?;
-    say_alert(page, sink, aircraft, found)
+    say_now(held, sink, aircraft, found)?;
+    say_alert(held, sink, aircraft, found)
 }
 
 /// Says the lines of all aircraft.
 fn say_alerts<K: Sink>(
-    page: &mut Page,
+    held: &mut HeldLines,
     sink: &mut K,
     traffic: &[Traffic],
     alerts: &[AircraftAlert],
 ) -> Result<(), SinkFault>
     requires { length alerts.now ≡ length traffic.now }
-    ensures { PageSays (K.taken sink.old) (K.taken sink.new) page.old page.new (K.faults sink.old)
-        (K.faults sink.new) (alerts_text traffic.now alerts.now) result }
+    ensures { SaysOrHolds (K.taken sink.old) (K.taken sink.new) held.old held.new
+        (K.faults sink.old) (K.faults sink.new) (alerts_text traffic.now alerts.now) result }
 {
     for place in 0..traffic.len() {
-        say_aircraft(page, sink, &traffic[place], &alerts[place])?;
+        say_aircraft(held, sink, &traffic[place], &alerts[place])?;
     }
     Ok(())
 }
 
 /// Says the line of a band.
 fn say_band<K: Sink>(
-    page: &mut Page,
+    held: &mut HeldLines,
     sink: &mut K,
     kind: Kind,
     band: &Band,
 ) -> Result<(), SinkFault>
-    ensures { PageSays (K.taken sink.old) (K.taken sink.new) page.old page.new (K.faults sink.old)
-        (K.faults sink.new) (line_of kind band.now) result }
+    ensures { SaysOrHolds (K.taken sink.old) (K.taken sink.new) held.old held.new
+        (K.faults sink.old) (K.faults sink.new) (line_of kind band.now) result }
 {
-    page.say(sink, &Line::band(kind, band.from, band.upto, band.level))
+    held.say(sink, &Line::band(kind, band.from, band.upto, band.level))
 }
 
 /// Says the lines of a kind's bands.
 fn say_bands<K: Sink>(
-    page: &mut Page,
+    held: &mut HeldLines,
     sink: &mut K,
     board: &Board,
     config: &Config,
     kind: Kind,
 ) -> Result<(), SinkFault>
-    ensures { PageSays (K.taken sink.old) (K.taken sink.new) page.old page.new (K.faults sink.old)
-        (K.faults sink.new) (bands_text config.now board.now kind) result }
+    ensures { SaysOrHolds (K.taken sink.old) (K.taken sink.new) held.old held.new
+        (K.faults sink.old) (K.faults sink.new) (bands_text config.now board.now kind) result }
 {
     for band in runs(board, config, kind) {
-        say_band(page, sink, kind, &band)?;
+        say_band(held, sink, kind, &band)?;
     }
     Ok(())
 }
 
 /// Says the line of the answers on the sides of a kind.
 fn say_sides<K: Sink>(
-    page: &mut Page,
+    held: &mut HeldLines,
     sink: &mut K,
     kind: Kind,
     finding: &Finding,
 ) -> Result<(), SinkFault>
-    ensures { PageSays (K.taken sink.old) (K.taken sink.new) page.old page.new (K.faults sink.old)
-        (K.faults sink.new) (resolve_line kind finding.now.lower finding.now.upper) result }
+    ensures { SaysOrHolds (K.taken sink.old) (K.taken sink.new) held.old held.new
+        (K.faults sink.old) (K.faults sink.new)
+        (resolve_line kind finding.now.lower finding.now.upper) result }
 {
-    page.say(sink, &Line::resolve(kind, finding.lower, finding.upper))
+    held.say(sink, &Line::resolve(kind, finding.lower, finding.upper))
 }
 
 /// Says the line of the last time of a kind, where it has one.
 fn say_last<K: Sink>(
-    page: &mut Page,
+    held: &mut HeldLines,
     sink: &mut K,
     kind: Kind,
     last: Option<Option<u32>>,
 ) -> Result<(), SinkFault>
-    ensures { PageSays (K.taken sink.old) (K.taken sink.new) page.old page.new (K.faults sink.old)
-        (K.faults sink.new) (last_text kind last) result }
+    ensures { SaysOrHolds (K.taken sink.old) (K.taken sink.new) held.old held.new
+        (K.faults sink.old) (K.faults sink.new) (last_text kind last) result }
 {
     match last {
         None => Ok(()),
-        Some(found) => page.say(sink, &Line::last(kind, found)),
+        Some(found) => held.say(sink, &Line::last(kind, found)),
     }
 }
 
 /// Says the line of the recovery of a kind, where it has one.
 fn say_recovery<K: Sink>(
-    page: &mut Page,
+    held: &mut HeldLines,
     sink: &mut K,
     kind: Kind,
     recovery: Option<Option<(u32, i32)>>,
 ) -> Result<(), SinkFault>
-    ensures { PageSays (K.taken sink.old) (K.taken sink.new) page.old page.new (K.faults sink.old)
-        (K.faults sink.new) (recovery_text kind recovery) result }
+    ensures { SaysOrHolds (K.taken sink.old) (K.taken sink.new) held.old held.new
+        (K.faults sink.old) (K.faults sink.new) (recovery_text kind recovery) result }
 {
     match recovery {
         None => Ok(()),
-        Some(found) => page.say(sink, &Line::recover(kind, found)),
+        Some(found) => held.say(sink, &Line::recover(kind, found)),
     }
 }
 
@@ -164,7 +167,7 @@ enum Part {
 
 /// Says the lines of a part for a kind.
 fn say_kind<K: Sink>(
-    page: &mut Page,
+    held: &mut HeldLines,
     sink: &mut K,
     config: &Config,
     board: &Board,
@@ -172,31 +175,33 @@ fn say_kind<K: Sink>(
     kind: Kind,
     finding: &Finding,
 ) -> Result<(), SinkFault>
-    ensures { PageSays (K.taken sink.old) (K.taken sink.new) page.old page.new (K.faults sink.old)
-        (K.faults sink.new) (kind_text config.now board.now part kind finding.now) result }
+    ensures { SaysOrHolds (K.taken sink.old) (K.taken sink.new) held.old held.new
+        (K.faults sink.old) (K.faults sink.new)
+        (kind_text config.now board.now part kind finding.now) result }
 {
     match part {
-        Part::Bands => say_bands(page, sink, board, config, kind),
-        Part::Resolutions => say_sides(page, sink, kind, finding),
-        Part::LastTimes => say_last(page, sink, kind, finding.last),
-        Part::Recoveries => say_recovery(page, sink, kind, finding.recovery),
+        Part::Bands => say_bands(held, sink, board, config, kind),
+        Part::Resolutions => say_sides(held, sink, kind, finding),
+        Part::LastTimes => say_last(held, sink, kind, finding.last),
+        Part::Recoveries => say_recovery(held, sink, kind, finding.recovery),
     }
 }
 
 /// Says the lines of a part for all kinds.
 fn say_kinds<K: Sink>(
-    page: &mut Page,
+    held: &mut HeldLines,
     sink: &mut K,
     config: &Config,
     board: &Board,
     part: Part,
     findings: &Findings,
 ) -> Result<(), SinkFault>
-    ensures { PageSays (K.taken sink.old) (K.taken sink.new) page.old page.new (K.faults sink.old)
-        (K.faults sink.new) (kinds_text config.now board.now part findings.now) result }
+    ensures { SaysOrHolds (K.taken sink.old) (K.taken sink.new) held.old held.new
+        (K.faults sink.old) (K.faults sink.new)
+        (kinds_text config.now board.now part findings.now) result }
 {
     say_kind(
-        page,
+        held,
         sink,
         config,
         board,
@@ -205,7 +210,7 @@ fn say_kinds<K: Sink>(
         &findings.track,
     )?;
     say_kind(
-        page,
+        held,
         sink,
         config,
         board,
@@ -214,7 +219,7 @@ fn say_kinds<K: Sink>(
         &findings.speed,
     )?;
     say_kind(
-        page,
+        held,
         sink,
         config,
         board,
@@ -223,7 +228,7 @@ fn say_kinds<K: Sink>(
         &findings.climb,
     )?;
     say_kind(
-        page,
+        held,
         sink,
         config,
         board,
@@ -234,39 +239,40 @@ fn say_kinds<K: Sink>(
 }
 
 /// Says the line that begins a moment.
-fn say_head<K: Sink>(page: &mut Page, sink: &mut K, picture: &Picture) -> Result<(), SinkFault>
-    ensures { PageSays (K.taken sink.old) (K.taken sink.new) page.old page.new (K.faults sink.old)
-        (K.faults sink.new) (moment_line picture.now.time) result }
+fn say_head<K: Sink>(held: &mut HeldLines, sink: &mut K, picture: &Picture) -> Result<(), SinkFault>
+    ensures { SaysOrHolds (K.taken sink.old) (K.taken sink.new) held.old held.new
+        (K.faults sink.old) (K.faults sink.new) (moment_line picture.now.time) result }
 {
-    page.say(sink, &Line::moment(picture.time))
+    held.say(sink, &Line::moment(picture.time))
 }
 
 /// Says the line that ends a moment.
-fn say_foot<K: Sink>(page: &mut Page, sink: &mut K, picture: &Picture) -> Result<(), SinkFault>
-    ensures { PageSays (K.taken sink.old) (K.taken sink.new) page.old page.new (K.faults sink.old)
-        (K.faults sink.new) (done_line picture.now.time) result }
+fn say_foot<K: Sink>(held: &mut HeldLines, sink: &mut K, picture: &Picture) -> Result<(), SinkFault>
+    ensures { SaysOrHolds (K.taken sink.old) (K.taken sink.new) held.old held.new
+        (K.faults sink.old) (K.faults sink.new) (done_line picture.now.time) result }
 {
-    page.say(sink, &Line::done(picture.time))
+    held.say(sink, &Line::done(picture.time))
 }
 
 /// Says the lines of a picture's aircraft.
 fn say_traffic<K: Sink>(
-    page: &mut Page,
+    held: &mut HeldLines,
     sink: &mut K,
     picture: &Picture,
     alerts: &[AircraftAlert],
 ) -> Result<(), SinkFault>
     requires { length alerts.now ≡ length (aircraft_of picture.now) }
-    ensures { PageSays (K.taken sink.old) (K.taken sink.new) page.old page.new (K.faults sink.old)
-        (K.faults sink.new) (alerts_text (aircraft_of picture.now) alerts.now) result }
+    ensures { SaysOrHolds (K.taken sink.old) (K.taken sink.new) held.old held.new
+        (K.faults sink.old) (K.faults sink.new)
+        (alerts_text (aircraft_of picture.now) alerts.now) result }
 {
-    say_alerts(page, sink, picture.traffic.as_slice(), alerts)
+    say_alerts(held, sink, picture.traffic.as_slice(), alerts)
 }
 
 /// Says the lines of a moment. The lines of the aircraft are written before the other lines are
 /// said.
 fn say_parts<K: Sink>(
-    page: &mut Page,
+    held: &mut HeldLines,
     sink: &mut K,
     config: &Config,
     picture: &Picture,
@@ -275,18 +281,18 @@ fn say_parts<K: Sink>(
     findings: &Findings,
 ) -> Result<(), SinkFault>
     requires { length alerts.now ≡ length (aircraft_of picture.now) }
-    ensures { PageSays (K.taken sink.old) (K.taken sink.new) page.old page.new
+    ensures { SaysOrHolds (K.taken sink.old) (K.taken sink.new) held.old held.new
         (K.faults sink.old) (K.faults sink.new)
         (written config.now picture.now board.now alerts.now findings.now) result }
 {
-    say_head(page, sink, picture)?;
-    say_traffic(page, sink, picture, alerts)?;
-    page.flush(sink)?;
-    say_kinds(page, sink, config, board, Part::Bands, findings)?;
-    say_kinds(page, sink, config, board, Part::Resolutions, findings)?;
-    say_kinds(page, sink, config, board, Part::LastTimes, findings)?;
-    say_kinds(page, sink, config, board, Part::Recoveries, findings)?;
-    say_foot(page, sink, picture)
+    say_head(held, sink, picture)?;
+    say_traffic(held, sink, picture, alerts)?;
+    held.flush(sink)?;
+    say_kinds(held, sink, config, board, Part::Bands, findings)?;
+    say_kinds(held, sink, config, board, Part::Resolutions, findings)?;
+    say_kinds(held, sink, config, board, Part::LastTimes, findings)?;
+    say_kinds(held, sink, config, board, Part::Recoveries, findings)?;
+    say_foot(held, sink, picture)
 }
 
 /// Writes the lines of a moment. Nothing is held back when it returns.
@@ -302,7 +308,7 @@ pub(crate) fn say<K: Sink>(
     ensures { Says (K.taken sink.old) (K.taken sink.new) (K.faults sink.old) (K.faults sink.new)
         (written config.now picture.now board.now alerts.now findings.now) result }
 {
-    let mut page = Page::new();
-    say_parts(&mut page, sink, config, picture, board, alerts, findings)?;
-    page.flush(sink)
+    let mut held = HeldLines::new();
+    say_parts(&mut held, sink, config, picture, board, alerts, findings)?;
+    held.flush(sink)
 }

@@ -5,7 +5,7 @@ ghost use Rattle.daa_report.specs.Lines as lines;
 
 use daa_config::Kind;
 
-/// The word of a kind.
+/// The word that the lines have for a kind: `track`, `gs`, `vs` or `alt`.
 pub fn kind_word(kind: Kind) -> &'static str
     ensures value { result.now ≡ lines.kind_word kind }
     ensures short { length result.now ≤ 5 }
@@ -18,7 +18,7 @@ pub fn kind_word(kind: Kind) -> &'static str
     }
 }
 
-/// The word of a kind's lower side.
+/// The word that the lines have for a kind's lower side: `left` or `down`.
 pub(crate) fn lower_word(kind: Kind) -> &'static str
     ensures value { result.now ≡ lines.lower_word kind }
     ensures short { length result.now ≤ 5 }
@@ -31,7 +31,7 @@ pub(crate) fn lower_word(kind: Kind) -> &'static str
     }
 }
 
-/// The word of a kind's upper side.
+/// The word that the lines have for a kind's upper side: `right` or `up`.
 pub(crate) fn upper_word(kind: Kind) -> &'static str
     ensures value { result.now ≡ lines.upper_word kind }
     ensures short { length result.now ≤ 5 }

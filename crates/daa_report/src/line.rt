@@ -26,7 +26,8 @@ fn bytes_of(id: &Id) -> &[u8]
 /// The most bytes of a line of a report.
 pub(crate) const LONGEST_LINE: usize = 64;
 
-/// A line of at most 64 bytes.
+/// A line of a report, of at most 64 bytes with its line feed. Contracts see it as the list of its
+/// bytes.
 #[derive(Drop)]
 pub struct Line {
     bytes: ArrayVec<u8, LONGEST_LINE>,
@@ -49,7 +50,8 @@ impl Line {
         self.bytes.as_slice()
     }
 
-    /// The line that says that a line was refused.
+    /// The line `refused NUMBER CODE`: the input's line of this number, from 1 on, was refused with
+    /// the fault of this code.
     #[tactic(auto, unfolding(crate::specs::Lines::refused_line))]
     pub fn refused(number: u64, code: u8) -> Line
         ensures text { result ≡ refused_line number code }
@@ -64,7 +66,7 @@ impl Line {
         Line { bytes: line }
     }
 
-    /// The line that says that a moment begins.
+    /// The line `moment TIME`: the moment of this time, in seconds, begins.
     #[tactic(auto, unfolding(crate::specs::Lines::moment_line))]
     pub fn moment(time: u32) -> Line
         ensures text { result ≡ moment_line time }
@@ -77,7 +79,7 @@ impl Line {
         Line { bytes: line }
     }
 
-    /// The line of the level of an aircraft now.
+    /// The line `now ID LEVEL`: the level that an aircraft violates now, or 0.
     #[tactic(auto, unfolding(crate::specs::Lines::now_line))]
     pub fn now(id: &Id, level: u8) -> Line
         ensures text { result ≡ now_line id.now level }
@@ -92,7 +94,8 @@ impl Line {
         Line { bytes: line }
     }
 
-    /// The line of the alert of an aircraft, and from which leg on.
+    /// The line `alert ID LEVEL FIRST`: the alert level of an aircraft, or 0, and the first second,
+    /// from 0, that violates this level; a dash stands for none.
     #[tactic(auto, unfolding(crate::specs::Lines::alert_line))]
     pub fn alert(id: &Id, level: u8, first: Option<u32>) -> Line
         ensures text { result ≡ alert_line id.now level first }
@@ -109,7 +112,8 @@ impl Line {
         Line { bytes: line }
     }
 
-    /// The line of the values of a kind, from one up to another, that show a level.
+    /// The line `KIND FROM UPTO LEVEL`: the values of a kind from one up to another, in the kind's
+    /// unit, show this level.
     #[tactic(auto, unfolding(crate::specs::Lines::band_line))]
     pub fn band(kind: Kind, from: i32, upto: i32, level: u8) -> Line
         ensures text { result ≡ band_line kind from upto level }
@@ -125,7 +129,8 @@ impl Line {
         Line { bytes: line }
     }
 
-    /// The line of the answers on the lower and on the upper side of a kind.
+    /// The line `resolve KIND SIDE ANSWER SIDE ANSWER`: what is answered on the lower and on the
+    /// upper side of a kind.
     #[tactic(auto, unfolding(crate::specs::Lines::resolve_line))]
     pub fn resolve(kind: Kind, lower: Resolution, upper: Resolution) -> Line
         ensures text { result ≡ resolve_line kind lower upper }
@@ -142,8 +147,8 @@ impl Line {
         Line { bytes: line }
     }
 
-    /// The line of the last time of a kind: for how many seconds the present flight may be kept
-    /// until a manoeuvre of the kind comes too late.
+    /// The line `last KIND SECONDS`: for how many seconds the present flight may be kept until a
+    /// manoeuvre of the kind comes too late; `none` says that each comes too late now.
     #[tactic(auto, unfolding(crate::specs::Lines::last_line))]
     pub fn last(kind: Kind, seconds: Option<u32>) -> Line
         ensures text { result ≡ last_line kind seconds }
@@ -157,8 +162,9 @@ impl Line {
         Line { bytes: line }
     }
 
-    /// The line of the recovery of a kind: after how many seconds a candidate is clear, and the
-    /// value that it goes to.
+    /// The line `recover KIND SECONDS VALUE`: after how many seconds a candidate of the kind is
+    /// clear, and the value that it goes to; `none` stands for both where there is no such
+    /// candidate.
     #[tactic(auto, unfolding(crate::specs::Lines::recover_line))]
     pub fn recover(kind: Kind, found: Option<(u32, i32)>) -> Line
         ensures text { result ≡ recover_line kind found }
@@ -172,7 +178,7 @@ impl Line {
         Line { bytes: line }
     }
 
-    /// The line that says that a moment ends.
+    /// The line `done TIME`: the moment of this time, in seconds, ends.
     #[tactic(auto, unfolding(crate::specs::Lines::done_line))]
     pub fn done(time: u32) -> Line
         ensures text { result ≡ done_line time }
@@ -185,7 +191,8 @@ impl Line {
         Line { bytes: line }
     }
 
-    /// The line of a word and numbers. There is room for ten digits of each number.
+    /// The line of a word and numbers, with a blank before each number. It has at most 64 bytes
+    /// also where each number has ten digits.
     #[tactic(auto, unfolding(crate::specs::Lines::numbers_line))]
     pub fn numbers(word: &str, numbers: &[u32]) -> Line
         requires { length word.now + 11 * length numbers.now + 1 ≤ 64 }
@@ -199,7 +206,7 @@ impl Line {
         Line { bytes: line }
     }
 
-    /// The line that says that the configuration was refused.
+    /// The line `config CODE`: the configuration was refused with the fault of this code.
     #[tactic(auto, unfolding(crate::specs::Lines::config_line))]
     pub fn config(code: u8) -> Line
         ensures text { result ≡ config_line code }
@@ -212,7 +219,7 @@ impl Line {
         Line { bytes: line }
     }
 
-    /// The line that says that a report is the right one.
+    /// The line `same`: a report is the right one, byte for byte.
     #[tactic(auto, unfolding(crate::specs::Lines::same_line))]
     pub fn same() -> Line
         ensures text { result ≡ same_line }
@@ -223,7 +230,8 @@ impl Line {
         Line { bytes: line }
     }
 
-    /// The line that says that a report differs from the right one, and in which line first.
+    /// The line `differs NUMBER`: a report differs from the right one, in the line of this number,
+    /// from 1 on, first.
     #[tactic(auto, unfolding(crate::specs::Lines::differs_line))]
     pub fn differs(number: u64) -> Line
         ensures text { result ≡ differs_line number }

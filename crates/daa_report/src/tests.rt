@@ -91,28 +91,28 @@ fn each_band_and_answer_is_written(rt: HostRuntime) -> Result<(), Fail> {
 }
 
 #[test]
-fn a_page_is_written_at_its_flush(rt: HostRuntime) -> Result<(), Fail> {
+fn held_lines_are_written_at_the_flush(rt: HostRuntime) -> Result<(), Fail> {
     let mut out = sink(rt.alloc(), &[1])?;
-    let mut page = Page::new();
-    assert_eq!(rt; page.say(&mut out, &Line::moment(1)), Ok(()));
-    assert_eq!(rt; page.say(&mut out, &Line::done(1)), Ok(()));
+    let mut held = HeldLines::new();
+    assert_eq!(rt; held.say(&mut out, &Line::moment(1)), Ok(()));
+    assert_eq!(rt; held.say(&mut out, &Line::done(1)), Ok(()));
     assert_eq!(rt; out.taken(), b"".as_slice());
-    assert_eq!(rt; page.flush(&mut out), Ok(()));
+    assert_eq!(rt; held.flush(&mut out), Ok(()));
     assert_eq!(rt; out.taken(), b"moment 1\ndone 1\n".as_slice());
     // the second write fails
-    assert_eq!(rt; page.say(&mut out, &Line::moment(2)), Ok(()));
-    assert_eq!(rt; page.flush(&mut out), Err(SinkFault));
+    assert_eq!(rt; held.say(&mut out, &Line::moment(2)), Ok(()));
+    assert_eq!(rt; held.flush(&mut out), Err(SinkFault));
     assert_eq!(rt; out.taken(), b"moment 1\ndone 1\n".as_slice());
     Ok(())
 }
 
 #[test]
-fn a_full_page_is_written_first(rt: HostRuntime) -> Result<(), Fail> {
+fn lines_without_room_for_one_more_are_written_first(rt: HostRuntime) -> Result<(), Fail> {
     let alloc = rt.alloc();
     let mut out = MemSink::over(vec![in alloc; 0; 5000]?, Vec::new(alloc), Vec::new(alloc));
-    let mut page = Page::new();
+    let mut held = HeldLines::new();
     for _ in 0..300 {
-        assert_eq!(rt; page.say(&mut out, &Line::moment(1234567)), Ok(()));
+        assert_eq!(rt; held.say(&mut out, &Line::moment(1234567)), Ok(()));
     }
     // 269 lines of 15 bytes leave less than 64 bytes of 4096
     assert_eq!(rt; out.taken().len(), 269 * 15);
@@ -140,6 +140,6 @@ fn may_be_sent<T: Send>() {}
 #[test]
 fn values_may_be_sent() {
     may_be_sent::<Line>();
-    may_be_sent::<Page>();
+    may_be_sent::<HeldLines>();
     may_be_sent::<SinkFault>();
 }

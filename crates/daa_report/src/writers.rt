@@ -18,7 +18,8 @@ use thiserror::Error;
 #[error("the sink failed before it took the whole text")]
 pub struct SinkFault;
 
-/// Writes the whole piece, by as many writes as it takes.
+/// Writes the whole piece, by as many writes as the sink needs. `SinkFault` comes only where the
+/// sink failed; then it took a beginning of the piece.
 pub fn put<K: Sink>(sink: &mut K, piece: &[u8]) -> Result<(), SinkFault>
     ensures { Says (K.taken sink.old) (K.taken sink.new) (K.faults sink.old)
         (K.faults sink.new) piece.now result }
@@ -51,7 +52,7 @@ pub fn write_refused<K: Sink>(sink: &mut K, number: u64, code: u8) -> Result<(),
 }
 
 /// Writes that the moment of this time, in seconds, begins. A call for other programs: `daidalus`
-/// holds the line on a page.
+/// holds the line back.
 pub fn write_moment<K: Sink>(sink: &mut K, time: u32) -> Result<(), SinkFault>
     ensures { Says (K.taken sink.old) (K.taken sink.new) (K.faults sink.old) (K.faults sink.new)
         (moment_line time) result }
@@ -60,7 +61,7 @@ pub fn write_moment<K: Sink>(sink: &mut K, time: u32) -> Result<(), SinkFault>
 }
 
 /// Writes the level of an aircraft now, 0 where none is violated. A call for other programs:
-/// `daidalus` holds the line on a page.
+/// `daidalus` holds the line back.
 pub fn write_now<K: Sink>(sink: &mut K, id: &Id, level: u8) -> Result<(), SinkFault>
     ensures { Says (K.taken sink.old) (K.taken sink.new) (K.faults sink.old) (K.faults sink.new)
         (now_line id.now level) result }
@@ -69,7 +70,7 @@ pub fn write_now<K: Sink>(sink: &mut K, id: &Id, level: u8) -> Result<(), SinkFa
 }
 
 /// Writes the alert level of an aircraft, and from which leg on: the second, from 0. A call for
-/// other programs: `daidalus` holds the line on a page.
+/// other programs: `daidalus` holds the line back.
 pub fn write_alert<K: Sink>(
     sink: &mut K,
     id: &Id,
@@ -83,7 +84,7 @@ pub fn write_alert<K: Sink>(
 }
 
 /// Writes that the values of a kind from one up to another, in degrees, 0.1 kt, ft/min or ft, show
-/// this level. A call for other programs: `daidalus` holds the line on a page.
+/// this level. A call for other programs: `daidalus` holds the line back.
 pub fn write_band<K: Sink>(
     sink: &mut K,
     kind: Kind,
@@ -98,7 +99,7 @@ pub fn write_band<K: Sink>(
 }
 
 /// Writes the answers on the lower side of a kind, left or down, and on the upper, right or up. A
-/// call for other programs: `daidalus` holds the line on a page.
+/// call for other programs: `daidalus` holds the line back.
 pub fn write_resolve<K: Sink>(
     sink: &mut K,
     kind: Kind,
@@ -113,7 +114,7 @@ pub fn write_resolve<K: Sink>(
 
 /// Writes the last time of a kind: for how many seconds the present flight may be kept until a
 /// manoeuvre of the kind comes too late; or that each comes too late now. A call for other
-/// programs: `daidalus` holds the line on a page.
+/// programs: `daidalus` holds the line back.
 pub fn write_last<K: Sink>(sink: &mut K, kind: Kind, seconds: Option<u32>) -> Result<(), SinkFault>
     ensures { Says (K.taken sink.old) (K.taken sink.new) (K.faults sink.old) (K.faults sink.new)
         (last_line kind seconds) result }
@@ -123,7 +124,7 @@ pub fn write_last<K: Sink>(sink: &mut K, kind: Kind, seconds: Option<u32>) -> Re
 
 /// Writes the recovery of a kind: after how many seconds a candidate is clear and the value that it
 /// goes to, in degrees, 0.1 kt, ft/min or ft; or that none is. A call for other programs:
-/// `daidalus` holds the line on a page.
+/// `daidalus` holds the line back.
 pub fn write_recover<K: Sink>(
     sink: &mut K,
     kind: Kind,
@@ -136,7 +137,7 @@ pub fn write_recover<K: Sink>(
 }
 
 /// Writes that the moment of this time, in seconds, ends. A call for other programs: `daidalus`
-/// holds the line on a page.
+/// holds the line back.
 pub fn write_done<K: Sink>(sink: &mut K, time: u32) -> Result<(), SinkFault>
     ensures { Says (K.taken sink.old) (K.taken sink.new) (K.faults sink.old) (K.faults sink.new)
         (done_line time) result }

@@ -3,7 +3,7 @@ use Rattle.std.specs.List.{flat_map, zip}
 use Rattle.daa_engine.specs.declared.alerts.AircraftAlert.{AircraftAlert}
 use Rattle.daa_engine.specs.Inside.Written.{aircraft_text, alerts_text}
 use Rattle.daa_engine.proofs.LoopLemmas.{pair_more, pairs_all}
-use Rattle.daa_report.proofs.PageLemmas.{said_front, said_as, said_more}
+use Rattle.daa_report.proofs.HeldLemmas.{said_front, said_as, said_more}
 use Rattle.daa_engine.proofs.say.say_alerts.Goals as goal
 
 blank : AircraftAlert

@@ -1,5 +1,5 @@
 use Rattle.daa_engine.specs.Inside.Written.{written}
-use Rattle.daa_report.proofs.PageLemmas.{after, cut}
+use Rattle.daa_report.proofs.HeldLemmas.{after, cut}
 use Rattle.daa_engine.proofs.say.say_parts.Goals as goal
 
 pub returns-in_err-say_head : goal.returns-in_err-say_head
