@@ -85,9 +85,9 @@ pub fn say_moment<K: Sink>(
     say(sink, config, picture, board, &alerts, &findings)
 }
 
-/// Decides a moment as `decide_in` does, in room of that kind, and writes its lines to the sink. No
-/// engine is needed. `SinkFault` is returned only if the sink failed; then a beginning of the lines
-/// is written. The lines have at most 130176 bytes together.
+/// Decides a moment as [`decide_in`] does, in room that the caller hands in as there, and writes
+/// the moment's lines to the sink. No engine is needed. `SinkFault` is returned only if the sink
+/// failed; then a beginning of the lines is written. The lines have at most 130176 bytes together.
 pub fn report_in<K: Sink>(
     config: &Config,
     picture: &Picture,
@@ -120,13 +120,7 @@ impl Engine {
         ensures board { IsBoardOf
             (CoveredAt self.old.settings picture.now) self.old.settings self.new.board }
     {
-        decide_in(
-            &self.config,
-            picture,
-            self.trunks.as_mut_slice(),
-            self.branches.as_mut_slice(),
-            &mut self.board,
-        );
+        self.room.decide(&self.config, picture, &mut self.board);
     }
 
     /// Decides a moment and writes its lines as `report` does, in the caller's thread alone and
@@ -145,14 +139,8 @@ impl Engine {
         ensures says { SaysSome (IsMomentText self.old.settings picture.now) (K.taken sink.old)
             (K.taken sink.new) (K.faults sink.old) (K.faults sink.new) result }
     {
-        report_in(
-            &self.config,
-            picture,
-            self.trunks.as_mut_slice(),
-            self.branches.as_mut_slice(),
-            &mut self.board,
-            sink,
-        )
+        self.room
+            .report(&self.config, picture, &mut self.board, sink)
     }
 
     /// The level of an aircraft of a picture now, by its place in the picture's list: the greatest

@@ -12,13 +12,14 @@ const LEAST_WORK: usize = 1 << 16;
 /// How many candidates an aircraft is met with in the time that its other lines take.
 const SAID: usize = 200;
 
-/// How much work a moment is, beside that of others: by the number of its aircraft.
+/// How much work a moment is, as a number to be added to those of other moments: two more than the
+/// number of its aircraft.
 pub fn weight_of(picture: &Picture) -> usize {
     picture.traffic.len().saturating_add(2)
 }
 
-/// How many of so many workers are used for moments of this weight together: one more for each
-/// start of a thread that pays.
+/// How many of the workers, at least one, are used for moments whose weights add up to `weight`: a
+/// further worker only where its share of the work takes longer than starting its thread.
 pub fn workers_for(config: &Config, weight: usize, workers: usize) -> usize
     requires { 0 < workers }
     ensures some { 1 ≤ result }

@@ -15,11 +15,11 @@ ghost use Rattle.daa_report.specs.Lines.{Text};
 ghost use Rattle.daa_report.specs.Says.{SaysSome};
 
 use crate::alone::say_moment;
-use crate::together::fill_together;
+use crate::room::Room;
+use crate::together::Crew;
 use daa_alert::{Alert, alert};
 use daa_bands::Board;
 use daa_config::Config;
-use daa_legs::{Branch, Trunk};
 use daa_outside::{Gate, Sink};
 use daa_report::SinkFault;
 use daa_schedule::NoMemory;
@@ -31,12 +31,6 @@ use std::thread::Threads;
 /// How many units of work a moment has at most: 64 aircraft and 159 groups of candidates.
 const MOST_UNITS: usize = 10176;
 
-/// How many candidates a configuration has at most.
-pub const MOST_CANDIDATES: usize = 1897;
-
-/// How many flights lead: on two sides of four kinds.
-const LEADS: usize = 8;
-
 /// A configuration, 1 to 16 workers, and the board of the latest moment.
 #[derive(Drop)]
 pub struct Engine {
@@ -45,16 +39,13 @@ pub struct Engine {
     pub(crate) board: Board,
     // what the workers answer
     words: Vec<u64>,
-    // room for the flights that lead on the sides of each kind
-    pub(crate) trunks: Vec<Trunk>,
-    // and for the candidates' branches
-    pub(crate) branches: Vec<Branch>,
+    pub(crate) room: Room,
 }
 
 impl Model for Engine {
     ghost use Rattle.std.specs.Prelude.{◌≡◌, length};
     ghost use Rattle.daa_engine.specs.EngineState.{EngineState};
-    ghost use Rattle.daa_engine.specs.Inside.EngineState.{IsEngine, HasRoom, HasFlights};
+    ghost use Rattle.daa_engine.specs.Inside.EngineState.{IsEngine, HasWords};
 
     ghost Value = { EngineState };
 
@@ -64,7 +55,7 @@ impl Model for Engine {
       settings = e.config;
       workers = e.workers;
       board = e.board;
-    }) × HasRoom e.words.items × HasFlights e.trunks.items e.branches.items };
+    }) × HasWords e.words.items };
 }
 
 /// The time of a picture, in seconds.
@@ -73,19 +64,6 @@ pub(crate) fn time_of(picture: &Picture) -> u32
     ensures fits { picture.now.time < 2 ^ 32 }
 {
     picture.time
-}
-
-/// Room for the flights that lead on the sides of each kind.
-pub(crate) fn trunks_in(alloc: Global) -> Result<Vec<Trunk>, NoMemory>
-    ensures { IfOk result (λ trunks. length trunks.items ≡ 8) }
-{
-    let mut trunks = Vec::new(alloc);
-    for _place in 0..LEADS {
-        if trunks.push(Trunk::new()).is_err() {
-            return Err(NoMemory);
-        }
-    }
-    Ok(trunks)
 }
 
 impl Engine {
@@ -103,18 +81,16 @@ impl Engine {
         // ensures that its numbers are in range
         let _levels = config.levels();
         let words = vec![in alloc; 0u64; MOST_UNITS]?;
-        let branches = vec![in alloc; Branch::new(); MOST_CANDIDATES]?;
         Ok(Engine {
             config,
             workers,
             board: Board::new(),
             words,
-            trunks: trunks_in(alloc)?,
-            branches,
+            room: Room::new(alloc)?,
         })
     }
 
-    /// The configuration.
+    /// The configuration that the engine decides under.
     pub fn config(&self) -> &Config
         ensures value { result.now ≡ self.now.settings }
         ensures accepted { IsAccepted self.now.settings }
@@ -170,17 +146,18 @@ impl Engine {
             (CoveredAt self.old.settings picture.now) self.old.settings self.new.board }
     {
         if self.workers > 1 {
-            let filled = fill_together(
+            let crew = Crew {
                 rt,
                 alloc,
-                &mut self.board,
+                workers: self.workers,
+                gate,
+            };
+            let filled = self.room.decide_together(
+                &crew,
                 &mut self.words,
-                self.trunks.as_mut_slice(),
-                self.branches.as_mut_slice(),
                 &self.config,
                 picture,
-                self.workers,
-                gate,
+                &mut self.board,
             );
             if filled.is_ok() {
                 return;

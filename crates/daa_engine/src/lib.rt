@@ -18,11 +18,11 @@ mod together;
 pub use alone::{decide_in, report_in, say_moment};
 pub use beside::{weight_of, workers_for};
 pub use daa_schedule::NoMemory;
-pub use engine::{Engine, MOST_CANDIDATES};
+pub use engine::Engine;
 pub use laws::{
     boards_show_what_is_covered, every_picture_has_one_text, has_one_board, has_one_text,
     texts_are_short, texts_without_a_recovery_are_as_before,
     texts_without_last_times_are_as_before,
 };
-pub use room::{Room, leading_flights};
+pub use room::{MOST_CANDIDATES, Room, leading_flights};
 pub use tickets::Tickets;

@@ -11,7 +11,7 @@ pub struct Tickets {
 }
 
 impl Tickets {
-    /// No number was drawn yet.
+    /// Tickets of which none is drawn: the first draw gives 0.
     pub fn new() -> Tickets {
         Tickets {
             next: AtomicUsize::new(0),

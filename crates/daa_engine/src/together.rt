@@ -5,11 +5,10 @@ ghost use Rattle.std.specs.Prelude.{◌≡◌, ◌<◌, ◌≤◌, OnErr, OnOk, 
 ghost use Rattle.daa_bands.specs.Board.{IsBoardOf, board_size};
 ghost use Rattle.daa_scan.specs.Reach.{NoneIsMetOutOfReach};
 ghost use Rattle.daa_scan.specs.Units.{most_groups, most_units, AreWordsOf};
-ghost use Rattle.daa_config.specs.Candidates.{candidates_of};
 ghost use Rattle.daa_state.specs.InRange.{IsPictureInRange};
 ghost use Rattle.daa_engine.specs.Covered.{CoveredAt};
 ghost use Rattle.daa_engine.specs.EngineState.{IsWorkerCount};
-ghost use Rattle.daa_engine.specs.Inside.EngineState.{HasRoom};
+ghost use Rattle.daa_engine.specs.Inside.EngineState.{HasFlights, HasWords};
 ghost use Rattle.daa_engine.specs.Inside.Merging.{IsMerged};
 
 use daa_bands::Board;
@@ -23,40 +22,47 @@ use daa_state::Picture;
 use std::alloc::Global;
 use std::thread::Threads;
 
-/// Marks the levels at which each candidate is covered, and no others, by this number of workers.
-/// The words are room for the workers' answers, the trunks and the branches are room for what the
-/// workers share. If no aircraft is in reach there is no unit, and no worker is needed. `NoMemory`
-/// says that there was no memory for the workers; then the board is unchanged.
+/// The workers that decide a moment together, 1 to 16: the handle and the allocator with which they
+/// are started, their number, and the gate that each passes before a unit of work.
+#[derive(Drop)]
+pub(crate) struct Crew<'a, R, G> {
+    pub(crate) rt: &'a R,
+    pub(crate) alloc: Global,
+    pub(crate) workers: u32,
+    pub(crate) gate: &'a G,
+    ghost count: { IsWorkerCount workers },
+}
+
+/// Marks the levels at which each candidate is covered, and no others. The words are room for the
+/// workers' answers, the trunks and the branches are room for what the workers share. If no
+/// aircraft is in reach there is no unit, and no worker is needed. `NoMemory` says that there was
+/// no memory for the workers; then the board is unchanged.
 pub(crate) fn fill_together<R: Threads + Sync, G: Gate>(
-    rt: &R,
-    alloc: Global,
-    board: &mut Board,
+    crew: &Crew<'_, R, G>,
     words: &mut Vec<u64>,
     trunks: &mut [Trunk],
     branches: &mut [Branch],
     config: &Config,
     picture: &Picture,
-    workers: u32,
-    gate: &G,
+    board: &mut Board,
 ) -> Result<(), NoMemory>
     requires picture { IsPictureInRange picture.now }
-    requires trunks { length trunks.old ≡ 8 }
-    requires branches { length (candidates_of config.now) ≤ length branches.old }
-    requires room { HasRoom words.old.items }
-    requires workers { IsWorkerCount workers }
-    ensures room { HasRoom words.new.items }
+    requires words { HasWords words.old.items }
+    requires flights { HasFlights trunks.old branches.old }
+    ensures words { HasWords words.new.items }
+    ensures flights { HasFlights trunks.new branches.new }
     ensures board { OnOk result
         (IsBoardOf (CoveredAt config.now picture.now) config.now board.new) }
     ensures kept { OnErr result (board.new ≡ board.old) }
-    ensures trunks { length trunks.new ≡ 8 }
-    ensures branches { length branches.new ≡ length branches.old }
 {
+    // ensures that there are at most 1897 candidates
+    let _total = config.total();
     let needs = fill_flights(trunks, branches, config, picture);
     let scene = Scene::of(config, picture, trunks, branches, needs);
     let units = scene.units() as usize;
     let words = &mut words.as_mut_slice()[..units];
     if units > 0 {
-        answer_all(rt, alloc, &scene, gate, workers, words)?;
+        answer_all(crew.rt, crew.alloc, &scene, crew.gate, crew.workers, words)?;
     }
     merge(board, &scene, words);
     Ok(())

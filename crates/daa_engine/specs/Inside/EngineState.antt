@@ -11,10 +11,10 @@ pub record IsEngine (engine : EngineState) : Type 0 where
   pub accepted : IsAccepted engine.settings
   pub workers : IsWorkerCount engine.workers
 
--- it has a word for each unit of work of every moment
-abbrev pub HasRoom : List ℕ → Type 0
-HasRoom words = length words ≡ most_units
+-- there is a word for each unit of work of every moment
+abbrev pub HasWords : List ℕ → Type 0
+HasWords words = length words ≡ most_units
 
--- it has room for the legs of eight flights that lead, and for a branch of each candidate of every configuration
+-- there is room for the legs of eight flights that lead, and for a branch of each candidate of every configuration
 abbrev pub HasFlights : (trunks : List (List OwnLeg)) → (branches : List Branch) → Type 0
 HasFlights trunks branches = (length trunks ≡ 8) × (length branches ≡ 1897)
