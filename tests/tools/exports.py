@@ -12,7 +12,7 @@ SIZES = {"uint8_t": 1, "int32_t": 4, "uint32_t": 4, "int64_t": 8, "uint64_t": 8}
 # fields that C has in place of a struct of Rust, and those that it names otherwise
 FLAT = {("DaaConfig", "numbers"), ("DaaConfig", "cylinder")}
 RENAMED = {("DaaConfig", "levels"): "level", ("DaaBoard", "masks"): "mask"}
-STRUCTS = {"Grid": "daa_grid", "LevelNumbers": "daa_level"}
+STRUCTS = {"Grid": "daa_grid", "LevelNumbers": "daa_level", "Own": "daa_own"}
 
 
 def text_of(crate):
@@ -36,7 +36,7 @@ def parts(text):
 def rust_structs():
     """The fields of each struct that C shares, in their order."""
     found = {}
-    for crate in ("daa_config", "daa_numbers"):
+    for crate in ("daa_config", "daa_state", "daa_numbers"):
         for name, body in re.findall(r"#\[repr\(C\)\]\n(?:#[^\n]*\n)?pub struct (\w+) \{(.*?)\n\}", text_of(crate), re.S):
             found[name] = parts(body)
     return found
@@ -102,7 +102,7 @@ def checking_program():
     structs = rust_structs()
     lines = ["#include \"daidalus.h\"", ""]
     for name in structs:
-        if not name.startswith("Daa"):
+        if not name.startswith("Daa") and name not in STRUCTS:
             continue
         rows, size, _ = numbers_of(structs, name)
         kind = f"struct {c_name(name)}"

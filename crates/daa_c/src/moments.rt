@@ -11,23 +11,23 @@ ghost use Rattle.daa_numbers.specs.Codes.{answer_of};
 ghost use Rattle.daa_numbers.specs.Numbers.{settings_by};
 ghost use Rattle.daa_numbers.specs.Refusal.{refusal_of_two, IsCodeOf, refusal_of};
 ghost use Rattle.daa_numbers.specs.Refusal.{config_refusal, refusal_of_own};
-ghost use Rattle.daa_numbers.specs.States.{own_of, traffic_of, picture_of};
+ghost use Rattle.daa_numbers.specs.States.{traffic_of, picture_of};
 
 use daa_numbers::{
-    DaaAlert, DaaBand, DaaBoard, DaaConfig, DaaLast, DaaOwn, DaaRecovery, DaaResolution, DaaTraffic,
+    DaaAlert, DaaBand, DaaBoard, DaaConfig, DaaLast, DaaRecovery, DaaResolution, DaaTraffic, Own,
 };
 
-/// Fills in the level of an aircraft now, its alert level and its first leg. Returns 0, or why
-/// nothing was filled in.
+/// Fills in the level of an aircraft now, its alert level and the first second that alerts. Returns
+/// 0, or the code of why nothing was filled in.
 #[unsafe(no_mangle)]
 pub extern "C" fn daa_alert(
     config: &DaaConfig,
-    own: &DaaOwn,
+    own: &Own,
     traffic: &DaaTraffic,
     out: &mut DaaAlert,
 ) -> i32
     ensures filled { result ≡ pos 0
-        → IsAlertUnder config.now (own_of own.now) (traffic_of traffic.now) out.new }
+        → IsAlertUnder config.now own.now (traffic_of traffic.now) out.new }
     ensures kept { result ≢ pos 0 → out.new ≡ out.old }
     ensures refused { result ≢ pos 0
         → IsCodeOf (refusal_of_two config.now own.now traffic.now) result }
@@ -35,11 +35,12 @@ pub extern "C" fn daa_alert(
     daa_numbers::alert(config, own, traffic, out)
 }
 
-/// Fills in the board of a moment. Returns 0, or why nothing was filled in.
+/// Fills in the board of a moment: the levels at which each candidate is covered, and the mark of
+/// the configuration. Returns 0, or the code of why nothing was filled in.
 #[unsafe(no_mangle)]
 pub extern "C" fn daa_decide(
     config: &DaaConfig,
-    own: &DaaOwn,
+    own: &Own,
     traffic: &[DaaTraffic],
     board: &mut DaaBoard,
 ) -> i32
@@ -53,7 +54,8 @@ pub extern "C" fn daa_decide(
 }
 
 /// Fills in the level that each candidate shows, 0 to the number of levels, in the order of the
-/// whole list, and how many there are. Answers 0, or why nothing was filled in.
+/// whole list, and how many candidates there are. Returns 0, or the code of why nothing was filled
+/// in.
 #[unsafe(no_mangle)]
 pub extern "C" fn daa_levels(
     config: &DaaConfig,
@@ -65,8 +67,7 @@ pub extern "C" fn daa_levels(
         → AreLevelsUnder config.now board.now levels.new count.new }
     ensures past_kept { result ≡ pos 0
         → drop count.new levels.new ≡ drop count.new levels.old }
-    ensures levels_kept { result ≢ pos 0 → levels.new ≡ levels.old }
-    ensures count_kept { result ≢ pos 0 → count.new ≡ count.old }
+    ensures kept { result ≢ pos 0 → (levels.new ≡ levels.old) × (count.new ≡ count.old) }
     ensures bad_board { result ≡ pos 27 → IsNoBoard config.now board.now }
     ensures short { result ≡ pos 19 → HasMoreCandidates config.now board.now (length levels.old) }
     ensures refused { result ≢ pos 0 → result ≢ pos 19 → result ≢ pos 27
@@ -75,7 +76,8 @@ pub extern "C" fn daa_levels(
     daa_numbers::levels(config, board, levels, count)
 }
 
-/// Fills in the bands of a kind, and how many there are. Returns 0, or why nothing was filled in.
+/// Fills in the bands of a kind, in the rising order of their values, and how many bands there are.
+/// Returns 0, or the code of why nothing was filled in.
 #[unsafe(no_mangle)]
 pub extern "C" fn daa_bands(
     config: &DaaConfig,
@@ -87,8 +89,7 @@ pub extern "C" fn daa_bands(
     ensures filled { result ≡ pos 0
         → AreBandsUnder config.now board.now kind bands.new count.new }
     ensures past_kept { result ≡ pos 0 → drop count.new bands.new ≡ drop count.new bands.old }
-    ensures bands_kept { result ≢ pos 0 → bands.new ≡ bands.old }
-    ensures count_kept { result ≢ pos 0 → count.new ≡ count.old }
+    ensures kept { result ≢ pos 0 → (bands.new ≡ bands.old) × (count.new ≡ count.old) }
     ensures no_kind { result ≡ pos 23
         → HasNoKind (config_refusal (settings_by config.now)) kind }
     ensures bad_board { result ≡ pos 27 → HasKindButNoBoard
@@ -101,18 +102,19 @@ pub extern "C" fn daa_bands(
     daa_numbers::bands(config, board, kind, bands, count)
 }
 
-/// Fills in the answer on a side of a kind. Returns 0, or why nothing was filled in.
+/// Fills in the answer on a side of a kind: the nearest open candidate, that there is none, or that
+/// the present flight may be kept. Returns 0, or the code of why nothing was filled in.
 #[unsafe(no_mangle)]
 pub extern "C" fn daa_resolution(
     config: &DaaConfig,
-    own: &DaaOwn,
+    own: &Own,
     board: &DaaBoard,
     kind: i32,
     side: i32,
     out: &mut DaaResolution,
 ) -> i32
     ensures filled { result ≡ pos 0
-        → IsResolutionUnder config.now (own_of own.now) board.now kind side out.new }
+        → IsResolutionUnder config.now own.now board.now kind side out.new }
     ensures kept { result ≢ pos 0 → out.new ≡ out.old }
     ensures no_kind { result ≡ pos 23 → HasNoKind (refusal_of_own config.now own.now) kind }
     ensures no_side { result ≡ pos 24 → HasNoSide (refusal_of_own config.now own.now) kind side }
@@ -124,11 +126,12 @@ pub extern "C" fn daa_resolution(
     daa_numbers::resolution(config, own, board, kind, side, out)
 }
 
-/// Fills in the recovery of a kind in a moment. Returns 0, or why nothing was filled in.
+/// Fills in the recovery of a kind in a moment. Returns 0, or the code of why nothing was filled
+/// in.
 #[unsafe(no_mangle)]
 pub extern "C" fn daa_recovery(
     config: &DaaConfig,
-    own: &DaaOwn,
+    own: &Own,
     traffic: &[DaaTraffic],
     kind: i32,
     out: &mut DaaRecovery,
@@ -147,11 +150,11 @@ pub extern "C" fn daa_recovery(
 }
 
 /// Fills in the last time of a kind in a moment, whether or not the present flight is open. Returns
-/// 0, or why nothing was filled in.
+/// 0, or the code of why nothing was filled in.
 #[unsafe(no_mangle)]
 pub extern "C" fn daa_last(
     config: &DaaConfig,
-    own: &DaaOwn,
+    own: &Own,
     traffic: &[DaaTraffic],
     kind: i32,
     out: &mut DaaLast,
@@ -169,13 +172,13 @@ pub extern "C" fn daa_last(
     daa_numbers::last(config, own, traffic, kind, out)
 }
 
-/// Fills in the text of a moment, and how many bytes it has. Returns 0, or why nothing was filled
-/// in.
+/// Fills in the text of a moment, and how many bytes the text has. Returns 0, or the code of why
+/// nothing was filled in.
 #[unsafe(no_mangle)]
 pub extern "C" fn daa_report(
     config: &DaaConfig,
     time: u32,
-    own: &DaaOwn,
+    own: &Own,
     traffic: &[DaaTraffic],
     text: &mut [u8],
     count: &mut usize,
@@ -184,8 +187,7 @@ pub extern "C" fn daa_report(
         config.now (picture_of time own.now traffic.now) (take count.new text.new) }
     ensures fits { result ≡ pos 0 → count.new ≤ length text.new }
     ensures past_kept { result ≡ pos 0 → drop count.new text.new ≡ drop count.new text.old }
-    ensures text_kept { result ≢ pos 0 → text.new ≡ text.old }
-    ensures count_kept { result ≢ pos 0 → count.new ≡ count.old }
+    ensures kept { result ≢ pos 0 → (text.new ≡ text.old) × (count.new ≡ count.old) }
     ensures short { result ≡ pos 19 → HasLongerText
         config.now (picture_of time own.now traffic.now) (length text.old) }
     ensures refused { result ≢ pos 0 → result ≢ pos 19

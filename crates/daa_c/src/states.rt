@@ -4,10 +4,10 @@ ghost use Rattle.std.specs.Prelude.{◌≡◌, pos, ◌≢◌, negsuc, true, fal
 ghost use Rattle.daa_numbers.specs.Faults.{IsFaultOf};
 ghost use Rattle.daa_numbers.specs.Lines.{IsLineTaken, IsLineRefused};
 
-use daa_numbers::{DaaFault, DaaLines, DaaOwn, DaaTraffic};
+use daa_numbers::{DaaFault, DaaLines, DaaTraffic, Own};
 
-/// Takes the next line. Returns 0, or -1 if the line ended the moment, whose numbers stay, or the
-/// number of the line's fault, 1 to 13, and then nothing changed.
+/// Takes the next state line. Returns 0; or -1 if the line ended the moment, whose numbers stay; or
+/// the number of the line's fault, 1 to 13, and then nothing has changed.
 #[unsafe(no_mangle)]
 pub extern "C" fn daa_line(line: &[u8], lines: &mut DaaLines) -> i32
     ensures taken { result ≡ pos 0 → IsLineTaken lines.old line.now false lines.new }
@@ -20,7 +20,7 @@ pub extern "C" fn daa_line(line: &[u8], lines: &mut DaaLines) -> i32
 
 /// Fills in what is wrong with an ownship and aircraft, or that nothing is. Returns 0.
 #[unsafe(no_mangle)]
-pub extern "C" fn daa_fault(own: &DaaOwn, traffic: &[DaaTraffic], out: &mut DaaFault) -> i32
+pub extern "C" fn daa_fault(own: &Own, traffic: &[DaaTraffic], out: &mut DaaFault) -> i32
     ensures answer { result ≡ pos 0 }
     ensures filled { IsFaultOf own.now traffic.now out.new }
 {

@@ -13,10 +13,9 @@ use Rattle.daa_state.specs.declared.checked.PictureFault.TheVariants as says
 use Rattle.daa_state.specs.declared.word.Own.{Own}
 use Rattle.daa_state.specs.declared.word.Traffic.{Traffic}
 use Rattle.daa_numbers.specs.Refusal.{bad_id_from, states_refusal, config_refusal}
-use Rattle.daa_numbers.specs.States.{own_of, text_of, traffic_of}
+use Rattle.daa_numbers.specs.States.{text_of, traffic_of}
 use Rattle.daa_numbers.specs.declared.refusal.Refusal.{Refusal}
 use Rattle.daa_numbers.specs.declared.refusal.Refusal.TheVariants as refuses
-use Rattle.daa_numbers.specs.declared.states.DaaOwn.{DaaOwn}
 use Rattle.daa_numbers.specs.declared.states.DaaTraffic.{DaaTraffic}
 
 -- ---- identifiers
@@ -50,31 +49,30 @@ bad_past traffic place all past so_far = sym so_far ∙ ap (bad_id_from place) (
 
 -- ---- states
 
-pub refused_many : (own : DaaOwn) (traffic : List DaaTraffic) → 64 < length traffic → states_refusal own traffic ≡ Some (refuses.Picture says.TooMany)
+pub refused_many : (own : Own) (traffic : List DaaTraffic) → 64 < length traffic → states_refusal own traffic ≡ Some (refuses.Picture says.TooMany)
 unfolding states_refusal
 refused_many own traffic many = let test : nat_lt 64 (length traffic) ≡ true = lt-ltb 64 (length traffic) many in rw test
 
-few_refused : (own : DaaOwn) (traffic : List DaaTraffic) → length traffic ≤ 64
+few_refused : (own : Own) (traffic : List DaaTraffic) → length traffic ≤ 64
     → states_refusal own traffic
-    ≡ earlier (option_map refuses.BadId (bad_id_from 0 traffic)) (option_map refuses.Picture (picture_fault_of (own_of own) (map traffic_of traffic)))
+    ≡ earlier (option_map refuses.BadId (bad_id_from 0 traffic)) (option_map refuses.Picture (picture_fault_of own (map traffic_of traffic)))
 unfolding states_refusal
 few_refused own traffic few = let test : nat_lt 64 (length traffic) ≡ false = le-ltb 64 (length traffic) few in rw test
 
-pub refused_id : (own : DaaOwn) (traffic : List DaaTraffic) (place : ℕ) → length traffic ≤ 64 → bad_id_from 0 traffic ≡ Some place
+pub refused_id : (own : Own) (traffic : List DaaTraffic) (place : ℕ) → length traffic ≤ 64 → bad_id_from 0 traffic ≡ Some place
     → states_refusal own traffic ≡ Some (refuses.BadId place)
 refused_id own traffic place few wrong =
     few_refused own traffic few
-    ∙ ap (λ (bad : Option ℕ). earlier (option_map refuses.BadId bad) (option_map refuses.Picture (picture_fault_of (own_of own) (map traffic_of traffic)))) wrong
+    ∙ ap (λ (bad : Option ℕ). earlier (option_map refuses.BadId bad) (option_map refuses.Picture (picture_fault_of own (map traffic_of traffic)))) wrong
 
 -- where each identifier is allowed, it is why the ownship and the aircraft are no picture
-pub refused_picture : (own : DaaOwn) (traffic : List DaaTraffic) (o : Own) (all : List Traffic) (fault : Option PictureFault) → length traffic ≤ 64
-    → bad_id_from 0 traffic ≡ None → o ≡ own_of own → all ≡ map traffic_of traffic → picture_fault_of o all ≡ fault
+pub refused_picture : (own : Own) (traffic : List DaaTraffic) (all : List Traffic) (fault : Option PictureFault) → length traffic ≤ 64
+    → bad_id_from 0 traffic ≡ None → all ≡ map traffic_of traffic → picture_fault_of own all ≡ fault
     → states_refusal own traffic ≡ option_map refuses.Picture fault
-refused_picture own traffic o all fault few sound same_own same_all is =
-    let first : picture_fault_of (own_of own) (map traffic_of traffic) ≡ fault =
-    sym (ap (λ (x : Own). picture_fault_of x all) same_own ∙ ap (picture_fault_of (own_of own)) same_all) ∙ is in
+refused_picture own traffic all fault few sound same is =
+    let first : picture_fault_of own (map traffic_of traffic) ≡ fault = sym (ap (picture_fault_of own) same) ∙ is in
     few_refused own traffic few
-    ∙ ap (λ (bad : Option ℕ). earlier (option_map refuses.BadId bad) (option_map refuses.Picture (picture_fault_of (own_of own) (map traffic_of traffic)))) sound
+    ∙ ap (λ (bad : Option ℕ). earlier (option_map refuses.BadId bad) (option_map refuses.Picture (picture_fault_of own (map traffic_of traffic)))) sound
     ∙ ap (option_map refuses.Picture) first
 
 -- ---- a configuration before them

@@ -4,10 +4,10 @@ use Rattle.daa_state.specs.declared.checked.Field.{Field}
 use Rattle.daa_state.specs.declared.checked.Field.TheVariants.{East, North, Altitude, Track, GroundSpeed, VerticalSpeed, SpeedEast, SpeedNorth, Age}
 use Rattle.daa_state.specs.declared.checked.OutOfRange.{OutOfRange}
 use Rattle.daa_state.specs.declared.checked.PictureFault.TheVariants as says
+use Rattle.daa_state.specs.declared.word.Own.{Own}
 use Rattle.daa_numbers.specs.declared.faults.DaaFault.{DaaFault}
 use Rattle.daa_numbers.specs.declared.refusal.Refusal.{Refusal}
 use Rattle.daa_numbers.specs.declared.refusal.Refusal.TheVariants as refuses
-use Rattle.daa_numbers.specs.declared.states.DaaOwn.{DaaOwn}
 use Rattle.daa_numbers.specs.declared.states.DaaTraffic.{DaaTraffic}
 use Rattle.daa_numbers.specs.Asked.{IsTaken}
 use Rattle.daa_numbers.specs.Codes.{code_of}
@@ -45,17 +45,17 @@ fault_by (refuses.Picture (says.Traffic place fault)) = ranged_fault (pos 17) pl
 fault_by (refuses.Picture (says.SameId place)) = plain_fault (pos 22) place
 
 -- nothing is wrong, and this is reported
-pub record IsSound (own : DaaOwn) (traffic : List DaaTraffic) (out : DaaFault) : Type 0 where
+pub record IsSound (own : Own) (traffic : List DaaTraffic) (out : DaaFault) : Type 0 where
   pub taken : IsTaken (picture_of 0 own traffic)
   pub none : states_refusal own traffic ≡ None
   pub filled : out ≡ plain_fault (pos 0) 0
 
 -- something is wrong, and it is told
-pub record IsWrong (own : DaaOwn) (traffic : List DaaTraffic) (out : DaaFault) : Type 0 where
+pub record IsWrong (own : Own) (traffic : List DaaTraffic) (out : DaaFault) : Type 0 where
   pub why : Refusal
   pub wrong : states_refusal own traffic ≡ Some why
   pub filled : out ≡ fault_by why
 
 -- it is reported that nothing is wrong, or what is wrong
-abbrev pub IsFaultOf : DaaOwn → List DaaTraffic → DaaFault → Type 0
+abbrev pub IsFaultOf : Own → List DaaTraffic → DaaFault → Type 0
 IsFaultOf own traffic out = IsSound own traffic out ⊎ IsWrong own traffic out

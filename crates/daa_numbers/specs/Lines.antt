@@ -8,7 +8,7 @@ use Rattle.daa_state.specs.declared.moments.Moment.{Moment}
 use Rattle.daa_state.specs.declared.word.Picture.{Picture}
 use Rattle.daa_state.specs.declared.word.Traffic.{Traffic}
 use Rattle.daa_numbers.specs.declared.lines.DaaLines.{DaaLines}
-use Rattle.daa_numbers.specs.States.{own_of, traffic_of}
+use Rattle.daa_numbers.specs.States.{traffic_of}
 
 -- a value, where the flag is not 0
 abbrev pub flagged : {A : Type 0} → ℕ → A → Option A
@@ -25,7 +25,7 @@ aircraft_by lines = map traffic_of (take lines.count lines.traffic)
 
 -- the moment in the numbers
 abbrev pub moment_by : DaaLines → Moment
-moment_by lines = record { time = lines.time; own = flagged lines.owned (own_of lines.own); traffic = record { items = aircraft_by lines } }
+moment_by lines = record { time = lines.time; own = flagged lines.owned lines.own; traffic = record { items = aircraft_by lines } }
 
 -- what the numbers say of the lines so far
 abbrev pub lines_by : DaaLines → MomentsState
@@ -33,7 +33,7 @@ lines_by lines = record { moment = flagged lines.opened (moment_by lines); last 
 
 -- the picture in the numbers
 abbrev pub picture_by : DaaLines → Picture
-picture_by lines = record { time = lines.time; own = own_of lines.own; traffic = record { items = aircraft_by lines } }
+picture_by lines = record { time = lines.time; own = lines.own; traffic = record { items = aircraft_by lines } }
 
 -- the picture of the moment that has ended, if one has
 abbrev pub picture_if : Bool → DaaLines → Option Picture

@@ -5,14 +5,14 @@ use Rattle.daa_config.specs.declared.fault.ConfigFault.{ConfigFault}
 use Rattle.daa_state.specs.Checked.{earlier, first_out_of_range, own_numbers, picture_fault_of, traffic_numbers}
 use Rattle.daa_state.specs.Id.{is_id}
 use Rattle.daa_state.specs.declared.checked.PictureFault.TheVariants as says
+use Rattle.daa_state.specs.declared.word.Own.{Own}
 use Rattle.daa_numbers.specs.declared.refusal.Refusal.{Refusal}
 use Rattle.daa_numbers.specs.declared.refusal.Refusal.TheVariants as refuses
 use Rattle.daa_numbers.specs.declared.setting.DaaConfig.{DaaConfig}
-use Rattle.daa_numbers.specs.declared.states.DaaOwn.{DaaOwn}
 use Rattle.daa_numbers.specs.declared.states.DaaTraffic.{DaaTraffic}
 use Rattle.daa_numbers.specs.Codes.{code_of}
 use Rattle.daa_numbers.specs.Numbers.{settings_by}
-use Rattle.daa_numbers.specs.States.{own_of, text_of, traffic_of}
+use Rattle.daa_numbers.specs.States.{text_of, traffic_of}
 
 -- the code of a refusal
 abbrev pub refusal_code : Refusal → ℤ
@@ -34,8 +34,8 @@ config_refusal (Ok settings) = None
 config_refusal (Err fault) = Some (refuses.Config fault)
 
 -- why an ownship is refused
-abbrev pub own_refusal : DaaOwn → Option Refusal
-own_refusal own = option_map (λ fault. refuses.Picture (says.Own fault)) (first_out_of_range (own_numbers (own_of own)))
+abbrev pub own_refusal : Own → Option Refusal
+own_refusal own = option_map (λ fault. refuses.Picture (says.Own fault)) (first_out_of_range (own_numbers own))
 
 -- why an aircraft is refused: its identifier before its numbers
 abbrev pub traffic_refusal : DaaTraffic → Option Refusal
@@ -44,22 +44,22 @@ traffic_refusal aircraft =
     else Some (refuses.BadId 0)
 
 -- why an ownship and aircraft are refused: too many aircraft, then the first identifier that is not allowed, then why they are no picture
-unfoldable pub states_refusal : DaaOwn → List DaaTraffic → Option Refusal
+unfoldable pub states_refusal : Own → List DaaTraffic → Option Refusal
 states_refusal own traffic =
     if nat_lt 64 (length traffic) then Some (refuses.Picture says.TooMany)
     else earlier (option_map refuses.BadId (bad_id_from 0 traffic))
-    (option_map refuses.Picture (picture_fault_of (own_of own) (map traffic_of traffic)))
+    (option_map refuses.Picture (picture_fault_of own (map traffic_of traffic)))
 
 -- why a configuration, or else a picture, is refused
-abbrev pub refusal_of : DaaConfig → DaaOwn → List DaaTraffic → Option Refusal
+abbrev pub refusal_of : DaaConfig → Own → List DaaTraffic → Option Refusal
 refusal_of config own traffic = earlier (config_refusal (settings_by config)) (states_refusal own traffic)
 
 -- why a configuration, or else an ownship, is refused
-abbrev pub refusal_of_own : DaaConfig → DaaOwn → Option Refusal
+abbrev pub refusal_of_own : DaaConfig → Own → Option Refusal
 refusal_of_own config own = earlier (config_refusal (settings_by config)) (own_refusal own)
 
 -- why a configuration, or else an ownship, or else one aircraft is refused
-abbrev pub refusal_of_two : DaaConfig → DaaOwn → DaaTraffic → Option Refusal
+abbrev pub refusal_of_two : DaaConfig → Own → DaaTraffic → Option Refusal
 refusal_of_two config own aircraft = earlier (refusal_of_own config own) (traffic_refusal aircraft)
 
 -- the code is that of a refusal, which is there

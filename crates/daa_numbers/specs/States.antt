@@ -3,12 +3,7 @@ use Rattle.std.specs.Prelude.{ℕ, zero, suc, ◌∷◌, [], List, map}
 use Rattle.daa_state.specs.declared.word.Own.{Own}
 use Rattle.daa_state.specs.declared.word.Traffic.{Traffic}
 use Rattle.daa_state.specs.declared.word.Picture.{Picture}
-use Rattle.daa_numbers.specs.declared.states.DaaOwn.{DaaOwn}
 use Rattle.daa_numbers.specs.declared.states.DaaTraffic.{DaaTraffic}
-
--- the ownship of a caller's numbers
-abbrev pub own_of : DaaOwn → Own
-own_of own = record { x = own.x; y = own.y; alt = own.alt; trk = own.trk; gs = own.gs; vs = own.vs }
 
 -- the bytes before the first 0
 unfoldable pub text_of : List ℕ → List ℕ
@@ -20,6 +15,6 @@ text_of (suc n ∷ rest) = suc n ∷ text_of rest
 abbrev pub traffic_of : DaaTraffic → Traffic
 traffic_of t = record { id = text_of t.id; x = t.x; y = t.y; alt = t.alt; vx = t.vx; vy = t.vy; vs = t.vs; age = t.age }
 
--- the picture of a time, an ownship and aircraft
-abbrev pub picture_of : ℕ → DaaOwn → List DaaTraffic → Picture
-picture_of time own traffic = record { time = time; own = own_of own; traffic = record { items = map traffic_of traffic } }
+-- the picture of a time, an ownship and a caller's aircraft
+abbrev pub picture_of : ℕ → Own → List DaaTraffic → Picture
+picture_of time own traffic = record { time = time; own = own; traffic = record { items = map traffic_of traffic } }

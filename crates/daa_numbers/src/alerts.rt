@@ -5,12 +5,12 @@ ghost use Rattle.daa_state.specs.InRange.{IsOwnInRange, IsTrafficInRange};
 ghost use Rattle.daa_numbers.specs.Asked.{IsAlertUnder};
 ghost use Rattle.daa_numbers.specs.Refusal.{refusal_of_two, IsCodeOf};
 ghost use Rattle.daa_numbers.specs.Filled.{leg_by, IsFilledAlert};
-ghost use Rattle.daa_numbers.specs.States.{own_of, traffic_of};
+ghost use Rattle.daa_numbers.specs.States.{traffic_of};
 
-use crate::asking::config_and_own;
+use crate::asking::config_for;
 use crate::refusal::code;
 use crate::setting::DaaConfig;
-use crate::states::{DaaOwn, DaaTraffic, checked_traffic};
+use crate::states::{DaaTraffic, checked_traffic};
 use daa_alert::now_level;
 use daa_config::Config;
 use daa_state::{Own, Traffic};
@@ -48,23 +48,23 @@ fn alert_numbers(config: &Config, own: &Own, aircraft: &Traffic) -> DaaAlert
     }
 }
 
-/// Fills in the level of an aircraft now, its alert level and its first leg. Returns 0, or why
-/// nothing was filled in.
-pub fn alert(config: &DaaConfig, own: &DaaOwn, traffic: &DaaTraffic, out: &mut DaaAlert) -> i32
+/// Fills in the level of an aircraft now, its alert level and the first second that alerts. Returns
+/// 0, or the code of why nothing was filled in.
+pub fn alert(config: &DaaConfig, own: &Own, traffic: &DaaTraffic, out: &mut DaaAlert) -> i32
     ensures filled { result ≡ pos 0
-        → IsAlertUnder config.now (own_of own.now) (traffic_of traffic.now) out.new }
+        → IsAlertUnder config.now own.now (traffic_of traffic.now) out.new }
     ensures kept { result ≢ pos 0 → out.new ≡ out.old }
     ensures refused { result ≢ pos 0
         → IsCodeOf (refusal_of_two config.now own.now traffic.now) result }
 {
-    let (config, own) = match config_and_own(config, own) {
-        Ok(found) => found,
+    let config = match config_for(config, own) {
+        Ok(config) => config,
         Err(code) => return code,
     };
     let traffic = match checked_traffic(traffic) {
         Ok(traffic) => traffic,
         Err(refusal) => return code(refusal),
     };
-    *out = alert_numbers(&config, &own, &traffic);
+    *out = alert_numbers(&config, own, &traffic);
     0
 }

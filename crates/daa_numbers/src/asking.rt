@@ -9,7 +9,7 @@ ghost use Rattle.daa_numbers.specs.Refusal.{refusal_of, refusal_of_own};
 use crate::codes::{BAD_KIND, fault_code, kind_in};
 use crate::refusal::code;
 use crate::setting::{DaaConfig, accept};
-use crate::states::{DaaOwn, DaaTraffic, checked_own, picture};
+use crate::states::{DaaTraffic, picture, test_own};
 use daa_config::{Config, Kind};
 use daa_state::{Own, Picture};
 
@@ -17,7 +17,7 @@ use daa_state::{Own, Picture};
 pub(crate) fn config_and_picture(
     config: &DaaConfig,
     time: u32,
-    own: &DaaOwn,
+    own: &Own,
     traffic: &[DaaTraffic],
 ) -> Result<(Config, Picture), i32>
     ensures asked { IfOk result
@@ -38,7 +38,7 @@ pub(crate) fn config_and_picture(
 /// them.
 pub(crate) fn config_picture_and_kind(
     config: &DaaConfig,
-    own: &DaaOwn,
+    own: &Own,
     traffic: &[DaaTraffic],
     kind: &i32,
 ) -> Result<(Config, Picture, Kind), i32>
@@ -58,17 +58,18 @@ pub(crate) fn config_picture_and_kind(
     }
 }
 
-/// The configuration and the ownship of these numbers, or the code of what is wrong with them.
-pub(crate) fn config_and_own(config: &DaaConfig, own: &DaaOwn) -> Result<(Config, Own), i32>
-    ensures asked { IfOk result (λ found. IsAskedOfOwn config.now own.now found.0 found.1) }
+/// The configuration of these numbers, if the ownship is in range too; else the code of what is
+/// wrong with the configuration or, where it is accepted, with the ownship.
+pub(crate) fn config_for(config: &DaaConfig, own: &Own) -> Result<Config, i32>
+    ensures asked { IfOk result (IsAskedOfOwn config.now own.now) }
     ensures refused { IfErr result (IsRefused (refusal_of_own config.now own.now)) }
 {
     let config = match accept(config) {
         Ok(config) => config,
         Err(fault) => return Err(fault_code(fault)),
     };
-    match checked_own(own) {
-        Ok(own) => Ok((config, own)),
+    match test_own(own) {
+        Ok(()) => Ok(config),
         Err(refusal) => Err(code(refusal)),
     }
 }

@@ -53,7 +53,8 @@ fn fill(config: &Config, board: &Board, kind: Kind, bands: &mut [DaaBand]) -> us
     count
 }
 
-/// Fills in the bands of a kind, and how many there are. Returns 0, or why nothing was filled in.
+/// Fills in the bands of a kind, in the rising order of their values, and how many bands there are.
+/// Returns 0, or the code of why nothing was filled in.
 pub fn bands(
     config: &DaaConfig,
     board: &DaaBoard,
@@ -64,8 +65,7 @@ pub fn bands(
     ensures filled { result ≡ pos 0
         → AreBandsUnder config.now board.now kind bands.new count.new }
     ensures past_kept { result ≡ pos 0 → drop count.new bands.new ≡ drop count.new bands.old }
-    ensures bands_kept { result ≢ pos 0 → bands.new ≡ bands.old }
-    ensures count_kept { result ≢ pos 0 → count.new ≡ count.old }
+    ensures kept { result ≢ pos 0 → (bands.new ≡ bands.old) × (count.new ≡ count.old) }
     ensures no_kind { result ≡ pos 23
         → HasNoKind (config_refusal (settings_by config.now)) kind }
     ensures bad_board { result ≡ pos 27 → HasKindButNoBoard

@@ -18,12 +18,12 @@ use crate::asking::config_and_picture;
 use crate::boards::{DaaBoard, is_decided, mark};
 use crate::codes::{BAD_BOARD, SHORT, fault_code};
 use crate::setting::{DaaConfig, accept};
-use crate::states::{DaaOwn, DaaTraffic};
+use crate::states::DaaTraffic;
 use daa_bands::Board;
 use daa_config::Config;
 use daa_engine::{MOST_CANDIDATES, decide_in, leading_flights};
 use daa_legs::Branch;
-use daa_state::Picture;
+use daa_state::{Own, Picture};
 
 /// The board of a picture.
 #[inline(never)]
@@ -38,8 +38,9 @@ pub(crate) fn decided_board(config: &Config, picture: &Picture) -> Board
     board
 }
 
-/// Fills in the board of a moment. Returns 0, or why nothing was filled in.
-pub fn decide(config: &DaaConfig, own: &DaaOwn, traffic: &[DaaTraffic], board: &mut DaaBoard) -> i32
+/// Fills in the board of a moment: the levels at which each candidate is covered, and the mark of
+/// the configuration. Returns 0, or the code of why nothing was filled in.
+pub fn decide(config: &DaaConfig, own: &Own, traffic: &[DaaTraffic], board: &mut DaaBoard) -> i32
     ensures decided { result ≡ pos 0
         → IsDecided config.now (picture_of 0 own.now traffic.now) board.new }
     ensures kept { result ≢ pos 0 → board.new ≡ board.old }
@@ -70,14 +71,14 @@ fn show(config: &Config, board: &Board, levels: &mut [u8])
 }
 
 /// Fills in the level that each candidate shows, 0 to the number of levels, in the order of the
-/// whole list, and how many there are. Answers 0, or why nothing was filled in.
+/// whole list, and how many candidates there are. Returns 0, or the code of why nothing was filled
+/// in.
 pub fn levels(config: &DaaConfig, board: &DaaBoard, levels: &mut [u8], count: &mut usize) -> i32
     ensures shown { result ≡ pos 0
         → AreLevelsUnder config.now board.now levels.new count.new }
     ensures past_kept { result ≡ pos 0
         → drop count.new levels.new ≡ drop count.new levels.old }
-    ensures levels_kept { result ≢ pos 0 → levels.new ≡ levels.old }
-    ensures count_kept { result ≢ pos 0 → count.new ≡ count.old }
+    ensures kept { result ≢ pos 0 → (levels.new ≡ levels.old) × (count.new ≡ count.old) }
     ensures bad_board { result ≡ pos 27 → IsNoBoard config.now board.now }
     ensures short { result ≡ pos 19 → HasMoreCandidates config.now board.now (length levels.old) }
     ensures refused { result ≢ pos 0 → result ≢ pos 19 → result ≢ pos 27

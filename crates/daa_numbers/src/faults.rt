@@ -5,8 +5,8 @@ ghost use Rattle.daa_numbers.specs.Faults.{plain_fault, ranged_fault, fault_by};
 ghost use Rattle.daa_numbers.specs.Faults.{number_of_field, IsFaultOf};
 
 use crate::refusal::{Refusal, code};
-use crate::states::{DaaOwn, DaaTraffic, picture};
-use daa_state::{Field, OutOfRange, PictureFault};
+use crate::states::{DaaTraffic, picture};
+use daa_state::{Field, OutOfRange, Own, PictureFault};
 
 /// What is wrong with states: the code, the number that is out of range (1 to 9), the least and the
 /// greatest that it may be, and the place of the aircraft. What does not apply is 0.
@@ -78,7 +78,7 @@ fn fault_numbers(refusal: Refusal) -> DaaFault
 }
 
 /// What is wrong with an ownship and aircraft, or that nothing is.
-fn fault_of(own: &DaaOwn, traffic: &[DaaTraffic]) -> DaaFault
+fn fault_of(own: &Own, traffic: &[DaaTraffic]) -> DaaFault
     ensures { IsFaultOf own.now traffic.now result }
 {
     match picture(0, own, traffic) {
@@ -88,7 +88,7 @@ fn fault_of(own: &DaaOwn, traffic: &[DaaTraffic]) -> DaaFault
 }
 
 /// Fills in what is wrong with an ownship and aircraft, or that nothing is. Returns 0.
-pub fn fault(own: &DaaOwn, traffic: &[DaaTraffic], out: &mut DaaFault) -> i32
+pub fn fault(own: &Own, traffic: &[DaaTraffic], out: &mut DaaFault) -> i32
     ensures answer { result ≡ pos 0 }
     ensures filled { IsFaultOf own.now traffic.now out.new }
 {

@@ -9,8 +9,9 @@ ghost use Rattle.daa_numbers.specs.States.{picture_of};
 use crate::asking::config_picture_and_kind;
 use crate::codes::NOT_ASKED;
 use crate::setting::DaaConfig;
-use crate::states::{DaaOwn, DaaTraffic};
+use crate::states::DaaTraffic;
 use daa_last::last_of;
+use daa_state::Own;
 
 /// The last time of a kind: 1, and for how many seconds, 0 to 179, the present flight may be kept;
 /// or both 0 where there is none.
@@ -32,10 +33,10 @@ fn last_numbers(last: Option<u32>) -> DaaLast
 }
 
 /// Fills in the last time of a kind in a moment, whether or not the present flight is open. Returns
-/// 0, or why nothing was filled in.
+/// 0, or the code of why nothing was filled in.
 pub fn last(
     config: &DaaConfig,
-    own: &DaaOwn,
+    own: &Own,
     traffic: &[DaaTraffic],
     kind: i32,
     out: &mut DaaLast,

@@ -8,10 +8,10 @@ ghost use Rattle.daa_state.specs.InRange.{IsFormat, IsWordInRange};
 ghost use Rattle.daa_state.specs.MomentStep.{has_id};
 ghost use Rattle.daa_numbers.specs.Lines.{format_by, aircraft_by, IsLineTaken, IsLineRefused};
 ghost use Rattle.daa_numbers.specs.Inside.Lines.{IsStep, IsNoStep};
-ghost use Rattle.daa_numbers.specs.States.{own_of, text_of, traffic_of};
+ghost use Rattle.daa_numbers.specs.States.{text_of, traffic_of};
 
 use crate::codes::MOMENT_ENDED;
-use crate::states::{DaaOwn, DaaTraffic, text_end};
+use crate::states::{DaaTraffic, text_end};
 use daa_state::{Id, LineFault, MOST_AIRCRAFT, Own, Traffic, Word, read_line};
 
 /// The lines so far. All zeros: none. `opened` is not 0 while a moment is open, and then `time` is
@@ -27,7 +27,7 @@ pub struct DaaLines {
     pub opened: u32,
     pub time: u32,
     pub owned: u32,
-    pub own: DaaOwn,
+    pub own: Own,
     pub count: u64,
     pub traffic: [DaaTraffic; MOST_AIRCRAFT],
 }
@@ -48,20 +48,6 @@ fn id_bytes(id: &Id) -> [u8; 8]
     let text = id.bytes();
     bytes[..text.len()].copy_from_slice(text);
     bytes
-}
-
-/// The numbers of an ownship.
-fn own_numbers(own: &Own) -> DaaOwn
-    ensures { own_of result ≡ own.now }
-{
-    DaaOwn {
-        x: own.x,
-        y: own.y,
-        alt: own.alt,
-        trk: own.trk,
-        gs: own.gs,
-        vs: own.vs,
-    }
 }
 
 /// The numbers of an aircraft.
@@ -114,7 +100,7 @@ fn add_own(lines: &mut DaaLines, own: &Own) -> Result<(), LineFault>
         return Err(LineFault::OwnTwice);
     }
     lines.owned = 1;
-    lines.own = own_numbers(own);
+    lines.own = *own;
     Ok(())
 }
 
@@ -224,8 +210,8 @@ fn fault_number(fault: LineFault) -> i32
     i32::from(fault.code())
 }
 
-/// Takes the next line. Returns 0, or -1 if the line ended the moment, whose numbers stay, or the
-/// number of the line's fault, 1 to 13, and then nothing changed.
+/// Takes the next state line. Returns 0; or -1 if the line ended the moment, whose numbers stay; or
+/// the number of the line's fault, 1 to 13, and then nothing has changed.
 pub fn line(line: &[u8], lines: &mut DaaLines) -> i32
     ensures taken { result ≡ pos 0 → IsLineTaken lines.old line.now false lines.new }
     ensures ended { result ≡ negsuc 0 → IsLineTaken lines.old line.now true lines.new }

@@ -9,8 +9,9 @@ ghost use Rattle.daa_numbers.specs.States.{picture_of};
 use crate::asking::config_picture_and_kind;
 use crate::codes::NOT_ASKED;
 use crate::setting::DaaConfig;
-use crate::states::{DaaOwn, DaaTraffic};
+use crate::states::DaaTraffic;
 use daa_recovery::{Recovery, least};
+use daa_state::Own;
 
 /// The recovery of a kind: 1, after how many seconds and the value; or all 0 where there is none.
 #[repr(C)]
@@ -39,10 +40,11 @@ fn recovery_numbers(recovery: Option<Recovery>) -> DaaRecovery
     }
 }
 
-/// Fills in the recovery of a kind in a moment. Returns 0, or why nothing was filled in.
+/// Fills in the recovery of a kind in a moment. Returns 0, or the code of why nothing was filled
+/// in.
 pub fn recovery(
     config: &DaaConfig,
-    own: &DaaOwn,
+    own: &Own,
     traffic: &[DaaTraffic],
     kind: i32,
     out: &mut DaaRecovery,

@@ -15,11 +15,11 @@ use crate::codes::SHORT;
 use crate::deciding::decided_board;
 use crate::setting::DaaConfig;
 use crate::sheet::ArraySheet;
-use crate::states::{DaaOwn, DaaTraffic};
+use crate::states::DaaTraffic;
 use daa_bands::Board;
 use daa_config::Config;
 use daa_engine::say_moment;
-use daa_state::Picture;
+use daa_state::{Own, Picture};
 
 /// Writes the text of a decided moment on an empty sheet, which has room for it.
 fn write(config: &Config, picture: &Picture, board: &Board, sheet: &mut ArraySheet)
@@ -55,12 +55,12 @@ fn fill(config: &Config, picture: &Picture, board: &Board, text: &mut [u8]) -> O
     Some(said.len())
 }
 
-/// Fills in the text of a moment, and how many bytes it has. Returns 0, or why nothing was filled
-/// in.
+/// Fills in the text of a moment, and how many bytes the text has. Returns 0, or the code of why
+/// nothing was filled in.
 pub fn report(
     config: &DaaConfig,
     time: u32,
-    own: &DaaOwn,
+    own: &Own,
     traffic: &[DaaTraffic],
     text: &mut [u8],
     count: &mut usize,
@@ -69,8 +69,7 @@ pub fn report(
         config.now (picture_of time own.now traffic.now) (take count.new text.new) }
     ensures fits { result ≡ pos 0 → count.new ≤ length text.new }
     ensures past_kept { result ≡ pos 0 → drop count.new text.new ≡ drop count.new text.old }
-    ensures text_kept { result ≢ pos 0 → text.new ≡ text.old }
-    ensures count_kept { result ≢ pos 0 → count.new ≡ count.old }
+    ensures kept { result ≢ pos 0 → (text.new ≡ text.old) × (count.new ≡ count.old) }
     ensures short { result ≡ pos 19 → HasLongerText
         config.now (picture_of time own.now traffic.now) (length text.old) }
     ensures refused { result ≢ pos 0 → result ≢ pos 19

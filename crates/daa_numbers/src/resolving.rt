@@ -5,16 +5,15 @@ ghost use Rattle.daa_numbers.specs.Asked.{IsResolutionUnder, HasNoKind};
 ghost use Rattle.daa_numbers.specs.Asked.{HasNoSide, HasSideButNoBoard};
 ghost use Rattle.daa_numbers.specs.Refusal.{refusal_of_own, IsCodeOf};
 ghost use Rattle.daa_numbers.specs.Filled.{resolution_by};
-ghost use Rattle.daa_numbers.specs.States.{own_of};
 
-use crate::asking::config_and_own;
+use crate::asking::config_for;
 use crate::boards::{DaaBoard, is_decided};
 use crate::codes::{BAD_BOARD, BAD_KIND, BAD_SIDE, kind_in, side_in};
 use crate::setting::DaaConfig;
-use crate::states::DaaOwn;
 use daa_bands::Board;
 use daa_config::Resolution;
 use daa_resolve::nearest;
+use daa_state::Own;
 
 /// The answer: 0 to keep the present flight, 1 to go to the value, 2 for no open candidate.
 #[repr(C)]
@@ -35,17 +34,18 @@ fn resolution_numbers(resolution: Resolution) -> DaaResolution
     }
 }
 
-/// Fills in the answer on a side of a kind. Returns 0, or why nothing was filled in.
+/// Fills in the answer on a side of a kind: the nearest open candidate, that there is none, or that
+/// the present flight may be kept. Returns 0, or the code of why nothing was filled in.
 pub fn resolution(
     config: &DaaConfig,
-    own: &DaaOwn,
+    own: &Own,
     board: &DaaBoard,
     kind: i32,
     side: i32,
     out: &mut DaaResolution,
 ) -> i32
     ensures filled { result ≡ pos 0
-        → IsResolutionUnder config.now (own_of own.now) board.now kind side out.new }
+        → IsResolutionUnder config.now own.now board.now kind side out.new }
     ensures kept { result ≢ pos 0 → out.new ≡ out.old }
     ensures no_kind { result ≡ pos 23 → HasNoKind (refusal_of_own config.now own.now) kind }
     ensures no_side { result ≡ pos 24 → HasNoSide (refusal_of_own config.now own.now) kind side }
@@ -54,8 +54,8 @@ pub fn resolution(
     ensures refused { result ≢ pos 0 → result ≢ pos 23 → result ≢ pos 24 → result ≢ pos 27
         → IsCodeOf (refusal_of_own config.now own.now) result }
 {
-    let (accepted, own) = match config_and_own(config, own) {
-        Ok(found) => found,
+    let accepted = match config_for(config, own) {
+        Ok(accepted) => accepted,
         Err(code) => return code,
     };
     let Some(kind) = kind_in(kind) else {
@@ -68,6 +68,6 @@ pub fn resolution(
         return BAD_BOARD;
     }
     let board = Board::of(&board.masks);
-    *out = resolution_numbers(nearest(&board, &accepted, &own, kind, side));
+    *out = resolution_numbers(nearest(&board, &accepted, own, kind, side));
     0
 }

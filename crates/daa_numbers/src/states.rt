@@ -8,25 +8,14 @@ ghost use Rattle.daa_state.specs.InRange.{IsOwnInRange, IsTrafficInRange};
 ghost use Rattle.daa_numbers.specs.Asked.{IsTaken};
 ghost use Rattle.daa_numbers.specs.Refusal.{bad_id_from, own_refusal};
 ghost use Rattle.daa_numbers.specs.Refusal.{traffic_refusal, states_refusal};
-ghost use Rattle.daa_numbers.specs.States.{own_of, text_of, traffic_of, picture_of};
+ghost use Rattle.daa_numbers.specs.States.{text_of, traffic_of, picture_of};
 
 use crate::refusal::Refusal;
 use arrayvec::ArrayVec;
 use daa_state::{Id, MOST_AIRCRAFT, Own, Picture, PictureFault, Traffic};
 
-/// The ownship, in the units of state lines.
-#[repr(C)]
-#[derive(Clone, Copy)]
-pub struct DaaOwn {
-    pub x: i32,
-    pub y: i32,
-    pub alt: i32,
-    pub trk: i32,
-    pub gs: i32,
-    pub vs: i32,
-}
-
-/// An aircraft, in the units of state lines. Its identifier ends before the first byte 0.
+/// An aircraft: its identifier, which ends before the first byte 0, or with the eighth, and the
+/// numbers of [`Traffic`], in the same units and ranges.
 #[repr(C)]
 #[derive(Clone, Copy)]
 pub struct DaaTraffic {
@@ -52,20 +41,6 @@ pub(crate) fn text_end(bytes: &[u8]) -> usize
     end
 }
 
-/// The ownship of these numbers.
-fn ownship(own: &DaaOwn) -> Own
-    ensures { result ≡ own_of own.now }
-{
-    Own {
-        x: own.x,
-        y: own.y,
-        alt: own.alt,
-        trk: own.trk,
-        gs: own.gs,
-        vs: own.vs,
-    }
-}
-
 /// The aircraft of these numbers, if its identifier is allowed.
 fn aircraft(traffic: &DaaTraffic) -> Option<Traffic>
     ensures { SomeIff result (IsTrue (is_id (text_of traffic.now.id))) (traffic_of traffic.now) }
@@ -83,15 +58,14 @@ fn aircraft(traffic: &DaaTraffic) -> Option<Traffic>
     })
 }
 
-/// The ownship of these numbers, if they are in range.
-pub(crate) fn checked_own(own: &DaaOwn) -> Result<Own, Refusal>
-    ensures value { IfOk result (λ o. o ≡ own_of own.now) }
-    ensures range { IfOk result IsOwnInRange }
+/// Whether each number of an ownship is in its range; else why the ownship is refused.
+pub(crate) fn test_own(own: &Own) -> Result<(), Refusal>
+    ensures range { OnOk result (IsOwnInRange own.now) }
     ensures sound { OnOk result (own_refusal own.now ≡ None) }
     ensures refused { IfErr result (λ refusal. own_refusal own.now ≡ Some refusal) }
 {
-    match ownship(own).check() {
-        Ok(own) => Ok(own),
+    match own.check() {
+        Ok(_) => Ok(()),
         Err(fault) => Err(Refusal::Picture(PictureFault::Own(fault))),
     }
 }
@@ -133,7 +107,7 @@ fn all_aircraft(traffic: &[DaaTraffic]) -> Result<ArrayVec<Traffic, MOST_AIRCRAF
 
 /// The picture of these numbers, if the engine takes it. Else the first of these causes: too many
 /// aircraft, an identifier that is not allowed, why the states are no picture.
-pub(crate) fn picture(time: u32, own: &DaaOwn, traffic: &[DaaTraffic]) -> Result<Picture, Refusal>
+pub(crate) fn picture(time: u32, own: &Own, traffic: &[DaaTraffic]) -> Result<Picture, Refusal>
     ensures value { IfOk result (λ p. p ≡ picture_of time own.now traffic.now) }
     ensures taken { IfOk result IsTaken }
     ensures sound { OnOk result (states_refusal own.now traffic.now ≡ None) }
@@ -146,7 +120,7 @@ pub(crate) fn picture(time: u32, own: &DaaOwn, traffic: &[DaaTraffic]) -> Result
         Ok(all) => all,
         Err(place) => return Err(Refusal::BadId(place)),
     };
-    match Picture::check(time, ownship(own), all.as_slice()) {
+    match Picture::check(time, *own, all.as_slice()) {
         Ok(picture) => Ok(picture),
         Err(fault) => Err(Refusal::Picture(fault)),
     }

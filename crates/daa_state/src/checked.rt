@@ -236,8 +236,8 @@ fn is_among(traffic: &[Traffic], id: &Id) -> bool
 }
 
 /// Whether the aircraft at a place is in range, and no aircraft before it has its identifier. The
-/// fault is the first number that is out of its range, or else that an earlier one has the
-/// identifier.
+/// fault is the first of its numbers that is out of its range, or else that an earlier aircraft has
+/// the identifier.
 fn test_aircraft(traffic: &[Traffic], place: usize) -> Result<(), PictureFault>
     requires { place < length traffic.now }
     ensures taken { OnOk result ((t : Traffic) → slice_get traffic.now place ≡ Some t

@@ -10,13 +10,14 @@ use thiserror::Error;
 /// each field first its spelling.
 #[derive(Clone, Copy, Debug, PartialEq, Eq, Error)]
 pub enum LineFault {
-    /// The line has more than 255 bytes, a carriage return at its end counted; also a comment.
+    /// The line has more than 255 bytes, with a carriage return at its end counted. This goes for a
+    /// comment too.
     #[error("fault 1: the line has more than 255 bytes")]
     LongLine,
     /// The first field is none of `moment`, `own`, `traffic`, `format` and `end`.
     #[error("fault 2: the first field is no word of a state line")]
     BadWord,
-    /// The word takes another number of fields.
+    /// The fields after the first are more or fewer than the word takes.
     #[error("fault 3: the word takes another number of fields")]
     FieldCount,
     /// A number's field is not an optional sign and 1 to 10 digits.
@@ -35,20 +36,20 @@ pub enum LineFault {
     /// `moment` or `format` while a moment is open.
     #[error("fault 8: a moment is open")]
     MomentOpen,
-    /// `moment` with a time that is not greater than that of the last ended moment, which is
-    /// carried, in seconds.
+    /// `moment` with a time that is not greater than the time of the last ended moment. The fault
+    /// carries that moment's time, in seconds.
     #[error("fault 9: the time is not later than {0} s, at which the last moment ended")]
     NotLater(u32),
-    /// `own` while the moment has one.
+    /// `own` while the open moment has an ownship.
     #[error("fault 10: the moment has an ownship")]
     OwnTwice,
-    /// `traffic` with an identifier that the moment has.
+    /// `traffic` with the identifier of an aircraft of the open moment.
     #[error("fault 11: the moment has an aircraft of that identifier")]
     SameId,
-    /// `traffic` while the moment has 64 aircraft.
+    /// `traffic` while the open moment has 64 aircraft.
     #[error("fault 12: the moment has 64 aircraft")]
     Full,
-    /// `end` while the moment has no `own`.
+    /// `end` while the open moment has no ownship.
     #[error("fault 13: the moment has no ownship")]
     NoOwn,
     /// The input ended while a moment is open.

@@ -59,7 +59,7 @@ impl Id {
         })
     }
 
-    /// The bytes that it was made of.
+    /// The bytes of the identifier, 1 to 8.
     pub fn bytes(&self) -> &[u8]
         ensures value { result.now ≡ self.now }
         ensures identifier { IsTrue (is_id self.now) }

@@ -11,7 +11,7 @@ ghost use Rattle.daa_state.specs.Laws.{Format1SaysNoAges, NoAgesLeaveNoAges};
 use crate::fault::LineFault;
 use crate::word::Word;
 
-/// The first 256 bytes of a line decide its word, and a line that has them is long.
+/// The first 256 bytes of a line decide its word, and a line of 256 bytes or more is `LongLine`.
 pub fn first_256_bytes_decide()
     ensures same { First256BytesDecide }
     ensures long { LongFrom256Bytes }
@@ -37,7 +37,8 @@ pub fn format_1_has_no_ages()
     ensures steps { NoAgesLeaveNoAges }
 {}
 
-/// The words of lines, and steps, whose answers are known.
+/// Lines and steps whose answers are known: the word of each line, and what each word makes of the
+/// state before it.
 pub fn worked_examples()
     ensures signs_and_zeros { word_of (codes "own +5 -0 0000001000 0 3600 0") 1
         ≡ Ok (Word.Own (record {

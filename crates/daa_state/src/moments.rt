@@ -48,7 +48,7 @@ impl Model for Moments {
 }
 
 impl Moments {
-    /// No moment is open, none was ended, and the format is 1.
+    /// The state before the first word: no moment is open, none was ended, and the format is 1.
     pub fn new() -> Self
         ensures { result ≡ start }
     {
@@ -59,8 +59,10 @@ impl Moments {
         }
     }
 
-    /// Takes the next word: a picture exactly at an `End` that is accepted. A word that is refused,
-    /// with the first fault that applies of codes 7 to 13, changes nothing.
+    /// Takes the next word. Returns the picture of the ended moment exactly where the word is an
+    /// `End` that is accepted, and `None` at any other word that is accepted. A word that does not
+    /// fit the state is refused with the first fault that applies, of codes 7 to 13, and changes
+    /// nothing.
     #[tactic(auto, unfolding(crate::specs::MomentStep::step))]
     pub fn take(&mut self, word: Word) -> Result<Option<Picture>, LineFault>
         requires range { IsWordInRange word }
@@ -98,9 +100,10 @@ impl Moments {
         }
     }
 
-    /// Takes a word that begins a moment or adds to the open one, as `take` does, and returns true.
-    /// Where the word is another one, or would be refused, it returns false and changes nothing. No
-    /// room for a picture is made ready, which costs more than what most lines add.
+    /// Takes a word that begins a moment or adds to the open one, as [`Moments::take`] does, and
+    /// returns true. Where the word does neither, or [`Moments::take`] would refuse it, this
+    /// returns false and changes nothing. It makes no room for a picture, which takes longer than
+    /// most words do.
     #[tactic(auto, unfolding(crate::specs::MomentStep::step))]
     pub fn adds(&mut self, word: &Word) -> bool
         requires range { IsWordInRange word.now }
@@ -135,7 +138,7 @@ impl Moments {
         self.format
     }
 
-    /// The end of the input: `Unfinished` exactly if a moment is open.
+    /// Whether the input may end here: `Unfinished` exactly if a moment is open.
     pub fn finish(&self) -> Result<(), LineFault>
         ensures { result ≡ finished self.now }
     {
@@ -146,7 +149,8 @@ impl Moments {
     }
 }
 
-/// The moment that begins, if none is open and its time is later than the last.
+/// The moment of this time, in seconds, which has no ownship and no aircraft yet: if no moment is
+/// open, and the time is later than that of the last ended moment.
 #[tactic(auto, unfolding(crate::specs::MomentStep::begun_moment))]
 fn begin(moment: &Option<Moment>, last: Option<u32>, time: u32) -> Result<Moment, LineFault>
     ensures value { result ≡ begun_moment moment.now last time }
@@ -214,7 +218,8 @@ fn has_id(traffic: &ArrayVec<Traffic, MOST_AIRCRAFT>, id: &Id) -> bool
     traffic.as_slice().iter().any(|aircraft| aircraft.id == *id)
 }
 
-/// Takes the open moment out as a picture.
+/// Takes the open moment out as a picture. `NoMoment` says that no moment is open, `NoOwn` that the
+/// open one has no ownship and stays open.
 #[tactic(auto, unfolding(crate::specs::MomentStep::ended_picture))]
 fn end(moment: &mut Option<Moment>) -> Result<Picture, LineFault>
     ensures ended { IfOk result (λ picture. (ended_picture moment.old ≡ Ok picture)

@@ -1,4 +1,5 @@
-//! Numbers in fields: how they are spelled, and the range of each.
+//! Numbers in fields: how they are spelled, and the range of each. A field that spells no number is
+//! refused as `BadNumber`, and a number outside its range as `OutOfRange`.
 
 ghost use Rattle.std.specs.Prelude.{◌≡◌, ◌≤◌, ◌<◌, ◌^◌, length, true, false};
 ghost use Rattle.std.specs.Prelude.{IsTrue, pos, IfSome, IfOk, MatchOption};
@@ -75,7 +76,7 @@ fn digits_value(digits: &[u8]) -> Option<u64>
     Some(value)
 }
 
-/// A place east or north, in thousandths of a nautical mile.
+/// A place east or north, in thousandths of a nautical mile: -200000 to 200000.
 #[tactic(auto, unfolding(crate::specs::Number::number_in))]
 pub(crate) fn position(field: &[u8]) -> Result<i32, LineFault>
     ensures value { result ≡ number_in positions field.now }
@@ -87,7 +88,7 @@ pub(crate) fn position(field: &[u8]) -> Result<i32, LineFault>
     }
 }
 
-/// Feet.
+/// An altitude, in feet: -2000 to 60000.
 #[tactic(auto, unfolding(crate::specs::Number::number_in))]
 pub(crate) fn altitude(field: &[u8]) -> Result<i32, LineFault>
     ensures value { result ≡ number_in altitudes field.now }
@@ -99,7 +100,7 @@ pub(crate) fn altitude(field: &[u8]) -> Result<i32, LineFault>
     }
 }
 
-/// Degrees clockwise from north.
+/// A track, in degrees clockwise from north: 0 to 359.
 #[tactic(auto, unfolding(crate::specs::Number::number_in))]
 pub(crate) fn track(field: &[u8]) -> Result<i32, LineFault>
     ensures value { result ≡ number_in tracks field.now }
@@ -111,7 +112,7 @@ pub(crate) fn track(field: &[u8]) -> Result<i32, LineFault>
     }
 }
 
-/// Tenths of a knot.
+/// A ground speed, in tenths of a knot: 0 to 10000.
 #[tactic(auto, unfolding(crate::specs::Number::number_in))]
 pub(crate) fn ground_speed(field: &[u8]) -> Result<i32, LineFault>
     ensures value { result ≡ number_in ground_speeds field.now }
@@ -123,7 +124,7 @@ pub(crate) fn ground_speed(field: &[u8]) -> Result<i32, LineFault>
     }
 }
 
-/// A speed east or north, in tenths of a knot.
+/// A speed east or north, in tenths of a knot: -10000 to 10000.
 #[tactic(auto, unfolding(crate::specs::Number::number_in))]
 pub(crate) fn speed(field: &[u8]) -> Result<i32, LineFault>
     ensures value { result ≡ number_in speeds field.now }
@@ -135,7 +136,7 @@ pub(crate) fn speed(field: &[u8]) -> Result<i32, LineFault>
     }
 }
 
-/// Feet per minute.
+/// A vertical speed, in feet per minute: -10000 to 10000.
 #[tactic(auto, unfolding(crate::specs::Number::number_in))]
 pub(crate) fn vertical_speed(field: &[u8]) -> Result<i32, LineFault>
     ensures value { result ≡ number_in vertical_speeds field.now }
@@ -147,7 +148,7 @@ pub(crate) fn vertical_speed(field: &[u8]) -> Result<i32, LineFault>
     }
 }
 
-/// How many seconds old a report is.
+/// How many seconds old a report is: 0 to 60.
 #[tactic(auto, unfolding(crate::specs::Number::count_in, crate::specs::Number::number_in))]
 pub(crate) fn age(field: &[u8]) -> Result<u32, LineFault>
     ensures value { result ≡ count_in ages field.now }
@@ -159,7 +160,7 @@ pub(crate) fn age(field: &[u8]) -> Result<u32, LineFault>
     }
 }
 
-/// A format of the lines.
+/// A format of the lines: 1 or 2.
 #[tactic(auto, unfolding(crate::specs::Number::count_in, crate::specs::Number::number_in))]
 pub(crate) fn line_format(field: &[u8]) -> Result<u32, LineFault>
     ensures value { result ≡ count_in formats field.now }
@@ -171,7 +172,7 @@ pub(crate) fn line_format(field: &[u8]) -> Result<u32, LineFault>
     }
 }
 
-/// The time of a moment, in seconds.
+/// The time of a moment, in seconds, below 2 ^ 32.
 #[tactic(auto, unfolding(crate::specs::Number::count_in, crate::specs::Number::number_in))]
 pub(crate) fn seconds(field: &[u8]) -> Result<u32, LineFault>
     ensures { result ≡ count_in times field.now }

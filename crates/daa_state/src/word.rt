@@ -6,6 +6,8 @@ use arrayvec::ArrayVec;
 /// The ownship: its position east and north in thousandths of a nautical mile (-200000 to 200000),
 /// altitude in feet (-2000 to 60000), track in degrees clockwise from north (0 to 359), ground
 /// speed in tenths of a knot (0 to 10000) and vertical speed in feet per minute (-10000 to 10000).
+/// The layout is that of C.
+#[repr(C)]
 #[derive(Clone, Copy, Debug, PartialEq, Eq)]
 pub struct Own {
     pub x: i32,
@@ -16,8 +18,10 @@ pub struct Own {
     pub vs: i32,
 }
 
-/// An aircraft: position, altitude and vertical speed as for the ownship, speed east and north in
-/// tenths of a knot (-10000 to 10000), and the age of the report in seconds (0 to 60).
+/// An aircraft: its identifier, its position east and north in thousandths of a nautical mile
+/// (-200000 to 200000), altitude in feet (-2000 to 60000), speed east and north in tenths of a knot
+/// (-10000 to 10000), vertical speed in feet per minute (-10000 to 10000), and the age of its
+/// report in seconds (0 to 60).
 #[derive(Clone, Copy, Debug, PartialEq, Eq, Default)]
 pub struct Traffic {
     pub id: Id,

@@ -128,7 +128,7 @@ fn own(fields: &[&[u8]]) -> Result<Word, LineFault>
     }
 }
 
-/// The ownship of six fields, or the fault of the first that is wrong.
+/// The ownship of six fields, or the fault of the first field that is wrong.
 #[tactic(auto, unfolding(crate::specs::WordOf::ownship))]
 fn ownship(
     x: &[u8],
@@ -180,7 +180,8 @@ fn aged_traffic(fields: &[&[u8]]) -> Result<Word, LineFault>
     }
 }
 
-/// An aircraft whose report is of this moment.
+/// The aircraft of seven fields, whose report has age 0, or the fault of the first field that is
+/// wrong.
 #[tactic(auto, unfolding(crate::specs::WordOf::aircraft))]
 fn aircraft(
     id: &[u8],
@@ -206,7 +207,7 @@ fn aircraft(
     })
 }
 
-/// The identifier that a field is.
+/// The identifier that a field spells, or `BadId`.
 #[tactic(auto, unfolding(crate::specs::WordOf::identifier))]
 fn identifier(field: &[u8]) -> Result<Id, LineFault>
     ensures value { result ≡ identifier field.now }

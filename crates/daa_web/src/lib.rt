@@ -10,7 +10,7 @@ ghost use Rattle.daa_numbers.specs.Numbers.{settings_by};
 ghost use Rattle.daa_numbers.specs.Refusal.{refusal_of, IsCodeOf};
 ghost use Rattle.daa_numbers.specs.States.{picture_of};
 
-use daa_numbers::{DaaConfig, DaaFault, DaaLines, DaaOwn, DaaTraffic};
+use daa_numbers::{DaaConfig, DaaFault, DaaLines, DaaTraffic, Own};
 
 /// Returns 0 if a configuration is accepted, else its fault.
 #[unsafe(no_mangle)]
@@ -20,8 +20,8 @@ pub extern "C" fn daa_check(config: &DaaConfig) -> i32
     daa_numbers::check(config)
 }
 
-/// Takes the next line. Returns 0, or -1 if the line ended the moment, whose numbers stay, or the
-/// number of the line's fault, 1 to 13, and then nothing changed.
+/// Takes the next state line. Returns 0; or -1 if the line ended the moment, whose numbers stay; or
+/// the number of the line's fault, 1 to 13, and then nothing has changed.
 #[unsafe(no_mangle)]
 pub extern "C" fn daa_line(line: &[u8], lines: &mut DaaLines) -> i32
     ensures taken { result ≡ pos 0 → IsLineTaken lines.old line.now false lines.new }
@@ -34,20 +34,20 @@ pub extern "C" fn daa_line(line: &[u8], lines: &mut DaaLines) -> i32
 
 /// Fills in what is wrong with an ownship and aircraft, or that nothing is. Returns 0.
 #[unsafe(no_mangle)]
-pub extern "C" fn daa_fault(own: &DaaOwn, traffic: &[DaaTraffic], out: &mut DaaFault) -> i32
+pub extern "C" fn daa_fault(own: &Own, traffic: &[DaaTraffic], out: &mut DaaFault) -> i32
     ensures answer { result ≡ pos 0 }
     ensures filled { IsFaultOf own.now traffic.now out.new }
 {
     daa_numbers::fault(own, traffic, out)
 }
 
-/// Fills in the text of a moment, and how many bytes it has. Returns 0, or why nothing was filled
-/// in.
+/// Fills in the text of a moment, and how many bytes the text has. Returns 0, or the code of why
+/// nothing was filled in.
 #[unsafe(no_mangle)]
 pub extern "C" fn daa_report(
     config: &DaaConfig,
     time: u32,
-    own: &DaaOwn,
+    own: &Own,
     traffic: &[DaaTraffic],
     text: &mut [u8],
     count: &mut usize,
@@ -56,8 +56,7 @@ pub extern "C" fn daa_report(
         config.now (picture_of time own.now traffic.now) (take count.new text.new) }
     ensures fits { result ≡ pos 0 → count.new ≤ length text.new }
     ensures past_kept { result ≡ pos 0 → drop count.new text.new ≡ drop count.new text.old }
-    ensures text_kept { result ≢ pos 0 → text.new ≡ text.old }
-    ensures count_kept { result ≢ pos 0 → count.new ≡ count.old }
+    ensures kept { result ≢ pos 0 → (text.new ≡ text.old) × (count.new ≡ count.old) }
     ensures short { result ≡ pos 19 → HasLongerText
         config.now (picture_of time own.now traffic.now) (length text.old) }
     ensures refused { result ≢ pos 0 → result ≢ pos 19

@@ -7,21 +7,19 @@ use Rattle.daa_state.specs.declared.word.Picture.{Picture}
 use Rattle.daa_numbers.specs.Asked.{IsTaken}
 use Rattle.daa_numbers.specs.Numbers.{settings_by}
 use Rattle.daa_numbers.specs.Refusal.{refusal_of, refusal_of_own}
-use Rattle.daa_numbers.specs.States.{own_of, picture_of}
+use Rattle.daa_numbers.specs.States.{picture_of}
 use Rattle.daa_numbers.specs.declared.setting.DaaConfig.{DaaConfig}
-use Rattle.daa_numbers.specs.declared.states.DaaOwn.{DaaOwn}
 use Rattle.daa_numbers.specs.declared.states.DaaTraffic.{DaaTraffic}
 
 -- the configuration of the numbers, and their picture
-pub record IsAsked (config : DaaConfig) (time : ℕ) (own : DaaOwn) (traffic : List DaaTraffic) (settings : Settings) (picture : Picture) : Type 0 where
+pub record IsAsked (config : DaaConfig) (time : ℕ) (own : Own) (traffic : List DaaTraffic) (settings : Settings) (picture : Picture) : Type 0 where
   pub sound : refusal_of config own traffic ≡ None
   pub accepted : settings_by config ≡ Ok settings
   pub is : picture ≡ picture_of time own traffic
   pub taken : IsTaken picture
 
--- the configuration of the numbers, and their ownship
-pub record IsAskedOfOwn (config : DaaConfig) (given : DaaOwn) (settings : Settings) (own : Own) : Type 0 where
-  pub sound : refusal_of_own config given ≡ None
+-- the configuration of the numbers, and an ownship in range
+pub record IsAskedOfOwn (config : DaaConfig) (own : Own) (settings : Settings) : Type 0 where
+  pub sound : refusal_of_own config own ≡ None
   pub accepted : settings_by config ≡ Ok settings
-  pub is : own ≡ own_of given
   pub range : IsOwnInRange own

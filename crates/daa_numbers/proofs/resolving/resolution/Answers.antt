@@ -2,27 +2,23 @@ use Rattle.std.proofs.Common.{◌≡◌, ◌∙◌, sym, ℕ, List, subst, pos, 
 use Rattle.std.proofs.lemmas.Int.{to_z-of_z}
 use Rattle.daa_bands.specs.Board.{HasLevelOn}
 use Rattle.daa_resolve.specs.Resolution.{IsResolution}
-use Rattle.daa_state.specs.InRange.{IsOwnInRange}
-use Rattle.daa_state.specs.declared.word.Own.{Own}
 use Rattle.daa_numbers.proofs.resolving.resolution.Goals as goal
 
 pub returns-clause-filled : goal.returns-clause-filled
 returns-clause-filled c = λ (_ : pos 0 ≡ pos 0).
-    let s = c.in-Ok.found.0 in let k = c.in-Some.kind in let side = c.in-Some-side_in.side in let answer = c.nearest.result in
+    let s = c.in-Ok.accepted in let k = c.in-Some.kind in let side = c.in-Some-side_in.side in let answer = c.nearest.result in
     let fits : FitsSigned w32 c.args.kind = search rules in let side_fits : FitsSigned w32 c.args.side = search rules in
-    let same = c.in-Ok.ensures.asked.is in
     record {
       settings = s;
       accepted = c.in-Ok.ensures.asked.accepted;
-      own_range = subst IsOwnInRange same c.in-Ok.ensures.asked.range;
+      own_range = c.in-Ok.ensures.asked.range;
       kind = k;
       kind_is = c.in-Some.ensures.some ∙ to_z-of_z w32 _ fits;
       side = side;
       side_is = c.in-Some-side_in.ensures.some ∙ to_z-of_z w32 _ side_fits;
       marked = search rules;
       answer = answer;
-      is = subst (λ (own : Own). IsResolution (HasLevelOn c.args.board.now.masks) s own k side answer) same
-          (subst (λ (board : List ℕ). IsResolution (HasLevelOn board) s c.in-Ok.found.1 k side answer) c.of-board.ensures c.nearest.ensures);
+      is = subst (λ (board : List ℕ). IsResolution (HasLevelOn board) s c.args.own.now k side answer) c.of-board.ensures c.nearest.ensures;
       filled = c.resolution_numbers.ensures;
     }
 
@@ -55,5 +51,5 @@ returns-then-not-is_decided-clause-bad_board c = λ _.
       kind_is = c.in-Some.ensures.some ∙ to_z-of_z w32 _ fits;
       side = c.in-Some-side_in.side;
       side_is = c.in-Some-side_in.ensures.some ∙ to_z-of_z w32 _ side_fits;
-      no_board = record { settings = c.in-Ok.found.0; accepted = c.in-Ok.ensures.asked.accepted; other = search rules };
+      no_board = record { settings = c.in-Ok.accepted; accepted = c.in-Ok.ensures.asked.accepted; other = search rules };
     }

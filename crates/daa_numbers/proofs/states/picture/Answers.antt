@@ -15,12 +15,12 @@ pub returns-in-Ok-check-clause-sound : goal.returns-in-Ok-check-clause-sound
 returns-in-Ok-check-clause-sound c =
     let few : length c.args.traffic.now ≤ 64 = omega (arith, c.if-traffic-gt-MOST_AIRCRAFT.false) in
     let same : c.as_slice.result.now ≡ map traffic_of c.args.traffic.now = c.as_slice.ensures.value ∙ c.in-Ok.ensures.value in
-    refused_picture c.args.own.now c.args.traffic.now c.ownship.result c.as_slice.result.now None few c.in-Ok.ensures.sound c.ownship.ensures same
+    refused_picture c.args.own.now c.args.traffic.now c.as_slice.result.now None few c.in-Ok.ensures.sound same
     c.in-Ok-check.ensures.sound
 
 pub returns-in-Err-check-clause-refused : goal.returns-in-Err-check-clause-refused
 returns-in-Err-check-clause-refused c =
     let few : length c.args.traffic.now ≤ 64 = omega (arith, c.if-traffic-gt-MOST_AIRCRAFT.false) in
     let same : c.as_slice.result.now ≡ map traffic_of c.args.traffic.now = c.as_slice.ensures.value ∙ c.in-Ok.ensures.value in
-    refused_picture c.args.own.now c.args.traffic.now c.ownship.result c.as_slice.result.now (Some c.in-Err-check.fault) few c.in-Ok.ensures.sound c.ownship.ensures same
+    refused_picture c.args.own.now c.args.traffic.now c.as_slice.result.now (Some c.in-Err-check.fault) few c.in-Ok.ensures.sound same
     c.in-Err-check.ensures.refused

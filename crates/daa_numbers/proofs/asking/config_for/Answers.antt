@@ -5,7 +5,7 @@ use Rattle.daa_numbers.specs.Numbers.{settings_by}
 use Rattle.daa_numbers.specs.Refusal.{own_refusal}
 use Rattle.daa_numbers.specs.declared.refusal.Refusal.TheVariants as refuses
 use Rattle.daa_numbers.proofs.RefusalLemmas.{config_first}
-use Rattle.daa_numbers.proofs.asking.config_and_own.Goals as goal
+use Rattle.daa_numbers.proofs.asking.config_for.Goals as goal
 
 pub returns-in-Err-clause-refused : goal.returns-in-Err-clause-refused
 returns-in-Err-clause-refused c =
