@@ -15,8 +15,9 @@ use arrayvec::ArrayVec;
 use daa_taumod::Volume;
 use std::marker::Model;
 
-/// By how much a second may change the track (degrees), the ground speed (0.1 kt), the vertical
-/// speed (ft/min) and the altitude (ft/min, which is units per second).
+/// By how much a second may change the track (degrees, 1 to 30), the ground speed (0.1 kt, 1 to
+/// 10000), the vertical speed (ft/min, 1 to 10000) and the altitude (ft/min, 1 to 10000, which is
+/// units per second).
 #[derive(Clone, Copy, Debug, PartialEq, Eq)]
 pub struct Rates {
     pub turn: i32,
@@ -122,8 +123,8 @@ impl Config {
         self.recovery.as_ref()
     }
 
-    /// Which of the values that are clear again soonest a recovery names: at true the one nearest
-    /// to the present value, at false the least.
+    /// Which of the values that are clear again soonest a recovery names: at true the value nearest
+    /// to the present one, at false the least.
     pub fn nearest(&self) -> bool
         ensures value { result ≡ self.now.nearest }
         ensures accepted { IsAccepted self.now }
@@ -208,7 +209,7 @@ impl Config {
         self.numbers.alt.rate as i32
     }
 
-    /// The four rates.
+    /// The rates of the four kinds, each in its range.
     pub fn rates(&self) -> Rates
         ensures value { result ≡ rates_of self.now }
         ensures in_range { AreRatesInRange result }

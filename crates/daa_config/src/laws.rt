@@ -30,8 +30,8 @@ pub fn texts_without_last_times_are_as_before()
         → IsDocumentAsBefore document }
 {}
 
-/// The values of a kind are min, min + step, .. up to
-/// max.
+/// The values of a kind are `min`, `min + step` and so on, up to the greatest such value that is
+/// not above `max`.
 pub fn values_are_all_steps()
     ensures { (kind : Kind) (settings : Settings) → IsAccepted settings
         → AreStepsUpTo (grid_of kind settings) (values_of kind settings) }

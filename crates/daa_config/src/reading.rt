@@ -98,9 +98,9 @@ fn accept(found: &Found) -> Result<ConfigNumbers, ConfigFault>
     })
 }
 
-/// The numbers of the configuration that the text is, which are accepted, or the fault of least
-/// number that applies anywhere in it. Want of memory apart, they are accepted or refused exactly
-/// as the definition says.
+/// The numbers of the configuration that the text is, which are accepted; or, of all faults in the
+/// text, the one with the smallest number. Unless memory runs out, the text is accepted or refused
+/// exactly as the definition says. `NoMemory` says nothing of the text.
 pub fn read_numbers(alloc: Global, text: &[u8]) -> Result<ConfigNumbers, ConfigFault>
     ensures same { IfOk result (λ numbers. config_of text.now ≡ settings_of (written_by numbers)) }
     ensures accepted { IfOk result (λ numbers. IsOk (settings_of (written_by numbers))) }
@@ -111,9 +111,10 @@ pub fn read_numbers(alloc: Global, text: &[u8]) -> Result<ConfigNumbers, ConfigF
     accept(&found)
 }
 
-/// The configuration of the text or, of all faults in it, the one with the smallest number. Unless
-/// memory runs out, the text is accepted or refused exactly as the definition says. It is read
-/// as a TOML document; the table of keys, units and ranges is in the documentation.
+/// The configuration of the text or, of all faults in the text, the one with the smallest number.
+/// Unless memory runs out, the text is accepted or refused exactly as the definition says.
+/// `NoMemory` says nothing of the text. It is read as a TOML document; docs/FORMATS.md has the
+/// table of keys, units and ranges.
 pub fn read(alloc: Global, text: &[u8]) -> Result<Config, ConfigFault>
     ensures accepted { IfOk result (λ config. config_of text.now ≡ Ok config) }
     ensures refused { IfErr result (λ fault. fault ≢ NoMemory → config_of text.now ≡ Err fault) }

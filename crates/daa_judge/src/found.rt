@@ -9,6 +9,6 @@ pub enum Found {
     Differs(u64),
     /// The source failed.
     Fault,
-    /// The report begins with the limit of bytes that were read, and there is one more.
+    /// All bytes that may be read are the front of the report, and the source hands out one more.
     Limit,
 }

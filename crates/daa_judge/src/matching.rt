@@ -13,8 +13,8 @@ use crate::pieces::{common, line_feeds};
 use daa_ahead::{BUFFER, Ended, Next, read_next};
 use daa_outside::Source;
 
-/// How many bytes may still be read, and the number of the line, from 1 on, that the next byte is
-/// in.
+/// The state of a comparison: how many bytes may still be read, and the number of the line, from 1
+/// on, that the next byte is in.
 #[derive(Debug, Drop)]
 pub struct Matching {
     pub(crate) left: u64,
@@ -48,7 +48,7 @@ fn rest_from(bytes: &[u8], at: usize) -> &[u8]
 }
 
 impl Matching {
-    /// Nothing was compared, and at most `most` bytes may be read.
+    /// The state before the first text: nothing was compared, and at most `most` bytes may be read.
     pub fn new(most: u64) -> Matching
         requires { most < 2 ^ 62 }
         ensures room { HasRoom result }
@@ -125,7 +125,9 @@ impl Matching {
         Found::Alike
     }
 
-    /// The report is over: whether the source hands out anything further.
+    /// Ends the comparison, once the whole report was compared: `Alike` if the source ends here,
+    /// `Differs` if it hands out one more byte, `Fault` if it fails, `Limit` if a further byte
+    /// would be past the limit.
     pub fn end<S: Source>(&self, source: &mut S) -> Found
         ensures finds { (most : ℕ) (first : StreamState) (report : Bytes)
             → IsMatched most first report self.now

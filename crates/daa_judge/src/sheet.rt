@@ -16,7 +16,7 @@ const ROOM: usize = 130177;
 #[error("there was no memory for a sheet")]
 pub struct NoMemory;
 
-/// A sheet with room for 130177 bytes or more.
+/// A sink in memory with room for 130177 bytes or more. A write to it fails only where it is full.
 #[derive(Drop)]
 pub struct Sheet {
     space: Vec<u8>,
@@ -41,7 +41,8 @@ impl Model for Sheet {
 }
 
 impl Sheet {
-    /// A sheet with nothing on it, and room for 130177 bytes.
+    /// A sheet with nothing on it, and room for 130177 bytes. `NoMemory` says that there was no
+    /// memory for them.
     pub fn new(alloc: Global) -> Result<Sheet, NoMemory>
         ensures { IfOk result
             (λ sheet. sheet ≡ record { text = []; faults = 0; room = sheet_room }) }
@@ -49,7 +50,8 @@ impl Sheet {
         Sheet::with_room(alloc, ROOM)
     }
 
-    /// A sheet with nothing on it, and room for so many bytes.
+    /// A sheet with nothing on it, and room for this many bytes. `NoMemory` says that there was no
+    /// memory for them.
     pub fn with_room(alloc: Global, room: usize) -> Result<Sheet, NoMemory>
         requires { sheet_room ≤ room }
         ensures { IfOk result (λ sheet. sheet ≡ record { text = []; faults = 0; room = room }) }
