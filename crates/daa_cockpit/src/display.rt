@@ -15,7 +15,8 @@ use std::thread::{self, Threads};
 /// The most bytes of a moment's text.
 const ROOM: usize = 130_176;
 
-/// A display. Between two looks it yields the processor this many times.
+/// A display: its screen, the engine that writes for it, what was drawn last, and how often it
+/// yields the processor between two looks.
 #[derive(Drop)]
 pub struct Display {
     pub screen: Screen,
@@ -40,8 +41,8 @@ fn tell_all(feed: &Feed, screen: &mut Screen)
 }
 
 impl Display {
-    /// Draws what the screen sees. If there was no memory for a drawing, or it does not fit, the
-    /// last one stays, and this returns false.
+    /// Draws what the screen sees, and returns true. If there was no memory for a drawing, or the
+    /// text does not fit on one, the last drawing stays, and this returns false.
     pub fn look<R: Threads + Sync>(&mut self, rt: &R, alloc: Global) -> bool
         ensures seen { GoesOn self.old.screen self.new.screen }
         ensures drawn { IsTrue result → IsDrawn self.old.engine.settings self.new }
@@ -61,14 +62,14 @@ impl Display {
         true
     }
 
-    /// The sheet takes the place of the last one.
+    /// Keeps the drawing in place of the last one.
     fn put_up(&mut self, drawing: MemSink)
         ensures { self.new ≡ record self.old { drawing = drawing } }
     {
         self.drawing = drawing;
     }
 
-    /// Looks at its own pace until the feed has ended, and once more then.
+    /// Looks at the display's own pace until the feed has ended, and once more then.
     pub fn watch<R: Threads + Sync>(&mut self, rt: &R, alloc: Global, ended: &AtomicBool)
         ensures { IsSameDisplay self.old self.new }
     {
@@ -89,7 +90,7 @@ impl Display {
         }
     }
 
-    /// Whether its screen has seen all that was published, and nothing else.
+    /// Whether the screen has seen all pictures that were published, and nothing else.
     #[tactic(auto, using(crate::proofs::WholeStories::goes_on_whole))]
     fn has_all(&self, feed: &Feed) -> bool
         requires { GoesOn feed.now.story self.now.screen }
@@ -98,7 +99,8 @@ impl Display {
         self.screen.seen() == feed.published()
     }
 
-    /// Is told of all that was published, and draws that.
+    /// Tells the screen of all that was published, and draws the last picture. `Err` says that it
+    /// could not be drawn.
     pub fn catch_up<R: Threads + Sync>(&mut self, rt: &R, alloc: Global, feed: &Feed) -> Result<()>
         requires { self.old.screen.feed ≡ feed.now.story.feed }
         ensures { OnOk result (ShowsAll self.old.engine.settings feed.now.story self.new) }
@@ -107,7 +109,8 @@ impl Display {
         self.draw_all(rt, alloc, feed)
     }
 
-    /// Draws all that was published, of which it was told.
+    /// Draws the last picture that was published, of which the screen was told. `Err` says that it
+    /// could not be drawn.
     #[tactic(auto, using(daa_screen::proofs::KeptPictures::goes_on_and_on))]
     fn draw_all<R: Threads + Sync>(&mut self, rt: &R, alloc: Global, feed: &Feed) -> Result<()>
         requires { GoesOn feed.now.story self.old.screen }

@@ -47,9 +47,9 @@ fn publish_line<W: Wait>(rt: &W, moments: &mut Moments, line: &str, feed: &mut F
     }
 }
 
-/// Publishes the picture of each moment that the lines of this text end, in their order, and
-/// nothing else. `Err` says that a line is refused, that the last moment does not end, or that
-/// there is no room for a picture; then some of them may be published.
+/// Publishes the picture of each moment that a line of this text ends, in the order of the lines,
+/// and nothing else. `Err` says that a line is refused, that the last moment does not end, or that
+/// there is no room for a picture; then some of the pictures may be published.
 pub fn publish_moments<W: Wait>(rt: &W, states: &str, feed: &mut Feed) -> Result<()>
     ensures published { OnOk result
         (pictures_after feed.old.story.pictures states.now ≡ Ok feed.new.story.pictures) }

@@ -15,7 +15,8 @@ use std::rt::{Env, Files};
 use std::sync::Wait;
 use std::{env, fs};
 
-/// The text of the configuration that the command line names.
+/// The text of the configuration that the command line names. `Err` says that no name is given, or
+/// that the file could not be read.
 pub fn config_text<R: Env + Files + AllocGlobal>(rt: &R) -> Result<String> {
     let Some(name) = env::args(rt)?.nth(1) else {
         bail!("the name of a configuration is missing");
@@ -51,8 +52,8 @@ fn blank_sheets(alloc: Global) -> Result<(MemSink, MemSink, MemSink)> {
     Ok((blank(alloc)?, blank(alloc)?, blank(alloc)?))
 }
 
-/// A feed to which nothing was published, with its three displays, each with its engine and its
-/// own pace.
+/// A feed to which nothing was published, and three displays on it, each with an engine and a pace
+/// of its own. `Err` says that there was no memory.
 pub fn open<W: Wait>(
     rt: &W,
     alloc: Global,
