@@ -15,15 +15,15 @@ module _ (way rate share n : ℕ) where
           let e : way * rate ≤ 7200000 * rate = mul-le way rate 7200000 rate few (omega arith) in
           omega (arith, a, b, d, e)
 
-  pub not_less : 4294967296 ≤ share * rate → way * share ≤ n * 4294967296 + 4294967296 → way ≤ n * rate + rate
-  not_less least above = ⊎_elim (λ l. absurd (wrong l)) (λ g. g) (cases_lt (n * rate + rate) way)
+  pub not_less : 1 ≤ rate → 4294967296 ≤ share * rate → way * share < n * 4294967296 + 4294967296 → way < n * rate + rate
+  not_less some least above = ⊎_elim (λ l. l) (λ g. absurd (wrong g)) (cases_lt way (n * rate + rate))
     where
-      wrong : n * rate + rate < way → ⊥
-      wrong l =
-          let a : (way * share) * rate ≤ (n * 4294967296 + 4294967296) * rate = mul-le (way * share) rate (n * 4294967296 + 4294967296) rate above (omega arith) in
+      wrong : n * rate + rate ≤ way → ⊥
+      wrong g =
+          let a : (way * share + 1) * rate ≤ (n * 4294967296 + 4294967296) * rate = mul-le (way * share + 1) rate (n * 4294967296 + 4294967296) rate (omega (arith, above)) (omega arith) in
           let b : way * 4294967296 ≤ way * (share * rate) = mul-le way 4294967296 way (share * rate) (omega arith) least in
-          let d : (n * rate + rate + 1) * 4294967296 ≤ way * 4294967296 = mul-le (n * rate + rate + 1) 4294967296 way 4294967296 (omega (arith, l)) (omega arith) in
-          omega (arith, a, b, d)
+          let d : (n * rate + rate) * 4294967296 ≤ way * 4294967296 = mul-le (n * rate + rate) 4294967296 way 4294967296 g (omega arith) in
+          omega (arith, some, a, b, d)
 
 -- at a rate of at least 1 no more than the way
 pub few_times : (n rate way : ℕ) → 1 ≤ rate → n * rate ≤ way → n ≤ way

@@ -33,7 +33,7 @@ impl Divisor {
     pub(crate) fn times_in(&self, way: u32) -> u32
         requires { way ≤ 7200000 }
         ensures below { result * self.now.rate ≤ way }
-        ensures above { way ≤ result * self.now.rate + self.now.rate }
+        ensures above { way < result * self.now.rate + self.now.rate }
         ensures few { result ≤ 7200000 }
     {
         let times = shared(self, way);
@@ -50,7 +50,7 @@ impl Divisor {
 fn shared(divisor: &Divisor, way: u32) -> u32
     requires { way ≤ 7200000 }
     ensures below { result * divisor.now.rate ≤ way + divisor.now.rate }
-    ensures above { way ≤ result * divisor.now.rate + divisor.now.rate }
+    ensures above { way < result * divisor.now.rate + divisor.now.rate }
 {
     ((u64::from(way) * divisor.share) >> 32) as u32
 }

@@ -10,4 +10,5 @@ returns-clause-legs c =
     let below = simp to_z-of_z at c.times_in.ensures.below in
     let above = simp to_z-of_z at c.times_in.ensures.above in
     let some : pos 1 ≤ℤ pos c.args.divisor.now.rate = omega (arith, ints, c.requires.divisor, c.requires.rate.least) in
-    subst (λ (r : ℤ). IsWholeLegs c.args.way r c.times_in.result) c.requires.divisor (whole_near_z c.args.way (pos c.args.divisor.now.rate) c.times_in.result c.requires.way.least some below above)
+    subst (λ (r : ℤ). IsWholeLegs c.args.way r c.times_in.result) c.requires.divisor
+    (whole_near_z c.args.way (pos c.args.divisor.now.rate) c.times_in.result c.requires.way.least some below (omega (arith, above)))

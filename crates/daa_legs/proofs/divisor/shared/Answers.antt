@@ -13,7 +13,8 @@ returns-clause-below c =
 pub returns-clause-above : goal.returns-clause-above
 returns-clause-above c =
     let d = c.args.divisor.now in
+    let rate : 1 ≤ d.rate = search rules in
     let least : 4294967296 ≤ d.share * d.rate = search rules in
     let some : 0 < 4294967296 = omega arith in
-    subst (λ (w : ℕ). w ≤ c.from.result * d.share / 4294967296 * d.rate + d.rate) c.from.ensures
-    (not_less c.from.result d.rate d.share (c.from.result * d.share / 4294967296) least (omega (arith, lt-div-mul-add {a = c.from.result * d.share} {b = 4294967296} some)))
+    subst (λ (w : ℕ). w < c.from.result * d.share / 4294967296 * d.rate + d.rate) c.from.ensures
+    (not_less c.from.result d.rate d.share (c.from.result * d.share / 4294967296) rate least (omega (arith, lt-div-mul-add {a = c.from.result * d.share} {b = 4294967296} some)))

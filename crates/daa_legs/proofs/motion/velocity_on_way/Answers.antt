@@ -9,7 +9,7 @@ use Rattle.daa_heading.specs.Heading.{velocity_of}
 use Rattle.daa_config.specs.declared.candidate.Candidate.{Candidate}
 use Rattle.daa_config.specs.declared.candidate.Candidate.TheVariants.{Track, Speed, Climb, Height}
 use Rattle.daa_config.specs.Settings.{IsCandidateInRange}
-use Rattle.daa_legs.specs.Motion.{velocity_on}
+use Rattle.daa_legs.specs.Motion.{velocity_on, ground_speed_on, track_on, vertical_speed_on}
 use Rattle.daa_legs.specs.Inside.OnWay.{IsOnWay, step_of}
 use Rattle.daa_legs.proofs.StateRanges.{own_track, own_climb}
 use Rattle.daa_legs.proofs.Ways.{track_there, speed_there, climb_there, height_there, speed_small, near_round, one_is}
@@ -17,7 +17,11 @@ use Rattle.daa_legs.proofs.motion.velocity_on_way.Goals as goal
 use Rattle.daa_legs.proofs.motion.velocity_on_way.Goals.{After-steps, After-steps-in-Speed, After-steps-in-Climb}
 
 pub returns-in-Hold : goal.returns-in-Hold
-returns-in-Hold c = absurd (subst (λ (x : Candidate). IsOnWay c.args.own.now c.args.rates.now x c.args.upper c.args.k) c.in-Hold.is c.requires.way)
+unfolding velocity_on ground_speed_on track_on vertical_speed_on
+returns-in-Hold c =
+    let f1 : FitsSigned w32 c.args.own.now.vs = search rules in
+    let e : c.solid_velocity.result ≡ record { flat = c.args.present.now; up = c.args.own.now.vs } = simp to_z-of_z at c.solid_velocity.ensures in
+    e ∙ (λ i. record { flat = c.requires.present i; up = c.args.own.now.vs }) ∙ ap (λ (x : Candidate). velocity_on c.args.own.now c.args.rates.now x c.args.k) (sym c.in-Hold.is)
 
 -- ---- a track
 angle : (c : After-steps) → c.args.own.now.trk +ℤ c.steps.result ≡ c.args.own.now.trk +ℤ pos c.args.k *ℤ step_of c.args.upper c.args.rates.now.turn
