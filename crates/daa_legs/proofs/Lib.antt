@@ -4,6 +4,7 @@ pub mod Turns
 pub mod CandidateCases
 pub mod Places
 pub mod Relatives
+pub mod TrafficPlaces
 pub mod Stretches
 pub mod FlightLemmas
 pub mod ClosedForms

@@ -11,10 +11,10 @@ ghost use Rattle.daa_state.specs.InRange.{IsTrafficInRange};
 ghost use Rattle.daa_state.specs.declared.word.Own.{Own};
 ghost use Rattle.daa_legs.specs.OwnLeg.{IsOwnLegInRange};
 ghost use Rattle.daa_legs.specs.Runs.{first_leg_of, IsRunOf, IsOwnRunInRange, MeetsBetween};
-ghost use Rattle.daa_legs.specs.Relative.{relative_for};
+ghost use Rattle.daa_legs.specs.Relative.{relative_for, traffic_place};
 
 use crate::own_leg::{OwnLeg, OwnRun};
-use crate::traffic::{place_of, velocity_of};
+use crate::traffic::{place_from, traffic_now, velocity_of};
 use daa_fixed::{Flat, Leg, Solid};
 use daa_state::Traffic;
 
@@ -28,8 +28,21 @@ pub fn relative(leg: &OwnLeg, aircraft: &Traffic, k: u32) -> Leg
     ensures value { result ≡ relative_for 1 leg.now aircraft.now k }
     ensures in_range { IsLegInRange result }
 {
+    relative_from(leg, aircraft, &traffic_now(aircraft), k)
+}
+
+/// The same for a caller that knows where the aircraft is now.
+#[inline(always)]
+pub fn relative_from(leg: &OwnLeg, aircraft: &Traffic, now: &Solid, k: u32) -> Leg
+    requires leg { IsOwnLegInRange leg.now }
+    requires aircraft { IsTrafficInRange aircraft.now }
+    requires now { now.now ≡ traffic_place aircraft.now 0 }
+    requires k { k < 180 }
+    ensures value { result ≡ relative_for 1 leg.now aircraft.now k }
+    ensures in_range { IsLegInRange result }
+{
     Leg {
-        place: difference(&leg.place, &place_of(aircraft, k)),
+        place: difference(&leg.place, &place_from(aircraft, now, k)),
         velocity: difference(&leg.velocity, &velocity_of(aircraft)),
         secs: 1,
     }
@@ -50,8 +63,26 @@ pub fn relative_run(run: &OwnRun, aircraft: &Traffic, k: u32) -> Leg
         → HoldsSometime result.secs (Violates result volume)
         ↔ MeetsBetween settings own candidate aircraft.now volume k (k + run.now.secs) }
 {
+    relative_run_from(run, aircraft, &traffic_now(aircraft), k)
+}
+
+/// The same for a caller that knows where the aircraft is now.
+#[inline(always)]
+pub fn relative_run_from(run: &OwnRun, aircraft: &Traffic, now: &Solid, k: u32) -> Leg
+    requires run { IsOwnRunInRange run.now }
+    requires aircraft { IsTrafficInRange aircraft.now }
+    requires now { now.now ≡ traffic_place aircraft.now 0 }
+    requires k { k < 180 }
+    requires short { run.now.secs ≤ 180 }
+    ensures value { result ≡ relative_for run.now.secs (first_leg_of run.now) aircraft.now k }
+    ensures in_range { IsLegInRange result }
+    ensures seconds { (settings : Settings) (own : Own) (candidate : Candidate) (volume : Volume)
+        → IsRunOf own (rates_of settings) candidate k run.now
+        → HoldsSometime result.secs (Violates result volume)
+        ↔ MeetsBetween settings own candidate aircraft.now volume k (k + run.now.secs) }
+{
     Leg {
-        place: difference(&run.place, &place_of(aircraft, k)),
+        place: difference(&run.place, &place_from(aircraft, now, k)),
         velocity: difference(&run.velocity, &velocity_of(aircraft)),
         secs: run.secs,
     }

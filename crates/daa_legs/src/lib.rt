@@ -17,7 +17,7 @@ mod turn;
 
 pub use branch::{Branch, branch_from, branch_of};
 pub use divisor::Divisor;
-pub use encounter::{relative, relative_run};
+pub use encounter::{relative, relative_from, relative_run, relative_run_from};
 pub use flight::Flight;
 pub use joint::end_of;
 pub use laws::{
@@ -25,4 +25,5 @@ pub use laws::{
     worked_examples,
 };
 pub use own_leg::{OwnLeg, OwnRun};
+pub use traffic::traffic_now;
 pub use trunk::Trunk;

@@ -24,30 +24,44 @@ pub(crate) fn velocity_of(aircraft: &Traffic) -> Solid
     }
 }
 
-/// The aircraft's place at second `k`, in units.
-pub(crate) fn place_of(aircraft: &Traffic, k: u32) -> Solid
+/// Where the aircraft is now, in units.
+pub fn traffic_now(aircraft: &Traffic) -> Solid
+    requires { IsTrafficInRange aircraft.now }
+    ensures { result ≡ traffic_place aircraft.now 0 }
+{
+    Solid {
+        flat: Flat {
+            east: coordinate_after(mils(aircraft.x), aircraft.vx, aircraft.age),
+            north: coordinate_after(mils(aircraft.y), aircraft.vy, aircraft.age),
+        },
+        up: coordinate_after(feet(aircraft.alt), aircraft.vs, aircraft.age),
+    }
+}
+
+/// The aircraft's place at second `k`, in units, from its place now.
+pub(crate) fn place_from(aircraft: &Traffic, now: &Solid, k: u32) -> Solid
     requires aircraft { IsTrafficInRange aircraft.now }
+    requires now { now.now ≡ traffic_place aircraft.now 0 }
     requires k { k < 180 }
     ensures value { result ≡ traffic_place aircraft.now k }
     ensures size { IsSolidBelow 20000000 result }
 {
-    let flown = aircraft.age + k;
     Solid {
         flat: Flat {
-            east: coordinate_after(mils(aircraft.x), aircraft.vx, flown),
-            north: coordinate_after(mils(aircraft.y), aircraft.vy, flown),
+            east: coordinate_after(now.flat.east, aircraft.vx, k),
+            north: coordinate_after(now.flat.north, aircraft.vy, k),
         },
-        up: coordinate_after(feet(aircraft.alt), aircraft.vs, flown),
+        up: coordinate_after(now.up, aircraft.vs, k),
     }
 }
 
 /// A coordinate after `secs` seconds.
 fn coordinate_after(begin: i64, speed: i32, secs: u32) -> i64
-    requires begin { IsWithin 7200000 begin }
+    requires begin { IsWithin 7800000 begin }
     requires speed { IsWithin 10000 speed }
     requires secs { secs < 400 }
     ensures value { result ≡ begin +ℤ pos secs *ℤ speed }
-    ensures size { IsWithin 11190000 result }
+    ensures size { IsWithin 11790000 result }
 {
     begin + i64::from(secs) * i64::from(speed)
 }

@@ -19,7 +19,7 @@ use crate::refusal::{Seconds, present_leg, present_of, windows_at};
 use crate::table::fill_branches;
 use crate::trunks::fill_trunks;
 use daa_config::{Config, Kind, Level};
-use daa_legs::{Branch, OwnLeg, Trunk};
+use daa_legs::{Branch, OwnLeg, Trunk, traffic_now};
 use daa_state::{Own, Picture, Traffic};
 
 /// Whether the flights of those kinds are needed that keep the present heights, and of those that
@@ -119,6 +119,7 @@ fn with_aircraft(
         own,
         aircraft,
         hold,
+        place: traffic_now(aircraft),
     };
     if !is_in_reach(&encounter) {
         return needs;

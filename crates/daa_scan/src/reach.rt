@@ -10,7 +10,7 @@ ghost use Rattle.daa_scan.specs.Reach.{size_of, place_now, horizontal_speed, ver
 use crate::encounter::Encounter;
 use daa_config::{Kind, Level};
 use daa_fixed::Solid;
-use daa_legs::relative;
+use daa_legs::relative_from;
 
 /// Whether some level's volume can be entered within its lookahead.
 pub(crate) fn is_in_reach(encounter: &Encounter) -> bool
@@ -38,7 +38,7 @@ fn place_at_present(encounter: &Encounter) -> Solid
     ensures value { result ≡ place_now encounter.now.own.now encounter.now.aircraft.now }
     ensures size { IsSolidBelow 40000000 result }
 {
-    relative(encounter.hold, encounter.aircraft, 0).place
+    relative_from(encounter.hold, encounter.aircraft, &encounter.place, 0).place
 }
 
 /// A speed that no relative speed east or north exceeds.

@@ -21,7 +21,7 @@ use crate::encounter::Encounter;
 use daa_config::{Candidate, Config, Kind, Level};
 use daa_detect::is_hit;
 use daa_fixed::{Flat, Leg, Point, Solid};
-use daa_legs::{Flight, OwnLeg, OwnRun, relative_run};
+use daa_legs::{Flight, OwnLeg, OwnRun, relative_run_from};
 use daa_state::Own;
 use daa_taumod::Volume;
 use daa_vwindow::window;
@@ -96,7 +96,7 @@ pub(crate) fn present_leg(encounter: &Encounter, secs: u32) -> Leg
         velocity: encounter.hold.velocity,
         secs,
     };
-    relative_run(&run, encounter.aircraft, 0)
+    relative_run_from(&run, encounter.aircraft, &encounter.place, 0)
 }
 
 /// The seconds in which the candidates of each kind may violate a level's volume, by the present

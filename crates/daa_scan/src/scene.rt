@@ -25,7 +25,7 @@ use crate::trunks::Trunks;
 use arrayvec::ArrayVec;
 use daa_config::packing::{GROUP, WIDTH};
 use daa_config::{Candidate, Config, Kind};
-use daa_legs::{Branch, OwnLeg, Trunk};
+use daa_legs::{Branch, OwnLeg, Trunk, traffic_now};
 use daa_schedule::Answers;
 use daa_state::{MOST_AIRCRAFT, Own, Picture, Traffic};
 use std::marker::Model;
@@ -146,11 +146,13 @@ impl<'a> Scene<'a> {
         if !self.in_reach(aircraft) {
             return;
         }
+        let met = self.aircraft(aircraft);
         let encounter = Encounter {
             config: self.config,
             own: &self.picture.own,
-            aircraft: self.aircraft(aircraft),
+            aircraft: met,
             hold: &self.hold,
+            place: traffic_now(met),
         };
         mark_levels(&encounter, &self.trunks, first, masks);
     }
@@ -303,6 +305,7 @@ fn is_near(config: &Config, own: &Own, hold: &OwnLeg, aircraft: &Traffic) -> boo
         own,
         aircraft,
         hold,
+        place: traffic_now(aircraft),
     })
 }
 

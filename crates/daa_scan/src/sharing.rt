@@ -15,7 +15,7 @@ use crate::trail::Trail;
 use daa_config::Candidate;
 use daa_detect::is_hit;
 use daa_fixed::Solid;
-use daa_legs::{Branch, OwnLeg, OwnRun, Trunk, end_of, relative, relative_run};
+use daa_legs::{Branch, OwnLeg, OwnRun, Trunk, end_of, relative_from, relative_run_from};
 
 /// So many legs of a trunk are walked at least, once a leg is: where the aircraft was is found once
 /// for them.
@@ -129,7 +129,12 @@ fn violates_on(round: &Round, lead: Candidate, trunk: &Trunk, k: u32) -> bool
     ensures { IsTrue result ↔ IsHitOn round.now lead k }
 {
     is_hit(
-        &relative(trunk.leg(k), round.encounter.aircraft, k),
+        &relative_from(
+            trunk.leg(k),
+            round.encounter.aircraft,
+            &round.encounter.place,
+            k,
+        ),
         &round.level.volume,
     )
 }
@@ -171,7 +176,12 @@ fn meets_from_own_leg(round: &Round, branch: &Branch, place: &Solid) -> bool
     let k = branch.leaves;
     let first = own_leg_of(branch, place);
     if is_hit(
-        &relative(&first, round.encounter.aircraft, k),
+        &relative_from(
+            &first,
+            round.encounter.aircraft,
+            &round.encounter.place,
+            k,
+        ),
         &round.level.volume,
     ) {
         return true;
@@ -216,7 +226,12 @@ fn meets_on_rest(round: &Round, velocity: &Solid, place: &Solid, k: u32) -> bool
         secs: round.level.lookahead - k,
     };
     is_hit(
-        &relative_run(&run, round.encounter.aircraft, k),
+        &relative_run_from(
+            &run,
+            round.encounter.aircraft,
+            &round.encounter.place,
+            k,
+        ),
         &round.level.volume,
     )
 }

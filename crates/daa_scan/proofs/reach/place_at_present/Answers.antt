@@ -16,4 +16,4 @@ returns-clause-value c =
     let e = c.args.encounter.now in
     let own = e.own.now in
     let first : e.hold.now.place ≡ own_place own = ap (λ (l : OwnLeg). l.place) e.known.leg ∙ sym (place-start own (rates_of e.config.now) Hold (own_place own) refl refl refl) in
-    ap (λ (l : Leg). l.place) c.relative.ensures.value ∙ ap (λ (p : Solid). minus p (traffic_place e.aircraft.now 0)) first
+    ap (λ (l : Leg). l.place) c.relative_from.ensures.value ∙ ap (λ (p : Solid). minus p (traffic_place e.aircraft.now 0)) first

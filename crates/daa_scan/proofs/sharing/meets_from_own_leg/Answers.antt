@@ -10,8 +10,8 @@ use Rattle.daa_scan.specs.Inside.Rounds.{settings_in, own_in, aircraft_in}
 use Rattle.daa_scan.proofs.Trails.{own_by_branch, own_leg-in_range, leg_tested}
 use Rattle.daa_scan.proofs.sharing.meets_from_own_leg.Goals as goal
 
-pub relative-requires-clause-leg : goal.relative-requires-clause-leg
-relative-requires-clause-leg g c =
+pub relative_from-requires-clause-leg : goal.relative_from-requires-clause-leg
+relative_from-requires-clause-leg g c =
     let r = c.args.round.now in
     let rates = rates_of (settings_in r) in
     let k = c.args.branch.now.leaves in
@@ -38,8 +38,8 @@ returns-then-is_hit g c =
     let short : c.args.branch.now.leaves < 180 = omega (arith, c.requires.1.1.0, r.known.in_range.lookahead_most) in
     let own = own_by_branch (own_in r) rates g.candidate c.args.branch.now c.args.place.now c.own_leg_of-first.result c.requires.1.0 c.requires.1.1.1.0 short c.requires.1.1.1.1
     c.own_leg_of-first.ensures in
-    let tested = leg_tested (settings_in r) (own_in r) g.candidate (aircraft_in r) r.level.volume k c.own_leg_of-first.result c.relative.result c.is_hit.result own
-    c.relative.ensures.value c.is_hit.ensures in
+    let tested = leg_tested (settings_in r) (own_in r) g.candidate (aircraft_in r) r.level.volume k c.own_leg_of-first.result c.relative_from.result c.is_hit.result own
+    c.relative_from.ensures.value c.is_hit.ensures in
     let f = from_next (settings_in r) (own_in r) g.candidate (aircraft_in r) r.level.volume k r.level.lookahead c.requires.1.1.0 in
     ((λ _. f.1 (inl (tested.0 c.if-is_hit.true))), (λ _. refl))
 
@@ -66,8 +66,8 @@ returns g c =
     let short : c.args.branch.now.leaves < 180 = omega (arith, c.requires.1.1.0, r.known.in_range.lookahead_most) in
     let own = own_by_branch (own_in r) rates g.candidate c.args.branch.now c.args.place.now c.own_leg_of-first.result c.requires.1.0 c.requires.1.1.1.0 short c.requires.1.1.1.1
     c.own_leg_of-first.ensures in
-    let tested = leg_tested (settings_in r) (own_in r) g.candidate (aircraft_in r) r.level.volume k c.own_leg_of-first.result c.relative.result c.is_hit.result own
-    c.relative.ensures.value c.is_hit.ensures in
+    let tested = leg_tested (settings_in r) (own_in r) g.candidate (aircraft_in r) r.level.volume k c.own_leg_of-first.result c.relative_from.result c.is_hit.result own
+    c.relative_from.ensures.value c.is_hit.ensures in
     let f = from_next (settings_in r) (own_in r) g.candidate (aircraft_in r) r.level.volume k r.level.lookahead c.requires.1.1.0 in (
       (λ t. f.1 (inr (c.meets_on_rest.ensures.0 t))),
       (λ m. ⊎_elim

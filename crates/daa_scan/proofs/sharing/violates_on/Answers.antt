@@ -6,8 +6,8 @@ use Rattle.daa_scan.specs.Inside.Rounds.{settings_in, own_in, aircraft_in}
 use Rattle.daa_scan.proofs.Trails.{kept_is, own_leg-in_range, leg_tested}
 use Rattle.daa_scan.proofs.sharing.violates_on.Goals as goal
 
-pub relative-requires-clause-leg : goal.relative-requires-clause-leg
-relative-requires-clause-leg c =
+pub relative_from-requires-clause-leg : goal.relative_from-requires-clause-leg
+relative_from-requires-clause-leg c =
     let r = c.args.round.now in
     let rates = rates_of (settings_in r) in
     subst (λ (l : OwnLeg). IsOwnLegInRange l) (sym (kept_is (own_in r) rates c.args.lead r.level.lookahead c.args.k c.args.trunk.now c.leg.result.now c.requires.lead.legs_of
@@ -18,6 +18,6 @@ relative-requires-clause-leg c =
 pub returns : goal.returns
 returns c =
     let r = c.args.round.now in
-    leg_tested (settings_in r) (own_in r) c.args.lead (aircraft_in r) r.level.volume c.args.k c.leg.result.now c.relative.result c.is_hit.result
+    leg_tested (settings_in r) (own_in r) c.args.lead (aircraft_in r) r.level.volume c.args.k c.leg.result.now c.relative_from.result c.is_hit.result
     (kept_is (own_in r) (rates_of (settings_in r)) c.args.lead r.level.lookahead c.args.k c.args.trunk.now c.leg.result.now c.requires.lead.legs_of c.requires.k c.leg.ensures)
-    c.relative.ensures.value c.is_hit.ensures
+    c.relative_from.ensures.value c.is_hit.ensures

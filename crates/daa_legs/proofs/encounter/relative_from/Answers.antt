@@ -4,12 +4,12 @@ use Rattle.daa_fixed.specs.declared.Leg.{Leg}
 use Rattle.daa_fixed.specs.Leg.{minus, IsLegInRange}
 use Rattle.daa_legs.specs.Relative.{relative_for}
 use Rattle.daa_legs.proofs.Relatives.{relative_for-in_range}
-use Rattle.daa_legs.proofs.encounter.relative.Goals as goal
+use Rattle.daa_legs.proofs.encounter.relative_from.Goals as goal
 
 known : (c : goal.After-difference-2) → let leg : Leg = record { place = c.difference.result; velocity = c.difference-2.result; secs = 1 } in leg ≡ relative_for 1 c.args.leg.now c.args.aircraft.now c.args.k
 unfolding relative_for
 known c = λ i. record {
-  place = (c.difference.ensures ∙ ap (λ (p : Solid). minus c.args.leg.now.place p) c.place_of.ensures.value) i;
+  place = (c.difference.ensures ∙ ap (λ (p : Solid). minus c.args.leg.now.place p) c.place_from.ensures.value) i;
   velocity = (c.difference-2.ensures ∙ ap (λ (p : Solid). minus c.args.leg.now.velocity p) c.velocity_of.ensures.value) i;
   secs = 1;
 }

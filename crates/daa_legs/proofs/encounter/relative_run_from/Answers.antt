@@ -8,12 +8,12 @@ use Rattle.daa_legs.specs.Relative.{relative_for}
 use Rattle.daa_legs.specs.Runs.{first_leg_of, MeetsBetween}
 use Rattle.daa_legs.proofs.Relatives.{relative_for-in_range}
 use Rattle.daa_legs.proofs.Stretches.{seconds}
-use Rattle.daa_legs.proofs.encounter.relative_run.Goals as goal
+use Rattle.daa_legs.proofs.encounter.relative_run_from.Goals as goal
 
 known : (c : goal.After-difference-2) → let leg : Leg = record { place = c.difference.result; velocity = c.difference-2.result; secs = c.args.run.now.secs } in leg ≡ relative_for c.args.run.now.secs (first_leg_of c.args.run.now) c.args.aircraft.now c.args.k
 unfolding relative_for
 known c = λ i. record {
-  place = (c.difference.ensures ∙ ap (λ (p : Solid). minus c.args.run.now.place p) c.place_of.ensures.value) i;
+  place = (c.difference.ensures ∙ ap (λ (p : Solid). minus c.args.run.now.place p) c.place_from.ensures.value) i;
   velocity = (c.difference-2.ensures ∙ ap (λ (p : Solid). minus c.args.run.now.velocity p) c.velocity_of.ensures.value) i;
   secs = c.args.run.now.secs;
 }
