@@ -1,7 +1,8 @@
 -- Bits of a mask.
-use Rattle.std.proofs.Common.{◌≡◌, ◌<◌, ◌≤◌, ◌+◌, ◌-◌, ◌*◌, ◌/◌, ◌%◌, ◌^◌, ◌∙◌, ◌⊎◌, ℕ, zero, suc, refl, sym, ap, subst, arith, inl, inr}
+use Rattle.std.proofs.Common.{◌≡◌, ◌<◌, ◌≤◌, ◌+◌, ◌-◌, ◌*◌, ◌/◌, ◌%◌, ◌^◌, ◌∙◌, ◌⊎◌, ℕ, zero, suc, ⊎_elim, refl, sym, ap, subst, arith, inl, inr}
 use Rattle.std.specs.Int.{bit_at}
-use Rattle.std.proofs.lemmas.Nat.{leading_top}
+use Rattle.std.proofs.lemmas.Bool.{cases_lt}
+use Rattle.std.proofs.lemmas.Nat.{leading_top, leading_length, pow_below}
 use lib.Count.{count_leading_zeros, leading_of_zero}
 use Rattle.std.proofs.lemmas.Nat.Bits.{bit_at_cat_low, bit_at_cat_high, bit_at_above, bit_at-zero}
 use Rattle.daa_fixed.specs.Mask.{HasLevel, IsGreatestLevel}
@@ -54,3 +55,28 @@ greatest_shown mask = greatest_below mask (mask % 2 ^ 8) (omega arith) (λ i h. 
 pub shown_is : (mask : ℕ) → mask < 2 ^ 8 → 8 - count_leading_zeros 8 mask ≡ shown_of mask
 unfolding shown_of
 shown_is mask h = let e : mask % 2 ^ 8 ≡ mask = omega arith in ap (λ (x : ℕ). 8 - count_leading_zeros 8 x) (sym e)
+
+-- a power of two at most a number, and the next one above it, are the same for all
+same_power : (x i j : ℕ) → 2 ^ i ≤ x → x < 2 ^ suc i → 2 ^ j ≤ x → x < 2 ^ suc j → i ≡ j
+same_power x i j a b c d = ⊎_elim
+    (λ l. absurd (apart i j l b c))
+    (λ g. ⊎_elim (λ l. absurd (apart j i l d a)) (λ h. omega (arith, g, h)) (cases_lt j i))
+    (cases_lt i j)
+  where
+    apart : (i j : ℕ) → i < j → x < 2 ^ suc i → 2 ^ j ≤ x → ⊥
+    apart i j l b c = ⊎_elim
+        (λ m. let p = pow_below (suc i) j m in omega (arith, p, b, c))
+        (λ g. let e : j ≡ suc i = omega (arith, l, g) in let q = subst (λ (n : ℕ). 2 ^ n ≤ x) e c in omega (arith, q, b))
+        (cases_lt (suc i) j)
+
+-- the same, found with a bit below those of the levels
+pub shown_by_more : (mask : ℕ) → mask < 2 ^ 8 → 31 - count_leading_zeros 32 (2 * mask + 1) ≡ shown_of mask
+shown_by_more mask h =
+    let t = leading_top 32 (2 * mask + 1) (omega arith) (omega (arith, h)) in
+    let l = leading_length 8 mask h in
+    let twice : 2 ^ suc l.0 ≡ 2 ^ l.0 + 2 ^ l.0 = omega arith in
+    let e = t.1 in
+    let f = l.1 in
+    let same = same_power (2 * mask + 1) t.0 l.0 t.2 t.3 l.3 (let b = l.2 in omega (arith, b, twice)) in
+    let all : 31 - count_leading_zeros 32 (2 * mask + 1) ≡ 8 - count_leading_zeros 8 mask = omega (arith, e, f, same) in
+    all ∙ shown_is mask h

@@ -92,7 +92,10 @@ impl Board {
         requires { index < board_size }
         ensures { IsGreatestLevel (HasLevel (slice_index self.now index)) mask_levels result }
     {
-        (u8::BITS - self.mask(index).leading_zeros()) as u8
+        // (a bit below those of the levels, so that there is always one: where none may be there,
+        // to look for the highest takes twice as many instructions)
+        let bits = 2 * u32::from(self.mask(index)) + 1;
+        (u32::BITS - 1 - bits.leading_zeros()) as u8
     }
 }
 
