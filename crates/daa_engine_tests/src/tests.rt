@@ -3,7 +3,6 @@
 ghost use Rattle.std.specs.Prelude.{◌<◌, ◌≤◌, IfSome, length};
 ghost use Rattle.daa_config.specs.Candidates.{candidates_of};
 ghost use Rattle.daa_state.specs.InRange.{IsPictureInRange};
-ghost use Rattle.daa_engine.specs.EngineState.{IsWorkerCount};
 
 mod room;
 mod workers;
@@ -14,7 +13,6 @@ use daa_detect::is_hit;
 use daa_engine::{Engine, Room};
 use daa_legs::{Flight, relative};
 use daa_outside::{MemSink, Open};
-use daa_report::SinkFault;
 use daa_state::examples::{ABEAM, CLIMBING, NORTH};
 use daa_state::{Moments, Picture, read_line};
 use std::alloc::Global;
@@ -62,7 +60,8 @@ resolve alt down none up none
 done 0
 ";
 
-static ROWS: [Row; 23] = [
+/// One level by the modified tau: who is met, and when.
+static MEETINGS: [Row; 11] = [
     Row {
         shows: "no aircraft",
         text: ONE_LEVEL,
@@ -236,6 +235,10 @@ resolve alt down keep up keep
 done 0
 ",
     },
+];
+
+/// Several levels, and the volume by each of its models.
+static LEVELS: [Row; 7] = [
     Row {
         shows: "four levels",
         text: FOUR_LEVELS,
@@ -339,6 +342,10 @@ done 0
         lines: &[NORTH, ABEAM],
         report: TOGETHER,
     },
+];
+
+/// Which lines are written.
+static LINES: [Row; 5] = [
     Row {
         shows: "the second of two aircraft is met, and each has its lines",
         text: ONE_LEVEL,
@@ -578,14 +585,16 @@ fn engine_of(
     engine_of_workers(rt, text, edits, 1)
 }
 
+/// An engine of 1 to 16 workers.
 fn engine_of_workers(
     rt: &(impl AllocGlobal + Abort),
     text: &str,
     edits: &[(&str, &str)],
     workers: u32,
-) -> Result<Engine, Fail>
-    requires { IsWorkerCount workers }
-{
+) -> Result<Engine, Fail> {
+    if workers < 1 || workers > 16 {
+        return Err("a number of workers from 1 to 16".into());
+    }
     Ok(Engine::new(rt.alloc(), config_of(rt, text, edits)?, workers)?)
 }
 
@@ -598,6 +607,21 @@ fn sink(alloc: Global, room: usize, fails: &[u64]) -> Result<MemSink, Fail> {
     ))
 }
 
+/// Whether the engine says all of the moment of these lines to a sink of this room that fails at
+/// these calls, and what the sink then has. It promises nothing, since no test needs it.
+fn said_by<R: Threads + Sync + AllocGlobal>(
+    rt: &R,
+    engine: &mut Engine,
+    lines: &[&str],
+    room: usize,
+    fails: &[u64],
+) -> Result<(bool, Vec<u8>), Fail> {
+    let picture = picture_in(lines).ok_or("the lines of a moment")?;
+    let mut out = sink(rt.alloc(), room, fails)?;
+    let said = engine.report(rt, rt.alloc(), &picture, &mut out, &Open);
+    Ok((said.is_ok(), out.taken().to_vec(rt.alloc())?))
+}
+
 /// The engine writes this report of these lines.
 fn expect_report<R: Abort + Threads + Sync + AllocGlobal>(
     rt: &R,
@@ -606,18 +630,15 @@ fn expect_report<R: Abort + Threads + Sync + AllocGlobal>(
     lines: &[&str],
     report: &str,
 ) -> Result<(), Fail> {
-    let picture = picture_in(lines).expect(rt, "the lines of a moment");
-    let mut out = sink(rt.alloc(), 4096, &[])?;
-    let said = engine.report(rt, rt.alloc(), &picture, &mut out, &Open);
-    assert_eq!(rt; said, Ok(()), "{shows}");
-    assert_eq!(rt; out.taken(), report.as_bytes(), "{shows}");
+    let (all, text) = said_by(rt, engine, lines, 4096, &[])?;
+    assert!(rt; all, "{shows}");
+    assert!(rt; text.as_slice() == report.as_bytes(), "{shows}: {text:?}");
     Ok(())
 }
 
 /// Engines of one worker and of four write the reports of these rows.
 fn expect_rows<R: Abort + Threads + Sync + AllocGlobal>(rt: &R, rows: &[Row]) -> Result<(), Fail> {
     for workers in [1, 4] {
-        assert!(rt; 0 < workers && workers <= 16);
         for row in rows {
             let mut engine = engine_of_workers(rt, row.text, row.edits, workers)?;
             expect_report(rt, &mut engine, row.shows, row.lines, row.report)?;
@@ -627,8 +648,18 @@ fn expect_rows<R: Abort + Threads + Sync + AllocGlobal>(rt: &R, rows: &[Row]) ->
 }
 
 #[test]
-fn worked_rows(rt: HostRuntime) -> Result<(), Fail> {
-    expect_rows(&rt, &ROWS)
+fn worked_meetings(rt: HostRuntime) -> Result<(), Fail> {
+    expect_rows(&rt, &MEETINGS)
+}
+
+#[test]
+fn worked_levels_and_models(rt: HostRuntime) -> Result<(), Fail> {
+    expect_rows(&rt, &LEVELS)
+}
+
+#[test]
+fn each_line_is_written_where_it_is_asked_for(rt: HostRuntime) -> Result<(), Fail> {
+    expect_rows(&rt, &LINES)
 }
 
 #[test]
@@ -636,18 +667,26 @@ fn last_times_are_told_where_they_are_asked_for(rt: HostRuntime) -> Result<(), F
     expect_rows(&rt, &LAST_TIMES)
 }
 
+/// An aircraft that is far away, and one that is touched in 10 seconds.
+static FAR_AND_ABEAM: [&str; 3] = [NORTH, "traffic FAR 5162 0 1000 0 0 0 0", ABEAM];
+
+/// Whether the aircraft at a place of the moment has this alert level and this first leg.
+fn has_alert(engine: &Engine, lines: &[&str], place: usize, level: u8, first: Option<u32>) -> bool {
+    let Some(picture) = picture_in(lines) else {
+        return false;
+    };
+    if place >= picture.traffic.len() {
+        return false;
+    }
+    let alert = engine.alert_of(&picture, place);
+    alert.level == level && alert.first == first
+}
+
 #[test]
 fn the_alert_of_an_aircraft(rt: HostRuntime) -> Result<(), Fail> {
     let engine = engine_of(&rt, ONE_LEVEL, &[("tthr = 35", "tthr = 0")])?;
-    let picture = picture_in(&[NORTH, "traffic FAR 5162 0 1000 0 0 0 0", ABEAM]).expect(
-        &rt,
-        "the lines of a moment",
-    );
-    assert!(rt; picture.traffic.len() == 2);
-    let far = engine.alert_of(&picture, 0);
-    assert!(rt; far.level == 0 && far.first.is_none());
-    let abeam = engine.alert_of(&picture, 1);
-    assert!(rt; abeam.level == 1 && abeam.first == Some(9));
+    assert!(rt; has_alert(&engine, &FAR_AND_ABEAM, 0, 0, None));
+    assert!(rt; has_alert(&engine, &FAR_AND_ABEAM, 1, 1, Some(9)));
     Ok(())
 }
 
@@ -662,48 +701,44 @@ fn moments_one_after_the_other(rt: HostRuntime) -> Result<(), Fail> {
 }
 
 /// Places, speeds and thresholds at the ends of their ranges.
+static FARTHEST: [&str; 2] = [
+    "own -200000 -200000 -2000 45 10000 10000",
+    "traffic A 200000 200000 60000 -10000 -10000 -10000 0",
+];
+
 #[test]
 fn largest_values(rt: HostRuntime) -> Result<(), Fail> {
     let mut engine = engine_of(&rt, LARGEST_VALUES, &[])?;
-    let picture = picture_in(&[
-        "own -200000 -200000 -2000 45 10000 10000",
-        "traffic A 200000 200000 60000 -10000 -10000 -10000 0",
-    ])
-    .expect(&rt, "the lines of a moment");
-    let mut out = sink(rt.alloc(), 100000, &[])?;
-    let said = engine.report(&rt, rt.alloc(), &picture, &mut out, &Open);
-    assert_eq!(rt; said, Ok(()));
-    let begins = b"moment 0\nnow A 0\nalert A 0 -\ntrack 0 ".as_slice();
-    assert!(rt; out.taken().starts_with(begins));
-    assert!(rt; out.taken().ends_with(b"\ndone 0\n".as_slice()));
+    let (all, text) = said_by(&rt, &mut engine, &FARTHEST, 100000, &[])?;
+    assert!(rt; all);
+    assert!(rt; text.starts_with(b"moment 0\nnow A 0\nalert A 0 -\ntrack 0 ".as_slice()));
+    assert!(rt; text.ends_with(b"\ndone 0\n".as_slice()));
     Ok(())
 }
+
+/// The room of a sink, the calls at which it fails, whether all is said, and how many bytes are.
+static SINKS: [(usize, &[u64], bool, usize); 4] = [
+    (4096, &[0], false, 0),
+    (4096, &[1], false, 29),
+    (212, &[], false, 212),
+    (213, &[], true, 213),
+];
 
 /// The lines of the aircraft are written before those of the bands, and a sink that fails has taken
 /// a beginning.
 #[test]
 fn sinks_that_fail(rt: HostRuntime) -> Result<(), Fail> {
-    let alloc = rt.alloc();
     let mut engine = engine_of(&rt, ONE_LEVEL, &[])?;
-    let picture = picture_in(&[NORTH, "traffic A 0 0 1000 0 3600 0 0"]).expect(
-        &rt,
-        "the lines of a moment",
-    );
-    for (room, fails, taken) in [
-        (4096, [0].as_slice(), 0),
-        (4096, [1].as_slice(), 29),
-        (212, [].as_slice(), 212),
-    ] {
-        let mut out = sink(alloc, room, fails)?;
-        let said = engine.report(&rt, alloc, &picture, &mut out, &Open);
-        assert_eq!(rt; said, Err(SinkFault));
-        assert_eq!(rt; out.taken().len(), taken);
-        assert!(rt; TOGETHER.as_bytes().starts_with(out.taken()));
+    for (room, fails, all, taken) in &SINKS {
+        let lines = [NORTH, "traffic A 0 0 1000 0 3600 0 0"];
+        let (said, text) = said_by(&rt, &mut engine, &lines, *room, fails)?;
+        let front = TOGETHER
+            .as_bytes()
+            .get(..*taken)
+            .ok_or("a front of the text")?;
+        assert!(rt; said == *all, "a room of {room}");
+        assert!(rt; text.as_slice() == front, "a room of {room}: {text:?}");
     }
-    let mut out = sink(alloc, 213, &[])?;
-    let said = engine.report(&rt, alloc, &picture, &mut out, &Open);
-    assert_eq!(rt; said, Ok(()));
-    assert_eq!(rt; out.taken(), TOGETHER.as_bytes());
     Ok(())
 }
 
@@ -756,29 +791,39 @@ fn has_mask(engine: &Engine, mask: u8) -> bool {
     false
 }
 
-/// In both moments some candidates are clear, some are covered at level 1 alone and some at all
-/// three.
+/// The board of the moment of these lines is that of a walk second by second, and it has candidates
+/// that are clear, covered at level 1 alone, and covered at all three.
+fn expect_walk<R: Abort + Threads + Sync + AllocGlobal>(
+    rt: &R,
+    engine: &mut Engine,
+    lines: &[&str],
+) {
+    let picture = picture_in(lines).expect(rt, "the lines of a moment");
+    engine.decide(rt, rt.alloc(), &picture, &Open);
+    expect_board(rt, engine, &picture);
+    assert!(rt; has_mask(engine, 0) && has_mask(engine, 1) && has_mask(engine, 7));
+}
+
+static WALKED: [[&str; 4]; 2] = [
+    [
+        "own 0 0 10000 30 2500 500",
+        "traffic A 5200 8900 10900 -1000 -1700 -200 0",
+        "traffic B -6500 3000 9300 2100 300 300 12",
+        "traffic FAR 190000 0 9000 0 0 0 0",
+    ],
+    [
+        "own 0 0 5000 350 1500 0",
+        "traffic FAR 0 0 59000 0 0 0 0",
+        "traffic A 900 6500 5600 0 -2400 -300 3",
+        "traffic B -6000 3000 4500 2300 -300 0 0",
+    ],
+];
+
 #[test]
 fn boards_are_those_of_a_walk_second_by_second(rt: HostRuntime) -> Result<(), Fail> {
     let mut engine = engine_of(&rt, THREE_LEVELS, &[])?;
-    for lines in [
-        [
-            "own 0 0 10000 30 2500 500",
-            "traffic A 5200 8900 10900 -1000 -1700 -200 0",
-            "traffic B -6500 3000 9300 2100 300 300 12",
-            "traffic FAR 190000 0 9000 0 0 0 0",
-        ],
-        [
-            "own 0 0 5000 350 1500 0",
-            "traffic FAR 0 0 59000 0 0 0 0",
-            "traffic A 900 6500 5600 0 -2400 -300 3",
-            "traffic B -6000 3000 4500 2300 -300 0 0",
-        ],
-    ] {
-        let picture = picture_in(&lines).expect(&rt, "the lines of a moment");
-        engine.decide(&rt, rt.alloc(), &picture, &Open);
-        expect_board(&rt, &engine, &picture);
-        assert!(rt; has_mask(&engine, 0) && has_mask(&engine, 1) && has_mask(&engine, 7));
+    for lines in &WALKED {
+        expect_walk(&rt, &mut engine, lines);
     }
     Ok(())
 }

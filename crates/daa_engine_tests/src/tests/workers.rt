@@ -1,15 +1,15 @@
 //! Several workers: what they find, and how often they pass the gate.
 
-use crate::tests::{NORTH, engine_of, engine_of_workers, picture_in};
+use crate::tests::{NORTH, engine_of_workers, picture_in};
 use daa_config::examples::{ONE_LEVEL, THREE_LEVELS};
-use daa_engine::Tickets;
+use daa_engine::{Engine, Tickets};
 use daa_outside::{Gate, Meeting, Open};
-use daa_state::Picture;
 use std::process::Abort;
 use std::sync::atomic::AtomicU64;
 use std::sync::atomic::Ordering::SeqCst;
 use std::test::Fail;
 use std::thread::Threads;
+use std::time::Clock;
 
 /// A gate that counts who passes, for each of the first four units and for all others.
 #[derive(Drop)]
@@ -64,41 +64,70 @@ static NONE_IN_REACH: [&str; 3] = [
     "traffic HIGH 0 0 1617 0 0 0 0",
 ];
 
+/// The engine decides the moment of these lines. It promises nothing of the board, since no test
+/// needs it.
+fn decides<R: Threads + Sync + AllocGlobal, G: Gate>(
+    rt: &R,
+    engine: &mut Engine,
+    lines: &[&str],
+    gate: &G,
+) -> Result<(), Fail> {
+    let picture = picture_in(lines).ok_or("the lines of a moment")?;
+    engine.decide(rt, rt.alloc(), &picture, gate);
+    Ok(())
+}
+
+/// No candidate of the board is covered.
+fn is_clear(engine: &Engine) -> bool {
+    (0..2048).all(|index| engine.board().mask(index) == 0)
+}
+
+/// So many workers pass the gate so often for each unit.
+fn passes<R: Abort + Threads + Sync + AllocGlobal>(
+    rt: &R,
+    workers: u32,
+    times: u64,
+) -> Result<(), Fail> {
+    let mut engine = engine_of_workers(rt, ONE_LEVEL, &[], workers)?;
+    let counter = Counter::new();
+    decides(rt, &mut engine, &FOUR_IN_REACH, &counter)?;
+    assert!(rt; counter.counts(times), "with {workers}");
+    assert!(rt; engine.board().mask(0) == 1, "with {workers}");
+    decides(rt, &mut engine, &NONE_IN_REACH, &counter)?;
+    assert!(rt; counter.counts(times), "with {workers}");
+    assert!(rt; is_clear(&engine), "with {workers}");
+    Ok(())
+}
+
 /// One thread passes no gate, several pass once for each unit, and there is none where no aircraft
 /// is in reach.
 #[test]
 fn the_gate_is_passed_once_for_each_unit_of_several_workers(rt: HostRuntime) -> Result<(), Fail> {
-    let four = picture_in(&FOUR_IN_REACH).expect(&rt, "four aircraft in reach");
-    let none = picture_in(&NONE_IN_REACH).expect(&rt, "no aircraft in reach");
     for (workers, times) in [(1, 0), (2, 1), (4, 1), (16, 1)] {
-        assert!(rt; 0 < workers && workers <= 16);
-        let mut engine = engine_of_workers(&rt, ONE_LEVEL, &[], workers)?;
-        let counter = Counter::new();
-        engine.decide(&rt, rt.alloc(), &four, &counter);
-        assert!(rt; counter.counts(times), "with {workers}");
-        assert!(rt; engine.board().mask(0) == 1, "with {workers}");
-        engine.decide(&rt, rt.alloc(), &none, &counter);
-        assert!(rt; counter.counts(times), "with {workers}");
-        assert!(rt;
-            (0..2048).all(|index| engine.board().mask(index) == 0),
-            "with {workers}"
-        );
+        passes(&rt, workers, times)?;
     }
     Ok(())
+}
+
+/// Whether all of four workers come to the gate.
+fn four_meet<R: Abort + Threads + Sync + AllocGlobal, C: Clock + Sync + Drop>(
+    rt: &R,
+    clock: C,
+) -> Result<bool, Fail> {
+    let mut engine = engine_of_workers(rt, THREE_LEVELS, &[], 4)?;
+    let meeting = Meeting::of(clock, 4);
+    decides(rt, &mut engine, &EXAMPLE_MOMENT, &meeting)?;
+    Ok(meeting.has_met())
 }
 
 /// Each of four workers waits at its first unit until all have come, worker 0 too. As a thread may
 /// not be had, the meeting is tried five times.
 #[test]
 fn four_workers_meet_at_the_gate(rt: HostRuntime) -> Result<(), Fail> {
-    let picture = picture_in(&EXAMPLE_MOMENT).expect(&rt, "the lines of a moment");
     let mut met = false;
     for _ in 0..5 {
         if !met {
-            let mut engine = engine_of_workers(&rt, THREE_LEVELS, &[], 4)?;
-            let meeting = Meeting::of(&rt, 4);
-            engine.decide(&rt, rt.alloc(), &picture, &meeting);
-            met = meeting.has_met();
+            met = four_meet(&rt, &rt)?;
         }
     }
     assert!(rt; met);
@@ -113,21 +142,27 @@ static EXAMPLE_MOMENT: [&str; 4] = [
     "traffic B -6500 3000 9300 2100 300 300 12",
 ];
 
+/// Whether both have the same board.
+fn have_one_board(one: &Engine, other: &Engine) -> bool {
+    (0..2048).all(|index| one.board().mask(index) == other.board().mask(index))
+}
+
+/// An engine of so many workers that has decided the example.
+fn decided_by<R: Abort + Threads + Sync + AllocGlobal>(
+    rt: &R,
+    workers: u32,
+) -> Result<Engine, Fail> {
+    let mut engine = engine_of_workers(rt, THREE_LEVELS, &[], workers)?;
+    decides(rt, &mut engine, &EXAMPLE_MOMENT, &Open)?;
+    Ok(engine)
+}
+
 #[test]
 fn any_number_of_workers_gives_one_board(rt: HostRuntime) -> Result<(), Fail> {
-    let picture = picture_in(&EXAMPLE_MOMENT).expect(&rt, "the lines of a moment");
-    let mut one = engine_of(&rt, THREE_LEVELS, &[])?;
-    one.decide(&rt, rt.alloc(), &picture, &Open);
+    let one = decided_by(&rt, 1)?;
     for workers in [2, 3, 16] {
-        assert!(rt; 0 < workers && workers <= 16);
-        let mut engine = engine_of_workers(&rt, THREE_LEVELS, &[], workers)?;
-        engine.decide(&rt, rt.alloc(), &picture, &Open);
-        for index in 0..2048 {
-            assert!(rt;
-                engine.board().mask(index) == one.board().mask(index),
-                "at {index} with {workers}"
-            );
-        }
+        let engine = decided_by(&rt, workers)?;
+        assert!(rt; have_one_board(&engine, &one), "with {workers}");
     }
     Ok(())
 }
