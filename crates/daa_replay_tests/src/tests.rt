@@ -294,14 +294,26 @@ fn whole_sink<R: AllocGlobal>(rt: &R, room: usize) -> Result<MemSink, AllocError
     sink_of(rt, room, &[], &[])
 }
 
+/// The status of a run of these words over this input, whose workers pass this gate, and what the
+/// sink took, which has so much room.
+fn status_at<R: Threads + Sync + AllocGlobal, G: Gate>(
+    rt: &R,
+    words: &[&str],
+    input: &[u8],
+    room: usize,
+    gate: &G,
+) -> Result<(u8, Vec<u8>), AllocError> {
+    let mut shelf = shelf_with(rt, ONE_LEVEL, &[])?;
+    let mut source = whole_source(rt, input)?;
+    let mut sink = whole_sink(rt, room)?;
+    let status = status_of(rt, words, &mut shelf, &mut source, &mut sink, gate)?;
+    Ok((status, sink.taken().to_vec(rt.alloc())?))
+}
+
 #[test]
 fn a_run_reads_to_its_end(rt: HostRuntime) -> Result<(), Fail> {
-    let mut shelf = shelf_with(&rt, ONE_LEVEL, &[])?;
-    let mut source = whole_source(&rt, ONE)?;
-    let mut sink = whole_sink(&rt, 300)?;
-    let status = status_of(&rt, REPLAY, &mut shelf, &mut source, &mut sink, &Open)?;
-    assert!(rt; status == 0);
-    assert!(rt; sink.taken() == ONE_TEXT);
+    let found = status_at(&rt, REPLAY, ONE, 300, &Open)?;
+    expect(&rt, &found, 0, ONE_TEXT);
     Ok(())
 }
 

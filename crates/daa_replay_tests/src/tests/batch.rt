@@ -1,9 +1,6 @@
 //! Moments of one piece, which the workers decide side by side.
 
-use super::{
-    ONE_LEVEL, Outside, PLAIN, gives, gives_front, shelf_with, status_and_text, status_of,
-    whole_sink, whole_source,
-};
+use super::{Outside, PLAIN, expect, gives, gives_front, status_and_text, status_at};
 use daa_outside::{Gate, Meeting};
 use std::alloc::AllocError;
 use std::array;
@@ -12,6 +9,7 @@ use std::sync::atomic::AtomicU64;
 use std::sync::atomic::Ordering::SeqCst;
 use std::test::Fail;
 use std::thread::Threads;
+use std::time::Clock;
 
 static ONE_WORKER: [&str; 6] = ["daidalus", "replay", "--config", "c", "--workers", "1"];
 
@@ -136,31 +134,29 @@ fn moments_of_joined_pieces_are_shared_out(rt: HostRuntime) -> Result<(), Fail> 
     gives(&rt, input.as_bytes(), outside, 1, text.as_slice())
 }
 
+/// Whether two workers of the input's batch come to the gate. They write this text.
+fn lanes_meet<R: Abort + Threads + Sync + AllocGlobal, C: Clock + Sync + Drop>(
+    rt: &R,
+    clock: C,
+    input: &[u8],
+    text: &[u8],
+) -> Result<bool, Fail> {
+    let meeting = Meeting::of(clock, 2);
+    let found = status_at(rt, &TWO_WORKERS, input, text.len(), &meeting)?;
+    expect(rt, &found, 1, text);
+    Ok(meeting.has_met())
+}
+
 /// Two workers of a batch wait at a gate until both have come, and write what one writes. As a
 /// thread may not be had, the meeting is tried five times.
 #[test]
 fn two_lanes_run_at_once(rt: HostRuntime) -> Result<(), Fail> {
-    let room = 100_000;
     let input = moments_of(&rt, 300)?;
-    let text = alone(&rt, input.as_bytes(), room)?;
+    let text = alone(&rt, input.as_bytes(), 100_000)?;
     let mut met = false;
     for _ in 0..5 {
         if !met {
-            let meeting = Meeting::of(&rt, 2);
-            let mut shelf = shelf_with(&rt, ONE_LEVEL, &[])?;
-            let mut source = whole_source(&rt, input.as_bytes())?;
-            let mut sink = whole_sink(&rt, room)?;
-            let status = status_of(
-                &rt,
-                &TWO_WORKERS,
-                &mut shelf,
-                &mut source,
-                &mut sink,
-                &meeting,
-            )?;
-            assert!(rt; status == 1);
-            assert!(rt; sink.taken() == text.as_slice());
-            met = meeting.has_met();
+            met = lanes_meet(&rt, &rt, input.as_bytes(), text.as_slice())?;
         }
     }
     assert!(rt; met);
@@ -268,19 +264,26 @@ impl Gate for Tally {
     }
 }
 
+/// So many workers pass the gate once for each moment of the input's batch.
+fn passes_once<R: Abort + Threads + Sync + AllocGlobal>(
+    rt: &R,
+    workers: &str,
+    input: &[u8],
+) -> Result<(), Fail> {
+    let words = ["daidalus", "replay", "--config", "c", "--workers", workers];
+    let tally = Tally::new();
+    let (status, _text) = status_at(rt, &words, input, 100_000, &tally)?;
+    assert!(rt; status == 1);
+    assert!(rt; tally.has_passed_each_moment_once(), "with {workers}");
+    Ok(())
+}
+
 /// The unit of a moment is its place in the batch.
 #[test]
 fn the_gate_is_passed_once_for_each_moment_of_a_batch(rt: HostRuntime) -> Result<(), Fail> {
     let input = moments_of(&rt, 300)?;
     for workers in ["2", "16"] {
-        let words = ["daidalus", "replay", "--config", "c", "--workers", workers];
-        let tally = Tally::new();
-        let mut shelf = shelf_with(&rt, ONE_LEVEL, &[])?;
-        let mut source = whole_source(&rt, input.as_bytes())?;
-        let mut sink = whole_sink(&rt, 100_000)?;
-        let status = status_of(&rt, &words, &mut shelf, &mut source, &mut sink, &tally)?;
-        assert!(rt; status == 1);
-        assert!(rt; tally.has_passed_each_moment_once(), "with {workers}");
+        passes_once(&rt, workers, input.as_bytes())?;
     }
     Ok(())
 }

@@ -1,6 +1,6 @@
 //! Several workers: whether they really work side by side, and that they change no byte.
 
-use super::{ONE_LEVEL, shelf_with, status_of, whole, whole_sink, whole_source};
+use super::{expect, status_at, whole};
 use daa_outside::{Gate, Meeting, Open};
 use std::process::Abort;
 use std::sync::atomic::AtomicU64;
@@ -75,14 +75,21 @@ fn expect_four<R: Abort + Threads + Sync + AllocGlobal, G: Gate>(
     words: &[&str],
     gate: &G,
 ) -> Result<(), Fail> {
-    let mut shelf = shelf_with(rt, ONE_LEVEL, &[])?;
-    let mut source = whole_source(rt, FOUR)?;
-    let mut sink = whole_sink(rt, 1024)?;
-    let status = status_of(rt, words, &mut shelf, &mut source, &mut sink, gate)?;
+    let found = status_at(rt, words, FOUR, 1024, gate)?;
     let text = whole(rt, FOUR_TEXT)?;
-    assert!(rt; status == 0);
-    assert!(rt; sink.taken() == text.as_bytes());
+    expect(rt, &found, 0, text.as_bytes());
     Ok(())
+}
+
+/// Whether worker 0 and another of four come to the gate, which is passed once for each unit.
+fn two_meet<R: Abort + Threads + Sync + AllocGlobal, C: Clock + Sync + Drop>(
+    rt: &R,
+    clock: C,
+) -> Result<bool, Fail> {
+    let gate = Watched::by(clock);
+    expect_four(rt, &FOUR_WORKERS, &gate)?;
+    assert!(rt; gate.was_passed(1));
+    Ok(gate.meeting.has_met())
 }
 
 /// As a thread may not be had, the meeting is tried five times.
@@ -92,10 +99,7 @@ fn two_workers_meet_at_the_gate(rt: HostRuntime) -> Result<(), Fail> {
     let mut met = false;
     for _ in 0..5 {
         if !met {
-            let gate = Watched::by(&rt);
-            expect_four(&rt, &FOUR_WORKERS, &gate)?;
-            assert!(rt; gate.was_passed(1));
-            met = gate.meeting.has_met();
+            met = two_meet(&rt, &rt)?;
         }
     }
     assert!(rt; met);
