@@ -79,6 +79,13 @@ impl Lines {
 
     /// The lines of an input of which nothing was fed yet.
     pub fn new() -> Self
+        ensures value { result ≡ record {
+          line = [];
+          stage = Stage.Open;
+          ended = false;
+          fed = 0;
+          number = 0;
+        } }
         ensures comes_from { ComesFrom [] [] result }
         ensures free { is_standing result.stage ≡ false }
         ensures going { result.ended ≡ false }
@@ -90,6 +97,28 @@ impl Lines {
             ended: false,
             fed: 0,
             number: 0,
+        }
+    }
+
+    /// The lines of the rest of an input, where so many bytes were fed and lines taken before it, and
+    /// the last of these lines ended with them.
+    pub fn resume(fed: u64, number: u64) -> Self
+        requires { number ≤ fed }
+        ensures { result ≡ record {
+          line = [];
+          stage = Stage.Open;
+          ended = false;
+          fed = fed;
+          number = number;
+        } }
+    {
+        Lines {
+            line: ArrayVec::new(),
+            stale: false,
+            stage: Stage::Open,
+            ended: false,
+            fed,
+            number,
         }
     }
 
@@ -180,6 +209,13 @@ impl Lines {
         ensures { result ≡ is_standing self.now.stage }
     {
         matches!(self.stage, Stage::Whole | Stage::Long)
+    }
+
+    /// Whether no line is in hand: none is ready, none is begun, and of none is a rest passed over.
+    pub fn is_between(&self) -> bool
+        ensures { (result ≡ true) ↔ ((self.now.stage ≡ Stage.Open) × (self.now.line ≡ [])) }
+    {
+        self.stage == Stage::Open && self.line_length() == 0
     }
 
     /// Takes bytes from the front of the piece, and returns how many: up to and with the next line

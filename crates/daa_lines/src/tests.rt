@@ -232,3 +232,21 @@ fn values_may_be_sent() {
     may_be_sent::<InputLine<'static>>();
     may_be_sent::<Stage>();
 }
+
+/// Where no line is in hand, the rest of an input gives the same lines by a `Lines` of its own.
+#[test]
+fn lines_are_read_on_from_between_two(rt: HostRuntime) {
+    let mut lines = Lines::new();
+    assert!(rt; lines.is_between());
+    assert_eq!(rt; lines.feed(b"ab\ncd"), 3);
+    assert!(rt; !lines.is_between());
+    assert!(rt; is_whole(lines.take_line(), b"ab"));
+    assert!(rt; lines.is_between());
+    let mut others = Lines::resume(lines.fed(), lines.number());
+    assert!(rt; others.is_between());
+    assert_eq!(rt; others.feed(b"cd"), 2);
+    assert!(rt; !others.is_between());
+    others.end();
+    assert!(rt; is_whole(others.take_line(), b"cd"));
+    assert_eq!(rt; (others.fed(), others.number()), (5, 2));
+}

@@ -1,11 +1,13 @@
--- Events that wait, and their texts.
-use Rattle.std.proofs.Common.{ℕ, ◌+◌, ◌<◌, ◌≡◌, ◌∙◌, All, List, [], ◌∷◌, ◌++◌, length, take, drop, get_or, arith, refl, sym, ap, ap₂, subst, append_assoc, append-nil, length-append, inl, inr, ◌⊎◌}
+-- The texts of the events of a piece.
+use Rattle.std.proofs.Common.{ℕ, ◌-◌, ◌≤◌, ◌≡◌, ◌∙◌, ◌||◌, All, Bool, false, List, [], ◌∷◌, ◌++◌, length, take, drop, get_or, arith, refl, sym, ap, ap₂, subst, append_assoc, append-nil, length-append, inl, inr, ◌⊎◌}
 use Rattle.std.specs.Io.KnownBytes.{Appends}
 use Rattle.std.proofs.KnownBytes.{Appends-nil, Appends-trans}
-use Rattle.std.proofs.lemmas.List.{take_more, take-append-drop}
+use Rattle.std.specs.List.{list_any}
 use Rattle.std.proofs.lemmas.List.Elements.{All-weaker}
+use Rattle.std.proofs.lemmas.List.Folds.{list_any-append}
 use Rattle.daa_bands.specs.Parts.{SplitsByEach}
 use Rattle.daa_config.specs.Settings.{Settings}
+use Rattle.daa_lines.specs.LinesOf.{Bytes}
 use Rattle.daa_report.specs.Lines.{Text}
 use Rattle.daa_report.specs.Says.{AppendsFront}
 use Rattle.daa_ahead.specs.Bytes.{ToldBytes}
@@ -13,7 +15,14 @@ use Rattle.daa_replay.specs.declared.lines.Event.{Event}
 use Rattle.daa_replay.specs.Moment.{IsEventText}
 use Rattle.daa_replay.specs.Inside.Moment.{BeginsText}
 use Rattle.daa_replay.specs.declared.batch.Part.{Part}
-use Rattle.daa_replay.specs.Inside.Batch.{AddsText, AddsTexts, HasTexts, IsPart, MovesOn, StopsWithin, TakesTexts}
+use Rattle.daa_replay.specs.declared.place.Place.{Place}
+use Rattle.daa_replay.specs.Lines.{is_refusal}
+use Rattle.daa_replay.specs.Inside.Batch.{AddsText, AddsTexts, Fails, HasTexts, IsPart, Shares, StopsWithin, TakesTexts, Tells}
+use Rattle.daa_replay.specs.Inside.Events.{HasLines}
+use Rattle.daa_replay.specs.Inside.Lines.{Follows}
+use Rattle.daa_replay.specs.Inside.Place.{Gives, IsPlace, Reading, reading_at}
+use Rattle.daa_replay.proofs.GivenLemmas.{or_false}
+use Rattle.daa_replay.proofs.PlaceLemmas.{lines-there}
 use Rattle.daa_replay.proofs.TextLemmas.{begins-more, texts-append, texts-push}
 
 -- two ways to cut a text in two: the front ends within the first part, or goes on into the second
@@ -33,9 +42,6 @@ cut (x ∷ front) rest (y ∷ first) second e =
 no_front : (front rest : Text) → [] ≡ front ++ rest → front ≡ []
 no_front [] rest e = refl
 no_front (x ∷ front) rest e = absurd (omega (arith, ap length e))
-
-joined : (all waiting more gone : List Event) → all ≡ gone ++ waiting → all ++ more ≡ gone ++ (waiting ++ more)
-joined all waiting more gone e = ap (λ (l : List Event). l ++ more) e ∙ append_assoc gone waiting more
 
 module _ (settings : Settings) where
   -- no event's text was taken
@@ -164,50 +170,90 @@ module _ (settings : Settings) where
     taken = s.taken;
   }
 
-  -- ---- parts of a sheet
+  -- ---- from one reading of a piece to a later one
 
-  -- no text was added
-  pub adds-none : (events : List Event) (from : ℕ) (sheet : Text) → AddsTexts settings events from from sheet sheet
-  adds-none events from sheet = (
-    [],
-    record { own = []; joined = sym (append-nil (take from events)); texts = refl },
-    sym (append-nil sheet),
+  -- a line without an event is passed over
+  abbrev pub Passes : Bytes → (from upto : Reading) → Type 0
+  Passes piece from upto = (bytes : Bytes) (given : List Event) → Follows (bytes ++ take from.done piece) given from.lines from.moments
+      → Follows (bytes ++ take upto.done piece) given upto.lines upto.moments
+
+  gives_join : (piece : Bytes) (es fs : List Event) (a b c : Reading) → Gives piece es a b → Gives piece fs b c → Gives piece (es ++ fs) a c
+  gives_join piece es fs a b c g h = λ bytes given f.
+      subst (λ (x : List Event). Follows (bytes ++ take c.done piece) x c.lines c.moments) (append_assoc given es fs) (h bytes (given ++ es) (g bytes given f))
+
+  pub tells-none : (piece : Bytes) (a : Reading) → Tells settings piece a a false []
+  tells-none piece a = record {
+    events = [];
+    gives = λ bytes given f. subst (λ (x : List Event). Follows (bytes ++ take a.done piece) x a.lines a.moments) (sym (append-nil given)) f;
+    refusals = refl;
+    texts = refl;
+  }
+
+  pub tells-join : (piece : Bytes) (a b c : Reading) (r s : Bool) (t u : Text) → Tells settings piece a b r t → Tells settings piece b c s u → Tells settings piece a c (r || s) (t ++ u)
+  tells-join piece a b c r s t u x y = record {
+    events = x.events ++ y.events;
+    gives = gives_join piece x.events y.events a b c x.gives y.gives;
+    refusals = ap₂ (λ (m n : Bool). m || n) x.refusals y.refusals ∙ sym (list_any-append is_refusal x.events y.events);
+    texts = texts-append settings x.events y.events t u x.texts y.texts;
+  }
+
+  tells_pass : (piece : Bytes) (a b c : Reading) (r : Bool) (t : Text) → Tells settings piece a b r t → Passes piece b c → Tells settings piece a c r t
+  tells_pass piece a b c r t x p = record {
+    events = x.events;
+    gives = λ bytes given f. p bytes (given ++ x.events) (x.gives bytes given f);
+    refusals = x.refusals;
+    texts = x.texts;
+  }
+
+  -- the text of one event
+  tells_one : (piece : Bytes) (a b : Reading) (event : Event) (text : Text) → Gives piece (event ∷ []) a b → IsEventText settings event text → Tells settings piece a b (is_refusal event) text
+  tells_one piece a b event text gives is = record {
+    events = event ∷ [];
+    gives = gives;
+    refusals = sym (or_false (is_refusal event));
+    texts = texts-push settings [] event [] text refl is;
+  }
+
+  -- ---- on a sheet
+
+  pub adds-none : (piece : Bytes) (a : Reading) (sheet : Text) → AddsTexts settings piece a a false sheet sheet
+  adds-none piece a sheet = ([], tells-none piece a, sym (append-nil sheet))
+
+  pub adds-join : (piece : Bytes) (a b c : Reading) (r s : Bool) (old mid new : Text) → AddsTexts settings piece a b r old mid → AddsTexts settings piece b c s mid new
+      → AddsTexts settings piece a c (r || s) old new
+  adds-join piece a b c r s old mid new x y = (
+    x.0 ++ y.0,
+    tells-join piece a b c r s x.0 y.0 x.1 y.1,
+    y.2 ∙ ap (λ (t : Text). t ++ y.0) x.2 ∙ append_assoc old x.0 y.0,
   )
 
-  own_more : (events own : List Event) (from end : ℕ) (e : Event) → end < length events → e ≡ get_or events end e → take end events ≡ take from events ++ own
-      → take (end + 1) events ≡ take from events ++ (own ++ e ∷ [])
-  own_more events own from end e within same joined =
-      take_more events end e within ∙ ap₂ (λ (l : List Event) (x : Event). l ++ x ∷ []) joined (sym same)
-      ∙ append_assoc (take from events) own (e ∷ [])
+  pub adds-pass : (piece : Bytes) (a b c : Reading) (r : Bool) (old new : Text) → AddsTexts settings piece a b r old new → Passes piece b c → AddsTexts settings piece a c r old new
+  adds-pass piece a b c r old new x p = (x.0, tells_pass piece a b c r x.0 x.1 p, x.2)
 
   -- that of one event more
-  pub adds-more : (events : List Event) (from end : ℕ) (e : Event) (a b c : Text) → end < length events → e ≡ get_or events end e → AddsTexts settings events from end a b
-      → AddsText settings e b c → AddsTexts settings events from (end + 1) a c
-  adds-more events from end e a b c within same all one = (
-    all.0 ++ one.0,
-    record {
-      own = all.1.own ++ e ∷ [];
-      joined = own_more events all.1.own from end e within same all.1.joined;
-      texts = texts-push settings all.1.own e all.0 one.0 all.1.texts one.1;
-    },
-    one.2 ∙ ap (λ (t : Text). t ++ one.0) all.2 ∙ append_assoc a all.0 one.0,
-  )
+  pub adds-event : (piece : Bytes) (a b c : Reading) (r s : Bool) (event : Event) (old mid new : Text) → AddsTexts settings piece a b r old mid → Gives piece (event ∷ []) b c
+      → AddsText settings event mid new → s ≡ (r || is_refusal event) → AddsTexts settings piece a c s old new
+  adds-event piece a b c r s event old mid new x gives one same =
+      subst (λ (n : Bool). AddsTexts settings piece a c n old new) (sym same)
+      (adds-join piece a b c r (is_refusal event) old mid new x (one.0, tells_one piece b c event one.0 gives one.1, one.2))
+
+  -- ---- parts of a sheet
 
   -- what was added is a part
-  pub part-added : (events : List Event) (old new : Text) (part : Part) → AddsTexts settings events part.from part.upto old new → part.start ≡ length old → part.end ≡ length new
-      → IsPart settings events new part
-  part-added events old new part added start end = record {
+  pub part-added : (piece : Bytes) (old new : Text) (part : Part) → AddsTexts settings piece (reading_at part.from) (reading_at part.upto) part.refused old new → IsPlace piece part.upto
+      → part.start ≡ length old → part.end ≡ length new → IsPart settings piece new part
+  part-added piece old new part added there start end = record {
     before = old;
     text = added.0;
     after = [];
     sheet_is = added.2 ∙ ap (λ (t : Text). old ++ t) (sym (append-nil added.0));
     start_is = start;
     end_is = end ∙ ap length added.2 ∙ length-append old added.0;
-    texts = added.1;
+    texts = record { tells = added.1; there = there };
   }
 
-  part_stays : (events : List Event) (old new more : Text) → new ≡ old ++ more → (part : Part) → IsPart settings events old part → IsPart settings events new part
-  part_stays events old new more grows part p = record {
+  part_stays : (piece : Bytes) (old new more : Text) → new ≡ old ++ more → (part : Part) → IsPart settings piece old part → IsPart settings piece new part
+  part_stays piece old new more grows part p = record {
     before = p.before;
     text = p.text;
     after = p.after ++ more;
@@ -219,69 +265,71 @@ module _ (settings : Settings) where
   }
 
   -- the parts stay where texts are added
-  pub parts-stay : (events : List Event) (from upto : ℕ) (old new : Text) (parts : List Part) → AddsTexts settings events from upto old new → All (IsPart settings events old) parts
-      → All (IsPart settings events new) parts
-  parts-stay events from upto old new parts added all =
-      All-weaker (IsPart settings events old) (IsPart settings events new) (part_stays events old new added.0 added.2) parts all
+  pub parts-stay : (piece : Bytes) (a b : Reading) (r : Bool) (old new : Text) (parts : List Part) → AddsTexts settings piece a b r old new → All (IsPart settings piece old) parts
+      → All (IsPart settings piece new) parts
+  parts-stay piece a b r old new parts added all =
+      All-weaker (IsPart settings piece old) (IsPart settings piece new) (part_stays piece old new added.0 added.2) parts all
 
-  -- the texts of a part were taken after those of the events before it
-  pub takes-part : (events : List Event) (from upto : ℕ) (text : Text) (a b c : ToldBytes) → HasTexts settings events from upto text → TakesTexts settings (take from events) a b
-      → Appends b c text → TakesTexts settings (take upto events) a c
-  takes-part events from upto text a b c p t appends =
-      subst (λ (l : List Event). TakesTexts settings l a c) (sym p.joined)
-      (takes-more (take from events) p.own a b c t (record { text = text; is = p.texts; taken = appends }))
+  -- ---- at the sink
 
-  -- the sink failed within them
-  pub stops-part : (events : List Event) (from upto : ℕ) (text : Text) (a b c : ToldBytes) → HasTexts settings events from upto text → TakesTexts settings (take from events) a b
-      → AppendsFront b c text → StopsWithin settings events a c
-  stops-part events from upto text a b c p t front =
-      subst (λ (l : List Event). StopsWithin settings l a c) (ap (λ (l : List Event). l ++ drop upto events) (sym p.joined) ∙ take-append-drop upto events)
-      (stops-before (take from events ++ p.own) (drop upto events) a c (stops-after (take from events) p.own a b c t (stops-front p.own text b c p.texts front)))
+  taken_of : (piece : Bytes) (a b : Reading) (r : Bool) (old new : ToldBytes) → (x : Shares settings piece a b r old new) → TakesTexts settings x.1.events old new
+  taken_of piece a b r old new x = record { text = x.0; is = x.1.texts; taken = x.2 }
 
-  -- ---- one event after the other
+  pub shares-none : (piece : Bytes) (a : Reading) (now : ToldBytes) → Shares settings piece a a false now now
+  shares-none piece a now = ([], tells-none piece a, Appends-nil now)
 
-  pub takes-next : (events : List Event) (place : ℕ) (e : Event) (a b c : ToldBytes) (text : Text) → place < length events → e ≡ get_or events place e
-      → TakesTexts settings (take place events) a b → IsEventText settings e text → Appends b c text → TakesTexts settings (take (place + 1) events) a c
-  takes-next events place e a b c text within same t is appends =
-      subst (λ (l : List Event). TakesTexts settings l a c)
-      (ap (λ (x : Event). take place events ++ x ∷ []) same ∙ sym (take_more events place e within))
-      (takes-event (take place events) e a b c text t is appends)
+  pub shares-join : (piece : Bytes) (a b c : Reading) (r s : Bool) (old mid new : ToldBytes) → Shares settings piece a b r old mid → Shares settings piece b c s mid new
+      → Shares settings piece a c (r || s) old new
+  shares-join piece a b c r s old mid new x y = (
+    x.0 ++ y.0,
+    tells-join piece a b c r s x.0 y.0 x.1 y.1,
+    Appends-trans old mid new x.0 y.0 x.2 y.2,
+  )
 
-  pub stops-next : (events : List Event) (place : ℕ) (e : Event) (a b c : ToldBytes) (text : Text) → place < length events → e ≡ get_or events place e
-      → TakesTexts settings (take place events) a b → IsEventText settings e text → AppendsFront b c text → StopsWithin settings events a c
-  stops-next events place e a b c text within same t is front =
-      subst (λ (l : List Event). StopsWithin settings l a c)
-      (ap (λ (l : List Event). l ++ drop (place + 1) events)
-      (ap (λ (x : Event). take place events ++ x ∷ []) same ∙ sym (take_more events place e within))
-      ∙ take-append-drop (place + 1) events)
-      (stops-before (take place events ++ e ∷ []) (drop (place + 1) events) a c
-      (stops-after (take place events) (e ∷ []) a b c t (stops-one e text b c is front)))
+  pub shares-pass : (piece : Bytes) (a b c : Reading) (r : Bool) (old new : ToldBytes) → Shares settings piece a b r old new → Passes piece b c → Shares settings piece a c r old new
+  shares-pass piece a b c r old new x p = (x.0, tells_pass piece a b c r x.0 x.1 p, x.2)
 
-  -- ---- events that wait
+  -- the text of one event
+  shares_one : (piece : Bytes) (a b : Reading) (event : Event) (text : Text) (old new : ToldBytes) → Gives piece (event ∷ []) a b → IsEventText settings event text → Appends old new text
+      → Shares settings piece a b (is_refusal event) old new
+  shares_one piece a b event text old new gives is appends = (text, tells_one piece a b event text gives is, appends)
 
-  -- no event came yet
-  pub moves-nothing : (now : ToldBytes) → MovesOn settings [] [] now now
-  moves-nothing now = record { gone = []; all_are = refl; taken = takes-nothing now }
+  pub shares-event : (piece : Bytes) (a b c : Reading) (r s : Bool) (event : Event) (text : Text) (old mid new : ToldBytes) → Shares settings piece a b r old mid → Gives piece (event ∷ []) b c
+      → IsEventText settings event text → Appends mid new text → s ≡ (r || is_refusal event) → Shares settings piece a c s old new
+  shares-event piece a b c r s event text old mid new x gives is appends same =
+      subst (λ (n : Bool). Shares settings piece a c n old new) (sym same)
+      (shares-join piece a b c r (is_refusal event) old mid new x (shares_one piece b c event text mid new gives is appends))
 
-  -- more events came, and the texts of some that waited were taken
-  pub moves-more : (all waiting more left : List Event) (a b c : ToldBytes) → MovesOn settings all waiting a b → MovesOn settings (waiting ++ more) left b c
-      → MovesOn settings (all ++ more) left a c
-  moves-more all waiting more left a b c m n = record {
-    gone = m.gone ++ n.gone;
-    all_are = joined all waiting more m.gone m.all_are ∙ ap (λ (l : List Event). m.gone ++ l) n.all_are ∙ sym (append_assoc m.gone n.gone left);
-    taken = takes-more m.gone n.gone a b c m.taken n.taken;
+  -- it failed after others
+  pub fails-after : (piece : Bytes) (a b : Reading) (r : Bool) (old mid new : ToldBytes) → Shares settings piece a b r old mid → Fails settings piece b mid new → Fails settings piece a old new
+  fails-after piece a b r old mid new x y = record {
+    events = x.1.events ++ y.events;
+    upto = y.upto;
+    within = y.within;
+    can = y.can;
+    gives = gives_join piece x.1.events y.events a b y.upto x.1.gives y.gives;
+    stops = stops-after x.1.events y.events old mid new (taken_of piece a b r old mid x) y.stops;
   }
 
-  -- the sink failed within their texts
-  pub stops-moved : (all waiting more : List Event) (a b c : ToldBytes) → MovesOn settings all waiting a b → StopsWithin settings (waiting ++ more) b c
-      → StopsWithin settings (all ++ more) a c
-  stops-moved all waiting more a b c m s =
-      subst (λ (l : List Event). StopsWithin settings l a c) (sym (joined all waiting more m.gone m.all_are)) (stops-after m.gone (waiting ++ more) a b c m.taken s)
+  -- within the text of a part
+  fails_part : (piece : Bytes) (a b : Reading) (r : Bool) (text : Text) (old new : ToldBytes) → Tells settings piece a b r text → b.done ≤ length piece → HasLines (length piece - b.done) b.lines
+      → AppendsFront old new text → Fails settings piece a old new
+  fails_part piece a b r text old new t within can front = record {
+    events = t.events;
+    upto = b;
+    within = within;
+    can = can;
+    gives = t.gives;
+    stops = stops-front t.events text old new t.texts front;
+  }
 
-  -- the texts of all that waited were taken
-  pub takes-waiting : (all waiting : List Event) (a b c : ToldBytes) → MovesOn settings all waiting a b → TakesTexts settings waiting b c → TakesTexts settings all a c
-  takes-waiting all waiting a b c m t = subst (λ (l : List Event). TakesTexts settings l a c) (sym m.all_are) (takes-more m.gone waiting a b c m.taken t)
+  pub fails-part : (piece : Bytes) (a b : Reading) (r s : Bool) (upto : Place) (text : Text) (old mid new : ToldBytes) → Shares settings piece a b r old mid
+      → Tells settings piece b (reading_at upto) s text → IsPlace piece upto → AppendsFront mid new text → Fails settings piece a old new
+  fails-part piece a b r s upto text old mid new x t there front =
+      fails-after piece a b r old mid new x (fails_part piece b (reading_at upto) s text mid new t there.within (lines-there piece upto there) front)
 
-  -- the sink failed within them
-  pub stops-waiting : (all waiting : List Event) (a b c : ToldBytes) → MovesOn settings all waiting a b → StopsWithin settings waiting b c → StopsWithin settings all a c
-  stops-waiting all waiting a b c m s = subst (λ (l : List Event). StopsWithin settings l a c) (sym m.all_are) (stops-after m.gone waiting a b c m.taken s)
+  -- within the text of one event
+  pub fails-event : (piece : Bytes) (a b c : Reading) (r : Bool) (event : Event) (text : Text) (old mid new : ToldBytes) → Shares settings piece a b r old mid → Gives piece (event ∷ []) b c
+      → c.done ≤ length piece → HasLines (length piece - c.done) c.lines → IsEventText settings event text → AppendsFront mid new text → Fails settings piece a old new
+  fails-event piece a b c r event text old mid new x gives within can is front =
+      fails-after piece a b r old mid new x (fails_part piece b c (is_refusal event) text mid new (tells_one piece b c event text gives is) within can front)

@@ -1,5 +1,5 @@
 -- Pieces that are reported, one after the other.
-use Rattle.std.proofs.Common.{◌≡◌, ◌≤◌, ◌<◌, ◌+◌, ◌^◌, ◌||◌, ◌∙◌, ℕ, Bool, true, false, List, [], ◌∷◌, ◌++◌, length, refl, sym, ap, subst, arith, length-append, append-nil, append_assoc}
+use Rattle.std.proofs.Common.{◌≡◌, ◌≤◌, ◌<◌, ◌+◌, ◌-◌, ◌^◌, ◌||◌, ◌∙◌, ℕ, Bool, true, false, List, [], ◌∷◌, ◌++◌, length, take, Option, refl, sym, ap, subst, arith, length-append, append-nil, append_assoc}
 use Rattle.std.specs.List.{concat, list_any}
 use Rattle.std.specs.Borrow.{Bor, MutBor}
 use Rattle.std.proofs.lemmas.List.Folds.{concat-append, list_any-append}
@@ -17,11 +17,67 @@ use Rattle.daa_replay.specs.declared.batch.Batch.{Batch}
 use Rattle.daa_replay.specs.declared.moment.Tools.{Tools}
 use Rattle.daa_replay.specs.declared.lines.Event.{Event}
 use Rattle.daa_replay.specs.Lines.{events_of, is_refusal}
-use Rattle.daa_replay.specs.Inside.Batch.{StopsWithin, TakesTexts}
-use Rattle.daa_replay.specs.Inside.Events.{IsBetween, IsFront, IsGiven}
-use Rattle.daa_replay.specs.Inside.Replay.{Desk, desk, CanReport, Writes, Breaks, Steps}
+use Rattle.daa_replay.specs.declared.events.Left.{Left}
+use Rattle.daa_replay.specs.declared.events.Left.TheVariants as left
+use Rattle.daa_replay.specs.Inside.Batch.{Fails, Shares, StopsWithin, TakesTexts}
+use Rattle.daa_replay.specs.Inside.Events.{CanGive, Gave, HasLines, IsBetween, IsFront, IsGiven}
+use Rattle.daa_replay.specs.Inside.Lines.{Follows}
+use Rattle.daa_replay.specs.Inside.Place.{reading}
+use Rattle.daa_replay.specs.Inside.Replay.{Desk, desk, CanReport, Reaches, Writes, Breaks, Steps}
 use Rattle.daa_replay.proofs.BatchLemmas.{stops-after, takes-more, takes-nothing}
-use Rattle.daa_replay.proofs.GivenLemmas.{fed_so_far, given_as, or_assoc, or_false}
+use Rattle.daa_replay.proofs.GivenLemmas.{as_left, at_start, fed_so_far, given_as, given_first, or_assoc, or_false}
+
+-- ---- the front of a piece
+
+-- nothing of it was fed
+pub reaches_nothing : (d : Desk) (piece : Bytes) → CanReport d (length piece) → (last : Bool) → Reaches d piece 0 last d
+reaches_nothing d piece can last = record {
+  same = refl;
+  at = at_start (length piece) last d.progress can.between can.room;
+  calm = refl;
+  events = [];
+  gives = λ bytes given is. given_as bytes (bytes ++ []) given (given ++ []) d.progress (sym (append-nil bytes)) (sym (append-nil given)) is;
+  refusals = sym (or_false d.progress.any_refused);
+  taken = takes-nothing d.settings d.taken;
+}
+
+follows_front : (bytes piece : Bytes) (given : List Event) (p : Progress) → IsBetween p → IsGiven bytes given p → Follows (bytes ++ take 0 piece) given p.lines p.moments
+follows_front bytes piece given p between is =
+    subst (λ (b : Bytes). Follows b given p.lines p.moments) (sym (append-nil bytes)) (as_left bytes given p left.Lines between.left is)
+
+-- all its lines were shared out
+pub reaches_shares : (d e : Desk) (piece : Bytes) (refused : Bool) → CanReport d (length piece) → e.settings ≡ d.settings → e.faults ≡ d.faults → e.progress.left ≡ d.progress.left
+    → e.progress.any_refused ≡ (d.progress.any_refused || refused) → HasLines 0 e.progress.lines
+    → Shares d.settings piece (reading 0 d.progress.lines d.progress.moments) (reading (length piece) e.progress.lines e.progress.moments) refused d.taken e.taken
+    → (last : Bool) → Reaches d piece (length piece) last e
+reaches_shares d e piece refused can same calm stays refusals has x last =
+    let left_is : e.progress.left ≡ left.Lines = stays ∙ can.between.left in
+    record {
+      same = same;
+      at = record {
+        within = omega arith;
+        can = subst (λ (l : Left). CanGive l last (length piece - length piece) e.progress.lines) (sym left_is)
+            (record { free = has.free; going = has.going; room = omega (arith, has.room) });
+      };
+      calm = calm;
+      events = x.1.events;
+      gives = λ bytes given is. subst (λ (l : Left). Gave l (bytes ++ take (length piece) piece) (given ++ x.1.events) e.progress.lines e.progress.moments) (sym left_is)
+          (x.1.gives bytes given (follows_front bytes piece given d.progress can.between is));
+      refusals = refusals ∙ ap (λ (b : Bool). d.progress.any_refused || b) x.1.refusals;
+      taken = record { text = x.0; is = x.1.texts; taken = x.2 };
+    }
+
+-- the sink failed within their texts
+pub breaks_fails : (d e : Desk) (piece : Bytes) → CanReport d (length piece) → HasRisen d.faults e.faults → d.faults ≤ e.faults
+    → Fails d.settings piece (reading 0 d.progress.lines d.progress.moments) d.taken e.taken → (last : Bool) → Breaks d piece last e
+breaks_fails d e piece can risen later x last = record {
+  risen = risen;
+  later = later;
+  events = x.events;
+  begins = λ bytes given is. given_first bytes piece x.upto.done left.Lines last (given ++ x.events) x.upto.lines x.upto.moments x.within x.can
+      (x.gives bytes given (follows_front bytes piece given d.progress can.between is));
+  stops = x.stops;
+}
 
 -- ---- pieces put together
 
@@ -115,7 +171,7 @@ module _ {T X : Type 0} (takes : T → Bytes → Bool → T → Type 0) (name : 
 
 -- what it holds: the tools, the engine, the sink, how far the report has come, and the events that wait
 abbrev pub Held : Type 0 → Type 0 → Type 0 → Type 0
-Held R K G = Calls (Bor (Tools R G) × MutBor Engine × MutBor K × MutBor Progress × MutBor Batch)
+Held R K G = Calls (Bor (Tools R G) × MutBor Engine × MutBor K × MutBor Progress × MutBor (Option Batch))
 
 abbrev pub held_desk : {R K G : Type 0} → (K → ToldBytes) → (K → ℕ) → Held R K G → Desk
 held_desk taken faults t = desk t.call.1.now.settings t.call.3.now (taken t.call.2.now) (faults t.call.2.now)

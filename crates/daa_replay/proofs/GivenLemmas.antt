@@ -35,7 +35,7 @@ module _ (bytes piece : Bytes) (done : ℕ) where
   whole : done ≤ length piece → length piece - done ≡ 0 → fed ≡ bytes ++ piece
   whole within none = ap (λ (b : Bytes). bytes ++ b) (take_all done piece (omega (arith, none)))
 
-  given_first : (left : Left) (last : Bool) (given : List Event) (lines : LinesState) (moments : MomentsState) → done ≤ length piece
+  pub given_first : (left : Left) (last : Bool) (given : List Event) (lines : LinesState) (moments : MomentsState) → done ≤ length piece
       → CanGive left last (length piece - done) lines → Gave left fed given lines moments → IsFront given (events_of (bytes ++ piece) last)
   given_first left.Lines last given lines moments within can g =
       let now = given_begins fed given lines moments g in
@@ -51,7 +51,7 @@ module _ (bytes piece : Bytes) (done : ℕ) where
       → IsFront given (events_of (bytes ++ piece) last)
   first_of last given p at g = given_first p.left last given p.lines p.moments at.within at.can g
 
-as_left : (bytes : Bytes) (given : List Event) (p : Progress) (l : Left) → p.left ≡ l → IsGiven bytes given p → Gave l bytes given p.lines p.moments
+pub as_left : (bytes : Bytes) (given : List Event) (p : Progress) (l : Left) → p.left ≡ l → IsGiven bytes given p → Gave l bytes given p.lines p.moments
 as_left bytes given p l e g = subst (λ (x : Left). Gave x bytes given p.lines p.moments) e g
 
 pub given_as : (b c : Bytes) (g h : List Event) (p : Progress) → b ≡ c → g ≡ h → IsGiven b g p → IsGiven c h p

@@ -3,6 +3,7 @@ pub mod FollowsLemmas
 pub mod GivenLemmas
 pub mod TextLemmas
 pub mod ReportLemmas
+pub mod PlaceLemmas
 pub mod BatchLemmas
 pub mod DeskLemmas
 pub mod ReplayLemmas

@@ -1,87 +1,74 @@
-//! Events that wait, and their texts, which the workers make side by side.
+//! The moments of one read, which the workers cut out of it and decide side by side.
 
-ghost use Rattle.std.specs.Prelude.{◌≡◌, ◌≤◌, ◌<◌, ◌++◌, ◌∷◌, List, [], All, IfOk, IfSome, OnErr, OnOk, Some, None, IfNone, true, false, length, take};
-ghost use Rattle.daa_ahead.specs.Bytes.{ToldBytes};
+ghost use Rattle.std.specs.Prelude.{◌≡◌, ◌≤◌, ◌<◌, ◌-◌, ◌++◌, All, IfNone, IfOk, IfSome, OnErr, OnOk, Some, true, false, length};
 ghost use Rattle.daa_config.specs.Settings.{Settings};
+ghost use Rattle.daa_lines.specs.LinesOf.{Bytes};
+ghost use Rattle.daa_state.specs.InRange.{IsFormat};
 ghost use Rattle.daa_report.specs.Says.{HasCause, SaysSome};
-ghost use Rattle.daa_replay.specs.declared.lines.Event.{Event};
 ghost use Rattle.daa_replay.specs.Lines.{IsEventInRange};
 ghost use Rattle.daa_replay.specs.Moment.{IsEventText};
-ghost use Rattle.daa_replay.specs.Inside.Batch.{AddsText, AddsTexts, HasTexts, IsFilled, IsPart, MovesOn, StopsWithin, TakesTexts};
+ghost use Rattle.daa_replay.specs.Inside.Batch.{AddsText, AddsTexts, Fails, HasTexts, IsFilled, IsPart, Shares};
+ghost use Rattle.daa_replay.specs.Inside.Events.{HasLines};
+ghost use Rattle.daa_replay.specs.Inside.Place.{HasLast, IsPlace, reading, reading_at};
 
+use crate::events::{any_refusal, either, next_of_lines};
 use crate::lines::Event;
-use crate::moment::{Tools, write_event, write_refusal};
+use crate::moment::{Tools, write_event_alone, write_refusal};
+use crate::place::{Place, place_after, place_in_front};
 use daa_bands::Board;
 use daa_config::Config;
-use daa_engine::{Engine, Room, Tickets, weight_of, workers_for};
+use daa_engine::{Engine, Room, Tickets, workers_for};
 use daa_judge::Sheet;
+use daa_lines::Lines;
 use daa_outside::{Gate, Sink};
 use daa_report::{SinkFault, put};
+use daa_state::{Moments, Word, read_line};
 use std::alloc::Global;
 use std::thread;
 use std::thread::Threads;
 
-/// How many events wait at most. They take some 7 MB.
-const MOST_EVENTS: usize = 2048;
-
 /// How many bytes the sheets of all lanes have together, as far as each has more than it needs.
-const SHEETS: usize = 1 << 21;
+const SHEETS: usize = 1 << 22;
 
 /// How many bytes a sheet has at least: room for the text of any event.
 const LEAST_SHEET: usize = 130177;
 
-/// How many events a chunk has at most, which a worker takes at once.
-const MOST_IN_CHUNK: usize = 8;
+/// How many bytes a stretch has, which a worker takes at once, before it ends with a moment: those
+/// of a few moments.
+const STRETCH: usize = 2048;
 
-/// How many chunks there are at least for each worker, where there are enough events.
-const CHUNKS_EACH: usize = 16;
+/// How many stretches there are at least for each worker, where there are enough moments.
+const STRETCHES_EACH: usize = 16;
 
-/// How many parts a lane has at most: as many as there are chunks.
-const MOST_PARTS: usize = MOST_EVENTS / MOST_IN_CHUNK;
+/// How many stretches the workers share at a time at most.
+const MOST_STRETCHES: usize = 512;
 
 /// A part of a sheet: its bytes from `start` up to `end` are the texts of the events from one place
-/// up to another.
+/// of a piece to another, of which some is a refusal or none.
 #[derive(Clone, Copy)]
 pub(crate) struct Part {
-    pub(crate) from: usize,
-    pub(crate) upto: usize,
+    pub(crate) from: Place,
+    pub(crate) upto: Place,
+    pub(crate) refused: bool,
     pub(crate) start: usize,
     pub(crate) end: usize,
 }
 
-/// The text of a part, and up to which event it goes.
+/// The text of a part, from which place to which it goes, and whether some of its events is a
+/// refusal.
 #[derive(Clone, Copy)]
-pub(crate) struct Piece<'a> {
+pub(crate) struct Stretch<'a> {
     pub(crate) text: &'a [u8],
-    pub(crate) upto: usize,
+    pub(crate) from: Place,
+    pub(crate) upto: Place,
+    pub(crate) refused: bool,
 }
 
-/// The chunks of events that no worker has taken: each has so many events, and the first begins at
-/// a place.
-#[derive(Drop)]
-struct Chunks {
-    tickets: Tickets,
-    begin: usize,
-    size: usize,
-}
-
-impl Chunks {
-    /// No worker has taken one of the chunks of the events from a place on.
-    fn new(events: &[Event], begin: usize, workers: usize) -> Chunks {
-        let left = events.len().saturating_sub(begin);
-        let most = workers.saturating_mul(CHUNKS_EACH).max(1);
-        Chunks {
-            tickets: Tickets::new(),
-            begin,
-            size: (left / most).max(1).min(MOST_IN_CHUNK),
-        }
-    }
-
-    /// Takes the next chunk: the place of its first event.
-    fn draw(&self) -> usize {
-        self.begin
-            .saturating_add(self.tickets.draw().saturating_mul(self.size))
-    }
+/// Up to which place texts were made or written, and whether some of their events is a refusal.
+#[derive(Clone, Copy)]
+pub(crate) struct Reach {
+    pub(crate) upto: Place,
+    pub(crate) refused: bool,
 }
 
 /// What a worker needs: its number, room to decide in, a board and a sheet of so many bytes, and
@@ -98,11 +85,18 @@ pub(crate) struct Lane {
     most: usize,
 }
 
-/// The events that wait, and a lane for each worker. Without a lane none waits.
+/// A lane for each worker, and the places at which stretches of a piece begin and end, as far as was
+/// guessed. The lanes were filled up to the byte `tried` of the piece.
 #[derive(Drop)]
 pub(crate) struct Batch {
-    pub(crate) events: Vec<Event>,
     pub(crate) lanes: Vec<Lane>,
+    places: Vec<Place>,
+    tried: usize,
+}
+
+/// The unit of a moment, by which its worker passes the gate: the number of its last line.
+fn unit_of(lines: &Lines) -> u32 {
+    lines.number().min(u32::MAX as u64) as u32
 }
 
 impl Lane {
@@ -112,7 +106,7 @@ impl Lane {
         let size = sheet.max(LEAST_SHEET);
         let room = Room::new(alloc).ok()?;
         let sheet = Sheet::with_room(alloc, size).ok()?;
-        let parts = Vec::with_capacity(alloc, MOST_PARTS).ok()?;
+        let parts = Vec::with_capacity(alloc, MOST_STRETCHES).ok()?;
         Some(Lane {
             number,
             room,
@@ -157,74 +151,122 @@ impl Lane {
         ensures kept { result ≡ false → self.new.sheet.text ≡ self.old.sheet.text }
         ensures parts { self.new.parts.items ≡ self.old.parts.items }
     {
-        let before = self.sheet.text().len();
+        let written = self.sheet.text().len();
         match self.say(config, event, unit, gate) {
             Ok(()) => true,
             Err(_) => {
-                self.sheet.cut(before);
+                self.sheet.cut(written);
                 false
             }
         }
     }
 
-    /// Adds the texts of the events from one place up to another to the sheet, as far as there is
-    /// room. Returns up to which event they are there.
-    fn add_all<G: Gate>(
+    /// Reads the lines of a piece from a place on, up to the end of a moment, and adds the texts of
+    /// their events to the sheet. It adds none if there is no room for all, or if no moment ends
+    /// before the byte `until`.
+    fn add_moment<G: Gate>(
         &mut self,
         config: &Config,
-        events: &[Event],
-        from: usize,
-        upto: usize,
+        piece: &[u8],
+        from: Place,
+        until: usize,
+        lines: &mut Lines,
+        moments: &mut Moments,
         gate: &G,
-    ) -> usize
-        requires { All IsEventInRange events.now }
-        ensures added { AddsTexts config.now events.now from result self.old.sheet.text
-            self.new.sheet.text }
+    ) -> Option<Reach>
+        requires there { IsPlace piece.now from }
+        requires stands { reading from.done lines.old moments.old ≡ reading_at from }
+        ensures added { IfSome result (λ reach. AddsTexts config.now piece.now (reading_at from)
+            (reading_at reach.upto) reach.refused self.old.sheet.text self.new.sheet.text) }
+        ensures stands { IfSome result (λ reach.
+            reading reach.upto.done lines.new moments.new ≡ reading_at reach.upto) }
+        ensures there { IfSome result (λ reach. IsPlace piece.now reach.upto) }
+        ensures further { IfSome result (λ reach. from.done < reach.upto.done) }
+        ensures kept { IfNone result (self.new.sheet.text ≡ self.old.sheet.text) }
         ensures parts { self.new.parts.items ≡ self.old.parts.items }
     {
-        let mut end = from;
-        let upto = upto.min(events.len());
-        for place in from..upto {
-            if !self.add(config, &events[place], place.min(MOST_EVENTS) as u32, gate) {
-                return end;
+        let before = self.sheet.text().len();
+        let mut done = from.done;
+        let mut refused = false;
+        while done < until && done < piece.len() {
+            if let Some(event) = next_of_lines(lines, moments, piece, &mut done) {
+                if !self.add(config, &event, unit_of(lines), gate) {
+                    self.sheet.cut(before);
+                    return None;
+                }
+                refused = any_refusal(refused, &event);
+                if let Some(upto) = place_behind(lines, moments, &event, done) {
+                    return Some(Reach { upto, refused });
+                }
             }
-            end = place + 1;
         }
-        end
+        self.sheet.cut(before);
+        None
+    }
+
+    /// Adds the texts of the events from one place up to another to the sheet, as far as there is
+    /// room. Returns up to which place they are there.
+    fn add_moments<G: Gate>(
+        &mut self,
+        config: &Config,
+        piece: &[u8],
+        from: Place,
+        until: usize,
+        gate: &G,
+    ) -> Reach
+        requires { IsPlace piece.now from }
+        ensures added { AddsTexts config.now piece.now (reading_at from) (reading_at result.upto)
+            result.refused self.old.sheet.text self.new.sheet.text }
+        ensures there { IsPlace piece.now result.upto }
+        ensures parts { self.new.parts.items ≡ self.old.parts.items }
+    {
+        let mut lines = from.lines();
+        let mut moments = from.moments();
+        let mut reach = Reach {
+            upto: from,
+            refused: false,
+        };
+        while reach.upto.done < until {
+            let upto = reach.upto;
+            match self.add_moment(config, piece, upto, until, &mut lines, &mut moments, gate) {
+                Some(next) => {
+                    reach = Reach {
+                        upto: next.upto,
+                        refused: either(reach.refused, next.refused),
+                    };
+                }
+                None => return reach,
+            }
+        }
+        reach
     }
 
     /// Notes a part of the sheet, if it has an event, and if there is room for it.
     fn note(&mut self, part: Part)
-        ensures { (settings : Settings) (events : List Event)
-            → IsFilled settings events self.old → IsPart settings events self.old.sheet.text part
-            → IsFilled settings events self.new }
+        ensures { (settings : Settings) (piece : Bytes)
+            → IsFilled settings piece self.old → IsPart settings piece self.old.sheet.text part
+            → IsFilled settings piece self.new }
     {
-        if part.from < part.upto && self.parts.len() < self.parts.capacity() {
+        if part.from.done < part.upto.done && self.parts.len() < self.parts.capacity() {
             self.parts.push_reserved(part);
         }
     }
 
     /// Writes the texts of the events from one place up to another on the sheet, behind its other
     /// parts, as far as there is room.
-    fn write<G: Gate>(
-        &mut self,
-        config: &Config,
-        events: &[Event],
-        from: usize,
-        upto: usize,
-        gate: &G,
-    )
-        requires range { All IsEventInRange events.now }
-        requires filled { IsFilled config.now events.now self.old }
-        ensures { IsFilled config.now events.now self.new }
+    fn write<G: Gate>(&mut self, config: &Config, piece: &[u8], from: Place, until: usize, gate: &G)
+        requires there { IsPlace piece.now from }
+        requires filled { IsFilled config.now piece.now self.old }
+        ensures { IsFilled config.now piece.now self.new }
     {
         let start = self.sheet.text().len();
-        let upto = self.add_all(config, events, from, upto, gate);
+        let reach = self.add_moments(config, piece, from, until, gate);
         let end = self.sheet.text().len();
         self.most = self.most.max(end.saturating_sub(start));
         self.note(Part {
             from,
-            upto,
+            upto: reach.upto,
+            refused: reach.refused,
             start,
             end,
         });
@@ -236,45 +278,52 @@ impl Lane {
         self.most.saturating_mul(2) <= left
     }
 
-    /// Takes chunks, one after the other, and writes the texts of their events on the sheet, while
-    /// it has room and no other worker has taken them.
-    fn fill<G: Gate>(&mut self, config: &Config, events: &[Event], chunks: &Chunks, gate: &G)
-        requires { All IsEventInRange events.now }
-        ensures { IsFilled config.now events.now self.new }
+    /// Takes stretches between two of the places, one after the other, and writes the texts of
+    /// their events on the sheet, while it has room and no other worker has taken them.
+    fn fill<G: Gate>(
+        &mut self,
+        config: &Config,
+        piece: &[u8],
+        places: &[Place],
+        tickets: &Tickets,
+        gate: &G,
+    )
+        ensures { IsFilled config.now piece.now self.new }
     {
         self.sheet.clear();
         self.parts.clear();
         self.most = 0;
-        for _ in 0..MOST_PARTS {
+        for _ in 0..MOST_STRETCHES {
             if !self.has_room() {
                 return;
             }
-            let from = chunks.draw();
-            if events.len() <= from {
+            let ticket = tickets.draw();
+            let Some([from, upto]) = places.get(ticket..ticket.saturating_add(2)) else {
                 return;
+            };
+            if from.is_in(piece) {
+                self.write(config, piece, *from, upto.done, gate);
             }
-            self.write(config, events, from, from.saturating_add(chunks.size), gate);
         }
     }
 
-    /// The part that begins with the event at a place, if the sheet has it.
-    fn piece_from(&self, from: usize) -> Option<Piece<'_>>
-        ensures { (settings : Settings) (events : List Event) → IsFilled settings events self.now
+    /// The part that begins behind so many bytes, if the sheet has it.
+    fn part_from(&self, done: usize) -> Option<Stretch<'_>>
+        ensures { (settings : Settings) (piece : Bytes) → IsFilled settings piece self.now
             → IfSome result
-            (λ piece. HasTexts settings events from piece.upto piece.text.now) }
+            (λ part. HasTexts settings piece part.from part.upto part.refused part.text.now) }
     {
         let parts = self.parts.as_slice();
         let place = parts
-            .binary_search_by_key(&from, |part: &Part| part.from)
+            .binary_search_by_key(&done, |part: &Part| part.from.done)
             .ok()?;
         let part = parts[place];
-        if part.from != from {
-            return None;
-        }
         let text = self.sheet.text().get(part.start..part.end)?;
-        Some(Piece {
+        Some(Stretch {
             text,
+            from: part.from,
             upto: part.upto,
+            refused: part.refused,
         })
     }
 }
@@ -290,60 +339,40 @@ fn lanes_in(alloc: Global, workers: u32) -> Option<Vec<Lane>> {
     Some(lanes)
 }
 
-impl Batch {
-    /// No event waits, and none ever does.
-    fn narrow(alloc: Global) -> Batch
-        ensures { result.events.items ≡ [] }
-    {
-        Batch {
-            events: Vec::new(alloc),
-            lanes: Vec::new(alloc),
-        }
+/// A batch for these workers, if there is more than one, and memory for it.
+pub(crate) fn batch_in(alloc: Global, workers: u32) -> Option<Batch> {
+    if workers < 2 {
+        return None;
     }
+    let lanes = lanes_in(alloc, workers)?;
+    let places = Vec::with_capacity(alloc, MOST_STRETCHES + 1).ok()?;
+    Some(Batch {
+        lanes,
+        places,
+        tried: 0,
+    })
+}
 
-    /// No event waits. Where there is more than one worker, and memory for their lanes, some may.
-    pub(crate) fn new(alloc: Global, workers: u32) -> Batch
-        ensures { result.events.items ≡ [] }
-    {
-        if workers < 2 {
-            return Batch::narrow(alloc);
-        }
-        let Some(lanes) = lanes_in(alloc, workers) else {
-            return Batch::narrow(alloc);
-        };
-        match Vec::with_capacity(alloc, MOST_EVENTS) {
-            Ok(events) => Batch { events, lanes },
-            Err(_) => Batch::narrow(alloc),
-        }
-    }
-
-    /// No event waits any more.
-    pub(crate) fn clear(&mut self)
-        ensures { self.new.events.items ≡ [] }
-    {
-        self.events.clear();
-    }
-
-    /// Adds an event; returns it if there is no room for one.
-    fn hold(&mut self, event: Event) -> Option<Event>
-        ensures held { IfNone result
-            (self.new.events.items ≡ self.old.events.items ++ event ∷ []) }
-        ensures full { IfSome result (λ same. same ≡ event) }
-        ensures kept { IfSome result (λ same. self.new.events.items ≡ self.old.events.items) }
-    {
-        if self.events.len() < self.events.capacity() {
-            self.events.push_reserved(event);
-            return None;
-        }
-        Some(event)
+/// The place behind an event, if it is an ended moment.
+fn place_behind(lines: &Lines, moments: &Moments, event: &Event, done: usize) -> Option<Place>
+    requires last { HasLast event.now moments.now }
+    requires going { lines.now.ended ≡ false }
+    ensures stands { IfSome result
+        (λ place. reading done lines.now moments.now ≡ reading_at place) }
+    ensures counted { IfSome result (λ place. place.number ≤ place.fed) }
+    ensures format { IfSome result (λ place. IsFormat place.format) }
+{
+    match event {
+        Event::Ended(picture) => place_after(lines, moments, picture.time, done),
+        Event::Refused(_, _) => None,
     }
 }
 
-/// Whether more than one event is an ended moment.
-fn has_pictures(events: &[Event]) -> bool {
+/// Whether more than one moment seems to end in a piece: two of its lines begin with `end`.
+pub(crate) fn has_moments(piece: &[u8]) -> bool {
     let mut found = false;
-    for event in events {
-        if matches!(event, Event::Ended(_)) {
+    for line in piece.split(|byte| *byte == b'\n') {
+        if matches!(line, [b'e', b'n', b'd', ..]) {
             if found {
                 return true;
             }
@@ -353,250 +382,268 @@ fn has_pictures(events: &[Event]) -> bool {
     false
 }
 
-/// How much work an event is, beside that of others: of a moment by the number of its aircraft.
-fn weight_in(event: &Event) -> usize {
-    match event {
-        Event::Refused(_, _) => 1,
-        Event::Ended(picture) => weight_of(picture),
+/// The format that a line sets, and else this one.
+fn format_by(line: &[u8], format: u32) -> u32 {
+    match read_line(line, 1) {
+        Ok(Word::Format(format)) => format,
+        _ => format,
     }
 }
 
-/// The weight of the events from a place on.
-fn weight_from(events: &[Event], from: usize) -> usize {
-    let mut sum = 0usize;
-    for place in from..events.len() {
-        sum = sum.saturating_add(weight_in(&events[place]));
+/// The time of the moment that a line begins, and else this one.
+fn time_by(line: &[u8], last: Option<u32>) -> Option<u32> {
+    match read_line(line, 1) {
+        Ok(Word::Moment(time)) => Some(time),
+        _ => last,
     }
-    sum
 }
 
-/// The workers write the texts of the events from a place on upon their sheets, side by side: each
-/// takes the next chunk as soon as it is free.
+/// Guesses places between moments: the given one, and behind it one each so many bytes or more. It
+/// looks at the first letters of lines alone, and so no clause says that it is right: where it is
+/// not, the texts that the workers make from a place on are not used.
+fn guess_places(places: &mut Vec<Place>, piece: &[u8], from: Place, size: usize) {
+    places.clear();
+    let mut place = from;
+    let mut begin = from.done;
+    let mut moment: &[u8] = &[];
+    push_place(places, place);
+    for line in rest_of(piece, from.done).split(|byte| *byte == b'\n') {
+        let length = line.len().saturating_add(1);
+        place.done = place.done.saturating_add(length);
+        place.fed = place.fed.saturating_add(length as u64);
+        place.number = place.number.saturating_add(1);
+        if piece.len() < place.done || places.capacity() <= places.len() {
+            return;
+        }
+        match line {
+            [b'm', ..] => moment = line,
+            [b'f', ..] => place.format = format_by(line, place.format),
+            [b'e', ..] if size <= place.done.saturating_sub(begin) => {
+                place.last = time_by(moment, place.last);
+                push_place(places, place);
+                begin = place.done;
+            }
+            _ => (),
+        }
+    }
+}
+
+/// Adds a place, if there is room.
+fn push_place(places: &mut Vec<Place>, place: Place) {
+    if places.len() < places.capacity() {
+        places.push_reserved(place);
+    }
+}
+
+/// The bytes of a piece from one on.
+fn rest_of(piece: &[u8], done: usize) -> &[u8] {
+    piece.get(done..).unwrap_or(&[])
+}
+
+/// The workers write the texts of the events between the places upon their sheets, side by side:
+/// each takes the next stretch as soon as it is free.
 fn fill_lanes<R: Threads + Sync, G: Gate>(
     tools: &Tools<'_, R, G>,
     config: &Config,
     lanes: &mut [Lane],
-    events: &[Event],
-    done: usize,
+    piece: &[u8],
+    places: &[Place],
+    tickets: &Tickets,
+    workers: usize,
 )
-    requires some { 1 ≤ length lanes.old }
-    requires range { All IsEventInRange events.now }
-    ensures { All (IsFilled config.now events.now) lanes.new }
+    requires { 0 < workers }
+    ensures { All (IsFilled config.now piece.now) lanes.new }
 {
-    let count = lanes.len();
-    let chunks = &Chunks::new(events, done, count);
     let gate = tools.gate;
     thread::for_each_mut(
         tools.rt,
         lanes,
-        count,
+        workers,
         &|_number: usize, lane: &mut Lane|
-            requires { All IsEventInRange events.now }
-            ensures { IsFilled config.entry.now events.entry.now lane.exit.now }
-        { lane.fill(config, events, chunks, gate) },
+            ensures { IsFilled config.entry.now piece.entry.now lane.exit.now }
+        { lane.fill(config, piece, places, tickets, gate) },
     );
 }
 
-/// The part that begins with the event at a place, if a sheet has it.
-fn piece_from<'a>(lanes: &'a [Lane], from: usize) -> Option<Piece<'a>>
-    ensures { (settings : Settings) (events : List Event) → All (IsFilled settings events) lanes.now
-        → IfSome result (λ piece. HasTexts settings events from piece.upto piece.text.now) }
+/// No lane has a part of another piece any more.
+fn clear_lanes<R: Threads + Sync, G: Gate>(
+    tools: &Tools<'_, R, G>,
+    config: &Config,
+    batch: &mut Batch,
+    piece: &[u8],
+)
+    ensures { All (IsFilled config.now piece.now) batch.new.lanes.items }
+{
+    let lanes = batch.lanes.as_mut_slice();
+    fill_lanes(tools, config, lanes, piece, &[], &Tickets::new(), 1);
+    batch.tried = 0;
+}
+
+/// How many bytes a stretch has, where so many are left for so many workers.
+fn stretch_size(left: usize, workers: usize) -> usize {
+    let most = workers.saturating_mul(STRETCHES_EACH).max(1);
+    (left / most).min(STRETCH)
+}
+
+/// Has the lanes filled from a place on, if they were not by now.
+fn fill_from<R: Threads + Sync, G: Gate>(
+    tools: &Tools<'_, R, G>,
+    config: &Config,
+    batch: &mut Batch,
+    piece: &[u8],
+    from: Place,
+)
+    requires { All (IsFilled config.now piece.now) batch.old.lanes.items }
+    ensures { All (IsFilled config.now piece.now) batch.new.lanes.items }
+{
+    if from.done < batch.tried {
+        return;
+    }
+    let all = batch.lanes.len().max(1);
+    let size = stretch_size(piece.len().saturating_sub(from.done), all);
+    guess_places(&mut batch.places, piece, from, size);
+    let places = batch.places.as_slice();
+    let last = match places {
+        [_, .., last] => *last,
+        _ => {
+            batch.tried = piece.len();
+            return;
+        }
+    };
+    let lines = last.number.saturating_sub(from.number) as usize;
+    let workers = workers_for(config, lines, all);
+    let tickets = Tickets::new();
+    let lanes = batch.lanes.as_mut_slice();
+    fill_lanes(tools, config, lanes, piece, places, &tickets, workers);
+    batch.tried = match places.get(tickets.draw()) {
+        Some(place) => place.done,
+        None => last.done,
+    };
+}
+
+/// The part that begins behind so many bytes, if a sheet has it.
+fn part_from<'a>(lanes: &'a [Lane], done: usize) -> Option<Stretch<'a>>
+    ensures { (settings : Settings) (piece : Bytes) → All (IsFilled settings piece) lanes.now
+        → IfSome result
+        (λ part. HasTexts settings piece part.from part.upto part.refused part.text.now) }
 {
     for place in 0..lanes.len() {
-        if let Some(piece) = lanes[place].piece_from(from) {
-            return Some(piece);
+        if let Some(part) = lanes[place].part_from(done) {
+            return Some(part);
         }
     }
     None
 }
 
-/// Writes the texts on the sheets to the sink in the order of the events, where the first `done`
-/// are written, up to the first event that is on no sheet. Returns how many events are written
-/// then.
-fn write_lanes<K: Sink>(
-    sink: &mut K,
-    config: &Config,
-    lanes: &[Lane],
-    events: &[Event],
-    done: usize,
-) -> Result<usize, SinkFault>
-    requires filled { All (IsFilled config.now events.now) lanes.now }
-    ensures ok { IfOk result (λ upto. (first : ToldBytes)
-        → TakesTexts config.now (take done events.now) first (K.taken sink.old)
-        → TakesTexts config.now (take upto events.now) first (K.taken sink.new)) }
-    ensures err { OnErr result ((first : ToldBytes)
-        → TakesTexts config.now (take done events.now) first (K.taken sink.old)
-        → StopsWithin config.now events.now first (K.taken sink.new)) }
-    ensures cause { HasCause (K.faults sink.old) (K.faults sink.new) result }
-{
-    let mut upto = done;
-    for _ in done..events.len() {
-        let Some(piece) = piece_from(lanes, upto) else {
-            return Ok(upto);
-        };
-        put(sink, piece.text)?;
-        upto = piece.upto;
-    }
-    Ok(upto)
-}
-
-/// Writes the texts of further events by the lanes, as far as their sheets have room. The first
-/// `done` are written. Returns how many are written then.
-fn write_round<R: Threads + Sync, K: Sink, G: Gate>(
+/// Writes the texts on the sheets to the sink, in the order of the events, from a place on up to the
+/// first one at which no part begins. The lanes are filled on the way.
+fn write_parts<R: Threads + Sync, K: Sink, G: Gate>(
     tools: &Tools<'_, R, G>,
     config: &Config,
-    sink: &mut K,
-    lanes: &mut [Lane],
-    events: &[Event],
-    done: usize,
-) -> Result<usize, SinkFault>
-    requires some { 1 ≤ length lanes.old }
-    requires range { All IsEventInRange events.now }
-    ensures same_size { length lanes.new ≡ length lanes.old }
-    ensures ok { IfOk result (λ upto. (first : ToldBytes)
-        → TakesTexts config.now (take done events.now) first (K.taken sink.old)
-        → TakesTexts config.now (take upto events.now) first (K.taken sink.new)) }
-    ensures err { OnErr result ((first : ToldBytes)
-        → TakesTexts config.now (take done events.now) first (K.taken sink.old)
-        → StopsWithin config.now events.now first (K.taken sink.new)) }
-    ensures cause { HasCause (K.faults sink.old) (K.faults sink.new) result }
-{
-    let weight = weight_from(events, done);
-    let count = workers_for(config, weight, lanes.len());
-    let used = &mut lanes[..count];
-    fill_lanes(tools, config, used, events, done);
-    write_lanes(sink, config, used, events, done)
-}
-
-/// Writes the texts of the first events by the lanes, if they are used: round after round, while
-/// one writes a text. Returns how many events these are.
-fn write_side_by_side<R: Threads + Sync, K: Sink, G: Gate>(
-    tools: &Tools<'_, R, G>,
-    config: &Config,
-    sink: &mut K,
-    lanes: &mut [Lane],
-    events: &[Event],
-) -> Result<usize, SinkFault>
-    requires range { All IsEventInRange events.now }
-    ensures ok { IfOk result (λ done. TakesTexts config.now (take done events.now)
-        (K.taken sink.old) (K.taken sink.new)) }
-    ensures err { OnErr result (StopsWithin config.now events.now
-        (K.taken sink.old) (K.taken sink.new)) }
-    ensures cause { HasCause (K.faults sink.old) (K.faults sink.new) result }
-{
-    let mut done = 0;
-    if lanes.is_empty() || !has_pictures(events) {
-        return Ok(done);
-    }
-    while done < events.len() {
-        let upto = write_round(tools, config, sink, lanes, events, done)?;
-        if upto <= done {
-            return Ok(upto);
-        }
-        done = upto;
-    }
-    Ok(done)
-}
-
-/// Writes the texts of all events but the first `done`, one after the other.
-fn write_rest<R: Threads + Sync, K: Sink, G: Gate>(
-    tools: &Tools<'_, R, G>,
-    engine: &mut Engine,
-    sink: &mut K,
-    events: &[Event],
-    done: usize,
-) -> Result<(), SinkFault>
-    requires range { All IsEventInRange events.now }
-    ensures same { engine.new.settings ≡ engine.old.settings }
-    ensures ok { OnOk result ((settings : Settings) (first : ToldBytes)
-        → engine.old.settings ≡ settings
-        → TakesTexts settings (take done events.now) first (K.taken sink.old)
-        → TakesTexts settings events.now first (K.taken sink.new)) }
-    ensures err { OnErr result ((settings : Settings) (first : ToldBytes)
-        → engine.old.settings ≡ settings
-        → TakesTexts settings (take done events.now) first (K.taken sink.old)
-        → StopsWithin settings events.now first (K.taken sink.new)) }
-    ensures cause { HasCause (K.faults sink.old) (K.faults sink.new) result }
-{
-    for place in done..events.len() {
-        write_event(tools, engine, sink, &events[place])?;
-    }
-    Ok(())
-}
-
-/// Writes the texts of events: by the workers side by side if more than one moment is among them.
-fn write_events<R: Threads + Sync, K: Sink, G: Gate>(
-    tools: &Tools<'_, R, G>,
-    engine: &mut Engine,
-    sink: &mut K,
-    lanes: &mut [Lane],
-    events: &[Event],
-) -> Result<(), SinkFault>
-    requires range { All IsEventInRange events.now }
-    ensures same { engine.new.settings ≡ engine.old.settings }
-    ensures ok { OnOk result (TakesTexts engine.old.settings events.now (K.taken sink.old)
-        (K.taken sink.new)) }
-    ensures err { OnErr result (StopsWithin engine.old.settings events.now (K.taken sink.old)
-        (K.taken sink.new)) }
-    ensures cause { HasCause (K.faults sink.old) (K.faults sink.new) result }
-{
-    let done = write_side_by_side(tools, engine.config(), sink, lanes, events)?;
-    write_rest(tools, engine, sink, events, done)
-}
-
-/// Writes the texts of the events that wait. None waits when it returns.
-pub(crate) fn write_batch<R: Threads + Sync, K: Sink, G: Gate>(
-    tools: &Tools<'_, R, G>,
-    engine: &mut Engine,
     sink: &mut K,
     batch: &mut Batch,
-) -> Result<(), SinkFault>
-    requires range { All IsEventInRange batch.old.events.items }
-    ensures empty { batch.new.events.items ≡ [] }
-    ensures same { engine.new.settings ≡ engine.old.settings }
-    ensures ok { OnOk result (TakesTexts engine.old.settings batch.old.events.items
-        (K.taken sink.old) (K.taken sink.new)) }
-    ensures err { OnErr result (StopsWithin engine.old.settings batch.old.events.items
-        (K.taken sink.old) (K.taken sink.new)) }
-    ensures cause { HasCause (K.faults sink.old) (K.faults sink.new) result }
-{
-    let result = write_events(
-        tools,
-        engine,
-        sink,
-        batch.lanes.as_mut_slice(),
-        batch.events.as_slice(),
-    );
-    batch.clear();
-    result
-}
-
-/// Lets an event wait, behind the events that wait already. If there is no room, the waiting events
-/// are written first; if there is still none, the event is written too.
-pub(crate) fn hold_event<R: Threads + Sync, K: Sink, G: Gate>(
-    tools: &Tools<'_, R, G>,
-    engine: &mut Engine,
-    sink: &mut K,
-    batch: &mut Batch,
-    event: Event,
-) -> Result<(), SinkFault>
-    requires range { All IsEventInRange batch.old.events.items }
-    requires event { IsEventInRange event }
-    ensures range { All IsEventInRange batch.new.events.items }
-    ensures same { engine.new.settings ≡ engine.old.settings }
-    ensures ok { OnOk result (MovesOn engine.old.settings
-        (batch.old.events.items ++ event ∷ []) batch.new.events.items (K.taken sink.old)
+    piece: &[u8],
+    from: Place,
+) -> Result<Reach, SinkFault>
+    requires there { IsPlace piece.now from }
+    requires filled { All (IsFilled config.now piece.now) batch.old.lanes.items }
+    ensures filled { All (IsFilled config.now piece.now) batch.new.lanes.items }
+    ensures ok { IfOk result (λ reach. Shares config.now piece.now (reading_at from)
+        (reading_at reach.upto) reach.refused (K.taken sink.old) (K.taken sink.new)) }
+    ensures there { IfOk result (λ reach. IsPlace piece.now reach.upto) }
+    ensures forward { IfOk result (λ reach. from.done ≤ reach.upto.done) }
+    ensures err { OnErr result (Fails config.now piece.now (reading_at from) (K.taken sink.old)
         (K.taken sink.new)) }
-    ensures err { OnErr result (StopsWithin engine.old.settings
-        (batch.old.events.items ++ event ∷ []) (K.taken sink.old) (K.taken sink.new)) }
     ensures cause { HasCause (K.faults sink.old) (K.faults sink.new) result }
 {
-    let Some(event) = batch.hold(event) else {
-        return Ok(());
+    let mut reach = Reach {
+        upto: from,
+        refused: false,
     };
-    write_batch(tools, engine, sink, batch)?;
-    match batch.hold(event) {
-        None => Ok(()),
-        Some(event) => write_event(tools, engine, sink, &event),
+    while reach.upto.done < piece.len() {
+        fill_from(tools, config, batch, piece, reach.upto);
+        let Some(part) = part_from(batch.lanes.as_slice(), reach.upto.done) else {
+            return Ok(reach);
+        };
+        if !part.from.is(&reach.upto) {
+            return Ok(reach);
+        }
+        if part.upto.done <= reach.upto.done {
+            return Ok(reach);
+        }
+        put(sink, part.text)?;
+        reach = Reach {
+            upto: part.upto,
+            refused: either(reach.refused, part.refused),
+        };
     }
+    Ok(reach)
+}
+
+/// Writes the text of an event, which the caller decides. It passes the gate as worker 0 before it
+/// decides a moment.
+fn write_here<K: Sink, G: Gate>(
+    gate: &G,
+    engine: &mut Engine,
+    sink: &mut K,
+    event: &Event,
+    unit: u32,
+) -> Result<(), SinkFault>
+    requires { IsEventInRange event.now }
+    ensures kept { engine.new.settings ≡ engine.old.settings }
+    ensures says { SaysSome (IsEventText engine.old.settings event.now) (K.taken sink.old)
+        (K.taken sink.new) (K.faults sink.old) (K.faults sink.new) result }
+{
+    if matches!(event, Event::Ended(_)) {
+        gate.pass(0, unit);
+    }
+    write_event_alone(engine, sink, event)
+}
+
+/// Writes the texts of the events that the lines of a piece give: the parts that the workers made,
+/// and what is in none of them, as the rest of a moment of which the piece before had the front.
+/// Returns whether some event is a refusal.
+pub(crate) fn write_together<R: Threads + Sync, K: Sink, G: Gate>(
+    tools: &Tools<'_, R, G>,
+    engine: &mut Engine,
+    sink: &mut K,
+    batch: &mut Batch,
+    lines: &mut Lines,
+    moments: &mut Moments,
+    piece: &[u8],
+) -> Result<bool, SinkFault>
+    requires { HasLines (length piece.now) lines.old }
+    ensures same { engine.new.settings ≡ engine.old.settings }
+    ensures lines { OnOk result (HasLines 0 lines.new) }
+    ensures ok { IfOk result (λ refused. Shares engine.old.settings piece.now
+        (reading 0 lines.old moments.old) (reading (length piece.now) lines.new moments.new)
+        refused (K.taken sink.old) (K.taken sink.new)) }
+    ensures err { OnErr result (Fails engine.old.settings piece.now
+        (reading 0 lines.old moments.old) (K.taken sink.old) (K.taken sink.new)) }
+    ensures cause { HasCause (K.faults sink.old) (K.faults sink.new) result }
+{
+    clear_lanes(tools, engine.config(), batch, piece);
+    let mut done = 0;
+    let mut refused = false;
+    let mut here = place_in_front(lines, moments);
+    while done < piece.len() {
+        match here {
+            Some(place) => {
+                let reach = write_parts(tools, engine.config(), sink, batch, piece, place)?;
+                refused = either(refused, reach.refused);
+                *lines = reach.upto.lines();
+                *moments = reach.upto.moments();
+                done = reach.upto.done;
+                here = None;
+            }
+            None => {
+                if let Some(event) = next_of_lines(lines, moments, piece, &mut done) {
+                    refused = any_refusal(refused, &event);
+                    write_here(tools.gate, engine, sink, &event, unit_of(lines))?;
+                    here = place_behind(lines, moments, &event, done);
+                }
+            }
+        }
+    }
+    Ok(refused)
 }

@@ -1,11 +1,12 @@
 //! The events of an input, one after the other, as its bytes come in pieces. A replay writes their
 //! texts, and a comparison compares them.
 
-ghost use Rattle.std.specs.Prelude.{◌≡◌, ◌<◌, ◌≤◌, ◌+◌, ◌-◌, ◌++◌, List, [], true, false, IfSome, length, take};
+ghost use Rattle.std.specs.Prelude.{◌≡◌, ◌<◌, ◌≤◌, ◌+◌, ◌-◌, ◌++◌, ◌||◌, List, [], true, false, IfSome, length, take};
 ghost use Rattle.daa_lines.specs.LinesOf.{Bytes};
 ghost use Rattle.daa_replay.specs.declared.lines.Event.{Event};
-ghost use Rattle.daa_replay.specs.Lines.{IsEventInRange, events_of};
+ghost use Rattle.daa_replay.specs.Lines.{IsEventInRange, events_of, is_refusal};
 ghost use Rattle.daa_replay.specs.Inside.Lines.{Follows, given_with};
+ghost use Rattle.daa_replay.specs.Inside.Place.{HasLast};
 ghost use Rattle.daa_replay.specs.Inside.Events.{CanGive, HasEnd, HasLines, IsAfter, IsAt, IsBetween, IsGiven, IsMore, events_at_end};
 
 use crate::lines::{Event, take_any, take_end, takes_addition};
@@ -33,6 +34,20 @@ pub(crate) struct Progress {
     pub(crate) any_refused: bool,
 }
 
+/// Whether some event was a refusal, with this one more.
+pub(crate) fn any_refusal(before: bool, event: &Event) -> bool
+    ensures { result ≡ (before || is_refusal event.now) }
+{
+    before || matches!(event, Event::Refused(_, _))
+}
+
+/// Whether one of them holds.
+pub(crate) fn either(before: bool, now: bool) -> bool
+    ensures { result ≡ (before || now) }
+{
+    before || now
+}
+
 /// Nothing was read.
 pub(crate) fn begin() -> Progress
     ensures between { IsBetween result }
@@ -52,7 +67,7 @@ pub(crate) fn begin() -> Progress
 /// a moment or add to it, and returns its event, if it has one. The lines before it are taken on the
 /// way, without room for an event.
 #[inline(always)]
-fn next_of_lines(
+pub(crate) fn next_of_lines(
     lines: &mut Lines,
     moments: &mut Moments,
     piece: &[u8],
@@ -66,6 +81,7 @@ fn next_of_lines(
         → Follows (bytes ++ take done.old piece.now) given lines.old moments.old
         → Follows (bytes ++ take done.new piece.now) (given_with given result) lines.new
         moments.new }
+    ensures last { IfSome result (λ event. HasLast event moments.new) }
     ensures further { done.old < length piece.now → done.old < done.new }
     ensures range { IfSome result IsEventInRange }
 {

@@ -12,6 +12,7 @@ mod laws;
 mod lines;
 mod moment;
 mod opening;
+mod place;
 mod program;
 mod replay;
 mod status;

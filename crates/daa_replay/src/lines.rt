@@ -9,6 +9,7 @@ ghost use Rattle.daa_state.specs.WordOf.{word_of};
 ghost use Rattle.daa_state.specs.InRange.{IsFormat, IsWordInRange};
 ghost use Rattle.daa_replay.specs.declared.lines.Event.{Event};
 ghost use Rattle.daa_replay.specs.Inside.Lines.{Follows, given_with, word_step};
+ghost use Rattle.daa_replay.specs.Inside.Place.{HasLast};
 ghost use Rattle.daa_replay.specs.Lines.{IsEventInRange, events_of, line_event, next_state};
 
 use daa_lines::{InputLine, Lines, Stage};
@@ -43,6 +44,7 @@ fn step(moments: &mut Moments, number: u64, word: Result<Word, LineFault>) -> Op
     requires range { IfOk word IsWordInRange }
     ensures given { given_with [] result ≡ line_event number (word_step moments.old word) }
     ensures moments { moments.new ≡ next_state moments.old (word_step moments.old word) }
+    ensures last { IfSome result (λ event. HasLast event moments.new) }
     ensures range { IfSome result IsEventInRange }
 {
     match word {
@@ -113,6 +115,7 @@ pub(crate) fn take_any(lines: &mut Lines, moments: &mut Moments) -> Option<Event
     ensures fed { lines.new.fed ≡ lines.old.fed }
     ensures kept { (bytes : Bytes) (given : List Event) → Follows bytes given lines.old moments.old
         → Follows bytes (given_with given result) lines.new moments.new }
+    ensures last { IfSome result (λ event. HasLast event moments.new) }
     ensures range { IfSome result IsEventInRange }
 {
     let word = take_word(lines, moments.format())?;

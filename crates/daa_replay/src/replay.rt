@@ -1,19 +1,17 @@
 //! A replay: feeds the bytes of the source to the lines, and writes the text of each event.
 
-ghost use Rattle.std.specs.Prelude.{◌≡◌, ◌<◌, ◌^◌, ◌||◌, [], OnOk, OnErr, ◌≤◌, length};
-ghost use Rattle.daa_replay.specs.Lines.{is_refusal};
+ghost use Rattle.std.specs.Prelude.{◌≡◌, ◌<◌, ◌^◌, [], Bool, IfOk, OnOk, OnErr, ◌≤◌, length};
 ghost use Rattle.daa_ahead.specs.Bytes.{stream_state};
 ghost use Rattle.daa_replay.specs.Inside.Events.{IsBetween, IsGiven};
-ghost use Rattle.daa_replay.specs.Inside.Replay.{Breaks, CanReport, EndsAs, Steps, Writes, desk};
+ghost use Rattle.daa_replay.specs.Inside.Replay.{Breaks, CanReport, EndsAs, Reaches, Steps, Writes, desk};
 ghost use Rattle.daa_ahead.specs.Moves.{Moves, wants_more};
 ghost use Rattle.daa_ahead.specs.Taker.{CanTake, TakesBytes};
 ghost use Rattle.daa_replay.specs.Outside.{ShelfState, outside};
 ghost use Rattle.daa_replay.specs.Inside.Run.{Leaves, Replays};
 
-use crate::batch::{Batch, hold_event, write_batch};
-use crate::events::{Progress, begin, has_more, next_event};
-use crate::lines::Event;
-use crate::moment::Tools;
+use crate::batch::{Batch, batch_in, has_moments, write_together};
+use crate::events::{Progress, any_refusal, begin, has_more, next_event};
+use crate::moment::{Tools, write_event};
 use crate::status::Status;
 use daa_ahead::{BUFFER, Calls, Ended, Taker, ahead, in_turn};
 use daa_engine::Engine;
@@ -27,20 +25,48 @@ const MOST_READ: usize = 1 << 20;
 
 const MOST_READ_ALONE: usize = 1 << 16;
 
-/// Whether some event was a refusal, with this one more.
-fn any_refusal(before: bool, event: &Event) -> bool
-    ensures { result ≡ (before || is_refusal event.now) }
+/// Writes the texts of the events of a piece that the workers share, if there are workers, and if more
+/// than one moment seems to end in it: those of all its lines. Returns how many bytes are fed then.
+fn write_front<R: Threads + Sync, K: Sink, G: Gate>(
+    tools: &Tools<'_, R, G>,
+    engine: &mut Engine,
+    progress: &mut Progress,
+    batch: &mut Option<Batch>,
+    sink: &mut K,
+    piece: &[u8],
+) -> Result<usize, SinkFault>
+    requires { CanReport (desk engine.old.settings progress.old (K.taken sink.old)
+        (K.faults sink.old)) (length piece.now) }
+    ensures ok { IfOk result (λ done. (last : Bool) → Reaches (desk engine.old.settings progress.old
+        (K.taken sink.old) (K.faults sink.old)) piece.now done last
+        (desk engine.new.settings progress.new (K.taken sink.new) (K.faults sink.new))) }
+    ensures err { OnErr result ((last : Bool) → Breaks (desk engine.old.settings progress.old
+        (K.taken sink.old) (K.faults sink.old)) piece.now last
+        (desk engine.new.settings progress.new (K.taken sink.new) (K.faults sink.new))) }
 {
-    before || matches!(event, Event::Refused(_, _))
+    let Some(batch) = batch else {
+        return Ok(0);
+    };
+    if !has_moments(piece) {
+        return Ok(0);
+    }
+    let lines = &mut progress.lines;
+    let moments = &mut progress.moments;
+    match write_together(tools, engine, sink, batch, lines, moments, piece) {
+        Ok(refused) => {
+            progress.any_refused = progress.any_refused || refused;
+            Ok(piece.len())
+        }
+        Err(fault) => Err(fault),
+    }
 }
 
-/// Writes the texts of the events of a piece; if it is the last one, also those of the end. None of
-/// them waits when it returns.
+/// Writes the texts of the events of a piece; if it is the last one, also those of the end.
 fn write_piece<R: Threads + Sync, K: Sink, G: Gate>(
     tools: &Tools<'_, R, G>,
     engine: &mut Engine,
     progress: &mut Progress,
-    batch: &mut Batch,
+    batch: &mut Option<Batch>,
     sink: &mut K,
     piece: &[u8],
     last: bool,
@@ -54,18 +80,17 @@ fn write_piece<R: Threads + Sync, K: Sink, G: Gate>(
         (K.faults sink.old)) piece.now last
         (desk engine.new.settings progress.new (K.taken sink.new) (K.faults sink.new))) }
 {
-    batch.clear();
-    let mut done = 0;
+    let mut done = write_front(tools, engine, progress, batch, sink, piece)?;
     while has_more(progress, piece, done, last) {
         if let Some(event) = next_event(progress, piece, &mut done, last) {
             progress.any_refused = any_refusal(progress.any_refused, &event);
-            match hold_event(tools, engine, sink, batch, event) {
+            match write_event(tools, engine, sink, &event) {
                 Ok(()) => {}
                 Err(fault) => return Err(fault),
             }
         }
     }
-    write_batch(tools, engine, sink, batch)
+    Ok(())
 }
 
 /// Takes a piece, and returns whether its text was written.
@@ -74,7 +99,7 @@ fn take_piece<R: Threads + Sync, K: Sink, G: Gate>(
     engine: &mut Engine,
     sink: &mut K,
     progress: &mut Progress,
-    batch: &mut Batch,
+    batch: &mut Option<Batch>,
     piece: &[u8],
 ) -> bool
     requires { CanReport (desk engine.old.settings progress.old (K.taken sink.old)
@@ -119,7 +144,7 @@ fn write_all<R: Threads + Sync, S: Source + Send, K: Sink + Send, G: Gate>(
     source: &mut S,
     sink: &mut K,
     progress: &mut Progress,
-    batch: &mut Batch,
+    batch: &mut Option<Batch>,
     buf: &mut [u8],
     places: u32,
     most: u64,
@@ -155,7 +180,7 @@ fn write_end<R: Threads + Sync, K: Sink, G: Gate>(
     tools: &Tools<'_, R, G>,
     engine: &mut Engine,
     progress: &mut Progress,
-    batch: &mut Batch,
+    batch: &mut Option<Batch>,
     sink: &mut K,
 ) -> Status
     requires { CanReport (desk engine.old.settings progress.old (K.taken sink.old)
@@ -177,7 +202,7 @@ fn replay_with<R: Threads + Sync, S: Source + Send, K: Sink + Send, G: Gate>(
     engine: &mut Engine,
     source: &mut S,
     sink: &mut K,
-    batch: &mut Batch,
+    batch: &mut Option<Batch>,
     buf: &mut [u8],
     places: u32,
     most: u64,
@@ -246,7 +271,7 @@ pub(crate) fn run_replay<R: Threads + Sync, S: Source + Send, K: Sink + Send, G:
         (outside after (stream_state (S.left source.new) (S.faults source.new))
         (stream_state (K.taken sink.new) (K.faults sink.new))) }
 {
-    let mut batch = Batch::new(tools.alloc, engine.workers());
+    let mut batch = batch_in(tools.alloc, engine.workers());
     let mut large = buffer_in(tools.alloc, engine.workers());
     if large.is_empty() {
         let mut small = [0u8; BUFFER];

@@ -1,5 +1,5 @@
 -- How far a replay has come, and what a piece makes of it.
-use Rattle.std.specs.Prelude.{◌≡◌, Bool, true, List, [], ℕ, ◌≤◌, ◌<◌, ◌+◌, ◌^◌, ◌++◌, ◌||◌, false}
+use Rattle.std.specs.Prelude.{◌≡◌, Bool, true, List, [], ℕ, ◌≤◌, ◌<◌, ◌+◌, ◌^◌, ◌++◌, ◌||◌, false, length, take}
 use Rattle.std.specs.List.{list_any}
 use Rattle.daa_ahead.specs.Bytes.{ToldBytes}
 use Rattle.daa_config.specs.Settings.{Settings}
@@ -10,7 +10,7 @@ use Rattle.daa_replay.specs.declared.events.Progress.{Progress}
 use Rattle.daa_replay.specs.declared.status.Status.{Status}
 use Rattle.daa_replay.specs.declared.status.Status.TheVariants.{Accepted, Refused, SinkFault}
 use Rattle.daa_replay.specs.Lines.{is_refusal, events_of}
-use Rattle.daa_replay.specs.Inside.Events.{IsAfter, IsBetween, IsFront, IsGiven}
+use Rattle.daa_replay.specs.Inside.Events.{IsAfter, IsAt, IsBetween, IsFront, IsGiven}
 use Rattle.daa_replay.specs.Inside.Batch.{StopsWithin, TakesTexts}
 
 -- the engine's configuration, how far the input was read, and what the sink took and counted
@@ -29,6 +29,17 @@ desk settings progress taken faults =
 pub record CanReport (d : Desk) (size : ℕ) : Type 0 where
   pub between : IsBetween d.progress
   pub room : d.progress.lines.fed + size < 2 ^ 63
+
+-- the sink took the texts of the events of a piece up to some byte, whatever was given before it
+pub record Reaches (d : Desk) (piece : Bytes) (done : ℕ) (last : Bool) (e : Desk) : Type 0 where
+  pub same : e.settings ≡ d.settings
+  pub at : IsAt (length piece) done last e.progress
+  pub calm : e.faults ≡ d.faults
+  pub events : List Event
+  pub gives : (bytes : Bytes) (given : List Event) → IsGiven bytes given d.progress
+      → IsGiven (bytes ++ take done piece) (given ++ events) e.progress
+  pub refusals : e.progress.any_refused ≡ (d.progress.any_refused || list_any is_refusal events)
+  pub taken : TakesTexts d.settings events d.taken e.taken
 
 module _ (d : Desk) (piece : Bytes) (last : Bool) (e : Desk) where
   -- the sink took the texts of the events of the piece, whatever was given before it

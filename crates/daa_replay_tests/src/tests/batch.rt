@@ -54,7 +54,7 @@ fn alone<R: Abort + Threads + Sync + AllocGlobal>(
     Ok(text)
 }
 
-/// More events than may wait at a time, in pieces of any size and of some 200 moments. The sink has
+/// Many moments, in pieces of any size and of some 200 moments, which end within lines. The sink has
 /// room for the text and no more, so that a write that is not needed, also of no bytes, fails.
 #[test]
 fn moments_of_a_piece_are_shared_out(rt: HostRuntime) -> Result<(), Fail> {
@@ -116,6 +116,59 @@ fn uneven_moments_are_shared_out(rt: HostRuntime) -> Result<(), Fail> {
             ..PLAIN
         };
         gives(&rt, input.as_bytes(), outside, 1, text.as_slice())?;
+    }
+    Ok(())
+}
+
+/// A moment by lines of which the first letters tell too little: other formats, an earlier time, two
+/// moments at once, words after `end`, a line that is too long, blanks in front, a line feed alone.
+static ODD_LINES: [&str; 8] = [
+    "format 2\ntraffic A 0 0 1000 0 3600 0 9\nend\nformat 1\nend\n",
+    "end of a moment\nmoment 0\nend\nmoment 4294967295\nend\n",
+    "  end\nenough\n\tmoment 0\n",
+    "moment 4294967295\nend\nend\nmoment 4294967295\nown 0 0 0 0 0 0\n",
+    "moment 0\nformat 2\nformat 3\nend\r\n",
+    "\n\n# end\nend #\nend\n",
+    "format 2\nend\nmoment 0\nown 0 0 1000 0 3600 0\n",
+    "own 0 0 1000 0 3600 0\nend\nf\nm\ne\nend\nformat 1\nend\n",
+];
+
+/// So many moments with one aircraft, between lines of which a reader's guess may be wrong.
+fn odd_moments<R: AllocGlobal>(rt: &R, count: u32) -> Result<String, AllocError> {
+    let mut input = String::new(rt.alloc());
+    for time in 0..count {
+        add_moment(rt, &mut input, time, 1)?;
+        if time % 3 == 0 {
+            if let Some(lines) = ODD_LINES.get((time / 3 % 8) as usize) {
+                input.push_str(lines)?;
+            }
+        }
+        if time % 50 == 0 {
+            input.push_str("end")?;
+            for _ in 0..30 {
+                input.push_str(" 123456789")?;
+            }
+        }
+    }
+    Ok(input)
+}
+
+/// Where moments end is guessed by the first letters of lines: a wrong guess changes no byte.
+#[test]
+fn wrong_guesses_change_nothing(rt: HostRuntime) -> Result<(), Fail> {
+    let input = odd_moments(&rt, 600)?;
+    let text = alone(&rt, input.as_bytes(), 400_000)?;
+    for workers in ["2", "3", "4", "16"] {
+        let words = ["daidalus", "replay", "--config", "c", "--workers", workers];
+        for pieces in [&[][..], &[7777; 20]] {
+            let outside = Outside {
+                words: &words,
+                read_pieces: pieces,
+                room: text.len(),
+                ..PLAIN
+            };
+            gives(&rt, input.as_bytes(), outside, 1, text.as_slice())?;
+        }
     }
     Ok(())
 }
@@ -222,13 +275,13 @@ fn a_read_fails_behind_a_batch(rt: HostRuntime) -> Result<(), Fail> {
     Ok(())
 }
 
-/// The events of one piece: a refused line and then a moment, 300 times.
-const EVENTS: usize = 600;
+/// One more than the number of the last line of 300 moments.
+const LINES: usize = 1501;
 
-/// A gate that counts who passes, for each event of the piece and for all other units.
+/// A gate that counts who passes, for each line of the piece and for all other units.
 #[derive(Drop)]
 struct Tally {
-    passes: [AtomicU64; EVENTS],
+    passes: [AtomicU64; LINES],
     beyond: AtomicU64,
 }
 
@@ -240,17 +293,18 @@ impl Tally {
         }
     }
 
-    /// How often the gate was passed for an event.
-    fn passes(&self, event: usize) -> u64 {
-        match self.passes.get(event) {
+    /// How often the gate was passed for a line.
+    fn passes(&self, line: usize) -> u64 {
+        match self.passes.get(line) {
             Some(count) => count.load(SeqCst),
             None => 0,
         }
     }
 
-    /// Each second event, which is a moment, was passed for once, and no other unit.
+    /// Each fifth line, which ends a moment, was passed for once, and no other unit.
     fn has_passed_each_moment_once(&self) -> bool {
-        (0..EVENTS).all(|event| self.passes(event) == event as u64 % 2)
+        self.passes(0) == 0
+            && (1..LINES).all(|line| self.passes(line) == (line % 5 == 0) as u64)
             && self.beyond.load(SeqCst) == 0
     }
 }
@@ -278,7 +332,7 @@ fn passes_once<R: Abort + Threads + Sync + AllocGlobal>(
     Ok(())
 }
 
-/// The unit of a moment is its place in the batch.
+/// The unit of a moment is the number of its last line.
 #[test]
 fn the_gate_is_passed_once_for_each_moment_of_a_batch(rt: HostRuntime) -> Result<(), Fail> {
     let input = moments_of(&rt, 300)?;

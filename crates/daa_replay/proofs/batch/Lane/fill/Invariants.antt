@@ -3,4 +3,4 @@ use Rattle.daa_replay.proofs.batch.Lane.fill.Given as goal
 
 -- each part so far has its texts
 abbrev pub invariant-loop : goal.invariant-loop
-invariant-loop g l = IsFilled l.config l.events l.self
+invariant-loop g l = IsFilled l.config l.piece l.self

@@ -1,0 +1,140 @@
+-- Places of a piece between two moments.
+use Rattle.std.proofs.Common.{◌≡◌, ◌≤◌, ◌+◌, ◌-◌, ◌∙◌, ℕ, Bool, true, false, List, [], ◌∷◌, length, Option, None, Some, Result, Ok, Err, IfOk, IfSome, is_some, if◌then◌else◌, refl, sym, ap, ap₂, subst, arith}
+use Rattle.daa_lines.specs.LinesOf.{Bytes}
+use Rattle.daa_lines.specs.LinesState.{LinesState}
+use Rattle.daa_lines.specs.ComesFrom.{ComesFrom}
+use Rattle.daa_lines.specs.declared.lines.Stage.{Stage}
+use Rattle.daa_lines.specs.declared.lines.Stage.TheVariants.{Open}
+use Rattle.daa_state.specs.Fault.{Checked, ◌>>=◌}
+use Rattle.daa_state.specs.InRange.{IsFormat}
+use Rattle.daa_state.specs.MomentStep.{MomentsState, Stepped, begun_moment, ended_picture, start, step, stepped, with_moment, with_own, with_traffic}
+use Rattle.daa_state.specs.declared.fault.LineFault.TheVariants.{MomentOpen, Unfinished}
+use Rattle.daa_state.specs.declared.moments.Moment.{Moment}
+use Rattle.daa_state.specs.declared.word.Own.{Own}
+use Rattle.daa_state.specs.declared.word.Picture.{Picture}
+use Rattle.daa_state.specs.declared.word.Word.{Word}
+use Rattle.daa_state.specs.declared.word.Word.TheVariants as says
+use Rattle.daa_replay.specs.declared.lines.Event.{Event}
+use Rattle.daa_replay.specs.declared.place.Place.{Place}
+use Rattle.daa_replay.specs.Lines.{events_from, next_state}
+use Rattle.daa_replay.specs.Inside.Events.{HasLines}
+use Rattle.daa_replay.specs.Inside.Lines.{Follows}
+use Rattle.daa_replay.specs.Inside.Place.{IsPlace, Reading, lines_at, moments_at, reading, reading_at}
+
+-- lines may be fed from a place on
+pub lines-there : (piece : Bytes) (place : Place) → IsPlace piece place → HasLines (length piece - place.done) (lines_at place)
+lines-there piece place there = record { free = refl; going = refl; room = there.room }
+
+-- where the lines and moments are those at a place
+pub stands-there : (done : ℕ) (l : LinesState) (m : MomentsState) (place : Place) → reading done l m ≡ reading_at place → reading place.done l m ≡ reading_at place
+stands-there done l m place e = ap₂ (λ (x : LinesState) (y : MomentsState). reading place.done x y) (ap (λ (r : Reading). r.lines) e) (ap (λ (r : Reading). r.moments) e)
+
+-- the rest of the piece can be read from it
+pub place-there : (piece : Bytes) (done : ℕ) (l : LinesState) (m : MomentsState) (place : Place) → reading done l m ≡ reading_at place → done ≤ length piece → HasLines (length piece - done) l
+    → place.number ≤ place.fed → IsFormat place.format → IsPlace piece place
+place-there piece done l m place e within has counted format =
+    let d : done ≡ place.done = ap (λ (r : Reading). r.done) e in
+    let f : l.fed ≡ place.fed = ap (λ (r : Reading). r.lines.fed) e in
+    record { within = omega (arith, d); counted = counted; format = format; room = omega (arith, d, f, has.room) }
+
+pub behind-there : (piece : Bytes) (done : ℕ) (l : LinesState) (m : MomentsState) (here : Option Place) → IfSome here (λ place. reading done l m ≡ reading_at place) → done ≤ length piece
+    → HasLines (length piece - done) l → IfSome here (λ place. place.number ≤ place.fed) → IfSome here (λ place. IsFormat place.format) → IfSome here (IsPlace piece)
+behind-there piece done l m None e within has counted format = tt
+behind-there piece done l m (Some place) e within has counted format = place-there piece done l m place e within has counted format
+
+pub lines-stand : (piece : Bytes) (done : ℕ) (l : LinesState) (m : MomentsState) (place : Place) → reading done l m ≡ reading_at place → IsPlace piece place → HasLines (length piece - place.done) l
+lines-stand piece done l m place e there =
+    subst (λ (x : LinesState). HasLines (length piece - place.done) x) (sym (ap (λ (r : Reading). r.lines) e)) (lines-there piece place there)
+
+-- lines of which none is in hand
+pub lines-are : (l : LinesState) (fed number : ℕ) → l.line ≡ [] → l.stage ≡ Open → l.ended ≡ false → fed ≡ l.fed → number ≡ l.number
+    → l ≡ record { line = []; stage = Open; ended = false; fed = fed; number = number }
+lines-are l fed number a b c d e = λ i. record { line = a i; stage = b i; ended = c i; fed = sym d i; number = sym e i }
+
+-- moments of which none is open
+pub moments-are : (m : MomentsState) (time format : ℕ) → m.moment ≡ None → m.last ≡ Some time → format ≡ m.format → m ≡ record { moment = None; last = Some time; format = format }
+moments-are m time format a b c = λ i. record { moment = a i; last = b i; format = sym c i }
+
+pub same-reading : (done : ℕ) (l k : LinesState) (m n : MomentsState) → l ≡ k → m ≡ n → reading done l m ≡ reading done k n
+same-reading done l k m n e f = ap₂ (λ (x : LinesState) (y : MomentsState). reading done x y) e f
+
+-- ---- the front of an input
+
+empty_of : {A : Type 0} (xs : List A) → length xs ≡ 0 → xs ≡ []
+empty_of [] e = refl
+empty_of (x ∷ xs) e = absurd (omega (arith, e))
+
+-- where nothing is fed, it may be begun anew
+pub front_follows : (bytes : Bytes) (given : List Event) (lines new : LinesState) (moments : MomentsState) → lines.fed ≡ 0 → lines.number ≡ 0 → ComesFrom [] [] new
+    → Follows bytes given lines moments → Follows bytes given new start
+front_follows bytes given lines new moments fed number begun f =
+    let none : bytes ≡ [] = empty_of bytes (sym f.comes_from.fed ∙ fed) in
+    let taken : f.taken ≡ [] = empty_of f.taken (sym f.comes_from.number ∙ number) in
+    record {
+      taken = [];
+      comes_from = subst (λ (b : Bytes). ComesFrom b [] new) (sym none) begun;
+      state_is = refl;
+      events_are = f.events_are ∙ ap (events_from start 1 false) taken;
+    }
+
+-- ---- the moments at a place
+
+-- after a `format`
+pub after_format : (format : ℕ) → next_state start (step start (says.Format format)) ≡ record { moment = None; last = None; format = format }
+unfolding step
+after_format format = refl
+
+abbrev pub after : MomentsState → Word → MomentsState
+after state word = next_state state (step state word)
+
+-- after a whole moment
+pub after_moment : (format time : ℕ) (own : Own) →
+    after (after (after (record { moment = None; last = None; format = format }) (says.Moment time)) (says.Own own)) says.End
+    ≡ record { moment = None; last = Some time; format = format }
+unfolding step begun_moment with_own ended_picture
+after_moment format time own = refl
+
+pub moments-none : (place : Place) (m0 m1 : MomentsState) → m0 ≡ start → m1 ≡ after m0 (says.Format place.format) → place.last ≡ None → m1 ≡ moments_at place
+moments-none place m0 m1 begun formed last =
+    formed ∙ ap (λ (m : MomentsState). after m (says.Format place.format)) begun ∙ after_format place.format
+    ∙ (λ i. record { moment = None; last = sym last i; format = place.format })
+
+pub moments-some : (place : Place) (time : ℕ) (own : Own) (m0 m1 m2 m3 m4 : MomentsState) → m0 ≡ start → m1 ≡ after m0 (says.Format place.format) → m2 ≡ after m1 (says.Moment time)
+    → m3 ≡ after m2 (says.Own own) → m4 ≡ after m3 says.End → place.last ≡ Some time → m4 ≡ moments_at place
+moments-some place time own m0 m1 m2 m3 m4 begun formed opened owned closed last =
+    closed
+    ∙ ap (λ (m : MomentsState). after m says.End) (owned ∙ ap (λ (m : MomentsState). after m (says.Own own)) (opened ∙ ap (λ (m : MomentsState). after m (says.Moment time))
+    (formed ∙ ap (λ (m : MomentsState). after m (says.Format place.format)) begun ∙ after_format place.format)))
+    ∙ after_moment place.format time own
+    ∙ (λ i. record { moment = None; last = sym last i; format = place.format })
+
+-- ---- the last moment
+
+-- where a moment ended, it is the last one
+abbrev EndsLast : Stepped → Type 0
+EndsLast next = IfSome next.picture (λ picture. next.state.last ≡ Some picture.time)
+
+made_last : (state : MomentsState) (made : Checked Moment) → IfOk (with_moment state made) EndsLast
+made_last state (Ok moment) = tt
+made_last state (Err fault) = tt
+
+format_last : (is_open : Bool) (state : MomentsState) → IfOk (if is_open then Err MomentOpen else Ok (stepped state None)) EndsLast
+format_last true state = tt
+format_last false state = tt
+
+ended_last : (state : MomentsState) (ended : Checked Picture) →
+    IfOk (ended >>= λ picture. Ok (stepped (record state { moment = None; last = Some picture.time }) (Some picture))) EndsLast
+ended_last state (Ok picture) = refl
+ended_last state (Err fault) = tt
+
+ends_last : (state : MomentsState) (word : Word) → IfOk (step state word) EndsLast
+unfolding step
+ends_last state (says.Moment time) = made_last state (begun_moment state.moment state.last time)
+ends_last state (says.Own own) = made_last state (with_own state.moment own)
+ends_last state (says.Traffic traffic) = made_last state (with_traffic state.moment traffic)
+ends_last state (says.Format format) = format_last (is_some state.moment) (record state { format = format })
+ends_last state says.End = ended_last state (ended_picture state.moment)
+ends_last state says.Skip = tt
+
+pub last-ended : (old new : MomentsState) (word : Word) (picture : Picture) → step old word ≡ Ok (stepped new (Some picture)) → new.last ≡ Some picture.time
+last-ended old new word picture e = subst (λ (r : Checked Stepped). IfOk r EndsLast) e (ends_last old word)

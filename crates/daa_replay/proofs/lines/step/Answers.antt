@@ -1,0 +1,9 @@
+use Rattle.std.proofs.Common.{◌≡◌, Ok, Some, rules}
+use Rattle.daa_state.specs.MomentStep.{step, stepped}
+use Rattle.daa_replay.proofs.PlaceLemmas.{last-ended}
+use Rattle.daa_replay.proofs.lines.step.Goals as goal
+
+pub returns-in-Ok-Some-clause-last : goal.returns-in-Ok-Some-clause-last
+returns-in-Ok-Some-clause-last c =
+    let taken : step c.args.moments.now c.in-Ok.word ≡ Ok (stepped c.take.new.self (Some c.in-Ok-Some.picture)) = search rules in
+    last-ended c.args.moments.now c.take.new.self c.in-Ok.word c.in-Ok-Some.picture taken
