@@ -3,7 +3,6 @@
 ghost use Rattle.std.specs.Prelude.{◌<◌, ◌≤◌};
 
 use daa_config::Config;
-use daa_state::Picture;
 
 /// How much work a further worker is started for, in candidates that one aircraft is met with. It
 /// takes some tenths of a millisecond, and starting a thread takes one tenth.
@@ -12,14 +11,9 @@ const LEAST_WORK: usize = 1 << 16;
 /// How many candidates an aircraft is met with in the time that its other lines take.
 const SAID: usize = 200;
 
-/// How much work a moment is, as a number to be added to those of other moments: two more than the
-/// number of its aircraft.
-pub fn weight_of(picture: &Picture) -> usize {
-    picture.traffic.len().saturating_add(2)
-}
-
 /// How many of the workers, at least one, are used for moments whose weights add up to `weight`: a
-/// further worker only where its share of the work takes longer than starting its thread.
+/// further worker only where its share of the work takes longer than starting its thread. A moment
+/// weighs two more than it has aircraft, which is about how many lines it has.
 pub fn workers_for(config: &Config, weight: usize, workers: usize) -> usize
     requires { 0 < workers }
     ensures some { 1 ≤ result }

@@ -16,7 +16,7 @@ mod tickets;
 mod together;
 
 pub use alone::{decide_in, report_in, say_moment};
-pub use beside::{weight_of, workers_for};
+pub use beside::workers_for;
 pub use daa_schedule::NoMemory;
 pub use engine::Engine;
 pub use laws::{
