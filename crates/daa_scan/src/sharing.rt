@@ -176,12 +176,7 @@ fn meets_from_own_leg(round: &Round, branch: &Branch, place: &Solid) -> bool
     let k = branch.leaves;
     let first = own_leg_of(branch, place);
     if is_hit(
-        &relative_from(
-            &first,
-            round.encounter.aircraft,
-            &round.encounter.place,
-            k,
-        ),
+        &relative_from(&first, round.encounter.aircraft, &round.encounter.place, k),
         &round.level.volume,
     ) {
         return true;
@@ -226,12 +221,7 @@ fn meets_on_rest(round: &Round, velocity: &Solid, place: &Solid, k: u32) -> bool
         secs: round.level.lookahead - k,
     };
     is_hit(
-        &relative_run_from(
-            &run,
-            round.encounter.aircraft,
-            &round.encounter.place,
-            k,
-        ),
+        &relative_run_from(&run, round.encounter.aircraft, &round.encounter.place, k),
         &round.level.volume,
     )
 }

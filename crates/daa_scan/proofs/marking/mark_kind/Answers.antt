@@ -81,8 +81,15 @@ pub next_mask-requires-clause-branch : goal.next_mask-requires-clause-branch
 next_mask-requires-clause-branch c d =
     let r = c.args.round.now in
     let room = r.known.kept.trunks.branches.room in
-    let inside : c.loop-index.index < length r.trunks.now.branches = omega (arith, c.min-upto.ensures, c.loop-index-test.true, c.next_end-end.ensures.within, c.begin_level.ensures.upto,
-    kind_within c.args.kind (settings_in r), room) in
+    let inside : c.loop-index.index < length r.trunks.now.branches = omega (
+      arith,
+      c.min-upto.ensures,
+      c.loop-index-test.true,
+      c.next_end-end.ensures.within,
+      c.begin_level.ensures.upto,
+      kind_within c.args.kind (settings_in r),
+      room,
+    ) in
     same_Some _ _ (sym (slice_get-get_or r.trunks.now.branches c.loop-index.index d inside) ∙ slice_get-get_or r.trunks.now.branches c.loop-index.index _ inside)
     ∙ ap (λ (b : List Branch). slice_index_or b c.loop-index.index _) (sym c.branches-branches.ensures)
 
