@@ -1,5 +1,5 @@
 -- Where no line's first field is `format`, the reports of the aircraft are of the moment itself.
-use Rattle.std.proofs.Common.{ℕ, ◌≡◌, ◌∙◌, Bool, false, Ok, Err, refl, subst, sym}
+use Rattle.std.proofs.Common.{ℕ, ◌≡◌, ◌∙◌, false, Ok, Err, refl, subst, sym}
 use Rattle.std.specs.Prelude.{IfOk}
 use Rattle.daa_lines.specs.LinesOf.{Bytes, lines_of}
 use Rattle.daa_state.specs.Current.{IsCurrentWord, IsCurrentState, IsCurrentPicture, IsCurrentStep}

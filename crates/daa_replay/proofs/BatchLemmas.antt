@@ -2,7 +2,6 @@
 use Rattle.std.proofs.Common.{ℕ, ◌-◌, ◌≤◌, ◌≡◌, ◌∙◌, ◌||◌, All, Bool, false, List, [], ◌∷◌, ◌++◌, length, take, drop, get_or, arith, refl, sym, ap, ap₂, subst, append_assoc, append-nil, length-append, inl, inr, ◌⊎◌}
 use Rattle.std.specs.Io.KnownBytes.{Appends}
 use Rattle.std.proofs.KnownBytes.{Appends-nil, Appends-trans}
-use Rattle.std.specs.List.{list_any}
 use Rattle.std.proofs.lemmas.List.Elements.{All-weaker}
 use Rattle.std.proofs.lemmas.List.Folds.{list_any-append}
 use Rattle.daa_bands.specs.Parts.{SplitsByEach}
@@ -17,7 +16,7 @@ use Rattle.daa_replay.specs.Inside.Moment.{BeginsText}
 use Rattle.daa_replay.specs.declared.batch.Part.{Part}
 use Rattle.daa_replay.specs.declared.place.Place.{Place}
 use Rattle.daa_replay.specs.Lines.{is_refusal}
-use Rattle.daa_replay.specs.Inside.Batch.{AddsText, AddsTexts, Fails, HasTexts, IsPart, Shares, StopsWithin, TakesTexts, Tells}
+use Rattle.daa_replay.specs.Inside.Batch.{AddsText, AddsTexts, Fails, IsPart, Shares, StopsWithin, TakesTexts, Tells}
 use Rattle.daa_replay.specs.Inside.Events.{HasLines}
 use Rattle.daa_replay.specs.Inside.Lines.{Follows}
 use Rattle.daa_replay.specs.Inside.Place.{Gives, IsPlace, Reading, reading_at}

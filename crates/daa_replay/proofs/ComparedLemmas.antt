@@ -1,5 +1,5 @@
 -- What a comparison tells of all bytes of a source.
-use Rattle.std.proofs.Common.{◌≡◌, ◌≢◌, ◌∙◌, ◌<◌, ◌≤◌, ◌+◌, ◌-◌, ℕ, zero, suc, Bool, true, false, List, [], ◌∷◌, ◌++◌, Option, None, Some, refl, sym, ap, subst, arith, append_assoc, append-nil, length, length-append, take}
+use Rattle.std.proofs.Common.{◌≡◌, ◌≢◌, ◌∙◌, ◌<◌, ◌≤◌, ℕ, zero, suc, Bool, true, false, List, [], ◌∷◌, ◌++◌, Option, None, Some, refl, sym, ap, arith, append_assoc, append-nil, length, length-append, take}
 use Rattle.std.specs.Io.KnownBytes.{Consumes}
 use Rattle.daa_ahead.specs.Bytes.{StreamState, IsSpent}
 use Rattle.daa_judge.specs.Found.{IsSame, ShowsDifference, PassesWithin}

@@ -19,7 +19,7 @@ use Rattle.daa_replay.specs.Moment.{IsReportOf}
 use Rattle.daa_replay.specs.Replay.{ReadsAll, PassesLimit}
 use Rattle.daa_replay.specs.Run.{Under, IsLine, Runs, Breaks}
 use Rattle.daa_replay.specs.Tasks.{OfStates, Accepts, Refuses, FailsToRead, FailsToWrite, Exceeds}
-use Rattle.daa_replay.specs.Complete.{RunsAreComplete, EndsAsGiven, Decides, IsQuiet, IsQuietReplay, HoldsAccepted, HoldsStates, HoldsLong, BeginsReport}
+use Rattle.daa_replay.specs.Complete.{RunsAreComplete, EndsAsGiven, Decides, IsQuiet, HoldsAccepted, HoldsStates, HoldsLong}
 use Rattle.daa_replay.proofs.ComparedLemmas.{same_all, same_short, other_all, other_long, passes_long, passes_begins}
 
 -- ---- how many bytes there were

@@ -1,11 +1,11 @@
 -- Pieces that are reported, one after the other.
-use Rattle.std.proofs.Common.{◌≡◌, ◌≤◌, ◌<◌, ◌+◌, ◌-◌, ◌^◌, ◌||◌, ◌∙◌, ℕ, Bool, true, false, List, [], ◌∷◌, ◌++◌, length, take, Option, refl, sym, ap, subst, arith, length-append, append-nil, append_assoc}
+use Rattle.std.proofs.Common.{◌≡◌, ◌≤◌, ◌<◌, ◌-◌, ◌^◌, ◌||◌, ◌∙◌, ℕ, Bool, true, false, List, [], ◌∷◌, ◌++◌, length, take, Option, refl, sym, ap, subst, arith, length-append, append-nil, append_assoc}
 use Rattle.std.specs.List.{concat, list_any}
 use Rattle.std.specs.Borrow.{Bor, MutBor}
 use Rattle.std.proofs.lemmas.List.Folds.{concat-append, list_any-append}
 use Rattle.daa_ahead.specs.Bytes.{StreamState, ToldBytes}
-use Rattle.daa_ahead.specs.Moves.{Moves, wants_more}
-use Rattle.daa_ahead.specs.Taker.{CanTake, StopsAfter, Takes, TakesAll, TakesBytes}
+use Rattle.daa_ahead.specs.Moves.{Moves}
+use Rattle.daa_ahead.specs.Taker.{TakesAll, TakesBytes}
 use Rattle.daa_ahead.specs.declared.taker.Calls.{Calls}
 use Rattle.daa_ahead.specs.declared.ended.Ended.{Ended}
 use Rattle.daa_config.specs.Settings.{Settings}

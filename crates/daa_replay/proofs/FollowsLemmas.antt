@@ -5,8 +5,6 @@ use Rattle.daa_lines.specs.LinesOf.{Bytes, lines_of, shown}
 use Rattle.daa_lines.specs.LinesState.{LinesState, is_standing}
 use Rattle.daa_lines.specs.ComesFrom.{ComesFrom, standing}
 use Rattle.daa_lines.specs.Taking.{after_taking}
-use Rattle.daa_lines.specs.declared.lines.Stage.{Stage}
-use Rattle.daa_lines.specs.declared.lines.Stage.TheVariants.{Open, Whole, Long, Skipping}
 use Rattle.daa_state.specs.MomentStep.{MomentsState, start, step, finished}
 use Rattle.daa_replay.specs.declared.lines.Event.{Event}
 use Rattle.daa_state.specs.Fault.{Checked, ◌>>=◌}

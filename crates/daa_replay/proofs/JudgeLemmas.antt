@@ -1,6 +1,5 @@
 -- What is found as the report of states is compared, event by event.
-use Rattle.std.proofs.Common.{◌≡◌, ◌≢◌, ◌∙◌, ℕ, true, List, [], ◌∷◌, ◌++◌, Ok, Err, Result, refl, sym, ap, subst, append_assoc, append-nil}
-use Rattle.std.specs.Prelude.{IfErr, OnOk}
+use Rattle.std.proofs.Common.{◌≡◌, ◌≢◌, ◌∙◌, ℕ, true, List, [], ◌∷◌, ◌++◌, refl, sym, ap, subst, append_assoc, append-nil}
 use Rattle.daa_ahead.specs.Bytes.{StreamState}
 use Rattle.daa_bands.specs.Parts.{SplitsByEach}
 use Rattle.daa_fixed.specs.One.{HasOne}

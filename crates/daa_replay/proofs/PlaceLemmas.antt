@@ -1,33 +1,24 @@
 -- Places of a piece between two moments.
-use Rattle.std.proofs.Common.{◌≡◌, ◌≤◌, ◌+◌, ◌-◌, ◌∙◌, ℕ, Bool, true, false, List, [], ◌∷◌, length, Option, None, Some, Result, Ok, Err, IfOk, IfSome, is_some, if◌then◌else◌, refl, sym, ap, ap₂, subst, arith}
+use Rattle.std.proofs.Common.{◌≡◌, ◌≤◌, ◌-◌, ◌∙◌, ℕ, Bool, true, false, length, Option, None, Some, Ok, Err, IfOk, IfSome, is_some, if◌then◌else◌, refl, sym, ap, ap₂, subst, arith}
 use Rattle.daa_lines.specs.LinesOf.{Bytes}
 use Rattle.daa_lines.specs.LinesState.{LinesState}
-use Rattle.daa_lines.specs.ComesFrom.{ComesFrom}
-use Rattle.daa_lines.specs.declared.lines.Stage.{Stage}
-use Rattle.daa_lines.specs.declared.lines.Stage.TheVariants.{Open}
 use Rattle.daa_state.specs.Fault.{Checked, ◌>>=◌}
 use Rattle.daa_state.specs.InRange.{IsFormat}
 use Rattle.daa_state.specs.MomentStep.{MomentsState, Stepped, begun_moment, ended_picture, start, step, stepped, with_moment, with_own, with_traffic}
-use Rattle.daa_state.specs.declared.fault.LineFault.TheVariants.{MomentOpen, Unfinished}
+use Rattle.daa_state.specs.declared.fault.LineFault.TheVariants.{MomentOpen}
 use Rattle.daa_state.specs.declared.moments.Moment.{Moment}
 use Rattle.daa_state.specs.declared.word.Own.{Own}
 use Rattle.daa_state.specs.declared.word.Picture.{Picture}
 use Rattle.daa_state.specs.declared.word.Word.{Word}
 use Rattle.daa_state.specs.declared.word.Word.TheVariants as says
-use Rattle.daa_replay.specs.declared.lines.Event.{Event}
 use Rattle.daa_replay.specs.declared.place.Place.{Place}
-use Rattle.daa_replay.specs.Lines.{events_from, next_state}
+use Rattle.daa_replay.specs.Lines.{next_state}
 use Rattle.daa_replay.specs.Inside.Events.{HasLines}
-use Rattle.daa_replay.specs.Inside.Lines.{Follows}
 use Rattle.daa_replay.specs.Inside.Place.{IsPlace, Reading, lines_at, moments_at, reading, reading_at}
 
 -- lines may be fed from a place on
 pub lines-there : (piece : Bytes) (place : Place) → IsPlace piece place → HasLines (length piece - place.done) (lines_at place)
 lines-there piece place there = record { free = refl; going = refl; room = there.room }
-
--- where the lines and moments are those at a place
-pub stands-there : (done : ℕ) (l : LinesState) (m : MomentsState) (place : Place) → reading done l m ≡ reading_at place → reading place.done l m ≡ reading_at place
-stands-there done l m place e = ap₂ (λ (x : LinesState) (y : MomentsState). reading place.done x y) (ap (λ (r : Reading). r.lines) e) (ap (λ (r : Reading). r.moments) e)
 
 -- the rest of the piece can be read from it
 pub place-there : (piece : Bytes) (done : ℕ) (l : LinesState) (m : MomentsState) (place : Place) → reading done l m ≡ reading_at place → done ≤ length piece → HasLines (length piece - done) l
@@ -46,36 +37,8 @@ pub lines-stand : (piece : Bytes) (done : ℕ) (l : LinesState) (m : MomentsStat
 lines-stand piece done l m place e there =
     subst (λ (x : LinesState). HasLines (length piece - place.done) x) (sym (ap (λ (r : Reading). r.lines) e)) (lines-there piece place there)
 
--- lines of which none is in hand
-pub lines-are : (l : LinesState) (fed number : ℕ) → l.line ≡ [] → l.stage ≡ Open → l.ended ≡ false → fed ≡ l.fed → number ≡ l.number
-    → l ≡ record { line = []; stage = Open; ended = false; fed = fed; number = number }
-lines-are l fed number a b c d e = λ i. record { line = a i; stage = b i; ended = c i; fed = sym d i; number = sym e i }
-
--- moments of which none is open
-pub moments-are : (m : MomentsState) (time format : ℕ) → m.moment ≡ None → m.last ≡ Some time → format ≡ m.format → m ≡ record { moment = None; last = Some time; format = format }
-moments-are m time format a b c = λ i. record { moment = a i; last = b i; format = sym c i }
-
 pub same-reading : (done : ℕ) (l k : LinesState) (m n : MomentsState) → l ≡ k → m ≡ n → reading done l m ≡ reading done k n
 same-reading done l k m n e f = ap₂ (λ (x : LinesState) (y : MomentsState). reading done x y) e f
-
--- ---- the front of an input
-
-empty_of : {A : Type 0} (xs : List A) → length xs ≡ 0 → xs ≡ []
-empty_of [] e = refl
-empty_of (x ∷ xs) e = absurd (omega (arith, e))
-
--- where nothing is fed, it may be begun anew
-pub front_follows : (bytes : Bytes) (given : List Event) (lines new : LinesState) (moments : MomentsState) → lines.fed ≡ 0 → lines.number ≡ 0 → ComesFrom [] [] new
-    → Follows bytes given lines moments → Follows bytes given new start
-front_follows bytes given lines new moments fed number begun f =
-    let none : bytes ≡ [] = empty_of bytes (sym f.comes_from.fed ∙ fed) in
-    let taken : f.taken ≡ [] = empty_of f.taken (sym f.comes_from.number ∙ number) in
-    record {
-      taken = [];
-      comes_from = subst (λ (b : Bytes). ComesFrom b [] new) (sym none) begun;
-      state_is = refl;
-      events_are = f.events_are ∙ ap (events_from start 1 false) taken;
-    }
 
 -- ---- the moments at a place
 

@@ -1,5 +1,5 @@
 -- What a run leaves, by its status.
-use Rattle.std.proofs.Common.{◌≡◌, ◌≢◌, ◌≤◌, ◌==◌, ℕ, List, Result, Ok, Err, None, refl, sym, ap, subst, ◌∙◌, arith, inl, inr, if◌then◌else◌}
+use Rattle.std.proofs.Common.{◌≡◌, ◌≢◌, ◌≤◌, ◌==◌, ℕ, List, Result, Ok, Err, refl, sym, ap, subst, ◌∙◌, arith, inl, inr, if◌then◌else◌}
 use Rattle.std.specs.Prelude.{OnErr, OnOk, Option, length}
 use Rattle.daa_outside.specs.Shelf.{longest_text}
 use Rattle.daa_config.specs.Settings.{Settings}

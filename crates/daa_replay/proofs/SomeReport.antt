@@ -1,24 +1,23 @@
 -- Every picture that an input ends is in range, and so the input has a report.
-use Rattle.std.proofs.Common.{ℕ, suc, ◌+◌, arith, Bool, true, false, List, [], ◌∷◌, ◌++◌, Option, None, Some, Ok, Err, refl, subst}
-use Rattle.std.specs.Prelude.{All, IfOk, IfSome}
+use Rattle.std.proofs.Common.{suc, arith, Bool, List, [], ◌∷◌, ◌++◌, refl, subst}
+use Rattle.std.specs.Prelude.{All, IfOk}
 use Rattle.std.proofs.lemmas.Result.{IfOk-weaker}
 use Rattle.daa_fixed.specs.One.{HasOne}
 use Rattle.daa_bands.specs.Parts.{SplitsByEach}
 use Rattle.daa_config.specs.Settings.{Settings, IsAccepted}
 use Rattle.daa_lines.specs.LinesOf.{Bytes, lines_of}
-use Rattle.daa_state.specs.Fault.{Checked, code_of}
+use Rattle.daa_state.specs.Fault.{code_of}
 use Rattle.daa_state.specs.InRange.{IsWordInRange, IsPictureInRange}
-use Rattle.daa_state.specs.MomentStep.{MomentsState, Stepped, start, step, finished}
+use Rattle.daa_state.specs.MomentStep.{MomentsState, start, step}
 use Rattle.daa_state.specs.WordOf.{word_of}
-use Rattle.daa_state.specs.declared.word.Picture.{Picture}
 use Rattle.daa_state.proofs.CheckedLemmas.{IfOk-with}
 use Rattle.daa_state.proofs.WordRanges.{word_of-range}
-use Rattle.daa_state.proofs.StepRanges.{IsStateInRange, IsSteppedInRange, step-range}
+use Rattle.daa_state.proofs.StepRanges.{IsStateInRange, step-range}
 use Rattle.daa_report.specs.Lines.{Text, refused_line}
 use Rattle.daa_engine.proofs.SomeText.{one_text}
 use Rattle.daa_replay.specs.declared.lines.Event.{Event}
 use Rattle.daa_replay.specs.declared.lines.Event.TheVariants as event
-use Rattle.daa_replay.specs.Lines.{line_step, next_state, picture_event, line_event, end_event, events_from, events_of, IsEventInRange}
+use Rattle.daa_replay.specs.Lines.{line_step, events_of, IsEventInRange}
 use Rattle.daa_replay.specs.Moment.{IsEventText, IsReportOf, IsReportFront}
 use Rattle.daa_replay.proofs.PictureLemmas.{Leaves, each_picture}
 use Rattle.daa_replay.proofs.OneReport.{report_once, front_begins}

@@ -1,5 +1,5 @@
 -- What a comparison of a report with that of given states leaves, by how it ends.
-use Rattle.std.specs.Prelude.{ℕ, ◌≡◌, ◌≤◌, ◌⊎◌, true}
+use Rattle.std.specs.Prelude.{ℕ, ◌≡◌, ◌⊎◌, true}
 use Rattle.daa_outside.specs.Faults.{HasRisen}
 use Rattle.daa_ahead.specs.Bytes.{StreamState}
 use Rattle.daa_fixed.specs.One.{HasOne}

@@ -1,5 +1,5 @@
 -- What a run leaves, by its task and by how it ends.
-use Rattle.std.specs.Prelude.{ℕ, ◌≡◌, ◌≤◌, true, false, Option, length}
+use Rattle.std.specs.Prelude.{ℕ, ◌≤◌, true, false, Option, length}
 use Rattle.daa_config.specs.Settings.{Settings}
 use Rattle.daa_judge.specs.declared.found.Found.TheVariants.{Fault, Limit}
 use Rattle.daa_lines.specs.LinesOf.{Bytes}

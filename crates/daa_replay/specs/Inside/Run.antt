@@ -1,5 +1,5 @@
 -- What the work of a run leaves at the shelf, the source and the sink, by its status.
-use Rattle.std.specs.Prelude.{ℕ, ◌≡◌, ◌≤◌, true, false}
+use Rattle.std.specs.Prelude.{ℕ, ◌≤◌, true, false}
 use Rattle.daa_config.specs.Settings.{Settings}
 use Rattle.daa_exercise.specs.Summary.{IsSummaryOf}
 use Rattle.daa_judge.specs.declared.found.Found.TheVariants as found

@@ -1,4 +1,4 @@
-use Rattle.std.proofs.Common.{◌≡◌, ◌∙◌, ◌≤◌, ◌-◌, ◌++◌, All, Bool, IfSome, List, Option, arith, length, refl, subst, sym, take}
+use Rattle.std.proofs.Common.{◌≡◌, ◌∙◌, ◌-◌, ◌++◌, All, Bool, IfSome, Option, arith, length, refl, subst, sym, take}
 use Rattle.daa_config.specs.Settings.{Settings}
 use Rattle.daa_lines.specs.LinesState.{LinesState}
 use Rattle.daa_replay.specs.declared.place.Place.{Place}

@@ -1,5 +1,5 @@
 use Rattle.std.proofs.Common.{arith, refl}
-use Rattle.daa_ahead.specs.Bytes.{StreamState, stream_state}
+use Rattle.daa_ahead.specs.Bytes.{stream_state}
 use Rattle.daa_replay.specs.Outside.{Outside, outside}
 use Rattle.daa_replay.proofs.RunLemmas.{same_written, difference_written}
 use Rattle.daa_replay.proofs.judge.run_judge.Goals as goal

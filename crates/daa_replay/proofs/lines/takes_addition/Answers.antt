@@ -1,4 +1,4 @@
-use Rattle.std.proofs.Common.{rules, ◌≡◌, ◌∙◌, refl, sym, ap, None, Ok, ℕ, true}
+use Rattle.std.proofs.Common.{rules, ◌≡◌, ◌∙◌, refl, sym, ap, None, Ok, ℕ}
 use Rattle.daa_lines.specs.LinesState.{is_standing}
 use Rattle.daa_state.specs.WordOf.{word_of}
 use Rattle.daa_state.specs.MomentStep.{step, stepped}

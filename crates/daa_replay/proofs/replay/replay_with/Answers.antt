@@ -1,4 +1,4 @@
-use Rattle.std.proofs.Common.{arith, rules, [], length}
+use Rattle.std.proofs.Common.{arith, rules, []}
 use Rattle.daa_replay.specs.Inside.Replay.{CanReport, Desk, desk}
 use Rattle.daa_replay.proofs.GivenLemmas.{fed_so_far}
 use Rattle.daa_replay.proofs.ReplayLemmas.{passes_limit, read_fails, replays_over, write_fails}

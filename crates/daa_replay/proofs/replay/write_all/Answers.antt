@@ -1,4 +1,4 @@
-use Rattle.std.proofs.Common.{arith, rules, refl, sym, ap, subst, ◌∙◌, ◌≡◌, ◌≤◌, ◌<◌, ◌+◌, ◌^◌, ℕ, Bool, List, length}
+use Rattle.std.proofs.Common.{arith, rules, sym, subst, length}
 use Rattle.daa_lines.specs.LinesOf.{Bytes}
 use Rattle.daa_ahead.specs.Moves.{wants_more}
 use Rattle.daa_replay.specs.Inside.Replay.{CanReport, Desk, Steps, desk}

@@ -1,4 +1,4 @@
-use Rattle.std.proofs.Common.{append_assoc, refl, [], ◌∷◌, ◌++◌, ◌∙◌, ◌≡◌, ℕ, List, arith, subst, take}
+use Rattle.std.proofs.Common.{append_assoc, [], ◌∷◌, ◌++◌, ◌∙◌, ◌≡◌, ℕ, List, arith, subst, take}
 use Rattle.std.proofs.lemmas.List.{take_all}
 use Rattle.daa_config.specs.Settings.{Settings}
 use Rattle.daa_lines.specs.LinesOf.{Bytes}
@@ -7,7 +7,7 @@ use Rattle.daa_replay.specs.declared.events.Progress.{Progress}
 use Rattle.daa_replay.specs.declared.lines.Event.{Event}
 use Rattle.daa_replay.specs.Moment.{IsEventText}
 use Rattle.daa_replay.specs.Inside.Events.{IsGiven}
-use Rattle.daa_replay.specs.Inside.Replay.{Breaks, Desk, Writes, desk}
+use Rattle.daa_replay.specs.Inside.Replay.{Breaks, Desk, desk}
 use Rattle.daa_replay.proofs.BatchLemmas.{stops-after, stops-one, takes-event}
 use Rattle.daa_replay.proofs.GivenLemmas.{first_of, refused_more}
 use Rattle.daa_replay.proofs.replay.write_piece.Goals as goal
