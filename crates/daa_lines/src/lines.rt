@@ -318,7 +318,7 @@ impl Lines {
         self.finish();
     }
 
-    /// How many bytes `feed` took so far. A call for other programs: `daidalus` does not make it.
+    /// How many bytes `feed` took so far.
     pub fn fed(&self) -> u64
         ensures { result ≡ self.now.fed }
     {

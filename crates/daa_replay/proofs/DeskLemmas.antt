@@ -169,7 +169,7 @@ module _ {T X : Type 0} (takes : T → Bytes → Bool → T → Type 0) (name : 
 
 -- ---- the closure that reports
 
--- what it holds: the tools, the engine, the sink, how far the report has come, and the events that wait
+-- what it holds: the tools, the engine, the sink, how far the report has come, and the lanes
 abbrev pub Held : Type 0 → Type 0 → Type 0 → Type 0
 Held R K G = Calls (Bor (Tools R G) × MutBor Engine × MutBor K × MutBor Progress × MutBor (Option Batch))
 

@@ -40,11 +40,11 @@ const STRETCH: usize = 2048;
 /// How many stretches there are at least for each worker, where there are enough moments.
 const STRETCHES_EACH: usize = 16;
 
-/// How many stretches the workers share at a time at most.
+/// How many stretches the workers share at a time at most: those of a read of 1 MiB.
 const MOST_STRETCHES: usize = 512;
 
 /// A part of a sheet: its bytes from `start` up to `end` are the texts of the events from one place
-/// of a piece to another, of which some is a refusal or none.
+/// of a piece to another. `refused` says whether some of these is a refusal.
 #[derive(Clone, Copy)]
 pub(crate) struct Part {
     pub(crate) from: Place,
@@ -57,7 +57,7 @@ pub(crate) struct Part {
 /// The text of a part, from which place to which it goes, and whether some of its events is a
 /// refusal.
 #[derive(Clone, Copy)]
-pub(crate) struct Stretch<'a> {
+pub(crate) struct PartText<'a> {
     pub(crate) text: &'a [u8],
     pub(crate) from: Place,
     pub(crate) upto: Place,
@@ -204,8 +204,8 @@ impl Lane {
         None
     }
 
-    /// Adds the texts of the events from one place up to another to the sheet, as far as there is
-    /// room. Returns up to which place they are there.
+    /// Adds the texts of the events from a place up to a byte to the sheet, as far as there is room,
+    /// moment after moment. Returns up to which place they are there.
     fn add_moments<G: Gate>(
         &mut self,
         config: &Config,
@@ -252,8 +252,8 @@ impl Lane {
         }
     }
 
-    /// Writes the texts of the events from one place up to another on the sheet, behind its other
-    /// parts, as far as there is room.
+    /// Writes the texts of the events from a place up to a byte on the sheet, behind its other parts,
+    /// as far as there is room.
     fn write<G: Gate>(&mut self, config: &Config, piece: &[u8], from: Place, until: usize, gate: &G)
         requires there { IsPlace piece.now from }
         requires filled { IsFilled config.now piece.now self.old }
@@ -308,7 +308,7 @@ impl Lane {
     }
 
     /// The part that begins behind so many bytes, if the sheet has it.
-    fn part_from(&self, done: usize) -> Option<Stretch<'_>>
+    fn part_from(&self, done: usize) -> Option<PartText<'_>>
         ensures { (settings : Settings) (piece : Bytes) → IsFilled settings piece self.now
             → IfSome result
             (λ part. HasTexts settings piece part.from part.upto part.refused part.text.now) }
@@ -319,7 +319,7 @@ impl Lane {
             .ok()?;
         let part = parts[place];
         let text = self.sheet.text().get(part.start..part.end)?;
-        Some(Stretch {
+        Some(PartText {
             text,
             from: part.from,
             upto: part.upto,
@@ -368,11 +368,19 @@ fn place_behind(lines: &Lines, moments: &Moments, event: &Event, done: usize) ->
     }
 }
 
+/// A line without blanks in front.
+fn from_word(line: &[u8]) -> &[u8] {
+    match line.iter().position(|byte| *byte != b' ' && *byte != b'\t') {
+        Some(at) => rest_of(line, at),
+        None => &[],
+    }
+}
+
 /// Whether more than one moment seems to end in a piece: two of its lines begin with `end`.
-pub(crate) fn has_moments(piece: &[u8]) -> bool {
+pub(crate) fn has_two_ends(piece: &[u8]) -> bool {
     let mut found = false;
     for line in piece.split(|byte| *byte == b'\n') {
-        if matches!(line, [b'e', b'n', b'd', ..]) {
+        if matches!(from_word(line), [b'e', b'n', b'd', ..]) {
             if found {
                 return true;
             }
@@ -390,22 +398,24 @@ fn format_by(line: &[u8], format: u32) -> u32 {
     }
 }
 
-/// The time of the moment that a line begins, and else this one.
+/// The time of the moment that a line begins, if it is later than this one, and else this one.
 fn time_by(line: &[u8], last: Option<u32>) -> Option<u32> {
-    match read_line(line, 1) {
-        Ok(Word::Moment(time)) => Some(time),
+    match (read_line(line, 1), last) {
+        (Ok(Word::Moment(time)), Some(last)) => Some(time.max(last)),
+        (Ok(Word::Moment(time)), None) => Some(time),
         _ => last,
     }
 }
 
 /// Guesses places between moments: the given one, and behind it one each so many bytes or more. It
-/// looks at the first letters of lines alone, and so no clause says that it is right: where it is
+/// looks at the first letters of most lines alone, and no clause says that it is right: where it is
 /// not, the texts that the workers make from a place on are not used.
 fn guess_places(places: &mut Vec<Place>, piece: &[u8], from: Place, size: usize) {
     places.clear();
     let mut place = from;
     let mut begin = from.done;
     let mut moment: &[u8] = &[];
+    let mut is_open = false;
     push_place(places, place);
     for line in rest_of(piece, from.done).split(|byte| *byte == b'\n') {
         let length = line.len().saturating_add(1);
@@ -415,13 +425,19 @@ fn guess_places(places: &mut Vec<Place>, piece: &[u8], from: Place, size: usize)
         if piece.len() < place.done || places.capacity() <= places.len() {
             return;
         }
-        match line {
-            [b'm', ..] => moment = line,
-            [b'f', ..] => place.format = format_by(line, place.format),
-            [b'e', ..] if size <= place.done.saturating_sub(begin) => {
-                place.last = time_by(moment, place.last);
-                push_place(places, place);
-                begin = place.done;
+        match from_word(line) {
+            [b'm', ..] => {
+                moment = line;
+                is_open = true;
+            }
+            [b'f', ..] if !is_open => place.format = format_by(line, place.format),
+            [b'e', b'n', b'd', ..] => {
+                is_open = false;
+                if size <= place.done.saturating_sub(begin) {
+                    place.last = time_by(moment, place.last);
+                    push_place(places, place);
+                    begin = place.done;
+                }
             }
             _ => (),
         }
@@ -465,7 +481,7 @@ fn fill_lanes<R: Threads + Sync, G: Gate>(
     );
 }
 
-/// No lane has a part of another piece any more.
+/// No lane has a part of another piece any more: the lanes are filled between no places.
 fn clear_lanes<R: Threads + Sync, G: Gate>(
     tools: &Tools<'_, R, G>,
     config: &Config,
@@ -483,6 +499,19 @@ fn clear_lanes<R: Threads + Sync, G: Gate>(
 fn stretch_size(left: usize, workers: usize) -> usize {
     let most = workers.saturating_mul(STRETCHES_EACH).max(1);
     (left / most).min(STRETCH)
+}
+
+/// How many of all workers share the lanes where so many are wanted: half of them at most, or all,
+/// since each gets as many lanes as another.
+fn evenly(workers: usize, all: usize) -> usize
+    requires { 0 < workers }
+    ensures { 0 < result }
+{
+    if all / 2 < workers {
+        all.max(1)
+    } else {
+        workers
+    }
 }
 
 /// Has the lanes filled from a place on, if they were not by now.
@@ -511,7 +540,7 @@ fn fill_from<R: Threads + Sync, G: Gate>(
         }
     };
     let lines = last.number.saturating_sub(from.number) as usize;
-    let workers = workers_for(config, lines, all);
+    let workers = evenly(workers_for(config, lines, all), all);
     let tickets = Tickets::new();
     let lanes = batch.lanes.as_mut_slice();
     fill_lanes(tools, config, lanes, piece, places, &tickets, workers);
@@ -522,7 +551,7 @@ fn fill_from<R: Threads + Sync, G: Gate>(
 }
 
 /// The part that begins behind so many bytes, if a sheet has it.
-fn part_from<'a>(lanes: &'a [Lane], done: usize) -> Option<Stretch<'a>>
+fn part_from<'a>(lanes: &'a [Lane], done: usize) -> Option<PartText<'a>>
     ensures { (settings : Settings) (piece : Bytes) → All (IsFilled settings piece) lanes.now
         → IfSome result
         (λ part. HasTexts settings piece part.from part.upto part.refused part.text.now) }

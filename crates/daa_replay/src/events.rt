@@ -41,7 +41,7 @@ pub(crate) fn any_refusal(before: bool, event: &Event) -> bool
     before || matches!(event, Event::Refused(_, _))
 }
 
-/// Whether one of them holds.
+/// Whether one of them holds. As a call it is one step of a loop that is proved, where `||` is two.
 pub(crate) fn either(before: bool, now: bool) -> bool
     ensures { result ≡ (before || now) }
 {

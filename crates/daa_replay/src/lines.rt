@@ -40,7 +40,12 @@ fn take_word(lines: &mut Lines, format: u32) -> Option<Result<Word, LineFault>>
 }
 
 /// The event of a word, if it has one; the word changes the moments.
-fn step(moments: &mut Moments, number: u64, word: Result<Word, LineFault>) -> Option<Event>
+#[inline(never)]
+pub(crate) fn step(
+    moments: &mut Moments,
+    number: u64,
+    word: Result<Word, LineFault>,
+) -> Option<Event>
     requires range { IfOk word IsWordInRange }
     ensures given { given_with [] result ≡ line_event number (word_step moments.old word) }
     ensures moments { moments.new ≡ next_state moments.old (word_step moments.old word) }

@@ -10,6 +10,7 @@ ghost use Rattle.daa_replay.specs.Lines.{next_state};
 ghost use Rattle.daa_replay.specs.Inside.Lines.{Follows};
 ghost use Rattle.daa_replay.specs.Inside.Place.{IsPlace, lines_at, moments_at, reading, reading_at};
 
+use crate::lines::step;
 use daa_lines::Lines;
 use daa_state::{Moments, Own, Word};
 
@@ -29,14 +30,13 @@ pub(crate) struct Place {
 }
 
 /// Takes a word, and leaves its event.
-#[inline(never)]
 fn take_in(moments: &mut Moments, word: Word)
     requires { IsWordInRange word }
     ensures { moments.new ≡ next_state moments.old (step moments.old word) }
 {
-    match moments.take(word) {
-        Ok(_) => (),
-        Err(_) => (),
+    match step(moments, 0, Ok(word)) {
+        Some(_) => (),
+        None => (),
     }
 }
 

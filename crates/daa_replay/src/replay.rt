@@ -9,7 +9,7 @@ ghost use Rattle.daa_ahead.specs.Taker.{CanTake, TakesBytes};
 ghost use Rattle.daa_replay.specs.Outside.{ShelfState, outside};
 ghost use Rattle.daa_replay.specs.Inside.Run.{Leaves, Replays};
 
-use crate::batch::{Batch, batch_in, has_moments, write_together};
+use crate::batch::{Batch, batch_in, has_two_ends, write_together};
 use crate::events::{Progress, any_refusal, begin, has_more, next_event};
 use crate::moment::{Tools, write_event};
 use crate::status::Status;
@@ -26,7 +26,8 @@ const MOST_READ: usize = 1 << 20;
 const MOST_READ_ALONE: usize = 1 << 16;
 
 /// Writes the texts of the events of a piece that the workers share, if there are workers, and if more
-/// than one moment seems to end in it: those of all its lines. Returns how many bytes are fed then.
+/// than one moment seems to end in it: those of all its lines, and else none. Returns how many bytes
+/// are fed then.
 fn write_front<R: Threads + Sync, K: Sink, G: Gate>(
     tools: &Tools<'_, R, G>,
     engine: &mut Engine,
@@ -47,7 +48,7 @@ fn write_front<R: Threads + Sync, K: Sink, G: Gate>(
     let Some(batch) = batch else {
         return Ok(0);
     };
-    if !has_moments(piece) {
+    if !has_two_ends(piece) {
         return Ok(0);
     }
     let lines = &mut progress.lines;
@@ -196,7 +197,8 @@ fn write_end<R: Threads + Sync, K: Sink, G: Gate>(
     }
 }
 
-/// Writes the report of the source's bytes as `run_replay` does, with room for events that wait.
+/// Writes the report of the source's bytes as `run_replay` does, with the lanes of the workers, if
+/// there are any.
 fn replay_with<R: Threads + Sync, S: Source + Send, K: Sink + Send, G: Gate>(
     tools: &Tools<'_, R, G>,
     engine: &mut Engine,

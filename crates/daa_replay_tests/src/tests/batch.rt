@@ -120,37 +120,64 @@ fn uneven_moments_are_shared_out(rt: HostRuntime) -> Result<(), Fail> {
     Ok(())
 }
 
-/// A moment by lines of which the first letters tell too little: other formats, an earlier time, two
-/// moments at once, words after `end`, a line that is too long, blanks in front, a line feed alone.
+/// Lines between two moments of which the first letters tell too little: other formats, an earlier
+/// time, two moments at once, words after `end`, blanks in front, nothing.
 static ODD_LINES: [&str; 8] = [
     "format 2\ntraffic A 0 0 1000 0 3600 0 9\nend\nformat 1\nend\n",
-    "end of a moment\nmoment 0\nend\nmoment 4294967295\nend\n",
+    "end of a moment\nmoment 0\nend\n",
     "  end\nenough\n\tmoment 0\n",
-    "moment 4294967295\nend\nend\nmoment 4294967295\nown 0 0 0 0 0 0\n",
-    "moment 0\nformat 2\nformat 3\nend\r\n",
+    "moment 0\nend\nend\nmoment 0\nown 0 0 0 0 0 0\n",
+    "moment 0\nformat 2\nformat 1\nend\r\n",
     "\n\n# end\nend #\nend\n",
-    "format 2\nend\nmoment 0\nown 0 0 1000 0 3600 0\n",
+    "format 2\nend\nmoment 0\nown 0 0 1000 0 3600 0\nformat 1\n",
     "own 0 0 1000 0 3600 0\nend\nf\nm\ne\nend\nformat 1\nend\n",
 ];
 
-/// So many moments with one aircraft, between lines of which a reader's guess may be wrong.
+/// Lines that begin a moment later than `time` tens of seconds, or not later, and end none.
+fn add_odd_moment<R: AllocGlobal>(rt: &R, input: &mut String, time: u32) -> Result<(), AllocError> {
+    let late = format!(in rt.alloc(); "moment {time}5\nformat 2\nend\nmoment {time}0\n")?;
+    input.push_str(late.as_str())?;
+    let lines = format!(in rt.alloc(); "\town 0 0 1000 0 3600 0\n \tend\nmoment {time}4\nend\n")?;
+    input.push_str(lines.as_str())
+}
+
+/// A line of more than 255 bytes, in which the next moment's first line ends up.
+fn add_long_line(input: &mut String) -> Result<(), AllocError> {
+    input.push_str("end")?;
+    for _ in 0..30 {
+        input.push_str(" 123456789")?;
+    }
+    Ok(())
+}
+
+/// So many moments, between lines by which what is guessed of some is wrong.
 fn odd_moments<R: AllocGlobal>(rt: &R, count: u32) -> Result<String, AllocError> {
     let mut input = String::new(rt.alloc());
     for time in 0..count {
-        add_moment(rt, &mut input, time, 1)?;
-        if time % 3 == 0 {
-            if let Some(lines) = ODD_LINES.get((time / 3 % 8) as usize) {
-                input.push_str(lines)?;
-            }
+        let head = format!(in rt.alloc(); "moment {time}0\nown 0 0 1000 0 3600 0\nx\nend\n")?;
+        input.push_str(head.as_str())?;
+        if let Some(lines) = ODD_LINES.get(time as usize % 24) {
+            input.push_str(lines)?;
+        }
+        if time % 24 == 9 {
+            add_odd_moment(rt, &mut input, time)?;
         }
         if time % 50 == 0 {
-            input.push_str("end")?;
-            for _ in 0..30 {
-                input.push_str(" 123456789")?;
-            }
+            add_long_line(&mut input)?;
         }
     }
     Ok(input)
+}
+
+/// How many lines end moments.
+fn moments_in(text: &[u8]) -> usize {
+    let mut count = 0usize;
+    for line in text.split(|byte| *byte == b'\n') {
+        if matches!(line, [b'd', b'o', b'n', b'e', ..]) {
+            count = count.saturating_add(1);
+        }
+    }
+    count
 }
 
 /// Where moments end is guessed by the first letters of lines: a wrong guess changes no byte.
@@ -158,6 +185,7 @@ fn odd_moments<R: AllocGlobal>(rt: &R, count: u32) -> Result<String, AllocError>
 fn wrong_guesses_change_nothing(rt: HostRuntime) -> Result<(), Fail> {
     let input = odd_moments(&rt, 600)?;
     let text = alone(&rt, input.as_bytes(), 400_000)?;
+    assert!(rt; moments_in(text.as_slice()) > 500);
     for workers in ["2", "3", "4", "16"] {
         let words = ["daidalus", "replay", "--config", "c", "--workers", workers];
         for pieces in [&[][..], &[7777; 20]] {
@@ -169,6 +197,45 @@ fn wrong_guesses_change_nothing(rt: HostRuntime) -> Result<(), Fail> {
             };
             gives(&rt, input.as_bytes(), outside, 1, text.as_slice())?;
         }
+    }
+    Ok(())
+}
+
+/// A moment with so many refused lines that a sheet is full before it ends, among light ones.
+#[test]
+fn a_moment_that_fills_a_sheet_is_written(rt: HostRuntime) -> Result<(), Fail> {
+    let mut input = moments_of(&rt, 50)?;
+    input.push_str("moment 50\nown 0 0 1000 0 3600 0\n")?;
+    for _ in 0..20_000 {
+        input.push_str("x\n")?;
+    }
+    input.push_str("end\n")?;
+    for time in 51..100 {
+        add_moment(&rt, &mut input, time, 1)?;
+    }
+    let text = alone(&rt, input.as_bytes(), 400_000)?;
+    let words = ["daidalus", "replay", "--config", "c", "--workers", "16"];
+    let outside = Outside {
+        words: &words,
+        room: text.len(),
+        ..PLAIN
+    };
+    gives(&rt, input.as_bytes(), outside, 1, text.as_slice())
+}
+
+/// Pieces in which a moment ends, or two, or none, and which end within lines.
+#[test]
+fn pieces_of_a_moment_or_two_are_written(rt: HostRuntime) -> Result<(), Fail> {
+    let input = moments_of(&rt, 40)?;
+    let text = alone(&rt, input.as_bytes(), 20_000)?;
+    for size in [60, 97, 131, 200] {
+        let outside = Outside {
+            words: &TWO_WORKERS,
+            read_pieces: &[size; 60],
+            room: text.len(),
+            ..PLAIN
+        };
+        gives(&rt, input.as_bytes(), outside, 1, text.as_slice())?;
     }
     Ok(())
 }

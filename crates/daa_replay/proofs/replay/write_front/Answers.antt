@@ -7,8 +7,8 @@ pub returns-in_default-clause-ok : goal.returns-in_default-clause-ok
 returns-in_default-clause-ok g c =
     reaches_nothing (desk c.args.engine.now.settings c.args.progress.now (g.K.Sink.taken c.args.sink.now) (g.K.Sink.faults c.args.sink.now)) c.args.piece.now c.requires
 
-pub returns-then-not-has_moments-clause-ok : goal.returns-then-not-has_moments-clause-ok
-returns-then-not-has_moments-clause-ok g c =
+pub returns-then-not-has_two_ends-clause-ok : goal.returns-then-not-has_two_ends-clause-ok
+returns-then-not-has_two_ends-clause-ok g c =
     reaches_nothing (desk c.args.engine.now.settings c.args.progress.now (g.K.Sink.taken c.args.sink.now) (g.K.Sink.faults c.args.sink.now)) c.args.piece.now c.requires
 
 pub returns-in-Err-clause-err : goal.returns-in-Err-clause-err
