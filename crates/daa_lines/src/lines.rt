@@ -100,8 +100,8 @@ impl Lines {
         }
     }
 
-    /// The lines of the rest of an input, where so many bytes were fed and lines taken before it, and
-    /// the last of these lines ended with them.
+    /// The lines of the rest of an input, where so many bytes were fed and lines taken before it,
+    /// and the last of these lines ended with them.
     pub fn resume(fed: u64, number: u64) -> Self
         requires { number ≤ fed }
         ensures { result ≡ record {

@@ -85,8 +85,8 @@ pub(crate) struct Lane {
     most: usize,
 }
 
-/// A lane for each worker, and the places at which stretches of a piece begin and end, as far as was
-/// guessed. The lanes were filled up to the byte `tried` of the piece.
+/// A lane for each worker, and the places at which stretches of a piece begin and end, as far as
+/// they were guessed. The lanes were filled up to the byte `tried` of the piece.
 #[derive(Drop)]
 pub(crate) struct Batch {
     pub(crate) lanes: Vec<Lane>,
@@ -204,8 +204,8 @@ impl Lane {
         None
     }
 
-    /// Adds the texts of the events from a place up to a byte to the sheet, as far as there is room,
-    /// moment after moment. Returns up to which place they are there.
+    /// Adds the texts of the events from a place up to a byte to the sheet, moment after moment, as
+    /// far as there is room. Returns up to which place they are there.
     fn add_moments<G: Gate>(
         &mut self,
         config: &Config,
@@ -252,8 +252,8 @@ impl Lane {
         }
     }
 
-    /// Writes the texts of the events from a place up to a byte on the sheet, behind its other parts,
-    /// as far as there is room.
+    /// Writes the texts of the events from a place up to a byte on the sheet, behind its other
+    /// parts, as far as there is room.
     fn write<G: Gate>(&mut self, config: &Config, piece: &[u8], from: Place, until: usize, gate: &G)
         requires there { IsPlace piece.now from }
         requires filled { IsFilled config.now piece.now self.old }
@@ -564,8 +564,8 @@ fn part_from<'a>(lanes: &'a [Lane], done: usize) -> Option<PartText<'a>>
     None
 }
 
-/// Writes the texts on the sheets to the sink, in the order of the events, from a place on up to the
-/// first one at which no part begins. The lanes are filled on the way.
+/// Writes the texts on the sheets to the sink, in the order of the events, from a place on up to
+/// the first one at which no part begins. The lanes are filled on the way.
 fn write_parts<R: Threads + Sync, K: Sink, G: Gate>(
     tools: &Tools<'_, R, G>,
     config: &Config,

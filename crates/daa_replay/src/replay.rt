@@ -25,9 +25,9 @@ const MOST_READ: usize = 1 << 20;
 
 const MOST_READ_ALONE: usize = 1 << 16;
 
-/// Writes the texts of the events of a piece that the workers share, if there are workers, and if more
-/// than one moment seems to end in it: those of all its lines, and else none. Returns how many bytes
-/// are fed then.
+/// Writes the texts of the events of a piece that the workers share, if there are several, and if
+/// more than one moment seems to end in it: those of all its lines, and else none. Returns how many
+/// bytes are fed then.
 fn write_front<R: Threads + Sync, K: Sink, G: Gate>(
     tools: &Tools<'_, R, G>,
     engine: &mut Engine,

@@ -54,8 +54,8 @@ fn alone<R: Abort + Threads + Sync + AllocGlobal>(
     Ok(text)
 }
 
-/// Many moments, in pieces of any size and of some 200 moments, which end within lines. The sink has
-/// room for the text and no more, so that a write that is not needed, also of no bytes, fails.
+/// Many moments, in pieces of any size and of some 200 moments, which end within lines. The sink
+/// has room for the text and no more, so that a write that is not needed, also of no bytes, fails.
 #[test]
 fn moments_of_a_piece_are_shared_out(rt: HostRuntime) -> Result<(), Fail> {
     let input = moments_of(&rt, 1100)?;
