@@ -40,7 +40,7 @@ fn take_word(lines: &mut Lines, format: u32) -> Option<Result<Word, LineFault>>
 }
 
 /// The event of a word, if it has one; the word changes the moments.
-#[inline(never)]
+#[inline(always)]
 pub(crate) fn step(
     moments: &mut Moments,
     number: u64,

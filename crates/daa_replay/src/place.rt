@@ -30,6 +30,7 @@ pub(crate) struct Place {
 }
 
 /// Takes a word, and leaves its event.
+#[inline(never)]
 fn take_in(moments: &mut Moments, word: Word)
     requires { IsWordInRange word }
     ensures { moments.new ≡ next_state moments.old (step moments.old word) }
