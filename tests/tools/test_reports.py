@@ -252,7 +252,10 @@ class Pipes(unittest.TestCase):
             self.assertEqual((run.returncode, run.stdout, run.stderr), (status, "", said), words)
 
     def test_an_interrupt_ends_a_tool_by_its_signal(self):
-        run = subprocess.Popen([os.path.join(TOP, "tools", "steady")], stdin=subprocess.PIPE, stdout=subprocess.PIPE, stderr=subprocess.PIPE)
+        # (a shell that calls the gate in the background has the signal ignored)
+        heard = {"preexec_fn": lambda: signal.signal(signal.SIGINT, signal.SIG_DFL)}
+        pipes = {"stdin": subprocess.PIPE, "stdout": subprocess.PIPE, "stderr": subprocess.PIPE}
+        run = subprocess.Popen([os.path.join(TOP, "tools", "steady")], **pipes, **heard)
         run.stdin.write(REPORT.split("refused")[0].encode())
         run.stdin.flush()
         self.assertEqual(run.stdout.readline(), b"moment 0\n")
