@@ -87,7 +87,7 @@ fn part_upto<G: Gate>(config: &Config, clerks: &mut [Clerk], seed: u32, time: u3
     }
     let mut sequence = Sequence::of(seed);
     clerks[0]
-        .desk
+        .workspace
         .count(config, &mut sequence, time - 1, time, gate)
 }
 

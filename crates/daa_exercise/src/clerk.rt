@@ -29,17 +29,17 @@ pub(crate) struct Part {
 
 /// What a worker of this number decides moments on: the picture of one moment, room, and a board.
 #[derive(Drop)]
-pub(crate) struct Desk {
+pub(crate) struct Workspace {
     number: u32,
     picture: Picture,
     room: Room,
     board: Board,
 }
 
-/// A worker's desk, and the parts that it has counted.
+/// A worker's workspace, and the parts that it has counted.
 #[derive(Drop)]
 pub(crate) struct Clerk {
-    pub(crate) desk: Desk,
+    pub(crate) workspace: Workspace,
     pub(crate) parts: Vec<Part>,
 }
 
@@ -54,7 +54,7 @@ fn next_time(tickets: &Tickets, moments: u32) -> Option<u32>
     None
 }
 
-impl Desk {
+impl Workspace {
     /// Draws the next moment, decides it and counts it.
     fn count_next(&mut self, config: &Config, sequence: &mut Sequence, counts: &mut Counts)
         requires few { sequence.old.time < 10000 }
@@ -105,13 +105,13 @@ impl Clerk {
     pub(crate) fn new(alloc: Global, number: u32, parts: usize) -> Option<Clerk> {
         let room = Room::new(alloc).ok()?;
         let parts = Vec::with_capacity(alloc, parts).ok()?;
-        let desk = Desk {
+        let workspace = Workspace {
             number,
             picture: empty_picture(),
             room,
             board: Board::new(),
         };
-        Some(Clerk { desk, parts })
+        Some(Clerk { workspace, parts })
     }
 
     /// Draws tickets, and counts a part of so many moments of a seed for each, while there are
@@ -134,7 +134,9 @@ impl Clerk {
                 return;
             };
             let upto = from.saturating_add(FOR_ONE_TICKET).min(moments);
-            let part = self.desk.count(config, &mut sequence, from, upto, gate);
+            let part = self
+                .workspace
+                .count(config, &mut sequence, from, upto, gate);
             self.parts.push_reserved(part);
         }
     }

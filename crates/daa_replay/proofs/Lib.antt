@@ -5,7 +5,7 @@ pub mod TextLemmas
 pub mod ReportLemmas
 pub mod PlaceLemmas
 pub mod BatchLemmas
-pub mod DeskLemmas
+pub mod CourseLemmas
 pub mod ReplayLemmas
 pub mod FourWordLemmas
 pub mod OneReport

@@ -14,15 +14,15 @@ use Rattle.daa_replay.specs.Outside.{Outside, ShelfState, TakesSome, outside}
 use Rattle.daa_replay.specs.Replay.{ReadsAll}
 use Rattle.daa_replay.specs.Inside.Batch.{TakesTexts}
 use Rattle.daa_replay.specs.Inside.Events.{IsGiven}
-use Rattle.daa_replay.specs.Inside.Replay.{Desk, Breaks, EndsAs, Writes}
+use Rattle.daa_replay.specs.Inside.Replay.{Course, Breaks, EndsAs, Writes}
 use Rattle.daa_replay.specs.Inside.Run.{Leaves, Replays}
-use Rattle.daa_replay.proofs.DeskLemmas.{breaks_join, writes_join}
+use Rattle.daa_replay.proofs.CourseLemmas.{breaks_join, writes_join}
 use Rattle.daa_replay.proofs.GivenLemmas.{all_of}
 use Rattle.daa_replay.proofs.ReportLemmas.{IsBegun, stops-first, stops-more}
 use Rattle.daa_replay.proofs.SomeReport.{begun-front}
 
--- of an input that began at the first desk, these bytes were read
-module _ (d e : Desk) (bytes : Bytes) (begun : IsGiven [] [] d.progress) where
+-- of an input that began at the first course, these bytes were read
+module _ (d e : Course) (bytes : Bytes) (begun : IsGiven [] [] d.progress) where
   all_events : (last : Bool) → (w : Writes d bytes last e) → w.events ≡ events_of bytes last
   all_events last w = all_of last bytes w.events e.progress w.after (w.gives [] [] begun)
 
@@ -41,7 +41,7 @@ front_now : {settings : Settings} → IsAccepted settings → (old new : ToldByt
     → TakesSome (IsBegun settings bytes ended) old new → TakesSome (IsReportFront settings bytes ended) old new
 front_now {settings = settings} ok old new bytes ended s = record { text = s.text; is = begun-front settings ok bytes ended s.text s.is; taken = s.taken }
 
-module _ (places most : ℕ) (before after : ShelfState) (so sn : StreamState) (d e : Desk) (begun : IsGiven [] [] d.progress) (bytes : Bytes) (within : length bytes ≤ most) where
+module _ (places most : ℕ) (before after : ShelfState) (so sn : StreamState) (d e : Course) (begun : IsGiven [] [] d.progress) (bytes : Bytes) (within : length bytes ≤ most) where
   abbrev old : Outside
   old = outside before so (stream_state d.taken d.faults)
 
@@ -60,11 +60,11 @@ module _ (places most : ℕ) (before after : ShelfState) (so sn : StreamState) (
     write_calm = w.calm;
   }
 
-  whole : (mid : Desk) → Writes d bytes false mid → Writes mid [] true e → Writes d bytes true e
+  whole : (mid : Course) → Writes d bytes false mid → Writes mid [] true e → Writes d bytes true e
   whole mid w v = subst (λ (b : Bytes). Writes d b true e) (append-nil bytes) (writes_join d mid e bytes [] true w v)
 
   -- the end of the input was met
-  pub replays_over : IsAccepted d.settings → d.progress.any_refused ≡ false → (end : Status) (mid : Desk) → Writes d bytes false mid → EndsAs end mid e → ahead.ReadsAll so sn bytes
+  pub replays_over : IsAccepted d.settings → d.progress.any_refused ≡ false → (end : Status) (mid : Course) → Writes d bytes false mid → EndsAs end mid e → ahead.ReadsAll so sn bytes
       → Leaves (Replays d.settings most places) end old new
   replays_over ok none status.Accepted mid w (v, any) r =
       let all = whole mid w v in

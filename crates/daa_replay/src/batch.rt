@@ -13,7 +13,7 @@ ghost use Rattle.daa_replay.specs.Inside.Place.{HasLast, IsPlace, reading, readi
 
 use crate::events::{any_refusal, either, next_of_lines};
 use crate::lines::Event;
-use crate::moment::{Tools, write_event_alone, write_refusal};
+use crate::moment::{Context, write_event_alone, write_refusal};
 use crate::place::{Place, place_after, place_in_front};
 use daa_bands::Board;
 use daa_config::Config;
@@ -459,7 +459,7 @@ fn rest_of(piece: &[u8], done: usize) -> &[u8] {
 /// The workers write the texts of the events between the places upon their sheets, side by side:
 /// each takes the next stretch as soon as it is free.
 fn fill_lanes<R: Threads + Sync, G: Gate>(
-    tools: &Tools<'_, R, G>,
+    context: &Context<'_, R, G>,
     config: &Config,
     lanes: &mut [Lane],
     piece: &[u8],
@@ -470,9 +470,9 @@ fn fill_lanes<R: Threads + Sync, G: Gate>(
     requires { 0 < workers }
     ensures { All (IsFilled config.now piece.now) lanes.new }
 {
-    let gate = tools.gate;
+    let gate = context.gate;
     thread::for_each_mut(
-        tools.rt,
+        context.rt,
         lanes,
         workers,
         &|_number: usize, lane: &mut Lane|
@@ -483,7 +483,7 @@ fn fill_lanes<R: Threads + Sync, G: Gate>(
 
 /// No lane has a part of another piece any more: the lanes are filled between no places.
 fn clear_lanes<R: Threads + Sync, G: Gate>(
-    tools: &Tools<'_, R, G>,
+    context: &Context<'_, R, G>,
     config: &Config,
     batch: &mut Batch,
     piece: &[u8],
@@ -491,7 +491,7 @@ fn clear_lanes<R: Threads + Sync, G: Gate>(
     ensures { All (IsFilled config.now piece.now) batch.new.lanes.items }
 {
     let lanes = batch.lanes.as_mut_slice();
-    fill_lanes(tools, config, lanes, piece, &[], &Tickets::new(), 1);
+    fill_lanes(context, config, lanes, piece, &[], &Tickets::new(), 1);
     batch.tried = 0;
 }
 
@@ -516,7 +516,7 @@ fn evenly(workers: usize, all: usize) -> usize
 
 /// Has the lanes filled from a place on, if they were not by now.
 fn fill_from<R: Threads + Sync, G: Gate>(
-    tools: &Tools<'_, R, G>,
+    context: &Context<'_, R, G>,
     config: &Config,
     batch: &mut Batch,
     piece: &[u8],
@@ -543,7 +543,7 @@ fn fill_from<R: Threads + Sync, G: Gate>(
     let workers = evenly(workers_for(config, lines, all), all);
     let tickets = Tickets::new();
     let lanes = batch.lanes.as_mut_slice();
-    fill_lanes(tools, config, lanes, piece, places, &tickets, workers);
+    fill_lanes(context, config, lanes, piece, places, &tickets, workers);
     batch.tried = match places.get(tickets.draw()) {
         Some(place) => place.done,
         None => last.done,
@@ -567,7 +567,7 @@ fn part_from<'a>(lanes: &'a [Lane], done: usize) -> Option<PartText<'a>>
 /// Writes the texts on the sheets to the sink, in the order of the events, from a place on up to
 /// the first one at which no part begins. The lanes are filled on the way.
 fn write_parts<R: Threads + Sync, K: Sink, G: Gate>(
-    tools: &Tools<'_, R, G>,
+    context: &Context<'_, R, G>,
     config: &Config,
     sink: &mut K,
     batch: &mut Batch,
@@ -590,7 +590,7 @@ fn write_parts<R: Threads + Sync, K: Sink, G: Gate>(
         refused: false,
     };
     while reach.upto.done < piece.len() {
-        fill_from(tools, config, batch, piece, reach.upto);
+        fill_from(context, config, batch, piece, reach.upto);
         let Some(part) = part_from(batch.lanes.as_slice(), reach.upto.done) else {
             return Ok(reach);
         };
@@ -633,7 +633,7 @@ fn write_here<K: Sink, G: Gate>(
 /// and what is in none of them, as the rest of a moment of which the piece before had the front.
 /// Returns whether some event is a refusal.
 pub(crate) fn write_together<R: Threads + Sync, K: Sink, G: Gate>(
-    tools: &Tools<'_, R, G>,
+    context: &Context<'_, R, G>,
     engine: &mut Engine,
     sink: &mut K,
     batch: &mut Batch,
@@ -651,14 +651,14 @@ pub(crate) fn write_together<R: Threads + Sync, K: Sink, G: Gate>(
         (reading 0 lines.old moments.old) (K.taken sink.old) (K.taken sink.new)) }
     ensures cause { HasCause (K.faults sink.old) (K.faults sink.new) result }
 {
-    clear_lanes(tools, engine.config(), batch, piece);
+    clear_lanes(context, engine.config(), batch, piece);
     let mut done = 0;
     let mut refused = false;
     let mut here = place_in_front(lines, moments);
     while done < piece.len() {
         match here {
             Some(place) => {
-                let reach = write_parts(tools, engine.config(), sink, batch, piece, place)?;
+                let reach = write_parts(context, engine.config(), sink, batch, piece, place)?;
                 refused = either(refused, reach.refused);
                 *lines = reach.upto.lines();
                 *moments = reach.upto.moments();
@@ -668,7 +668,7 @@ pub(crate) fn write_together<R: Threads + Sync, K: Sink, G: Gate>(
             None => {
                 if let Some(event) = next_of_lines(lines, moments, piece, &mut done) {
                     refused = any_refusal(refused, &event);
-                    write_here(tools.gate, engine, sink, &event, unit_of(lines))?;
+                    write_here(context.gate, engine, sink, &event, unit_of(lines))?;
                     here = place_behind(lines, moments, &event, done);
                 }
             }

@@ -16,7 +16,7 @@ use std::thread::Threads;
 
 /// The threads that the workers run in, memory, and the gate that each worker passes.
 #[derive(Drop)]
-pub(crate) struct Tools<'a, R, G> {
+pub(crate) struct Context<'a, R, G> {
     pub(crate) rt: &'a R,
     pub(crate) alloc: Global,
     pub(crate) gate: &'a G,
@@ -34,7 +34,7 @@ pub(crate) fn write_refusal<K: Sink>(sink: &mut K, number: u64, code: u8) -> Res
 
 /// Writes the text of an event: the line of a refusal, or the lines of an ended moment.
 pub(crate) fn write_event<R: Threads + Sync, K: Sink, G: Gate>(
-    tools: &Tools<'_, R, G>,
+    context: &Context<'_, R, G>,
     engine: &mut Engine,
     sink: &mut K,
     event: &Event,
@@ -48,7 +48,13 @@ pub(crate) fn write_event<R: Threads + Sync, K: Sink, G: Gate>(
 {
     match event {
         Event::Refused(number, fault) => write_refusal(sink, *number, fault.code()),
-        Event::Ended(picture) => engine.report(tools.rt, tools.alloc, picture, sink, tools.gate),
+        Event::Ended(picture) => engine.report(
+            context.rt,
+            context.alloc,
+            picture,
+            sink,
+            context.gate,
+        ),
     }
 }
 

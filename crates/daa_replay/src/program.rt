@@ -9,7 +9,7 @@ ghost use Rattle.daa_replay.specs.Inside.Run.{Leaves, Performs};
 ghost use Rattle.daa_replay.specs.Inside.Opening.{WorkIsInRange};
 
 use crate::judge::run_judge;
-use crate::moment::Tools;
+use crate::moment::Context;
 use crate::opening::{Ready, Work, open};
 use crate::replay::run_replay;
 use crate::status::{Status, status_of, write_reason};
@@ -23,7 +23,7 @@ const MOST_BYTES: u64 = 1 << 40;
 
 /// Runs what the words ask for.
 fn run_words<R: Threads + Sync, F: Shelf, S: Source + Send, K: Sink + Send, G: Gate>(
-    tools: &Tools<'_, R, G>,
+    context: &Context<'_, R, G>,
     words: &[String],
     shelf: &mut F,
     source: &mut S,
@@ -40,8 +40,8 @@ fn run_words<R: Threads + Sync, F: Shelf, S: Source + Send, K: Sink + Send, G: G
         (stream_state (S.left source.new) (S.faults source.new))
         (stream_state (K.taken sink.new) (K.faults sink.new))) }
 {
-    match open(tools.alloc, words, shelf) {
-        Ok(ready) => run_work(tools, ready, source, sink, most),
+    match open(context.alloc, words, shelf) {
+        Ok(ready) => run_work(context, ready, source, sink, most),
         Err(why) => write_reason(why, sink),
     }
 }
@@ -88,8 +88,8 @@ pub fn run_within<R: Threads + Sync, F: Shelf, S: Source + Send, K: Sink + Send,
         (stream_state (S.left source.new) (S.faults source.new))
         (stream_state (K.taken sink.new) (K.faults sink.new))) }
 {
-    let tools = Tools { rt, alloc, gate };
-    run_words(&tools, words, shelf, source, sink, most).code()
+    let context = Context { rt, alloc, gate };
+    run_words(&context, words, shelf, source, sink, most).code()
 }
 
 /// Carries out the task that the command words ask for, as [`run_within`] does, and reads at most
@@ -116,7 +116,7 @@ pub fn run<R: Threads + Sync, F: Shelf, S: Source + Send, K: Sink + Send, G: Gat
 
 /// Runs a replay or a comparison, which reads at most `most` bytes, or an exercise.
 pub(crate) fn run_work<R: Threads + Sync, S: Source + Send, K: Sink + Send, G: Gate>(
-    tools: &Tools<'_, R, G>,
+    context: &Context<'_, R, G>,
     ready: Ready,
     source: &mut S,
     sink: &mut K,
@@ -134,16 +134,16 @@ pub(crate) fn run_work<R: Threads + Sync, S: Source + Send, K: Sink + Send, G: G
 {
     let Ready { mut engine, work } = ready;
     match work {
-        Work::Replay { ahead } => run_replay(tools, &mut engine, source, sink, ahead, most),
+        Work::Replay { ahead } => run_replay(context, &mut engine, source, sink, ahead, most),
         Work::Exercise { seed, moments } => {
             let said = exercise(
                 &mut engine,
-                tools.rt,
-                tools.alloc,
+                context.rt,
+                context.alloc,
                 seed,
                 moments,
                 sink,
-                tools.gate,
+                context.gate,
             );
             status_of(said, Status::Accepted)
         }

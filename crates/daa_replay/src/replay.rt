@@ -3,7 +3,7 @@
 ghost use Rattle.std.specs.Prelude.{◌≡◌, ◌<◌, ◌^◌, [], Bool, IfOk, OnOk, OnErr, ◌≤◌, length};
 ghost use Rattle.daa_ahead.specs.Bytes.{stream_state};
 ghost use Rattle.daa_replay.specs.Inside.Events.{IsBetween, IsGiven};
-ghost use Rattle.daa_replay.specs.Inside.Replay.{Breaks, CanReport, EndsAs, Reaches, Steps, Writes, desk};
+ghost use Rattle.daa_replay.specs.Inside.Replay.{Breaks, CanReport, EndsAs, Reaches, Steps, Writes, course};
 ghost use Rattle.daa_ahead.specs.Moves.{Moves, wants_more};
 ghost use Rattle.daa_ahead.specs.Taker.{CanTake, TakesBytes};
 ghost use Rattle.daa_replay.specs.Outside.{ShelfState, outside};
@@ -11,7 +11,7 @@ ghost use Rattle.daa_replay.specs.Inside.Run.{Leaves, Replays};
 
 use crate::batch::{Batch, batch_in, has_two_ends, write_together};
 use crate::events::{Progress, any_refusal, begin, has_more, next_event};
-use crate::moment::{Tools, write_event};
+use crate::moment::{Context, write_event};
 use crate::status::Status;
 use daa_ahead::{BUFFER, Calls, Ended, Taker, ahead, in_turn};
 use daa_engine::Engine;
@@ -29,21 +29,21 @@ const MOST_READ_ALONE: usize = 1 << 16;
 /// more than one moment seems to end in it: those of all its lines, and else none. Returns how many
 /// bytes are fed then.
 fn write_front<R: Threads + Sync, K: Sink, G: Gate>(
-    tools: &Tools<'_, R, G>,
+    context: &Context<'_, R, G>,
     engine: &mut Engine,
     progress: &mut Progress,
     batch: &mut Option<Batch>,
     sink: &mut K,
     piece: &[u8],
 ) -> Result<usize, SinkFault>
-    requires { CanReport (desk engine.old.settings progress.old (K.taken sink.old)
+    requires { CanReport (course engine.old.settings progress.old (K.taken sink.old)
         (K.faults sink.old)) (length piece.now) }
-    ensures ok { IfOk result (λ done. (last : Bool) → Reaches (desk engine.old.settings progress.old
+    ensures ok { IfOk result (λ done. (last : Bool) → Reaches (course engine.old.settings progress.old
         (K.taken sink.old) (K.faults sink.old)) piece.now done last
-        (desk engine.new.settings progress.new (K.taken sink.new) (K.faults sink.new))) }
-    ensures err { OnErr result ((last : Bool) → Breaks (desk engine.old.settings progress.old
+        (course engine.new.settings progress.new (K.taken sink.new) (K.faults sink.new))) }
+    ensures err { OnErr result ((last : Bool) → Breaks (course engine.old.settings progress.old
         (K.taken sink.old) (K.faults sink.old)) piece.now last
-        (desk engine.new.settings progress.new (K.taken sink.new) (K.faults sink.new))) }
+        (course engine.new.settings progress.new (K.taken sink.new) (K.faults sink.new))) }
 {
     let Some(batch) = batch else {
         return Ok(0);
@@ -53,7 +53,7 @@ fn write_front<R: Threads + Sync, K: Sink, G: Gate>(
     }
     let lines = &mut progress.lines;
     let moments = &mut progress.moments;
-    match write_together(tools, engine, sink, batch, lines, moments, piece) {
+    match write_together(context, engine, sink, batch, lines, moments, piece) {
         Ok(refused) => {
             progress.any_refused = progress.any_refused || refused;
             Ok(piece.len())
@@ -64,7 +64,7 @@ fn write_front<R: Threads + Sync, K: Sink, G: Gate>(
 
 /// Writes the texts of the events of a piece; if it is the last one, also those of the end.
 fn write_piece<R: Threads + Sync, K: Sink, G: Gate>(
-    tools: &Tools<'_, R, G>,
+    context: &Context<'_, R, G>,
     engine: &mut Engine,
     progress: &mut Progress,
     batch: &mut Option<Batch>,
@@ -72,20 +72,20 @@ fn write_piece<R: Threads + Sync, K: Sink, G: Gate>(
     piece: &[u8],
     last: bool,
 ) -> Result<(), SinkFault>
-    requires { CanReport (desk engine.old.settings progress.old (K.taken sink.old)
+    requires { CanReport (course engine.old.settings progress.old (K.taken sink.old)
         (K.faults sink.old)) (length piece.now) }
-    ensures ok { OnOk result (Writes (desk engine.old.settings progress.old (K.taken sink.old)
+    ensures ok { OnOk result (Writes (course engine.old.settings progress.old (K.taken sink.old)
         (K.faults sink.old)) piece.now last
-        (desk engine.new.settings progress.new (K.taken sink.new) (K.faults sink.new))) }
-    ensures err { OnErr result (Breaks (desk engine.old.settings progress.old (K.taken sink.old)
+        (course engine.new.settings progress.new (K.taken sink.new) (K.faults sink.new))) }
+    ensures err { OnErr result (Breaks (course engine.old.settings progress.old (K.taken sink.old)
         (K.faults sink.old)) piece.now last
-        (desk engine.new.settings progress.new (K.taken sink.new) (K.faults sink.new))) }
+        (course engine.new.settings progress.new (K.taken sink.new) (K.faults sink.new))) }
 {
-    let mut done = write_front(tools, engine, progress, batch, sink, piece)?;
+    let mut done = write_front(context, engine, progress, batch, sink, piece)?;
     while has_more(progress, piece, done, last) {
         if let Some(event) = next_event(progress, piece, &mut done, last) {
             progress.any_refused = any_refusal(progress.any_refused, &event);
-            match write_event(tools, engine, sink, &event) {
+            match write_event(context, engine, sink, &event) {
                 Ok(()) => {}
                 Err(fault) => return Err(fault),
             }
@@ -96,20 +96,20 @@ fn write_piece<R: Threads + Sync, K: Sink, G: Gate>(
 
 /// Takes a piece, and returns whether its text was written.
 fn take_piece<R: Threads + Sync, K: Sink, G: Gate>(
-    tools: &Tools<'_, R, G>,
+    context: &Context<'_, R, G>,
     engine: &mut Engine,
     sink: &mut K,
     progress: &mut Progress,
     batch: &mut Option<Batch>,
     piece: &[u8],
 ) -> bool
-    requires { CanReport (desk engine.old.settings progress.old (K.taken sink.old)
+    requires { CanReport (course engine.old.settings progress.old (K.taken sink.old)
         (K.faults sink.old)) (length piece.now) }
-    ensures { Steps (desk engine.old.settings progress.old (K.taken sink.old)
+    ensures { Steps (course engine.old.settings progress.old (K.taken sink.old)
         (K.faults sink.old)) piece.now result
-        (desk engine.new.settings progress.new (K.taken sink.new) (K.faults sink.new)) }
+        (course engine.new.settings progress.new (K.taken sink.new) (K.faults sink.new)) }
 {
-    match write_piece(tools, engine, progress, batch, sink, piece, false) {
+    match write_piece(context, engine, progress, batch, sink, piece, false) {
         Ok(()) => true,
         Err(_) => false,
     }
@@ -117,7 +117,7 @@ fn take_piece<R: Threads + Sync, K: Sink, G: Gate>(
 
 /// Reads for the taker: in turn if `places` is 0, else ahead of it by up to `places` pieces.
 fn read_for<R: Threads + Sync, S: Source + Send, T: Taker + Send, G>(
-    tools: &Tools<'_, R, G>,
+    context: &Context<'_, R, G>,
     source: &mut S,
     places: u32,
     most: u64,
@@ -135,12 +135,12 @@ fn read_for<R: Threads + Sync, S: Source + Send, T: Taker + Send, G>(
     if places == 0 {
         return in_turn(source, most, taker, buf);
     }
-    ahead(tools.rt, tools.alloc, source, places, most, taker, buf)
+    ahead(context.rt, context.alloc, source, places, most, taker, buf)
 }
 
 /// Reads at most `most` bytes, and reports them as they are taken.
 fn write_all<R: Threads + Sync, S: Source + Send, K: Sink + Send, G: Gate>(
-    tools: &Tools<'_, R, G>,
+    context: &Context<'_, R, G>,
     engine: &mut Engine,
     source: &mut S,
     sink: &mut K,
@@ -159,38 +159,38 @@ fn write_all<R: Threads + Sync, S: Source + Send, K: Sink + Send, G: Gate>(
     ensures moves { Moves places result most
         (stream_state (S.left source.old) (S.faults source.old))
         (stream_state (S.left source.new) (S.faults source.new))
-        (λ bytes. Steps (desk engine.old.settings progress.old (K.taken sink.old)
+        (λ bytes. Steps (course engine.old.settings progress.old (K.taken sink.old)
         (K.faults sink.old)) bytes (wants_more result)
-        (desk engine.new.settings progress.new (K.taken sink.new) (K.faults sink.new))) }
+        (course engine.new.settings progress.new (K.taken sink.new) (K.faults sink.new))) }
 {
     let mut taker = Calls {
         call: |piece: &[u8]| -> bool
-            requires { CanReport (desk engine.now.settings progress.now (K.taken sink.now)
+            requires { CanReport (course engine.now.settings progress.now (K.taken sink.now)
                 (K.faults sink.now)) (length piece.now) }
-            ensures { Steps (desk engine.entry.now.settings progress.entry.now
+            ensures { Steps (course engine.entry.now.settings progress.entry.now
                 (K.taken sink.entry.now) (K.faults sink.entry.now)) piece.entry.now result
-                (desk engine.exit.now.settings progress.exit.now (K.taken sink.exit.now)
+                (course engine.exit.now.settings progress.exit.now (K.taken sink.exit.now)
                 (K.faults sink.exit.now)) }
-        { take_piece(tools, engine, sink, progress, batch, piece) },
+        { take_piece(context, engine, sink, progress, batch, piece) },
     };
-    read_for(tools, source, places, most, &mut taker, buf)
+    read_for(context, source, places, most, &mut taker, buf)
 }
 
 /// The input is over: writes the texts of the events that it still has.
 fn write_end<R: Threads + Sync, K: Sink, G: Gate>(
-    tools: &Tools<'_, R, G>,
+    context: &Context<'_, R, G>,
     engine: &mut Engine,
     progress: &mut Progress,
     batch: &mut Option<Batch>,
     sink: &mut K,
 ) -> Status
-    requires { CanReport (desk engine.old.settings progress.old (K.taken sink.old)
+    requires { CanReport (course engine.old.settings progress.old (K.taken sink.old)
         (K.faults sink.old)) 0 }
     ensures { EndsAs result
-        (desk engine.old.settings progress.old (K.taken sink.old) (K.faults sink.old))
-        (desk engine.new.settings progress.new (K.taken sink.new) (K.faults sink.new)) }
+        (course engine.old.settings progress.old (K.taken sink.old) (K.faults sink.old))
+        (course engine.new.settings progress.new (K.taken sink.new) (K.faults sink.new)) }
 {
-    match write_piece(tools, engine, progress, batch, sink, &[], true) {
+    match write_piece(context, engine, progress, batch, sink, &[], true) {
         Ok(()) if progress.any_refused => Status::Refused,
         Ok(()) => Status::Accepted,
         Err(_) => Status::SinkFault,
@@ -200,7 +200,7 @@ fn write_end<R: Threads + Sync, K: Sink, G: Gate>(
 /// Writes the report of the source's bytes as `run_replay` does, with the lanes of the workers, if
 /// there are any.
 fn replay_with<R: Threads + Sync, S: Source + Send, K: Sink + Send, G: Gate>(
-    tools: &Tools<'_, R, G>,
+    context: &Context<'_, R, G>,
     engine: &mut Engine,
     source: &mut S,
     sink: &mut K,
@@ -223,7 +223,7 @@ fn replay_with<R: Threads + Sync, S: Source + Send, K: Sink + Send, G: Gate>(
     let _config = engine.config();
     let mut progress = begin();
     match write_all(
-        tools,
+        context,
         engine,
         source,
         sink,
@@ -233,7 +233,7 @@ fn replay_with<R: Threads + Sync, S: Source + Send, K: Sink + Send, G: Gate>(
         places,
         most,
     ) {
-        Ended::End => write_end(tools, engine, &mut progress, batch, sink),
+        Ended::End => write_end(context, engine, &mut progress, batch, sink),
         Ended::Fault => Status::SourceFault,
         Ended::Limit => Status::Limit,
         Ended::Stopped => Status::SinkFault,
@@ -257,7 +257,7 @@ fn buffer_in(alloc: Global, workers: u32) -> Vec<u8> {
 /// Writes the report of the source's bytes, at most `most` of them, under this configuration. It
 /// reads in turn if `places` is 0, and else ahead by up to `places` pieces.
 pub(crate) fn run_replay<R: Threads + Sync, S: Source + Send, K: Sink + Send, G: Gate>(
-    tools: &Tools<'_, R, G>,
+    context: &Context<'_, R, G>,
     engine: &mut Engine,
     source: &mut S,
     sink: &mut K,
@@ -273,14 +273,14 @@ pub(crate) fn run_replay<R: Threads + Sync, S: Source + Send, K: Sink + Send, G:
         (outside after (stream_state (S.left source.new) (S.faults source.new))
         (stream_state (K.taken sink.new) (K.faults sink.new))) }
 {
-    let mut batch = batch_in(tools.alloc, engine.workers());
-    let mut large = buffer_in(tools.alloc, engine.workers());
+    let mut batch = batch_in(context.alloc, engine.workers());
+    let mut large = buffer_in(context.alloc, engine.workers());
     if large.is_empty() {
         let mut small = [0u8; BUFFER];
         return replay_with(
-            tools, engine, source, sink, &mut batch, &mut small, places, most,
+            context, engine, source, sink, &mut batch, &mut small, places, most,
         );
     }
     let buf = large.as_mut_slice();
-    replay_with(tools, engine, source, sink, &mut batch, buf, places, most)
+    replay_with(context, engine, source, sink, &mut batch, buf, places, most)
 }

@@ -14,24 +14,24 @@ use Rattle.daa_replay.specs.Inside.Events.{IsAfter, IsAt, IsBetween, IsFront, Is
 use Rattle.daa_replay.specs.Inside.Batch.{StopsWithin, TakesTexts}
 
 -- the engine's configuration, how far the input was read, and what the sink took and counted
-pub record Desk : Type 0 where
+pub record Course : Type 0 where
   pub settings : Settings
   pub progress : Progress
   pub taken : ToldBytes
   pub faults : ℕ
 
--- a desk of these parts
-abbrev pub desk : Settings → Progress → ToldBytes → ℕ → Desk
-desk settings progress taken faults =
+-- a course of these parts
+abbrev pub course : Settings → Progress → ToldBytes → ℕ → Course
+course settings progress taken faults =
     record { settings = settings; progress = progress; taken = taken; faults = faults }
 
 -- it may be given a piece of this size
-pub record CanReport (d : Desk) (size : ℕ) : Type 0 where
+pub record CanReport (d : Course) (size : ℕ) : Type 0 where
   pub between : IsBetween d.progress
   pub room : d.progress.lines.fed + size < 2 ^ 63
 
 -- the sink took the texts of the events of a piece up to some byte, whatever was given before it
-pub record Reaches (d : Desk) (piece : Bytes) (done : ℕ) (last : Bool) (e : Desk) : Type 0 where
+pub record Reaches (d : Course) (piece : Bytes) (done : ℕ) (last : Bool) (e : Course) : Type 0 where
   pub same : e.settings ≡ d.settings
   pub at : IsAt (length piece) done last e.progress
   pub calm : e.faults ≡ d.faults
@@ -41,7 +41,7 @@ pub record Reaches (d : Desk) (piece : Bytes) (done : ℕ) (last : Bool) (e : De
   pub refusals : e.progress.any_refused ≡ (d.progress.any_refused || list_any is_refusal events)
   pub taken : TakesTexts d.settings events d.taken e.taken
 
-module _ (d : Desk) (piece : Bytes) (last : Bool) (e : Desk) where
+module _ (d : Course) (piece : Bytes) (last : Bool) (e : Course) where
   -- the sink took the texts of the events of the piece, whatever was given before it
   pub record Writes : Type 0 where
     pub same : e.settings ≡ d.settings
@@ -63,12 +63,12 @@ module _ (d : Desk) (piece : Bytes) (last : Bool) (e : Desk) where
     pub stops : StopsWithin d.settings events d.taken e.taken
 
 -- whether the sink took all that the piece gives
-abbrev pub Steps : Desk → Bytes → Bool → Desk → Type 0
+abbrev pub Steps : Course → Bytes → Bool → Course → Type 0
 Steps d piece true e = Writes d piece false e
 Steps d piece false e = Breaks d piece false e
 
 -- what the end of the input gives, by the status
-abbrev pub EndsAs : Status → Desk → Desk → Type 0
+abbrev pub EndsAs : Status → Course → Course → Type 0
 EndsAs Accepted d e = Writes d [] true e × (e.progress.any_refused ≡ false)
 EndsAs Refused d e = Writes d [] true e × (e.progress.any_refused ≡ true)
 EndsAs SinkFault d e = Breaks d [] true e

@@ -7,7 +7,7 @@ use Rattle.daa_replay.specs.declared.events.Progress.{Progress}
 use Rattle.daa_replay.specs.declared.lines.Event.{Event}
 use Rattle.daa_replay.specs.Moment.{IsEventText}
 use Rattle.daa_replay.specs.Inside.Events.{IsGiven}
-use Rattle.daa_replay.specs.Inside.Replay.{Breaks, Desk, desk}
+use Rattle.daa_replay.specs.Inside.Replay.{Breaks, Course, course}
 use Rattle.daa_replay.proofs.BatchLemmas.{stops-after, stops-one, takes-event}
 use Rattle.daa_replay.proofs.GivenLemmas.{first_of, refused_more}
 use Rattle.daa_replay.proofs.replay.write_piece.Goals as goal
@@ -56,8 +56,8 @@ returns-in-Err-clause-err g c =
       left = c.next_event.new.progress.left;
       any_refused = c.any_refusal-progress.result;
     } in
-    let old : Desk = desk settings c.args.progress.now (g.K.Sink.taken c.args.sink.now) (g.K.Sink.faults c.args.sink.now) in
-    let new : Desk = desk c.write_event.new.engine.settings progress (g.K.Sink.taken c.write_event.new.sink) (g.K.Sink.faults c.write_event.new.sink) in
+    let old : Course = course settings c.args.progress.now (g.K.Sink.taken c.args.sink.now) (g.K.Sink.faults c.args.sink.now) in
+    let new : Course = course c.write_event.new.engine.settings progress (g.K.Sink.taken c.write_event.new.sink) (g.K.Sink.faults c.write_event.new.sink) in
     let breaks : Breaks old c.args.piece.now c.args.last new = record {
       risen = subst (λ (n : ℕ). HasRisen n (g.K.Sink.faults c.write_event.new.sink)) i.calm said.2.cause.risen;
       later = omega (arith, i.calm, said.2.cause.later);

@@ -3,7 +3,7 @@ use Rattle.daa_exercise.specs.Inside.Counting.{AreCounted}
 use Rattle.daa_exercise.specs.Outputs.{outputs_of}
 use Rattle.daa_exercise.proofs.CountLemmas.{roomy}
 use Rattle.daa_exercise.proofs.JoinLemmas.{none_between, time_counted}
-use Rattle.daa_exercise.proofs.clerk.Desk.count.Goals as goal
+use Rattle.daa_exercise.proofs.clerk.Workspace.count.Goals as goal
 
 pub loop-time-init : goal.loop-time-init
 loop-time-init g c =

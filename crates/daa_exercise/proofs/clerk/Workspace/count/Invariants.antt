@@ -1,7 +1,7 @@
 use Rattle.std.proofs.Common.{◌≡◌, ◌-◌}
 use Rattle.daa_exercise.specs.Inside.Counting.{AreCounted}
 use Rattle.daa_exercise.specs.Outputs.{outputs_of}
-use Rattle.daa_exercise.proofs.clerk.Desk.count.Given as goal
+use Rattle.daa_exercise.proofs.clerk.Workspace.count.Given as goal
 
 -- the moments so far are counted, and this is the next
 abbrev pub invariant-loop-time : goal.invariant-loop-time

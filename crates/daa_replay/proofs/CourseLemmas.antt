@@ -14,7 +14,7 @@ use Rattle.daa_lines.specs.LinesOf.{Bytes}
 use Rattle.daa_outside.specs.Faults.{HasRisen}
 use Rattle.daa_replay.specs.declared.events.Progress.{Progress}
 use Rattle.daa_replay.specs.declared.batch.Batch.{Batch}
-use Rattle.daa_replay.specs.declared.moment.Tools.{Tools}
+use Rattle.daa_replay.specs.declared.moment.Context.{Context}
 use Rattle.daa_replay.specs.declared.lines.Event.{Event}
 use Rattle.daa_replay.specs.Lines.{events_of, is_refusal}
 use Rattle.daa_replay.specs.declared.events.Left.{Left}
@@ -23,14 +23,14 @@ use Rattle.daa_replay.specs.Inside.Batch.{Fails, Shares, StopsWithin, TakesTexts
 use Rattle.daa_replay.specs.Inside.Events.{CanGive, Gave, HasLines, IsBetween, IsFront, IsGiven}
 use Rattle.daa_replay.specs.Inside.Lines.{Follows}
 use Rattle.daa_replay.specs.Inside.Place.{reading}
-use Rattle.daa_replay.specs.Inside.Replay.{Desk, desk, CanReport, Reaches, Writes, Breaks, Steps}
+use Rattle.daa_replay.specs.Inside.Replay.{Course, course, CanReport, Reaches, Writes, Breaks, Steps}
 use Rattle.daa_replay.proofs.BatchLemmas.{stops-after, takes-more, takes-nothing}
 use Rattle.daa_replay.proofs.GivenLemmas.{as_left, at_start, fed_so_far, given_as, given_first, or_assoc, or_false}
 
 -- ---- the front of a piece
 
 -- nothing of it was fed
-pub reaches_nothing : (d : Desk) (piece : Bytes) → CanReport d (length piece) → (last : Bool) → Reaches d piece 0 last d
+pub reaches_nothing : (d : Course) (piece : Bytes) → CanReport d (length piece) → (last : Bool) → Reaches d piece 0 last d
 reaches_nothing d piece can last = record {
   same = refl;
   at = at_start (length piece) last d.progress can.between can.room;
@@ -46,7 +46,7 @@ follows_front bytes piece given p between is =
     subst (λ (b : Bytes). Follows b given p.lines p.moments) (sym (append-nil bytes)) (as_left bytes given p left.Lines between.left is)
 
 -- all its lines were shared out
-pub reaches_shares : (d e : Desk) (piece : Bytes) (refused : Bool) → CanReport d (length piece) → e.settings ≡ d.settings → e.faults ≡ d.faults → e.progress.left ≡ d.progress.left
+pub reaches_shares : (d e : Course) (piece : Bytes) (refused : Bool) → CanReport d (length piece) → e.settings ≡ d.settings → e.faults ≡ d.faults → e.progress.left ≡ d.progress.left
     → e.progress.any_refused ≡ (d.progress.any_refused || refused) → HasLines 0 e.progress.lines
     → Shares d.settings piece (reading 0 d.progress.lines d.progress.moments) (reading (length piece) e.progress.lines e.progress.moments) refused d.taken e.taken
     → (last : Bool) → Reaches d piece (length piece) last e
@@ -68,7 +68,7 @@ reaches_shares d e piece refused can same calm stays refusals has x last =
     }
 
 -- the sink failed within their texts
-pub breaks_fails : (d e : Desk) (piece : Bytes) → CanReport d (length piece) → HasRisen d.faults e.faults → d.faults ≤ e.faults
+pub breaks_fails : (d e : Course) (piece : Bytes) → CanReport d (length piece) → HasRisen d.faults e.faults → d.faults ≤ e.faults
     → Fails d.settings piece (reading 0 d.progress.lines d.progress.moments) d.taken e.taken → (last : Bool) → Breaks d piece last e
 breaks_fails d e piece can risen later x last = record {
   risen = risen;
@@ -81,8 +81,8 @@ breaks_fails d e piece can risen later x last = record {
 
 -- ---- pieces put together
 
-writes_nothing : (d e : Desk) → e ≡ d → IsBetween d.progress → Writes d [] false e
-writes_nothing d e same between = subst (λ (x : Desk). Writes d [] false x) (sym same) (record {
+writes_nothing : (d e : Course) → e ≡ d → IsBetween d.progress → Writes d [] false e
+writes_nothing d e same between = subst (λ (x : Course). Writes d [] false x) (sym same) (record {
   same = refl;
   after = between;
   calm = refl;
@@ -92,7 +92,7 @@ writes_nothing d e same between = subst (λ (x : Desk). Writes d [] false x) (sy
   taken = takes-nothing d.settings d.taken;
 })
 
-pub writes_join : (d e f : Desk) (piece later : Bytes) (last : Bool) → Writes d piece false e → Writes e later last f → Writes d (piece ++ later) last f
+pub writes_join : (d e f : Course) (piece later : Bytes) (last : Bool) → Writes d piece false e → Writes e later last f → Writes d (piece ++ later) last f
 writes_join d e f piece later last w v = record {
   same = v.same ∙ w.same;
   after = v.after;
@@ -107,7 +107,7 @@ writes_join d e f piece later last w v = record {
       (subst (λ (s : Settings). TakesTexts s v.events e.taken f.taken) w.same v.taken);
 }
 
-pub breaks_join : (d e f : Desk) (piece later : Bytes) (last : Bool) → Writes d piece false e → Breaks e later last f → Breaks d (piece ++ later) last f
+pub breaks_join : (d e f : Course) (piece later : Bytes) (last : Bool) → Writes d piece false e → Breaks e later last f → Breaks d (piece ++ later) last f
 breaks_join d e f piece later last w v = record {
   risen = subst (λ (n : ℕ). HasRisen n f.faults) w.calm v.risen;
   later = omega (arith, w.calm, v.later);
@@ -122,9 +122,9 @@ breaks_join d e f piece later last w v = record {
 concat_last : (front : List Bytes) (last : Bytes) → concat (front ++ last ∷ []) ≡ concat front ++ last
 concat_last front last = concat-append front (last ∷ []) ∙ ap (λ (b : Bytes). concat front ++ b) (append-nil last)
 
--- ---- a taker whose pieces are steps of a desk
+-- ---- a taker whose pieces are steps of a course
 
-module _ {T : Type 0} (takes : T → Bytes → Bool → T → Type 0) (desk_of : T → Desk) (steps : (t : T) (piece : Bytes) (answer : Bool) (u : T) → takes t piece answer u → Steps (desk_of t) piece answer (desk_of u)) where
+module _ {T : Type 0} (takes : T → Bytes → Bool → T → Type 0) (desk_of : T → Course) (steps : (t : T) (piece : Bytes) (answer : Bool) (u : T) → takes t piece answer u → Steps (desk_of t) piece answer (desk_of u)) where
   pub writes_all : (a : T) (pieces : List Bytes) (b : T) → IsBetween (desk_of a).progress → TakesAll takes a pieces b → Writes (desk_of a) (concat pieces) false (desk_of b)
   unfolding TakesAll
   writes_all a [] b between t = writes_nothing (desk_of a) (desk_of b) (ap desk_of t) between
@@ -169,12 +169,12 @@ module _ {T X : Type 0} (takes : T → Bytes → Bool → T → Type 0) (name : 
 
 -- ---- the closure that reports
 
--- what it holds: the tools, the engine, the sink, how far the report has come, and the lanes
+-- what it holds: the context, the engine, the sink, how far the report has come, and the lanes
 abbrev pub Held : Type 0 → Type 0 → Type 0 → Type 0
-Held R K G = Calls (Bor (Tools R G) × MutBor Engine × MutBor K × MutBor Progress × MutBor (Option Batch))
+Held R K G = Calls (Bor (Context R G) × MutBor Engine × MutBor K × MutBor Progress × MutBor (Option Batch))
 
-abbrev pub held_desk : {R K G : Type 0} → (K → ToldBytes) → (K → ℕ) → Held R K G → Desk
-held_desk taken faults t = desk t.call.1.now.settings t.call.3.now (taken t.call.2.now) (faults t.call.2.now)
+abbrev pub held_desk : {R K G : Type 0} → (K → ToldBytes) → (K → ℕ) → Held R K G → Course
+held_desk taken faults t = course t.call.1.now.settings t.call.3.now (taken t.call.2.now) (faults t.call.2.now)
 
 -- the same of a part of what moved
 pub moves_of : (places : ℕ) (ended : Ended) (most : ℕ) (old new : StreamState) (P Q : Bytes → Type 0) → ((bytes : Bytes) → P bytes → Q bytes) → Moves places ended most old new P → Moves places ended most old new Q
