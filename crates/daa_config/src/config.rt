@@ -1,8 +1,11 @@
 //! A configuration that was accepted, and its readers.
 
 ghost use Rattle.std.specs.Prelude.{◌≡◌, ◌<◌, ◌+◌, ◌≤◌, length, slice_get, option_map};
-ghost use Rattle.std.specs.Prelude.{Some, pos, ℕ, ◌≤ℤ◌, ◌+ℤ◌, ◌*ℤ◌, All, Contains};
+ghost use Rattle.std.specs.Prelude.{Some, pos, ℕ, ℤ, ◌≤ℤ◌, ◌+ℤ◌, ◌*ℤ◌, All, Contains};
 ghost use Rattle.daa_fixed.specs.Size.{IsFrom};
+ghost use Rattle.daa_config.specs.Candidates.{grid_of};
+ghost use Rattle.daa_config.specs.Settings.{Settings, IsAccepted};
+ghost use Rattle.daa_config.specs.Inside.Counts.{AreCounts, AreOfAccepted, count_in};
 ghost use Rattle.daa_config.specs.Inside.Stepped.{IsStepped};
 ghost use Rattle.daa_config.specs.Numbers.{count_of};
 
@@ -26,10 +29,21 @@ pub struct Rates {
     pub alt: i32,
 }
 
-/// A configuration that was accepted. It owns no memory.
+/// How many candidates each kind has.
+#[derive(Clone, Copy, Debug)]
+pub(crate) struct Counts {
+    tracks: u32,
+    speeds: u32,
+    climbs: u32,
+    heights: u32,
+}
+
+/// A configuration that was accepted. It owns no memory. To count the candidates of a kind takes a
+/// division, so that they are counted once.
 #[derive(Drop)]
 pub struct Config {
     numbers: Numbers,
+    counts: Counts,
     recovery: Option<Volume>,
     nearest: bool,
     last_times: bool,
@@ -54,7 +68,9 @@ impl Default for Level {
 }
 
 impl Model for Config {
+    ghost use Rattle.std.specs.Prelude.{◌≡◌};
     ghost use Rattle.daa_config.specs.Settings.{Settings, IsAccepted};
+    ghost use Rattle.daa_config.specs.Inside.Counts.{AreCounts};
 
     ghost Value = { Settings };
 
@@ -72,7 +88,21 @@ impl Model for Config {
       nearest = c.nearest;
       last_times = c.last_times;
       levels = c.levels.items;
-    }) };
+    }) × AreCounts c.numbers c.counts };
+}
+
+impl Counts {
+    /// How many candidates a kind has.
+    fn of(&self, kind: Kind) -> u32
+        ensures { result ≡ count_in self.now kind }
+    {
+        match kind {
+            Kind::Track => self.tracks,
+            Kind::Speed => self.speeds,
+            Kind::Climb => self.climbs,
+            Kind::Height => self.heights,
+        }
+    }
 }
 
 impl Config {
@@ -80,7 +110,7 @@ impl Config {
     ghost use Rattle.daa_config.specs.Settings.{rates_of, AreRatesInRange};
     ghost use Rattle.daa_config.specs.Settings.{IsCandidateInRange, IsInBounds, value_bounds};
     ghost use Rattle.daa_config.specs.Candidates.{grid_of, values_of, least_of, greatest_of};
-    ghost use Rattle.daa_config.specs.Candidates.{candidates_of, start_of, IsCandidateOf};
+    ghost use Rattle.daa_config.specs.Candidates.{candidate_to, candidates_of, start_of, IsCandidateOf};
 
     /// A configuration of these numbers.
     pub(crate) fn new(
@@ -107,6 +137,7 @@ impl Config {
     {
         Config {
             numbers,
+            counts: counts_of(&numbers),
             recovery,
             nearest,
             last_times,
@@ -224,22 +255,19 @@ impl Config {
     }
 
     /// The grid of a kind.
-    #[tactic(auto, unfolding(crate::specs::Candidates::grid_of))]
     fn grid(&self, kind: Kind) -> Grid
         ensures value { result ≡ grid_of kind self.now }
         ensures accepted { IsAccepted self.now }
     {
-        match kind {
-            Kind::Track => Grid {
-                min: 0,
-                max: 359,
-                step: self.numbers.track_step,
-                rate: self.numbers.turn_rate,
-            },
-            Kind::Speed => self.numbers.gs,
-            Kind::Climb => self.numbers.vs,
-            Kind::Height => self.numbers.alt,
-        }
+        grid_of(&self.numbers, kind)
+    }
+
+    /// The counts of the kinds.
+    fn counts(&self) -> Counts
+        ensures value { AreCounts self.now.numbers result }
+        ensures accepted { IsAccepted self.now }
+    {
+        self.counts
     }
 
     /// How many candidates the kind has, 1 to 512.
@@ -249,7 +277,7 @@ impl Config {
         ensures few { result ≤ 512 }
         ensures accepted { IsAccepted self.now }
     {
-        count(&self.grid(kind)) as u32
+        self.counts().of(kind)
     }
 
     /// The value at an index of the kind's rising list, counted from 0, in the kind's unit.
@@ -339,13 +367,16 @@ impl Config {
         self.candidate_in(Kind::Height, index - self.start(Kind::Height))
     }
 
-    /// The candidate at an index of a kind's list.
-    fn candidate_in(&self, kind: Kind, index: u32) -> Candidate
+    /// The candidate at an index of a kind's list, below `count`: the one that goes to the value
+    /// that `value` has there.
+    #[inline(always)]
+    pub fn candidate_in(&self, kind: Kind, index: u32) -> Candidate
         requires { index < length (values_of kind self.now) }
         ensures value { slice_get (candidates_of self.now)
             (start_of kind self.now + index) ≡ Some result }
         ensures within { IsCandidateOf self.now result }
         ensures in_range { IsCandidateInRange result }
+        ensures of { (z : ℤ) × (result ≡ candidate_to kind z) }
         ensures accepted { IsAccepted self.now }
     {
         let value = self.value(kind, index);
@@ -355,6 +386,47 @@ impl Config {
             Kind::Climb => Candidate::Climb(value),
             Kind::Height => Candidate::Height(value),
         }
+    }
+}
+
+/// The grid of a kind, by a configuration's numbers.
+#[tactic(auto, unfolding(crate::specs::Candidates::grid_of))]
+fn grid_of(numbers: &Numbers, kind: Kind) -> Grid
+    ensures { (settings : Settings) → settings.numbers ≡ numbers.now
+        → result ≡ grid_of kind settings }
+{
+    match kind {
+        Kind::Track => Grid {
+            min: 0,
+            max: 359,
+            step: numbers.track_step,
+            rate: numbers.turn_rate,
+        },
+        Kind::Speed => numbers.gs,
+        Kind::Climb => numbers.vs,
+        Kind::Height => numbers.alt,
+    }
+}
+
+/// Counts the candidates of a kind.
+fn count_kind(numbers: &Numbers, kind: Kind) -> u32
+    requires { AreOfAccepted numbers.now }
+    ensures { (settings : Settings) → settings.numbers ≡ numbers.now
+        → result ≡ count_of (grid_of kind settings) }
+{
+    count(&grid_of(numbers, kind)) as u32
+}
+
+/// Counts the candidates of each kind.
+fn counts_of(numbers: &Numbers) -> Counts
+    requires { AreOfAccepted numbers.now }
+    ensures { AreCounts numbers.now result }
+{
+    Counts {
+        tracks: count_kind(numbers, Kind::Track),
+        speeds: count_kind(numbers, Kind::Speed),
+        climbs: count_kind(numbers, Kind::Climb),
+        heights: count_kind(numbers, Kind::Height),
     }
 }
 

@@ -51,9 +51,5 @@ fn is_beyond(begin: i64, end: i64, radius: u32) -> bool
     ensures { IsTrue result ↔ IsBeyond begin end radius }
 {
     let radius = radius as i64;
-    if begin > radius {
-        end > radius
-    } else {
-        begin < -radius && end < -radius
-    }
+    begin.min(end) > radius || begin.max(end) < -radius
 }

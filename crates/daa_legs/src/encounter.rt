@@ -31,7 +31,7 @@ pub fn relative(leg: &OwnLeg, aircraft: &Traffic, k: u32) -> Leg
     relative_from(leg, aircraft, &traffic_now(aircraft), k)
 }
 
-/// The same for a caller that knows where the aircraft is now.
+/// What `relative` answers, for a caller that knows where the aircraft is now.
 #[inline(always)]
 pub fn relative_from(leg: &OwnLeg, aircraft: &Traffic, now: &Solid, k: u32) -> Leg
     requires leg { IsOwnLegInRange leg.now }
@@ -66,7 +66,7 @@ pub fn relative_run(run: &OwnRun, aircraft: &Traffic, k: u32) -> Leg
     relative_run_from(run, aircraft, &traffic_now(aircraft), k)
 }
 
-/// The same for a caller that knows where the aircraft is now.
+/// What `relative_run` answers, for a caller that knows where the aircraft is now.
 #[inline(always)]
 pub fn relative_run_from(run: &OwnRun, aircraft: &Traffic, now: &Solid, k: u32) -> Leg
     requires run { IsOwnRunInRange run.now }

@@ -52,7 +52,8 @@ pub(crate) struct Stretch {
     pub(crate) lower: u32,
 }
 
-/// The same of each kind. To find it takes divisions, so that it is found once for all levels.
+/// The stretch of each kind. To find one takes divisions, so that they are found once for all
+/// levels.
 #[derive(Clone, Copy)]
 pub(crate) struct Stretches {
     pub(crate) tracks: Stretch,

@@ -134,7 +134,8 @@ impl<'a> Scene<'a> {
         self.add_from(0, aircraft, masks);
     }
 
-    /// The same of the candidates from number `first` of the whole list on.
+    /// Adds to the masks of the candidates from number `first` of the whole list on, as
+    /// `add_levels` does to those from the first on.
     fn add_from(&self, first: u32, aircraft: u32, masks: &mut [u8])
         requires aircraft { aircraft < length (aircraft_of self.now.picture) }
         requires short { first + length masks.old < 2 ^ 32 }

@@ -62,7 +62,7 @@ fn fill_kind(
     }
     let divisor = divisor_of(&rates, kind);
     for index in 0..config.count(kind) {
-        let candidate = candidate_in(config, kind, index);
+        let candidate = config.candidate_in(kind, index);
         keep(
             &mut branches[start as usize + index as usize],
             own,
@@ -106,23 +106,5 @@ fn divisor_of(rates: &Rates, kind: Kind) -> Divisor
         Kind::Speed => Divisor::of(rates.gs),
         Kind::Climb => Divisor::of(rates.vs),
         Kind::Height => Divisor::of(rates.alt),
-    }
-}
-
-/// The candidate at an index of a kind's list.
-#[inline(always)]
-fn candidate_in(config: &Config, kind: Kind, index: u32) -> Candidate
-    requires { index < length (values_of kind config.now) }
-    ensures value { slice_get (candidates_of config.now)
-        (start_of kind config.now + index) ≡ Some result }
-    ensures in_range { IsCandidateInRange result }
-    ensures of { (z : ℤ) × (result ≡ candidate_to kind z) }
-{
-    let value = config.value(kind, index);
-    match kind {
-        Kind::Track => Candidate::Track(value),
-        Kind::Speed => Candidate::Speed(value),
-        Kind::Climb => Candidate::Climb(value),
-        Kind::Height => Candidate::Height(value),
     }
 }

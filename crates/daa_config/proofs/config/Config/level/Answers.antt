@@ -9,5 +9,5 @@ returns-clause-in_range c =
     let same = ap (λ (s : Settings). length s.levels) c.self.view_is in
     let at = c.args.l - 1 in
     subst (λ (levels : List Level). IsLevelInRange (slice_index_or levels at _)) (sym c.deref.ensures.0)
-    (c.self.invariant.level c.args.l _
+    (c.self.invariant.0.level c.args.l _
     (record { numbered = c.requires.numbered; there = slice_get-get_or c.self.inside.levels.items at _ (omega arith) }))
