@@ -2,7 +2,7 @@
 //! comes within `dthr` in at most `tthr` seconds, so a leg that stays beyond `dthr` on one axis
 //! until then violates at no time.
 
-ghost use Rattle.std.specs.Prelude.{◌↔◌, ◌≤◌, IsTrue};
+ghost use Rattle.std.specs.Prelude.{◌↔◌, ◌≤◌, ◌<ℤ◌, IsTrue};
 ghost use Rattle.daa_fixed.specs.Leg.{IsLegInRange};
 ghost use Rattle.daa_fixed.specs.Size.{IsWithin};
 ghost use Rattle.daa_taumod.specs.Volume.{IsVolumeInRange};
@@ -51,5 +51,21 @@ fn is_beyond(begin: i64, end: i64, radius: u32) -> bool
     ensures { IsTrue result ↔ IsBeyond begin end radius }
 {
     let radius = radius as i64;
-    begin.min(end) > radius || begin.max(end) < -radius
+    are_above(begin, end, radius) || are_below(begin, end, -radius)
+}
+
+/// Whether both are more than `bound`: one comparison where two would be two branches.
+#[inline(always)]
+fn are_above(begin: i64, end: i64, bound: i64) -> bool
+    ensures { IsTrue result ↔ ((bound <ℤ begin) × (bound <ℤ end)) }
+{
+    begin.min(end) > bound
+}
+
+/// Whether both are less than `bound`.
+#[inline(always)]
+fn are_below(begin: i64, end: i64, bound: i64) -> bool
+    ensures { IsTrue result ↔ ((begin <ℤ bound) × (end <ℤ bound)) }
+{
+    begin.max(end) < bound
 }

@@ -1,6 +1,6 @@
 //! The table of the candidates' branches.
 
-ghost use Rattle.std.specs.Prelude.{◌≡◌, ◌<◌, ◌≤◌, ◌+◌, ℤ, pos, length, slice_get, Some};
+ghost use Rattle.std.specs.Prelude.{◌≡◌, ◌≤◌, ◌+◌, ℤ, pos, length};
 ghost use Rattle.daa_config.specs.Candidates.{candidate_to, candidates_of, start_of, values_of};
 ghost use Rattle.daa_config.specs.Settings.{IsCandidateInRange, AreRatesInRange};
 ghost use Rattle.daa_state.specs.InRange.{IsOwnInRange};
