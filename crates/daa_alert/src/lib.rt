@@ -9,7 +9,7 @@ mod laws;
 mod now;
 
 pub use aircraft_alert::Alert;
-pub use alerting::alert;
+pub use alerting::{alert, alert_level};
 pub use halving::first_leg;
 pub use laws::alerts_are_unique;
 pub use now::now_level;

@@ -8,7 +8,7 @@ ghost use Rattle.daa_legs.specs.Meeting.{relative_leg};
 
 use daa_config::{Candidate, Config};
 use daa_fixed::{Leg, Point};
-use daa_legs::{Flight, relative};
+use daa_legs::{present_leg, relative};
 use daa_state::{Own, Traffic};
 use daa_taumod::violates;
 
@@ -38,6 +38,5 @@ fn first_second(config: &Config, own: &Own, aircraft: &Traffic) -> Leg
     ensures value { result ≡ relative_leg config.now own.now Candidate.Hold aircraft.now 0 }
     ensures in_range { IsLegInRange result }
 {
-    let mut flight = Flight::begin(own, config, Candidate::Hold);
-    relative(&flight.next_leg(), aircraft, 0)
+    relative(&present_leg(own, config), aircraft, 0)
 }

@@ -1,7 +1,7 @@
 //! Counts the levels of one moment after another.
 
 ghost use Rattle.std.specs.Prelude.{◌≡◌, ◌<◌, ℕ, length, slice_index_or};
-ghost use Rattle.daa_alert.specs.Alert.{IsAlertOf};
+ghost use Rattle.daa_legs.specs.Alerts.{IsAlertLevel};
 ghost use Rattle.daa_state.specs.Picture.{aircraft_of};
 ghost use Rattle.daa_state.specs.declared.word.Traffic.{Traffic};
 ghost use Rattle.daa_bands.specs.Board.{HasLevelOn, IsBoardOf, mask_levels};
@@ -15,7 +15,7 @@ ghost use Rattle.daa_exercise.specs.Outputs.{Outputs};
 ghost use Rattle.daa_config.specs.Settings.{IsAccepted, Settings};
 
 use crate::tally::Tally;
-use daa_alert::{Alert, alert};
+use daa_alert::alert_level;
 use daa_bands::Board;
 use daa_config::{Config, Kind};
 use daa_state::Picture;
@@ -79,15 +79,15 @@ impl Counts {
     }
 }
 
-/// The alert of the aircraft at a place of a picture's list.
-fn alert_of(config: &Config, picture: &Picture, aircraft: usize) -> Alert
+/// The alert level of the aircraft at a place of a picture's list.
+fn level_of(config: &Config, picture: &Picture, aircraft: usize) -> u8
     requires picture { IsPictureInRange picture.now }
     requires aircraft { aircraft < length (aircraft_of picture.now) }
     ensures { (t : Traffic)
-        → IsAlertOf config.now picture.now.own
+        → IsAlertLevel config.now picture.now.own
         (slice_index_or (aircraft_of picture.now) aircraft t) result }
 {
-    alert(config, &picture.own, &picture.traffic[aircraft])
+    alert_level(config, &picture.own, &picture.traffic[aircraft])
 }
 
 /// Counts the alert levels of a picture's aircraft.
@@ -98,7 +98,7 @@ fn count_alerts(tally: &mut Tally, config: &Config, picture: &Picture)
     ensures { Adds (HasAlerts config.now picture.now) tally.old tally.new }
 {
     for place in 0..picture.traffic.len() {
-        tally.add(alert_of(config, picture, place).level);
+        tally.add(level_of(config, picture, place));
     }
 }
 

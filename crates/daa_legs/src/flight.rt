@@ -191,3 +191,13 @@ pub(crate) fn sum(x: &Solid, y: &Solid) -> Solid
         up: x.up + y.up,
     }
 }
+
+/// The first leg of the present flight, which keeps track, ground speed and vertical speed. Each
+/// other leg of it has the same velocity.
+pub fn present_leg(own: &Own, config: &Config) -> OwnLeg
+    requires { IsOwnInRange own.now }
+    ensures value { result ≡ own_leg own.now (rates_of config.now) Candidate.Hold 0 }
+    ensures in_range { IsOwnLegInRange result }
+{
+    Flight::begin(own, config, Candidate::Hold).next_leg()
+}

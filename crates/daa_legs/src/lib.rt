@@ -18,7 +18,7 @@ mod turn;
 pub use branch::{Branch, branch_from, branch_of};
 pub use divisor::Divisor;
 pub use encounter::{relative, relative_from, relative_run, relative_run_from};
-pub use flight::Flight;
+pub use flight::{Flight, present_leg};
 pub use joint::end_of;
 pub use laws::{
     flights_begin_as_now, legs_join, legs_move_by_the_rates, new_reports_stand, turns_arrive,

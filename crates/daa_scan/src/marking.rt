@@ -22,7 +22,7 @@ ghost use Rattle.daa_scan.specs.Inside.Marking.{AreTrailsOf, AreMasks, AreMarked
 
 use crate::encounter::{Encounter, Round};
 use crate::nesting::lies_within;
-use crate::refusal::{Seconds, present_leg, windows_at};
+use crate::refusal::{Seconds, present_run, windows_at};
 use crate::sharing::{meets_by_branch, sure_past, walk_ahead};
 use crate::trail::Trail;
 use crate::trunks::{Trunks, lead_to};
@@ -129,7 +129,7 @@ fn mark_level(
         encounter.now.aircraft.now l stretches.new }
 {
     let level = encounter.config.level(l);
-    let present = present_leg(encounter, level.lookahead);
+    let present = present_run(encounter, level.lookahead);
     let round = Round {
         encounter: *encounter,
         trunks,

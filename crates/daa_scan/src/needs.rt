@@ -15,11 +15,11 @@ ghost use Rattle.daa_scan.specs.Inside.Encounter.{IsEncounter};
 
 use crate::encounter::Encounter;
 use crate::reach::is_in_reach;
-use crate::refusal::{Seconds, present_leg, present_of, windows_at};
+use crate::refusal::{Seconds, present_run, windows_at};
 use crate::table::fill_branches;
 use crate::trunks::fill_trunks;
 use daa_config::{Config, Kind, Level};
-use daa_legs::{Branch, OwnLeg, Trunk, traffic_now};
+use daa_legs::{Branch, OwnLeg, Trunk, present_leg, traffic_now};
 use daa_state::{Own, Picture, Traffic};
 
 /// Whether the flights of those kinds are needed that keep the present heights, and of those that
@@ -81,7 +81,7 @@ fn needs_of(config: &Config, picture: &Picture) -> Needs
         → IsInReach config.now picture.now.own aircraft
         → AreIdle config.now picture.now.own aircraft result }
 {
-    let hold = present_of(config, &picture.own);
+    let hold = present_leg(&picture.own, config);
     let mut needs = Needs {
         turns: false,
         climbs: false,
@@ -147,7 +147,7 @@ fn needed_at(needs: Needs, encounter: &Encounter, level: &Level) -> Needs
     ensures idle { IsIdleAt encounter.now.config.now encounter.now.own.now
         encounter.now.aircraft.now level.now result }
 {
-    let present = present_leg(encounter, level.lookahead);
+    let present = present_run(encounter, level.lookahead);
     let windows = windows_at(encounter, level, &present);
     Needs {
         turns: stays_needed(needs.turns, &windows.turns, level.lookahead),

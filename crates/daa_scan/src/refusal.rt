@@ -10,19 +10,17 @@ ghost use Rattle.daa_taumod.specs.Volume.{IsVolumeInRange, Violates};
 ghost use Rattle.daa_taumod.specs.declared.Volume.{Volume};
 ghost use Rattle.daa_vwindow.specs.Window.{HasSmallNumbers};
 ghost use Rattle.daa_config.specs.Settings.{IsLevelInRange, rates_of};
-ghost use Rattle.daa_state.specs.InRange.{IsOwnInRange};
 ghost use Rattle.daa_legs.specs.Meeting.{MeetsWithin};
-ghost use Rattle.daa_legs.specs.OwnLeg.{own_leg, IsOwnLegInRange};
+ghost use Rattle.daa_legs.specs.OwnLeg.{own_leg};
 ghost use Rattle.daa_legs.specs.Relative.{relative_for};
 ghost use Rattle.daa_legs.specs.Inside.Shared.{in_plane};
 ghost use Rattle.daa_scan.specs.Inside.Refusal.{window_of, AreSecondsInHeight, AreWindowsOf};
 
 use crate::encounter::Encounter;
-use daa_config::{Candidate, Config, Kind, Level};
+use daa_config::{Candidate, Kind, Level};
 use daa_detect::is_hit;
 use daa_fixed::{Flat, Leg, Point, Solid};
-use daa_legs::{Flight, OwnLeg, OwnRun, relative_run_from};
-use daa_state::Own;
+use daa_legs::{OwnRun, relative_run_from};
 use daa_taumod::Volume;
 use daa_vwindow::window;
 
@@ -69,18 +67,8 @@ const ALL: Seconds = Seconds {
     end: LONGEST,
 };
 
-/// The first leg of the present flight. Every other one has the same velocity, so that it is found
-/// once for all aircraft and levels.
-pub(crate) fn present_of(config: &Config, own: &Own) -> OwnLeg
-    requires own { IsOwnInRange own.now }
-    ensures value { result ≡ own_leg own.now (rates_of config.now) Candidate.Hold 0 }
-    ensures in_range { IsOwnLegInRange result }
-{
-    Flight::begin(own, config, Candidate::Hold).next_leg()
-}
-
 /// So many seconds of the present flight as one leg, as the aircraft sees it.
-pub(crate) fn present_leg(encounter: &Encounter, secs: u32) -> Leg
+pub(crate) fn present_run(encounter: &Encounter, secs: u32) -> Leg
     requires some { 1 ≤ secs }
     requires short { secs ≤ 180 }
     ensures value { result ≡ relative_for secs

@@ -20,12 +20,11 @@ use crate::encounter::Encounter;
 use crate::marking::mark_levels;
 use crate::needs::Needs;
 use crate::reach::is_in_reach;
-use crate::refusal::present_of;
 use crate::trunks::Trunks;
 use arrayvec::ArrayVec;
 use daa_config::packing::{GROUP, WIDTH};
 use daa_config::{Candidate, Config, Kind};
-use daa_legs::{Branch, OwnLeg, Trunk, traffic_now};
+use daa_legs::{Branch, OwnLeg, Trunk, present_leg, traffic_now};
 use daa_schedule::Answers;
 use daa_state::{MOST_AIRCRAFT, Own, Picture, Traffic};
 use std::marker::Model;
@@ -75,7 +74,7 @@ impl<'a> Scene<'a> {
         requires flights { AreFlightsOf config.now picture.now needs trunks.now branches.now }
         ensures { result ≡ record { settings = config.now; picture = picture.now } }
     {
-        let hold = present_of(config, &picture.own);
+        let hold = present_leg(&picture.own, config);
         Scene {
             config,
             picture,

@@ -1,15 +1,11 @@
-use Rattle.std.proofs.Common.{◌∙◌, ap}
 use Rattle.daa_config.specs.declared.candidate.Candidate.TheVariants.{Hold}
 use Rattle.daa_config.specs.Settings.{rates_of}
-use Rattle.daa_legs.specs.FlightState.{FlightState}
-use Rattle.daa_legs.specs.OwnLeg.{own_leg}
 use Rattle.daa_legs.proofs.StraightHold.{hold_run, from_start}
 use Rattle.daa_alert.proofs.halving.meets_within.Goals as goal
 
 pub returns : goal.returns
 returns c =
-    let first = c.next_leg-leg.ensures.leg ∙ ap (λ (f : FlightState). own_leg f.own f.rates f.candidate f.taken) c.begin.ensures in
-    let run = hold_run c.args.own.now (rates_of c.args.config.now) c.next_leg-leg.result c.args.m first in
+    let run = hold_run c.args.own.now (rates_of c.args.config.now) c.args.hold.now c.args.m c.requires.hold in
     let seconds = c.relative_run.ensures.seconds c.args.config.now c.args.own.now Hold c.args.volume.now run in
     let start = from_start c.args.config.now c.args.own.now Hold c.args.aircraft.now c.args.volume.now c.args.m in (
       (λ t. start.0 (seconds.0 (c.is_hit.ensures.0 t))),

@@ -13,7 +13,7 @@ loop-place-init c = record {
 pub add-requires : goal.add-requires
 add-requires c =
     let few = c.requires.accepted.few_levels in
-    let within = (c.alert_of.ensures no_aircraft).greatest.within in
+    let within = (c.level_of.ensures no_aircraft).within in
     let there : c.loop-place.place < length (aircraft_of c.args.picture.now) = omega (arith, c.loop-place-test.true, c.len-place-end.ensures.value) in
     let count = c.requires.picture.count in record {
       level = omega (arith, few, within);
@@ -23,8 +23,8 @@ add-requires c =
 pub loop-place-preserved : goal.loop-place-preserved
 loop-place-preserved c =
     let there : c.loop-place.place < length (aircraft_of c.args.picture.now) = omega (arith, c.loop-place-test.true, c.len-place-end.ensures.value) in record {
-      adds = add_next (IsAlertLevel c.args.config.now c.args.picture.now.own) (aircraft_of c.args.picture.now) c.loop-place.place c.alert_of.result.level no_aircraft
-          c.args.tally.now c.loop-place.tally c.add.new.self there (c.alert_of.ensures no_aircraft).greatest c.loop-place.invariant.adds c.add.ensures.counted;
+      adds = add_next (IsAlertLevel c.args.config.now c.args.picture.now.own) (aircraft_of c.args.picture.now) c.loop-place.place c.level_of.result no_aircraft
+          c.args.tally.now c.loop-place.tally c.add.new.self there (c.level_of.ensures no_aircraft) c.loop-place.invariant.adds c.add.ensures.counted;
       room = λ n h. c.add.ensures.room n (c.loop-place.invariant.room (n + 1) (room_for (n + 1 + c.loop-place.place) (n + (c.loop-place.place + 1)) c.args.tally.now (omega arith) h));
     }
 

@@ -10,6 +10,6 @@ invariant_of-result c = record {
   counted = c.groups_of.ensures.value;
   found = c.places_near.ensures;
   kept = subst (λ (t : Shared). AreFlightsOf c.args.config.now c.args.picture.now t.needs t.trunks t.branches) (sym c.of.ensures) c.requires.flights;
-  present = c.present_of-hold.ensures.value;
-  in_range = c.present_of-hold.ensures.in_range;
+  present = c.present_leg-hold.ensures.value;
+  in_range = c.present_leg-hold.ensures.in_range;
 }

@@ -1,7 +1,7 @@
 use Rattle.daa_config.specs.declared.candidate.Candidate.TheVariants.{Hold}
 use Rattle.daa_config.specs.Settings.{rates_of}
 use Rattle.daa_legs.proofs.StraightHold.{hold_run, from_start}
-use Rattle.daa_scan.proofs.refusal.present_leg.Goals as goal
+use Rattle.daa_scan.proofs.refusal.present_run.Goals as goal
 
 pub returns-clause-seconds : goal.returns-clause-seconds
 returns-clause-seconds c volume =
