@@ -18,7 +18,7 @@ ghost use Rattle.daa_scan.specs.Trunks.{is_needed};
 ghost use Rattle.daa_scan.specs.Inside.Encounter.{AreKeptFor, IsNestedAt};
 ghost use Rattle.daa_scan.specs.Inside.Rounds.{settings_in, own_in, aircraft_in, IsMet};
 ghost use Rattle.daa_scan.specs.Inside.Sharing.{IsSure, IsTrailAt, IsTrailFor, IsLed, IsBranchBy};
-ghost use Rattle.daa_scan.specs.Inside.Marking.{AreTrailsOf, AreMasks, AreMarkedUpto, AddsNext, IsNumberOf, IsBranchIn, IsStretchAt, AreStretchesAt};
+ghost use Rattle.daa_scan.specs.Inside.Marking.{AreLeadsOf, AreTrailsOf, AreMasks, AreMarkedUpto, AddsNext, IsNumberOf, IsBranchIn, IsStretchAt, AreStretchesAt};
 
 use crate::encounter::{Encounter, Round};
 use crate::nesting::lies_within;
@@ -39,6 +39,13 @@ const TOGETHER: u32 = 16;
 pub(crate) struct Trails {
     pub(crate) upper: Trail,
     pub(crate) lower: Trail,
+}
+
+/// The flights that lead on both sides of a kind.
+#[derive(Clone, Copy)]
+pub(crate) struct Leads<'a> {
+    pub(crate) upper: &'a Trunk,
+    pub(crate) lower: &'a Trunk,
 }
 
 /// Where the candidates of a kind are in the whole list, the number of the first and that after the
@@ -216,6 +223,7 @@ fn mark_kind(round: &Round, kind: Kind, stretch: &mut Stretch, first: u32, masks
     };
     // lent once, since a write of a mask could change what lends it, for all the compiler knows
     let branches = round.trunks.branches();
+    let leads = leads_of(round, kind);
     let mut at = from;
     while at < upto {
         let end = next_end(at, upto);
@@ -223,13 +231,24 @@ fn mark_kind(round: &Round, kind: Kind, stretch: &mut Stretch, first: u32, masks
             for index in at..end {
                 let j = (index - first) as usize;
                 let branch = &branches[index as usize];
-                masks[j] = next_mask(round, kind, index, branch, &mut trails, masks[j]);
+                masks[j] = next_mask(round, kind, index, branch, &leads, &mut trails, masks[j]);
             }
         }
         at = end;
     }
     stretch.upper = trails.upper.walked;
     stretch.lower = trails.lower.walked;
+}
+
+/// The flights that lead on both sides of a kind, found once for all its candidates.
+#[inline(always)]
+fn leads_of<'a>(round: &'a Round, kind: Kind) -> Leads<'a>
+    ensures { AreLeadsOf round.now kind result }
+{
+    Leads {
+        upper: round.trunks.trunk(kind, true),
+        lower: round.trunks.trunk(kind, false),
+    }
 }
 
 /// Keeps what is clear of the level before if this level lies within it: what violates nothing of
@@ -273,6 +292,7 @@ fn next_mask(
     kind: Kind,
     index: u32,
     branch: &Branch,
+    leads: &Leads,
     trails: &mut Trails,
     mask: u8,
 ) -> u8
@@ -280,6 +300,7 @@ fn next_mask(
     requires branch { (d : Branch)
         → slice_index_or round.now.trunks.now.branches index d ≡ branch.now }
     requires needed { IsTrue (is_needed round.now.trunks.now.needs kind) }
+    requires leads { AreLeadsOf round.now kind leads.now }
     requires trails { AreTrailsOf round.now kind trails.old }
     ensures mask { AddsNext round.now index mask result }
     ensures trails { AreTrailsOf round.now kind trails.new }
@@ -295,7 +316,7 @@ fn next_mask(
     if has_level(mask, round.l) {
         return mask;
     }
-    let met = meets_shared(round, kind, index, branch, trails);
+    let met = meets_shared(round, kind, index, branch, leads, trails);
     with_level(mask, round.l, met)
 }
 
@@ -397,20 +418,27 @@ fn with_level(mask: u8, l: u32, met: bool) -> u8
 /// Whether the candidate at an index of the whole list, one of a kind, that has this branch meets
 /// the aircraft within the level's lookahead.
 #[inline(always)]
-fn meets_shared(round: &Round, kind: Kind, index: u32, branch: &Branch, trails: &mut Trails) -> bool
+fn meets_shared(
+    round: &Round,
+    kind: Kind,
+    index: u32,
+    branch: &Branch,
+    leads: &Leads,
+    trails: &mut Trails,
+) -> bool
     ghost candidate: { Candidate }
     requires branch { IsBranchIn round.now kind candidate branch.now }
     requires needed { IsTrue (is_needed round.now.trunks.now.needs kind) }
+    requires leads { AreLeadsOf round.now kind leads.now }
     requires trails { AreTrailsOf round.now kind trails.old }
     ensures met { IsTrue result ↔ IsMet round.now candidate }
     ensures trails { AreTrailsOf round.now kind trails.new }
 {
     let lead = lead_to(round.encounter.own, kind, branch.upper);
-    let trunk = round.trunks.trunk(kind, branch.upper);
     if branch.upper {
-        meets_along(round, lead, trunk, branch, &mut trails.upper)
+        meets_along(round, lead, leads.upper, branch, &mut trails.upper)
     } else {
-        meets_along(round, lead, trunk, branch, &mut trails.lower)
+        meets_along(round, lead, leads.lower, branch, &mut trails.lower)
     }
 }
 

@@ -16,6 +16,8 @@ use Rattle.daa_legs.specs.Table.{IsBranchOf}
 use Rattle.daa_scan.specs.declared.encounter.Round.{Round}
 use Rattle.daa_scan.specs.Inside.Rounds.{settings_in, own_in, aircraft_in, IsClearFrom}
 use Rattle.daa_scan.specs.Inside.Sharing.{IsTrailAt}
+use Rattle.daa_scan.specs.Trunks.{trunk_in}
+use Rattle.daa_scan.specs.declared.marking.Leads.{Leads}
 use Rattle.daa_scan.specs.declared.marking.Trails.{Trails}
 use Rattle.daa_scan.specs.declared.marking.Stretch.{Stretch}
 use Rattle.daa_scan.specs.declared.marking.Stretches.{Stretches}
@@ -59,6 +61,11 @@ module _ (settings : Settings) (own : Own) (aircraft : Traffic) where
   AreMasks first l old masks = (j : ℕ) → j < length masks → AddsLevels (MeetsListed (first + j)) l (slice_index old j) (slice_index masks j)
 
 module _ (round : Round) where
+  -- they are kept for both sides of a kind
+  pub record AreLeadsOf (kind : Kind) (leads : Leads) : Type 0 where
+    pub upper : leads.upper.now ≡ trunk_in round.trunks.now.trunks kind true
+    pub lower : leads.lower.now ≡ trunk_in round.trunks.now.trunks kind false
+
   -- both sides of a kind; from a trail's end on no candidate of the kind violates the level's volume
   pub record AreTrailsOf (kind : Kind) (trails : Trails) : Type 0 where
     pub upper : (z : ℤ) → IsTrailAt round (lead_of (own_in round) (candidate_to kind z) true) trails.upper

@@ -49,7 +49,7 @@ returns-then-has_level-clause-mask c old is =
 pub meets_shared-met-requires : goal.meets_shared-met-requires
 meets_shared-met-requires c = (
   branch_in c.args.round.now c.args.kind c.args.index c.args.branch.now c.requires.index c.requires.needed c.requires.branch,
-  (c.requires.needed, c.requires.trails),
+  (c.requires.needed, (c.requires.leads, c.requires.trails)),
 )
 
 pub returns-clause-mask : goal.returns-clause-mask
