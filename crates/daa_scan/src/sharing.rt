@@ -140,8 +140,9 @@ fn violates_on(round: &Round, lead: Candidate, trunk: &Trunk, k: u32) -> bool
 }
 
 /// Whether the candidate that has this branch meets the aircraft on the leg on which it leaves the
-/// trunk, or later.
-#[inline(never)]
+/// trunk, or later. It stands in the loop over the candidates: as a call it would cost each of them
+/// what the loop keeps at hand.
+#[inline(always)]
 fn meets_after(round: &Round, lead: Candidate, trunk: &Trunk, branch: &Branch) -> bool
     ghost candidate: { Candidate }
     requires lead { IsLed round.now lead trunk.now }
