@@ -177,14 +177,17 @@ module _ (settings : Settings) where
   Passes piece from upto = (bytes : Bytes) (given : List Event) → Follows (bytes ++ take from.done piece) given from.lines from.moments
       → Follows (bytes ++ take upto.done piece) given upto.lines upto.moments
 
-  gives_join : (piece : Bytes) (es fs : List Event) (a b c : Reading) → Gives piece es a b → Gives piece fs b c → Gives piece (es ++ fs) a c
-  gives_join piece es fs a b c g h = λ bytes given f.
+  pub gives-join : (piece : Bytes) (es fs : List Event) (a b c : Reading) → Gives piece es a b → Gives piece fs b c → Gives piece (es ++ fs) a c
+  gives-join piece es fs a b c g h = λ bytes given f.
       subst (λ (x : List Event). Follows (bytes ++ take c.done piece) x c.lines c.moments) (append_assoc given es fs) (h bytes (given ++ es) (g bytes given f))
+
+  pub gives-none : (piece : Bytes) (a : Reading) → Gives piece [] a a
+  gives-none piece a = λ bytes given f. subst (λ (x : List Event). Follows (bytes ++ take a.done piece) x a.lines a.moments) (sym (append-nil given)) f
 
   pub tells-none : (piece : Bytes) (a : Reading) → Tells settings piece a a false []
   tells-none piece a = record {
     events = [];
-    gives = λ bytes given f. subst (λ (x : List Event). Follows (bytes ++ take a.done piece) x a.lines a.moments) (sym (append-nil given)) f;
+    gives = gives-none piece a;
     refusals = refl;
     texts = refl;
   }
@@ -192,7 +195,7 @@ module _ (settings : Settings) where
   pub tells-join : (piece : Bytes) (a b c : Reading) (r s : Bool) (t u : Text) → Tells settings piece a b r t → Tells settings piece b c s u → Tells settings piece a c (r || s) (t ++ u)
   tells-join piece a b c r s t u x y = record {
     events = x.events ++ y.events;
-    gives = gives_join piece x.events y.events a b c x.gives y.gives;
+    gives = gives-join piece x.events y.events a b c x.gives y.gives;
     refusals = ap₂ (λ (m n : Bool). m || n) x.refusals y.refusals ∙ sym (list_any-append is_refusal x.events y.events);
     texts = texts-append settings x.events y.events t u x.texts y.texts;
   }
@@ -307,7 +310,7 @@ module _ (settings : Settings) where
     upto = y.upto;
     within = y.within;
     can = y.can;
-    gives = gives_join piece x.1.events y.events a b y.upto x.1.gives y.gives;
+    gives = gives-join piece x.1.events y.events a b y.upto x.1.gives y.gives;
     stops = stops-after x.1.events y.events old mid new (taken_of piece a b r old mid x) y.stops;
   }
 

@@ -16,6 +16,11 @@ use Rattle.daa_replay.specs.Lines.{next_state}
 use Rattle.daa_replay.specs.Inside.Events.{HasLines}
 use Rattle.daa_replay.specs.Inside.Place.{IsPlace, Reading, lines_at, moments_at, reading, reading_at}
 
+-- a place comes before what is read without one
+abbrev pub steps-at : Option Place → ℕ
+steps-at None = 0
+steps-at (Some place) = 1
+
 -- lines may be fed from a place on
 pub lines-there : (piece : Bytes) (place : Place) → IsPlace piece place → HasLines (length piece - place.done) (lines_at place)
 lines-there piece place there = record { free = refl; going = refl; room = there.room }

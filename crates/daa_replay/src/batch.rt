@@ -1,4 +1,5 @@
-//! The moments of one read, which the workers cut out of it and decide side by side.
+//! The moments of a piece, which the workers cut out of it and decide side by side: of one read of
+//! a replay, or of the states of a comparison.
 
 ghost use Rattle.std.specs.Prelude.{◌≡◌, ◌≤◌, ◌<◌, ◌-◌, ◌++◌, All, IfNone, IfOk, IfSome, OnErr, OnOk, Some, true, false, length};
 ghost use Rattle.daa_config.specs.Settings.{Settings};
@@ -95,7 +96,7 @@ pub(crate) struct Batch {
 }
 
 /// The unit of a moment, by which its worker passes the gate: the number of its last line.
-fn unit_of(lines: &Lines) -> u32 {
+pub(crate) fn unit_of(lines: &Lines) -> u32 {
     lines.number().min(u32::MAX as u64) as u32
 }
 
@@ -354,7 +355,12 @@ pub(crate) fn batch_in(alloc: Global, workers: u32) -> Option<Batch> {
 }
 
 /// The place behind an event, if it is an ended moment.
-fn place_behind(lines: &Lines, moments: &Moments, event: &Event, done: usize) -> Option<Place>
+pub(crate) fn place_behind(
+    lines: &Lines,
+    moments: &Moments,
+    event: &Event,
+    done: usize,
+) -> Option<Place>
     requires last { HasLast event.now moments.now }
     requires going { lines.now.ended ≡ false }
     ensures stands { IfSome result
@@ -482,7 +488,7 @@ fn fill_lanes<R: Threads + Sync, G: Gate>(
 }
 
 /// No lane has a part of another piece any more: the lanes are filled between no places.
-fn clear_lanes<R: Threads + Sync, G: Gate>(
+pub(crate) fn clear_lanes<R: Threads + Sync, G: Gate>(
     context: &Context<'_, R, G>,
     config: &Config,
     batch: &mut Batch,
@@ -515,7 +521,7 @@ fn evenly(workers: usize, all: usize) -> usize
 }
 
 /// Has the lanes filled from a place on, if they were not by now.
-fn fill_from<R: Threads + Sync, G: Gate>(
+pub(crate) fn fill_from<R: Threads + Sync, G: Gate>(
     context: &Context<'_, R, G>,
     config: &Config,
     batch: &mut Batch,
@@ -564,6 +570,19 @@ fn part_from<'a>(lanes: &'a [Lane], done: usize) -> Option<PartText<'a>>
     None
 }
 
+/// The part that begins at this very place, if a sheet has one that goes on from it.
+pub(crate) fn next_part<'a>(lanes: &'a [Lane], here: &Place) -> Option<PartText<'a>>
+    ensures texts { (settings : Settings) (piece : Bytes) → All (IsFilled settings piece) lanes.now
+        → IfSome result
+        (λ part. HasTexts settings piece here.now part.upto part.refused part.text.now) }
+    ensures further { IfSome result (λ part. here.now.done < part.upto.done) }
+{
+    match part_from(lanes, here.done) {
+        Some(part) if part.from.is(here) && here.done < part.upto.done => Some(part),
+        _ => None,
+    }
+}
+
 /// Writes the texts on the sheets to the sink, in the order of the events, from a place on up to
 /// the first one at which no part begins. The lanes are filled on the way.
 fn write_parts<R: Threads + Sync, K: Sink, G: Gate>(
@@ -591,15 +610,9 @@ fn write_parts<R: Threads + Sync, K: Sink, G: Gate>(
     };
     while reach.upto.done < piece.len() {
         fill_from(context, config, batch, piece, reach.upto);
-        let Some(part) = part_from(batch.lanes.as_slice(), reach.upto.done) else {
+        let Some(part) = next_part(batch.lanes.as_slice(), &reach.upto) else {
             return Ok(reach);
         };
-        if !part.from.is(&reach.upto) {
-            return Ok(reach);
-        }
-        if part.upto.done <= reach.upto.done {
-            return Ok(reach);
-        }
         put(sink, part.text)?;
         reach = Reach {
             upto: part.upto,
@@ -609,8 +622,14 @@ fn write_parts<R: Threads + Sync, K: Sink, G: Gate>(
     Ok(reach)
 }
 
-/// Writes the text of an event, which the caller decides. It passes the gate as worker 0 before it
-/// decides a moment.
+/// Before a moment that the caller decides, it passes the gate as worker 0.
+pub(crate) fn pass_here<G: Gate>(gate: &G, event: &Event, unit: u32) {
+    if matches!(event, Event::Ended(_)) {
+        gate.pass(0, unit);
+    }
+}
+
+/// Writes the text of an event, which the caller decides.
 fn write_here<K: Sink, G: Gate>(
     gate: &G,
     engine: &mut Engine,
@@ -623,9 +642,7 @@ fn write_here<K: Sink, G: Gate>(
     ensures says { SaysSome (IsEventText engine.old.settings event.now) (K.taken sink.old)
         (K.taken sink.new) (K.faults sink.old) (K.faults sink.new) result }
 {
-    if matches!(event, Event::Ended(_)) {
-        gate.pass(0, unit);
-    }
+    pass_here(gate, event, unit);
     write_event_alone(engine, sink, event)
 }
 

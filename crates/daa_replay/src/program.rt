@@ -147,9 +147,10 @@ pub(crate) fn run_work<R: Threads + Sync, S: Source + Send, K: Sink + Send, G: G
             );
             status_of(said, Status::Accepted)
         }
-        Work::Judge { states, mut sheet } => run_judge(
+        Work::Judge { states, sheet } => run_judge(
+            context,
             &mut engine,
-            &mut sheet,
+            sheet,
             source,
             sink,
             states.as_slice(),

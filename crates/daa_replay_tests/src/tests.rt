@@ -5,6 +5,7 @@ mod batch;
 mod exercise;
 mod faults;
 mod judge;
+mod judge_batch;
 mod lines;
 mod moments;
 mod opening;

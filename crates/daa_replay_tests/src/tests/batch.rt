@@ -28,7 +28,7 @@ static TWO_AHEAD: [&str; 8] = [
 ];
 
 /// So many moments with one aircraft, in each of which a line is refused.
-fn moments_of<R: AllocGlobal>(rt: &R, count: u32) -> Result<String, AllocError> {
+pub(super) fn moments_of<R: AllocGlobal>(rt: &R, count: u32) -> Result<String, AllocError> {
     let mut input = String::new(rt.alloc());
     for time in 0..count {
         let head = format!(in rt.alloc(); "moment {time}\nown 0 0 1000 0 3600 0\n")?;
@@ -39,7 +39,7 @@ fn moments_of<R: AllocGlobal>(rt: &R, count: u32) -> Result<String, AllocError> 
 }
 
 /// The text that one worker writes, which decides one moment after the other.
-fn alone<R: Abort + Threads + Sync + AllocGlobal>(
+pub(super) fn alone<R: Abort + Threads + Sync + AllocGlobal>(
     rt: &R,
     input: &[u8],
     room: usize,
@@ -151,7 +151,7 @@ fn add_long_line(input: &mut String) -> Result<(), AllocError> {
 }
 
 /// So many moments, between lines by which what is guessed of some is wrong.
-fn odd_moments<R: AllocGlobal>(rt: &R, count: u32) -> Result<String, AllocError> {
+pub(super) fn odd_moments<R: AllocGlobal>(rt: &R, count: u32) -> Result<String, AllocError> {
     let mut input = String::new(rt.alloc());
     for time in 0..count {
         let head = format!(in rt.alloc(); "moment {time}0\nown 0 0 1000 0 3600 0\nx\nend\n")?;
@@ -202,17 +202,22 @@ fn wrong_guesses_change_nothing(rt: HostRuntime) -> Result<(), Fail> {
 }
 
 /// A moment with so many refused lines that a sheet is full before it ends, among light ones.
-#[test]
-fn a_moment_that_fills_a_sheet_is_written(rt: HostRuntime) -> Result<(), Fail> {
-    let mut input = moments_of(&rt, 50)?;
+pub(super) fn moments_of_a_full_sheet<R: AllocGlobal>(rt: &R) -> Result<String, AllocError> {
+    let mut input = moments_of(rt, 50)?;
     input.push_str("moment 50\nown 0 0 1000 0 3600 0\n")?;
     for _ in 0..20_000 {
         input.push_str("x\n")?;
     }
     input.push_str("end\n")?;
     for time in 51..100 {
-        add_moment(&rt, &mut input, time, 1)?;
+        add_moment(rt, &mut input, time, 1)?;
     }
+    Ok(input)
+}
+
+#[test]
+fn a_moment_that_fills_a_sheet_is_written(rt: HostRuntime) -> Result<(), Fail> {
+    let input = moments_of_a_full_sheet(&rt)?;
     let text = alone(&rt, input.as_bytes(), 400_000)?;
     let words = ["daidalus", "replay", "--config", "c", "--workers", "16"];
     let outside = Outside {
@@ -347,13 +352,13 @@ const LINES: usize = 1501;
 
 /// A gate that counts who passes, for each line of the piece and for all other units.
 #[derive(Drop)]
-struct Tally {
+pub(super) struct Tally {
     passes: [AtomicU64; LINES],
     beyond: AtomicU64,
 }
 
 impl Tally {
-    fn new() -> Tally {
+    pub(super) fn new() -> Tally {
         Tally {
             passes: array::from_fn(|_| AtomicU64::new(0)),
             beyond: AtomicU64::new(0),
@@ -369,7 +374,7 @@ impl Tally {
     }
 
     /// Each fifth line, which ends a moment, was passed for once, and no other unit.
-    fn has_passed_each_moment_once(&self) -> bool {
+    pub(super) fn has_passed_each_moment_once(&self) -> bool {
         self.passes(0) == 0
             && (1..LINES).all(|line| self.passes(line) == (line % 5 == 0) as u64)
             && self.beyond.load(SeqCst) == 0

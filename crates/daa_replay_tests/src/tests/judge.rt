@@ -11,7 +11,7 @@ use std::thread::Threads;
 static MISSING: &[&str] = &["daidalus", "judge", "--config", "c", "--states", "t"];
 
 /// A comparison under one level; nothing fails, and pieces have any size.
-const JUDGE: Outside<'static> = Outside {
+pub(super) const JUDGE: Outside<'static> = Outside {
     words: &["daidalus", "judge", "--config", "c", "--states", "s"],
     ..PLAIN
 };
@@ -23,7 +23,7 @@ const REFUSED: Outside<'static> = Outside {
 };
 
 /// A shelf that holds the configuration under the name `c` and the states under the name `s`.
-fn shelf_of_both<R: AllocGlobal>(
+pub(super) fn shelf_of_both<R: AllocGlobal>(
     rt: &R,
     states: &[u8],
     outside: Outside<'_>,
@@ -38,7 +38,7 @@ fn shelf_of_both<R: AllocGlobal>(
 
 /// A comparison of a report with that of the states, which lie under the name `s`, ends with this
 /// status and this text.
-fn judges<R: Abort + Threads + Sync + AllocGlobal>(
+pub(super) fn judges<R: Abort + Threads + Sync + AllocGlobal>(
     rt: &R,
     states: &[u8],
     report: &[u8],

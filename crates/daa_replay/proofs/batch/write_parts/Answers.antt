@@ -1,6 +1,5 @@
-use Rattle.std.proofs.Common.{◌≡◌, ◌∙◌, All, Bool, List, arith, refl, rules, subst, sym}
+use Rattle.std.proofs.Common.{◌∙◌, All, Bool, List, arith, refl, subst, sym}
 use Rattle.daa_replay.specs.declared.batch.Lane.{Lane}
-use Rattle.daa_replay.specs.declared.place.Place.{Place}
 use Rattle.daa_replay.specs.Inside.Batch.{Fails, HasTexts, IsFilled, Shares}
 use Rattle.daa_replay.specs.Inside.Place.{reading_at}
 use Rattle.daa_replay.proofs.BatchLemmas.{fails-part, shares-join, shares-none}
@@ -23,13 +22,11 @@ loop-reach-preserved g c =
     let part = c.in-Some.part in
     let i = c.loop-reach.invariant in
     let filled : All (IsFilled settings piece) c.as_slice.result.now = subst (λ (l : List Lane). All (IsFilled settings piece) l) (sym c.as_slice.ensures.value) c.fill_from.ensures in
-    let same : part.from ≡ c.loop-reach.reach.upto = search rules in
-    let has : HasTexts settings piece c.loop-reach.reach.upto part.upto part.refused part.text.now =
-    subst (λ (p : Place). HasTexts settings piece p part.upto part.refused part.text.now) same (c.in-Some.ensures settings piece filled) in
+    let has : HasTexts settings piece c.loop-reach.reach.upto part.upto part.refused part.text.now = c.in-Some.ensures.texts settings piece filled in
     record {
       filled = c.fill_from.ensures;
       there = has.there;
-      forward = omega (arith, i.forward);
+      forward = omega (arith, i.forward, c.in-Some.ensures.further);
       shares = subst (λ (b : Bool). Shares settings piece (reading_at c.args.from) (reading_at part.upto) b (g.K.Sink.taken c.args.sink.now) (g.K.Sink.taken c.put.new.sink)) (sym c.either.ensures)
           (shares-join settings piece (reading_at c.args.from) (reading_at c.loop-reach.reach.upto) (reading_at part.upto) c.loop-reach.reach.refused part.refused _ _ _ i.shares
           (part.text.now, has.tells, c.in_ok-put.ensures.whole));
@@ -43,9 +40,7 @@ returns-in_err-put-clause-err g c =
     let part = c.in-Some.part in
     let i = c.loop-reach.invariant in
     let filled : All (IsFilled settings piece) c.as_slice.result.now = subst (λ (l : List Lane). All (IsFilled settings piece) l) (sym c.as_slice.ensures.value) c.fill_from.ensures in
-    let same : part.from ≡ c.loop-reach.reach.upto = search rules in
-    let has : HasTexts settings piece c.loop-reach.reach.upto part.upto part.refused part.text.now =
-    subst (λ (p : Place). HasTexts settings piece p part.upto part.refused part.text.now) same (c.in-Some.ensures settings piece filled) in
+    let has : HasTexts settings piece c.loop-reach.reach.upto part.upto part.refused part.text.now = c.in-Some.ensures.texts settings piece filled in
     let fails : Fails settings piece (reading_at c.args.from) (g.K.Sink.taken c.args.sink.now) (g.K.Sink.taken c.put.new.sink) =
     fails-part settings piece (reading_at c.args.from) (reading_at c.loop-reach.reach.upto) c.loop-reach.reach.refused part.refused part.upto part.text.now _ _ _ i.shares has.tells has.there
     c.in_err-put.ensures.front in

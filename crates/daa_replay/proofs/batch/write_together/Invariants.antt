@@ -1,14 +1,9 @@
-use Rattle.std.proofs.Common.{◌≡◌, ◌≤◌, ◌+◌, ◌-◌, ◌*◌, ℕ, All, IfSome, Option, None, Some, length}
-use Rattle.daa_replay.specs.declared.place.Place.{Place}
+use Rattle.std.proofs.Common.{◌≡◌, ◌≤◌, ◌+◌, ◌-◌, ◌*◌, All, IfSome, length}
 use Rattle.daa_replay.specs.Inside.Batch.{IsFilled, Shares}
 use Rattle.daa_replay.specs.Inside.Events.{HasLines}
 use Rattle.daa_replay.specs.Inside.Place.{IsPlace, reading, reading_at}
+use Rattle.daa_replay.proofs.PlaceLemmas.{steps-at}
 use Rattle.daa_replay.proofs.batch.write_together.Given as goal
-
--- a place comes before what is read without one
-abbrev pub steps_at : Option Place → ℕ
-steps_at None = 0
-steps_at (Some place) = 1
 
 -- the texts so far were taken; where it stands between two moments, the place is known
 abbrev pub invariant-loop-done : goal.invariant-loop-done
@@ -24,4 +19,4 @@ invariant-loop-done g l = record {
 }
 
 abbrev pub decreases-loop-done : goal.decreases-loop-done
-decreases-loop-done g l = 2 * (length l.piece - l.done) + steps_at l.here
+decreases-loop-done g l = 2 * (length l.piece - l.done) + steps-at l.here

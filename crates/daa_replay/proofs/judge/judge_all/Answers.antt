@@ -8,13 +8,13 @@ returns-in-Ok-clause-judged g c =
     let mid : StreamState = stream_state (g.S.Source.left c.judge_states.new.source) (g.S.Source.faults c.judge_states.new.source) in
     let now : StreamState = stream_state (g.S.Source.left c.end.new.source) (g.S.Source.faults c.end.new.source) in
     let judged = judged_whole c.args.engine.now.settings c.config-config.ensures.accepted c.args.states.now c.end.result c.args.most c.new-matching.result
-    c.judge_states.new.matching first mid now c.in-Ok.ensures.compares (c.new-matching.ensures.matched first) (c.end.ensures.finds c.args.most first) in
+    c.judge_states.new.comparison.matching first mid now c.in-Ok.ensures.compares (c.new-matching.ensures.matched first) (c.end.ensures.finds c.args.most first) in
     record { report = judged.0; finds = judged.1 }
 
-pub returns-in-Err-clause-judged : goal.returns-in-Err-clause-judged
-returns-in-Err-clause-judged g c =
+pub returns-clause-judged : goal.returns-clause-judged
+returns-clause-judged g c =
     let first : StreamState = stream_state (g.S.Source.left c.args.source.now) (g.S.Source.faults c.args.source.now) in
     let now : StreamState = stream_state (g.S.Source.left c.judge_states.new.source) (g.S.Source.faults c.judge_states.new.source) in
     let judged = judged_stop c.args.engine.now.settings c.config-config.ensures.accepted c.args.states.now c.in-Err.found c.in-Err.ensures.stops c.args.most c.new-matching.result
-    c.judge_states.new.matching first now c.in-Err.ensures.compares (c.new-matching.ensures.matched first) in
+    c.judge_states.new.comparison.matching first now c.in-Err.ensures.compares (c.new-matching.ensures.matched first) in
     record { report = judged.0; finds = judged.1 }

@@ -1,17 +1,10 @@
 use Rattle.std.proofs.Common.{subst, sym}
-use Rattle.daa_ahead.specs.Bytes.{StreamState, stream_state}
-use Rattle.daa_judge.specs.Matching.{Compares}
-use Rattle.daa_judge.specs.declared.found.Found.{Found}
 use Rattle.daa_report.specs.Lines.{Text}
 use Rattle.daa_replay.specs.Moment.{IsEventText}
+use Rattle.daa_replay.proofs.JudgeLemmas.{compares-text}
 use Rattle.daa_replay.proofs.judge.judge_event.Goals as goal
 
 pub returns-clause-compares : goal.returns-clause-compares
 returns-clause-compares g c =
-    let now : StreamState = stream_state (g.S.Source.left c.compare.new.source) (g.S.Source.faults c.compare.new.source) in
-    record {
-      text = c.text.result.now;
-      is = subst (λ (t : Text). IsEventText c.args.engine.now.settings c.args.event.now t) (sym c.text.ensures.value) c.sheet_event.ensures.written;
-      compares = λ most first before h. subst (λ (f : Found). Compares f most first before c.text.result.now c.compare.new.self now) (sym c.stop_of.ensures.same)
-          (c.compare.ensures.compares most first before h);
-    }
+    compares-text (IsEventText c.args.engine.now.settings c.args.event.now) c.text.result.now _ _ _ _ _
+    (subst (λ (t : Text). IsEventText c.args.engine.now.settings c.args.event.now t) (sym c.text.ensures.value) c.sheet_event.ensures.written) c.judge_text.ensures.compares
