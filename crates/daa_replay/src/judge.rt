@@ -29,6 +29,7 @@ use daa_engine::Engine;
 use daa_judge::{Found, Matching, Sheet};
 use daa_outside::{Gate, Sink, Source};
 use daa_report::{write_differs, write_same};
+use std::alloc::Global;
 use std::thread::Threads;
 
 /// The sheet for the texts that the caller decides, and how far the report was compared.
@@ -210,8 +211,8 @@ fn judge_together<R: Threads + Sync, S: Source, G: Gate>(
     Ok(())
 }
 
-/// Compares the texts of the events of the states' lines where the workers share them: if there are
-/// several, and if more than one moment seems to end there. Returns how many bytes are fed then.
+/// Compares the texts of the events of the states' lines where the workers share them, and returns
+/// how many bytes are fed then.
 fn judge_front<R: Threads + Sync, S: Source, G: Gate>(
     context: &Context<'_, R, G>,
     engine: &mut Engine,
@@ -241,9 +242,6 @@ fn judge_front<R: Threads + Sync, S: Source, G: Gate>(
     let Some(batch) = batch else {
         return Ok(0);
     };
-    if !has_two_ends(states) {
-        return Ok(0);
-    }
     match judge_together(context, engine, comparison, source, batch, progress, states) {
         Ok(()) => Ok(states.len()),
         Err(found) => Err(found),
@@ -293,6 +291,16 @@ fn judge_states<R: Threads + Sync, S: Source, G: Gate>(
     Ok(())
 }
 
+/// A batch for these workers, if more than one moment seems to end in the states, and if there are
+/// several workers, and memory for it.
+fn batch_for(alloc: Global, workers: u32, states: &[u8]) -> Option<Batch> {
+    if has_two_ends(states) {
+        batch_in(alloc, workers)
+    } else {
+        None
+    }
+}
+
 /// Compares the bytes of the source, of which at most `most` are read, with the report of
 /// the states.
 fn judge_all<R: Threads + Sync, S: Source, G: Gate>(
@@ -310,7 +318,7 @@ fn judge_all<R: Threads + Sync, S: Source, G: Gate>(
         (stream_state (S.left source.new) (S.faults source.new)) }
     ensures never_falls { S.faults source.old ≤ S.faults source.new }
 {
-    let mut batch = batch_in(context.alloc, engine.workers());
+    let mut batch = batch_for(context.alloc, engine.workers(), states);
     // its clause says that the configuration is accepted
     let _config = engine.config();
     let matching = Matching::new(most);

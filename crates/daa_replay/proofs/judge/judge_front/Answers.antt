@@ -7,11 +7,6 @@ returns-in_default-clause-ok g c =
     matches-nothing c.args.engine.now.settings c.args.states.now c.args.progress.now c.args.comparison.now.matching
     (stream_state (g.S.Source.left c.args.source.now) (g.S.Source.faults c.args.source.now)) c.requires.between c.requires.begun c.requires.few
 
-pub returns-then-not-has_two_ends-clause-ok : goal.returns-then-not-has_two_ends-clause-ok
-returns-then-not-has_two_ends-clause-ok g c =
-    matches-nothing c.args.engine.now.settings c.args.states.now c.args.progress.now c.args.comparison.now.matching
-    (stream_state (g.S.Source.left c.args.source.now) (g.S.Source.faults c.args.source.now)) c.requires.between c.requires.begun c.requires.few
-
 pub returns-in-Ok-clause-ok : goal.returns-in-Ok-clause-ok
 returns-in-Ok-clause-ok g c =
     matches-lines c.args.engine.now.settings c.args.states.now c.args.progress.now c.judge_together.new.progress _ _ _ _ c.requires.between c.requires.begun
