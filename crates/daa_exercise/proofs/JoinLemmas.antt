@@ -11,7 +11,7 @@ use Rattle.daa_config.specs.declared.kind.Kind.TheVariants.{Track, Speed, Climb,
 use Rattle.daa_state.specs.InRange.{IsPictureInRange}
 use Rattle.daa_state.specs.Picture.{aircraft_of}
 use Rattle.daa_state.specs.declared.word.Picture.{Picture}
-use Rattle.daa_exercise.specs.Inside.Counting.{AddsUp, AreCounted, AreLevelsFrom, CountsPicture, HasCounted, HaveAllRoom, HaveRoom, Joins, aircraft_from}
+use Rattle.daa_exercise.specs.Inside.Counting.{Adds, AddsUp, AreCounted, AreLevelsFrom, CountsPicture, HasCounted, HasRoomFor, HaveAllRoom, HaveRoom, Joins, aircraft_from}
 use Rattle.daa_exercise.specs.Inside.Parts.{IsPart}
 use Rattle.daa_exercise.specs.Levels.{HasAlerts, HasShown, counts_of, how_often}
 use Rattle.daa_exercise.specs.Moments.{begin_of, moment_of}
@@ -20,6 +20,7 @@ use Rattle.daa_exercise.specs.declared.clerk.Part.{Part}
 use Rattle.daa_exercise.specs.declared.counting.Counts.{Counts}
 use Rattle.daa_exercise.proofs.CountLemmas.{aircraft_from_next, aircraft_from_none, all_next, count_few}
 use Rattle.daa_exercise.proofs.RangeLemmas.{drawn_range}
+use Rattle.daa_exercise.proofs.TallyLemmas.{AreFirst, first_joined}
 
 -- ---- one tally
 
@@ -43,6 +44,34 @@ tally_joined a b c many each here more e f =
         let z = ap (λ (xs : List ℕ). slice_index xs k) f ∙ counted_at more k lt in
         let w = how_often_append here more k in
         omega (arith, x, y, z, w)
+
+-- ---- one tally beside another that began with nothing
+
+module _ (none : List ℕ) (empty : none ≡ counts_of mask_levels []) where
+  -- none of its counts is above the number of levels
+  beside_few : (Is : ℕ → ℕ → Type 0) (n : ℕ) (other : List ℕ) → Adds (AreFirst Is n) none other → (level : ℕ) → slice_index other level ≤ n
+  beside_few Is n other (here, are, more) level =
+      let e = ap (λ (xs : List ℕ). slice_index xs level) (more [] empty) in
+      let f = count_few mask_levels level here in
+      let m = are.many in
+      omega (arith, e, f, m)
+
+  -- it has room for levels
+  pub beside_room : (Is : ℕ → ℕ → Type 0) (n : ℕ) (other : List ℕ) → n ≤ 512 → Adds (AreFirst Is n) none other → HasRoomFor 1 other
+  beside_room Is n other most h level = let f = beside_few Is n other h level in omega (arith, f, most)
+
+  -- a tally with room for as many levels has room for its counts
+  pub beside_fits : (Is : ℕ → ℕ → Type 0) (n : ℕ) (tally other : List ℕ) → HasRoomFor n tally → Adds (AreFirst Is n) none other → HaveRoom tally other
+  beside_fits Is n tally other room h level = let r = room level in let f = beside_few Is n other h level in omega (arith, r, f)
+
+  -- what both counted, one after the other
+  pub beside_added : (At : ℕ → ℕ → Type 0) (start m n : ℕ) (old tally other both : List ℕ) → Adds (AreFirst (λ i. At (start + i)) m) old tally
+      → Adds (AreFirst (λ i. At (start + m + i)) n) none other → Joins tally other both → Adds (AreFirst (λ i. At (start + i)) (m + n)) old both
+  beside_added At start m n old tally other both (xs, are, more) (ys, next, besides) joins = (
+    xs ++ ys,
+    first_joined At start m n xs ys are next,
+    λ levels e. joins (levels ++ xs) ys (more levels e) (besides [] empty) ∙ ap (counts_of mask_levels) (append_assoc levels xs ys),
+  )
 
 -- ---- the levels of moments
 

@@ -1,10 +1,11 @@
 -- What a tally counts, level after level.
-use Rattle.std.proofs.Common.{◌≡◌, ◌∙◌, ◌<◌, ◌≤◌, ◌+◌, ℕ, zero, suc, pos}
+use Rattle.std.proofs.Common.{◌≡◌, ◌∙◌, ◌⊎◌, inl, inr, ◌<◌, ◌≤◌, ◌+◌, ◌-◌, ℕ, zero, suc, pos}
 use Rattle.std.proofs.Common.{List, [], ◌∷◌, ◌++◌, length, take, take_all, below_more, refl}
-use Rattle.std.proofs.Common.{sym, ap, arith, subst, append_assoc, add-one, append-nil}
+use Rattle.std.proofs.Common.{sym, ap, arith, subst, append_assoc, add-one, append-nil, length-append}
 use Rattle.std.specs.Prelude.{slice_index, slice_index_or}
 use Rattle.std.specs.List.{AllZip}
-use Rattle.std.proofs.lemmas.List.{length_push, get_or_push, get_or_append_left}
+use Rattle.std.proofs.lemmas.Bool.{cases_lt}
+use Rattle.std.proofs.lemmas.List.{length_push, get_or_push, get_or_append_left, get_or-append_right}
 use Rattle.daa_state.specs.declared.word.Traffic.{Traffic}
 use Rattle.daa_bands.specs.Board.{HasLevelOn, mask_levels}
 use Rattle.daa_bands.specs.KindBands.{AreShown}
@@ -61,6 +62,10 @@ no_aircraft = record { id = []; x = pos 0; y = pos 0; alt = pos 0; vx = pos 0; v
 
 -- ---- one candidate more
 
+-- the board shows a level of the candidate at an index
+abbrev pub ShowsAt : List ℕ → ℕ → ℕ → Type 0
+ShowsAt board index level = IsGreatestLevel (HasLevelOn board index) mask_levels level
+
 -- they are as many, and each is so by its place
 pub record AreFirst (Is : ℕ → ℕ → Type 0) (count : ℕ) (levels : List ℕ) : Type 0 where
   pub many : length levels ≡ count
@@ -85,15 +90,40 @@ module _ (Is : ℕ → ℕ → Type 0) where
   pub first_next : (count level : ℕ) (a b c : List ℕ) → Is count level → Adds (AreFirst Is count) a b → CountsMore (level ∷ []) b c → Adds (AreFirst Is (count + 1)) a c
   first_next count level a b c is (here, are, more) one = (here ++ level ∷ [], first_more count level here are is, counts_next here level a b c more one)
 
+  -- the same, where the number and the tally have other names
+  pub first_as : (n m : ℕ) (a b other : List ℕ) → n ≡ m → other ≡ b → Adds (AreFirst Is n) a b → Adds (AreFirst Is m) a other
+  first_as n m a b other e f h = subst (λ (k : ℕ). Adds (AreFirst Is k) a other) e (subst (Adds (AreFirst Is n) a) (sym f) h)
+
+-- those from an index on, and then those that come next
+pub first_joined : (At : ℕ → ℕ → Type 0) (start m n : ℕ) (xs ys : List ℕ) → AreFirst (λ i. At (start + i)) m xs → AreFirst (λ i. At (start + m + i)) n ys
+    → AreFirst (λ i. At (start + i)) (m + n) (xs ++ ys)
+first_joined At start m n xs ys h k = record {
+  many = long;
+  each = λ i lt. at i lt (cases_lt i (length xs));
+}
+  where
+    long : length (xs ++ ys) ≡ m + n
+    long = let e = length-append xs ys in let f = h.many in let g = k.many in omega (arith, e, f, g)
+
+    at : (i : ℕ) → i < length (xs ++ ys) → (i < length xs) ⊎ (length xs ≤ i) → At (start + i) (slice_index (xs ++ ys) i)
+    at i lt (inl below) = subst (At (start + i)) (sym (get_or_append_left xs ys 0 i below)) (h.each i below)
+    at i lt (inr past) =
+        let f = h.many in
+        let g = k.many in
+        let rest : i - length xs < length ys = omega (arith, long, f, g, lt, past) in
+        let there : start + m + (i - length xs) ≡ start + i = omega (arith, f, past) in
+        subst (At (start + i)) (sym (get_or-append_right xs ys (length xs) i 0 refl past))
+        (subst (λ (index : ℕ). At index (slice_index ys (i - length xs))) there (k.each (i - length xs) rest))
+
 -- a board's levels of all candidates of a kind
 pub add_shown : (board : List ℕ) (s settings : Settings) (kind : Kind) (start count n : ℕ) (a b : List ℕ) → s ≡ settings → start ≡ start_of kind s
     → count ≡ length (values_of kind s) → n ≤ count → count ≤ n
-    → Adds (AreFirst (λ i. IsGreatestLevel (HasLevelOn board (start + i)) mask_levels) n) a b → Adds (AreShown (HasLevelOn board) mask_levels settings kind) a b
+    → Adds (AreFirst (λ i. ShowsAt board (start + i)) n) a b → Adds (AreShown (HasLevelOn board) mask_levels settings kind) a b
 add_shown board s settings kind start count n a b same begin many low high (here, are, more) =
     subst (λ (x : Settings). Adds (AreShown (HasLevelOn board) mask_levels x kind) a b) same (here, shown, more)
   where
     shown : AreShown (HasLevelOn board) mask_levels s kind here
     shown = record {
       each = (let m = are.many in omega (arith, m, many, low, high));
-      greatest = λ i lt. subst (λ (k : ℕ). IsGreatestLevel (HasLevelOn board (k + i)) mask_levels (slice_index here i)) begin (are.each i lt);
+      greatest = λ i lt. subst (λ (k : ℕ). ShowsAt board (k + i) (slice_index here i)) begin (are.each i lt);
     }

@@ -102,14 +102,24 @@ fn count_alerts(tally: &mut Tally, config: &Config, picture: &Picture)
     }
 }
 
-/// Counts the levels that the board shows of a kind's candidates.
+/// Counts the levels that the board shows of a kind's candidates. The two halves are counted side
+/// by side, each in a tally of its own: a count that rises twice in a row waits for itself.
 fn count_shown(tally: &mut Tally, config: &Config, board: &Board, kind: Kind)
     requires { HasRoomFor 512 tally.old }
     ensures { Adds (AreShown
         (HasLevelOn board.now) mask_levels config.now kind) tally.old tally.new }
 {
     let start = config.start(kind);
-    for place in 0..config.count(kind) {
+    let count = config.count(kind);
+    let half = count / 2;
+    let middle = start + half;
+    let mut other = Tally::new();
+    for place in 0..half {
         tally.add(board.shown(start + place));
+        other.add(board.shown(middle + place));
     }
+    if half + half < count {
+        other.add(board.shown(middle + half));
+    }
+    tally.add_all(&other);
 }
