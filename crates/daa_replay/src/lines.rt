@@ -54,6 +54,7 @@ pub(crate) fn step(
 {
     match word {
         Err(fault) => Some(Event::Refused(number, fault)),
+        Ok(Word::End) if moments.can_end() => Some(Event::Ended(moments.end())),
         Ok(word) => match moments.take(word) {
             Ok(None) => None,
             Ok(Some(picture)) => Some(Event::Ended(picture)),

@@ -1,5 +1,5 @@
 -- What a word makes of the moments.
-use Rattle.std.specs.Prelude.{ℕ, Bool, List, [], ◌∷◌, ◌++◌, ◌==◌, length, nat_le, is_some, Option, Some, None, Ok, Err, if◌then◌else◌}
+use Rattle.std.specs.Prelude.{ℕ, Bool, false, List, [], ◌∷◌, ◌++◌, ◌==◌, length, nat_le, is_some, Option, Some, None, Ok, Err, if◌then◌else◌}
 use Rattle.std.specs.List.{list_any}
 use Rattle.std.specs.Str.{bytes_eq}
 use Rattle.daa_state.specs.Fault.{Checked, ◌>>=◌}
@@ -88,3 +88,8 @@ step state says.Skip = Ok (stepped state None)
 -- the end of the input: a moment that is open is unfinished
 abbrev pub finished : MomentsState → Checked (Unit {0})
 finished state = if is_some state.moment then Err Unfinished else Ok tt
+
+-- a moment is open and has its ownship
+abbrev pub has_own : Option Moment → Bool
+has_own None = false
+has_own (Some moment) = is_some moment.own

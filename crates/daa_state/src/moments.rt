@@ -8,7 +8,7 @@ ghost use Rattle.daa_state.specs.InRange.{IsFormat, IsWordInRange, IsOwnInRange}
 ghost use Rattle.daa_state.specs.InRange.{IsTrafficInRange, IsPictureInRange};
 ghost use Rattle.daa_state.specs.Inside.InRange.{IsMomentInRange};
 ghost use Rattle.daa_state.specs.MomentStep.{step, stepped, finished, start, begun_moment};
-ghost use Rattle.daa_state.specs.MomentStep.{with_own, with_traffic, ended_picture, has_id};
+ghost use Rattle.daa_state.specs.MomentStep.{has_own, with_own, with_traffic, ended_picture, has_id};
 
 use crate::fault::LineFault;
 use crate::id::Id;
@@ -127,6 +127,36 @@ impl Moments {
                 Err(_) => false,
             },
             _ => false,
+        }
+    }
+
+    /// Whether [`Moments::take`] would accept an `End`: a moment is open and has its ownship.
+    pub fn can_end(&self) -> bool
+        ensures { result ≡ has_own self.now.moment }
+    {
+        match &self.moment {
+            Some(moment) => moment.own.is_some(),
+            None => false,
+        }
+    }
+
+    /// Ends the open moment, which has its ownship, as [`Moments::take`] does at an `End`, and
+    /// returns its picture, which is moved fewer times on its way out than there.
+    #[tactic(auto, unfolding(crate::specs::MomentStep::step, crate::specs::MomentStep::ended_picture))]
+    pub fn end(&mut self) -> Picture
+        requires { has_own self.old.moment ≡ true }
+        ensures taken { step self.old Word.End ≡ Ok (stepped self.new (Some result)) }
+        ensures range { IsPictureInRange result }
+    {
+        let Some(open) = self.moment.take() else {
+            unreachable!()
+        };
+        let Some(own) = open.own else { unreachable!() };
+        self.last = Some(open.time);
+        Picture {
+            time: open.time,
+            own,
+            traffic: open.traffic,
         }
     }
 
