@@ -261,16 +261,18 @@ fn line_at(report: &[u8], at: usize) -> usize {
 }
 
 /// A comparison with the report that one worker writes of states ends as it does by one worker: the
-/// report is the same, and with another byte it differs in that byte's line.
+/// report is the same, and with another byte, at so many places, it differs in that byte's line.
 fn judges_what_one_writes<R: Abort + Threads + Sync + AllocGlobal>(
     rt: &R,
     states: &[u8],
+    places: usize,
 ) -> Result<(), Fail> {
     let report = alone(rt, states, 400_000)?;
     let report = report.as_slice();
     judges_by_all(rt, states, report, JUDGE, 0, b"same\n")?;
-    for part in 0..8 {
-        let at = (report.len() / 8).saturating_mul(part);
+    let step = report.len() / places.saturating_add(1);
+    for place in 0..places {
+        let at = step.saturating_mul(place.saturating_add(1));
         let other = with_other_byte(rt, report, at)?;
         differs_by_all(rt, states, other.as_slice(), line_at(report, at))?;
     }
@@ -282,14 +284,14 @@ fn judges_what_one_writes<R: Abort + Threads + Sync + AllocGlobal>(
 fn wrong_guesses_change_no_judgement(rt: HostRuntime) -> Result<(), Fail> {
     let states = odd_moments(&rt, 600)?;
     assert!(rt; states.len() <= 65536);
-    judges_what_one_writes(&rt, states.as_bytes())
+    judges_what_one_writes(&rt, states.as_bytes(), 5)
 }
 
 #[test]
 fn a_moment_that_fills_a_sheet_is_compared(rt: HostRuntime) -> Result<(), Fail> {
     let states = moments_of_a_full_sheet(&rt)?;
     assert!(rt; states.len() <= 65536);
-    judges_what_one_writes(&rt, states.as_bytes())
+    judges_what_one_writes(&rt, states.as_bytes(), 1)
 }
 
 /// A read that fails ends a comparison, unless it differed before.
