@@ -28,9 +28,6 @@ use std::alloc::Global;
 use std::thread;
 use std::thread::Threads;
 
-/// How many bytes the sheets of all lanes have together, as far as each has more than it needs.
-const SHEETS: usize = 1 << 22;
-
 /// How many bytes a sheet has at least: room for the text of any event.
 const LEAST_SHEET: usize = 130177;
 
@@ -329,10 +326,11 @@ impl Lane {
     }
 }
 
-/// A lane for each worker, if there is memory for them.
-fn lanes_in(alloc: Global, workers: u32) -> Option<Vec<Lane>> {
+/// A lane for each worker, if there is memory for them. Their sheets have so many bytes together, as
+/// far as each has more than it needs.
+fn lanes_in(alloc: Global, workers: u32, sheets: usize) -> Option<Vec<Lane>> {
     let mut lanes = Vec::new(alloc);
-    let sheet = SHEETS / (workers as usize).max(1);
+    let sheet = sheets / (workers as usize).max(1);
     for worker in 0..workers {
         let lane = Lane::new(alloc, worker, sheet)?;
         lanes.push(lane).ok()?;
@@ -340,12 +338,13 @@ fn lanes_in(alloc: Global, workers: u32) -> Option<Vec<Lane>> {
     Some(lanes)
 }
 
-/// A batch for these workers, if there is more than one, and memory for it.
-pub(crate) fn batch_in(alloc: Global, workers: u32) -> Option<Batch> {
+/// A batch for these workers, if there is more than one, and memory for it. The sheets have so many
+/// bytes together, or what the lanes need.
+pub(crate) fn batch_in(alloc: Global, workers: u32, sheets: usize) -> Option<Batch> {
     if workers < 2 {
         return None;
     }
-    let lanes = lanes_in(alloc, workers)?;
+    let lanes = lanes_in(alloc, workers, sheets)?;
     let places = Vec::with_capacity(alloc, MOST_STRETCHES + 1).ok()?;
     Some(Batch {
         lanes,

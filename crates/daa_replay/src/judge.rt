@@ -32,6 +32,9 @@ use daa_report::{write_differs, write_same};
 use std::alloc::Global;
 use std::thread::Threads;
 
+/// How many bytes of text the workers hold together. The states have at most a sixteenth of a read.
+const SHEETS: usize = 1 << 18;
+
 /// The sheet for the texts that the caller decides, and how far the report was compared.
 #[derive(Drop)]
 struct Comparison {
@@ -295,7 +298,7 @@ fn judge_states<R: Threads + Sync, S: Source, G: Gate>(
 /// several workers, and memory for it.
 fn batch_for(alloc: Global, workers: u32, states: &[u8]) -> Option<Batch> {
     if has_two_ends(states) {
-        batch_in(alloc, workers)
+        batch_in(alloc, workers, SHEETS)
     } else {
         None
     }

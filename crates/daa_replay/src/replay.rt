@@ -25,6 +25,9 @@ const MOST_READ: usize = 1 << 20;
 
 const MOST_READ_ALONE: usize = 1 << 16;
 
+/// How many bytes of text the workers hold together: the report of a large read.
+const SHEETS: usize = 1 << 22;
+
 /// Writes the texts of the events of a piece that the workers share, if there are several, and if
 /// more than one moment seems to end in it: those of all its lines, and else none. Returns how many
 /// bytes are fed then.
@@ -273,7 +276,7 @@ pub(crate) fn run_replay<R: Threads + Sync, S: Source + Send, K: Sink + Send, G:
         (outside after (stream_state (S.left source.new) (S.faults source.new))
         (stream_state (K.taken sink.new) (K.faults sink.new))) }
 {
-    let mut batch = batch_in(context.alloc, engine.workers());
+    let mut batch = batch_in(context.alloc, engine.workers(), SHEETS);
     let mut large = buffer_in(context.alloc, engine.workers());
     if large.is_empty() {
         let mut small = [0u8; BUFFER];
