@@ -176,6 +176,14 @@ class Sizes(unittest.TestCase):
         self.assertEqual([name for name in self.sizes() if "too many aircraft" in read(name)], ["docs/LIBRARY.md"])
 
 
+class Layout(unittest.TestCase):
+    def test_no_line_of_a_proof_is_long_but_an_import(self):
+        for path in glob.glob("crates/*/proofs/**/*.antt", root_dir=TOP, recursive=True):
+            for number, line in enumerate(read(path).splitlines(), 1):
+                if not re.match("(pub )?use ", line):
+                    self.assertLessEqual(len(line), 200, f"{path}:{number}")
+
+
 class WrongBodies(unittest.TestCase):
     def setUp(self):
         text = read("docs/CONTRIBUTING.md")

@@ -185,7 +185,8 @@ none_between s output time counts h =
 
 -- ---- one part more
 
-module _ (s : Settings) (seed left end : ℕ) (part : Part) (counts : Counts) (is : IsPart s seed part) (at : part.upto ≡ left) (low : left ≤ end) (h : AreCounted s (outputs_of seed) left (end - left) counts) where
+module _ (s : Settings) (seed left end : ℕ) (part : Part) (counts : Counts) (is : IsPart s seed part) (at : part.upto ≡ left) (low : left ≤ end)
+    (h : AreCounted s (outputs_of seed) left (end - left) counts) where
   from_there : AreCounted s (outputs_of seed) part.upto (end - part.upto) counts
   from_there = subst (λ (t : ℕ). AreCounted s (outputs_of seed) t (end - t) counts) (sym at) h
 

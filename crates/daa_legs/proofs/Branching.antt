@@ -39,7 +39,8 @@ module _ (own : Own) (rates : Rates) (candidate lead : Candidate) (n : ℕ) (ali
 -- the parts of a branch that is known
 module _ (own : Own) (rates : Rates) (candidate known : Candidate) (b c : Parting) (e : candidate ≡ known) (is : b ≡ c) where
   pub before_is : FliesAs own rates known (lead_of own known c.upper) c.leaves → FliesAs own rates candidate (lead_of own candidate b.upper) b.leaves
-  before_is h = subst (λ (x : Candidate). FliesAs own rates x (lead_of own x b.upper) b.leaves) (sym e) (subst (λ (y : Parting). FliesAs own rates known (lead_of own known y.upper) y.leaves) (sym is) h)
+  before_is h = subst (λ (x : Candidate). FliesAs own rates x (lead_of own x b.upper) b.leaves) (sym e)
+      (subst (λ (y : Parting). FliesAs own rates known (lead_of own known y.upper) y.leaves) (sym is) h)
 
   pub after_is : FliesOn own rates known c.settles → FliesOn own rates candidate b.settles
   after_is h = subst (λ (x : Candidate). FliesOn own rates x b.settles) (sym e) (subst (λ (y : Parting). FliesOn own rates known y.settles) (sym is) h)
@@ -89,7 +90,8 @@ from_next settings own candidate aircraft volume n m h = (
 module _ (settings : Settings) (own : Own) (candidate lead : Candidate) (aircraft : Traffic) (volume : Volume) (n : ℕ) (alike : FliesAs own (rates_of settings) candidate lead n) where
   pub violates_alike : (k : ℕ) → k < n → ViolatesOn settings own candidate aircraft volume k ↔ ViolatesOn settings own lead aircraft volume k
   violates_alike k h =
-      let e : relative_leg settings own candidate aircraft k ≡ relative_leg settings own lead aircraft k = ap (λ (l : OwnLeg). relative_for 1 l aircraft k) (leg_alike own (rates_of settings) candidate lead n alike k h) in (
+      let e : relative_leg settings own candidate aircraft k ≡ relative_leg settings own lead aircraft k = ap (λ (l : OwnLeg). relative_for 1 l aircraft k)
+      (leg_alike own (rates_of settings) candidate lead n alike k h) in (
         (λ v. subst (λ (l : Leg). HoldsSometime 1 (Violates l volume)) e v),
         (λ v. subst (λ (l : Leg). HoldsSometime 1 (Violates l volume)) (sym e) v),
       )

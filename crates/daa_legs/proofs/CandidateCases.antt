@@ -69,7 +69,8 @@ module _ (own : Own) (rates : Rates) where
       (sym (next_product k rates.alt))
       (toward_of-step (pos 60 *ℤ own.alt) (pos 60 *ℤ a) (pos k *ℤ rates.alt) rates.alt (product_nonneg k rates.alt h) h)
 
-  pub ground_speed_on-in_range : IsOwnInRange own → AreRatesInRange rates → (candidate : Candidate) (k : ℕ) → IsCandidateInRange candidate → IsFrom (pos 0) (pos 10000) (ground_speed_on own rates candidate k)
+  pub ground_speed_on-in_range : IsOwnInRange own → AreRatesInRange rates → (candidate : Candidate) (k : ℕ) → IsCandidateInRange candidate
+      → IsFrom (pos 0) (pos 10000) (ground_speed_on own rates candidate k)
   unfolding ground_speed_on
   ground_speed_on-in_range o r Hold k h = own_speed o
   ground_speed_on-in_range o r (Track c) k h = own_speed o
@@ -82,7 +83,8 @@ module _ (own : Own) (rates : Rates) where
   vertical_speed_on-within o r Hold k h = from_within 10000 tt tt (own_climb o)
   vertical_speed_on-within o r (Track c) k h = from_within 10000 tt tt (own_climb o)
   vertical_speed_on-within o r (Speed c) k h = from_within 10000 tt tt (own_climb o)
-  vertical_speed_on-within o r (Climb w) k h = from_within 10000 tt tt (toward_of-between (negsuc 9999) (pos 10000) own.vs w (pos k *ℤ rates.vs) (product_nonneg k rates.vs (omega (arith, ints, r.vs.least))) (own_climb o) h)
+  vertical_speed_on-within o r (Climb w) k h = from_within 10000 tt tt
+      (toward_of-between (negsuc 9999) (pos 10000) own.vs w (pos k *ℤ rates.vs) (product_nonneg k rates.vs (omega (arith, ints, r.vs.least))) (own_climb o) h)
   vertical_speed_on-within o r (Height a) k h =
       let s = height_step a k (omega (arith, ints, r.alt.least)) in
       record { size = omega (arith, ints, s.least, s.most, r.alt.most) }

@@ -28,7 +28,8 @@ up_size x h = omega (arith, ints, h.size)
 rate : (p v : ℤ) → unsigned_abs p < 20000 → IsWithin 10000 v → unsigned_abs (p -ℤ v) < 40000
 rate p v h w = omega (arith, ints, w.size)
 
-pub relative_for-in_range : (secs : ℕ) (leg : OwnLeg) (aircraft : Traffic) (k : ℕ) → IsOwnLegInRange leg → IsTrafficInRange aircraft → k ≤ 180 → 1 ≤ secs → secs ≤ 180 → IsLegInRange (relative_for secs leg aircraft k)
+pub relative_for-in_range : (secs : ℕ) (leg : OwnLeg) (aircraft : Traffic) (k : ℕ) → IsOwnLegInRange leg → IsTrafficInRange aircraft → k ≤ 180 → 1 ≤ secs
+    → secs ≤ 180 → IsLegInRange (relative_for secs leg aircraft k)
 unfolding relative_for
 relative_for-in_range secs leg aircraft k l t h some short =
     let far : aircraft.age + k ≤ 240 = omega (arith, h, t.age) in

@@ -13,7 +13,8 @@ pub record IsRunning (begun now : FlightState) (first : OwnLeg) (secs : ℕ) : T
   pub same : (j : ℕ) → j < secs → velocity_on begun.own begun.rates begun.candidate (begun.taken + j) ≡ first.velocity
 
 module _ (begun : FlightState) (first : OwnLeg) where
-  pub running_start : (now : FlightState) → now ≡ record begun { taken = begun.taken + 1 } → first ≡ own_leg begun.own begun.rates begun.candidate begun.taken → IsOwnLegInRange first → IsRunning begun now first 1
+  pub running_start : (now : FlightState) → now ≡ record begun { taken = begun.taken + 1 } → first ≡ own_leg begun.own begun.rates begun.candidate begun.taken
+      → IsOwnLegInRange first → IsRunning begun now first 1
   running_start now e l r = record {
     at = e;
     leg = l;
@@ -25,10 +26,12 @@ module _ (begun : FlightState) (first : OwnLeg) where
       only j h = omega (arith, h)
 
   -- the next leg's velocity, where the flight stands
-  pub running_ahead : (now : FlightState) (secs : ℕ) → IsRunning begun now first secs → velocity_on now.own now.rates now.candidate now.taken ≡ velocity_on begun.own begun.rates begun.candidate (begun.taken + secs)
+  pub running_ahead : (now : FlightState) (secs : ℕ) → IsRunning begun now first secs
+      → velocity_on now.own now.rates now.candidate now.taken ≡ velocity_on begun.own begun.rates begun.candidate (begun.taken + secs)
   running_ahead now secs r = ap (λ (c : FlightState). velocity_on c.own c.rates c.candidate c.taken) r.at
 
-  pub running_next : (now new : FlightState) (secs : ℕ) → IsRunning begun now first secs → new ≡ record now { taken = now.taken + 1 } → velocity_on now.own now.rates now.candidate now.taken ≡ first.velocity → IsRunning begun new first (secs + 1)
+  pub running_next : (now new : FlightState) (secs : ℕ) → IsRunning begun now first secs → new ≡ record now { taken = now.taken + 1 }
+      → velocity_on now.own now.rates now.candidate now.taken ≡ first.velocity → IsRunning begun new first (secs + 1)
   running_next now new secs r e v = record {
     at = e ∙ ap (λ (c : FlightState). record c { taken = c.taken + 1 }) r.at ∙ ap (λ (n : ℕ). record begun { taken = n }) one;
     leg = r.leg;

@@ -146,10 +146,12 @@ module _ (settings : Settings) (own : Own) (candidate : Candidate) (aircraft : T
   zero_more k = omega arith
 
   height_on : (k : ℕ) → k < m → (n d : ℤ) → height_at (relative_leg settings own Hold aircraft k) n d ≡ height_at present (n +ℤ pos k *ℤ d) d
-  height_on k h n d = subst (λ (j : ℕ). height_at (relative_leg settings own Hold aircraft j) n d ≡ height_at present (n +ℤ pos k *ℤ d) d) (zero_more k) (short_height settings own Hold aircraft volume 0 run runs k h n d)
+  height_on k h n d = subst (λ (j : ℕ). height_at (relative_leg settings own Hold aircraft j) n d ≡ height_at present (n +ℤ pos k *ℤ d) d) (zero_more k)
+      (short_height settings own Hold aircraft volume 0 run runs k h n d)
 
   place_along : (k : ℕ) → k < m → (n d : ℤ) → place_at (relative_leg settings own Hold aircraft k) n d ≡ place_at present (n +ℤ pos k *ℤ d) d
-  place_along k h n d = subst (λ (j : ℕ). place_at (relative_leg settings own Hold aircraft j) n d ≡ place_at present (n +ℤ pos k *ℤ d) d) (zero_more k) (short_place settings own Hold aircraft volume 0 run runs k h n d)
+  place_along k h n d = subst (λ (j : ℕ). place_at (relative_leg settings own Hold aircraft j) n d ≡ place_at present (n +ℤ pos k *ℤ d) d) (zero_more k)
+      (short_place settings own Hold aircraft volume 0 run runs k h n d)
 
   velocity_of_leg : (k : ℕ) → k < m → (relative_leg settings own Hold aircraft k).velocity ≡ present.velocity
   velocity_of_leg k h = subst (λ (j : ℕ). (relative_leg settings own Hold aircraft j).velocity ≡ present.velocity) (zero_more k) (short_velocity settings own Hold aircraft volume 0 run runs k h)

@@ -24,7 +24,8 @@ hold_run own rates leg secs e = record {
 }
 
 -- between 0 and m is within m
-pub from_start : (settings : Settings) (own : Own) (candidate : Candidate) (aircraft : Traffic) (volume : Volume) (m : ℕ) → MeetsBetween settings own candidate aircraft volume 0 (0 + m) ↔ MeetsWithin settings own candidate aircraft volume m
+pub from_start : (settings : Settings) (own : Own) (candidate : Candidate) (aircraft : Traffic) (volume : Volume) (m : ℕ)
+    → MeetsBetween settings own candidate aircraft volume 0 (0 + m) ↔ MeetsWithin settings own candidate aircraft volume m
 from_start settings own candidate aircraft volume m = (
   (λ e. record { leg = e.leg; before = omega (arith, e.before); violates = e.violates }),
   (λ e. record { leg = e.leg; not_before = omega arith; before = omega (arith, e.before); violates = e.violates }),

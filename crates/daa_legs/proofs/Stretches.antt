@@ -203,7 +203,8 @@ module _ (settings : Settings) (own : Own) (candidate : Candidate) (aircraft : T
         num = x.num +ℤ pos j *ℤ x.den;
         den = x.den;
         time = out_second run.secs j x.num x.den h x.time;
-        holds = violates_moved (relative_leg settings own candidate aircraft (k + j)) long volume x.num (x.num +ℤ pos j *ℤ x.den) x.den (short_place j h x.num x.den) (short_height j h x.num x.den) (short_velocity j h) x.holds;
+        holds = violates_moved (relative_leg settings own candidate aircraft (k + j)) long volume x.num (x.num +ℤ pos j *ℤ x.den) x.den
+            (short_place j h x.num x.den) (short_height j h x.num x.den) (short_velocity j h) x.holds;
       }
 
   seconds_of : (secs : ℕ) → secs ≡ run.secs → 1 ≤ secs → HoldsSometime secs (Violates long volume) → MeetsBetween settings own candidate aircraft volume k (k + run.secs)

@@ -25,13 +25,17 @@ pub record IsWalked (settings : Settings) (own : Own) (candidate : Candidate) (a
 
 module _ (settings : Settings) (own : Own) (candidate : Candidate) (aircraft : Traffic) (volume : Volume) where
   -- a test of the next leg is one of the flight's leg k
-  pub next_is : (flight : FlightState) (k : ℕ) (leg : OwnLeg) (rel : Leg) (b : Bool) → IsWalked settings own candidate aircraft volume flight k → leg ≡ own_leg flight.own flight.rates flight.candidate flight.taken → rel ≡ relative_for 1 leg aircraft k → IsTrue b ↔ HoldsSometime rel.secs (Violates rel volume) → IsTrue b ↔ ViolatesOn settings own candidate aircraft volume k
+  pub next_is : (flight : FlightState) (k : ℕ) (leg : OwnLeg) (rel : Leg) (b : Bool) → IsWalked settings own candidate aircraft volume flight k
+      → leg ≡ own_leg flight.own flight.rates flight.candidate flight.taken → rel ≡ relative_for 1 leg aircraft k
+      → IsTrue b ↔ HoldsSometime rel.secs (Violates rel volume) → IsTrue b ↔ ViolatesOn settings own candidate aircraft volume k
   unfolding relative_for
   next_is flight k leg rel b w e r h =
-      let same : rel ≡ relative_leg settings own candidate aircraft k = r ∙ ap (λ (l : OwnLeg). relative_for 1 l aircraft k) (e ∙ ap (λ (f : FlightState). own_leg f.own f.rates f.candidate f.taken) w.at) in
+      let same : rel ≡ relative_leg settings own candidate aircraft k = r ∙ ap (λ (l : OwnLeg). relative_for 1 l aircraft k)
+      (e ∙ ap (λ (f : FlightState). own_leg f.own f.rates f.candidate f.taken) w.at) in
       subst (λ (l : Leg). IsTrue b ↔ HoldsSometime l.secs (Violates l volume)) same h
 
-  pub next_walked : (flight new : FlightState) (k : ℕ) → IsWalked settings own candidate aircraft volume flight k → new ≡ record flight { taken = flight.taken + 1 } → ¬ ViolatesOn settings own candidate aircraft volume k → IsWalked settings own candidate aircraft volume new (k + 1)
+  pub next_walked : (flight new : FlightState) (k : ℕ) → IsWalked settings own candidate aircraft volume flight k
+      → new ≡ record flight { taken = flight.taken + 1 } → ¬ ViolatesOn settings own candidate aircraft volume k → IsWalked settings own candidate aircraft volume new (k + 1)
   next_walked flight new k w e h = record {
     at = e ∙ ap (λ (f : FlightState). record f { taken = f.taken + 1 }) w.at;
     none = below_more _ _ w.none h;
@@ -41,14 +45,17 @@ module _ (settings : Settings) (own : Own) (candidate : Candidate) (aircraft : T
   walked_none flight m k h w e = w.none e.leg (omega (arith, h, e.before)) e.violates
 
   -- a test of the next run is one of its seconds
-  pub run_is : (flight : FlightState) (k : ℕ) (run : OwnRun) (rel : Leg) (b : Bool) → IsWalked settings own candidate aircraft volume flight k → IsRunOf flight.own flight.rates flight.candidate flight.taken run
+  pub run_is : (flight : FlightState) (k : ℕ) (run : OwnRun) (rel : Leg) (b : Bool) → IsWalked settings own candidate aircraft volume flight k
+      → IsRunOf flight.own flight.rates flight.candidate flight.taken run
       → (IsRunOf own (rates_of settings) candidate k run → HoldsSometime rel.secs (Violates rel volume) ↔ MeetsBetween settings own candidate aircraft volume k (k + run.secs))
       → IsTrue b ↔ HoldsSometime rel.secs (Violates rel volume) → IsTrue b ↔ MeetsBetween settings own candidate aircraft volume k (k + run.secs)
   run_is flight k run rel b w r same h =
       let its : IsRunOf own (rates_of settings) candidate k run = subst (λ (f : FlightState). IsRunOf f.own f.rates f.candidate f.taken run) w.at r in
       ((λ t. (same its).0 (h.0 t)), (λ m. h.1 ((same its).1 m)))
 
-  pub run_walked : (flight new : FlightState) (k secs : ℕ) → IsWalked settings own candidate aircraft volume flight k → new ≡ record flight { taken = flight.taken + secs } → ¬ MeetsBetween settings own candidate aircraft volume k (k + secs) → IsWalked settings own candidate aircraft volume new (k + secs)
+  pub run_walked : (flight new : FlightState) (k secs : ℕ) → IsWalked settings own candidate aircraft volume flight k
+      → new ≡ record flight { taken = flight.taken + secs } → ¬ MeetsBetween settings own candidate aircraft volume k (k + secs)
+      → IsWalked settings own candidate aircraft volume new (k + secs)
   run_walked flight new k secs w e h = record {
     at = e ∙ ap (λ (f : FlightState). record f { taken = f.taken + secs }) w.at;
     none = λ j l v. ⊎_elim

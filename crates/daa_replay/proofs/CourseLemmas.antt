@@ -124,7 +124,8 @@ concat_last front last = concat-append front (last ∷ []) ∙ ap (λ (b : Bytes
 
 -- ---- a taker whose pieces are steps of a course
 
-module _ {T : Type 0} (takes : T → Bytes → Bool → T → Type 0) (desk_of : T → Course) (steps : (t : T) (piece : Bytes) (answer : Bool) (u : T) → takes t piece answer u → Steps (desk_of t) piece answer (desk_of u)) where
+module _ {T : Type 0} (takes : T → Bytes → Bool → T → Type 0) (desk_of : T → Course)
+    (steps : (t : T) (piece : Bytes) (answer : Bool) (u : T) → takes t piece answer u → Steps (desk_of t) piece answer (desk_of u)) where
   pub writes_all : (a : T) (pieces : List Bytes) (b : T) → IsBetween (desk_of a).progress → TakesAll takes a pieces b → Writes (desk_of a) (concat pieces) false (desk_of b)
   unfolding TakesAll
   writes_all a [] b between t = writes_nothing (desk_of a) (desk_of b) (ap desk_of t) between
@@ -177,5 +178,6 @@ abbrev pub held_desk : {R K G : Type 0} → (K → ToldBytes) → (K → ℕ) �
 held_desk taken faults t = course t.call.1.now.settings t.call.3.now (taken t.call.2.now) (faults t.call.2.now)
 
 -- the same of a part of what moved
-pub moves_of : (places : ℕ) (ended : Ended) (most : ℕ) (old new : StreamState) (P Q : Bytes → Type 0) → ((bytes : Bytes) → P bytes → Q bytes) → Moves places ended most old new P → Moves places ended most old new Q
+pub moves_of : (places : ℕ) (ended : Ended) (most : ℕ) (old new : StreamState) (P Q : Bytes → Type 0) → ((bytes : Bytes) → P bytes → Q bytes)
+    → Moves places ended most old new P → Moves places ended most old new Q
 moves_of places ended most old new P Q f m = record { taken = m.taken; bound = m.bound; read = m.read; given = f m.taken m.given; never_falls = m.never_falls }

@@ -34,7 +34,8 @@ module _ (settings : Settings) (own : Own) (aircraft : Traffic) (a : IsAccepted 
       go : ((level : Level) × IsLevelAt settings l level) ⊎ ((level : Level) → IsLevelAt settings l level → ⊥) → IsDecidable (Alerts settings own aircraft l)
       go (inl (level, at)) =
           let r = a.level l level at in
-          as_decided (alerts_at settings own aircraft l level at) (by_test (is_met_within settings own Hold aircraft level.volume level.alert) (within_is settings own Hold aircraft a o tt t level.volume r.volume level.alert r.alert_most))
+          as_decided (alerts_at settings own aircraft l level at) (by_test (is_met_within settings own Hold aircraft level.volume level.alert)
+          (within_is settings own Hold aircraft a o tt t level.volume r.volume level.alert r.alert_most))
       go (inr none) = inr (λ m. none m.level m.there)
 
   pub now_decided : (l : ℕ) → IsDecidable (ViolatesNow settings own aircraft l)
@@ -52,7 +53,9 @@ module _ (settings : Settings) (own : Own) (aircraft : Traffic) (a : IsAccepted 
       go : ((level : Level) × IsLevelAt settings l level) ⊎ ((level : Level) → IsLevelAt settings l level → ⊥) → IsDecidable (Meets settings own candidate aircraft l)
       go (inl (level, at)) =
           let r = a.level l level at in
-          as_decided (meets_at settings own aircraft l level at candidate) (by_test (is_met_within settings own candidate aircraft level.volume level.lookahead) (within_is settings own candidate aircraft a o h t level.volume r.volume level.lookahead r.lookahead_most))
+          as_decided (meets_at settings own aircraft l level at candidate)
+          (by_test (is_met_within settings own candidate aircraft level.volume level.lookahead)
+          (within_is settings own candidate aircraft a o h t level.volume r.volume level.lookahead r.lookahead_most))
       go (inr none) = inr (λ m. none m.level m.there)
 
 module _ (s : SceneState) (a : IsAccepted s.settings) (p : IsPictureInRange s.picture) where

@@ -142,7 +142,8 @@ pub at_place : {X : Type 0} (P : X → Type 0) (xs : List X) (i : ℕ) (x : X) �
 at_place P xs i x h e = subst P (get_or_from_slice_get xs i x x e) (h i x (slice_get_within xs i x e))
 
 -- what is met at two places of their lists is what stands there meeting
-pub met_at : (s : SceneState) (index at l : ℕ) (candidate : Candidate) (aircraft : Traffic) → slice_get (candidates_of s.settings) index ≡ Some candidate → slice_get (aircraft_of s.picture) at ≡ Some aircraft
+pub met_at : (s : SceneState) (index at l : ℕ) (candidate : Candidate) (aircraft : Traffic) → slice_get (candidates_of s.settings) index ≡ Some candidate
+    → slice_get (aircraft_of s.picture) at ≡ Some aircraft
     → Meets s.settings s.picture.own candidate aircraft l ↔ MeetsAt s index at l
 met_at s index at l candidate aircraft ec ea = (
   (λ m. record { candidate = candidate; aircraft = aircraft; listed = ec; there = ea; meets = m }),
@@ -150,7 +151,8 @@ met_at s index at l candidate aircraft ec ea = (
       (subst (λ (t : Traffic). Meets s.settings s.picture.own m.candidate t l) (same_Some m.aircraft aircraft (sym m.there ∙ ea)) m.meets)),
 )
 
-entry-some : (s : SceneState) (at index : ℕ) (candidate : Candidate) (aircraft : Traffic) → slice_get (candidates_of s.settings) index ≡ Some candidate → slice_get (aircraft_of s.picture) at ≡ Some aircraft
+entry-some : (s : SceneState) (at index : ℕ) (candidate : Candidate) (aircraft : Traffic) → slice_get (candidates_of s.settings) index ≡ Some candidate
+    → slice_get (aircraft_of s.picture) at ≡ Some aircraft
     → entry_at s at index ≡ 1 + 2 * mask_of s.settings s.picture.own candidate aircraft s.settings.levels
 unfolding entry_at
 entry-some s at index candidate aircraft ec ea = λ i. entry_for s (ec i) (ea i)

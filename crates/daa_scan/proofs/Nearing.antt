@@ -132,7 +132,9 @@ module _ (leg : Leg) (volume : Volume) (n d speed : ℤ) (d1 : pos 1 ≤ℤ d) (
       swap x y = omega (arith, ints)
 
 -- the height
-pub up_near : (leg : Leg) (volume : Volume) (n d speed : ℤ) → pos 1 ≤ℤ d → pos 0 ≤ℤ speed → pos (unsigned_abs leg.velocity.up) ≤ℤ speed → ViolatesVertically leg volume n d → IsFrom (neg_ℤ (pos volume.zthr *ℤ d +ℤ pos volume.tcoa *ℤ d *ℤ speed)) (pos volume.zthr *ℤ d +ℤ pos volume.tcoa *ℤ d *ℤ speed) (height_at leg n d)
+pub up_near : (leg : Leg) (volume : Volume) (n d speed : ℤ) → pos 1 ≤ℤ d → pos 0 ≤ℤ speed → pos (unsigned_abs leg.velocity.up) ≤ℤ speed
+    → ViolatesVertically leg volume n d → IsFrom (neg_ℤ (pos volume.zthr *ℤ d +ℤ pos volume.tcoa *ℤ d *ℤ speed))
+    (pos volume.zthr *ℤ d +ℤ pos volume.tcoa *ℤ d *ℤ speed) (height_at leg n d)
 up_near leg volume n d speed d1 s0 slow h = both (height_at leg n d) _ (⊎_elim
     (λ l. grow_left _ _ _ (mul_nonneg (pos volume.tcoa *ℤ d) speed cd0 s0) l)
     (λ l. grow_right _ _ _ (mul_nonneg (pos volume.zthr) d (omega (arith, ints)) (omega (arith, ints))) (le_trans_ℤ _ _ _ l.soon (mul_le_left (pos volume.tcoa *ℤ d) _ _ cd0 slow)))

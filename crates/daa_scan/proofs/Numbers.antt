@@ -43,7 +43,8 @@ pub taken_before : (f : ℕ → Bool) (n i : ℕ) → IsTrue (f n) → i < lengt
 taken_before f n i t h = ap (λ (xs : List ℕ). slice_index xs i) (taken f n t) ∙ get_or_append_left (numbers_below f n) (n ∷ []) 0 i h
 
 -- ---- up to a later number
-pub still : (f : ℕ → Bool) (n more i : ℕ) → i < length (numbers_below f n) → (i < length (numbers_below f (n + more))) × (slice_index (numbers_below f (n + more)) i ≡ slice_index (numbers_below f n) i)
+pub still : (f : ℕ → Bool) (n more i : ℕ) → i < length (numbers_below f n)
+    → (i < length (numbers_below f (n + more))) × (slice_index (numbers_below f (n + more)) i ≡ slice_index (numbers_below f n) i)
 still f n zero i h = let e : n + 0 ≡ n = omega arith in subst (λ (m : ℕ). (i < length (numbers_below f m)) × (slice_index (numbers_below f m) i ≡ slice_index (numbers_below f n) i)) (sym e) (h, refl)
 still f n (suc more) i h =
     let e : n + suc more ≡ suc (n + more) = omega arith in

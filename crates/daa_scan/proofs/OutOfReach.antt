@@ -27,7 +27,8 @@ use Rattle.daa_scan.specs.Reach.{size_of, place_now, horizontal_speed, vertical_
 use Rattle.daa_scan.proofs.Nearing.{east_near, north_near, up_near}
 
 -- ---- a sum of numbers that are small
-sum_within : (proj : Solid → ℤ) (f : ℕ → Solid) (g : ℤ) → proj (sum_below f 0) ≡ pos 0 → ((x y : Solid) → proj (plus x y) ≡ proj x +ℤ proj y) → ((j : ℕ) → IsFrom (neg_ℤ g) g (proj (f j))) → (k : ℕ) → IsFrom (neg_ℤ (pos k *ℤ g)) (pos k *ℤ g) (proj (sum_below f k))
+sum_within : (proj : Solid → ℤ) (f : ℕ → Solid) (g : ℤ) → proj (sum_below f 0) ≡ pos 0 → ((x y : Solid) → proj (plus x y) ≡ proj x +ℤ proj y)
+    → ((j : ℕ) → IsFrom (neg_ℤ g) g (proj (f j))) → (k : ℕ) → IsFrom (neg_ℤ (pos k *ℤ g)) (pos k *ℤ g) (proj (sum_below f k))
 sum_within proj f g z p h zero = subst (λ (x : ℤ). IsFrom (neg_ℤ (pos 0 *ℤ g)) (pos 0 *ℤ g) x) (sym z) (record { least = omega (arith, ints); most = omega (arith, ints) })
 sum_within proj f g z p h (suc k) = subst (λ (x : ℤ). IsFrom (neg_ℤ (pos (suc k) *ℤ g)) (pos (suc k) *ℤ g) x) (sym (p (sum_below f k) (f k)))
     (next (proj (sum_below f k)) (proj (f k)) g k (sum_within proj f g z p h k) (h k))
@@ -43,7 +44,8 @@ both_sides : (x y : ℤ) → x ≤ℤ y → neg_ℤ x ≤ℤ y → size_of x ≤
 both_sides x y h k = omega (arith, ints)
 
 -- begun at o, moved by s; the other reported at t, moved by age + k seconds of w; n/d later at the difference of v and w
-axis_within : (o t s v w g u r n d : ℤ) (age k : ℕ) → pos 1 ≤ℤ d → pos 0 ≤ℤ n → n ≤ℤ d → pos 0 ≤ℤ g → pos 0 ≤ℤ u → IsFrom (neg_ℤ (pos k *ℤ g)) (pos k *ℤ g) s → IsFrom (neg_ℤ g) g v → IsFrom (neg_ℤ u) u w
+axis_within : (o t s v w g u r n d : ℤ) (age k : ℕ) → pos 1 ≤ℤ d → pos 0 ≤ℤ n → n ≤ℤ d → pos 0 ≤ℤ g → pos 0 ≤ℤ u → IsFrom (neg_ℤ (pos k *ℤ g)) (pos k *ℤ g) s
+    → IsFrom (neg_ℤ g) g v → IsFrom (neg_ℤ u) u w
     → IsFrom (neg_ℤ (d *ℤ r)) (d *ℤ r) (d *ℤ ((o +ℤ s) -ℤ (t +ℤ pos (age + k) *ℤ w)) +ℤ n *ℤ (v -ℤ w)) → size_of (o -ℤ (t +ℤ pos (age + 0) *ℤ w)) ≤ℤ (r +ℤ (pos k +ℤ pos 1) *ℤ (g +ℤ u))
 axis_within o t s v w g u r n d age k d1 n0 nd g0 u0 hs hv hw later =
     let O = # 0 in let T = # 1 in let S = # 2 in let V = # 3 in let W = # 4 in let K = # 5 in let N = # 6 in let D = # 7 in let A = # 8 in
@@ -64,7 +66,8 @@ axis_within o t s v w g u r n d age k d1 n0 nd g0 u0 hs hv hw later =
     flip x y h = omega (arith, ints)
 
 -- k + 1 is at most the lookahead, and g + u at most the speed
-room : (near soon ahead k : ℕ) (g u speed x : ℤ) → k < ahead → pos 0 ≤ℤ (g +ℤ u) → (g +ℤ u) ≤ℤ speed → x ≤ℤ ((pos near +ℤ pos soon *ℤ speed) +ℤ (pos k +ℤ pos 1) *ℤ (g +ℤ u)) → x ≤ℤ (pos near +ℤ pos (soon + ahead) *ℤ speed)
+room : (near soon ahead k : ℕ) (g u speed x : ℤ) → k < ahead → pos 0 ≤ℤ (g +ℤ u) → (g +ℤ u) ≤ℤ speed
+    → x ≤ℤ ((pos near +ℤ pos soon *ℤ speed) +ℤ (pos k +ℤ pos 1) *ℤ (g +ℤ u)) → x ≤ℤ (pos near +ℤ pos (soon + ahead) *ℤ speed)
 room near soon ahead k g u speed x h gu le e =
     let N = # 0 in let S = # 1 in let A = # 2 in let V = # 3 in
     let s0 : pos 0 ≤ℤ speed = omega (arith, ints) in
@@ -75,7 +78,8 @@ room near soon ahead k g u speed x h gu le e =
     chain : (x y p q : ℤ) → x ≤ℤ (y +ℤ p) → p ≤ℤ q → x ≤ℤ (y +ℤ q)
     chain x y p q h k = omega (arith, ints)
 
-module _ (settings : Settings) (own : Own) (candidate : Candidate) (aircraft : Traffic) (settled : IsAccepted settings) (o : IsOwnInRange own) (listed : IsCandidateOf settings candidate) (level : Level) (k : ℕ) (soon : k < level.lookahead) (n d : ℤ) (t : IsTime 1 n d) where
+module _ (settings : Settings) (own : Own) (candidate : Candidate) (aircraft : Traffic) (settled : IsAccepted settings) (o : IsOwnInRange own)
+    (listed : IsCandidateOf settings candidate) (level : Level) (k : ℕ) (soon : k < level.lookahead) (n d : ℤ) (t : IsTime 1 n d) where
   abbrev leg : Leg
   leg = relative_leg settings own candidate aircraft k
 
@@ -139,32 +143,42 @@ module _ (settings : Settings) (own : Own) (candidate : Candidate) (aircraft : T
   ranged : (x y z : ℤ) → y ≡ z → IsFrom (neg_ℤ y) y x → IsFrom (neg_ℤ z) z x
   ranged x y z e h = subst (λ (w : ℤ). IsFrom (neg_ℤ w) w x) e h
 
-  east_reached : ViolatesHorizontally leg level.volume n d → size_of (place_now own aircraft).flat.east ≤ℤ (pos level.volume.dthr +ℤ pos (level.volume.tthr + level.lookahead) *ℤ horizontal_speed settings own aircraft)
+  east_reached : ViolatesHorizontally leg level.volume n d → size_of (place_now own aircraft).flat.east ≤ℤ
+      (pos level.volume.dthr +ℤ pos (level.volume.tthr + level.lookahead) *ℤ horizontal_speed settings own aircraft)
   unfolding relative_for place_on
   east_reached h = room level.volume.dthr level.volume.tthr level.lookahead k (top_of settings own) (size_of aircraft.vx) _ _ soon (omega (arith, ints, g0)) (omega (arith, ints))
-      (axis_within (pos 36 *ℤ own.x) (pos 36 *ℤ aircraft.x) s.flat.east v.flat.east aircraft.vx (top_of settings own) (size_of aircraft.vx) (pos level.volume.dthr +ℤ pos level.volume.tthr *ℤ horizontal_speed settings own aircraft) n d aircraft.age k t.fraction t.from nd g0 (omega (arith, ints))
+      (axis_within (pos 36 *ℤ own.x) (pos 36 *ℤ aircraft.x) s.flat.east v.flat.east aircraft.vx (top_of settings own) (size_of aircraft.vx)
+      (pos level.volume.dthr +ℤ pos level.volume.tthr *ℤ horizontal_speed settings own aircraft) n d aircraft.age k t.fraction t.from nd g0 (omega (arith, ints))
       (sum_within (λ x. x.flat.east) (velocity_on own (rates_of settings) candidate) (top_of settings own) refl (λ x y. refl) (λ j. east-top settings own settled o candidate listed j) k)
       (east-top settings own settled o candidate listed k) (own_size aircraft.vx)
-      (ranged _ _ _ (way (pos level.volume.dthr) (pos level.volume.tthr) (horizontal_speed settings own aircraft) d) (east_near leg level.volume n d (horizontal_speed settings own aircraft) t.fraction speed0 slow h)))
+      (ranged _ _ _ (way (pos level.volume.dthr) (pos level.volume.tthr) (horizontal_speed settings own aircraft) d)
+      (east_near leg level.volume n d (horizontal_speed settings own aircraft) t.fraction speed0 slow h)))
 
-  north_reached : ViolatesHorizontally leg level.volume n d → size_of (place_now own aircraft).flat.north ≤ℤ (pos level.volume.dthr +ℤ pos (level.volume.tthr + level.lookahead) *ℤ horizontal_speed settings own aircraft)
+  north_reached : ViolatesHorizontally leg level.volume n d → size_of (place_now own aircraft).flat.north ≤ℤ
+      (pos level.volume.dthr +ℤ pos (level.volume.tthr + level.lookahead) *ℤ horizontal_speed settings own aircraft)
   unfolding relative_for place_on
   north_reached h = room level.volume.dthr level.volume.tthr level.lookahead k (top_of settings own) (size_of aircraft.vy) _ _ soon (omega (arith, ints, g0)) (omega (arith, ints))
-      (axis_within (pos 36 *ℤ own.y) (pos 36 *ℤ aircraft.y) s.flat.north v.flat.north aircraft.vy (top_of settings own) (size_of aircraft.vy) (pos level.volume.dthr +ℤ pos level.volume.tthr *ℤ horizontal_speed settings own aircraft) n d aircraft.age k t.fraction t.from nd g0 (omega (arith, ints))
+      (axis_within (pos 36 *ℤ own.y) (pos 36 *ℤ aircraft.y) s.flat.north v.flat.north aircraft.vy (top_of settings own) (size_of aircraft.vy)
+      (pos level.volume.dthr +ℤ pos level.volume.tthr *ℤ horizontal_speed settings own aircraft) n d aircraft.age k t.fraction t.from nd g0 (omega (arith, ints))
       (sum_within (λ x. x.flat.north) (velocity_on own (rates_of settings) candidate) (top_of settings own) refl (λ x y. refl) (λ j. north-top settings own settled o candidate listed j) k)
       (north-top settings own settled o candidate listed k) (own_size aircraft.vy)
-      (ranged _ _ _ (way (pos level.volume.dthr) (pos level.volume.tthr) (horizontal_speed settings own aircraft) d) (north_near leg level.volume n d (horizontal_speed settings own aircraft) t.fraction speed0 slow h)))
+      (ranged _ _ _ (way (pos level.volume.dthr) (pos level.volume.tthr) (horizontal_speed settings own aircraft) d)
+      (north_near leg level.volume n d (horizontal_speed settings own aircraft) t.fraction speed0 slow h)))
 
-  up_reached : ViolatesVertically leg level.volume n d → size_of (place_now own aircraft).up ≤ℤ (pos level.volume.zthr +ℤ pos (level.volume.tcoa + level.lookahead) *ℤ vertical_speed settings own aircraft)
+  up_reached : ViolatesVertically leg level.volume n d → size_of (place_now own aircraft).up ≤ℤ
+      (pos level.volume.zthr +ℤ pos (level.volume.tcoa + level.lookahead) *ℤ vertical_speed settings own aircraft)
   unfolding relative_for place_on
   up_reached h = room level.volume.zthr level.volume.tcoa level.lookahead k (rise_of settings own) (size_of aircraft.vs) _ _ soon (omega (arith, ints, rise0)) (omega (arith, ints))
-      (axis_within (pos 60 *ℤ own.alt) (pos 60 *ℤ aircraft.alt) s.up v.up aircraft.vs (rise_of settings own) (size_of aircraft.vs) (pos level.volume.zthr +ℤ pos level.volume.tcoa *ℤ vertical_speed settings own aircraft) n d aircraft.age k t.fraction t.from nd rise0 (omega (arith, ints))
+      (axis_within (pos 60 *ℤ own.alt) (pos 60 *ℤ aircraft.alt) s.up v.up aircraft.vs (rise_of settings own) (size_of aircraft.vs)
+      (pos level.volume.zthr +ℤ pos level.volume.tcoa *ℤ vertical_speed settings own aircraft) n d aircraft.age k t.fraction t.from nd rise0 (omega (arith, ints))
       (sum_within (λ x. x.up) (velocity_on own (rates_of settings) candidate) (rise_of settings own) refl (λ x y. refl) (λ j. up-top settings own settled o candidate listed j) k)
       (up-top settings own settled o candidate listed k) (own_size aircraft.vs)
-      (ranged _ _ _ (way (pos level.volume.zthr) (pos level.volume.tcoa) (vertical_speed settings own aircraft) d) (up_near leg level.volume n d (vertical_speed settings own aircraft) t.fraction climb0 steady h)))
+      (ranged _ _ _ (way (pos level.volume.zthr) (pos level.volume.tcoa) (vertical_speed settings own aircraft) d)
+      (up_near leg level.volume n d (vertical_speed settings own aircraft) t.fraction climb0 steady h)))
 
 -- what a listed candidate meets is in reach
-pub met_in_reach : (settings : Settings) (own : Own) (candidate : Candidate) (aircraft : Traffic) → IsAccepted settings → IsOwnInRange own → IsCandidateOf settings candidate → (l : ℕ) → Meets settings own candidate aircraft l → IsInReach settings own aircraft
+pub met_in_reach : (settings : Settings) (own : Own) (candidate : Candidate) (aircraft : Traffic) → IsAccepted settings → IsOwnInRange own
+    → IsCandidateOf settings candidate → (l : ℕ) → Meets settings own candidate aircraft l → IsInReach settings own aircraft
 met_in_reach settings own candidate aircraft settled o listed l m =
     let h = m.meets in
     let v = h.violates in

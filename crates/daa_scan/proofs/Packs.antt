@@ -261,7 +261,8 @@ pub few_groups : (settings : Settings) → IsAccepted settings → group_count s
 few_groups settings a = let l = few_candidates settings a in omega (arith, l)
 
 -- the word of a unit
-pub word_found : (s : SceneState) → IsAccepted s.settings → IsPictureInRange s.picture → (unit at group : ℕ) → unit < length (words_of s) → at ≡ slice_index (places_in_reach s) (unit / group_count s.settings) → group ≡ unit % group_count s.settings
+pub word_found : (s : SceneState) → IsAccepted s.settings → IsPictureInRange s.picture → (unit at group : ℕ) → unit < length (words_of s)
+    → at ≡ slice_index (places_in_reach s) (unit / group_count s.settings) → group ≡ unit % group_count s.settings
     → packed_word s at group ≡ slice_index (words_of s) unit
 word_found s a p unit at group h ea eg =
     let l : unit < group_count s.settings * length (places_in_reach s) = subst (λ (n : ℕ). unit < n) (words_count s) h in

@@ -58,8 +58,11 @@ pub next_led : (settings : Settings) (own : Own) (needs : Needs) (most index : �
 next_led settings own needs most index trunks legs inside h is = record {
   room = length-set trunks index legs ∙ h.room;
   each = λ kind upper z b needed. ⊎_elim
-      (λ e. subst (λ (ls : List OwnLeg). AreLegsOf own (rates_of settings) (lead_of own (candidate_to kind z) upper) most ls) (sym (ap (λ (i : ℕ). slice_index_or (set trunks index legs) i []) e ∙ get_or-set_same trunks index legs [] (omega (arith, inside, h.room)))) (is kind upper z (sym e) needed))
-      (λ n. subst (λ (ls : List OwnLeg). AreLegsOf own (rates_of settings) (lead_of own (candidate_to kind z) upper) most ls) (sym (get_or-set_other trunks index (trunk_index kind upper) legs [] n)) (h.each kind upper z (below (trunk_index kind upper) b n) needed))
+      (λ e. subst (λ (ls : List OwnLeg). AreLegsOf own (rates_of settings) (lead_of own (candidate_to kind z) upper) most ls)
+      (sym (ap (λ (i : ℕ). slice_index_or (set trunks index legs) i []) e ∙ get_or-set_same trunks index legs [] (omega (arith, inside, h.room))))
+      (is kind upper z (sym e) needed))
+      (λ n. subst (λ (ls : List OwnLeg). AreLegsOf own (rates_of settings) (lead_of own (candidate_to kind z) upper) most ls)
+      (sym (get_or-set_other trunks index (trunk_index kind upper) legs [] n)) (h.each kind upper z (below (trunk_index kind upper) b n) needed))
       (cases_eq (trunk_index kind upper) index);
 }
   where
@@ -77,14 +80,17 @@ trunk_index_small Height true = omega arith
 trunk_index_small Height false = omega arith
 
 -- all of them lead
-pub all_led : (settings : Settings) (own : Own) (needs : Needs) (most index : ℕ) (trunks : List (List OwnLeg)) → 8 ≤ index → IsAhead settings (length settings.levels) most → AreLeadsBelow settings own needs index most trunks → AreLeads settings own needs trunks
+pub all_led : (settings : Settings) (own : Own) (needs : Needs) (most index : ℕ) (trunks : List (List OwnLeg)) → 8 ≤ index
+    → IsAhead settings (length settings.levels) most → AreLeadsBelow settings own needs index most trunks → AreLeads settings own needs trunks
 all_led settings own needs most index trunks all ahead h l level at kind upper z needed =
     let w = slice_get_within settings.levels (l - 1) level at.there in
     let s = trunk_index_small kind upper in
-    fewer_legs own (rates_of settings) (lead_of own (candidate_to kind z) upper) most level.lookahead (trunk_in trunks kind upper) (ahead l level (omega (arith, w)) at) (h.each kind upper z (omega (arith, s, all)) needed)
+    fewer_legs own (rates_of settings) (lead_of own (candidate_to kind z) upper) most level.lookahead (trunk_in trunks kind upper)
+    (ahead l level (omega (arith, w)) at) (h.each kind upper z (omega (arith, s, all)) needed)
 
 module _ (own : Own) (kind : Kind) (upper : Bool) (lead : Candidate) (is : (z : ℤ) → lead ≡ lead_of own (candidate_to kind z) upper) where
-  pub trunk_led : (rates : Rates) (n : ℕ) (t : List (List OwnLeg)) (legs : List OwnLeg) → ((u : Bool) (z : ℤ) → AreLegsOf own rates (lead_of own (candidate_to kind z) u) n (trunk_in t kind u)) → legs ≡ trunk_in t kind upper → AreLegsOf own rates lead n legs
+  pub trunk_led : (rates : Rates) (n : ℕ) (t : List (List OwnLeg)) (legs : List OwnLeg)
+      → ((u : Bool) (z : ℤ) → AreLegsOf own rates (lead_of own (candidate_to kind z) u) n (trunk_in t kind u)) → legs ≡ trunk_in t kind upper → AreLegsOf own rates lead n legs
   trunk_led rates n t legs h e = subst (λ (c : Candidate). AreLegsOf own rates c n legs) (sym (is (pos 0)))
       (subst (λ (ls : List OwnLeg). AreLegsOf own rates (lead_of own (candidate_to kind (pos 0)) upper) n ls) (sym e) (h upper (pos 0)))
 

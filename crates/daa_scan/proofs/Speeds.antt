@@ -83,7 +83,8 @@ module _ (settings : Settings) (own : Own) (settled : IsAccepted settings) (o : 
   unfolding ground_speed_on
   ground_speed_on-top Hold k h = own_speed
   ground_speed_on-top (Track c) k h = own_speed
-  ground_speed_on-top (Speed g) k h = toward_of-between (pos 0) (top_of settings own) own.gs g (pos k *ℤ settings.numbers.gs.rate) (product_nonneg k settings.numbers.gs.rate (omega (arith, ints, settled.rates.gs.least))) own_speed
+  ground_speed_on-top (Speed g) k h = toward_of-between (pos 0) (top_of settings own) own.gs g (pos k *ℤ settings.numbers.gs.rate)
+      (product_nonneg k settings.numbers.gs.rate (omega (arith, ints, settled.rates.gs.least))) own_speed
       (record { least = le_trans_ℤ _ _ _ (least_in kind.Speed settings settled).least h.least; most = le_trans_ℤ _ _ _ h.most (max_right own.gs (greatest_of kind.Speed settings)) })
   ground_speed_on-top (Climb c) k h = own_speed
   ground_speed_on-top (Height c) k h = own_speed
@@ -102,14 +103,17 @@ module _ (settings : Settings) (own : Own) (settled : IsAccepted settings) (o : 
   high_size = le_trans_ℤ _ _ _ (max_left _ settings.numbers.alt.rate) (max_right (int_max (pos (unsigned_abs own.vs)) (pos (unsigned_abs (least_of kind.Climb settings)))) _)
 
   alt_size : settings.numbers.alt.rate ≤ℤ rise_of settings own
-  alt_size = le_trans_ℤ _ _ _ (max_right (pos (unsigned_abs (greatest_of kind.Climb settings))) _) (max_right (int_max (pos (unsigned_abs own.vs)) (pos (unsigned_abs (least_of kind.Climb settings)))) _)
+  alt_size = le_trans_ℤ _ _ _ (max_right (pos (unsigned_abs (greatest_of kind.Climb settings))) _)
+      (max_right (int_max (pos (unsigned_abs own.vs)) (pos (unsigned_abs (least_of kind.Climb settings)))) _)
 
-  vertical_speed_on-top : (candidate : Candidate) (k : ℕ) → IsCandidateOf settings candidate → IsFrom (neg_ℤ (rise_of settings own)) (rise_of settings own) (vertical_speed_on own (rates_of settings) candidate k)
+  vertical_speed_on-top : (candidate : Candidate) (k : ℕ) → IsCandidateOf settings candidate
+      → IsFrom (neg_ℤ (rise_of settings own)) (rise_of settings own) (vertical_speed_on own (rates_of settings) candidate k)
   unfolding vertical_speed_on
   vertical_speed_on-top Hold k h = sized own.vs _ vs_size
   vertical_speed_on-top (Track c) k h = sized own.vs _ vs_size
   vertical_speed_on-top (Speed g) k h = sized own.vs _ vs_size
-  vertical_speed_on-top (Climb w) k h = toward_of-between _ _ own.vs w (pos k *ℤ settings.numbers.vs.rate) (product_nonneg k settings.numbers.vs.rate (omega (arith, ints, settled.rates.vs.least))) (sized own.vs _ vs_size)
+  vertical_speed_on-top (Climb w) k h = toward_of-between _ _ own.vs w (pos k *ℤ settings.numbers.vs.rate)
+      (product_nonneg k settings.numbers.vs.rate (omega (arith, ints, settled.rates.vs.least))) (sized own.vs _ vs_size)
       (between _ _ _ _ low_size high_size h)
     where
       between : (low high r z : ℤ) → pos (unsigned_abs low) ≤ℤ r → pos (unsigned_abs high) ≤ℤ r → IsFrom low high z → IsFrom (neg_ℤ r) r z
@@ -135,7 +139,8 @@ module _ (settings : Settings) (own : Own) (settled : IsAccepted settings) (o : 
     unfolding velocity_on
     up-top = vertical_speed_on-top candidate k listed
 
-    pub length-top : dot_of (velocity_on own (rates_of settings) candidate k).flat (velocity_on own (rates_of settings) candidate k).flat ≤ℤ ((top_of settings own +ℤ pos 1) *ℤ (top_of settings own +ℤ pos 1))
+    pub length-top : dot_of (velocity_on own (rates_of settings) candidate k).flat (velocity_on own (rates_of settings) candidate k).flat ≤ℤ
+        ((top_of settings own +ℤ pos 1) *ℤ (top_of settings own +ℤ pos 1))
     unfolding velocity_on
     length-top =
         let speed : ℤ = ground_speed_on own (rates_of settings) candidate k in
@@ -147,8 +152,10 @@ module _ (settings : Settings) (own : Own) (settled : IsAccepted settings) (o : 
         square_size (pos x) = omega (arith, ints)
         square_size (negsuc x) = omega (arith, ints)
 
-        squared : (e n m t : ℤ) → IsFrom (pos 0) t m → unsigned_abs e * unsigned_abs e + unsigned_abs n * unsigned_abs n ≤ (unsigned_abs m + 1) * (unsigned_abs m + 1) → (e *ℤ e +ℤ n *ℤ n) ≤ℤ ((t +ℤ pos 1) *ℤ (t +ℤ pos 1))
+        squared : (e n m t : ℤ) → IsFrom (pos 0) t m → unsigned_abs e * unsigned_abs e + unsigned_abs n * unsigned_abs n ≤ (unsigned_abs m + 1) *
+            (unsigned_abs m + 1) → (e *ℤ e +ℤ n *ℤ n) ≤ℤ ((t +ℤ pos 1) *ℤ (t +ℤ pos 1))
         squared e n m (pos t) s h =
-            let l : (unsigned_abs m + 1) * (unsigned_abs m + 1) ≤ (t + 1) * (t + 1) = mul-le (unsigned_abs m + 1) (unsigned_abs m + 1) (t + 1) (t + 1) (omega (arith, ints, s.least, s.most)) (omega (arith, ints, s.least, s.most)) in
+            let l : (unsigned_abs m + 1) * (unsigned_abs m + 1) ≤ (t + 1) * (t + 1) = mul-le (unsigned_abs m + 1) (unsigned_abs m + 1) (t + 1) (t + 1)
+            (omega (arith, ints, s.least, s.most)) (omega (arith, ints, s.least, s.most)) in
             rw (square_size e, square_size n) (omega (arith, ints, h, l))
         squared e n m (negsuc t) s h = absurd (omega (arith, ints, s.least, s.most))

@@ -57,7 +57,8 @@ module _ (settings : Settings) (own : Own) (needs : Needs) where
   }
 
   -- the next of them
-  pub next_filled : (i : ℕ) (branches : List Branch) (branch : Branch) (candidate : Candidate) → slice_get (candidates_of settings) i ≡ Some candidate → IsBranchOf own (rates_of settings) candidate branch
+  pub next_filled : (i : ℕ) (branches : List Branch) (branch : Branch) (candidate : Candidate) → slice_get (candidates_of settings) i ≡ Some candidate
+      → IsBranchOf own (rates_of settings) candidate branch
       → AreBranchesBelow settings own needs i branches → AreBranchesBelow settings own needs (i + 1) (set branches i branch)
   next_filled i branches branch candidate listed is h = record {
     room = subst (λ (n : ℕ). length (candidates_of settings) ≤ n) (sym (length-set branches i branch)) h.room;

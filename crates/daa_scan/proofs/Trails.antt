@@ -36,23 +36,28 @@ leaves_there own rates candidate lead n m legs leg alike h b k =
     ap (λ (l : OwnLeg). l.place) (kept_is own rates lead m n legs leg h b k) ∙ sym (place_alike own rates candidate lead n alike n (omega arith))
 
 -- it leaves the flight that leads on its side
-pub flies_as_lead : (own : Own) (rates : Rates) (candidate lead : Candidate) (branch : Branch) → lead ≡ lead_of own candidate branch.upper → IsBranchOf own rates candidate branch → FliesAs own rates candidate lead branch.leaves
+pub flies_as_lead : (own : Own) (rates : Rates) (candidate lead : Candidate) (branch : Branch) → lead ≡ lead_of own candidate branch.upper
+    → IsBranchOf own rates candidate branch → FliesAs own rates candidate lead branch.leaves
 flies_as_lead own rates candidate lead branch e is = subst (λ (x : Candidate). FliesAs own rates candidate x branch.leaves) (sym e) is.before
 
 -- a leg of its own, by its branch
-pub own_by_branch : (own : Own) (rates : Rates) (candidate : Candidate) (branch : Branch) (place : Solid) (leg : OwnLeg) → IsBranchOf own rates candidate branch → branch.leaves < branch.settles → branch.leaves < 180
-    → place ≡ place_on own rates candidate branch.leaves → leg ≡ record { place = place; velocity = record { flat = branch.velocity.flat; up = branch.rise } } → leg ≡ own_leg own rates candidate branch.leaves
+pub own_by_branch : (own : Own) (rates : Rates) (candidate : Candidate) (branch : Branch) (place : Solid) (leg : OwnLeg)
+    → IsBranchOf own rates candidate branch → branch.leaves < branch.settles → branch.leaves < 180
+    → place ≡ place_on own rates candidate branch.leaves → leg ≡ record { place = place; velocity = record { flat = branch.velocity.flat; up = branch.rise } }
+    → leg ≡ own_leg own rates candidate branch.leaves
 own_by_branch own rates candidate branch place leg is later soon p e = e ∙ (λ i. record { place = p i; velocity = sym (is.rise later soon) i })
 
 -- the velocity of the straight rest is in range
-pub rest_velocity : (own : Own) (rates : Rates) (candidate : Candidate) (k : ℕ) (velocity : Solid) → IsOwnInRange own → AreRatesInRange rates → IsCandidateInRange candidate → velocity ≡ velocity_there own candidate → FliesOn own rates candidate k
+pub rest_velocity : (own : Own) (rates : Rates) (candidate : Candidate) (k : ℕ) (velocity : Solid) → IsOwnInRange own → AreRatesInRange rates
+    → IsCandidateInRange candidate → velocity ≡ velocity_there own candidate → FliesOn own rates candidate k
     → IsSolidBelow 20000 velocity
 rest_velocity own rates candidate k velocity o r h e on = subst (λ (v : Solid). IsSolidBelow 20000 v) (on.there k (omega arith) ∙ sym e) (velocity_on-below own rates candidate o r h k)
 
 -- a test of the straight rest
 pub rest_tested : (settings : Settings) (own : Own) (candidate : Candidate) (aircraft : Traffic) (volume : Volume) (k secs m : ℕ) (rest : OwnLeg) (rel : Leg) (hit : Bool)
     → rest.place ≡ place_on own (rates_of settings) candidate k → rest.velocity ≡ velocity_there own candidate → FliesOn own (rates_of settings) candidate k → k + secs ≡ m
-    → (IsRunOf own (rates_of settings) candidate k (record { place = rest.place; velocity = rest.velocity; secs = secs }) → HoldsSometime rel.secs (Violates rel volume) ↔ MeetsBetween settings own candidate aircraft volume k (k + secs))
+    → (IsRunOf own (rates_of settings) candidate k (record { place = rest.place; velocity = rest.velocity; secs = secs })
+    → HoldsSometime rel.secs (Violates rel volume) ↔ MeetsBetween settings own candidate aircraft volume k (k + secs))
     → IsTrue hit ↔ HoldsSometime rel.secs (Violates rel volume) → IsTrue hit ↔ MeetsBetween settings own candidate aircraft volume k m
 rest_tested settings own candidate aircraft volume k secs m rest rel hit p v on s seconds tests =
     let there = on.there k (omega arith) in
@@ -67,14 +72,16 @@ rest_in_range own rates candidate k secs rest o r h b p v some = record {
 }
 
 -- a leg that is not walked lies past the trail's end
-pub walked_upto : (settings : Settings) (own : Own) (lead : Candidate) (aircraft : Traffic) (volume : Volume) (trail : Trail) (last walked upto : ℕ) → IsTrailOf settings own lead aircraft volume trail → upto ≤ 180
+pub walked_upto : (settings : Settings) (own : Own) (lead : Candidate) (aircraft : Traffic) (volume : Volume) (trail : Trail) (last walked upto : ℕ)
+    → IsTrailOf settings own lead aircraft volume trail → upto ≤ 180
     → last ≡ min upto trail.end → last ≤ walked → ((j : ℕ) → j < walked → ¬ ViolatesOn settings own lead aircraft volume j) → (j : ℕ) → j < upto → ¬ ViolatesOn settings own lead aircraft volume j
 walked_upto settings own lead aircraft volume trail last walked upto t short ends over none j b v = ⊎_elim
     (λ l. none j l v)
     (λ g. t.later j (omega (arith, b, short)) (omega (arith, ends, over, b, g)) v)
     (cases_lt j walked)
 
-module _ (settings : Settings) (own : Own) (candidate lead : Candidate) (aircraft : Traffic) (volume : Volume) (n m : ℕ) (alike : FliesAs own (rates_of settings) candidate lead n) (trail : Trail) (t : IsTrailOf settings own lead aircraft volume trail) where
+module _ (settings : Settings) (own : Own) (candidate lead : Candidate) (aircraft : Traffic) (volume : Volume) (n m : ℕ)
+    (alike : FliesAs own (rates_of settings) candidate lead n) (trail : Trail) (t : IsTrailOf settings own lead aircraft volume trail) where
   pub hit_meets : IsTrue trail.hit → trail.walked < n → trail.walked < m → MeetsWithin settings own candidate aircraft volume m
   hit_meets h a b = (by_branch settings own candidate lead aircraft volume n alike m).1 (record { where_ = inl (trail.walked, a, b, t.hit h) })
 

@@ -6,7 +6,8 @@ use Rattle.daa_legs.specs.Relative.{relative_for}
 use Rattle.daa_legs.proofs.Relatives.{relative_for-in_range}
 use Rattle.daa_legs.proofs.encounter.relative_from.Goals as goal
 
-known : (c : goal.After-difference-2) → let leg : Leg = record { place = c.difference.result; velocity = c.difference-2.result; secs = 1 } in leg ≡ relative_for 1 c.args.leg.now c.args.aircraft.now c.args.k
+known : (c : goal.After-difference-2) → let leg : Leg = record { place = c.difference.result; velocity = c.difference-2.result; secs = 1 } in leg
+    ≡ relative_for 1 c.args.leg.now c.args.aircraft.now c.args.k
 unfolding relative_for
 known c = λ i. record {
   place = (c.difference.ensures ∙ ap (λ (p : Solid). minus c.args.leg.now.place p) c.place_from.ensures.value) i;

@@ -10,7 +10,8 @@ use Rattle.daa_legs.proofs.Relatives.{relative_for-in_range}
 use Rattle.daa_legs.proofs.Stretches.{seconds}
 use Rattle.daa_legs.proofs.encounter.relative_run_from.Goals as goal
 
-known : (c : goal.After-difference-2) → let leg : Leg = record { place = c.difference.result; velocity = c.difference-2.result; secs = c.args.run.now.secs } in leg ≡ relative_for c.args.run.now.secs (first_leg_of c.args.run.now) c.args.aircraft.now c.args.k
+known : (c : goal.After-difference-2) → let leg : Leg = record { place = c.difference.result; velocity = c.difference-2.result; secs = c.args.run.now.secs }
+    in leg ≡ relative_for c.args.run.now.secs (first_leg_of c.args.run.now) c.args.aircraft.now c.args.k
 unfolding relative_for
 known c = λ i. record {
   place = (c.difference.ensures ∙ ap (λ (p : Solid). minus c.args.run.now.place p) c.place_from.ensures.value) i;
@@ -24,9 +25,11 @@ returns-clause-value c = known c
 pub returns-clause-in_range : goal.returns-clause-in_range
 returns-clause-in_range c =
     subst (λ (leg : Leg). IsLegInRange leg) (sym (known c))
-    (relative_for-in_range c.args.run.now.secs (first_leg_of c.args.run.now) c.args.aircraft.now c.args.k c.requires.run.leg c.requires.aircraft (omega (arith, c.requires.k)) c.requires.run.some c.requires.short)
+    (relative_for-in_range c.args.run.now.secs (first_leg_of c.args.run.now) c.args.aircraft.now c.args.k c.requires.run.leg c.requires.aircraft
+    (omega (arith, c.requires.k)) c.requires.run.some c.requires.short)
 
 pub returns-clause-seconds : goal.returns-clause-seconds
 returns-clause-seconds c settings own candidate volume r =
-    subst (λ (leg : Leg). HoldsSometime c.args.run.now.secs (Violates leg volume) ↔ MeetsBetween settings own candidate c.args.aircraft.now volume c.args.k (c.args.k + c.args.run.now.secs)) (sym (known c))
+    subst (λ (leg : Leg). HoldsSometime c.args.run.now.secs (Violates leg volume) ↔ MeetsBetween settings own candidate c.args.aircraft.now volume c.args.k
+    (c.args.k + c.args.run.now.secs)) (sym (known c))
     (seconds settings own candidate c.args.aircraft.now volume c.args.k c.args.run.now r c.requires.run.some)

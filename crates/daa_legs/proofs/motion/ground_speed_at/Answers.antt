@@ -16,7 +16,8 @@ known c =
     ∙ speed-case c.args.own.now c.args.rates.now c.args.candidate c.in-Speed.g c.args.k c.in-Speed.is
 
 range : (c : goal.After-speed_after) → IsFrom (pos 0) (pos 10000) c.speed_after.result
-range c = subst (λ (z : ℤ). IsFrom (pos 0) (pos 10000) z) (sym (known c)) (ground_speed_on-in_range c.args.own.now c.args.rates.now c.requires.own c.requires.rates c.args.candidate c.args.k c.requires.candidate)
+range c = subst (λ (z : ℤ). IsFrom (pos 0) (pos 10000) z) (sym (known c))
+    (ground_speed_on-in_range c.args.own.now c.args.rates.now c.requires.own c.requires.rates c.args.candidate c.args.k c.requires.candidate)
 
 pub overflow_cast-result : goal.overflow_cast-result
 overflow_cast-result c =

@@ -12,7 +12,8 @@ record Risen (alt a rate x y : ℤ) (k : ℕ) : Type 0 where
   value : x -ℤ y ≡ toward_of (pos 60 *ℤ alt) (pos 60 *ℤ a) (pos (k + 1) *ℤ rate) -ℤ toward_of (pos 60 *ℤ alt) (pos 60 *ℤ a) (pos k *ℤ rate)
   size : IsWithin 10000 (x -ℤ y)
 
-risen : (alt a rate x y : ℤ) (k : ℕ) → IsFrom (pos 1) (pos 10000) rate → x ≡ toward_of (pos 60 *ℤ alt) (pos 60 *ℤ a) (pos (k + 1) *ℤ rate) → y ≡ toward_of (pos 60 *ℤ alt) (pos 60 *ℤ a) (pos k *ℤ rate) → Risen alt a rate x y k
+risen : (alt a rate x y : ℤ) (k : ℕ) → IsFrom (pos 1) (pos 10000) rate → x ≡ toward_of (pos 60 *ℤ alt) (pos 60 *ℤ a) (pos (k + 1) *ℤ rate)
+    → y ≡ toward_of (pos 60 *ℤ alt) (pos 60 *ℤ a) (pos k *ℤ rate) → Risen alt a rate x y k
 risen alt a rate x y k r p q = record {
   value = λ i. p i -ℤ q i;
   size =

@@ -29,7 +29,8 @@ returns-then-right-le180-clause-value c =
     let right : c.rem_euclid-right.result ≡ right_angle c.args.track c.args.c = simp to_z-of_z at c.rem_euclid-right.ensures.value in
     let v : c.min.result ≡ int_min c.args.most c.rem_euclid-right.result = simp to_z-of_z at c.min.ensures.value in
     let i = int_min_is c.args.most c.rem_euclid-right.result in
-    let s : FitsSigned w32 (c.args.track +ℤ c.min.result) = omega (arith, ints, v, i, c.rem_euclid-right.ensures.lower_bound, c.rem_euclid-right.ensures.upper_bound, c.requires.most, c.requires.track) in
+    let s : FitsSigned w32 (c.args.track +ℤ c.min.result) = omega
+    (arith, ints, v, i, c.rem_euclid-right.ensures.lower_bound, c.rem_euclid-right.ensures.upper_bound, c.requires.most, c.requires.track) in
     let test : int_le c.rem_euclid-right.result (pos 180) ≡ true = simp to_z-of_z at c.if-right-le180.true in
     simp to_z-of_z ((simp to_z-of_z at c.rem_euclid.ensures.value)
     ∙ ap (λ (z : ℤ). int_rem_euclid (c.args.track +ℤ z) (pos 360)) (v ∙ ap (λ (z : ℤ). int_min c.args.most z) right)
@@ -48,7 +49,8 @@ returns-else-right-le180-clause-value c =
     let right : c.rem_euclid-right.result ≡ right_angle c.args.track c.args.c = simp to_z-of_z at c.rem_euclid-right.ensures.value in
     let v : c.min-else-right-le180.result ≡ int_min c.args.most (pos 360 -ℤ c.rem_euclid-right.result) = simp to_z-of_z at c.min-else-right-le180.ensures.value in
     let i = int_min_is c.args.most (pos 360 -ℤ c.rem_euclid-right.result) in
-    let s : FitsSigned w32 (c.args.track -ℤ c.min-else-right-le180.result) = omega (arith, ints, v, i, c.rem_euclid-right.ensures.lower_bound, c.rem_euclid-right.ensures.upper_bound, c.requires.most, c.requires.track) in
+    let s : FitsSigned w32 (c.args.track -ℤ c.min-else-right-le180.result) = omega
+    (arith, ints, v, i, c.rem_euclid-right.ensures.lower_bound, c.rem_euclid-right.ensures.upper_bound, c.requires.most, c.requires.track) in
     let test : int_le c.rem_euclid-right.result (pos 180) ≡ false = simp to_z-of_z at c.if-right-le180.false in
     simp to_z-of_z ((simp to_z-of_z at c.rem_euclid-else-right-le180.ensures.value)
     ∙ ap (λ (z : ℤ). int_rem_euclid (c.args.track -ℤ z) (pos 360)) (v ∙ ap (λ (z : ℤ). int_min c.args.most (pos 360 -ℤ z)) right)

@@ -27,7 +27,8 @@ returns g c =
     let progress = c.progress-1.given.1 (sym (stays_bytes _ (λ (t : Held g.row.R.Denot g.row.K.Denot g.row.G.Denot). t.call.3.ghost_name) (λ t piece answer u s. s.2.met.0.3) _ _ _ _ m.given)) in
     record {
       moves = moves_of _ _ _ _ _ _ _ (λ bytes taken.
-          subst (λ (d : Course). Steps (course c.args.engine.now.settings c.args.progress.now (g.K.Sink.taken c.args.sink.now) (g.K.Sink.faults c.args.sink.now)) bytes (wants_more c.read_for.result) d)
+          subst (λ (d : Course). Steps (course c.args.engine.now.settings c.args.progress.now (g.K.Sink.taken c.args.sink.now)
+          (g.K.Sink.faults c.args.sink.now)) bytes (wants_more c.read_for.result) d)
           (λ i. course (sym engine i).settings (sym progress i) (g.K.Sink.taken (sym sink i)) (g.K.Sink.faults (sym sink i)))
           (steps_bytes _ at (λ t piece answer u s. subst (λ (b : Bytes). Steps (at t) b answer (at u)) s.1 s.2.met.1) _ _ _ bytes c.requires.between taken))
           m;

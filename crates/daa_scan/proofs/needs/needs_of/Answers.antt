@@ -18,12 +18,16 @@ pub loop-place-preserved : goal.loop-place-preserved
 loop-place-preserved c at aircraft b there reached =
     let n : ℕ = c.loop-place.place in
     let in_list : n < length (aircraft_of c.args.picture.now) = omega (arith, c.loop-place-test.true, c.len-place-end.ensures.value) in
-    let is : c.index-deref-place.result ≡ slice_index_or (aircraft_of c.args.picture.now) n c.index-deref-place.result = c.index-deref-place.is ∙ ap (λ (ts : List Traffic). slice_index_or ts n c.index-deref-place.result) c.deref.ensures.0 in
-    let here : slice_get (aircraft_of c.args.picture.now) n ≡ Some c.index-deref-place.result = slice_get_read (aircraft_of c.args.picture.now) (length (aircraft_of c.args.picture.now)) n _ refl in_list is in
+    let is : c.index-deref-place.result ≡ slice_index_or (aircraft_of c.args.picture.now) n c.index-deref-place.result = c.index-deref-place.is ∙ ap
+    (λ (ts : List Traffic). slice_index_or ts n c.index-deref-place.result) c.deref.ensures.0 in
+    let here : slice_get (aircraft_of c.args.picture.now) n ≡ Some c.index-deref-place.result = slice_get_read (aircraft_of c.args.picture.now)
+    (length (aircraft_of c.args.picture.now)) n _ refl in_list is in
     ⊎_elim
     (λ before kind e. c.loop-place.invariant at aircraft before there reached kind (c.with_aircraft-needs.ensures.more kind e))
-    (λ g. let same : c.index-deref-place.result ≡ aircraft = same_Some c.index-deref-place.result aircraft (sym here ∙ ap (slice_get (aircraft_of c.args.picture.now)) (sym (equal at n b g)) ∙ there) in
-    subst (λ (t : Traffic). IsInReach c.args.config.now c.args.picture.now.own t → AreIdle c.args.config.now c.args.picture.now.own t c.with_aircraft-needs.result) same c.with_aircraft-needs.ensures.idle reached)
+    (λ g. let same : c.index-deref-place.result ≡ aircraft = same_Some c.index-deref-place.result aircraft
+    (sym here ∙ ap (slice_get (aircraft_of c.args.picture.now)) (sym (equal at n b g)) ∙ there) in
+    subst (λ (t : Traffic). IsInReach c.args.config.now c.args.picture.now.own t
+    → AreIdle c.args.config.now c.args.picture.now.own t c.with_aircraft-needs.result) same c.with_aircraft-needs.ensures.idle reached)
     (cases_lt at n)
 
 pub returns : goal.returns

@@ -8,4 +8,5 @@ use Rattle.daa_scan.proofs.needs.needs_of.Given as goal
 
 -- a kind that is not needed meets none of the aircraft so far
 abbrev pub invariant-loop-place : goal.invariant-loop-place
-invariant-loop-place l = (at : ℕ) (aircraft : Traffic) → at < l.place → slice_get (aircraft_of l.picture) at ≡ Some aircraft → IsInReach l.config l.picture.own aircraft → AreIdle l.config l.picture.own aircraft l.needs
+invariant-loop-place l = (at : ℕ) (aircraft : Traffic) → at < l.place → slice_get (aircraft_of l.picture) at ≡ Some aircraft
+    → IsInReach l.config l.picture.own aircraft → AreIdle l.config l.picture.own aircraft l.needs

@@ -4,19 +4,22 @@ use Rattle.daa_scan.specs.Reach.{size_of}
 use Rattle.daa_scan.proofs.reach.can_enter.Goals as goal
 use Rattle.daa_scan.proofs.reach.can_enter.Goals.{After-is_at_most, After-is_at_most-2, After-is_at_most-3}
 
-east_is : (c : After-is_at_most) → IsTrue c.is_at_most.result ↔ (size_of c.args.place.now.flat.east ≤ℤ (pos c.args.level.now.volume.dthr +ℤ pos (c.args.level.now.volume.tthr + c.args.level.now.lookahead) *ℤ c.args.horizontal))
+east_is : (c : After-is_at_most) → IsTrue c.is_at_most.result ↔
+    (size_of c.args.place.now.flat.east ≤ℤ (pos c.args.level.now.volume.dthr +ℤ pos (c.args.level.now.volume.tthr + c.args.level.now.lookahead) *ℤ c.args.horizontal))
 east_is c =
     let f : FitsSigned w64 c.args.place.now.flat.east = search rules in
     let h : FitsSigned w64 c.args.horizontal = c.ranges.horizontal in
     simp to_z-of_z at c.is_at_most.ensures
 
-north_is : (c : After-is_at_most-2) → IsTrue c.is_at_most-2.result ↔ (size_of c.args.place.now.flat.north ≤ℤ (pos c.args.level.now.volume.dthr +ℤ pos (c.args.level.now.volume.tthr + c.args.level.now.lookahead) *ℤ c.args.horizontal))
+north_is : (c : After-is_at_most-2) → IsTrue c.is_at_most-2.result ↔
+    (size_of c.args.place.now.flat.north ≤ℤ (pos c.args.level.now.volume.dthr +ℤ pos (c.args.level.now.volume.tthr + c.args.level.now.lookahead) *ℤ c.args.horizontal))
 north_is c =
     let f : FitsSigned w64 c.args.place.now.flat.north = search rules in
     let h : FitsSigned w64 c.args.horizontal = c.ranges.horizontal in
     simp to_z-of_z at c.is_at_most-2.ensures
 
-up_is : (c : After-is_at_most-3) → IsTrue c.is_at_most-3.result ↔ (size_of c.args.place.now.up ≤ℤ (pos c.args.level.now.volume.zthr +ℤ pos (c.args.level.now.volume.tcoa + c.args.level.now.lookahead) *ℤ c.args.vertical))
+up_is : (c : After-is_at_most-3) → IsTrue c.is_at_most-3.result ↔
+    (size_of c.args.place.now.up ≤ℤ (pos c.args.level.now.volume.zthr +ℤ pos (c.args.level.now.volume.tcoa + c.args.level.now.lookahead) *ℤ c.args.vertical))
 up_is c =
     let f : FitsSigned w64 c.args.place.now.up = search rules in
     let h : FitsSigned w64 c.args.vertical = c.ranges.vertical in

@@ -24,7 +24,8 @@ value : (c : After-from) → 1 + 2 * c.from.result ≡ entry_at (shown c) c.args
 value c =
     let small : c.args.mask < 2 ^ 8 = omega (arith, c.ranges.mask.fits) in
     ap (λ (m : ℕ). 1 + 2 * m) c.from.ensures
-    ∙ entry_is (shown c) c.self.invariant.accepted c.self.invariant.picture c.args.aircraft c.args.index c.args.mask (omega (arith, c.if-index-total.true, c.total.ensures.value)) (there c) small (mask c)
+    ∙ entry_is (shown c) c.self.invariant.accepted c.self.invariant.picture c.args.aircraft c.args.index c.args.mask
+    (omega (arith, c.if-index-total.true, c.total.ensures.value)) (there c) small (mask c)
 
 pub returns-then-index-total-clause-value : goal.returns-then-index-total-clause-value
 returns-then-index-total-clause-value c = subst (λ (s : SceneState). 1 + 2 * c.from.result ≡ entry_at s c.args.aircraft c.args.index) c.self.view_is (value c)

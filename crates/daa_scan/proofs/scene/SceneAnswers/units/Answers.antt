@@ -25,7 +25,9 @@ returns-clause-value c =
     (λ i. g i * c.count_in_reach.ensures.listed i) ∙ sym (words_count c.args.self.now)
 
 pub returns-clause-words : goal.returns-clause-words
-returns-clause-words c = subst (λ (s : SceneState). AreWordsOf s (words_of s)) c.self.view_is (are_words (record { settings = c.self.inside.config.now; picture = c.self.inside.picture.now }) c.self.invariant.accepted c.self.invariant.picture)
+returns-clause-words c = subst (λ (s : SceneState). AreWordsOf s (words_of s)) c.self.view_is
+    (are_words (record { settings = c.self.inside.config.now; picture = c.self.inside.picture.now }) c.self.invariant.accepted c.self.invariant.picture)
 
 pub returns-clause-reach : goal.returns-clause-reach
-returns-clause-reach c = subst (λ (s : SceneState). NoneIsMetOutOfReach s) c.self.view_is (none_is_met_out_of_reach (record { settings = c.self.inside.config.now; picture = c.self.inside.picture.now }) c.self.invariant.accepted c.self.invariant.picture)
+returns-clause-reach c = subst (λ (s : SceneState). NoneIsMetOutOfReach s) c.self.view_is
+    (none_is_met_out_of_reach (record { settings = c.self.inside.config.now; picture = c.self.inside.picture.now }) c.self.invariant.accepted c.self.invariant.picture)
