@@ -10,8 +10,8 @@ from common import TOP
 NUMBERS = {"u8": "uint8_t", "i32": "int32_t", "u32": "uint32_t", "i64": "int64_t", "u64": "uint64_t", "usize": "size_t"}
 SIZES = {"uint8_t": 1, "int32_t": 4, "uint32_t": 4, "int64_t": 8, "uint64_t": 8}
 # fields that C has in place of a struct of Rust, and those that it names otherwise
-FLAT = {("DaaConfig", "numbers"), ("DaaConfig", "cylinder")}
-RENAMED = {("DaaConfig", "levels"): "level", ("DaaBoard", "masks"): "mask"}
+FLAT = {("DaaConfig", "numbers"), ("DaaConfig", "cylinder"), ("DaaBoard", "masks")}
+RENAMED = {("DaaConfig", "levels"): "level", ("Board", "masks"): "mask"}
 STRUCTS = {"Grid": "daa_grid", "LevelNumbers": "daa_level", "Own": "daa_own"}
 
 
@@ -36,7 +36,7 @@ def parts(text):
 def rust_structs():
     """The fields of each struct that C shares, in their order."""
     found = {}
-    for crate in ("daa_config", "daa_state", "daa_numbers"):
+    for crate in ("daa_config", "daa_state", "daa_bands", "daa_numbers"):
         for name, body in re.findall(r"#\[repr\(C\)\]\n(?:#[^\n]*\n)?pub struct (\w+) \{(.*?)\n\}", text_of(crate), re.S):
             found[name] = parts(body)
     return found

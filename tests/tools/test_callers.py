@@ -35,9 +35,9 @@ def structs_in_rust():
 
 
 def shared_numbers(name):
-    """The numbers of the struct that the exports share under this name: Own of daa_state, and else the one that begins with Daa."""
+    """The numbers of the struct that the exports share under this name: the one that begins with Daa, or else Own of daa_state."""
     found = rust_structs()
-    return numbers_of(found, name if name in found else f"Daa{name}")
+    return numbers_of(found, f"Daa{name}" if f"Daa{name}" in found else name)
 
 
 class Structs(unittest.TestCase):

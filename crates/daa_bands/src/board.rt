@@ -14,7 +14,8 @@ use std::marker::Model;
 pub const BOARD_MASKS: usize = 2048;
 
 /// The masks of 2048 candidates, by their indices in the whole list: bit l - 1 of a mask means
-/// level l.
+/// level l. The layout is that of C.
+#[repr(C)]
 #[derive(Drop)]
 pub struct Board {
     masks: [u8; BOARD_MASKS],
@@ -26,6 +27,8 @@ impl Model for Board {
     ghost Value = { List ℕ };
 
     ghost view = { λ b. b.masks };
+
+    ghost inverse = { λ masks. record { masks = masks } };
 }
 
 impl Board {

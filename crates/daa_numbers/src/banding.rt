@@ -88,6 +88,6 @@ pub fn bands(
     if bands.len() < accepted.count(kind) as usize {
         return SHORT;
     }
-    *count = fill(&accepted, &Board::of(&board.masks), kind, bands);
+    *count = fill(&accepted, &board.masks, kind, bands);
     0
 }

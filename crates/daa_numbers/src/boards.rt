@@ -6,7 +6,7 @@ ghost use Rattle.daa_numbers.specs.Boards.{mark_of, level_at, cylinder_at};
 ghost use Rattle.daa_numbers.specs.Boards.{AreMasksWithin, IsMarked};
 
 use crate::setting::DaaConfig;
-use daa_bands::BOARD_MASKS;
+use daa_bands::{BOARD_MASKS, Board};
 use daa_config::{Config, LevelNumbers, RecoveryNumbers};
 
 /// How many numbers a mark has.
@@ -15,9 +15,9 @@ const MARK: usize = 55;
 /// The levels at which each candidate is covered, bit l - 1 of a mask means level l, and the mark
 /// of the configuration: its numbers, and 0 in the place of each that does not count.
 #[repr(C)]
-#[derive(Clone, Copy)]
+#[derive(Drop)]
 pub struct DaaBoard {
-    pub masks: [u8; BOARD_MASKS],
+    pub masks: Board,
     pub mark: [i64; MARK],
 }
 
@@ -175,5 +175,5 @@ pub(crate) fn is_decided(asked: &DaaConfig, config: &Config, board: &DaaBoard) -
     ensures no { result ≡ false → IsMarked asked.now config.now board.now → ⊥ }
 {
     let bits = level_bits(config.levels());
-    is_mark(board, asked) && are_within(&board.masks, config.total(), bits)
+    is_mark(board, asked) && are_within(board.masks.masks(), config.total(), bits)
 }

@@ -25,17 +25,15 @@ use daa_engine::{MOST_CANDIDATES, decide_in, leading_flights};
 use daa_legs::Branch;
 use daa_state::{Own, Picture};
 
-/// The board of a picture.
+/// Fills in the board of a picture.
 #[inline(never)]
-pub(crate) fn decided_board(config: &Config, picture: &Picture) -> Board
+pub(crate) fn fill_board(config: &Config, picture: &Picture, board: &mut Board)
     requires { IsPictureInRange picture.now }
-    ensures { IsBoardOf (CoveredAt config.now picture.now) config.now result }
+    ensures { IsBoardOf (CoveredAt config.now picture.now) config.now board.new }
 {
-    let mut board = Board::new();
     let mut trunks = leading_flights();
     let mut branches = [Branch::new(); MOST_CANDIDATES];
-    decide_in(config, picture, &mut trunks, &mut branches, &mut board);
-    board
+    decide_in(config, picture, &mut trunks, &mut branches, board);
 }
 
 /// Fills in the board of a moment: the levels at which each candidate is covered, and the mark of
@@ -51,7 +49,7 @@ pub fn decide(config: &DaaConfig, own: &Own, traffic: &[DaaTraffic], board: &mut
         Ok(found) => found,
         Err(code) => return code,
     };
-    board.masks = *decided_board(&accepted, &picture).masks();
+    fill_board(&accepted, &picture, &mut board.masks);
     board.mark = mark(config);
     0
 }
@@ -95,7 +93,7 @@ pub fn levels(config: &DaaConfig, board: &DaaBoard, levels: &mut [u8], count: &m
     if levels.len() < total {
         return SHORT;
     }
-    show(&accepted, &Board::of(&board.masks), levels);
+    show(&accepted, &board.masks, levels);
     *count = total;
     0
 }

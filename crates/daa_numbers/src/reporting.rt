@@ -12,7 +12,7 @@ ghost use Rattle.daa_numbers.specs.States.{picture_of};
 
 use crate::asking::config_and_picture;
 use crate::codes::SHORT;
-use crate::deciding::decided_board;
+use crate::deciding::fill_board;
 use crate::setting::DaaConfig;
 use crate::sheet::ArraySheet;
 use crate::states::DaaTraffic;
@@ -79,7 +79,9 @@ pub fn report(
         Ok(found) => found,
         Err(code) => return code,
     };
-    match fill(&config, &picture, &decided_board(&config, &picture), text) {
+    let mut board = Board::new();
+    fill_board(&config, &picture, &mut board);
+    match fill(&config, &picture, &board, text) {
         Some(length) => {
             *count = length;
             0

@@ -10,7 +10,6 @@ use crate::asking::config_for;
 use crate::boards::{DaaBoard, is_decided};
 use crate::codes::{BAD_BOARD, BAD_KIND, BAD_SIDE, kind_in, side_in};
 use crate::setting::DaaConfig;
-use daa_bands::Board;
 use daa_config::Resolution;
 use daa_resolve::nearest;
 use daa_state::Own;
@@ -67,7 +66,6 @@ pub fn resolution(
     if !is_decided(config, &accepted, board) {
         return BAD_BOARD;
     }
-    let board = Board::of(&board.masks);
-    *out = resolution_numbers(nearest(&board, &accepted, own, kind, side));
+    *out = resolution_numbers(nearest(&board.masks, &accepted, own, kind, side));
     0
 }

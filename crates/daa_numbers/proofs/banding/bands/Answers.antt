@@ -1,4 +1,4 @@
-use Rattle.std.proofs.Common.{◌≡◌, ◌∙◌, pos, subst, sym, arith, rules, w32, FitsSigned}
+use Rattle.std.proofs.Common.{◌≡◌, ◌∙◌, pos, sym, arith, rules, w32, FitsSigned}
 use Rattle.std.proofs.lemmas.Int.{to_z-of_z}
 use Rattle.daa_bands.specs.Board.{HasLevelOn, IsBoardOf}
 use Rattle.daa_bands.proofs.KindLemmas.{bands_covered}
@@ -13,7 +13,7 @@ returns-clause-filled c = λ (_ : pos 0 ≡ pos 0).
     let masks = c.args.board.now.masks in let s = c.in-Ok.accepted in
     let fits : FitsSigned w32 c.args.kind = search rules in
     let marked : IsMarked c.args.config.now s c.args.board.now = search rules in
-    let board : IsBoardOf (HasLevelOn masks) s c.of.result = subst (IsBoardOf (HasLevelOn masks) s) (sym c.of.ensures) (board_of_masks masks s marked.masks) in
+    let board : IsBoardOf (HasLevelOn masks) s masks = board_of_masks masks s marked.masks in
     record {
       settings = s;
       accepted = c.in-Ok.ensures.accepted;
@@ -22,7 +22,7 @@ returns-clause-filled c = λ (_ : pos 0 ≡ pos 0).
       fits = omega (arith, c.if-bands-count.false, c.count.ensures.value, c.fill.auto.bands);
       within = c.fill.ensures.fits;
       marked = marked;
-      are = bands_covered (HasLevelOn masks) s c.of.result c.count.ensures.accepted board c.in-Some.kind _ c.fill.ensures.are;
+      are = bands_covered (HasLevelOn masks) s masks c.count.ensures.accepted board c.in-Some.kind _ c.fill.ensures.are;
     }
 
 pub returns-in_default-clause-no_kind : goal.returns-in_default-clause-no_kind

@@ -1,4 +1,4 @@
-use Rattle.std.proofs.Common.{◌≡◌, ◌<◌, length, pos, subst, sym, arith, rules}
+use Rattle.std.proofs.Common.{◌≡◌, ◌<◌, length, pos, arith, rules}
 use Rattle.daa_bands.specs.Board.{HasLevelOn, IsBoardOf}
 use Rattle.daa_bands.proofs.KindLemmas.{greatest_covered}
 use Rattle.daa_config.specs.Candidates.{candidates_of}
@@ -10,7 +10,7 @@ pub returns-clause-shown : goal.returns-clause-shown
 returns-clause-shown c = λ (_ : pos 0 ≡ pos 0).
     let masks = c.args.board.now.masks in let s = c.in-Ok.accepted in let total = c.total-total.ensures.value in
     let marked : IsMarked c.args.config.now s c.args.board.now = search rules in
-    let board : IsBoardOf (HasLevelOn masks) s c.of.result = subst (IsBoardOf (HasLevelOn masks) s) (sym c.of.ensures) (board_of_masks masks s marked.masks) in
+    let board : IsBoardOf (HasLevelOn masks) s masks = board_of_masks masks s marked.masks in
     record {
       settings = s;
       accepted = c.in-Ok.ensures.accepted;
@@ -19,5 +19,5 @@ returns-clause-shown c = λ (_ : pos 0 ≡ pos 0).
       fits = omega (arith, c.show.ensures.fits, total);
       shown = λ index less.
           let listed : index < length (candidates_of s) = omega (arith, less, total) in
-          greatest_covered (HasLevelOn masks) s c.of.result c.total-total.ensures.accepted board index _ listed (c.show.ensures.shown index listed);
+          greatest_covered (HasLevelOn masks) s masks c.total-total.ensures.accepted board index _ listed (c.show.ensures.shown index listed);
     }

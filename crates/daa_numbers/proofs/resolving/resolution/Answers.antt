@@ -1,7 +1,5 @@
-use Rattle.std.proofs.Common.{◌≡◌, ◌∙◌, sym, ℕ, List, subst, pos, rules, w32, FitsSigned}
+use Rattle.std.proofs.Common.{◌≡◌, ◌∙◌, sym, pos, rules, w32, FitsSigned}
 use Rattle.std.proofs.lemmas.Int.{to_z-of_z}
-use Rattle.daa_bands.specs.Board.{HasLevelOn}
-use Rattle.daa_resolve.specs.Resolution.{IsResolution}
 use Rattle.daa_numbers.proofs.resolving.resolution.Goals as goal
 
 pub returns-clause-filled : goal.returns-clause-filled
@@ -18,7 +16,7 @@ returns-clause-filled c = λ (_ : pos 0 ≡ pos 0).
       side_is = c.in-Some-side_in.ensures.some ∙ to_z-of_z w32 _ side_fits;
       marked = search rules;
       answer = answer;
-      is = subst (λ (board : List ℕ). IsResolution (HasLevelOn board) s c.args.own.now k side answer) c.of-board.ensures c.nearest.ensures;
+      is = c.nearest.ensures;
       filled = c.resolution_numbers.ensures;
     }
 
