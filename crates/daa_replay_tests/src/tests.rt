@@ -14,13 +14,15 @@ mod workers;
 
 use daa_config::examples::ONE_LEVEL;
 use daa_outside::{
-    CalmShelf, CalmSource, Gate, MemShelf, MemSink, MemSource, Open, Shelf, Sink, Source, Void,
+    CalmShelf, CalmSource, Gate, Meeting, MemShelf, MemSink, MemSource, Open, Shelf, Sink, Source,
+    Void,
 };
 use daa_replay::{Event, run, run_within};
 use std::alloc::AllocError;
 use std::process::Abort;
 use std::test::Fail;
 use std::thread::Threads;
+use std::time::Clock;
 
 /// The command words, what the shelf holds under the name `c`, how the shelf, the source and the
 /// sink behave, and how many bytes may be read.
@@ -39,6 +41,11 @@ struct Outside<'a> {
 
 /// The words of a replay.
 const REPLAY: &[&str] = &["daidalus", "replay", "--config", "c"];
+
+/// The words of a replay by so many workers.
+fn replay_by(workers: &str) -> [&str; 6] {
+    ["daidalus", "replay", "--config", "c", "--workers", workers]
+}
 
 /// A replay under one level; nothing fails, and pieces have any size.
 const PLAIN: Outside<'static> = Outside {
@@ -119,18 +126,9 @@ resolve alt down none up none
 /// A text with the lines of `CLEAR` for a line `clear`, and those of `COVERED` for a line
 /// `covered`.
 fn whole<R: AllocGlobal>(rt: &R, text: &str) -> Result<String, AllocError> {
-    let mut whole = String::new(rt.alloc());
-    for line in text.lines() {
-        match line {
-            "clear" => whole.push_str(CLEAR)?,
-            "covered" => whole.push_str(COVERED)?,
-            other => {
-                whole.push_str(other)?;
-                whole.push_str("\n")?;
-            }
-        }
-    }
-    Ok(whole)
+    let alloc = rt.alloc();
+    let clear = text.replace(alloc, "clear\n", CLEAR)?;
+    clear.replace(alloc, "covered\n", COVERED)
 }
 
 /// The words as strings.
@@ -295,9 +293,24 @@ fn whole_sink<R: AllocGlobal>(rt: &R, room: usize) -> Result<MemSink, AllocError
     sink_of(rt, room, &[], &[])
 }
 
-/// The status of a run of these words over this input, whose workers pass this gate, and what the
-/// sink took, which has so much room.
+/// The status of a run of these words over this shelf and this input, whose workers pass this gate,
+/// and what the sink took, which has so much room.
 fn status_at<R: Threads + Sync + AllocGlobal, G: Gate>(
+    rt: &R,
+    words: &[&str],
+    shelf: &mut MemShelf,
+    input: &[u8],
+    room: usize,
+    gate: &G,
+) -> Result<(u8, Vec<u8>), AllocError> {
+    let mut source = whole_source(rt, input)?;
+    let mut sink = whole_sink(rt, room)?;
+    let status = status_of(rt, words, shelf, &mut source, &mut sink, gate)?;
+    Ok((status, sink.taken().to_vec(rt.alloc())?))
+}
+
+/// The same over a shelf with one level.
+fn replayed_at<R: Threads + Sync + AllocGlobal, G: Gate>(
     rt: &R,
     words: &[&str],
     input: &[u8],
@@ -305,15 +318,48 @@ fn status_at<R: Threads + Sync + AllocGlobal, G: Gate>(
     gate: &G,
 ) -> Result<(u8, Vec<u8>), AllocError> {
     let mut shelf = shelf_with(rt, ONE_LEVEL, &[])?;
-    let mut source = whole_source(rt, input)?;
-    let mut sink = whole_sink(rt, room)?;
-    let status = status_of(rt, words, &mut shelf, &mut source, &mut sink, gate)?;
-    Ok((status, sink.taken().to_vec(rt.alloc())?))
+    status_at(rt, words, &mut shelf, input, room, gate)
+}
+
+/// Whether two workers of a run of these words over this shelf and this input come to the gate. The
+/// run ends with this status and this text.
+fn have_met<R: Abort + Threads + Sync + AllocGlobal, C: Clock + Sync + Drop>(
+    rt: &R,
+    clock: C,
+    words: &[&str],
+    shelf: &mut MemShelf,
+    input: &[u8],
+    status: u8,
+    text: &[u8],
+) -> Result<bool, Fail> {
+    let meeting = Meeting::of(clock, 2);
+    let found = status_at(rt, words, shelf, input, text.len(), &meeting)?;
+    expect(rt, &found, status, text);
+    Ok(meeting.has_met())
+}
+
+/// Two workers of such a run wait at a gate until both have come. As a thread may not be had, the
+/// meeting is tried five times.
+fn expect_meeting<R: Abort + Threads + Sync + AllocGlobal, C: Clock + Sync + Copy + Drop>(
+    rt: &R,
+    clock: C,
+    words: &[&str],
+    shelf: &mut MemShelf,
+    input: &[u8],
+    status: u8,
+    text: &[u8],
+) -> Result<(), Fail> {
+    for _ in 0..5 {
+        if have_met(rt, clock, words, shelf, input, status, text)? {
+            return Ok(());
+        }
+    }
+    Err("two workers that meet".into())
 }
 
 #[test]
 fn a_run_reads_to_its_end(rt: HostRuntime) -> Result<(), Fail> {
-    let found = status_at(&rt, REPLAY, ONE, 300, &Open)?;
+    let found = replayed_at(&rt, REPLAY, ONE, 300, &Open)?;
     expect(&rt, &found, 0, ONE_TEXT);
     Ok(())
 }

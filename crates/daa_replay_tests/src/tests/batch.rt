@@ -1,7 +1,10 @@
 //! Moments of one piece, which the workers decide side by side.
 
-use super::{Outside, PLAIN, expect, gives, gives_front, status_and_text, status_at};
-use daa_outside::{Gate, Meeting};
+use super::{
+    ONE_LEVEL, Outside, PLAIN, expect_meeting, gives, gives_front, replay_by, replayed_at,
+    shelf_with, status_and_text,
+};
+use daa_outside::Gate;
 use std::alloc::AllocError;
 use std::array;
 use std::process::Abort;
@@ -9,13 +12,8 @@ use std::sync::atomic::AtomicU64;
 use std::sync::atomic::Ordering::SeqCst;
 use std::test::Fail;
 use std::thread::Threads;
-use std::time::Clock;
 
-static ONE_WORKER: [&str; 6] = ["daidalus", "replay", "--config", "c", "--workers", "1"];
-
-static TWO_WORKERS: [&str; 6] = ["daidalus", "replay", "--config", "c", "--workers", "2"];
-
-/// The same reading ahead, whose pieces are joined.
+/// Two workers and reading ahead, whose pieces are joined.
 static TWO_AHEAD: [&str; 8] = [
     "daidalus",
     "replay",
@@ -38,14 +36,32 @@ pub(super) fn moments_of<R: AllocGlobal>(rt: &R, count: u32) -> Result<String, A
     Ok(input)
 }
 
+/// A replay by so many workers over this input ends with this status and this text.
+fn gives_by<R: Abort + Threads + Sync + AllocGlobal>(
+    rt: &R,
+    workers: &str,
+    input: &[u8],
+    outside: Outside<'_>,
+    status: u8,
+    text: &[u8],
+) -> Result<(), Fail> {
+    let words = replay_by(workers);
+    let by = Outside {
+        words: &words,
+        ..outside
+    };
+    gives(rt, input, by, status, text)
+}
+
 /// The text that one worker writes, which decides one moment after the other.
 pub(super) fn alone<R: Abort + Threads + Sync + AllocGlobal>(
     rt: &R,
     input: &[u8],
     room: usize,
 ) -> Result<Vec<u8>, Fail> {
+    let words = replay_by("1");
     let outside = Outside {
-        words: &ONE_WORKER,
+        words: &words,
         room,
         ..PLAIN
     };
@@ -54,26 +70,48 @@ pub(super) fn alone<R: Abort + Threads + Sync + AllocGlobal>(
     Ok(text)
 }
 
-/// Many moments, in pieces of any size and of some 200 moments, which end within lines. The sink
-/// has room for the text and no more, so that a write that is not needed, also of no bytes, fails.
+/// Replays by these numbers of workers, in these pieces, write this text. The sink has room for it
+/// and no more, so that a write that is not needed, also of no bytes, fails.
+fn all_write<R: Abort + Threads + Sync + AllocGlobal>(
+    rt: &R,
+    numbers: &[&str],
+    pieces: &[&[usize]],
+    input: &[u8],
+    text: &[u8],
+) -> Result<(), Fail> {
+    for workers in numbers {
+        for read_pieces in pieces {
+            let outside = Outside {
+                read_pieces,
+                room: text.len(),
+                ..PLAIN
+            };
+            gives_by(rt, workers, input, outside, 1, text)?;
+        }
+    }
+    Ok(())
+}
+
+/// One worker and several, and several alone.
+static ONE_AND_SOME: [&str; 4] = ["1", "3", "4", "16"];
+
+static SOME: [&str; 4] = ["2", "3", "4", "16"];
+
+/// Pieces of any size, and of some 200 moments, which end within lines.
+static OF_200: [&[usize]; 2] = [&[], &[20000; 9]];
+
 #[test]
 fn moments_of_a_piece_are_shared_out(rt: HostRuntime) -> Result<(), Fail> {
     let input = moments_of(&rt, 1100)?;
     let text = alone(&rt, input.as_bytes(), 300_000)?;
     assert!(rt; text.len() > 240_000);
-    for workers in ["1", "3", "4", "16"] {
-        let words = ["daidalus", "replay", "--config", "c", "--workers", workers];
-        for pieces in [&[][..], &[20000; 9]] {
-            let outside = Outside {
-                words: &words,
-                read_pieces: pieces,
-                room: text.len(),
-                ..PLAIN
-            };
-            gives(&rt, input.as_bytes(), outside, 1, text.as_slice())?;
-        }
-    }
-    Ok(())
+    all_write(
+        &rt,
+        &ONE_AND_SOME,
+        &OF_200,
+        input.as_bytes(),
+        text.as_slice(),
+    )
 }
 
 /// Adds a moment with so many aircraft, and a line that is refused.
@@ -103,21 +141,12 @@ fn uneven_moments<R: AllocGlobal>(rt: &R, count: u32) -> Result<String, AllocErr
 }
 
 /// A few crowded moments among light ones: whoever is free takes the next ones, and the texts come
-/// in the order of the input. The sink has room for them and no more.
+/// in the order of the input.
 #[test]
 fn uneven_moments_are_shared_out(rt: HostRuntime) -> Result<(), Fail> {
     let input = uneven_moments(&rt, 400)?;
     let text = alone(&rt, input.as_bytes(), 400_000)?;
-    for workers in ["2", "3", "4", "16"] {
-        let words = ["daidalus", "replay", "--config", "c", "--workers", workers];
-        let outside = Outside {
-            words: &words,
-            room: text.len(),
-            ..PLAIN
-        };
-        gives(&rt, input.as_bytes(), outside, 1, text.as_slice())?;
-    }
-    Ok(())
+    all_write(&rt, &SOME, &[&[]], input.as_bytes(), text.as_slice())
 }
 
 /// Lines between two moments of which the first letters tell too little: other formats, an earlier
@@ -180,25 +209,16 @@ fn moments_in(text: &[u8]) -> usize {
     count
 }
 
+/// Pieces of any size, and such as end within lines.
+static OF_7777: [&[usize]; 2] = [&[], &[7777; 20]];
+
 /// Where moments end is guessed by the first letters of lines: a wrong guess changes no byte.
 #[test]
 fn wrong_guesses_change_nothing(rt: HostRuntime) -> Result<(), Fail> {
     let input = odd_moments(&rt, 600)?;
     let text = alone(&rt, input.as_bytes(), 400_000)?;
     assert!(rt; moments_in(text.as_slice()) > 500);
-    for workers in ["2", "3", "4", "16"] {
-        let words = ["daidalus", "replay", "--config", "c", "--workers", workers];
-        for pieces in [&[][..], &[7777; 20]] {
-            let outside = Outside {
-                words: &words,
-                read_pieces: pieces,
-                room: text.len(),
-                ..PLAIN
-            };
-            gives(&rt, input.as_bytes(), outside, 1, text.as_slice())?;
-        }
-    }
-    Ok(())
+    all_write(&rt, &SOME, &OF_7777, input.as_bytes(), text.as_slice())
 }
 
 /// A moment with so many refused lines that a sheet is full before it ends, among light ones.
@@ -219,30 +239,17 @@ pub(super) fn moments_of_a_full_sheet<R: AllocGlobal>(rt: &R) -> Result<String, 
 fn a_moment_that_fills_a_sheet_is_written(rt: HostRuntime) -> Result<(), Fail> {
     let input = moments_of_a_full_sheet(&rt)?;
     let text = alone(&rt, input.as_bytes(), 400_000)?;
-    let words = ["daidalus", "replay", "--config", "c", "--workers", "16"];
-    let outside = Outside {
-        words: &words,
-        room: text.len(),
-        ..PLAIN
-    };
-    gives(&rt, input.as_bytes(), outside, 1, text.as_slice())
+    all_write(&rt, &["16"], &[&[]], input.as_bytes(), text.as_slice())
 }
 
 /// Pieces in which a moment ends, or two, or none, and which end within lines.
+static OF_A_MOMENT: [&[usize]; 4] = [&[60; 60], &[97; 60], &[131; 60], &[200; 60]];
+
 #[test]
 fn pieces_of_a_moment_or_two_are_written(rt: HostRuntime) -> Result<(), Fail> {
     let input = moments_of(&rt, 40)?;
     let text = alone(&rt, input.as_bytes(), 20_000)?;
-    for size in [60, 97, 131, 200] {
-        let outside = Outside {
-            words: &TWO_WORKERS,
-            read_pieces: &[size; 60],
-            room: text.len(),
-            ..PLAIN
-        };
-        gives(&rt, input.as_bytes(), outside, 1, text.as_slice())?;
-    }
-    Ok(())
+    all_write(&rt, &["2"], &OF_A_MOMENT, input.as_bytes(), text.as_slice())
 }
 
 /// The pieces that are read ahead are shared out as they come.
@@ -259,33 +266,14 @@ fn moments_of_joined_pieces_are_shared_out(rt: HostRuntime) -> Result<(), Fail> 
     gives(&rt, input.as_bytes(), outside, 1, text.as_slice())
 }
 
-/// Whether two workers of the input's batch come to the gate. They write this text.
-fn lanes_meet<R: Abort + Threads + Sync + AllocGlobal, C: Clock + Sync + Drop>(
-    rt: &R,
-    clock: C,
-    input: &[u8],
-    text: &[u8],
-) -> Result<bool, Fail> {
-    let meeting = Meeting::of(clock, 2);
-    let found = status_at(rt, &TWO_WORKERS, input, text.len(), &meeting)?;
-    expect(rt, &found, 1, text);
-    Ok(meeting.has_met())
-}
-
-/// Two workers of a batch wait at a gate until both have come, and write what one writes. As a
-/// thread may not be had, the meeting is tried five times.
+/// They write what one writes.
 #[test]
 fn two_lanes_run_at_once(rt: HostRuntime) -> Result<(), Fail> {
     let input = moments_of(&rt, 300)?;
     let text = alone(&rt, input.as_bytes(), 100_000)?;
-    let mut met = false;
-    for _ in 0..5 {
-        if !met {
-            met = lanes_meet(&rt, &rt, input.as_bytes(), text.as_slice())?;
-        }
-    }
-    assert!(rt; met);
-    Ok(())
+    let mut shelf = shelf_with(&rt, ONE_LEVEL, &[])?;
+    let (input, text) = (input.as_bytes(), text.as_slice());
+    expect_meeting(&rt, &rt, &replay_by("2"), &mut shelf, input, 1, text)
 }
 
 /// A sink that fails within the texts of moments that were decided side by side took a beginning.
@@ -299,26 +287,69 @@ fn a_sink_fails_within_a_batch(rt: HostRuntime) -> Result<(), Fail> {
     Ok(())
 }
 
-/// A sink takes single bytes, and fails once, at the write behind so many of them: it took these bytes
-/// and no more. A write that fails is not tried again, though the sink would take further bytes.
+/// By so many workers a sink that takes single bytes, and fails at the write behind so many of
+/// them, took these bytes and no more.
+fn writes_until<R: Abort + Threads + Sync + AllocGlobal>(
+    rt: &R,
+    workers: &str,
+    input: &[u8],
+    text: &[u8],
+    fails: usize,
+) -> Result<(), Fail> {
+    let ones = vec![in rt.alloc(); 1usize; fails]?;
+    let front = text.get(..fails).ok_or("a front of the text")?;
+    let outside = Outside {
+        room: text.len(),
+        write_pieces: ones.as_slice(),
+        write_fails: &[fails as u64],
+        ..PLAIN
+    };
+    gives_by(rt, workers, input, outside, 5, front)
+}
+
+/// A write that fails is not tried again, though the sink would take further bytes.
 #[test]
 fn a_write_fails_within_a_batch(rt: HostRuntime) -> Result<(), Fail> {
     let input = moments_of(&rt, 300)?;
     let text = alone(&rt, input.as_bytes(), 100_000)?;
-    for workers in ["1", "3", "4", "16"] {
-        let words = ["daidalus", "replay", "--config", "c", "--workers", workers];
+    for workers in &ONE_AND_SOME {
         for fails in [0, 1, 226, 20_000, 50_000] {
-            let ones = vec![in rt.alloc(); 1usize; fails]?;
-            let outside = Outside {
-                words: &words,
-                room: text.len(),
-                write_pieces: ones.as_slice(),
-                write_fails: &[fails as u64],
-                ..PLAIN
-            };
-            let front = text.get(..fails).ok_or("a front of the text")?;
-            gives(&rt, input.as_bytes(), outside, 5, front)?;
+            writes_until(&rt, workers, input.as_bytes(), text.as_slice(), fails)?;
         }
+    }
+    Ok(())
+}
+
+/// By so many workers a replay of pieces of this size, whose read of this number fails, writes this
+/// text.
+fn reads_until<R: Abort + Threads + Sync + AllocGlobal>(
+    rt: &R,
+    workers: &str,
+    input: &[u8],
+    size: usize,
+    fails: u64,
+    text: &[u8],
+) -> Result<(), Fail> {
+    let outside = Outside {
+        read_pieces: &[size; 3],
+        read_fails: &[fails],
+        room: 100_000,
+        ..PLAIN
+    };
+    gives_by(rt, workers, input, outside, 4, text)
+}
+
+/// By several numbers of workers a replay of pieces of this size, of which this is the first one's
+/// text, writes nothing if its first read fails, and this text if its second does.
+fn reads_one<R: Abort + Threads + Sync + AllocGlobal>(
+    rt: &R,
+    input: &[u8],
+    size: usize,
+    text: &[u8],
+) -> Result<(), Fail> {
+    for workers in ["1", "3", "16"] {
+        reads_until(rt, workers, input, size, 0, b"")?;
+        reads_until(rt, workers, input, size, 1, text)?;
     }
     Ok(())
 }
@@ -330,21 +361,7 @@ fn a_read_fails_behind_a_batch(rt: HostRuntime) -> Result<(), Fail> {
     let front = moments_of(&rt, 100)?;
     let text = alone(&rt, front.as_bytes(), 100_000)?;
     let input = moments_of(&rt, 300)?;
-    for workers in ["1", "3", "16"] {
-        let words = ["daidalus", "replay", "--config", "c", "--workers", workers];
-        for (fails, taken) in [(0, 0), (1, text.len())] {
-            let outside = Outside {
-                words: &words,
-                read_pieces: &[front.len(); 3],
-                read_fails: &[fails],
-                room: 100_000,
-                ..PLAIN
-            };
-            let taken = text.get(..taken).ok_or("a front of the text")?;
-            gives(&rt, input.as_bytes(), outside, 4, taken)?;
-        }
-    }
-    Ok(())
+    reads_one(&rt, input.as_bytes(), front.len(), text.as_slice())
 }
 
 /// One more than the number of the last line of 300 moments.
@@ -396,9 +413,8 @@ fn passes_once<R: Abort + Threads + Sync + AllocGlobal>(
     workers: &str,
     input: &[u8],
 ) -> Result<(), Fail> {
-    let words = ["daidalus", "replay", "--config", "c", "--workers", workers];
     let tally = Tally::new();
-    let (status, _text) = status_at(rt, &words, input, 100_000, &tally)?;
+    let (status, _text) = replayed_at(rt, &replay_by(workers), input, 100_000, &tally)?;
     assert!(rt; status == 1);
     assert!(rt; tally.has_passed_each_moment_once(), "with {workers}");
     Ok(())

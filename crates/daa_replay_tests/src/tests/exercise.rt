@@ -50,45 +50,21 @@ alt 1 0
 done
 ";
 
-/// The words of a hundred moments with these workers.
-static HUNDRED_BY_ONE: [&str; 10] = [
-    "daidalus",
-    "exercise",
-    "--config",
-    "c",
-    "--seed",
-    "7",
-    "--moments",
-    "100",
-    "--workers",
-    "1",
-];
-
-static HUNDRED_BY_THREE: [&str; 10] = [
-    "daidalus",
-    "exercise",
-    "--config",
-    "c",
-    "--seed",
-    "7",
-    "--moments",
-    "100",
-    "--workers",
-    "3",
-];
-
-static HUNDRED_BY_SIXTEEN: [&str; 10] = [
-    "daidalus",
-    "exercise",
-    "--config",
-    "c",
-    "--seed",
-    "7",
-    "--moments",
-    "100",
-    "--workers",
-    "16",
-];
+/// The words of a hundred moments by so many workers.
+fn hundred_by(workers: &str) -> [&str; 10] {
+    [
+        "daidalus",
+        "exercise",
+        "--config",
+        "c",
+        "--seed",
+        "7",
+        "--moments",
+        "100",
+        "--workers",
+        workers,
+    ]
+}
 
 /// The words give the summary of the hundred moments.
 fn expect_hundred<R: Abort + Threads + Sync + AllocGlobal>(
@@ -104,19 +80,19 @@ fn expect_hundred<R: Abort + Threads + Sync + AllocGlobal>(
 
 #[test]
 fn one_worker_decides_a_hundred_moments(rt: HostRuntime) -> Result<(), Fail> {
-    expect_hundred(&rt, &HUNDRED_BY_ONE)
+    expect_hundred(&rt, &hundred_by("1"))
 }
 
 #[test]
 fn three_workers_write_the_same_bytes(rt: HostRuntime) -> Result<(), Fail> {
-    expect_hundred(&rt, &HUNDRED_BY_THREE)
+    expect_hundred(&rt, &hundred_by("3"))
 }
 
 /// And so does a second run.
 #[test]
 fn sixteen_workers_write_the_same_bytes(rt: HostRuntime) -> Result<(), Fail> {
-    expect_hundred(&rt, &HUNDRED_BY_SIXTEEN)?;
-    expect_hundred(&rt, &HUNDRED_BY_SIXTEEN)
+    expect_hundred(&rt, &hundred_by("16"))?;
+    expect_hundred(&rt, &hundred_by("16"))
 }
 
 /// Words under one level and their summary.

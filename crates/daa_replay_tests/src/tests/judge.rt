@@ -129,17 +129,27 @@ fn differs_after<R: Abort + Threads + Sync + AllocGlobal>(
     judges(rt, states, longer.as_bytes(), JUDGE, 1, told.as_bytes())
 }
 
+/// In pieces of any size, of one byte and of seven the report is that of the states.
+fn same_in_pieces<R: Abort + Threads + Sync + AllocGlobal>(
+    rt: &R,
+    states: &[u8],
+    report: &[u8],
+) -> Result<(), Fail> {
+    for read_pieces in [&[], ONES.as_slice(), SEVENS.as_slice()] {
+        let outside = Outside {
+            read_pieces,
+            ..JUDGE
+        };
+        judges(rt, states, report, outside, 0, b"same\n")?;
+    }
+    Ok(())
+}
+
 #[test]
 fn reports_of_all_kinds_of_states_are_the_same(rt: HostRuntime) -> Result<(), Fail> {
     for (states, text) in &REPORTS {
         let text = whole(&rt, text)?;
-        for read_pieces in [&[], ONES.as_slice(), SEVENS.as_slice()] {
-            let outside = Outside {
-                read_pieces,
-                ..JUDGE
-            };
-            judges(&rt, states, text.as_bytes(), outside, 0, b"same\n")?;
-        }
+        same_in_pieces(&rt, states, text.as_bytes())?;
         differs_after(&rt, states, text.as_str())?;
     }
     Ok(())
@@ -159,24 +169,22 @@ static OTHERS: [(&[u8], &[u8], &[u8]); 3] = [
     (b"", b"x", b"differs 1\n"),
 ];
 
+/// So many of the report's first bytes differ in its last line.
+fn front_differs<R: Abort + Threads + Sync + AllocGlobal>(rt: &R, size: usize) -> Result<(), Fail> {
+    let front = ONE_TEXT.get(..size).ok_or("a front of the report")?;
+    judges(rt, ONE, front, JUDGE, 1, b"differs 12\n")
+}
+
 #[test]
 fn another_report_differs(rt: HostRuntime) -> Result<(), Fail> {
     for (states, report, told) in &OTHERS {
         judges(&rt, states, report, JUDGE, 1, told)?;
     }
     // without its last line, without its last line end, and with one more
-    for size in [206, 212] {
-        let front = ONE_TEXT.get(..size).ok_or("a front of the report")?;
-        judges(&rt, ONE, front, JUDGE, 1, b"differs 12\n")?;
-    }
-    judges(
-        &rt,
-        ONE,
-        longer_text(&rt)?.as_slice(),
-        JUDGE,
-        1,
-        b"differs 13\n",
-    )
+    front_differs(&rt, 206)?;
+    front_differs(&rt, 212)?;
+    let longer = longer_text(&rt)?;
+    judges(&rt, ONE, longer.as_slice(), JUDGE, 1, b"differs 13\n")
 }
 
 /// The most bytes that are read of the report and of one with one more line end, the status and
@@ -250,6 +258,20 @@ fn a_refused_configuration_comes_before_missing_states(rt: HostRuntime) -> Resul
 /// The call of the shelf that fails, the status and the text.
 static FETCHES: [(u64, u8, &[u8]); 3] = [(0, 7, b""), (1, 7, b""), (2, 0, b"same\n")];
 
+/// A comparison of the report whose call of the shelf of this number fails.
+fn judges_fetching<R: Abort + Threads + Sync + AllocGlobal>(
+    rt: &R,
+    fails: u64,
+    status: u8,
+    text: &[u8],
+) -> Result<(), Fail> {
+    let outside = Outside {
+        fetch_fails: &[fails],
+        ..JUDGE
+    };
+    judges(rt, ONE, ONE_TEXT, outside, status, text)
+}
+
 /// A comparison of the report, byte by byte, whose read of this number fails.
 fn judges_bytes<R: Abort + Threads + Sync + AllocGlobal>(
     rt: &R,
@@ -268,11 +290,7 @@ fn judges_bytes<R: Abort + Threads + Sync + AllocGlobal>(
 #[test]
 fn each_fault_has_its_status(rt: HostRuntime) -> Result<(), Fail> {
     for (fails, status, text) in &FETCHES {
-        let outside = Outside {
-            fetch_fails: &[*fails],
-            ..JUDGE
-        };
-        judges(&rt, ONE, ONE_TEXT, outside, *status, text)?;
+        judges_fetching(&rt, *fails, *status, text)?;
     }
     // one read for each byte of the report, and one that meets its end
     for fails in 0..214 {
@@ -281,20 +299,31 @@ fn each_fault_has_its_status(rt: HostRuntime) -> Result<(), Fail> {
     judges_bytes(&rt, 214, 0, b"same\n")
 }
 
-/// A comparison whose sink takes single bytes of this line, and fails at each of them in turn.
+/// A comparison whose sink takes single bytes, and fails after so many of this line.
+fn writes_front<R: Abort + Threads + Sync + AllocGlobal>(
+    rt: &R,
+    report: &[u8],
+    line: &[u8],
+    fails: u64,
+    taken: usize,
+) -> Result<(), Fail> {
+    let outside = Outside {
+        write_pieces: &ONES,
+        write_fails: &[fails],
+        ..JUDGE
+    };
+    let front = line.get(..taken).ok_or("a front of the line")?;
+    judges(rt, ONE, report, outside, 5, front)
+}
+
+/// A comparison whose sink fails at each byte of this line in turn.
 fn writes_fronts<R: Abort + Threads + Sync + AllocGlobal>(
     rt: &R,
     report: &[u8],
     line: &[u8],
 ) -> Result<(), Fail> {
     for (fails, taken) in (0..line.len() as u64).zip(0..line.len()) {
-        let outside = Outside {
-            write_pieces: &ONES,
-            write_fails: &[fails],
-            ..JUDGE
-        };
-        let front = line.get(..taken).ok_or("a front of the line")?;
-        judges(rt, ONE, report, outside, 5, front)?;
+        writes_front(rt, report, line, fails, taken)?;
     }
     Ok(())
 }

@@ -2,24 +2,26 @@
 
 use super::batch::{Tally, alone, moments_of, moments_of_a_full_sheet, odd_moments};
 use super::judge::{JUDGE, judges, shelf_of_both};
-use super::{Outside, expect, status_of, whole, whole_sink, whole_source};
-use daa_outside::{Gate, Meeting};
+use super::{COVERED, Outside, expect, expect_meeting, status_at, whole};
+use daa_outside::MemShelf;
 use std::alloc::AllocError;
 use std::process::Abort;
 use std::test::Fail;
 use std::thread::Threads;
-use std::time::Clock;
 
-static TWO_WORKERS: [&str; 8] = [
-    "daidalus",
-    "judge",
-    "--config",
-    "c",
-    "--states",
-    "s",
-    "--workers",
-    "2",
-];
+/// The words of a comparison by so many workers.
+fn judge_by(workers: &str) -> [&str; 8] {
+    [
+        "daidalus",
+        "judge",
+        "--config",
+        "c",
+        "--states",
+        "s",
+        "--workers",
+        workers,
+    ]
+}
 
 /// How many moments the states have.
 const MOMENTS: u32 = 300;
@@ -32,72 +34,136 @@ fn line_behind(moments: u32, lines: u32) -> usize {
         .saturating_add(lines as usize)
 }
 
-/// The report of one of the moments that `moments_of` makes, from its second line on up to its last
-/// but one: the fourth of its five lines is refused, and its aircraft is where the ownship is.
-const MIDDLE: &str = "now A 1
-alert A 1 0
-track 0 270 1
-gs 3600 3600 1
-vs 0 0 1
-alt 1000 1000 1
-resolve track left none right none
-resolve gs down none up none
-resolve vs down none up none
-resolve alt down none up none
-";
+/// The alerts in the report of a moment that `moments_of` makes, whose aircraft is where the
+/// ownship is.
+const ALERT: &str = "alert A 1 0\n";
 
-/// The same of an aircraft that gets to the level later.
-const LATER: &str = "now A 1
-alert A 1 1
-track 0 270 1
-gs 3600 3600 1
-vs 0 0 1
-alt 1000 1000 1
-resolve track left none right none
-resolve gs down none up none
-resolve vs down none up none
-resolve alt down none up none
-";
+/// That of an aircraft which gets to the level later.
+const LATER: &str = "alert A 1 1\n";
 
-/// The same without the line of the alert.
-const SHORTER: &str = "now A 1
-track 0 270 1
-gs 3600 3600 1
-vs 0 0 1
-alt 1000 1000 1
-resolve track left none right none
-resolve gs down none up none
-resolve vs down none up none
-resolve alt down none up none
-";
+/// Adds the report of a moment that `moments_of` makes, with these alerts: the fourth of its five
+/// lines is refused.
+fn add_report<R: AllocGlobal>(
+    rt: &R,
+    report: &mut String,
+    time: u32,
+    alerts: &str,
+) -> Result<(), AllocError> {
+    let refused = time.saturating_mul(5).saturating_add(4);
+    let text = format!(in rt.alloc();
+        "refused {refused} 2\nmoment {time}\nnow A 1\n{alerts}{COVERED}done {time}\n"
+    )?;
+    report.push_str(text.as_str())
+}
 
-/// The same with one line more.
-const LONGER: &str = "now A 1
-alert A 1 0
-alert A 1 0
-track 0 270 1
-gs 3600 3600 1
-vs 0 0 1
-alt 1000 1000 1
-resolve track left none right none
-resolve gs down none up none
-resolve vs down none up none
-resolve alt down none up none
-";
+/// States and a report that is compared with theirs.
+#[derive(Drop)]
+struct Comparison {
+    states: String,
+    report: String,
+}
 
-/// The report of the moments that `moments_of` makes, but for the moment of number `other`, whose
-/// middle is this one.
-fn report_with<R: AllocGlobal>(rt: &R, other: u32, middle: &str) -> Result<String, AllocError> {
-    let mut report = String::new(rt.alloc());
-    for time in 0..MOMENTS {
-        let refused = time * 5 + 4;
-        let head = format!(in rt.alloc(); "refused {refused} 2\nmoment {time}\n")?;
-        report.push_str(head.as_str())?;
-        report.push_str(if time == other { middle } else { MIDDLE })?;
-        let tail = format!(in rt.alloc(); "done {time}\n")?;
-        report.push_str(tail.as_str())?;
+impl Comparison {
+    /// States of `MOMENTS` moments, and their report but for the alerts of the moment of number
+    /// `other`, which are these.
+    fn with<R: AllocGlobal>(rt: &R, other: u32, alerts: &str) -> Result<Comparison, AllocError> {
+        let mut report = String::new(rt.alloc());
+        for time in 0..MOMENTS {
+            add_report(
+                rt,
+                &mut report,
+                time,
+                if time == other { alerts } else { ALERT },
+            )?;
+        }
+        let states = moments_of(rt, MOMENTS)?;
+        Ok(Comparison { states, report })
     }
-    Ok(report)
+
+    /// States of `MOMENTS` moments, and their report.
+    fn of_the_same<R: AllocGlobal>(rt: &R) -> Result<Comparison, AllocError> {
+        Comparison::with(rt, MOMENTS, ALERT)
+    }
+
+    /// By each number of workers the comparison ends with this status and this text.
+    fn ends<R: Abort + Threads + Sync + AllocGlobal>(
+        &self,
+        rt: &R,
+        outside: Outside<'_>,
+        status: u8,
+        text: &[u8],
+    ) -> Result<(), Fail> {
+        let (states, report) = (self.states.as_bytes(), self.report.as_bytes());
+        judges_by_all(rt, states, report, outside, status, text)
+    }
+
+    /// By each number of workers the report differs from that of the states in the line of this
+    /// number.
+    fn differs<R: Abort + Threads + Sync + AllocGlobal>(
+        &self,
+        rt: &R,
+        line: usize,
+    ) -> Result<(), Fail> {
+        differs_by_all(rt, self.states.as_bytes(), self.report.as_bytes(), line)
+    }
+
+    /// The same of the report without so many of its last bytes.
+    fn differs_cut<R: Abort + Threads + Sync + AllocGlobal>(
+        &self,
+        rt: &R,
+        cut: usize,
+        line: usize,
+    ) -> Result<(), Fail> {
+        let report = self.report.as_bytes();
+        let front = report
+            .get(..report.len().saturating_sub(cut))
+            .ok_or("a front of the report")?;
+        differs_by_all(rt, self.states.as_bytes(), front, line)
+    }
+
+    /// If the read of this number fails, the comparison ends with this status and this text.
+    fn ends_by_a_read<R: Abort + Threads + Sync + AllocGlobal>(
+        &self,
+        rt: &R,
+        fails: u64,
+        status: u8,
+        text: &[u8],
+    ) -> Result<(), Fail> {
+        let outside = Outside {
+            read_fails: &[fails],
+            ..JUDGE
+        };
+        self.ends(rt, outside, status, text)
+    }
+
+    /// If at most so many bytes are read, the comparison ends with this status and this text.
+    fn ends_within<R: Abort + Threads + Sync + AllocGlobal>(
+        &self,
+        rt: &R,
+        most: u64,
+        status: u8,
+        text: &[u8],
+    ) -> Result<(), Fail> {
+        self.ends(rt, Outside { most, ..JUDGE }, status, text)
+    }
+}
+
+/// By so many workers a comparison ends with this status and this text.
+fn judges_by<R: Abort + Threads + Sync + AllocGlobal>(
+    rt: &R,
+    workers: &str,
+    states: &[u8],
+    report: &[u8],
+    outside: Outside<'_>,
+    status: u8,
+    text: &[u8],
+) -> Result<(), Fail> {
+    let words = judge_by(workers);
+    let by = Outside {
+        words: &words,
+        ..outside
+    };
+    judges(rt, states, report, by, status, text)
 }
 
 /// By each number of workers a comparison ends with this status and this text.
@@ -110,21 +176,7 @@ fn judges_by_all<R: Abort + Threads + Sync + AllocGlobal>(
     text: &[u8],
 ) -> Result<(), Fail> {
     for workers in ["1", "2", "3", "4", "16"] {
-        let words = [
-            "daidalus",
-            "judge",
-            "--config",
-            "c",
-            "--states",
-            "s",
-            "--workers",
-            workers,
-        ];
-        let by = Outside {
-            words: &words,
-            ..outside
-        };
-        judges(rt, states, report, by, status, text)?;
+        judges_by(rt, workers, states, report, outside, status, text)?;
     }
     Ok(())
 }
@@ -140,39 +192,31 @@ fn differs_by_all<R: Abort + Threads + Sync + AllocGlobal>(
     judges_by_all(rt, states, report, JUDGE, 1, told.as_bytes())
 }
 
+static PIECES: [&[usize]; 3] = [&[], &[1; 300], &[7777; 9]];
+
 #[test]
 fn the_report_of_shared_moments_is_the_same(rt: HostRuntime) -> Result<(), Fail> {
-    let states = moments_of(&rt, MOMENTS)?;
-    let report = report_with(&rt, MOMENTS, MIDDLE)?;
-    for read_pieces in [&[][..], &[1; 300], &[7777; 9]] {
+    let same = Comparison::of_the_same(&rt)?;
+    for read_pieces in &PIECES {
         let outside = Outside {
             read_pieces,
             ..JUDGE
         };
-        judges_by_all(
-            &rt,
-            states.as_bytes(),
-            report.as_bytes(),
-            outside,
-            0,
-            b"same\n",
-        )?;
+        same.ends(&rt, outside, 0, b"same\n")?;
     }
     Ok(())
 }
 
-/// Another middle of a moment, and the line of the moment's report that differs.
-static MIDDLES: [(&str, u32); 3] = [(LATER, 4), (SHORTER, 4), (LONGER, 5)];
+/// Other alerts of a moment, and the line of the moment's report that differs.
+static ALERTS: [(&str, u32); 3] = [(LATER, 4), ("", 4), ("alert A 1 0\nalert A 1 0\n", 5)];
 
-/// A byte, a line more and a line less in the first moment, in the last, and between.
+/// A byte, a line less and a line more in the first moment, in the last, and between.
 #[test]
 fn a_shared_moment_differs(rt: HostRuntime) -> Result<(), Fail> {
-    let states = moments_of(&rt, MOMENTS)?;
-    for (middle, line) in &MIDDLES {
+    for (alerts, line) in &ALERTS {
         for other in [0, 1, 149, 298, 299] {
-            let report = report_with(&rt, other, middle)?;
-            let line = line_behind(other, *line);
-            differs_by_all(&rt, states.as_bytes(), report.as_bytes(), line)?;
+            let differing = Comparison::with(&rt, other, alerts)?;
+            differing.differs(&rt, line_behind(other, *line))?;
         }
     }
     Ok(())
@@ -181,23 +225,15 @@ fn a_shared_moment_differs(rt: HostRuntime) -> Result<(), Fail> {
 /// A report ends before its last line, within it, and goes on behind it.
 #[test]
 fn a_report_of_shared_moments_ends_elsewhere(rt: HostRuntime) -> Result<(), Fail> {
-    let states = moments_of(&rt, MOMENTS)?;
-    let mut report = report_with(&rt, MOMENTS, MIDDLE)?;
+    let mut other = Comparison::of_the_same(&rt)?;
     let last = line_behind(MOMENTS, 0);
     // the last line is `done 299`
     for cut in [9, 8, 1] {
-        let size = report.len().saturating_sub(cut);
-        let front = report.as_bytes().get(..size).ok_or("a front")?;
-        differs_by_all(&rt, states.as_bytes(), front, last)?;
+        other.differs_cut(&rt, cut, last)?;
     }
-    differs_by_all(&rt, states.as_bytes(), b"", 1)?;
-    report.push_str("\n")?;
-    differs_by_all(
-        &rt,
-        states.as_bytes(),
-        report.as_bytes(),
-        line_behind(MOMENTS, 1),
-    )
+    other.differs_cut(&rt, other.report.len(), 1)?;
+    other.report.push_str("\n")?;
+    other.differs(&rt, line_behind(MOMENTS, 1))
 }
 
 /// Lines behind the moments: another format, a refused line, and a moment that does not end, whose
@@ -221,19 +257,24 @@ refused 1506 2
 refused 1509 14
 ";
 
+/// States with these lines behind their moments, and their report.
+fn with_rest<R: AllocGlobal>(rt: &R) -> Result<Comparison, AllocError> {
+    let Comparison {
+        mut states,
+        mut report,
+    } = Comparison::of_the_same(rt)?;
+    states.push_str(REST)?;
+    let text = whole(rt, REST_TEXT)?;
+    report.push_str(text.as_str())?;
+    Ok(Comparison { states, report })
+}
+
 #[test]
 fn what_is_behind_the_last_shared_moment_is_compared(rt: HostRuntime) -> Result<(), Fail> {
-    let mut states = moments_of(&rt, MOMENTS)?;
-    states.push_str(REST)?;
-    let mut report = report_with(&rt, MOMENTS, MIDDLE)?;
-    report.push_str(whole(&rt, REST_TEXT)?.as_str())?;
-    let (states, report) = (states.as_bytes(), report.as_bytes());
-    judges_by_all(&rt, states, report, JUDGE, 0, b"same\n")?;
+    let same = with_rest(&rt)?;
+    same.ends(&rt, JUDGE, 0, b"same\n")?;
     // the last line is the fourteenth behind those of the moments
-    let front = report
-        .get(..report.len().saturating_sub(2))
-        .ok_or("a front")?;
-    differs_by_all(&rt, states, front, line_behind(MOMENTS, 14))
+    same.differs_cut(&rt, 2, line_behind(MOMENTS, 14))
 }
 
 /// A report with another byte at this place.
@@ -260,6 +301,17 @@ fn line_at(report: &[u8], at: usize) -> usize {
     line
 }
 
+/// By each number of workers a report with another byte at this place differs in that byte's line.
+fn differs_at<R: Abort + Threads + Sync + AllocGlobal>(
+    rt: &R,
+    states: &[u8],
+    report: &[u8],
+    at: usize,
+) -> Result<(), Fail> {
+    let other = with_other_byte(rt, report, at)?;
+    differs_by_all(rt, states, other.as_slice(), line_at(report, at))
+}
+
 /// A comparison with the report that one worker writes of states ends as it does by one worker: the
 /// report is the same, and with another byte, at so many places, it differs in that byte's line.
 fn judges_what_one_writes<R: Abort + Threads + Sync + AllocGlobal>(
@@ -272,9 +324,12 @@ fn judges_what_one_writes<R: Abort + Threads + Sync + AllocGlobal>(
     judges_by_all(rt, states, report, JUDGE, 0, b"same\n")?;
     let step = report.len() / places.saturating_add(1);
     for place in 0..places {
-        let at = step.saturating_mul(place.saturating_add(1));
-        let other = with_other_byte(rt, report, at)?;
-        differs_by_all(rt, states, other.as_slice(), line_at(report, at))?;
+        differs_at(
+            rt,
+            states,
+            report,
+            step.saturating_mul(place.saturating_add(1)),
+        )?;
     }
     Ok(())
 }
@@ -297,120 +352,54 @@ fn a_moment_that_fills_a_sheet_is_compared(rt: HostRuntime) -> Result<(), Fail> 
 /// A read that fails ends a comparison, unless it differed before.
 #[test]
 fn a_read_fails_within_a_shared_comparison(rt: HostRuntime) -> Result<(), Fail> {
-    let states = moments_of(&rt, MOMENTS)?;
-    let report = report_with(&rt, MOMENTS, MIDDLE)?;
+    let same = Comparison::of_the_same(&rt)?;
     for fails in [0, 1, 2, 9] {
-        let outside = Outside {
-            read_fails: &[fails],
-            ..JUDGE
-        };
-        judges_by_all(&rt, states.as_bytes(), report.as_bytes(), outside, 4, b"")?;
+        same.ends_by_a_read(&rt, fails, 4, b"")?;
     }
     // one worker meets its fourth line by the second read, several by the first
-    let other = report_with(&rt, 0, LATER)?;
-    let outside = Outside {
-        read_fails: &[2],
-        ..JUDGE
-    };
-    judges_by_all(
-        &rt,
-        states.as_bytes(),
-        other.as_bytes(),
-        outside,
-        1,
-        b"differs 4\n",
-    )
+    let other = Comparison::with(&rt, 0, LATER)?;
+    other.ends_by_a_read(&rt, 2, 1, b"differs 4\n")
 }
 
 /// The limit ends a comparison, unless it differed before.
 #[test]
 fn a_shared_comparison_keeps_its_limit(rt: HostRuntime) -> Result<(), Fail> {
-    let states = moments_of(&rt, MOMENTS)?;
-    let report = report_with(&rt, MOMENTS, MIDDLE)?;
-    let size = report.len() as u64;
+    let same = Comparison::of_the_same(&rt)?;
+    let size = same.report.len() as u64;
     for most in [1000, size.saturating_sub(1)] {
-        let outside = Outside { most, ..JUDGE };
-        judges_by_all(&rt, states.as_bytes(), report.as_bytes(), outside, 8, b"")?;
+        same.ends_within(&rt, most, 8, b"")?;
     }
-    let outside = Outside {
-        most: size,
-        ..JUDGE
-    };
-    judges_by_all(
-        &rt,
-        states.as_bytes(),
-        report.as_bytes(),
-        outside,
-        0,
-        b"same\n",
-    )?;
-    let other = report_with(&rt, 0, LATER)?;
-    let outside = Outside {
-        most: 1000,
-        ..JUDGE
-    };
-    judges_by_all(
-        &rt,
-        states.as_bytes(),
-        other.as_bytes(),
-        outside,
-        1,
-        b"differs 4\n",
-    )
+    same.ends_within(&rt, size, 0, b"same\n")?;
+    let other = Comparison::with(&rt, 0, LATER)?;
+    other.ends_within(&rt, 1000, 1, b"differs 4\n")
 }
 
-/// A comparison of the report with that of the states, whose two workers pass this gate, finds that
-/// it is the same.
-fn two_find_the_same<R: Abort + Threads + Sync + AllocGlobal, G: Gate>(
-    rt: &R,
-    states: &[u8],
-    report: &[u8],
-    gate: &G,
-) -> Result<(), Fail> {
-    let mut shelf = shelf_of_both(rt, states, JUDGE)?;
-    let mut source = whole_source(rt, report)?;
-    let mut sink = whole_sink(rt, 100)?;
-    let status = status_of(rt, &TWO_WORKERS, &mut shelf, &mut source, &mut sink, gate)?;
-    let taken = sink.taken().to_vec(rt.alloc())?;
-    expect(rt, &(status, taken), 0, b"same\n");
-    Ok(())
-}
-
-/// Whether two workers of a comparison come to the gate.
-fn judges_meet<R: Abort + Threads + Sync + AllocGlobal, C: Clock + Sync + Drop>(
-    rt: &R,
-    clock: C,
-    states: &[u8],
-    report: &[u8],
-) -> Result<bool, Fail> {
-    let meeting = Meeting::of(clock, 2);
-    two_find_the_same(rt, states, report, &meeting)?;
-    Ok(meeting.has_met())
-}
-
-/// Two workers of a comparison wait at a gate until both have come. As a thread may not be had, the
-/// meeting is tried five times.
+/// They find that the report is that of the states.
 #[test]
 fn two_workers_judge_at_once(rt: HostRuntime) -> Result<(), Fail> {
-    let states = moments_of(&rt, MOMENTS)?;
-    let report = report_with(&rt, MOMENTS, MIDDLE)?;
-    let mut met = false;
-    for _ in 0..5 {
-        if !met {
-            met = judges_meet(&rt, &rt, states.as_bytes(), report.as_bytes())?;
-        }
-    }
-    assert!(rt; met);
+    let same = Comparison::of_the_same(&rt)?;
+    let mut shelf = shelf_of_both(&rt, same.states.as_bytes(), JUDGE)?;
+    let report = same.report.as_bytes();
+    expect_meeting(&rt, &rt, &judge_by("2"), &mut shelf, report, 0, b"same\n")
+}
+
+/// Two workers pass the gate once for each moment, and find that the report is that of the states.
+fn two_pass_once<R: Abort + Threads + Sync + AllocGlobal>(
+    rt: &R,
+    shelf: &mut MemShelf,
+    report: &[u8],
+) -> Result<(), Fail> {
+    let tally = Tally::new();
+    let found = status_at(rt, &judge_by("2"), shelf, report, 100, &tally)?;
+    expect(rt, &found, 0, b"same\n");
+    assert!(rt; tally.has_passed_each_moment_once());
     Ok(())
 }
 
 /// The unit of a moment is the number of its last line, as in a replay.
 #[test]
 fn the_gate_is_passed_once_for_each_moment_of_a_judgement(rt: HostRuntime) -> Result<(), Fail> {
-    let states = moments_of(&rt, MOMENTS)?;
-    let report = report_with(&rt, MOMENTS, MIDDLE)?;
-    let tally = Tally::new();
-    two_find_the_same(&rt, states.as_bytes(), report.as_bytes(), &tally)?;
-    assert!(rt; tally.has_passed_each_moment_once());
-    Ok(())
+    let same = Comparison::of_the_same(&rt)?;
+    let mut shelf = shelf_of_both(&rt, same.states.as_bytes(), JUDGE)?;
+    two_pass_once(&rt, &mut shelf, same.report.as_bytes())
 }

@@ -1,12 +1,11 @@
 //! Lines, their refusals, and the pieces in which they come.
 
 use super::ahead::READINGS;
-use super::{COVERED, ONE, ONE_TEXT, ONES, Outside, PLAIN, REPLAY, SEVENS, asking, gives, whole};
+use super::{
+    COVERED, ONE, ONE_TEXT, ONES, Outside, PLAIN, REPLAY, SEVENS, asking, gives, replay_by, whole,
+};
 use std::alloc::AllocError;
 use std::test::Fail;
-
-/// The words that ask for one worker.
-static ALONE: [&str; 6] = ["daidalus", "replay", "--config", "c", "--workers", "1"];
 
 /// Inputs, their statuses and their texts.
 static MOMENTS: [(&str, u8, &str); 7] = [
@@ -46,7 +45,7 @@ static MOMENTS: [(&str, u8, &str); 7] = [
 fn lines_give_their_refusals_and_moments(rt: HostRuntime) -> Result<(), Fail> {
     for (input, status, text) in &MOMENTS {
         let text = whole(&rt, text)?;
-        for words in [REPLAY, &ALONE] {
+        for words in [REPLAY, &replay_by("1")] {
             gives(
                 &rt,
                 input.as_bytes(),

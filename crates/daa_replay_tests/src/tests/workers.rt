@@ -1,6 +1,6 @@
 //! Several workers: whether they really work side by side, and that they change no byte.
 
-use super::{expect, status_at, whole};
+use super::{expect, replay_by, replayed_at, whole};
 use daa_outside::{Gate, Meeting, Open};
 use std::process::Abort;
 use std::sync::atomic::AtomicU64;
@@ -65,17 +65,13 @@ covered
 done 0
 ";
 
-static ONE_WORKER: [&str; 6] = ["daidalus", "replay", "--config", "c", "--workers", "1"];
-
-static FOUR_WORKERS: [&str; 6] = ["daidalus", "replay", "--config", "c", "--workers", "4"];
-
-/// A run over the four aircraft writes their text.
+/// A replay of the four aircraft by so many workers writes their text.
 fn expect_four<R: Abort + Threads + Sync + AllocGlobal, G: Gate>(
     rt: &R,
-    words: &[&str],
+    workers: &str,
     gate: &G,
 ) -> Result<(), Fail> {
-    let found = status_at(rt, words, FOUR, 1024, gate)?;
+    let found = replayed_at(rt, &replay_by(workers), FOUR, 1024, gate)?;
     let text = whole(rt, FOUR_TEXT)?;
     expect(rt, &found, 0, text.as_bytes());
     Ok(())
@@ -87,7 +83,7 @@ fn two_meet<R: Abort + Threads + Sync + AllocGlobal, C: Clock + Sync + Drop>(
     clock: C,
 ) -> Result<bool, Fail> {
     let gate = Watched::by(clock);
-    expect_four(rt, &FOUR_WORKERS, &gate)?;
+    expect_four(rt, "4", &gate)?;
     assert!(rt; gate.was_passed(1));
     Ok(gate.meeting.has_met())
 }
@@ -95,7 +91,7 @@ fn two_meet<R: Abort + Threads + Sync + AllocGlobal, C: Clock + Sync + Drop>(
 /// As a thread may not be had, the meeting is tried five times.
 #[test]
 fn two_workers_meet_at_the_gate(rt: HostRuntime) -> Result<(), Fail> {
-    expect_four(&rt, &ONE_WORKER, &Open)?;
+    expect_four(&rt, "1", &Open)?;
     let mut met = false;
     for _ in 0..5 {
         if !met {
@@ -110,7 +106,7 @@ fn two_workers_meet_at_the_gate(rt: HostRuntime) -> Result<(), Fail> {
 #[test]
 fn one_worker_meets_nobody(rt: HostRuntime) -> Result<(), Fail> {
     let gate = Watched::by(&rt);
-    expect_four(&rt, &ONE_WORKER, &gate)?;
+    expect_four(&rt, "1", &gate)?;
     assert!(rt; gate.was_passed(0));
     Ok(())
 }
