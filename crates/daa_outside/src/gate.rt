@@ -3,8 +3,10 @@
 /// A gate may hold a worker for a while. Several workers may use it at once. A call promises only
 /// that it returns.
 pub trait Gate: Sync {
-    /// The worker is about to answer the unit; both are numbered from 0. Where several moments are
-    /// decided side by side, each of them is one unit, and its number is its place among them.
+    /// The worker is about to answer the unit; workers are numbered from 0, and so are the units of
+    /// a moment. Where several moments are decided side by side, each of them is one unit: its
+    /// number is the moment's in an exercise, and that of the moment's last line in a replay or a
+    /// comparison.
     fn pass(&self, worker: u32, unit: u32);
 }
 

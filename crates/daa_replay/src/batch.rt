@@ -276,6 +276,16 @@ impl Lane {
         self.most.saturating_mul(2) <= left
     }
 
+    /// Empties the sheet and the list of its parts.
+    fn clear(&mut self)
+        ensures sheet { length self.new.sheet.text ≡ 0 }
+        ensures parts { (settings : Settings) (piece : Bytes) → IsFilled settings piece self.new }
+    {
+        self.sheet.clear();
+        self.parts.clear();
+        self.most = 0;
+    }
+
     /// Takes stretches between two of the places, one after the other, and writes the texts of
     /// their events on the sheet, while it has room and no other worker has taken them.
     fn fill<G: Gate>(
@@ -288,9 +298,7 @@ impl Lane {
     )
         ensures { IsFilled config.now piece.now self.new }
     {
-        self.sheet.clear();
-        self.parts.clear();
-        self.most = 0;
+        self.clear();
         for _ in 0..MOST_STRETCHES {
             if !self.has_room() {
                 return;
@@ -307,9 +315,10 @@ impl Lane {
 
     /// The part that begins behind so many bytes, if the sheet has it.
     fn part_from(&self, done: usize) -> Option<PartText<'_>>
-        ensures { (settings : Settings) (piece : Bytes) → IsFilled settings piece self.now
+        ensures texts { (settings : Settings) (piece : Bytes) → IsFilled settings piece self.now
             → IfSome result
             (λ part. HasTexts settings piece part.from part.upto part.refused part.text.now) }
+        ensures begins { IfSome result (λ part. part.from.done ≡ done) }
     {
         let parts = self.parts.as_slice();
         let place = parts
@@ -557,9 +566,10 @@ pub(crate) fn fill_from<R: Threads + Sync, G: Gate>(
 
 /// The part that begins behind so many bytes, if a sheet has it.
 fn part_from<'a>(lanes: &'a [Lane], done: usize) -> Option<PartText<'a>>
-    ensures { (settings : Settings) (piece : Bytes) → All (IsFilled settings piece) lanes.now
+    ensures texts { (settings : Settings) (piece : Bytes) → All (IsFilled settings piece) lanes.now
         → IfSome result
         (λ part. HasTexts settings piece part.from part.upto part.refused part.text.now) }
+    ensures begins { IfSome result (λ part. part.from.done ≡ done) }
 {
     for place in 0..lanes.len() {
         if let Some(part) = lanes[place].part_from(done) {

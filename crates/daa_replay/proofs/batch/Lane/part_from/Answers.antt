@@ -1,0 +1,19 @@
+use Rattle.std.proofs.Common.{◌≡◌, ℕ, List, Result, Ok, rules, subst, sym}
+use Rattle.std.specs.List.{slice_index_or}
+use Rattle.std.specs.List.Sorted.{IsBinarySearchResult}
+use Rattle.std.specs.Ordering.{nat_cmp}
+use Rattle.std.proofs.lemmas.Cmp.{ranked}
+use Rattle.std.proofs.lemmas.List.Sorted.{answers_always}
+use Rattle.daa_replay.specs.declared.batch.Part.{Part}
+use Rattle.daa_replay.proofs.batch.Lane.part_from.Goals as goal
+
+-- where a search for a number of bytes ends at a part, the part begins behind so many
+found : (done place : ℕ) (parts : List Part) (r : Result ℕ ℕ) → IsBinarySearchResult (λ (part : Part). nat_cmp part.from.done done) parts r
+    → r ≡ Ok place → (d : Part) → (slice_index_or parts place d).from.done ≡ done
+found done place parts r searched is d =
+    ranked _ done _ (sym (subst (λ (r : Result ℕ ℕ). IsBinarySearchResult (λ (part : Part). nat_cmp part.from.done done) parts r) is searched d))
+
+pub returns-clause-begins : goal.returns-clause-begins
+returns-clause-begins c =
+    let by_key = c.binary_search_by_key.ensures.position (λ part. part.from.done) (answers_always _ _ _ (λ f a r g called. search rules)) in
+    found c.args.done c.in_ok-place.place _ _ by_key (search rules) _
