@@ -374,7 +374,7 @@ fn a_shared_comparison_keeps_its_limit(rt: HostRuntime) -> Result<(), Fail> {
     other.ends_within(&rt, 1000, 1, b"differs 4\n")
 }
 
-/// They find that the report is that of the states.
+/// Two workers judge at once, and find that the report is that of the states.
 #[test]
 fn two_workers_judge_at_once(rt: HostRuntime) -> Result<(), Fail> {
     let same = Comparison::of_the_same(&rt)?;
