@@ -40,19 +40,28 @@ def print_answers(moment):
     print("done 0")
 
 
-def main():
-    engine = Engine(sys.argv[1])
-    with open(sys.argv[2], "rb") as file:
-        moment = engine.decide(engine.read(file.read()), OWN, TRAFFIC)
-    if sys.argv[3:] == ["report"]:
+def main(words):
+    if len(words) < 2 or words[2:] not in ([], ["report"]):
+        print("usage: one_moment.py LIBRARY CONFIGURATION [report]", file=sys.stderr)
+        return 2
+    try:
+        engine = Engine(words[0])
+        with open(words[1], "rb") as file:
+            text = file.read()
+    except OSError as fault:
+        print(fault, file=sys.stderr)
+        return 1
+    moment = engine.decide(engine.read(text), OWN, TRAFFIC)
+    if words[2:]:
         sys.stdout.buffer.write(moment.report(0))
     else:
         print_answers(moment)
+    return 0
 
 
 if __name__ == "__main__":
     try:
-        main()
+        sys.exit(main(sys.argv[1:]))
     except Refused as refused:
         print(refused, file=sys.stderr)
         sys.exit(refused.code)

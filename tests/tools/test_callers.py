@@ -1,8 +1,11 @@
 """The structs of the callers in Python and in Rust: their numbers are those of the exports, each with its name, its type and its
-place. No archive is needed; tests/examples makes the calls themselves."""
+place; and how the program in Python ends where it makes no call. No archive is needed; tests/examples makes the calls themselves."""
 import ctypes
+import os
 import pathlib
 import re
+import subprocess
+import sys
 import unittest
 
 import structs
@@ -63,6 +66,26 @@ class Structs(unittest.TestCase):
         found = structs_in_rust()
         for name in NAMES:
             self.assertEqual(numbers_of(found, name), shared_numbers(name), name)
+
+
+class ProgramInPython(unittest.TestCase):
+    """As examples/README.md says of each program: 2 for wrong words, 1 for a file that is missing, and a line that says why."""
+
+    def ended(self, *words):
+        script = os.path.join(TOP, "examples", "python", "one_moment.py")
+        run = subprocess.run([sys.executable, "-B", script, *words], stdin=subprocess.DEVNULL, capture_output=True, text=True, timeout=120)
+        self.assertEqual((run.stdout, run.stderr.count("\n")), ("", 1), run.stderr)
+        return run.returncode, run.stderr
+
+    def test_wrong_words(self):
+        for words in ([], ["lib.so"], ["lib.so", "a.toml", "whole"], ["lib.so", "a.toml", "report", "report"]):
+            self.assertEqual(self.ended(*words), (2, "usage: one_moment.py LIBRARY CONFIGURATION [report]\n"), words)
+
+    def test_files_that_are_missing(self):
+        for words in (["./missing.so", "examples/three_levels.toml"], ["libc.so.6", "missing.toml"], ["libc.so.6", "missing.toml", "report"]):
+            status, said = self.ended(*words)
+            self.assertEqual(status, 1)
+            self.assertIn("missing", said)
 
 
 if __name__ == "__main__":
