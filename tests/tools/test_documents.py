@@ -1,4 +1,4 @@
-"""docs/FORMULAS.md, docs/FROM_DAIDALUS.md and the READMEs' words on the tools, held against the code that they tell of."""
+"""docs/FORMULAS.md, docs/FROM_DAIDALUS.md, counts of docs/MEASUREMENTS.md and the READMEs' words on the tools, held against the code that they tell of."""
 import glob
 import os
 import re
@@ -81,6 +81,22 @@ class Guide(unittest.TestCase):
         found = module("tools/reference").report_of(read_config(CONFIG)._replace(last_times=1), moment)
         self.assertEqual(found[-1 - len(lines):-1], lines)
         self.assertEqual(len(lines), 8)
+
+
+class Measurements(unittest.TestCase):
+    def test_the_crates_that_the_program_needs(self):
+        rows = {name: below.split() for name, below in re.findall(r"^(\w+)[^:#\n]*:(.*)$", read("crates.txt"), re.M)}
+        needed, waiting = set(), ["daa_program"]
+        while waiting:
+            name = waiting.pop()
+            if name in rows and name not in needed:
+                needed.add(name)
+                waiting += rows[name]
+        self.assertIn(f"The {len(needed)} crates that the program needs", read("docs/MEASUREMENTS.md"))
+
+    def test_the_edits(self):
+        edits = glob.glob(os.path.join(TOP, "crates", "*", "must-fail", "*"))
+        self.assertIn(f"There are {len(edits)} edits now.", read("docs/MEASUREMENTS.md"))
 
 
 class Words(unittest.TestCase):
