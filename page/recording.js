@@ -60,7 +60,10 @@ function daaRecording(root) {
 
   // ---- reading
 
+  const FAR_OR_MANY = "out of range, or more than there may be, in a moment";
+  const COMMA = ": a decimal comma? Write a point";
   const shortened = (line) => line.trim().slice(0, 60);
+  const many = (count, what) => `${count} ${what}${count === 1 || what === "aircraft" ? "" : "s"}`;
   const trimmed = (cell) => cell.replace(/^[ \t"]+|[ \t"]+$/g, "");
 
   /** What stands between fields: in all lines a semicolon where the header has one, so that a comma there is one of a number. */
@@ -146,7 +149,8 @@ function daaRecording(root) {
     valueOf(column, cell, where, line) {
       const isTimeOfDay = column === "time" && cell.includes(":");
       const found = isTimeOfDay ? timeOf(cell) : numberOf(cell);
-      if (found === null) fail(`${where}: no number for ${column}: ${shortened(line)}`);
+      const hint = /^[-+0-9.]*,[0-9]*$/.test(cell) ? COMMA : "";
+      if (found === null) fail(`${where}: no number for ${column}: ${shortened(line)}${hint}`);
       const scaled = isTimeOfDay ? found : found * this.worth[column];
       return Math.abs(scaled) <= GREATEST ? scaled : fail(`${where}: ${shortened(cell)} is too large a number for ${column}`);
     }
@@ -154,7 +158,7 @@ function daaRecording(root) {
     /** A report of an aircraft: s, degrees or NM, ft, knots eastward and northward, ft/min. */
     row(line, number) {
       const cells = cellsOf(line, this.marks);
-      const hint = line.includes(",") ? ": a decimal comma?" : "";
+      const hint = line.includes(",") ? COMMA : "";
       if (cells.length > this.count) fail(`line ${number} has ${cells.length} fields, the header ${this.count}${hint}`);
       if (!cells[this.places.name]) fail(`line ${number}: no name: ${shortened(line)}`);
       const value = (column) => this.valueOf(column, cells[this.places[column]] ?? "", `line ${number}`, line);
@@ -177,7 +181,7 @@ function daaRecording(root) {
     const rows = lines.slice(header.hasUnitLine ? 2 : 1).map(([number, line]) => header.row(line, number));
     if (!rows.length) fail("no report of an aircraft");
     const settings = all.length - lines.length;
-    const notes = settings ? [`${settings} lines KEY = VALUE are left out; a configuration says what they say`] : [];
+    const notes = settings ? [`left out: ${many(settings, "line")} KEY = VALUE; a configuration says what they say`] : [];
     if (header.unused.length) notes.push(`not used: the column${header.unused.length > 1 ? "s" : ""} ${header.unused.join(", ")}`);
     return { rows, onEarth: header.has(["lat", "lon"]), notes };
   }
@@ -218,7 +222,11 @@ function daaRecording(root) {
       Object.assign(this, { rows, onEarth, ids: identifiers([...new Set(rows.map((row) => row.name))]), leftOut: new Map() });
     }
 
-    leaveOut(why) { this.leftOut.set(why, (this.leftOut.get(why) || 0) + 1); }
+    /** Counts what is left out: a thing by its name, and why. */
+    leaveOut(what, why) {
+      const [count] = this.leftOut.get(what + why) || [0];
+      this.leftOut.set(what + why, [count + 1, what, why]);
+    }
 
     /** The ownship's numbers, and the angle by which the plane is turned, so that rounding its track costs nothing. */
     ownOf(row, start) {
@@ -258,11 +266,11 @@ function daaRecording(root) {
         start = start || row;
         const time = wholeSecond(row.time);
         const least = made.length ? made[made.length - 1].time + 1 : 0;
-        if (time < least || time > LAST_SECOND) this.leaveOut("moments in a second that has one already, or out of range");
+        if (time < least || time > LAST_SECOND) this.leaveOut("moment", "in a second that has one already, or out of range");
         else {
           const { own, angle } = this.ownOf(row, start);
           if (own) made.push({ time, own, traffic: this.trafficAt(row, own, angle, latest) });
-          else this.leaveOut("moments whose ownship is out of range");
+          else this.leaveOut("moment", "whose ownship is out of range");
         }
       }
       return made;
@@ -272,9 +280,8 @@ function daaRecording(root) {
       const found = [];
       for (const row of latest.values()) {
         const made = ownRow.time - row.time > OLDEST ? undefined : this.trafficOf(row, ownRow, own, angle);
-        if (made === undefined) this.leaveOut(`aircraft whose report is older than ${OLDEST} s, in a moment`);
-        else if (made === null || found.length === daa.MOST_AIRCRAFT) this.leaveOut("aircraft out of range, or more than there may be, in a moment");
-        else found.push(made);
+        if (made && found.length < daa.MOST_AIRCRAFT) found.push(made);
+        else this.leaveOut("aircraft", made === undefined ? `whose report is older than ${OLDEST} s, in a moment` : FAR_OR_MANY);
       }
       return found;
     }
@@ -298,7 +305,7 @@ function daaRecording(root) {
     const maker = new Maker(rows, onEarth);
     const moments = maker.moments(names.includes(ownName) ? ownName : names[0]);
     for (const [name, short] of maker.ids) if (name !== short) notes.push(`${name} is written ${short}`);
-    notes.push(...[...maker.leftOut].map(([why, count]) => `left out: ${count} ${why}`));
+    for (const [count, what, why] of maker.leftOut.values()) notes.push(`left out: ${many(count, what)} ${why}`);
     if (!moments.length) fail(`no moment is left; ${notes.join("; ")}`);
     return { states: stateLines(moments), names, notes };
   }

@@ -369,23 +369,23 @@ class Recordings(unittest.TestCase):
 
     def test_decimal_commas_are_refused(self):
         """Under a header with semicolons a comma is one of a number; under one with commas there are too many fields."""
-        for mark, told in ((";", "line 2: no number for sx: own;0;0,5;0;1000;0;100;0"), (",", "line 2 has 9 fields, the header 8: a decimal comma?")):
+        for mark, told in ((";", "line 2: no number for sx: own;0;0,5;0;1000;0;100;0"), (",", "line 2 has 9 fields, the header 8")):
             head = mark.join("name time sx sy sz trk gs vs".split())
-            self.assertEqual(self.refusal(f"{head}\n" + mark.join(["own", "0", "0,5", "0", "1000", "0", "100", "0"])), told)
+            self.assertEqual(self.refusal(f"{head}\n" + mark.join(["own", "0", "0,5", "0", "1000", "0", "100", "0"])), f"{told}: a decimal comma? Write a point")
         self.assertEqual(self.refusal("name time sx sy sz trk gs vs\nown 0 0 0 1000 0 100 0 7\n"), "line 2 has 9 fields, the header 8")
 
     def test_what_no_moment_can_be_made_of_is_refused(self):
         head, told = "name,time [h],sx,sy,sz [km],trk,gs,vs\n", "line 2: {} is too large a number for {}"
         for row, why in (("own,0,0,0,1e308,0,0,0", told.format("1e308", "alt")), ("own,1e308,0,0,0,0,0,0", told.format("1e308", "time")),
                          (",0,0,0,0,0,0,0", "line 2: no name: ,0,0,0,0,0,0,0"), ("own,1,0,0,0,0,0,0\nown,0:00,0,0,0,0,0,0", "line 3: no number for time: own,0:00,0,0,0,0,0,0"),
-                         ("own,0,0,0,99,0,0,0", "no moment is left; left out: 1 moments whose ownship is out of range")):
+                         ("own,0,0,0,99,0,0,0", "no moment is left; left out: 1 moment whose ownship is out of range")):
             self.assertEqual(self.refusal(head + row), why)
 
     def test_what_is_told_of_a_recording(self):
         text = ("a = 1\nname,time,sx,sy,sz,trk,gs,vs,colour,vx,vy\nown,0,0,0,0,0,100,0,red,1,1\n"
                 "Intruder12,0,0,0,70000,0,100,0,,,\nlate,0,0,0,0,0,100,0,,,\nown,20,0,0,0,0,100,0,,,\n")
         self.assertEqual(in_node([["recording", text.encode(), None]])[0]["notes"], [
-            "1 lines KEY = VALUE are left out; a configuration says what they say", "not used: the columns colour, vx, vy",
+            "left out: 1 line KEY = VALUE; a configuration says what they say", "not used: the columns colour, vx, vy",
             "Intruder12 is written Intrud12", "left out: 1 aircraft out of range, or more than there may be, in a moment",
             "left out: 2 aircraft whose report is older than 10 s, in a moment"])
 

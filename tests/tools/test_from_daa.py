@@ -51,8 +51,8 @@ class FromDaa(ToolTest):
     def test_semicolons_stand_between_columns_alone(self):
         """Where the header has one, a comma is no mark; a row with more fields than the header is refused."""
         text = "name;time;sx;sy;alt;vx;vy;vs\nown;0;0.5;0;1000;0;100;0\n"
-        for given, part in ((text.replace("0.5", "0,5"), "line 2: no number for sx: 'own;0;0,5;0;1000;0;100;0'"),
-                            (text.replace(";", ",").replace("0.5", "0,5"), "line 2 has 9 fields, the header 8: a decimal comma?"),
+        for given, part in ((text.replace("0.5", "0,5"), "line 2: no number for sx: 'own;0;0,5;0;1000;0;100;0': a decimal comma? Write a point\n"),
+                            (text.replace(";", ",").replace("0.5", "0,5"), "line 2 has 9 fields, the header 8: a decimal comma? Write a point\n"),
                             (PLANE + "Own Ship 0 0 0 0 100 0 0\n", "line 3 has 9 fields, the header 8")):
             status, out, said = self.tool("from_daa", self.write("in.csv", given))
             self.assertEqual((status, out), (3, ""))
@@ -123,7 +123,7 @@ class FromDaa(ToolTest):
         recording = PLANE.replace("[s]", "[h]") + "own 0 0 0 0 100 0 1.13\nown 0 0 0 0 100 0 2e6\n"
         moments, said = self.made(recording)
         self.assertEqual([moment.time for moment in moments], [4068])
-        self.assertIn("left out: 1 moments in a second that has one already, or out of range", said)
+        self.assertIn("left out: 1 moment in a second that has one already, or out of range", said)
 
     def test_names(self):
         moments, said = self.made(PLANE + "own 0 0 0 0 100 0 0\nIntruder1 1 0 0 0 0 0 0\nIntruder2 2 0 0 0 0 0 0\nüü 3 0 0 0 0 0 0\n")
@@ -167,7 +167,7 @@ class FromDaa(ToolTest):
         moments, said = self.made(PLANE + "own 0 0 0 0 100 0 0\nB 9 0 0 0 0 0 0.5\n" + reports + "own 0 0 0 0 100 0 10\nown 0 0 0 0 100 0 10.9\n", "--oldest", "5")
         self.assertEqual([[aircraft.id for aircraft in moment.traffic] for moment in moments], [[], ["A"]])
         self.assertIn("left out: 3 reports of A that no moment has", said)
-        self.assertIn("left out: 1 reports of B that no moment has", said)
+        self.assertIn("left out: 1 report of B that no moment has", said)
         self.assertNotIn("that no moment has", self.made(PLANE + "own 0 0 0 0 100 0 0\nA 1 0 0 0 0 0 0\n")[1])
 
     def test_feet_and_times_of_day(self):
@@ -193,7 +193,10 @@ class FromDaa(ToolTest):
             self.assertEqual((status, out), (3, ""), text)
             self.assert_one_line(said, part)
         self.assertEqual(self.tool("from_daa", "nothing")[0], 7)
-        self.assertEqual(self.tool("from_daa", self.write("in.daa", HEAD + "own 60 10 1 90 150 0 3\n"), "--own", "B")[0], 3)
+        rows = HEAD + "".join(f"{name} 60 10 1 90 150 0 3\n" for name in ("own", "A", "own", "Intruder1"))
+        status, out, said = self.tool("from_daa", self.write("in.daa", rows), "--own", "Intrude1")
+        self.assertEqual((status, out), (3, ""))
+        self.assert_one_line(said, "no report of Intrude1; it has reports of own, A, Intruder1\n")
 
 
 if __name__ == "__main__":

@@ -47,7 +47,7 @@ class FromDaa(ToolTest):
             for number in outside:
                 lines, said = self.made(PLANE + f"{own.format(number)} 0\n", 3)
                 self.assertEqual(lines, [], number)
-                self.assertIn("left out: 1 moments whose ownship is out of range", said)
+                self.assertIn("left out: 1 moment whose ownship is out of range", said)
                 self.assertIn(": no moment is left\n", said)
 
     def test_the_closest_approach_is_looked_for_within_an_hour(self):
