@@ -45,7 +45,7 @@ def on_distance(what, dthr):
     if dthr >= 1500:
         yield (f"{what} = {dthr} is {dthr / 1000:g} nautical miles; if {dthr} feet are meant, write {round(dthr / FEET_PER_MIL)}")
     elif dthr <= 10:
-        yield f"{what} = {dthr} is {dthr / 1000:g} nautical miles; if {dthr} miles are meant, write {1000 * dthr}"
+        yield f"{what} = {dthr} is {dthr / 1000:g} nautical miles; if miles are meant, write {1000 * dthr}"
 
 
 def on_grids(config):
@@ -95,7 +95,8 @@ def on_speeds(moments):
         return []
     speeds = [max([moment.own.gs, *(max(abs(it.vx), abs(it.vy)) for it in moment.traffic)]) for moment in moments]
     if 0 < max(speeds, default=0) < SMALL_SPEED:
-        return [f"no speed is above {max(speeds) / 10:g} knots: speeds are in 0.1 knot, so {max(speeds)} knots would be {10 * max(speeds)}"]
+        return [f"no speed is above {max(speeds) / 10:g} knots: speeds are in 0.1 knot, "
+                f"so {max(speeds)} knot{'s' * (max(speeds) > 1)} would be {10 * max(speeds)}"]
     return []
 
 
@@ -111,5 +112,5 @@ def on_places(moments):
     off = [max(abs(it.x - moment.own.x), abs(it.y - moment.own.y)) for moment in moments for it in moment.traffic]
     if len(off) > 0 and 0 < max(off) <= SMALL_PLACE:
         return [f"no aircraft is farther than {max(off) / 1000:g} nautical miles from the ownship: places are in 0.001 nautical miles, "
-                f"so {max(off)} miles would be {1000 * max(off)}"]
+                f"so {max(off)} mile{'s' * (max(off) > 1)} would be {1000 * max(off)}"]
     return []

@@ -67,6 +67,11 @@ def standard_input():
     return sys.stdin.buffer
 
 
+def unreadable(path, fault):
+    """The problem that a file can't be read."""
+    return Problem(f"{path or 'a file without a name'}: {fault.strerror}", 7)
+
+
 def read_bytes(path):
     """The bytes of a file, or of standard input where the name is `-`."""
     try:
@@ -75,7 +80,7 @@ def read_bytes(path):
         with open(path, "rb") as file:
             return file.read()
     except OSError as fault:
-        raise Problem(f"{path}: {fault.strerror}", 7) from None
+        raise unreadable(path, fault) from None
 
 
 def read_lines(path):
@@ -376,7 +381,7 @@ class Reader:
         fields = FIELDS[word] + ([AGE] if word == "traffic" and self.form == 2 else [])
         if len(values) != len(fields):
             names = " ".join(field.name for field in fields)
-            return 3, f"{word} has {len(values)} fields after it and not {len(fields)}" + f" ({names})" * bool(names)
+            return 3, f"{word} has {len(values)} field{'s' * (len(values) != 1)} after it and not {len(fields)}" + f" ({names})" * bool(names)
         faults = (fault_of_field(word, field, value) for field, value in zip(fields, values))
         return next((fault for fault in faults if fault), None)
 
@@ -641,7 +646,7 @@ def lines_of(path):
         with open(path, "rb") as file:
             yield from file
     except OSError as fault:
-        raise Problem(f"{path}: {fault.strerror}", 7) from None
+        raise unreadable(path, fault) from None
 
 
 def read_report(path):

@@ -168,6 +168,12 @@ class States(ToolTest):
         self.assertEqual(self.tool("check", self.write("c.toml", ""))[0], 3)
         self.assertEqual(self.tool("check")[0], 2)
 
+    def test_one_field_is_told_as_one(self):
+        out = self.tool("check", CONFIG, self.write("in.states", "moment\nmoment 1 2\nend 1\n"))[1].splitlines()
+        self.assertEqual([line.split(": ", 1)[1] for line in out[:3]], [
+            "refused 3: moment has 0 fields after it and not 1 (T)", "refused 3: moment has 2 fields after it and not 1 (T)",
+            "refused 3: end has 1 field after it and not 0"])
+
     def test_each_fault_is_one_plain_line(self):
         """Whatever stands in a key, a value or a field, what is said of it is one line of ASCII."""
         for text in ('"\\n\u00e9" = 1', 'resolve = "\\n\u00e9"', '"\\n" = 1\n"\\n" = 1', "resolve = \u00e9", 'a = "\\\u00e9"', "[\u00e9]", '"\\n" = 1\n["\\n".b]'):
@@ -207,7 +213,7 @@ ADVICE = (
     (("tcpa = 0", "tep = 1"), []),
     (("# last_times = 1", "last_times = 1"), []),
     (("dthr = 660", "dthr = 4000"), [f"level {number}, dthr = 4000 is 4 nautical miles; if 4000 feet are meant, write 658" for number in (1, 2, 3)]),
-    (("dthr = 660", "dthr = 1"), [f"level {number}, dthr = 1 is 0.001 nautical miles; if 1 miles are meant, write 1000" for number in (1, 2, 3)]),
+    (("dthr = 660", "dthr = 1"), [f"level {number}, dthr = 1 is 0.001 nautical miles; if miles are meant, write 1000" for number in (1, 2, 3)]),
     (("min = 500\nmax = 7000\nstep = 100\nrate = 20", "min = 50\nmax = 700\nstep = 10\nrate = 2"),
      ["gs goes up to 700, 70 knots; if 700 knots are meant", "gs.rate = 2 is 0.2 knots a second; if knots are meant, write 20"]),
     (("min = -5000\nmax = 5000", "min = -83\nmax = 83"), ["vs goes up to 17 feet a minute; if feet a second are meant"]),
@@ -223,7 +229,9 @@ STATES_ADVICE = (
      ["the ownship flies 10.0 times as far as its ground speed says"]),
     ("moment 0\nown 0 0 10000 0 360 0\ntraffic A 3000 8000 10000 -135 0 0\nend\n", ["no speed is above 36 knots"]),
     ("moment 0\nown 0 0 10000 0 360 0\ntraffic A 3000 8000 0 0 0 0\nend\nmoment 10\nown 0 100 10000 0 360 0\nend\n", []),
+    ("moment 0\nown 0 0 10000 0 1 0\nend\n", ["so 1 knot would be 10"]),
     ("moment 0\nown 0 0 10000 0 3600 0\n" + NEAR + "end\n", ["no aircraft is farther than 0.008 nautical miles from the ownship"]),
+    ("moment 0\nown 0 0 10000 0 3600 0\n" + NEAR.replace("3 8", "0 1") + "end\n", ["so 1 mile would be 1000"]),
     ("moment 0\nown 0 0 10000 0 3600 0\n" + NEAR + FAR.replace("A", "B") + "end\n", []),
     ("moment 0\nown 0 0 10000 0 3600 0\ntraffic A 0 0 10000 -1350 0 0\nend\n", []),
     ("moment 0\nown 0 0 10000 0 3600 0\n" + FAR.replace("0 0\n", "0 0 2\n") + "end\n", ["write the line `format 2` before the first moment"]),

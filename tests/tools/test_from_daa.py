@@ -197,6 +197,7 @@ class FromDaa(ToolTest):
         status, out, said = self.tool("from_daa", self.write("in.daa", rows), "--own", "Intrude1")
         self.assertEqual((status, out), (3, ""))
         self.assert_one_line(said, "no report of Intrude1; it has reports of own, A, Intruder1\n")
+        self.assertEqual(self.tool("from_daa", self.write("in.daa", rows), "--own", "")[:2], (3, ""))
 
 
 if __name__ == "__main__":

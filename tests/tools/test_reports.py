@@ -55,6 +55,15 @@ class Reports(ToolTest):
                 self.assert_one_line(said, part)
         self.assertEqual([self.tool(*words)[0] for words in (["summary", "x"], ["draw", "x"], ["compare", "x", "y"])], [7, 7, 7])
 
+    def test_a_name_that_is_empty_is_of_no_file(self):
+        """As a variable of a shell that has no value gives one: it is not as if the word were left out."""
+        config = os.path.join(TOP, "examples", "three_levels.toml")
+        for words in (["summary", ""], ["compare", self.report, ""], ["draw", "--states", "", self.report], ["check", ""],
+                      ["check", "--advice", config, ""], ["from_daa", ""]):
+            status, out, said = self.tool(*words)
+            self.assertEqual((status, out), (7, ""), words)
+            self.assert_one_line(said, f"{words[0]}: a file without a name: No such file or directory\n")
+
     def test_a_report_that_was_cut(self):
         path = self.write("b.report", REPORT[:-20])
         status, out, said = self.tool("summary", path)
@@ -269,6 +278,7 @@ class Pipes(unittest.TestCase):
             self.assertEqual((out.returncode, out.stderr), (0, ""))
             self.assertRegex(out.stdout, r"\nStatus: 0(.|\n)*\b5 nobody\s+reads", tool)
             self.assertRegex(out.stdout, rf"\n  (\./daidalus .*\| )?tools/{tool} ", tool)
+            self.assertLessEqual(max(map(len, out.stdout.splitlines())), 128, tool)
 
     def test_the_list_of_tools_is_whole(self):
         self.assertEqual(tools_for_users(), set(TOOLS))
