@@ -145,20 +145,20 @@ static int take_line(const struct daa_config *config, struct table *table, const
     struct own_report own = {.known = 1};
     struct track track = {0};
     struct daa_traffic *it = &track.traffic;
-    char id[9] = {0};
+    char id[10] = {0}, rest; /* one byte more than a name may have: a longer one must not pass a part of itself on as x */
     long long now;
-    if (sscanf(line, "own %lld %d %d %d %d %d %d", &own.time, &own.own.x, &own.own.y, &own.own.alt, &own.own.trk, &own.own.gs,
-               &own.own.vs) == 7) {
+    if (sscanf(line, "own %lld %d %d %d %d %d %d %c", &own.time, &own.own.x, &own.own.y, &own.own.alt, &own.own.trk,
+               &own.own.gs, &own.own.vs, &rest) == 7) {
         table->own = own;
         return 1;
     }
-    if (sscanf(line, "traffic %lld %8s %d %d %d %d %d %d", &track.time, id, &it->x, &it->y, &it->alt, &it->vx, &it->vy,
-               &it->vs) == 8) {
+    if (sscanf(line, "traffic %lld %9s %d %d %d %d %d %d %c", &track.time, id, &it->x, &it->y, &it->alt, &it->vx, &it->vy,
+               &it->vs, &rest) == 8 && strlen(id) <= DAA_MOST_ID) {
         memcpy(it->id, id, sizeof it->id);
         take_traffic(table, &track);
         return 1;
     }
-    if (sscanf(line, "tick %lld", &now) == 1 && now >= 0 && now <= UINT32_MAX) {
+    if (sscanf(line, "tick %lld %c", &now, &rest) == 1 && now >= 0 && now <= UINT32_MAX) {
         decide(config, table, now);
         return 1;
     }
