@@ -91,7 +91,7 @@
     let before = 0;
     state.refused = [];
     for (const event of events) if (event.moment) before += 1; else state.refused.push({ ...event, before });
-    if (state.refused.length) told = [...told, `${name}: ${state.refused.length} lines were refused`];
+    if (state.refused.length) told = [...told, `${name}: ${state.refused.length} ${state.refused.length === 1 ? "line was" : "lines were"} refused`];
     pause();
     Object.assign(state, { moments, name, told, index: 0, chosen: "p:", unfolded: false });
     $("slider").max = moments.length - 1;

@@ -31,7 +31,8 @@ class Tables(ToolTest):
     def test_a_row_for_each_moment_and_aircraft(self):
         rows, said = self.table(REPORT, "aircraft")
         self.assertEqual(rows, AIRCRAFT)
-        self.assert_one_line(said, "1 refused lines are in no row")
+        self.assert_one_line(said, "1 refused line is in no row: trust no row after it\n")
+        self.assert_one_line(self.table(REPORT + "refused 10 6\n", "aircraft")[1], "2 refused lines are in no row: trust no row after the first of them\n")
 
     def test_a_row_for_each_moment_and_kind(self):
         rows, _ = self.table(REPORT, "kinds")
