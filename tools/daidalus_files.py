@@ -377,7 +377,8 @@ class Reader:
     def fault_of_form(self, word, values):
         """The code and the cause, where the line is wrong by itself."""
         if word not in FIELDS:
-            return 2, f"{word!a} is none of the words {', '.join(FIELDS)}"
+            hint = "; a byte order mark stands before it: save the file without one" * word.startswith("\xef\xbb\xbf")
+            return 2, f"{word!a} is none of the words {', '.join(FIELDS)}{hint}"
         fields = FIELDS[word] + ([AGE] if word == "traffic" and self.form == 2 else [])
         if len(values) != len(fields):
             names = " ".join(field.name for field in fields)

@@ -168,6 +168,13 @@ class States(ToolTest):
         self.assertEqual(self.tool("check", self.write("c.toml", ""))[0], 3)
         self.assertEqual(self.tool("check")[0], 2)
 
+    def test_a_byte_order_mark_is_told(self):
+        """Some editors write one before a text in UTF-8; the first line is refused then."""
+        out = self.tool("check", CONFIG, self.write("in.states", b"\xef\xbb\xbfmoment 0\nown 0 0 0 0 0 0\n"))[1].splitlines()
+        self.assertIn("refused 2: ", out[0])
+        self.assertTrue(out[0].endswith("; a byte order mark stands before it: save the file without one"), out[0])
+        self.assertNotIn("byte order mark", "".join(out[1:]))
+
     def test_one_field_is_told_as_one(self):
         out = self.tool("check", CONFIG, self.write("in.states", "moment\nmoment 1 2\nend 1\n"))[1].splitlines()
         self.assertEqual([line.split(": ", 1)[1] for line in out[:3]], [
