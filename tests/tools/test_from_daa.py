@@ -84,6 +84,17 @@ class FromDaa(ToolTest):
         _, said = self.made(PLANE + "own 0 0 0 0 100 100.4 0\nA 1 0 0 0 0 200.6 0\n")
         self.assertIn("vertical speed 0.8 ft/min", said)
 
+    def test_of_what_is_lost_the_greatest_counts(self):
+        """0.8 at the first moment and 0.2 at the second."""
+        rows = "".join(f"own 0 0 0 0 100 {own} {time}\nA 1 0 0 0 0 {other} {time}\n" for own, other, time in ((100.4, 200.6, 0), (100.4, 200.2, 1)))
+        self.assertIn("vertical speed 0.8 ft/min", self.made(PLANE + rows)[1])
+
+    def test_the_closest_approach_is_one_to_come(self):
+        """Now, of an aircraft that flies away: 10 NM in both. Where it came by, a fifth of an hour ago, 3.04 knots make 0.608 NM and 3.0 0.6."""
+        for north, lost in (("50", "0.0000"), ("-50", "0.0080")):
+            _, said = self.made(PLANE + f"own 0 0 0 0 100 0 0\nA 0 10 0 3.04 {100 + float(north)} 0 0\n")
+            self.assertIn(f"distance at the closest approach {lost} NM", said)
+
     def test_units_in_a_line_of_their_own(self):
         text = ("id,x,y,z,vx,vy,vz,time\n,km,km,ft,kt,kt,fpm,min\nown,0,0,0,0,60,0,0\nA,1.852,0,0,0,0,0,0\n"
                 "own,0,0,0,0,60,0,1\nA,0,0,0,0,0,0,1\n")
@@ -118,6 +129,11 @@ class FromDaa(ToolTest):
         self.assertEqual([moment.time for moment in moments], [0, 1, 2])
         self.assertIn("left out: 22 moments in a second that has one already", said)
 
+    def test_a_second_before_the_first_one_is_left_out(self):
+        moments, said = self.made(PLANE + "".join(f"own 0 0 0 0 100 0 {time}\n" for time in (-5, -0.5, 0, 1)))
+        self.assertEqual([moment.time for moment in moments], [0, 1])
+        self.assertIn("left out: 2 moments in a second that has one already, or out of range", said)
+
     def test_times_in_other_units(self):
         """1.13 hours are 4068 s, though in floating point 1.13 * 3600 is a little less."""
         recording = PLANE.replace("[s]", "[h]") + "own 0 0 0 0 100 0 1.13\nown 0 0 0 0 100 0 2e6\n"
@@ -142,6 +158,15 @@ class FromDaa(ToolTest):
         moments, said = self.made(PLANE + "own 0 0 0 0 100 0 0\nA 201 0 0 0 0 0 0\nB 1 0 61000 0 0 0 0\nC 199 0 0 0 0 0 0\n")
         self.assertEqual([aircraft.id for aircraft in moments[0].traffic], ["C"])
         self.assertIn("left out: 2 aircraft out of range", said)
+
+    def test_two_aircraft_at_one_place(self):
+        moments, _ = self.made(PLANE + "own 0 0 0 0 100 0 0\nA 1 0 0 0 0 0 0\nB 1 0 0 0 0 0 0\n")
+        self.assertEqual([aircraft.id for aircraft in moments[0].traffic], ["A", "B"])
+
+    def test_the_aircraft_past_the_64th_are_left_out(self):
+        moments, said = self.made(PLANE + "".join(f"T{number} {number} 0 0 0 0 0 0\n" for number in range(66)) + "own 0 0 0 0 100 0 0\n", "--own", "own")
+        self.assertEqual([aircraft.id for aircraft in moments[0].traffic], [f"T{number}" for number in range(64)])
+        self.assertIn("left out: 2 aircraft out of range, or more than there may be, in a moment", said)
 
     def test_the_example(self):
         status, out, said = self.tool("from_daa", os.path.join(TOP, "examples", "recording.daa"))

@@ -100,6 +100,16 @@ class FromParameters(ToolTest):
                               "from_parameters: step_hs = 5 [m/s] is rounded: 97.1922 to gs.step = 97 (0.1 kt)"}, set(said))
         self.refused(TOP.replace("turn_rate = 3 [deg/s]", "turn_rate = 0.05 [rad/s]") + LEVELS, "that is 2.86479 of turn_rate")
 
+    def test_accelerations_in_the_other_units(self):
+        """A tenth of 9.80665 m/s^2 is 0.980665 * 3600 / 1852 = 1.9063 knots a second; 2 m/s^2 are 2 * 60 / 0.3048 = 393.70 ft/min a second."""
+        text = TOP.replace("horizontal_accel = 2 [m/s^2]", "horizontal_accel = 0.1 [G]").replace("vertical_accel = 0.25 [G]", "vertical_accel = 2 [m/s^2]")
+        made, _ = self.made(text + LEVELS)
+        self.assertEqual((made["gs"]["rate"], made["vs"]["rate"]), (19, 394))
+
+    def test_no_level_looks_farther_ahead_than_the_lookahead_time(self):
+        made, _ = self.made(TOP.replace("lookahead_time = 180 [s]", "lookahead_time = 60.9 [s]") + LEVELS)
+        self.assertEqual([each["lookahead"] for each in made["level"]], [60, 60, 55])
+
     def test_recoveries(self):
         """The distance is taken as it stands, with the warning; or the one that is given."""
         made, said = self.made(TOP + RECOVERY + LEVELS)
