@@ -4,7 +4,7 @@ import unittest
 
 from common import CONFIG, TOP, ToolTest, module, replayed
 from daidalus_files import Moment, Reader, examine_config
-from test_toml import ONLY_1_1
+from test_toml import LONGEST, ONLY_1_1
 
 PLAIN = """resolve = 1
 turn_rate = 3
@@ -91,7 +91,7 @@ class Configurations(ToolTest):
         text = PLAIN.replace("rate = 10 }", "rate = 10, # and no more\n }")
         self.assertEqual(self.tool("check", self.write("c.toml", text)), (0, "", ""))
         self.assertEqual(replayed(self.write("c.toml", text), b"")[0], 0)
-        for more in ONLY_1_1:
+        for more in (*ONLY_1_1, *LONGEST):
             text = more if more.startswith("\ufeff") else PLAIN.replace("gs =", "_ =", 1) + "\n" + more
             status, written = replayed(self.write("c.toml", text), b"")
             self.assertEqual(written, f"config {examine_config(text.encode())[1][0].code}\n".encode(), text)
@@ -150,6 +150,14 @@ class States(ToolTest):
             "in:4: refused 9: moment 5 is not later than moment 5", "in:5: refused 7: own while no moment is open",
             "in:6: refused 7: end while no moment is open", "in: lines 5 to 6 belong to no moment"])
 
+    def test_tells_of_lines_between_moments(self):
+        """One, two and one of them, each before the moment that comes next."""
+        moments = [f"moment {time}\nown 0 0 0 0 0 0\nown 0 0 0 0 0 0\nend\n" for time in (1, 2)]
+        out = self.tool("check", CONFIG, self.write("in.states", "end\n" + moments[0] + "end\nend\n" + moments[1] + "end\n"))[1]
+        self.assertEqual([line.split(": ")[1] for line in out.splitlines() if ": refused " not in line], [
+            "line 1 belongs to no moment", "moment 1 keeps its first ownship", "lines 6 to 7 belong to no moment",
+            "moment 2 keeps its first ownship", "line 12 belongs to no moment"])
+
     def test_tells_of_what_a_moment_has_too_often(self):
         """A second ownship, and a sixty-fifth aircraft."""
         aircraft = "".join(f"traffic T{number} 0 {number} 0 0 0 0\n" for number in range(1, 66))
@@ -180,6 +188,13 @@ class States(ToolTest):
         self.assertEqual([line.split(": ", 1)[1] for line in out[:3]], [
             "refused 3: moment has 0 fields after it and not 1 (T)", "refused 3: moment has 2 fields after it and not 1 (T)",
             "refused 3: end has 1 field after it and not 0"])
+
+    def test_states_are_looked_at_also_under_a_refused_configuration(self):
+        """The status is then that of the configuration."""
+        status, out, _ = self.tool("check", self.write("c.toml", PLAIN.replace("dthr = 660", "dthr = 0")), f"{TOP}/examples/lines.states")
+        self.assertEqual((status, out.count("\n")), (3, 2))
+        self.assertIn("c.toml: config 6: level 1, dthr = 0 is outside", out)
+        self.assertIn("lines.states:18: refused 13: moment 50 has no ownship", out)
 
     def test_each_fault_is_one_plain_line(self):
         """Whatever stands in a key, a value or a field, what is said of it is one line of ASCII."""
@@ -222,9 +237,9 @@ ADVICE = (
     (("dthr = 660", "dthr = 4000"), [f"level {number}, dthr = 4000 is 4 nautical miles; if 4000 feet are meant, write 658" for number in (1, 2, 3)]),
     (("dthr = 660", "dthr = 1"), [f"level {number}, dthr = 1 is 0.001 nautical miles; if miles are meant, write 1000" for number in (1, 2, 3)]),
     (("min = 500\nmax = 7000\nstep = 100\nrate = 20", "min = 50\nmax = 700\nstep = 10\nrate = 2"),
-     ["gs goes up to 700, 70 knots; if 700 knots are meant", "gs.rate = 2 is 0.2 knots a second; if knots are meant, write 20"]),
-    (("min = -5000\nmax = 5000", "min = -83\nmax = 83"), ["vs goes up to 17 feet a minute; if feet a second are meant"]),
-    (("max = 50000\nstep = 500", "max = 500\nstep = 5"), ["alt goes up to 500 feet; if flight levels are meant"]),
+     ["gs goes up to 700, 70 knots; if 700 knots are meant, write ten times each number of gs", "gs.rate = 2 is 0.2 knots a second; if knots are meant, write 20"]),
+    (("min = -5000\nmax = 5000", "min = -83\nmax = 83"), ["vs goes up to 17 feet a minute; if feet a second are meant, write 60 times each number of vs"]),
+    (("max = 50000\nstep = 500", "max = 500\nstep = 5"), ["alt goes up to 500 feet; if flight levels are meant, write 100 times each number of alt"]),
     (("# [recovery]\n# hdist = 82\n# vdist = 100", "[recovery]\nhdist = 660\nvdist = 450"), ["recovery.hdist = 660 is as far as the level itself"]),
     (("tthr = 35", "tthr = 30"), ["level 2 reaches farther than level 1 (tthr 30 and 35)"]),
     (("tcoa = 0\nlookahead = 55", "tcoa = 5\nlookahead = 55"), ["level 3 reaches farther than level 2 (tcoa 0 and 5)"]),
@@ -288,6 +303,12 @@ class Advice(ToolTest):
         text = text.replace("max = 0", "max = 200").replace("resolve = 1", "resolve = 1\nrecovery = { hdist = 400, vdist = 100 }")
         self.assert_advice(self.advised(self.write("c.toml", text))[1], ["recovery.hdist = 400 is as far as the level itself"])
         self.assert_advice(self.advised(self.write("c.toml", text.replace("hdist = 400", "hdist = 299")))[1], [])
+
+    def test_the_distance_of_a_level_below_the_corrective_one_does_not_count(self):
+        """Level 1 has 300, and recoveries are at 400; the corrective level has 660."""
+        with open(f"{TOP}/examples/recovery.toml", encoding="utf-8") as file:
+            text = file.read().replace("dthr = 660", "dthr = 300", 1).replace("hdist = 82", "hdist = 400")
+        self.assert_advice(self.advised(self.write("c.toml", text))[1], ["level 2 reaches farther than level 1 (dthr 300 and 660)"])
 
     def test_another_file_in_the_configurations_place(self):
         self.assert_advice(self.advised(self.write("in.states", "moment 0\nend\n"))[1], ["these are state lines: the configuration comes first"])

@@ -32,8 +32,10 @@ REFUSED = (
     "a = tru", "a = 1\na = 2", "a = 1\n[a]", "[a]\n[a]", "[a]\nb = 1\n[a.b]", "a = {b = 1}\n[a.c]", "a = {b = 1}\na.c = 2", "a = [{}]\n[[a]]",
     "[[a]]\n[a]", "[a.b]\nc = 1\n[a]\nb.d = 2", "a = {b = 1, b = 2}", "a = {,}", "a = {b = 1,,}", "a = [,]", "a = [1", "a = {b = 1", "[a", "[[a]",
     "[]", "[ [a]]", 'a = "x', 'a = "x\ny"', "a = 'x\x01'", "a = 1 # \x7f", "a = 1\r", "\r", "a = 1\rb = 2", r'a = "\q"', r'a = "\ud800"',
-    r'a = "\x4"', 'a = """a""""""', "a = 2021-02-29", "a = 2021-13-01", "a = 24:00", "a = 23:60", "a = 07:32.5", "a = 1979-05-27T07:32+24:00",
+    r'a = "\x4"', 'a = """a""""""', "a = 2021-02-29", "a = 1900-02-29", "a = 2021-13-01", "a = 24:00", "a = 23:60", "a = 07:32.5", "a = 1979-05-27T07:32+24:00",
     "a = 1\0", "a\n= 1", "a = \n1", "a b = 1", "a..b = 1", ".a = 1", "a. = 1", "{}", "a = 1, b = 2")
+# The longest key and the deepest array.
+LONGEST = (".".join("a" * 80) + " = 1", "a = " + "[" * 80 + "]" * 80, "a = 2000-02-29")
 # What tomllib takes and the program's reader refuses.
 ONLY_TOMLLIB = ("a = 9223372036854775808", "a = -9223372036854775809", "a = 1e999", "a = " + "[" * 81 + "]" * 81, ".".join("a" * 81) + " = 1")
 
@@ -72,6 +74,10 @@ class Toml(unittest.TestCase):
         for text, wanted in BOTH.items():
             self.assertEqual(read_toml(text.encode()), wanted, text)
             self.assertEqual(tomllib.loads(text), wanted, text)
+
+    def test_takes_the_longest_key_and_the_deepest_array(self):
+        for text in LONGEST:
+            self.assertEqual(without_scalars(read_toml(text.encode())), plain(tomllib.loads(text)))
 
     def test_refuses(self):
         for text in REFUSED:
