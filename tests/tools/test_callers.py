@@ -87,6 +87,25 @@ class ProgramInPython(unittest.TestCase):
             self.assertEqual(status, 1)
             self.assertIn("missing", said)
 
+class Sentences(unittest.TestCase):
+    """Each code of the header that is no 0 is told by its own words, in Python and, where Rust has a sentence for it, there too."""
+
+    WORDS = {"CONFIG_TOO_LONG": "65536 bytes", "CONFIG_NOT_TOML": "TOML", "CONFIG_UNKNOWN_KEY": "not known", "CONFIG_MISSING_KEY": "lacks",
+             "CONFIG_NOT_NUMBER": "whole number", "CONFIG_OUT_OF_RANGE": "divide 360", "CONFIG_LEVELS": "resolve", "CONFIG_TOO_MANY": "512 candidates",
+             "BAD_OWN": "the ownship", "BAD_TRAFFIC": "an aircraft is out", "TOO_MANY": "64 aircraft", "SHORT": "too short", "NO_MEMORY": "memory",
+             "BAD_ID": "an identifier is not", "SAME_ID": "two aircraft", "BAD_KIND": "the kind", "BAD_SIDE": "side", "BAD_INDEX": "index",
+             "NOT_ASKED": "ask", "BAD_BOARD": "board"}
+
+    def test_in_python_and_in_rust(self):
+        text = pathlib.Path(TOP, "crates/daa_c/include/daidalus.h").read_text(encoding="utf-8")
+        numbers = dict(re.findall(r"DAA_(\w+) = (\d+)", re.search(r"enum \{(.*?)\};", text, re.S)[1]))
+        codes = {int(number): self.WORDS[name] for name, number in numbers.items() if name != "OK"}
+        found = {code: [words for words in self.WORDS.values() if words in sentence] for code, sentence in daidalus.SENTENCES.items()}
+        self.assertEqual(found, {code: [words] for code, words in codes.items()})
+        rust = re.findall(r'(?m)^ +(\d+) => "([^"]+)",$', pathlib.Path(TOP, "examples/rust/src/lib.rs").read_text(encoding="utf-8"))
+        self.assertGreater(len(rust), 14)
+        self.assertLessEqual({(int(code), sentence) for code, sentence in rust}, set(daidalus.SENTENCES.items()))
+
 
 if __name__ == "__main__":
     unittest.main()

@@ -78,6 +78,16 @@ class Pictures(ToolTest):
         """After the first of two moments: at half of the width."""
         self.assertIn('d="M560 ', re.findall(r'<path d="[^"]*v-9"', self.picture(REPORT)[1])[-1])
 
+    def test_refused_lines_after_the_last_moment_are_marked_at_the_end(self):
+        marks = re.findall(r'<path d="(M\d+) [^"]*v-9"', self.picture(REPORT + "refused 30 7\n")[1])
+        self.assertEqual(marks[1:], ["M560", "M970"])
+
+    def test_no_two_levels_have_one_colour(self):
+        self.assertEqual(len(set(draw.COLOURS)), 5)
+        root, _ = self.picture(REPORT.replace("alert A 2 0", "alert A 4 0"))
+        legend = [box.get("fill") for box in root.iter("{http://www.w3.org/2000/svg}rect") if (box.get("width"), box.get("height")) == ("14", "12")]
+        self.assertEqual(legend, list(draw.COLOURS))
+
     def test_an_old_report_is_flown_on(self):
         """36 s at -135 knots are 1.35 NM, and at 100 ft/min 60 ft."""
         text = "format 2\n" + STATES.replace("10000 -1350 0 0", "10000 -1350 0 100 36").replace("11000 -1350 0 0", "11000 -1350 0 0 0")
@@ -126,6 +136,12 @@ class Pictures(ToolTest):
                  and path.get("stroke") != "#222222"]
         self.assertEqual([re.sub(r" [\d.]+H", " YH", d) for d in lines], ["M560 YH970"])
         self.assertNotIn("last times", self.words(self.picture(REPORT)[0]))
+
+    def test_a_line_of_last_times_ends_where_there_is_none(self):
+        """Track has 3 s at the first moment, and none at the second."""
+        text = REPORT.replace("done 0", "last track 3\ndone 0").replace("recover track", "last track none\nrecover track")
+        lines = [path.get("d") for path in self.picture(text)[0].iter("{http://www.w3.org/2000/svg}path") if path.get("stroke") == draw.KIND_LINES["track"]]
+        self.assertEqual([re.sub(r" [\d.]+H", " YH", d) for d in lines if "H" in d], ["M150 YH560"])
 
     def test_each_kind_has_a_line_of_its_last_times_in_the_colour_of_its_name(self):
         """Seconds 6, 4, 2 and 0 are at four heights, the least at the foot; the names stand in the order of the kinds."""

@@ -90,6 +90,14 @@ class WholeEncounters(ToolTest):
         self.assertEqual(set(counts), {"straight", "track", "gs", "vs"})
         self.assertTrue(all(math.isclose(counts[kind], 40, abs_tol=25) for kind in ("track", "gs", "vs")), counts)
 
+    def test_speeds_are_60_to_400_knots_and_climbs_up_to_1500_feet_a_minute(self):
+        """At the beginning and where a manoeuvre leads to."""
+        flights = [encounters.Flight(encounters.Generator.of_seed(seed), 60) for seed in range(2000)]
+        for kind, low, high in (("gs", 600, 4000), ("vs", -1500, 1500)):
+            found = [getattr(it, kind) for it in flights], [it.target for it in flights if it.kind == kind]
+            for values in found:
+                self.assertTrue(low <= min(values) < low + 100 and high - 100 < max(values) <= high, (kind, min(values), max(values)))
+
     def test_words_that_are_not_taken(self):
         for words in (["--seed", "1"], ["--seed", "-1", "--count", "1"], ["--seed", "1", "--count", "0"],
                       ["--seed", "1", "--count", "1", "--seconds", "601"], ["--seed", "1", "--count", "1", "--from", "-1"],

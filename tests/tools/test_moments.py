@@ -4,6 +4,7 @@ import unittest
 
 from common import CONFIG, ToolTest, module, program, replayed
 from daidalus_files import Moment, Reader, read_config
+from headings import velocity
 
 moments = module("tools/moments")
 
@@ -51,6 +52,20 @@ class Lines(ToolTest):
         alerts = [line.split()[2] for line in report if line.startswith("alert")]
         self.assertEqual(len(alerts), len(ages))
         self.assertLess(alerts.count("0"), len(alerts) / 4)
+
+    def test_aimed_aircraft_pass_near_the_ownship(self):
+        """At a second from 0 to 70 each is within 0.6 NM to each side, which is 0.85 NM, and 600 feet of the present flight, but for rounding."""
+        draw = moments.Generator.of_seed(5)
+        ages = []
+        for _ in range(200):
+            own, traffic = moments.aimed_moment(draw)
+            speed = (*velocity(own.gs, own.trk), own.vs)
+            for it in traffic:
+                off = [[abs(there + rate * (second + it.age) / size - here - way * second / size)
+                        for here, way, there, rate, size in zip(own[:3], speed, it[1:4], it[4:7], (36, 36, 60))] for second in range(71)]
+                self.assertTrue(any(max(each) <= 602 for each in off), (own, it))
+                ages.append(it.age)
+        self.assertGreater(sum(age > 10 for age in ages), 20)
 
     def test_the_same_seed_gives_the_same_lines(self):
         one, other = (self.tool("moments", "--seed", "5", "--moments", "4", "--aimed") for _ in range(2))

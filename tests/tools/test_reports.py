@@ -71,6 +71,9 @@ class Reports(ToolTest):
         self.assert_one_line(said, "the report ends within a moment")
         self.assertEqual(self.tool("compare", path, path)[0], 0)
         self.assertEqual(self.tool("compare", self.report, path)[0], 1)
+        status, out, said = self.tool("compare", self.report, self.write("c.report", REPORT + "moment 20\n"))
+        self.assertEqual((status, "moment 20" in out), (1, False))
+        self.assert_one_line(said, "the report ends within a moment")
 
     def test_summary(self):
         status, out, said = self.tool("summary", self.report)
@@ -86,6 +89,13 @@ class Reports(ToolTest):
         self.assertEqual(out.splitlines()[:4], ["of,what,value,moments,first,last,encounters", "A,alert,2,2,0,10,1", "A,now,1,1,10,10,1",
                                                 "track,answer,none,1,10,10,1"])
         self.assertEqual(out.splitlines()[-1], "input,refused,6,1,9,9,")
+
+    def test_summary_tells_the_least_and_the_greatest(self):
+        """Of the times, also where the last moment has not the greatest, and of the numbers of refused lines."""
+        report = self.write("b.report", REPORT + "refused 12 6\n" + REPORT.split("refused")[0])
+        out = self.tool("summary", "--csv", report)[1].splitlines()
+        self.assertLessEqual({"A,alert,2,3,0,10,2", "gs,answer,keep,3,0,10,2", "input,refused,6,2,9,12,"}, set(out))
+        self.assertEqual(self.tool("summary", report)[1].splitlines()[-1], "refused 6: 2 lines, 9 to 12")
 
     def test_summary_by_encounter(self):
         """Two reports end to end: in the first A alerts twice, in the second once; the second begins at time 0 again."""
@@ -217,6 +227,11 @@ class Reports(ToolTest):
         found = list(compare.differences(reports, compare.paired_encounters(paths, reports), totals))
         self.assertGreater(len(found), 300)
         self.assertLessEqual(time.process_time() - began, 3 * read + 0.1)
+
+    def test_an_answer_beyond_north_differs_by_the_turn(self):
+        one, other = REPORT.replace("right 10", "right 355"), REPORT.replace("right 10", "right 5")
+        out = self.tool("compare", self.write("b.report", one), self.write("c.report", other))[1].splitlines()
+        self.assertIn("resolve track: 1 of 4 differ, 25.0 % (1 by +10)", out)
 
     def test_turns_go_the_short_way(self):
         self.assertEqual([compare.turn(*pair) for pair in ((10, 15), (15, 10), (355, 5), (5, 355), (0, 180), (0, 185))],

@@ -41,6 +41,14 @@ class Tables(ToolTest):
                                                                   "1,10,alt,0 50000 0,keep,,,,,,,,bands"])
         self.assertEqual(len(rows), 1 + 2 * 4)
 
+    def test_on_which_sides_a_candidate_is_open(self):
+        for left, right, wanted in (("350", "10", "both,350,10"), ("350", "none", "lower,350,"), ("none", "10", "upper,,10"), ("none", "none", "none,,"),
+                                    ("keep", "keep", "keep,,")):
+            text = moment(0, 1).replace("resolve track left keep right keep", f"resolve track left {left} right {right}")
+            self.assertEqual(self.table(text, "kinds")[0][1], f"1,0,track,0 355 0,{wanted},,,,,,new")
+            out = self.tool("summary", self.write("a.report", text))[1].splitlines()
+            self.assertIn(f"track: answer {wanted.split(',')[0]} at 1 moment, 0 s", out)
+
     def test_a_row_for_each_band(self):
         rows, _ = self.table(REPORT, "bands")
         self.assertEqual(rows[:4], ["encounter,time,kind,from,upto,level", "1,0,track,0,5,3", "1,0,track,10,180,0", "1,0,track,185,355,3"])
@@ -129,6 +137,11 @@ class SteadyAlerts(ToolTest):
     def test_an_encounter_begins_with_nothing(self):
         text = moment(0, 3) + moment(1, 3) + moment(0, 3) + moment(1, 3)
         self.assertEqual(self.levels(text, "--m", "2", "--n", "2", "--hold", "9"), {"A": [0, 3, 0, 3]})
+
+    def test_what_is_taken_where_nothing_is_said(self):
+        """Two of four moments, and 5 s: 3 counts from 3 s on, was so last at 3 s, and stands until 8 s."""
+        text = "".join(moment(time, level) for time, level in enumerate((3, 0, 0, 3, 0, 0, 0, 0, 0, 0)))
+        self.assertEqual(self.levels(text), {"A": [0, 0, 0, 3, 3, 3, 3, 3, 3, 0]})
 
     def test_a_moment_is_passed_on_at_once(self):
         """The lines of the first moment come while the second is not yet written."""
