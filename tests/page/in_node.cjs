@@ -1,7 +1,7 @@
 /* node in_node.cjs PAGE < JSON [[word, ..], ..]: runs the page's scripts that need no browser on each task, and writes the JSON
  * list of the answers. Tasks: [replay, TOML, states], [faults, TOML], [read, TOML], [report, text], [config, struct],
- * [recording, text, ownship], [columns], [room, TOML, states], [named, TOML, states], [strip, levels], [trap, TOML, states]; texts
- * are bytes in base64. */
+ * [recording, text, ownship], [columns], [room, TOML, states], [named, TOML, states], [strip, levels], [trap, TOML, states],
+ * [display, TOML, states, report, look], [over_time, TOML, states]; texts are bytes in base64. */
 "use strict";
 const fs = require("fs");
 const path = require("path");
@@ -11,6 +11,20 @@ const page = process.argv[2];
 const run = (name) => vm.runInThisContext(fs.readFileSync(path.join(page, `${name}.js`), "utf8"));
 ["engine.wasm", "core", "toml", "recording"].forEach(run);
 const bytesOf = (text) => new Uint8Array(Buffer.from(text, "base64"));
+
+/** Runs the scripts that draw, over what they need of a document: elements that keep what is put into them, and letters of one width. */
+function runDrawing() {
+  const element = () => {
+    const [attributes, parts] = [{}, {}];
+    return { attributes, parts, innerHTML: "", append() {}, remove() {}, setAttribute: (name, value) => { attributes[name] = String(value); },
+      getAttribute: (name) => attributes[name] ?? null, querySelector: (selector) => (parts[selector] ??= element()) };
+  };
+  const made = [];
+  globalThis.document = { createElement: () => ({ getContext: () => ({ measureText: (words) => ({ width: 60 * words.length }) }) }),
+    createElementNS: () => made[made.push(element()) - 1] };
+  ["labels", "draw", "strip"].forEach(run);
+  return { svg: element(), made };
+}
 
 const TASKS = {
   replay(engine, toml, states) {
@@ -99,6 +113,42 @@ const TASKS = {
     daa.drawStrip(svg, { width: 1000, height: 150 }, { moments, notes, ids: ["A"], index: 0, step: 90 });
     const found = [...svg.innerHTML.matchAll(/<path d="([^"]*)"[^>]* data-level="(\d)"/g)];
     return Object.fromEntries(found.map(([, boxes, level]) => [level, boxes.split("M").length - 1]));
+  },
+
+  /** A display of a moment, of 1600 times 800 points, with a report: where its compass and tapes are, the text of each layer, each handle,
+   *  and what a pointer there means. */
+  display(engine, toml, states, report, look) {
+    const { svg, made } = runDrawing();
+    const [{ moment }] = engine.readStates(bytesOf(states));
+    const { own } = moment;
+    const model = { ...moment, config: engine.read(bytesOf(toml)), said: daa.readReport(new TextDecoder().decode(bytesOf(report))), fault: "", name: "NAME",
+      note: "NOTE", trail: [] };
+    const view = daa.draw(svg, { range: 12, heights: 3000, up: 0, middle: { x: own.x, y: own.y }, chosen: "p:", held: null, ...look }, model,
+      { width: 1600, height: 800 });
+    const meant = ({ attributes: { "data-key": key, transform } }) => {
+      const [x, y] = transform.match(/[-.0-9]+/g).map(Number);
+      if (key.includes(":")) return Object.values(daa.unplan(view, { x, y }));
+      return key === "track" ? null : daa.scaleOf(view, model, key).value(y);
+    };
+    const layers = Object.entries(svg.parts).map(([selector, { innerHTML }]) => [/=(\w+)/.exec(selector)[1], innerHTML]);
+    return { g: view.g, layers: Object.fromEntries(layers), handles: made.map(({ attributes, innerHTML }) => ({ ...attributes, inside: innerHTML })),
+      back: Object.fromEntries(made.map((it) => [it.attributes["data-key"], meant(it)])) };
+  },
+
+  /** The strip of an encounter, of 1000 times 150 points: where it has what, its text, and its text where all aircraft have level 1. */
+  over_time(engine, toml, states) {
+    const { svg } = runDrawing();
+    const config = engine.read(bytesOf(toml));
+    const moments = engine.readStates(bytesOf(states)).map((it) => it.moment);
+    const notes = moments.map((moment) => daa.noteOf(moment, daa.readReport(engine.report(config, moment))));
+    const others = notes.map((note) => ({ ...note, levels: new Map([...note.levels].map(([id]) => [id, 1])) }));
+    const ids = [...notes[0].levels.keys()];
+    const texts = [notes, others].map((some) => {
+      daa.drawStrip(svg, { width: 1000, height: 150 }, { moments, notes: some, ids, index: 0, step: config.grids.track.step });
+      return svg.innerHTML;
+    });
+    daa.drawStrip(svg, { width: 1000, height: 150 }, { moments, notes, ids, index: 0, step: config.grids.track.step });
+    return { g: svg.daaG, texts };
   },
 
   /** Calls the engine with places out of its memory, and then on a moment: what the first call throws, and the report. */

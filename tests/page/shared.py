@@ -18,6 +18,7 @@ EXAMPLES = os.path.join(TOP, "examples")
 THREE_LEVELS, RECOVERY = (os.path.join(EXAMPLES, f"{name}.toml") for name in ("three_levels", "recovery"))
 ENCOUNTER = os.path.join(EXAMPLES, "encounter.states")
 KINDS = ("track", "gs", "vs", "alt")
+STEPS = {"track": 5, "gs": 100, "vs": 100, "alt": 500}  # of the configurations of examples/
 UNITS = {"gs": " kt", "vs": " ft/min", "alt": " ft", "track": "°"}
 
 
@@ -106,6 +107,18 @@ def bands_of(moment, kind):
         last = bands.pop()
         bands[0] = (last[0], *bands[0][1:])
     return [f"{words_of(kind, low)} to {words_of(kind, high)}: {f'level {level}' if level else 'clear'}" for low, high, level in bands]
+
+
+def candidates_of(moment, kind):
+    """Each candidate of a kind, of the configurations of examples/, with its level."""
+    runs = re.findall(rf"(?m)^{kind} (\S+) (\S+) (\d)$", moment)
+    return {value: int(level) for low, high, level in runs for value in range(int(low), int(high) + 1, STEPS[kind])}
+
+
+def values_of(moment, word, kind):
+    """The values that a moment's line `resolve` or `recover` names."""
+    found = re.search(rf"(?m)^{word} {kind} (?:\w+ (\S+) \w+ (\S+)|\d+ (\S+))$", moment)
+    return [int(value) for value in (found.groups() if found else ()) if value and value not in ("keep", "none")]
 
 
 def answers_of(moment):

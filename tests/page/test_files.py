@@ -79,6 +79,14 @@ class Files(unittest.TestCase):
             inside = before.rfind("<label") > before.rfind("</label>")
             self.assertTrue(inside or "aria-label" in found.group(), found.group())
 
+    def test_no_two_levels_have_one_colour(self):
+        """On a light and on a dark ground: fills, that of no level too, marks of the patterns, and edges."""
+        for part, least in (("fill", 0), ("mark", 1), ("edge", 1)):
+            rows = [re.search(rf"--l{level}-{part}: (?:light-dark\(([^,]+), ([^)]+)\)|([^;]+));", files()["style.css"]) for level in range(least, 5)]
+            for ground in (1, 2):
+                colours = [row[3] or row[ground] for row in rows]
+                self.assertEqual(len(set(colours)), len(colours), (part, colours))
+
     def test_lines_are_not_too_long(self):
         for name, text in files().items():
             if name not in MADE:

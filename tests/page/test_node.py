@@ -1,6 +1,7 @@
 """The engine's module and the page's readers in node, against the program and the tools, byte for byte."""
 import base64
 import json
+import math
 import os
 import random
 import re
@@ -9,9 +10,11 @@ import subprocess
 import sys
 import tempfile
 import unittest
+from xml.etree import ElementTree
 
-from shared import EXAMPLES, HERE, RECOVERY, THREE_LEVELS, Page, bytes_of, moments_of, replayed, text_of, tool
-from daidalus_files import examine_config, read_report  # noqa: E402 (after shared, which says where it is)
+from shared import (ENCOUNTER, EXAMPLES, HERE, RECOVERY, THREE_LEVELS, Page, bytes_of, candidates_of, levels_of, moments_in, moments_of, places_of,
+                    replayed, text_of, tool, values_of)
+from daidalus_files import AGE, ALT, GS, TRK, VS, VX, VY, X, Y, examine_config, read_report  # noqa: E402 (after shared, which says where it is)
 
 sys.path.append(os.path.join(os.path.dirname(EXAMPLES), "tests", "tools"))
 from common import module  # noqa: E402 (the folder is no package)
@@ -38,6 +41,15 @@ def in_node(tasks):
     given = [[base64.b64encode(word).decode() if isinstance(word, bytes) else word for word in task] for task in tasks]
     words = [*NODE, os.path.join(HERE, "in_node.cjs"), Page.folder]
     done = subprocess.run(words, input=json.dumps(given).encode(), capture_output=True, timeout=600)
+    if done.returncode:
+        raise AssertionError(done.stderr.decode()[-2000:])
+    return json.loads(done.stdout)
+
+
+def on_page(script, *words):
+    """What a script returns that uses the page over stand-ins for a browser; `given` are the words."""
+    call = [*NODE, os.path.join(HERE, "page_in_node.cjs"), Page.folder]
+    done = subprocess.run(call, input=f"const given = {json.dumps(words)}; {script}".encode(), capture_output=True, timeout=600)
     if done.returncode:
         raise AssertionError(done.stderr.decode()[-2000:])
     return json.loads(done.stdout)
@@ -95,6 +107,405 @@ class Module(unittest.TestCase):
         """Of 601 moments two share a column, and the last has one of its own: 5 boxes of tracks, one of them in two parts; 2 of it."""
         for levels in ([3, 0] * 300 + [3], [0, 3] * 300 + [3], [3, 2] * 300 + [3]):
             self.assertEqual(in_node([["strip", levels]])[0], {"3": 300 * (1 + 5) + 1 + 2})
+
+
+# What is drawn.
+
+# An ownship that flies northeast and climbs, one aircraft ahead and one on its left.
+TURNED = b"moment 0\nown 500 -700 10000 40 3000 300\ntraffic A 4500 4000 10200 -900 -1400 600\ntraffic B -2500 1500 9000 1200 300 -700\nend\n"
+
+
+def xml_of(text):
+    return ElementTree.fromstring(f"<svg>{text}</svg>")
+
+
+def numbers_in(text):
+    return [float(number) for number in re.findall(r"-?[0-9.]+", text)]
+
+
+def boxes_of(path):
+    """The boxes of a path of such: left, top, width and height."""
+    return [numbers_in(box)[:4] for box in path.get("d").split("z")[:-1]]
+
+
+@unittest.skipUnless(NODE, HOW)
+class Drawn(unittest.TestCase):
+    """Bands, marks, letters and numbers stand at the values that they are of, whatever is written on them; without a browser."""
+
+    maxDiff = 2000
+
+    def show(self, config, states, report, **look):
+        shown = in_node([["display", bytes_of(config) if isinstance(config, str) else config, states, report.encode(), look]])[0]
+        self.g, self.up = shown["g"], look.get("up", 0)
+        self.layers = {name: xml_of(text) for name, text in shown["layers"].items()}
+        self.handles = {it["data-key"]: it for it in shown["handles"]}
+        self.places = {key: numbers_in(it["transform"]) for key, it in self.handles.items()}
+        self.back = shown["back"]
+
+    def bearing(self, x, y):
+        return (self.up + math.degrees(math.atan2(x - self.g["centre"]["x"], self.g["centre"]["y"] - y))) % 360
+
+    def radius(self, x, y):
+        return math.hypot(x - self.g["centre"]["x"], y - self.g["centre"]["y"])
+
+    def texts(self, layer, *styles):
+        """The words of a class, each with its middle."""
+        found = [it for it in self.layers[layer].iter("text") if set(styles) <= set((it.get("class") or "").split())]
+        return [(it.text, float(it.get("x")), float(it.get("y")) - float(it.get("font-size")) * 0.36) for it in found]
+
+    def marks(self, layer, attribute, colour):
+        """Where the paths of a colour begin."""
+        return [tuple(numbers_in(it.get("d"))[:2]) for it in self.layers[layer].iter("path") if it.get(attribute) == f"var(--{colour})"]
+
+    def assert_bearings(self, points, wanted):
+        found = [self.bearing(x, y) for x, y in points]
+        self.assertEqual(len(found), len(wanted), (found, wanted))
+        for one, other in zip(found, wanted):
+            self.assertLess(abs((one - other + 180) % 360 - 180), 1.5, (found, wanted))
+
+    def sector(self, path):
+        """The bearing at which a sector of the ring begins, how far it turns to the right, and its paint."""
+        steps = "".join(re.findall("[A-Z]", path.get("d")))
+        if steps == "MAAZMAAZ":  # the whole ring
+            return 0, 360, path.get("fill")
+        self.assertEqual(steps, "MALAZ")
+        x, y, *outer = numbers_in(path.get("d"))[:9]
+        begin, turn = self.bearing(x, y), (self.bearing(*outer[5:]) - self.bearing(x, y)) % 360
+        self.assertEqual(outer[2:5], [0, float(turn > 180), 1])
+        self.assertAlmostEqual(self.radius(x, y), self.g["outer"], delta=0.2)
+        return begin, turn, path.get("fill")
+
+    def check_ring(self, moment):
+        """The paint at each candidate, the answers' marks with their words, and the letters of the compass."""
+        wanted = candidates_of(moment, "track")
+        sectors = [self.sector(it) for it in self.layers["ring"].iter("path") if it.get("data-level")]
+        paints = {track: [paint for begin, turn, paint in sectors if (track - begin) % 360 <= turn] for track in wanted}
+        self.assertEqual(paints, {track: [f"url(#level{level})" if level else "var(--l0-fill)"] for track, level in wanted.items()})
+        answers, recovery = values_of(moment, "resolve", "track"), values_of(moment, "recover", "track")
+        self.assert_bearings(self.marks("ring", "fill", "open"), answers)
+        self.assert_bearings([(x, y + 8) for x, y in self.marks("ring", "stroke", "recover")], recovery)
+        words = [*self.texts("ring", "open"), *self.texts("ring", "recover")]
+        self.assertEqual([int(text.split("°")[0]) for text, *_ in words], answers + recovery)
+        self.assert_bearings([at for _, *at in words], answers + recovery)
+        letters = sorted([*self.texts("ring", "mid", "bold"), *self.texts("ring", "mid", "small")], key=lambda it: round(self.bearing(*it[1:])) % 360)
+        self.assertEqual([text for text, *_ in letters], ["N", "3", "6", "E", "12", "15", "S", "21", "24", "W", "30", "33"])
+        self.assert_bearings([at for _, *at in letters], range(0, 360, 30))
+
+    def check_tapes(self, moment, own):
+        """By each tape's own numbers: the paint at each candidate, the ownship's pointer, and the answers' marks with their words."""
+        for kind in ("gs", "vs", "alt"):
+            tape, each = self.g["tapes"][kind], 10 if kind == "gs" else 1
+            labels = [(int(text) * each, y + 0.36) for text, x, y in self.texts("tapes", "small", "end") if abs(x - tape["x"] + 9) < 1]
+            (low, at_low), (high, at_high) = labels[0], labels[-1]
+            self.assertTrue(low < high and at_low > at_high, labels)
+            y = lambda value: at_low + (value - low) / (high - low) * (at_high - at_low)
+            self.assertAlmostEqual(self.places[kind][1], y(getattr(own, kind)), delta=1)
+            bands = [(float(it.get("y")), float(it.get("height")), it.get("fill")) for it in self.layers["tapes"].iter("rect")
+                     if it.get("data-level") and abs(float(it.get("x")) - tape["x"]) < 1]
+            wanted = {value: level for value, level in candidates_of(moment, kind).items() if tape["top"] + 3 < y(value) < tape["bottom"] - 3}
+            self.assertGreater(len(wanted), 10)
+            paints = {value: [paint for top, tall, paint in bands if top <= y(value) <= top + tall] for value in wanted}
+            self.assertEqual(paints, {value: [f"url(#level{level})" if level else "var(--l0-fill)"] for value, level in wanted.items()}, kind)
+            right, answers, recovery = tape["x"] + tape["band"], values_of(moment, "resolve", kind), values_of(moment, "recover", kind)
+            marks = [at for x, at in self.marks("tapes", "fill", "open") if abs(x - right - 2) < 1]
+            marks += [at + 8 for x, at in self.marks("tapes", "stroke", "recover") if abs(x - right - 10) < 1]
+            for found, value in zip(marks, answers + recovery, strict=True):
+                self.assertAlmostEqual(found, y(value), delta=1)
+            words = [text for text, x, _ in [*self.texts("tapes", "open"), *self.texts("tapes", "recover")] if abs(x - right - 17) < 1]
+            self.assertEqual([int(text) * each for text in words], answers + recovery)
+
+    def check_places(self, moment):
+        turn, compared = math.radians(self.up), 0
+        for key, (east, north) in places_of(moment, 60).items():
+            right, ahead = (part * self.g["radius"] / 12 for part in (east * math.cos(turn) - north * math.sin(turn), east * math.sin(turn) + north * math.cos(turn)))
+            if math.hypot(right, ahead) < self.g["radius"] - 12:
+                x, y = self.places[key]
+                self.assertTrue(abs(x - self.g["centre"]["x"] - right) < 1 and abs(self.g["centre"]["y"] - y - ahead) < 1, (key, x, y))
+                self.assertLess(math.dist(self.back[key], (moment.own.x + 1000 * east, moment.own.y + 1000 * north)), 10)
+                compared += 1
+        self.assertGreaterEqual(compared, 4)
+        for kind in ("gs", "vs", "alt"):
+            self.assertAlmostEqual(self.back[kind], getattr(moment.own, kind), delta=12)
+
+    def test_bands_marks_and_letters(self):
+        """Of moments with answers on one side and on both, and with recoveries; the ownship's values are those of the pointers."""
+        report = moments_of(replayed(RECOVERY, bytes_of(ENCOUNTER)))
+        for place in (0, 2, 4, 7):
+            text, moment = moments_in(bytes_of(ENCOUNTER))[place]
+            self.show(RECOVERY, text.encode(), report[place])
+            self.check_ring(report[place])
+            self.check_tapes(report[place], moment.own)
+            self.check_places(moment)
+
+    def test_with_the_track_up(self):
+        report, moment = replayed(RECOVERY, TURNED), moments_in(TURNED)[0][1]
+        for up in (0, 40):
+            self.show(RECOVERY, TURNED, report, up=up)
+            self.check_ring(report)
+            self.check_tapes(report, moment.own)
+            self.check_places(moment)
+            self.assert_bearings([self.places["track"]], [40])
+            self.assertIn(f'rotate({40 - up})', self.handles["p:"]["inside"])
+        self.assertAlmostEqual(self.places["track"][0], self.g["centre"]["x"], delta=0.2)
+
+    def test_rings_of_the_range_and_dthr(self):
+        """A third and two thirds of 9 NM, and the 0.4 NM of level 2, which is the corrective one."""
+        config = bytes_of(THREE_LEVELS).replace(b"dthr = 660", b"dthr = 800", 1)
+        config = config[:config.rindex(b"dthr = 660")].replace(b"dthr = 660", b"dthr = 400") + config[config.rindex(b"dthr = 660"):]
+        with tempfile.NamedTemporaryFile(suffix=".toml") as file:
+            file.write(config)
+            file.flush()
+            self.show(config, TURNED, replayed(file.name, TURNED), range=9)
+        names = self.texts("trails", "small")
+        self.assertEqual([text for text, *_ in names], ["3 NM", "6 NM"])
+        for share, (_, x, y) in zip((1 / 3, 2 / 3), names):
+            self.assertAlmostEqual(self.radius(x, y), share * self.g["radius"], delta=1)
+        circle, = self.layers["trails"].iter("circle")
+        self.assertEqual((circle.find("title").text, circle.get("stroke")), ("dthr of level 2", "var(--own)"))
+        self.assertAlmostEqual(float(circle.get("r")), 0.4 / 9 * self.g["radius"], delta=0.1)
+
+    def test_symbols_and_labels(self):
+        """Of a report with an aircraft at each level, of which two violate one now."""
+        aircraft = "".join(f"traffic A{level} {3000 * level - 6000} {(-1) ** level * 4000} {10000 + above} 0 100 {climb}\n"
+                           for level, (above, climb) in enumerate(((0, 0), (300, 600), (-1200, -600), (50, 99), (-49, -100))))
+        alerts = "".join(f"now A{level} {now}\nalert A{level} {level} {first}\n" for level, (now, first) in enumerate(((0, "-"), (0, 7), (1, 14), (0, 21), (4, 0))))
+        report = moments_of(replayed(THREE_LEVELS, bytes_of(ENCOUNTER)))[0]
+        states = f"moment 0\nown 0 0 10000 0 3600 0\n{aircraft}end\n"
+        self.show(THREE_LEVELS, states.encode(), re.sub(r"(?m)(^(now|alert) .*\n)+", alerts, report, count=1))
+        shapes = {"M0 -9l8 9l-8 9l-8 -9z": "open diamond", "M0 -11l10 11l-10 11l-10 -11z": "diamond", "M-10 -10l20 20M10 -10l-20 20": "cross"}
+        found = []
+        for level in range(5):
+            inside = xml_of(self.handles[f"p:A{level}"]["inside"])
+            marks = [shapes[it.get("d")] for it in inside.iter("path") if it.get("d") in shapes] + ["square" for _ in inside.iter("rect")]
+            marks += [{"10": "disc", "16": it.get("stroke")}[it.get("r")] for it in inside.iter("circle") if it.get("r") in ("10", "16")][::-1]
+            words = [it.text for it in inside.iter("text")]
+            found.append((marks, words))
+            self.assertEqual(self.handles[f"p:A{level}"]["data-level"], str(level))
+        self.assertEqual(found, [(["open diamond"], ["A0", "+00"]), (["diamond"], ["1", "A1", "+03↑", "L1 7 s"]),
+                                 (["disc", "var(--l1-edge)"], ["2", "A2", "−12↓", "L2 14 s"]), (["square"], ["3", "A3", "+01", "L3 21 s"]),
+                                 (["cross", "square", "var(--l4-edge)"], ["4", "A4", "+00↓", "L4 now"])])
+
+    def test_head_and_legend(self):
+        self.show(RECOVERY, TURNED, replayed(RECOVERY, TURNED))
+        self.assertEqual([text for text, *_ in self.texts("head")], ["0 s", "NOTE", "NAME", "north up · 60 s ahead"])
+        self.assertEqual([text for text, *_ in self.texts("legend")], ["clear", "level 1", "level 2, corrective", "level 3", "nearest open", "recovery"])
+        self.assertEqual([it.get("fill") for it in self.layers["legend"].iter("rect")], ["var(--l0-fill)", "url(#level1)", "url(#level2)", "url(#level3)"])
+
+    def test_the_strip_over_time(self):
+        """At each moment the level of each aircraft in its row, the bands at each track, and the ownship's track."""
+        shown = in_node([["over_time", bytes_of(THREE_LEVELS), bytes_of(ENCOUNTER)]])[0]
+        g, strip = shown["g"], xml_of(shown["texts"][0])
+        names = [text.text for text in strip.iter("text") if text.get("x") == "4"]
+        self.assertEqual(names, ["AMBER"])
+        boxes = [(int(it.get("data-level")), *box) for it in strip.iter("path") if it.get("data-level") for box in boxes_of(it)]
+        own = next(boxes_of(it) for it in strip.iter("path") if it.get("fill") == "var(--own)")
+        y = lambda track: g["top"] + g["tall"] - (track - g["foot"]) % 360 / 360 * g["tall"]
+        moments = moments_of(replayed(THREE_LEVELS, bytes_of(ENCOUNTER)))
+        for moment, (_, state), (_, at, _, _) in zip(moments, moments_in(bytes_of(ENCOUNTER)), own, strict=True):
+            x = 78 + (state.time + 5) / 190 * (1000 - 88)
+            levels = lambda at: [level for level, left, top, wide, tall in boxes if left <= x <= left + wide and top <= at <= top + tall]
+            level = levels_of(moment)["AMBER"]
+            self.assertEqual(levels(13.5), [level] if level else [], moment)
+            self.assertEqual(levels(14 - 11 * level / 4 - 1), [], moment)
+            self.assertEqual({track: levels(y(track)) for track in candidates_of(moment, "track")},
+                             {track: [level] if level else [] for track, level in candidates_of(moment, "track").items()})
+            self.assertAlmostEqual(at + 1, y(state.own.trk), delta=0.1)
+
+    def test_a_strip_of_other_levels_is_drawn_anew(self):
+        one, other = in_node([["over_time", bytes_of(THREE_LEVELS), bytes_of(ENCOUNTER)]])[0]["texts"]
+        self.assertNotEqual(one, other)
+
+
+STATES = "daa.stateLines([page.current])"
+
+
+@unittest.skipUnless(NODE, HOW)
+class Used(unittest.TestCase):
+    """The page over stand-ins for a browser: what the panel says, and what keys, pointers and typed numbers do."""
+
+    maxDiff = 3000
+
+    def test_the_table_the_clock_and_the_lines_of_the_report(self):
+        """8.544 NM at 20.6 degrees, and 1.237 NM at 256.0. Each line of a level is marked with its number, and no other line is."""
+        first, fifth = on_page("""
+            const read = () => [$("aircraft").tBodies[0].innerHTML, $("report").innerHTML, $("clock").textContent, $("slider").getAttribute("aria-valuetext")];
+            const first = read();
+            $("slider").value = "5";
+            await fire($("slider"), "input");
+            await settle();
+            return [first, read()];""")
+        rows = [["".join(cell.itertext()) for cell in row] for row in xml_of(first[0])]
+        self.assertEqual(rows, [["ownship", "0° · 360 kt · 10000 ft"], ["AMBER", "2 43 s", "8.54", "021", "0"], ["BRAVO", "0", "1.24", "256", "+600"]])
+        self.assertEqual(["".join(row[1].itertext()) for row in xml_of(fifth[0])][1:], ["3 now", "0"])
+        self.assertEqual((first[2:], fifth[2:]), (["0 s · 1 of 19", "0 seconds, moment 1 of 19"], ["50 s · 6 of 19", "50 seconds, moment 6 of 19"]))
+        level = re.compile(r"(?:now \S+|alert \S+|(?:track|gs|vs|alt) \S+ \S+) ([1-4])\b")
+        for place, (_, report, *_) in ((0, first), (5, fifth)):
+            marks = {line.find("span").text: line.find("b").text or "" for line in xml_of(report).iter("div") if line.get("class") == "line"}
+            moment = moments_of(replayed(THREE_LEVELS, bytes_of(ENCOUNTER)))[place]
+            self.assertEqual(marks, {line: level.match(line)[1] if level.match(line) else "" for line in moment.splitlines()})
+
+    def test_the_sentence_tells_recoveries(self):
+        told = on_page("""
+            $("example").value = "encounter, with recoveries";
+            await fire($("example"), "change");
+            $("slider").value = "6";
+            await fire($("slider"), "input");
+            await settle();
+            return $("summary").textContent;""")
+        self.assertEqual(told, "Alerts: AMBER level 3 now. Clear again: track 35° after 11 s; vertical speed 4600 ft/min after 11 s; "
+                         "altitude 10500 ft after 14 s. Nothing open: ground speed.")
+
+    def test_each_number_is_in_the_unit_that_is_told(self):
+        """Places in NM, speeds in knots, of the ownship and of an aircraft; and whose number is out of its range."""
+        own, typed, fault, other, last = on_page(f"""
+            const shown = () => Object.fromEntries($("state").querySelectorAll("input").map(({{ dataset, value }}) => [dataset.field, value]));
+            const type = async (values) => {{
+              for (const [field, value] of Object.entries(values)) {{
+                const {{ dataset }} = $("state").querySelectorAll("input").find((it) => it.dataset.field === field);
+                await fire($("state"), "input", {{ target: {{ dataset, value }} }});
+                await settle();
+              }}
+              return {STATES};
+            }};
+            const own = shown(), typed = await type({{ x: "1.5", y: "-2.25", trk: "7", gs: "361.5", vs: "-300" }});
+            await type({{ alt: "70000" }});
+            const fault = $("fault").textContent;
+            await fire($("restore"), "click");
+            await fire($("aircraft"), "click", {{ target: {{ dataset: {{ choose: "AMBER" }} }} }});
+            await settle();
+            return [own, typed, fault, shown(), await type({{ x: "2.5", y: "7.75", vx: "-120.5", vy: "10", vs: "200", age: "3" }})];""")
+        self.assertEqual(own, {"x": "0", "y": "0", "alt": "10000", "trk": "0", "gs": "360", "vs": "0"})
+        self.assertIn("own 1500 -2250 10000 7 3615 -300\n", typed)
+        self.assertEqual(fault, "alt of the ownship is not within -2000 and 60000")
+        self.assertEqual(other, {"id": "AMBER", "x": "3", "y": "8", "alt": "10000", "vx": "-135", "vy": "0", "vs": "0", "age": "0"})
+        self.assertIn("traffic AMBER 2500 7750 10000 -1205 100 200 3\n", last)
+
+    def test_the_limits_are_those_of_state_lines(self):
+        wanted = {field.name.lower(): [field.low, field.high] for field in (X, Y, ALT, TRK, GS, VX, VY, VS, AGE)}
+        self.assertEqual(on_page("return daa.ui.LIMITS;"), wanted)
+
+    def test_keys(self):
+        """With Shift an aircraft goes a mile and 1000 feet, a velocity turns by a degree, and bug and pointers go ten times as far. 5
+        degrees to the right of 135 knots westward are 135 cos 5 west and 135 sin 5 north."""
+        steps = (("p:AMBER", "ArrowUp", True, "traffic AMBER 3000 9000 10000 -1350 0 0"), ("p:AMBER", "PageUp", True, "traffic AMBER 3000 9000 11000 -1350 0 0"),
+                 ("v:", "ArrowRight", True, "own 0 0 10000 1 3600 0"), ("track", "ArrowRight", True, "own 0 0 10000 11 3600 0"),
+                 ("gs", "ArrowDown", True, "own 0 0 10000 11 3100 0"), ("vs", "ArrowUp", True, "own 0 0 10000 11 3100 1000"),
+                 ("alt", "ArrowUp", True, "own 0 0 11000 11 3100 1000"), ("v:AMBER", "ArrowRight", False, "traffic AMBER 3000 9000 11000 -1345 118 0"),
+                 ("v:BRAVO", "ArrowUp", False, "traffic BRAVO -1200 -300 10600 0 3700 -600"))
+        found = on_page(f"const found = []; for (const step of given) {{ await press(...step); found.push({STATES}); }} return found;", *(step[:3] for step in steps))
+        for (*_, line), states in zip(steps, found, strict=True):
+            self.assertIn(line + "\n", states)
+
+    def test_what_is_held_goes_with_the_pointer(self):
+        """North up and with the track up: a handle stands where it is let go, but for whole numbers; the track bug at the pointer's
+        bearing, a tape's pointer at its height."""
+        moves = (("p:A", -30, 25), ("v:A", 20, -15), ("p:", 15, -25), ("v:", 25, 30), ("track", 60, 40), ("gs", 0, 40), ("vs", 0, -50), ("alt", 0, 40))
+        centre, *found = on_page("""
+            const file = { name: "turned.states", arrayBuffer: async () => daa.bytesOf(given[0]).buffer };
+            await fire(screen, "drop", { dataTransfer: { files: [file] } });
+            await settle();
+            const found = [page.views[0].drawn.g.centre];
+            for (const up of [false, true]) {
+              page.views[0].look.trackUp = up;
+              for (const move of given[1]) {
+                await fire($("restore"), "click");
+                await settle();
+                found.push(await drag(...move));
+              }
+            }
+            return found;""", TURNED.decode(), moves)
+        bearing = lambda x, y: math.degrees(math.atan2(x - centre["x"], centre["y"] - y))
+        self.assertEqual(len(found), 2 * len(moves))
+        for (key, right, down), ((x, y), held) in zip(2 * moves, found):
+            to = x + right, y + down
+            if key == "track":
+                self.assertLess(abs((bearing(*held) - bearing(*to) + 180) % 360 - 180), 1, key)
+            elif ":" in key:
+                self.assertLess(math.dist(held, to), 4, key)
+            else:
+                self.assertLess(abs(held[1] - to[1]), 5, key)
+
+    def test_the_trail_has_the_moments_before(self):
+        found = on_page("""
+            $("slider").value = "3";
+            await fire($("slider"), "input");
+            return daa.ui.modelOf(page.views[0]).trail.map(({ x, y, own }) => [x, y, own]);""")
+        before = [moment for _, moment in moments_in(bytes_of(ENCOUNTER))[:3]]
+        self.assertEqual(found, [[one.x, one.y, one is moment.own] for moment in before for one in (moment.own, *moment.traffic)])
+
+    def test_the_range_of_altitudes(self):
+        steps = (("high", 6000), ("high", 12000), ("low", 6000), ("low", 3000), ("low", 1500))
+        found = on_page("""
+            const found = [];
+            for (const what of given) {
+              await fire(caption, "click", { target: { dataset: { do: what } } });
+              await settle();
+              found.push([caption.querySelector("[data-is=heights]").textContent, ...["min", "max"].map((end) => handle("alt").getAttribute(`aria-value${end}`))]);
+            }
+            return found;""", *(what for what, _ in steps))
+        self.assertEqual(found, [[f"± {heights} ft", str(10000 - heights), str(10000 + heights)] for _, heights in steps])
+
+    def test_a_changed_moment_has_no_name_of_a_recording(self):
+        before, after = on_page("""
+            const head = () => display().querySelector("[data-layer=head]").innerHTML;
+            const before = head();
+            await press("p:AMBER", "ArrowUp");
+            return [before, head()];""")
+        words = [[it.text for it in xml_of(text)][1] for text in (before, after)]
+        self.assertEqual(words, ["encounter.states", "changed by hand"])
+
+    def test_a_link_holds_the_names(self):
+        """Of both configurations and of the recording; other ones were taken meanwhile."""
+        before, meanwhile, after = on_page("""
+            const names = () => [...page.views.map(({ name }) => name), page.name];
+            const before = names();
+            await fire($("link"), "click");
+            $("example").value = "all closed, with recoveries";
+            await fire($("example"), "change");
+            const meanwhile = names();
+            page.hash = "";
+            await fire(screen, "hashchange");
+            await settle();
+            return [before, meanwhile, names()];""")
+        self.assertEqual((before, meanwhile[0], after), (["three_levels", "recovery", "encounter.states"], "recovery", before))
+
+    def test_files_that_are_dropped_and_the_one_that_is_saved(self):
+        """A configuration counts for states that come before it; it is saved as it was edited."""
+        edited = "# edited\n" + text_of(RECOVERY)
+        report, saved = on_page("""
+            const files = given.slice(0, 2).map(([name, text]) => ({ name, arrayBuffer: async () => daa.bytesOf(text).buffer }));
+            await fire(screen, "drop", { dataTransfer: { files } });
+            await settle();
+            const report = page.views[0].said.text;
+            $("toml").value = given[2];
+            await fire($("toml"), "input");
+            await fire($("save-config"), "click");
+            return [report, await Promise.all(saved.map(async ([name, blob]) => [name, await blob.text()]))];""",
+            ["a.states", text_of(os.path.join(EXAMPLES, "closed.states"))], ["b.toml", text_of(RECOVERY)], edited)
+        self.assertEqual(report, replayed(RECOVERY, bytes_of(os.path.join(EXAMPLES, "closed.states"))))
+        self.assertEqual(saved, [["configuration.toml", edited]])
+
+    def test_the_strip_is_that_of_the_configuration(self):
+        """Under another one all moments are asked for anew."""
+        config = text_of(THREE_LEVELS).replace("alert = 55", "alert = 20").replace("alert = 25", "alert = 5")
+        levels, drawn, right = on_page("""
+            const surveyed = async () => { for (let frames = 0; frames < 2000 && page.notes.length < page.moments.length; frames++) await frame(); };
+            await surveyed();
+            $("toml").value = given[0];
+            await fire($("toml"), "input");
+            await settle();
+            await surveyed();
+            await settle();
+            const { moments, notes, ids } = page, svg = document.createElementNS("", "svg");
+            daa.drawStrip(svg, { width: 1000, height: 150 }, { moments, notes, ids, index: 0, step: 5 });
+            return [notes.map((note) => Object.fromEntries(note.levels)), $("strip").innerHTML, svg.innerHTML];""", config)
+        with tempfile.NamedTemporaryFile("w", suffix=".toml") as file:
+            file.write(config)
+            file.flush()
+            wanted = [levels_of(moment) for moment in moments_of(replayed(file.name, bytes_of(ENCOUNTER)))]
+        self.assertNotEqual(wanted, [levels_of(moment) for moment in moments_of(replayed(THREE_LEVELS, bytes_of(ENCOUNTER)))])
+        self.assertEqual(levels, wanted)
+        self.assertEqual(drawn, right)
 
 
 # Wrong configurations and lines.
@@ -388,6 +799,15 @@ class Recordings(unittest.TestCase):
             "left out: 1 line KEY = VALUE; a configuration says what they say", "not used: the columns colour, vx, vy",
             "Intruder12 is written Intrud12", "left out: 1 aircraft out of range, or more than there may be, in a moment",
             "left out: 2 aircraft whose report is older than 10 s, in a moment"])
+
+    def test_many_aircraft_two_at_one_place_and_times_before_the_first_second(self):
+        head, own = "name time sx sy sz trk gs vs\n", "own {} 0 0 1000 0 100 0\n"
+        for text in (head + "".join(f"T{number} 0 {number} 0 1000 0 100 0\n" for number in range(66)) + own.format(0) + own.format(1),
+                     head + "A 0 1 0 1000 0 100 0\nB 0 1 0 1000 0 100 0\n" + own.format(0),
+                     head + "A -7 1 0 1000 0 100 0\n" + "".join(own.format(time) for time in (-5, -0.5, 0, 1))):
+            states = self.from_daa(text, "own")
+            self.assertIn(states.count("traffic"), (2 * 64, 2))
+            self.assertEqual(in_node([["recording", text.encode(), "own"]])[0]["states"], states)
 
     def test_drawn_recordings(self):
         draw = random.Random(3)

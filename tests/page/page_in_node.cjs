@@ -1,0 +1,110 @@
+/* node page_in_node.cjs PAGE < SCRIPT: runs all scripts of the page, in the order of its index.html, over stand-ins for the parts of
+ * a browser, then the script, and writes the JSON of what it returns. A stand-in keeps what is put into it and who listens; nothing
+ * is laid out. A script has: page, the page's state; $, an element by its id; screen, where the page listens to the window; the
+ * display and its caption; handle, one by its key; fire, which calls an element's listeners; frame and settle, which wait for a frame
+ * and until what is shown is the answer; press, a key at a handle; drag, a handle by an offset; saved, what was downloaded. */
+"use strict";
+const fs = require("fs");
+const path = require("path");
+const vm = require("vm");
+
+const folder = process.argv[2];
+const textOf = (name) => fs.readFileSync(path.join(folder, name), "utf8");
+
+class Element {
+  constructor(name = "") {
+    Object.assign(this, { name, attributes: {}, dataset: {}, listeners: {}, parts: {}, style: {}, children: [], innerHTML: "", textContent: "", value: "",
+      hidden: false, classList: { toggle() {} } });
+  }
+
+  addEventListener(event, listener) { (this.listeners[event] ??= []).push(listener); }
+
+  setAttribute(name, value) {
+    this.attributes[name] = String(value);
+    if (name.startsWith("data-")) this.dataset[name.slice(5)] = String(value);
+  }
+
+  getAttribute(name) { return this.attributes[name] ?? null; }
+
+  querySelector(selector) { return (this.parts[selector] ??= new Element(selector)); }
+
+  /** Inputs are those of the markup that was put in last. */
+  querySelectorAll(selector) {
+    if (selector !== "input") return [];
+    return [...this.innerHTML.matchAll(/<input[^>]*data-field="(\w+)"(?: data-scale="(\d+)")?/g)].map(([, field, scale]) => {
+      const input = this.querySelector(`[data-field=${field}]`);
+      Object.assign(input.dataset, { field, scale });
+      return input;
+    });
+  }
+
+  get tBodies() { return [this.querySelector("tbody")]; }
+  getBoundingClientRect() { return this.name === "strip" ? { left: 0, width: 1000, height: 150 } : { left: 0, width: 1600, height: 800 }; }
+  getScreenCTM() { return { inverse: () => null }; }
+  closest() { return this; }
+  matches() { return false; }
+  append() {}
+  remove() {}
+  focus() {}
+  insertAdjacentHTML() {}
+  setPointerCapture() {}
+}
+
+const saved = []; // what was downloaded: name and blob
+const blobs = [];
+const figures = [0, 1].map((view) => Object.assign(new Element("figure"), { dataset: { view: String(view) } }));
+const byId = {};
+const parts = new Element("document");
+globalThis.document = { body: new Element("body"), activeElement: new Element("none"), documentElement: new Element("html"), listeners: {},
+  addEventListener: Element.prototype.addEventListener, getElementById: (id) => (byId[id] ??= new Element(id)),
+  querySelector: (selector) => parts.querySelector(selector), querySelectorAll: () => figures,
+  createElement: () => ({ getContext: () => ({ measureText: (words) => ({ width: 60 * words.length }) }), click() { saved.push([this.download, blobs.at(-1)]); } }),
+  createElementNS: () => new Element("handle") };
+URL.createObjectURL = (blob) => `blob:${blobs.push(blob)}`;
+Object.assign(globalThis, { location: { hash: "" }, CSS: { escape: String }, requestAnimationFrame: (frame) => setTimeout(() => frame(performance.now()), 0),
+  cancelAnimationFrame: clearTimeout, ResizeObserver: class { observe() {} }, addEventListener: Element.prototype.addEventListener.bind(parts),
+  DOMPoint: class { constructor(x, y) { Object.assign(this, { x, y }); } matrixTransform() { return this; } } });
+delete globalThis.Worker; // so that the page itself answers
+
+for (const [, name] of textOf("index.html").matchAll(/<script src="([^"]+)">/g)) vm.runInThisContext(textOf(name), name);
+
+const $ = (id) => document.getElementById(id);
+const fire = (element, event, values = {}) => {
+  const given = { target: element, preventDefault() {}, ...values };
+  return Promise.all((element.listeners[event] || []).map((listener) => listener(given)));
+};
+const frame = () => new Promise((done) => setTimeout(done, 5));
+
+async function settle() {
+  for (let frames = 0; frames < 3 || document.body.dataset.settled !== "yes"; frames++) await frame();
+}
+
+const display = () => figures[0].querySelector("svg");
+const handle = (key) => display().daa.handles.get(key);
+const placeOf = (key) => handle(key).getAttribute("transform").match(/[-.0-9]+/g).map(Number);
+
+async function press(key, pressed, shiftKey = false) {
+  fire(display(), "keydown", { target: handle(key), key: pressed, shiftKey });
+  await settle();
+}
+
+/** Where the handle was, and where it is while it is held. */
+async function drag(key, right, down) {
+  const [x, y] = placeOf(key);
+  fire(display(), "pointerdown", { target: handle(key), clientX: x, clientY: y, pointerId: 1 });
+  fire(display(), "pointermove", { clientX: x + right, clientY: y + down });
+  await settle();
+  const held = placeOf(key);
+  fire(display(), "pointerup");
+  await settle();
+  return [[x, y], held];
+}
+
+(async () => {
+  while (document.body.dataset.ready !== "yes") { if (document.body.dataset.ready === "no") throw new Error(document.getElementById("missing").textContent); await frame(); }
+  await settle();
+  const given = { page: daa.page, $, screen: parts, caption: figures[0].querySelector("figcaption"), display, fire, frame, settle, handle, press, drag, saved };
+  const script = new Function(...Object.keys(given), `return (async () => { ${fs.readFileSync(0, "utf8")} })();`);
+  const answer = await script(...Object.values(given));
+  process.stdout.write(JSON.stringify(answer ?? null), () => process.exit(0));
+})();
