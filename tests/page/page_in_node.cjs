@@ -75,9 +75,18 @@ const fire = (element, event, values = {}) => {
 };
 const frame = () => new Promise((done) => setTimeout(done, 5));
 
-async function settle() {
-  for (let frames = 0; frames < 3 || document.body.dataset.settled !== "yes"; frames++) await frame();
+const LONG = 60000; // ms that nothing here takes
+
+/** Waits for five frames, and until something is so. */
+async function until(holds, what) {
+  const begun = performance.now();
+  for (let frames = 0; frames < 5 || !holds(); frames++) {
+    if (performance.now() - begun > LONG) throw new Error(`it never came that ${what}`);
+    await frame();
+  }
 }
+
+const settle = () => until(() => document.body.dataset.settled === "yes", "what is shown is the answer");
 
 const display = () => figures[0].querySelector("svg");
 const handle = (key) => display().daa.handles.get(key);
@@ -101,7 +110,7 @@ async function drag(key, right, down) {
 }
 
 (async () => {
-  while (document.body.dataset.ready !== "yes") { if (document.body.dataset.ready === "no") throw new Error(document.getElementById("missing").textContent); await frame(); }
+  await until(() => document.body.dataset.ready === "yes", "the page is ready");
   await settle();
   const given = { page: daa.page, $, screen: parts, caption: figures[0].querySelector("figcaption"), display, fire, frame, settle, handle, press, drag, saved };
   const script = new Function(...Object.keys(given), `return (async () => { ${fs.readFileSync(0, "utf8")} })();`);
