@@ -111,8 +111,8 @@ class Module(unittest.TestCase):
 
 # What is drawn.
 
-# An ownship that flies northeast and climbs, one aircraft ahead and one on its left.
-TURNED = b"moment 0\nown 500 -700 10000 40 3000 300\ntraffic A 4500 4000 10200 -900 -1400 600\ntraffic B -2500 1500 9000 1200 300 -700\nend\n"
+# An ownship that flies northeast and climbs, one aircraft ahead and one on its left, whose report is 15 seconds old.
+TURNED = b"format 2\nmoment 0\nown 500 -700 10000 40 3000 300\ntraffic A 4500 4000 10200 -900 -1400 600 0\ntraffic B -2500 1500 9000 1200 300 -700 15\nend\n"
 
 
 def xml_of(text):
@@ -265,12 +265,12 @@ class Drawn(unittest.TestCase):
         self.assertAlmostEqual(float(circle.get("r")), 0.4 / 9 * self.g["radius"], delta=0.1)
 
     def test_symbols_and_labels(self):
-        """Of a report with an aircraft at each level, of which two violate one now."""
-        aircraft = "".join(f"traffic A{level} {3000 * level - 6000} {(-1) ** level * 4000} {10000 + above} 0 100 {climb}\n"
-                           for level, (above, climb) in enumerate(((0, 0), (300, 600), (-1200, -600), (50, 99), (-49, -100))))
+        """Of a report with an aircraft at each level, of which two violate one now; the first two have climbed and sunk for half a minute."""
+        aircraft = "".join(f"traffic A{level} {3000 * level - 6000} {(-1) ** level * 4000} {10000 + above} 0 100 {climb} {age}\n"
+                           for level, (above, climb, age) in enumerate(((0, 0, 0), (0, 600, 30), (-900, -600, 30), (50, 99, 0), (-49, -100, 0))))
         alerts = "".join(f"now A{level} {now}\nalert A{level} {level} {first}\n" for level, (now, first) in enumerate(((0, "-"), (0, 7), (1, 14), (0, 21), (4, 0))))
         report = moments_of(replayed(THREE_LEVELS, bytes_of(ENCOUNTER)))[0]
-        states = f"moment 0\nown 0 0 10000 0 3600 0\n{aircraft}end\n"
+        states = f"format 2\nmoment 0\nown 0 0 10000 0 3600 0\n{aircraft}end\n"
         self.show(THREE_LEVELS, states.encode(), re.sub(r"(?m)(^(now|alert) .*\n)+", alerts, report, count=1))
         shapes = {"M0 -9l8 9l-8 9l-8 -9z": "open diamond", "M0 -11l10 11l-10 11l-10 -11z": "diamond", "M-10 -10l20 20M10 -10l-20 20": "cross"}
         found = []
@@ -284,6 +284,15 @@ class Drawn(unittest.TestCase):
         self.assertEqual(found, [(["open diamond"], ["A0", "+00"]), (["diamond"], ["1", "A1", "+03↑", "L1 7 s"]),
                                  (["disc", "var(--l1-edge)"], ["2", "A2", "−12↓", "L2 14 s"]), (["square"], ["3", "A3", "+01", "L3 21 s"]),
                                  (["cross", "square", "var(--l4-edge)"], ["4", "A4", "+00↓", "L4 now"])])
+
+    def test_answers_beyond_a_tape(self):
+        """Of a report whose altitudes lie 5000 feet from the ownship's: they stand at the ends, and say where to look."""
+        text, _ = moments_in(bytes_of(ENCOUNTER))[0]
+        report = moments_of(replayed(THREE_LEVELS, bytes_of(ENCOUNTER)))[0]
+        self.show(THREE_LEVELS, text.encode(), report.replace("resolve alt down 9500 up 10500", "resolve alt down 5000 up 15000"))
+        tape = self.g["tapes"]["alt"]
+        found = [(text, round(y)) for text, x, y in self.texts("tapes", "open") if abs(x - tape["x"] - tape["band"] - 17) < 1]
+        self.assertEqual(found, [("5000 ▼", round(tape["bottom"])), ("15000 ▲", round(tape["top"]))])
 
     def test_head_and_legend(self):
         self.show(RECOVERY, TURNED, replayed(RECOVERY, TURNED))
@@ -310,6 +319,17 @@ class Drawn(unittest.TestCase):
             self.assertEqual({track: levels(y(track)) for track in candidates_of(moment, "track")},
                              {track: [level] if level else [] for track, level in candidates_of(moment, "track").items()})
             self.assertAlmostEqual(at + 1, y(state.own.trk), delta=0.1)
+        opened = next(boxes_of(it) for it in strip.iter("path") if it.get("fill") == "var(--open)")
+        self.assertEqual([round(top + 2, 1) for _, top, _, _ in opened], [round(y(track), 1) for moment in moments for track in values_of(moment, "resolve", "track")])
+
+    def test_the_strip_leaves_a_gap_free(self):
+        """Of moments 10 seconds apart, the last of which comes 160 seconds after the one before: that one is drawn for 40."""
+        states = "".join(text for text, moment in moments_in(bytes_of(ENCOUNTER)) if moment.time in (0, 10, 20, 180))
+        strip = xml_of(in_node([["over_time", bytes_of(THREE_LEVELS), states.encode()]])[0]["texts"][0])
+        boxes = [box for it in strip.iter("path") if it.get("data-level") for box in boxes_of(it)]
+        x = lambda time: 78 + time / 190 * (1000 - 88)
+        ends = {round(left + wide, 1) for left, _, wide, _ in boxes}
+        self.assertEqual(ends, {round(x(time), 1) for time in (10, 20, 60, 190)})
 
     def test_a_strip_of_other_levels_is_drawn_anew(self):
         one, other = in_node([["over_time", bytes_of(THREE_LEVELS), bytes_of(ENCOUNTER)]])[0]["texts"]
@@ -343,6 +363,15 @@ class Used(unittest.TestCase):
             marks = {line.find("span").text: line.find("b").text or "" for line in xml_of(report).iter("div") if line.get("class") == "line"}
             moment = moments_of(replayed(THREE_LEVELS, bytes_of(ENCOUNTER)))[place]
             self.assertEqual(marks, {line: level.match(line)[1] if level.match(line) else "" for line in moment.splitlines()})
+
+    def test_the_table_flies_an_old_report_on(self):
+        """15 seconds old, B is 2.5 NM west and 2.325 NM north of the ownship, and 1175 feet below: 3.414 NM at 312.9 degrees."""
+        rows = on_page("""
+            await fire(screen, "drop", { dataTransfer: { files: [{ name: "turned.states", arrayBuffer: async () => daa.bytesOf(given[0]).buffer }] } });
+            await settle();
+            return $("aircraft").tBodies[0].innerHTML;""", TURNED.decode())
+        row, = [["".join(cell.itertext()) for cell in row] for row in xml_of(rows) if "".join(row[0].itertext()) == "B"]
+        self.assertEqual(row[2:], ["3.41", "313", "−1175"])
 
     def test_the_sentence_tells_recoveries(self):
         told = on_page("""
@@ -425,6 +454,47 @@ class Used(unittest.TestCase):
             else:
                 self.assertLess(abs(held[1] - to[1]), 5, key)
 
+    def test_a_late_answer_to_an_older_moment_is_not_shown(self):
+        """The answers to two changes come one after the other, and nothing is shown before the second."""
+        found = on_page("""
+            const [view] = page.views, answers = [], bands = () => display().querySelector("[data-layer=ring]").innerHTML.includes("data-level");
+            view.desk.ask = () => new Promise((answer) => answers.push(answer));
+            for (const key of ["ArrowUp", "ArrowRight"]) {
+              fire(display(), "keydown", { target: handle("p:AMBER"), key });
+              for (let frames = 0; frames < 30; frames++) await frame();
+            }
+            const { text } = view.said, found = [answers.length, bands()];
+            for (const answer of answers) {
+              answer({ text });
+              for (let frames = 0; frames < 30; frames++) await frame();
+              found.push(bands());
+            }
+            return found;""")
+        self.assertEqual(found, [2, False, False, True])
+
+    def test_playing_goes_to_the_last_moment(self):
+        """And begins anew from there."""
+        found = on_page("""
+            $("speed").value = "400";
+            const found = [];
+            for (const time of [1, 2]) {
+              await fire($("play"), "click");
+              found.push($("play").textContent, page.index);
+              for (let frames = 0; frames < 2000 && page.playing; frames++) await frame();
+              found.push($("play").textContent, page.index);
+            }
+            return found;""")
+        self.assertEqual(found, ["❚❚", 0, "▶", 18] * 2)
+
+    def test_the_range_that_fits(self):
+        """It has the traffic of the encounter in it: both aircraft, at most 8.54 NM away; 9 NM would leave AMBER at the rim."""
+        found = on_page("""
+            await fire(document, "keydown", { target: { closest: () => null }, key: "-" });
+            const wide = page.views[0].look.range;
+            await fire(document, "keydown", { target: { closest: () => null }, key: "0" });
+            return [wide, page.views[0].look.range];""")
+        self.assertEqual(found, [18, 12])
+
     def test_the_trail_has_the_moments_before(self):
         found = on_page("""
             $("slider").value = "3";
@@ -455,19 +525,22 @@ class Used(unittest.TestCase):
         self.assertEqual(words, ["encounter.states", "changed by hand"])
 
     def test_a_link_holds_the_names(self):
-        """Of both configurations and of the recording; other ones were taken meanwhile."""
+        """Of both configurations and of the recording, and how it is looked at; other ones were taken meanwhile."""
         before, meanwhile, after = on_page("""
-            const names = () => [...page.views.map(({ name }) => name), page.name];
+            const names = () => [...page.views.map(({ name }) => name), page.name, { ...page.views[0].look }];
+            Object.assign(page.views[0].look, { trackUp: true, range: 24, heights: 6000 });
             const before = names();
             await fire($("link"), "click");
             $("example").value = "all closed, with recoveries";
             await fire($("example"), "change");
             const meanwhile = names();
+            Object.assign(page.views[0].look, { trackUp: false, range: 6, heights: 1500 });
             page.hash = "";
             await fire(screen, "hashchange");
             await settle();
             return [before, meanwhile, names()];""")
-        self.assertEqual((before, meanwhile[0], after), (["three_levels", "recovery", "encounter.states"], "recovery", before))
+        held = ["three_levels", "recovery", "encounter.states", {"trackUp": True, "range": 24, "heights": 6000}]
+        self.assertEqual((before, meanwhile[0], after), (held, "recovery", held))
 
     def test_files_that_are_dropped_and_the_one_that_is_saved(self):
         """A configuration counts for states that come before it; it is saved as it was edited."""
