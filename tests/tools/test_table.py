@@ -34,9 +34,6 @@ class Tables(ToolTest):
         self.assert_one_line(said, "1 refused line is in no row: trust no row after it\n")
         self.assert_one_line(self.table(REPORT + "refused 10 6\n", "aircraft")[1], "2 refused lines are in no row: trust no row after the first of them\n")
 
-        self.assert_one_line(said, "1 refused lines are in no row")
-        self.assert_one_line(self.table(REPORT + "refused 30 6\nrefused 31 7\n", "aircraft")[1], "3 refused lines are in no row")
-
     def test_a_row_for_each_moment_and_kind(self):
         rows, _ = self.table(REPORT, "kinds")
         self.assertEqual([row for row in rows if ",track," in row], TRACK)
