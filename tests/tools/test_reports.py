@@ -12,7 +12,7 @@ from daidalus_files import Band, encounters_of, read_report
 compare = module("tools/compare")
 
 # What is in tools/ and makes a part of the repository: no page for users names it.
-MAKERS = {"page_module"}
+MAKERS = {"page_module", "prove"}
 
 
 def tools_for_users():
