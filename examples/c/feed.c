@@ -39,11 +39,11 @@ struct table {
 static void read_config(const char *name, struct daa_config *config) {
     static uint8_t text[65537]; /* one byte more than a configuration may have */
     FILE *file = fopen(name, "rb");
-    if (!file) {
+    size_t size = file ? fread(text, 1, sizeof text, file) : 0;
+    if (!file || ferror(file)) {
         perror(name);
         exit(1);
     }
-    size_t size = fread(text, 1, sizeof text, file);
     fclose(file);
     int32_t answer = daa_read(text, size, config);
     if (answer != DAA_OK) {

@@ -28,11 +28,11 @@ static void check(const char *call, int32_t answer) {
 static struct daa_config config_in(const char *name) {
     static uint8_t text[65537]; /* one byte more than a configuration may have */
     FILE *file = fopen(name, "rb");
-    if (!file) {
+    size_t size = file ? fread(text, 1, sizeof text, file) : 0;
+    if (!file || ferror(file)) {
         perror(name);
         exit(1);
     }
-    size_t size = fread(text, 1, sizeof text, file);
     fclose(file);
     struct daa_config config;
     check("daa_read", daa_read(text, size, &config));

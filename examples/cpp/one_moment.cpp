@@ -9,7 +9,6 @@
 #include <cstring>
 #include <fstream>
 #include <iostream>
-#include <iterator>
 #include <string>
 #include <vector>
 
@@ -87,12 +86,14 @@ int main(int words, char **word) try {
         std::cerr << "usage: one_moment CONFIGURATION [report]\n";
         return 2;
     }
+    std::string text(65537, '\0'); // one byte more than a configuration may have
     std::ifstream file(word[1], std::ios::binary);
-    if (!file) {
+    file.read(&text[0], text.size());
+    if (!file.is_open() || file.bad()) {
         std::cerr << word[1] << " cannot be read\n";
         return 1;
     }
-    const std::string text((std::istreambuf_iterator<char>(file)), {});
+    text.resize(file.gcount());
     daa_config config;
     check("daa_read", daa_read(reinterpret_cast<const uint8_t *>(text.data()), text.size(), &config));
     if (words == 2) print_answers(config);

@@ -19,11 +19,16 @@ fn main() {
             vec![here.join("../../crates/daa_c/out/x86-64"), kit()]
         }
     };
+    let libraries = ["daa_c", "daa_toml", "libc_c"];
+    for file in libraries.map(|library| format!("lib{library}.a")) {
+        let is_there = folders.iter().any(|folder| folder.join(&file).exists());
+        assert!(is_there, "there is no {file} in {folders:?}: examples/archive makes those of the repository");
+    }
     for folder in folders {
         println!("cargo:rustc-link-search=native={}", folder.display());
         println!("cargo:rerun-if-changed={}", folder.display());
     }
-    for library in ["daa_c", "daa_toml", "libc_c"] {
+    for library in libraries {
         println!("cargo:rustc-link-lib=static={library}");
     }
     println!("cargo:rerun-if-env-changed=DAIDALUS_ARCHIVES");

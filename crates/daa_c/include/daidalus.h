@@ -7,10 +7,10 @@
  * frees it before it returns; it stands in an archive of its own, libdaa_toml.a, and the others in libdaa_c.a, which asks
  * for no allocator. A call takes less than 256 KB of stack (measured, not proved).
  *
- * Each call but daa_line and daa_version returns DAA_OK, or another number of the list below; then it has filled in nothing. Every number is checked,
- * also those of a configuration, so no number passed in makes a call undefined. Where several numbers apply, a call
- * answers the first in the order: the configuration's, the states', DAA_BAD_KIND, DAA_BAD_SIDE, DAA_BAD_BOARD, and then
- * the others.
+ * Each call but daa_line and daa_version returns DAA_OK, or another number of the list below; then it has filled in
+ * nothing. Every number is checked, also those of a configuration, so no number passed in makes a call undefined. Where
+ * several numbers apply, a call answers the first in the order: the configuration's, the states', DAA_BAD_KIND,
+ * DAA_BAD_SIDE, DAA_BAD_BOARD, and then the others.
  *
  * The caller must ensure, since nothing checks it: each pointer is valid for what it points to, or for the length that
  * follows it, also of length 0, and is not null; what a call fills in overlaps no other argument of the call, and
