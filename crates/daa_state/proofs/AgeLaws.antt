@@ -1,20 +1,24 @@
 -- Lines of format 1, and steps by words of age 0.
-use Rattle.std.proofs.Common.{ℕ, ◌∷◌, [], ◌==◌, List, Option, Some, None, length, refl}
+use Rattle.std.proofs.Common.{ℕ, ◌∷◌, [], ◌==◌, List, Option, Some, None, Ok, Err, length, refl}
 use Rattle.std.proofs.lemmas.List.Elements.{All-push, All-from_recursion}
-use Rattle.std.specs.Prelude.{IfOk, IfSome, is_some, nat_le, codes}
+use Rattle.std.specs.Prelude.{IfOk, IfSome, is_some, ok_or, nat_le, slice_index, codes, if◌then◌else◌}
 use Rattle.std.specs.Str.{bytes_eq}
 use Rattle.std.specs.Str.Lines.{strip_carriage_return}
 use Rattle.daa_state.specs.Current.{IsCurrent, IsCurrentWord, IsCurrentPicture, IsCurrentMoment, IsCurrentStep}
-use Rattle.daa_state.specs.Fields.{Bytes, fields_of}
+use Rattle.daa_state.specs.Fields.{fields_of}
+use Rattle.daa_state.specs.Inside.Texts.{Bytes}
+use Rattle.daa_state.specs.Id.{is_id}
 use Rattle.daa_state.specs.Laws.{Format1SaysNoAges, NoAgesLeaveNoAges}
-use Rattle.daa_state.specs.MomentStep.{step, empty_moment, begun_moment, with_own, with_traffic, has_id, picture_with, ended_picture}
+use Rattle.daa_state.specs.MomentStep.{step, empty_moment, begun_moment, with_own, with_traffic, has_id, ended_picture}
 use Rattle.daa_state.specs.Number.{number_in, count_in}
-use Rattle.daa_state.specs.Ranges.{positions, altitudes, speeds, vertical_speeds, formats, times}
-use Rattle.daa_state.specs.WordOf.{identifier, is_comment, word_of, word_of_fields, word_of_name, moment_of, own_of, ownship, traffic_of, aircraft, format_of, end_of}
+use Rattle.daa_state.specs.Ranges.{Bounds, positions, altitudes, tracks, ground_speeds, speeds, vertical_speeds, formats, times}
+use Rattle.daa_state.specs.WordOf.{word_of, word_of_fields, number_word, own_of, traffic_of, aircraft, end_of}
 use Rattle.daa_state.specs.declared.moments.Moment.{Moment}
 use Rattle.daa_state.specs.declared.word.Own.{Own}
 use Rattle.daa_state.specs.declared.word.Traffic.{Traffic}
+use Rattle.daa_state.specs.declared.word.Word.{Word}
 use Rattle.daa_state.specs.declared.word.Word.TheVariants as says
+use Rattle.daa_state.specs.declared.fault.LineFault.TheVariants.{BadId, NoOwn}
 use Rattle.daa_state.proofs.CheckedLemmas.{IfOk-with, IfOk-if, IfOk-any}
 
 -- ---- words
@@ -22,18 +26,20 @@ use Rattle.daa_state.proofs.CheckedLemmas.{IfOk-with, IfOk-if, IfOk-any}
 aircraft-current : (id x y alt vx vy vs : Bytes) → IfOk (aircraft id x y alt vx vy vs) IsCurrent
 unfolding aircraft
 aircraft-current id x y alt vx vy vs =
-    IfOk-any _ (identifier id) _ (λ id. IfOk-any _ (number_in positions x) _ (λ x. IfOk-any _ (number_in positions y) _ (λ y. IfOk-any _ (number_in altitudes alt) _ (λ alt.
+    IfOk-any _ (if is_id id then Ok id else Err BadId) _ (λ id. IfOk-any _ (number_in positions x) _ (λ x. IfOk-any _ (number_in positions y) _ (λ y. IfOk-any _ (number_in altitudes alt) _ (λ alt.
     IfOk-any _ (number_in speeds vx) _ (λ vx. IfOk-any _ (number_in speeds vy) _ (λ vy. IfOk-any _ (number_in vertical_speeds vs) _ (λ vs. refl)))))))
 
-moment_of-current : (fields : List Bytes) → IfOk (moment_of fields) IsCurrentWord
-unfolding moment_of
-moment_of-current [] = tt
-moment_of-current (a ∷ []) = IfOk-any _ (count_in times a) _ (λ time. tt)
-moment_of-current (a ∷ b ∷ fields) = tt
+number_word-current : (range : Bounds) (word : ℕ → Word) (fields : List Bytes) → ((n : ℕ) → IsCurrentWord (word n)) → IfOk (number_word range word fields) IsCurrentWord
+unfolding number_word
+number_word-current range word [] h = tt
+number_word-current range word (a ∷ []) h = IfOk-any IsCurrentWord (count_in range a) _ h
+number_word-current range word (a ∷ b ∷ fields) h = tt
 
 own_of-current : (fields : List Bytes) → IfOk (own_of fields) IsCurrentWord
 unfolding own_of
-own_of-current (a ∷ b ∷ c ∷ d ∷ e ∷ f ∷ []) = IfOk-any _ (ownship a b c d e f) _ (λ own. tt)
+own_of-current (x ∷ y ∷ alt ∷ trk ∷ gs ∷ vs ∷ []) =
+    IfOk-any _ (number_in positions x) _ (λ x. IfOk-any _ (number_in positions y) _ (λ y. IfOk-any _ (number_in altitudes alt) _ (λ alt.
+    IfOk-any _ (number_in tracks trk) _ (λ trk. IfOk-any _ (number_in ground_speeds gs) _ (λ gs. IfOk-any _ (number_in vertical_speeds vs) _ (λ vs. tt))))))
 own_of-current _ = tt
 
 traffic_of-current : (fields : List Bytes) → IfOk (traffic_of fields) IsCurrentWord
@@ -42,26 +48,20 @@ traffic_of-current (a ∷ b ∷ c ∷ d ∷ e ∷ f ∷ g ∷ []) =
     IfOk-with IsCurrent _ (aircraft a b c d e f g) _ (aircraft-current a b c d e f g) (λ traffic h. h)
 traffic_of-current _ = tt
 
-format_of-current : (fields : List Bytes) → IfOk (format_of fields) IsCurrentWord
-unfolding format_of
-format_of-current [] = tt
-format_of-current (a ∷ []) = IfOk-any _ (count_in formats a) _ (λ format. tt)
-format_of-current (a ∷ b ∷ fields) = tt
-
 end_of-current : (fields : List Bytes) → IfOk (end_of fields) IsCurrentWord
 unfolding end_of
 end_of-current [] = tt
 end_of-current (a ∷ fields) = tt
 
 word_of_fields-current : (fields : List Bytes) → IfOk (word_of_fields 1 fields) IsCurrentWord
-unfolding word_of_fields word_of_name
+unfolding word_of_fields
 word_of_fields-current [] = tt
 word_of_fields-current (name ∷ fields) =
-    IfOk-if _ (is_comment name) _ _ tt (
-    IfOk-if _ (bytes_eq name (codes "moment")) _ _ (moment_of-current fields) (
+    IfOk-if _ (slice_index name 0 == 35) _ _ tt (
+    IfOk-if _ (bytes_eq name (codes "moment")) _ _ (number_word-current times says.Moment fields (λ time. tt)) (
     IfOk-if _ (bytes_eq name (codes "own")) _ _ (own_of-current fields) (
     IfOk-if _ (bytes_eq name (codes "traffic")) _ _ (traffic_of-current fields) (
-    IfOk-if _ (bytes_eq name (codes "format")) _ _ (format_of-current fields) (
+    IfOk-if _ (bytes_eq name (codes "format")) _ _ (number_word-current formats says.Format fields (λ format. tt)) (
     IfOk-if _ (bytes_eq name (codes "end")) _ _ (end_of-current fields) tt)))))
 
 pub word_of-current : Format1SaysNoAges
@@ -91,14 +91,10 @@ with_traffic-current (Some moment) traffic h k =
     IfOk-if IsCurrentMoment (has_id traffic.id moment.traffic.items) _ _ tt (
     IfOk-if IsCurrentMoment (length moment.traffic.items == 64) _ _ tt (All-push IsCurrent moment.traffic.items traffic h k))
 
-picture_with-current : (moment : Moment) (own : Option Own) → IsCurrentMoment moment → IfOk (picture_with moment own) IsCurrentPicture
-picture_with-current moment None h = tt
-picture_with-current moment (Some own) h = h
-
 ended_picture-current : (moment : Option Moment) → IfSome moment IsCurrentMoment → IfOk (ended_picture moment) IsCurrentPicture
 unfolding ended_picture
 ended_picture-current None h = tt
-ended_picture-current (Some moment) h = picture_with-current moment moment.own h
+ended_picture-current (Some moment) h = IfOk-any IsCurrentPicture (ok_or moment.own NoOwn) _ (λ own. h)
 
 pub step-current : NoAgesLeaveNoAges
 unfolding step

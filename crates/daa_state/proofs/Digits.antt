@@ -4,7 +4,7 @@ use Rattle.std.proofs.Math.Nat.{pow-le-pow_right}
 use Rattle.std.proofs.lemmas.List.{take_more, map-append}
 use Rattle.std.proofs.lemmas.Int.Digits.{number_push}
 use Rattle.std.specs.Int.Digits.{number_from_digits}
-use Rattle.daa_state.specs.Number.{size_of_digits}
+use Rattle.daa_state.specs.Inside.Number.{size_of_digits}
 
 pub size_more : (xs : List ℕ) (i : ℕ) → i < length xs → size_of_digits (take (i + 1) xs) ≡ size_of_digits (take i xs) * 10 + (get_or xs i 0 - 48)
 size_more xs i h =

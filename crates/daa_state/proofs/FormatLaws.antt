@@ -1,16 +1,17 @@
 -- Lines without the word `format`, and words that leave the format.
 use Rattle.std.proofs.Common.{ℕ, ◌≡◌, ◌∷◌, [], ◌==◌, false, List, refl}
-use Rattle.std.specs.Prelude.{IfOk, nat_le, length, codes}
+use Rattle.std.specs.Prelude.{IfOk, nat_le, length, slice_index, codes}
 use Rattle.std.specs.Str.{bytes_eq}
 use Rattle.std.specs.Str.Lines.{strip_carriage_return}
 use Rattle.daa_state.specs.Fault.{Checked}
-use Rattle.daa_state.specs.Fields.{Bytes, fields_of}
-use Rattle.daa_state.specs.FourWords.{begins_with_format, four_word_of_name, four_word_of_fields, four_word_of}
+use Rattle.daa_state.specs.Fields.{fields_of}
+use Rattle.daa_state.specs.Inside.Texts.{Bytes}
+use Rattle.daa_state.specs.FourWords.{begins_with_format, four_word_of_fields, four_word_of}
 use Rattle.daa_state.specs.Laws.{is_format_word, OnlyFormatLinesSayFormats, ReadsAsFourWords, OtherWordsLeaveTheFormat}
-use Rattle.daa_state.specs.Number.{count_in}
-use Rattle.daa_state.specs.Ranges.{ages, times}
+use Rattle.daa_state.specs.Number.{number_in, count_in}
+use Rattle.daa_state.specs.Ranges.{positions, altitudes, tracks, ground_speeds, vertical_speeds, ages, times}
 use Rattle.daa_state.specs.MomentStep.{step, begun_moment, with_own, with_traffic, ended_picture}
-use Rattle.daa_state.specs.WordOf.{is_comment, word_of, word_of_fields, word_of_name, moment_of, own_of, ownship, traffic_of, aged_traffic_of, aircraft, end_of}
+use Rattle.daa_state.specs.WordOf.{word_of, word_of_fields, number_word, own_of, traffic_of, aged_traffic_of, aircraft, end_of}
 use Rattle.daa_state.specs.declared.word.Word.{Word}
 use Rattle.daa_state.specs.declared.word.Word.TheVariants as says
 use Rattle.daa_state.proofs.CheckedLemmas.{IfOk-any, IfOk-if}
@@ -18,15 +19,17 @@ use Rattle.daa_state.proofs.CheckedLemmas.{IfOk-any, IfOk-if}
 abbrev SaysNoFormat : Checked Word → Type 0
 SaysNoFormat said = IfOk said (λ word. is_format_word word ≡ false)
 
-moment_of-none : (fields : List Bytes) → SaysNoFormat (moment_of fields)
-unfolding moment_of
-moment_of-none [] = tt
-moment_of-none (a ∷ []) = IfOk-any _ (count_in times a) _ (λ time. refl)
-moment_of-none (a ∷ b ∷ fields) = tt
+moment-none : (fields : List Bytes) → SaysNoFormat (number_word times says.Moment fields)
+unfolding number_word
+moment-none [] = tt
+moment-none (a ∷ []) = IfOk-any _ (count_in times a) _ (λ time. refl)
+moment-none (a ∷ b ∷ fields) = tt
 
 own_of-none : (fields : List Bytes) → SaysNoFormat (own_of fields)
 unfolding own_of
-own_of-none (a ∷ b ∷ c ∷ d ∷ e ∷ f ∷ []) = IfOk-any _ (ownship a b c d e f) _ (λ own. refl)
+own_of-none (x ∷ y ∷ alt ∷ trk ∷ gs ∷ vs ∷ []) =
+    IfOk-any _ (number_in positions x) _ (λ x. IfOk-any _ (number_in positions y) _ (λ y. IfOk-any _ (number_in altitudes alt) _ (λ alt.
+    IfOk-any _ (number_in tracks trk) _ (λ trk. IfOk-any _ (number_in ground_speeds gs) _ (λ gs. IfOk-any _ (number_in vertical_speeds vs) _ (λ vs. refl))))))
 own_of-none _ = tt
 
 traffic_of-none : (fields : List Bytes) → SaysNoFormat (traffic_of fields)
@@ -45,22 +48,17 @@ unfolding end_of
 end_of-none [] = refl
 end_of-none (a ∷ fields) = tt
 
-word_of_name-none : (format : ℕ) (name : Bytes) (fields : List Bytes) → bytes_eq name (codes "format") ≡ false
-    → SaysNoFormat (word_of_name format name fields)
-unfolding word_of_name
-word_of_name-none format name fields h =
+word_of_fields-none : (format : ℕ) (fields : List Bytes) → begins_with_format fields ≡ false → SaysNoFormat (word_of_fields format fields)
+unfolding word_of_fields
+word_of_fields-none format [] h = refl
+word_of_fields-none format (name ∷ fields) h =
     rw h (
-    IfOk-if _ (is_comment name) _ _ refl (
-    IfOk-if _ (bytes_eq name (codes "moment")) _ _ (moment_of-none fields) (
+    IfOk-if _ (slice_index name 0 == 35) _ _ refl (
+    IfOk-if _ (bytes_eq name (codes "moment")) _ _ (moment-none fields) (
     IfOk-if _ (bytes_eq name (codes "own")) _ _ (own_of-none fields) (
     IfOk-if _ (bytes_eq name (codes "traffic")) _ _
     (IfOk-if (λ word. is_format_word word ≡ false) (format == 2) _ _ (aged_traffic_of-none fields) (traffic_of-none fields)) (
     IfOk-if _ (bytes_eq name (codes "end")) _ _ (end_of-none fields) tt)))))
-
-word_of_fields-none : (format : ℕ) (fields : List Bytes) → begins_with_format fields ≡ false → SaysNoFormat (word_of_fields format fields)
-unfolding word_of_fields
-word_of_fields-none format [] h = refl
-word_of_fields-none format (name ∷ fields) h = word_of_name-none format name fields h
 
 pub only_format_lines_say_formats : OnlyFormatLinesSayFormats
 unfolding word_of
@@ -68,7 +66,7 @@ only_format_lines_say_formats line format h =
     IfOk-if _ (nat_le (length line) 255) _ _ (word_of_fields-none format (fields_of (strip_carriage_return line)) h) tt
 
 word_of_fields-four : (fields : List Bytes) → begins_with_format fields ≡ false → word_of_fields 1 fields ≡ four_word_of_fields fields
-unfolding word_of_fields word_of_name four_word_of_fields four_word_of_name
+unfolding word_of_fields four_word_of_fields
 word_of_fields-four [] h = refl
 word_of_fields-four (name ∷ fields) h = rw h refl
 

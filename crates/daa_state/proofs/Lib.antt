@@ -1,4 +1,5 @@
 pub mod Digits
+pub mod NumberLemmas
 pub mod IdLemmas
 pub mod WordLemmas
 pub mod StepLemmas

@@ -2,16 +2,16 @@
 use Rattle.std.proofs.Common.{ℕ, ◌+◌, ◌≡◌, ◌≤◌, ◌≢◌, ◌∷◌, [], ◌++◌, ◌==◌, Bool, true, false, length, Option, Some, None, Ok, Err, refl, arith, length-append}
 use Rattle.std.proofs.lemmas.Bool.Decides.{nat_tests}
 use Rattle.std.proofs.lemmas.List.Elements.{All-push, All-from_recursion}
-use Rattle.std.specs.Prelude.{IfOk, IfSome, is_some, nat_le, if◌then◌else◌}
+use Rattle.std.specs.Prelude.{IfOk, IfSome, is_some, ok_or, nat_le, if◌then◌else◌}
 use Rattle.daa_state.specs.InRange.{IsOwnInRange, IsTrafficInRange, IsWordInRange, IsPictureInRange}
 use Rattle.daa_state.specs.Inside.InRange.{IsMomentInRange}
-use Rattle.daa_state.specs.MomentStep.{MomentsState, Stepped, step, empty_moment, begun_moment, with_own, with_traffic, has_id, picture_with, ended_picture}
+use Rattle.daa_state.specs.MomentStep.{MomentsState, Stepped, step, empty_moment, begun_moment, with_own, with_traffic, has_id, ended_picture}
 use Rattle.daa_state.specs.declared.moments.Moment.{Moment}
 use Rattle.daa_state.specs.declared.word.Own.{Own}
 use Rattle.daa_state.specs.declared.word.Traffic.{Traffic}
 use Rattle.daa_state.specs.declared.word.Word.{Word}
 use Rattle.daa_state.specs.declared.word.Word.TheVariants as says
-use Rattle.daa_state.specs.declared.fault.LineFault.TheVariants.{Full}
+use Rattle.daa_state.specs.declared.fault.LineFault.TheVariants.{Full, NoOwn}
 use Rattle.daa_state.proofs.CheckedLemmas.{IfOk-with, IfOk-if}
 
 -- its numbers are in range, and it has room for no more than 64 aircraft
@@ -65,14 +65,15 @@ with_traffic-range (Some moment) traffic h k = IfOk-if IsOpenInRange (has_id tra
         one_more : (n m : ℕ) → n ≤ 64 → n ≢ 64 → m ≡ n + 1 → m ≤ 64
         one_more n m h k e = grind arith
 
-picture_with-range : (moment : Moment) (own : Option Own) → IsOpenInRange moment → IfSome own IsOwnInRange → IfOk (picture_with moment own) IsPictureInRange
-picture_with-range moment None h k = tt
-picture_with-range moment (Some own) h k = record { own = k; traffic = h.numbers.traffic; count = h.few }
+own-range : (own : Option Own) → IfSome own IsOwnInRange → IfOk (ok_or own NoOwn) IsOwnInRange
+own-range None h = tt
+own-range (Some own) h = h
 
 ended_picture-range : (moment : Option Moment) → IfSome moment IsOpenInRange → IfOk (ended_picture moment) IsPictureInRange
 unfolding ended_picture
 ended_picture-range None h = tt
-ended_picture-range (Some moment) h = picture_with-range moment moment.own h h.numbers.own
+ended_picture-range (Some moment) h =
+    IfOk-with IsOwnInRange IsPictureInRange (ok_or moment.own NoOwn) _ (own-range moment.own h.numbers.own) (λ own k. record { own = k; traffic = h.numbers.traffic; count = h.few })
 
 pub step-range : (state : MomentsState) (word : Word) → IsStateInRange state → IsWordInRange word → IfOk (step state word) IsSteppedInRange
 unfolding step

@@ -4,7 +4,7 @@ use Rattle.std.proofs.lemmas.List.{take_all, length-take-le}
 use Rattle.std.proofs.lemmas.Bool.{cases_lt}
 use Rattle.std.proofs.lemmas.Bool.Decides.{nat_tests}
 use Rattle.std.specs.Prelude.{nat_le}
-use Rattle.daa_state.specs.Fields.{Bytes}
+use Rattle.daa_state.specs.Inside.Texts.{Bytes}
 use Rattle.daa_state.specs.WordOf.{word_of}
 use Rattle.daa_state.specs.declared.fault.LineFault.TheVariants.{LongLine}
 

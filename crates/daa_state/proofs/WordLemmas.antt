@@ -5,15 +5,15 @@ use Rattle.std.specs.Prelude.{nat_le}
 use Rattle.std.specs.Str.Lines.{strip_carriage_return}
 use Rattle.daa_state.specs.Fault.{◌>>=◌}
 use Rattle.daa_state.specs.declared.word.Word.TheVariants as says
-use Rattle.daa_state.specs.Fields.{Bytes, fields_of}
-use Rattle.daa_state.specs.Inside.Texts.{texts}
+use Rattle.daa_state.specs.Fields.{fields_of}
+use Rattle.daa_state.specs.Inside.Texts.{Bytes, texts}
 use Rattle.daa_state.specs.Number.{count_in}
 use Rattle.daa_state.specs.Ranges.{ages}
-use Rattle.daa_state.specs.WordOf.{word_of, word_of_fields, word_of_name, moment_of, own_of, traffic_of, aged_traffic_of, format_of, aircraft, end_of}
+use Rattle.daa_state.specs.WordOf.{word_of, word_of_fields, number_word, own_of, traffic_of, aged_traffic_of, aircraft, end_of}
 
 -- no word takes more than ten fields, so ten show how many there are
 pub ten_are_enough : (format : ℕ) (fields : List Bytes) → word_of_fields format (take 10 fields) ≡ word_of_fields format fields
-unfolding word_of_fields word_of_name moment_of own_of traffic_of aged_traffic_of format_of end_of
+unfolding word_of_fields number_word own_of traffic_of aged_traffic_of end_of
 ten_are_enough format [] = refl
 ten_are_enough format (a ∷ []) = refl
 ten_are_enough format (a ∷ b ∷ []) = refl

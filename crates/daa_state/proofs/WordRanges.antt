@@ -1,21 +1,23 @@
 -- The numbers of a word are in range, whatever the line.
 use Rattle.std.proofs.Common.{ℕ, ◌≡◌, ◌≤◌, ◌∷◌, [], ◌&&◌, ℤ, Bool, true, false, List, Ok, Err, refl, arith}
-use Rattle.std.specs.Prelude.{IfOk, nat_le, int_le, length, codes, unsigned_abs, ◌==◌, if◌then◌else◌}
+use Rattle.std.specs.Prelude.{IfOk, nat_le, int_le, length, slice_index, codes, unsigned_abs, ◌==◌, if◌then◌else◌}
 use Rattle.std.proofs.lemmas.Int.{ints}
 use Rattle.std.specs.Str.{bytes_eq}
 use Rattle.std.specs.Str.Lines.{strip_carriage_return}
-use Rattle.daa_state.specs.Fields.{Bytes, fields_of}
+use Rattle.daa_state.specs.Fields.{fields_of}
+use Rattle.daa_state.specs.Inside.Texts.{Bytes}
 use Rattle.daa_state.specs.Id.{is_id}
-use Rattle.daa_state.specs.InRange.{IsWithin, IsPosition, IsAltitude, IsTrack, IsGroundSpeed, IsSpeed, IsVerticalSpeed, IsAge, IsFormat, IsOwnInRange, IsTrafficInRange, IsWordInRange}
-use Rattle.daa_state.specs.Number.{number, within, number_in, count_in}
+use Rattle.daa_state.specs.InRange.{IsWithin, IsPosition, IsAltitude, IsTrack, IsGroundSpeed, IsSpeed, IsVerticalSpeed, IsAge, IsFormat, IsTrafficInRange, IsWordInRange}
+use Rattle.daa_state.specs.Number.{number, number_in, count_in}
 use Rattle.daa_state.specs.Ranges.{Bounds, positions, altitudes, tracks, ground_speeds, speeds, vertical_speeds, ages, formats, times}
-use Rattle.daa_state.specs.WordOf.{identifier, is_comment, word_of, word_of_fields, word_of_name, moment_of, own_of, ownship, traffic_of, aged_traffic_of, aircraft, format_of, end_of}
+use Rattle.daa_state.specs.WordOf.{word_of, word_of_fields, number_word, own_of, traffic_of, aged_traffic_of, aircraft, end_of}
+use Rattle.daa_state.specs.declared.word.Word.TheVariants as says
 use Rattle.daa_state.specs.declared.fault.LineFault.TheVariants.{OutOfRange, BadId}
 use Rattle.daa_state.proofs.CheckedLemmas.{IfOk-with, IfOk-if, IfOk-any}
 
 -- ---- numbers
 
-within-range : (range : Bounds) (n : ℤ) → IfOk (within range n) (IsWithin range)
+within-range : (range : Bounds) (n : ℤ) → IfOk (if int_le range.low n && int_le n range.high then Ok n else Err OutOfRange) (IsWithin range)
 within-range range n = go (int_le range.low n) (int_le n range.high) refl refl
   where
     go : (a b : Bool) → int_le range.low n ≡ a → int_le n range.high ≡ b → IfOk (if a && b then Ok n else Err OutOfRange) (IsWithin range)
@@ -43,29 +45,17 @@ format-range field = IfOk-with (IsWithin formats) IsFormat (number_in formats fi
 
 -- ---- words
 
-identifier-is : (field : Bytes) → IfOk (identifier field) (λ id. is_id id ≡ true)
-unfolding identifier
+identifier-is : (field : Bytes) → IfOk (if is_id field then Ok field else Err BadId) (λ id. is_id id ≡ true)
 identifier-is field = go (is_id field) refl
   where
     go : (b : Bool) → is_id field ≡ b → IfOk (if b then Ok field else Err BadId) (λ id. is_id id ≡ true)
     go true e = e
     go false e = tt
 
-ownship-range : (x y alt trk gs vs : Bytes) → IfOk (ownship x y alt trk gs vs) IsOwnInRange
-unfolding ownship
-ownship-range x y alt trk gs vs =
-    IfOk-with IsPosition IsOwnInRange (number_in positions x) _ (number_in-range positions x) (λ x in_x.
-    IfOk-with IsPosition IsOwnInRange (number_in positions y) _ (number_in-range positions y) (λ y in_y.
-    IfOk-with IsAltitude IsOwnInRange (number_in altitudes alt) _ (number_in-range altitudes alt) (λ alt in_alt.
-    IfOk-with IsTrack IsOwnInRange (number_in tracks trk) _ (number_in-range tracks trk) (λ trk in_trk.
-    IfOk-with IsGroundSpeed IsOwnInRange (number_in ground_speeds gs) _ (number_in-range ground_speeds gs) (λ gs in_gs.
-    IfOk-with IsVerticalSpeed IsOwnInRange (number_in vertical_speeds vs) _ (number_in-range vertical_speeds vs) (λ vs in_vs.
-    record { x = in_x; y = in_y; alt = in_alt; trk = in_trk; gs = in_gs; vs = in_vs }))))))
-
 aircraft-range : (id x y alt vx vy vs : Bytes) → IfOk (aircraft id x y alt vx vy vs) IsTrafficInRange
 unfolding aircraft
 aircraft-range id x y alt vx vy vs =
-    IfOk-with _ IsTrafficInRange (identifier id) _ (identifier-is id) (λ id in_id.
+    IfOk-with (λ id. is_id id ≡ true) IsTrafficInRange (if is_id id then Ok id else Err BadId) _ (identifier-is id) (λ id in_id.
     IfOk-with IsPosition IsTrafficInRange (number_in positions x) _ (number_in-range positions x) (λ x in_x.
     IfOk-with IsPosition IsTrafficInRange (number_in positions y) _ (number_in-range positions y) (λ y in_y.
     IfOk-with IsAltitude IsTrafficInRange (number_in altitudes alt) _ (number_in-range altitudes alt) (λ alt in_alt.
@@ -74,15 +64,22 @@ aircraft-range id x y alt vx vy vs =
     IfOk-with IsVerticalSpeed IsTrafficInRange (number_in vertical_speeds vs) _ (number_in-range vertical_speeds vs) (λ vs in_vs.
     record { id = in_id; x = in_x; y = in_y; alt = in_alt; vx = in_vx; vy = in_vy; vs = in_vs; age = omega arith })))))))
 
-moment_of-range : (fields : List Bytes) → IfOk (moment_of fields) IsWordInRange
-unfolding moment_of
-moment_of-range [] = tt
-moment_of-range (a ∷ []) = IfOk-any _ (count_in times a) _ (λ time. tt)
-moment_of-range (a ∷ b ∷ fields) = tt
+moment-range : (fields : List Bytes) → IfOk (number_word times says.Moment fields) IsWordInRange
+unfolding number_word
+moment-range [] = tt
+moment-range (a ∷ []) = IfOk-any _ (count_in times a) _ (λ time. tt)
+moment-range (a ∷ b ∷ fields) = tt
 
 own_of-range : (fields : List Bytes) → IfOk (own_of fields) IsWordInRange
 unfolding own_of
-own_of-range (a ∷ b ∷ c ∷ d ∷ e ∷ f ∷ []) = IfOk-with IsOwnInRange _ (ownship a b c d e f) _ (ownship-range a b c d e f) (λ own h. h)
+own_of-range (x ∷ y ∷ alt ∷ trk ∷ gs ∷ vs ∷ []) =
+    IfOk-with IsPosition IsWordInRange (number_in positions x) _ (number_in-range positions x) (λ x in_x.
+    IfOk-with IsPosition IsWordInRange (number_in positions y) _ (number_in-range positions y) (λ y in_y.
+    IfOk-with IsAltitude IsWordInRange (number_in altitudes alt) _ (number_in-range altitudes alt) (λ alt in_alt.
+    IfOk-with IsTrack IsWordInRange (number_in tracks trk) _ (number_in-range tracks trk) (λ trk in_trk.
+    IfOk-with IsGroundSpeed IsWordInRange (number_in ground_speeds gs) _ (number_in-range ground_speeds gs) (λ gs in_gs.
+    IfOk-with IsVerticalSpeed IsWordInRange (number_in vertical_speeds vs) _ (number_in-range vertical_speeds vs) (λ vs in_vs.
+    record { x = in_x; y = in_y; alt = in_alt; trk = in_trk; gs = in_gs; vs = in_vs }))))))
 own_of-range _ = tt
 
 traffic_of-range : (fields : List Bytes) → IfOk (traffic_of fields) IsWordInRange
@@ -98,31 +95,27 @@ aged_traffic_of-range (a ∷ b ∷ c ∷ d ∷ e ∷ f ∷ g ∷ s ∷ []) =
     record { id = h.id; x = h.x; y = h.y; alt = h.alt; vx = h.vx; vy = h.vy; vs = h.vs; age = k }))
 aged_traffic_of-range _ = tt
 
-format_of-range : (fields : List Bytes) → IfOk (format_of fields) IsWordInRange
-unfolding format_of
-format_of-range [] = tt
-format_of-range (a ∷ []) = IfOk-with IsFormat _ (count_in formats a) _ (format-range a) (λ format h. h)
-format_of-range (a ∷ b ∷ fields) = tt
+format_word-range : (fields : List Bytes) → IfOk (number_word formats says.Format fields) IsWordInRange
+unfolding number_word
+format_word-range [] = tt
+format_word-range (a ∷ []) = IfOk-with IsFormat _ (count_in formats a) _ (format-range a) (λ format h. h)
+format_word-range (a ∷ b ∷ fields) = tt
 
 end_of-range : (fields : List Bytes) → IfOk (end_of fields) IsWordInRange
 unfolding end_of
 end_of-range [] = tt
 end_of-range (a ∷ fields) = tt
 
-word_of_name-range : (format : ℕ) (name : Bytes) (fields : List Bytes) → IfOk (word_of_name format name fields) IsWordInRange
-unfolding word_of_name
-word_of_name-range format name fields =
-    IfOk-if _ (is_comment name) _ _ tt (
-    IfOk-if _ (bytes_eq name (codes "moment")) _ _ (moment_of-range fields) (
-    IfOk-if _ (bytes_eq name (codes "own")) _ _ (own_of-range fields) (
-    IfOk-if _ (bytes_eq name (codes "traffic")) _ _ (IfOk-if _ (format == 2) _ _ (aged_traffic_of-range fields) (traffic_of-range fields)) (
-    IfOk-if _ (bytes_eq name (codes "format")) _ _ (format_of-range fields) (
-    IfOk-if _ (bytes_eq name (codes "end")) _ _ (end_of-range fields) tt)))))
-
 word_of_fields-range : (format : ℕ) (fields : List Bytes) → IfOk (word_of_fields format fields) IsWordInRange
 unfolding word_of_fields
 word_of_fields-range format [] = tt
-word_of_fields-range format (name ∷ fields) = word_of_name-range format name fields
+word_of_fields-range format (name ∷ fields) =
+    IfOk-if _ (slice_index name 0 == 35) _ _ tt (
+    IfOk-if _ (bytes_eq name (codes "moment")) _ _ (moment-range fields) (
+    IfOk-if _ (bytes_eq name (codes "own")) _ _ (own_of-range fields) (
+    IfOk-if _ (bytes_eq name (codes "traffic")) _ _ (IfOk-if _ (format == 2) _ _ (aged_traffic_of-range fields) (traffic_of-range fields)) (
+    IfOk-if _ (bytes_eq name (codes "format")) _ _ (format_word-range fields) (
+    IfOk-if _ (bytes_eq name (codes "end")) _ _ (end_of-range fields) tt)))))
 
 pub word_of-range : (line : Bytes) (format : ℕ) → IfOk (word_of line format) IsWordInRange
 unfolding word_of

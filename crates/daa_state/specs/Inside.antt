@@ -2,3 +2,4 @@
 pub mod Texts
 pub mod IdCells
 pub mod InRange
+pub mod Number

@@ -1,6 +1,5 @@
 -- Laws of the words and moments.
-use Rattle.std.specs.Prelude.{ℕ, ◌≡◌, ◌≤◌, Bool, true, false, take, length, Err, IfOk}
-use Rattle.daa_state.specs.Fields.{Bytes}
+use Rattle.std.specs.Prelude.{ℕ, ◌≡◌, ◌≤◌, Bool, true, false, List, take, length, Err, IfOk}
 use Rattle.daa_state.specs.WordOf.{word_of}
 use Rattle.daa_state.specs.FourWords.{is_format_line, four_word_of}
 use Rattle.daa_state.specs.Current.{IsCurrentWord, IsCurrentState, IsCurrentStep}
@@ -16,20 +15,20 @@ is_format_word _ = false
 
 -- the first 256 bytes of a line decide its word
 abbrev pub First256BytesDecide : Type 0
-First256BytesDecide = (line : Bytes) (format : ℕ) → word_of (take 256 line) format ≡ word_of line format
+First256BytesDecide = (line : List ℕ) (format : ℕ) → word_of (take 256 line) format ≡ word_of line format
 
 -- a line of 256 bytes or more is long
 abbrev pub LongFrom256Bytes : Type 0
-LongFrom256Bytes = (line : Bytes) (format : ℕ) → 256 ≤ length line → word_of line format ≡ Err LongLine
+LongFrom256Bytes = (line : List ℕ) (format : ℕ) → 256 ≤ length line → word_of line format ≡ Err LongLine
 
 -- a line whose first field is not `format` gives no format word, in either format
 abbrev pub OnlyFormatLinesSayFormats : Type 0
-OnlyFormatLinesSayFormats = (line : Bytes) (format : ℕ) → is_format_line line ≡ false
+OnlyFormatLinesSayFormats = (line : List ℕ) (format : ℕ) → is_format_line line ≡ false
     → IfOk (word_of line format) (λ word. is_format_word word ≡ false)
 
 -- in format 1 it is read as if there were only the four words
 abbrev pub ReadsAsFourWords : Type 0
-ReadsAsFourWords = (line : Bytes) → is_format_line line ≡ false → word_of line 1 ≡ four_word_of line
+ReadsAsFourWords = (line : List ℕ) → is_format_line line ≡ false → word_of line 1 ≡ four_word_of line
 
 -- a word other than a format word does not change the format
 abbrev pub OtherWordsLeaveTheFormat : Type 0
@@ -38,7 +37,7 @@ OtherWordsLeaveTheFormat = (state : MomentsState) (word : Word) → is_format_wo
 
 -- in format 1 the aircraft of a word has age 0
 abbrev pub Format1SaysNoAges : Type 0
-Format1SaysNoAges = (line : Bytes) → IfOk (word_of line 1) IsCurrentWord
+Format1SaysNoAges = (line : List ℕ) → IfOk (word_of line 1) IsCurrentWord
 
 -- if all aircraft of the open moment and of the word have age 0, so have all aircraft of the open
 -- moment or of the picture after the step

@@ -1,8 +1,8 @@
 -- What a word makes of the moments.
-use Rattle.std.specs.Prelude.{ℕ, Bool, false, List, [], ◌∷◌, ◌++◌, ◌==◌, length, nat_le, is_some, Option, Some, None, Ok, Err, if◌then◌else◌}
+use Rattle.std.specs.Prelude.{ℕ, Bool, false, List, [], ◌∷◌, ◌++◌, ◌==◌, length, nat_le, is_some, ok_or, Option, Some, None, Ok, Err, if◌then◌else◌}
 use Rattle.std.specs.List.{list_any}
 use Rattle.std.specs.Str.{bytes_eq}
-use Rattle.daa_state.specs.Fault.{Checked, ◌>>=◌}
+use Rattle.daa_state.specs.Fault.{Checked, ◌>>=◌, checked_map}
 use Rattle.daa_state.specs.declared.moments.Moment.{Moment}
 use Rattle.daa_state.specs.declared.word.Own.{Own}
 use Rattle.daa_state.specs.declared.word.Traffic.{Traffic}
@@ -57,21 +57,14 @@ with_traffic (Some moment) traffic =
     else if length moment.traffic.items == 64 then Err Full
     else Ok (record moment { traffic = record { items = moment.traffic.items ++ traffic ∷ [] } })
 
--- the picture of a moment that has an ownship
-abbrev pub picture_with : Moment → Option Own → Checked Picture
-picture_with moment None = Err NoOwn
-picture_with moment (Some own) = Ok (record { time = moment.time; own = own; traffic = moment.traffic })
-
--- the open moment ends
+-- the open moment ends: its picture, if it has an ownship
 unfoldable pub ended_picture : Option Moment → Checked Picture
 ended_picture None = Err NoMoment
-ended_picture (Some moment) = picture_with moment moment.own
+ended_picture (Some moment) = checked_map (λ own. record { time = moment.time; own = own; traffic = moment.traffic }) (ok_or moment.own NoOwn)
 
 -- what was made of the open moment takes its place, unless the word is refused
 abbrev pub with_moment : MomentsState → Checked Moment → Checked Stepped
-with_moment state made = do
-  moment ← made
-  Ok (stepped (record state { moment = Some moment }) None)
+with_moment state made = checked_map (λ moment. stepped (record state { moment = Some moment }) None) made
 
 -- what a word makes of a state, or why it is refused; then the state stays
 unfoldable pub step : MomentsState → Word → Checked Stepped

@@ -1,7 +1,7 @@
 //! The fields of a line.
 
 ghost use Rattle.std.specs.Prelude.{◌≡◌, ◌||◌, ◌==◌, take, map};
-ghost use Rattle.daa_state.specs.Fields.{is_blank, fields_of};
+ghost use Rattle.daa_state.specs.Fields.{fields_of};
 ghost use Rattle.daa_state.specs.Inside.Texts.{texts};
 
 use arrayvec::ArrayVec;
@@ -24,7 +24,7 @@ pub(crate) fn fields(line: &[u8]) -> ArrayVec<&[u8], MOST_FIELDS>
 
 /// Whether a byte is a space or a tab.
 fn is_blank(byte: u8) -> bool
-    ensures { result ≡ is_blank byte }
+    ensures { result ≡ (byte == 32 || byte == 9) }
 {
     byte == b' ' || byte == b'\t'
 }

@@ -6,8 +6,9 @@ ghost use Rattle.std.specs.Prelude.{IsTrue, pos, IfSome, IfOk, MatchOption};
 ghost use Rattle.std.specs.Option.{SomeIff};
 ghost use Rattle.std.specs.List.{list_all};
 ghost use Rattle.std.specs.Char.{is_ascii_digit};
-ghost use Rattle.daa_state.specs.Number.{has_minus, digits_of_field, size_of_digits};
-ghost use Rattle.daa_state.specs.Number.{are_digits, number, number_in, count_in};
+ghost use Rattle.daa_state.specs.Number.{number, number_in, count_in};
+ghost use Rattle.daa_state.specs.Inside.Number.{has_minus, digits_of_field};
+ghost use Rattle.daa_state.specs.Inside.Number.{are_digits, size_of_digits};
 ghost use Rattle.daa_state.specs.Ranges.{positions, altitudes, tracks, ground_speeds};
 ghost use Rattle.daa_state.specs.Ranges.{speeds, vertical_speeds, ages, formats, times};
 ghost use Rattle.daa_state.specs.InRange.{IsPosition, IsAltitude, IsTrack, IsGroundSpeed};
@@ -19,7 +20,7 @@ use crate::fault::LineFault;
 const MOST_DIGITS: usize = 10;
 
 /// The number that a field spells.
-#[tactic(auto, unfolding(crate::specs::Number::number))]
+#[tactic(auto, using(crate::proofs::NumberLemmas::number_is))]
 fn number(field: &[u8]) -> Result<i64, LineFault>
     ensures { result ≡ number field.now }
 {

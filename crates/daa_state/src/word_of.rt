@@ -1,13 +1,15 @@
 //! The word of a line.
 
-ghost use Rattle.std.specs.Prelude.{◌≡◌, true, IfOk};
+ghost use Rattle.std.specs.Prelude.{◌≡◌, ◌==◌, ◌∷◌, [], true, IfOk, Ok, Err, slice_index};
+ghost use Rattle.std.specs.Prelude.{if◌then◌else◌};
 ghost use Rattle.std.specs.Str.Lines.{strip_carriage_return};
 ghost use Rattle.daa_state.specs.Inside.Texts.{texts};
 ghost use Rattle.daa_state.specs.Id.{is_id};
 ghost use Rattle.daa_state.specs.InRange.{IsFormat, IsWordInRange, IsOwnInRange, IsTrafficInRange};
-ghost use Rattle.daa_state.specs.WordOf.{word_of, word_of_fields, word_of_name, is_comment};
-ghost use Rattle.daa_state.specs.WordOf.{moment_of, own_of, ownship, traffic_of, aged_traffic_of};
-ghost use Rattle.daa_state.specs.WordOf.{aircraft, identifier, format_of, end_of};
+ghost use Rattle.daa_state.specs.Fault.{checked_map};
+ghost use Rattle.daa_state.specs.Ranges.{formats, times};
+ghost use Rattle.daa_state.specs.WordOf.{word_of, word_of_fields, number_word, own_of};
+ghost use Rattle.daa_state.specs.WordOf.{traffic_of, aged_traffic_of, aircraft, end_of};
 
 use crate::fault::LineFault;
 use crate::fields::fields;
@@ -71,9 +73,9 @@ fn word(format: u32, fields: &[&[u8]]) -> Result<Word, LineFault>
 }
 
 /// The first field names the word of the others.
-#[tactic(auto, unfolding(crate::specs::WordOf::word_of_name))]
+#[tactic(auto, unfolding(crate::specs::WordOf::word_of_fields))]
 fn word_of_name(format: u32, name: &[u8], fields: &[&[u8]]) -> Result<Word, LineFault>
-    ensures value { result ≡ word_of_name format name.now (texts fields.now) }
+    ensures value { result ≡ word_of_fields format (name.now ∷ texts fields.now) }
     ensures range { IfOk result IsWordInRange }
 {
     if is_comment(name) {
@@ -99,15 +101,15 @@ fn word_of_name(format: u32, name: &[u8], fields: &[&[u8]]) -> Result<Word, Line
 
 /// Whether the first field begins a comment.
 fn is_comment(name: &[u8]) -> bool
-    ensures { result ≡ is_comment name.now }
+    ensures { result ≡ (slice_index name.now 0 == 35) }
 {
     matches!(name, [b'#', ..])
 }
 
 /// `moment T`
-#[tactic(auto, unfolding(crate::specs::WordOf::moment_of))]
+#[tactic(auto, unfolding(crate::specs::WordOf::number_word))]
 fn moment(fields: &[&[u8]]) -> Result<Word, LineFault>
-    ensures value { result ≡ moment_of (texts fields.now) }
+    ensures value { result ≡ number_word times Word.Moment (texts fields.now) }
     ensures range { IfOk result IsWordInRange }
 {
     match fields {
@@ -129,7 +131,7 @@ fn own(fields: &[&[u8]]) -> Result<Word, LineFault>
 }
 
 /// The ownship of six fields, or the fault of the first field that is wrong.
-#[tactic(auto, unfolding(crate::specs::WordOf::ownship))]
+#[tactic(auto, unfolding(crate::specs::WordOf::own_of))]
 fn ownship(
     x: &[u8],
     y: &[u8],
@@ -138,7 +140,8 @@ fn ownship(
     gs: &[u8],
     vs: &[u8],
 ) -> Result<Own, LineFault>
-    ensures value { result ≡ ownship x.now y.now alt.now trk.now gs.now vs.now }
+    ensures value { checked_map Word.Own result
+        ≡ own_of (x.now ∷ y.now ∷ alt.now ∷ trk.now ∷ gs.now ∷ vs.now ∷ []) }
     ensures range { IfOk result IsOwnInRange }
 {
     Ok(Own {
@@ -208,18 +211,17 @@ fn aircraft(
 }
 
 /// The identifier that a field spells, or `BadId`.
-#[tactic(auto, unfolding(crate::specs::WordOf::identifier))]
 fn identifier(field: &[u8]) -> Result<Id, LineFault>
-    ensures value { result ≡ identifier field.now }
+    ensures value { result ≡ (if is_id field.now then Ok field.now else Err LineFault.BadId) }
     ensures range { IfOk result (λ id. is_id id ≡ true) }
 {
     Id::of(field).ok_or(LineFault::BadId)
 }
 
 /// `format N`
-#[tactic(auto, unfolding(crate::specs::WordOf::format_of))]
+#[tactic(auto, unfolding(crate::specs::WordOf::number_word))]
 fn format_word(fields: &[&[u8]]) -> Result<Word, LineFault>
-    ensures value { result ≡ format_of (texts fields.now) }
+    ensures value { result ≡ number_word formats Word.Format (texts fields.now) }
     ensures range { IfOk result IsWordInRange }
 {
     match fields {

@@ -1,8 +1,7 @@
-use Rattle.std.proofs.Common.{◌≡◌, take}
+use Rattle.std.proofs.Common.{◌≡◌, ◌==◌, length, not, take}
 use Rattle.std.specs.Prelude.{filter}
-use Rattle.daa_state.specs.Fields.{is_filled}
 use Rattle.daa_state.specs.Inside.Texts.{texts}
 use Rattle.daa_state.proofs.fields.fields.Given as goal
 
 abbrev pub invariant-loop-field : goal.invariant-loop-field
-invariant-loop-field l = texts l.fields.items ≡ take 10 (filter is_filled (texts l.yielded))
+invariant-loop-field l = texts l.fields.items ≡ take 10 (filter (λ field. not (length field == 0)) (texts l.yielded))

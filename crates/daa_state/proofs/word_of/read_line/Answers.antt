@@ -1,7 +1,7 @@
 use Rattle.std.proofs.Common.{◌∙◌, ap, sym, take, arith}
 use Rattle.daa_state.specs.WordOf.{word_of_fields}
-use Rattle.daa_state.specs.Fields.{Bytes, fields_of}
-use Rattle.daa_state.specs.Inside.Texts.{texts}
+use Rattle.daa_state.specs.Fields.{fields_of}
+use Rattle.daa_state.specs.Inside.Texts.{Bytes, texts}
 use Rattle.daa_state.proofs.WordLemmas.{ten_are_enough, short_line}
 use Rattle.daa_state.proofs.word_of.read_line.Goals as goal
 
