@@ -1,14 +1,16 @@
 -- What is counted of one moment more.
-use Rattle.std.proofs.Common.{◌≡◌, ◌∙◌, ◌⊎◌, inl, inr, ◌<◌, ◌≤◌, ◌+◌, ℕ, zero, suc, List, ◌++◌, length, map, take, refl, sym, ap, arith, subst, add-one, zero-add, length-append}
+use Rattle.std.proofs.Common.{◌≡◌, ◌∙◌, ◌⊎◌, inl, inr, ◌<◌, ◌≤◌, ◌+◌, ℕ, zero, suc, List, [], ◌∷◌, ◌++◌, length, map, take, refl, sym, ap, arith, subst}
+use Rattle.std.proofs.Common.{add-one, append-nil, append_assoc, zero-add, length-append}
 use Rattle.std.specs.Prelude.{Option, Result, slice_index, ◌==◌}
-use Rattle.std.specs.List.{range_with_len}
+use Rattle.std.specs.List.{count_by, range_with_len}
 use Rattle.std.proofs.lemmas.Bool.{cases_lt}
 use Rattle.std.proofs.lemmas.List.{get_or_past}
-use Rattle.std.proofs.lemmas.List.FromFn.{get_or-map-range_with_len, length-map-range_with_len, sum_by-map-range_with_len_more, take-map-range_with_len}
+use Rattle.std.proofs.lemmas.List.FromFn.{get_or-map-range_with_len, length-map-range_with_len, map-range_with_len_more, sum_by-map-range_with_len_more, take-map-range_with_len}
 use Rattle.std.proofs.lemmas.List.Sums.{count_by-le-length}
 use Rattle.std.proofs.lemmas.Slice.Zip.{AllZip-long}
 use Rattle.daa_bands.specs.Board.{HasLevelOn, IsBoardOf, mask_levels}
 use Rattle.daa_bands.specs.KindBands.{AreShown}
+use Rattle.daa_bands.specs.Parts.{SplitsByEach}
 use Rattle.daa_bands.proofs.KindLemmas.{greatest_covered}
 use Rattle.daa_config.specs.Candidates.{start_of}
 use Rattle.daa_config.specs.Settings.{Settings, IsAccepted}
@@ -22,11 +24,13 @@ use Rattle.daa_state.specs.Picture.{aircraft_of}
 use Rattle.daa_state.specs.declared.word.Picture.{Picture}
 use Rattle.daa_report.specs.Says.{Says, SaysSome}
 use Rattle.daa_engine.specs.Covered.{CoveredAt}
-use Rattle.daa_exercise.specs.Inside.Counting.{Adds, AreCounted, AreLevelsFrom, CountsPicture, HasCounted, HasRoomFor, IsRoomy, aircraft_from, tally_of, written}
-use Rattle.daa_exercise.specs.Levels.{HasAlerts, HasShown, AreLevels, aircraft_in, counts_of, how_often}
+use Rattle.daa_exercise.specs.Inside.Counting.{Adds, AreCounted, AreLevelsFrom, CountsPicture, HasAlerts, HasCounted, HasRoomFor, HasShown, IsRoomy}
+use Rattle.daa_exercise.specs.Inside.Counting.{aircraft_from, aircraft_in, summary_text, tally_of, written}
+use Rattle.daa_exercise.specs.Levels.{counts_of}
 use Rattle.daa_exercise.specs.Moments.{moment_of}
-use Rattle.daa_exercise.specs.Summary.{IsSummaryOf, summary_text}
-use Rattle.daa_exercise.specs.Outputs.{Outputs, outputs_of}
+use Rattle.daa_exercise.specs.Summary.{IsSummaryOf}
+use Rattle.daa_exercise.specs.Inside.Drawing.{Outputs}
+use Rattle.daa_exercise.specs.Outputs.{outputs_of}
 use Rattle.daa_exercise.specs.declared.counting.Counts.{Counts}
 use Rattle.daa_exercise.proofs.TallyLemmas.{room_for}
 
@@ -44,6 +48,10 @@ add_covered s p board kind a b ok is (here, are, more) = (
 )
 
 -- ---- no count is above the number of levels
+
+-- how often a level is among levels
+abbrev pub how_often : List ℕ → ℕ → ℕ
+how_often levels level = count_by (λ other. other == level) levels
 
 how_often_few : (levels : List ℕ) (level : ℕ) → how_often levels level ≤ length levels
 how_often_few levels level = count_by-le-length (λ other. other == level) levels
@@ -93,14 +101,6 @@ alerts_few s p in' levels has = let e = AllZip-long (IsAlertLevel s p.own) (airc
 pub shown_few : (s : Settings) (p : Picture) (kind : Kind) → IsAccepted s → (levels : List ℕ) → HasShown s p kind levels → length levels ≤ 512
 shown_few s p kind ok levels has = let e = has.each in let n = length-values kind s in let few = few_of_kind s kind ok in omega (arith, e, n, few)
 
-pub aircraft_none : (output : Outputs) → aircraft_in output 0 ≡ 0
-unfolding aircraft_in
-aircraft_none output = refl
-
-pub aircraft_next : (output : Outputs) (count : ℕ) → aircraft_in output (count + 1) ≡ aircraft_in output count + length (aircraft_of (moment_of output count))
-unfolding aircraft_in
-aircraft_next output count = sum_by-map-range_with_len_more (λ (n : ℕ). n) (λ time. length (aircraft_of (moment_of output time))) 0 count count (zero-add count)
-
 pub aircraft_from_none : (output : Outputs) (time : ℕ) → aircraft_from output time 0 ≡ 0
 unfolding aircraft_from
 aircraft_from_none output time = refl
@@ -109,7 +109,7 @@ pub aircraft_from_next : (output : Outputs) (time count : ℕ)
     → aircraft_from output time (count + 1) ≡ aircraft_from output time count + length (aircraft_of (moment_of output (time + count)))
 unfolding aircraft_from
 aircraft_from_next output time count =
-    sum_by-map-range_with_len_more (λ (n : ℕ). n) (λ (t : ℕ). length (aircraft_of (moment_of output t))) time count (time + count) refl
+    sum_by-map-range_with_len_more (λ (p : Picture). length (aircraft_of p)) (moment_of output) time count (time + count) refl
 
 pub all_next : (s : Settings) (output : Outputs) → IsAccepted s → (time count : ℕ) (picture : Picture) (old new : Counts) → IsPictureInRange picture
     → picture ≡ moment_of output (time + count) → AreCounted s output time count old → CountsPicture s picture old new → AreCounted s output time (count + 1) new
@@ -141,18 +141,41 @@ unfolding counts_of
 upto_top top levels few = take-map-range_with_len (how_often levels) 0 9 (top + 1) (omega arith)
 
 -- the moments from the first on
-first_levels : (Has : Picture → List ℕ → Type 0) (output : Outputs) (count : ℕ) (levels : List ℕ) → AreLevelsFrom Has output 0 count levels → AreLevels Has output count levels
-first_levels Has output zero levels e = e
-first_levels Has output (suc count) levels are = record {
-  first = are.first;
-  second = are.second;
-  first_is = first_levels Has output count are.first are.first_is;
-  second_is = subst (λ (t : ℕ). Has (moment_of output t) are.second) (zero-add count) are.second_is;
-  joined = are.joined;
-}
+abbrev first_moments : Outputs → ℕ → List Picture
+first_moments output count = map (moment_of output) (range_with_len 0 count)
 
-first_aircraft : (output : Outputs) (count : ℕ) → aircraft_from output 0 count ≡ aircraft_in output count
-unfolding aircraft_from aircraft_in
+moments_more : (output : Outputs) (count : ℕ) → first_moments output (suc count) ≡ first_moments output count ++ moment_of output count ∷ []
+moments_more output count =
+    ap (first_moments output) (sym (add-one count)) ∙ map-range_with_len_more (moment_of output) 0 count count (zero-add count)
+
+module _ (Has : Picture → List ℕ → Type 0) where
+  -- one part more
+  part_more : (pictures : List Picture) (picture : Picture) (levels part all : List ℕ) → SplitsByEach Has pictures levels → Has picture part → all ≡ levels ++ part
+      → SplitsByEach Has (pictures ++ picture ∷ []) all
+  part_more [] picture levels part all none is joined = record {
+    first = part;
+    second = [];
+    first_is = is;
+    second_is = refl;
+    joined = joined ∙ ap (λ (xs : List ℕ). xs ++ part) none ∙ sym (append-nil part);
+  }
+  part_more (p ∷ pictures) picture levels part all are is joined = record {
+    first = are.first;
+    second = are.second ++ part;
+    first_is = are.first_is;
+    second_is = part_more pictures picture are.second part (are.second ++ part) are.second_is is refl;
+    joined = joined ∙ ap (λ (xs : List ℕ). xs ++ part) are.joined ∙ append_assoc are.first are.second part;
+  }
+
+  first_levels : (output : Outputs) (count : ℕ) (levels : List ℕ) → AreLevelsFrom Has output 0 count levels → SplitsByEach Has (first_moments output count) levels
+  first_levels output zero levels e = e
+  first_levels output (suc count) levels are =
+      let here : Has (moment_of output count) are.second = subst (λ (t : ℕ). Has (moment_of output t) are.second) (zero-add count) are.second_is in
+      subst (λ (pictures : List Picture). SplitsByEach Has pictures levels) (sym (moments_more output count))
+      (part_more (first_moments output count) (moment_of output count) are.first are.second levels (first_levels output count are.first are.first_is) here are.joined)
+
+first_aircraft : (output : Outputs) (count : ℕ) → aircraft_from output 0 count ≡ aircraft_in (first_moments output count)
+unfolding aircraft_from
 first_aircraft output count = refl
 
 module _ (s : Settings) (seed moments : ℕ) (counts : Counts) (h : AreCounted s (outputs_of seed) 0 moments counts) where
@@ -162,7 +185,10 @@ module _ (s : Settings) (seed moments : ℕ) (counts : Counts) (h : AreCounted s
   shown Climb = h.climb.levels
   shown Height = h.height.levels
 
-  are_shown : (kind : Kind) → AreLevels (λ picture. HasShown s picture kind) (outputs_of seed) moments (shown kind)
+  abbrev pictures : List Picture
+  pictures = first_moments (outputs_of seed) moments
+
+  are_shown : (kind : Kind) → SplitsByEach (λ (picture : Picture). HasShown s picture kind) pictures (shown kind)
   unfolding shown
   are_shown Track = first_levels (λ p. HasShown s p Track) (outputs_of seed) moments h.track.levels h.track.are
   are_shown Speed = first_levels (λ p. HasShown s p Speed) (outputs_of seed) moments h.speed.levels h.speed.are
@@ -183,7 +209,7 @@ module _ (s : Settings) (seed moments : ℕ) (counts : Counts) (h : AreCounted s
 
   text_is : (top : ℕ) → top ≡ length s.levels → top ≤ 8
       → written seed moments top counts
-      ≡ summary_text seed moments (aircraft_in (outputs_of seed) moments) (counts_of (length s.levels) h.alerts.levels) (λ kind. counts_of (length s.levels) (shown kind))
+      ≡ summary_text seed moments (aircraft_in pictures) (counts_of (length s.levels) h.alerts.levels) (λ kind. counts_of (length s.levels) (shown kind))
   text_is top e few =
       let alerts = counted_upto top counts.alerts h.alerts.levels e few h.alerts.counted in
       let kinds : (kind : Kind) → take (top + 1) (tally_of counts kind) ≡ counts_of (length s.levels) (shown kind) = λ kind.
@@ -192,9 +218,12 @@ module _ (s : Settings) (seed moments : ℕ) (counts : Counts) (h : AreCounted s
       λ i. summary_text seed moments (count i) (alerts i) (λ kind. kinds kind i)
 
   pub is_summary : (top : ℕ) → IsAccepted s → top ≡ length s.levels → IsSummaryOf s seed moments (written seed moments top counts)
+  unfolding summary_text
   is_summary top ok e = record {
+    pictures = pictures;
     alerts = h.alerts.levels;
     shown = shown;
+    pictures_are = refl;
     alerts_are = first_levels (HasAlerts s) (outputs_of seed) moments h.alerts.levels h.alerts.are;
     shown_are = are_shown;
     text_is = text_is top e (let few = ok.few_levels in omega (arith, e, few));

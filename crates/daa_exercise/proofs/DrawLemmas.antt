@@ -4,14 +4,21 @@ use Rattle.std.proofs.lemmas.Int.{ints, to_z_pos, to_z-of_z}
 use mir.Val.{to_z, of_z}
 use Rattle.rand_pcg.specs.Lcg.{Lcg, next_state, state_after}
 use Rattle.rand_pcg.specs.Pcg.{multiplier_64, pcg32}
-use Rattle.daa_state.specs.Ranges.{Bounds}
-use Rattle.daa_exercise.specs.Outputs.{outputs_from, picked}
-use Rattle.daa_exercise.specs.Inside.Drawing.{after}
-use Rattle.daa_exercise.specs.Moments.{own_altitudes, own_tracks, own_ground_speeds, drawn_vertical_speeds, drawn_positions, heights_above, drawn_speeds, own_at, aircraft_at, name_of}
+use Rattle.daa_exercise.specs.Outputs.{outputs_of, picked}
+use Rattle.daa_exercise.specs.Inside.Drawing.{after, generator_of, name_of, outputs_from}
+use Rattle.daa_exercise.specs.Moments.{own_at, aircraft_at}
 use Rattle.daa_state.specs.declared.word.Own.{Own}
 use Rattle.daa_state.specs.declared.word.Traffic.{Traffic}
 
 -- ---- the generator
+
+output_is : (seed k : ℕ) → outputs_of seed k ≡ outputs_from (generator_of seed) k
+unfolding outputs_of outputs_from generator_of
+output_is seed k = refl
+
+-- the outputs of a seed are those of its generator
+pub outputs_are : (seed : ℕ) → outputs_of seed ≡ outputs_from (generator_of seed)
+outputs_are seed = λ i k. output_is seed k i
 
 pub first_output : (g : Lcg) → outputs_from g 0 ≡ (pcg32 g).0
 unfolding outputs_from state_after
@@ -72,24 +79,24 @@ pub next_after : (k : ℕ) (g h i : Lcg) → h ≡ after k g → i ≡ after 1 h
 next_after k g h i e f = f ∙ ap (after 1) e ∙ after_after k 1 g
 
 -- what the next output picks is what the output at that place picks
-pub picks_at : (k : ℕ) (g h : Lcg) (range : Bounds) (z : ℤ) → h ≡ after k g → z ≡ picked range (outputs_from h 0) → z ≡ picked range (outputs_from g (k + 0))
-picks_at k g h range z e f = f ∙ ap (λ (x : Lcg). picked range (outputs_from x 0)) e ∙ ap (picked range) (outputs_after k 0 g)
+pub picks_at : (k : ℕ) (g h : Lcg) (low high z : ℤ) → h ≡ after k g → z ≡ picked low high (outputs_from h 0) → z ≡ picked low high (outputs_from g (k + 0))
+picks_at k g h low high z e f = f ∙ ap (λ (x : Lcg). picked low high (outputs_from x 0)) e ∙ ap (picked low high) (outputs_after k 0 g)
 
 abbrev pub own_of : (x y alt trk gs vs : ℤ) → Own
 own_of x y alt trk gs vs = record { x = x; y = y; alt = alt; trk = trk; gs = gs; vs = vs }
 
 -- the ownship of four draws
 pub own_drawn : (g g1 g2 g3 g4 : Lcg) (alt trk gs vs : ℤ) → g1 ≡ after 1 g → g2 ≡ after 1 g1 → g3 ≡ after 1 g2 → g4 ≡ after 1 g3
-    → alt ≡ picked own_altitudes (outputs_from g 0) → trk ≡ picked own_tracks (outputs_from g1 0) → gs ≡ picked own_ground_speeds (outputs_from g2 0)
-    → vs ≡ picked drawn_vertical_speeds (outputs_from g3 0)
+    → alt ≡ picked (pos 0) (pos 20000) (outputs_from g 0) → trk ≡ picked (pos 0) (pos 359) (outputs_from g1 0)
+    → gs ≡ picked (pos 500) (pos 5000) (outputs_from g2 0) → vs ≡ picked (neg_ℤ (pos 2000)) (pos 2000) (outputs_from g3 0)
     → (own_of (pos 0) (pos 0) alt trk gs vs ≡ own_at (outputs_from g) 0) × (g4 ≡ after 4 g)
 unfolding own_at
 own_drawn g g1 g2 g3 g4 alt trk gs vs e1 e2 e3 e4 h1 h2 h3 h4 =
     let a2 = next_after 1 g g1 g2 e1 e2 in
     let a3 = next_after 2 g g2 g3 a2 e3 in
-    let k2 = picks_at 1 g g1 own_tracks trk e1 h2 in
-    let k3 = picks_at 2 g g2 own_ground_speeds gs a2 h3 in
-    let k4 = picks_at 3 g g3 drawn_vertical_speeds vs a3 h4 in
+    let k2 = picks_at 1 g g1 (pos 0) (pos 359) trk e1 h2 in
+    let k3 = picks_at 2 g g2 (pos 500) (pos 5000) gs a2 h3 in
+    let k4 = picks_at 3 g g3 (neg_ℤ (pos 2000)) (pos 2000) vs a3 h4 in
     ((λ i. own_of (pos 0) (pos 0) (h1 i) (k2 i) (k3 i) (k4 i)), next_after 3 g g3 g4 a3 e4)
 
 pub fits_above : (altitude above : ℤ) → pos 0 ≤ℤ altitude → altitude ≤ℤ pos 20000 → neg_ℤ (pos 2000) ≤ℤ above → above ≤ℤ pos 2000
@@ -102,8 +109,9 @@ aircraft_of id x y alt vx vy vs = record { id = id; x = x; y = y; alt = alt; vx 
 -- the aircraft of six draws
 pub aircraft_drawn : (g g1 g2 g3 g4 g5 g6 : Lcg) (altitude : ℤ) (number : ℕ) (id : List ℕ) (x y above vx vy vs : ℤ)
     → g1 ≡ after 1 g → g2 ≡ after 1 g1 → g3 ≡ after 1 g2 → g4 ≡ after 1 g3 → g5 ≡ after 1 g4 → g6 ≡ after 1 g5 → id ≡ name_of number
-    → x ≡ picked drawn_positions (outputs_from g 0) → y ≡ picked drawn_positions (outputs_from g1 0) → above ≡ picked heights_above (outputs_from g2 0)
-    → vx ≡ picked drawn_speeds (outputs_from g3 0) → vy ≡ picked drawn_speeds (outputs_from g4 0) → vs ≡ picked drawn_vertical_speeds (outputs_from g5 0)
+    → x ≡ picked (neg_ℤ (pos 8000)) (pos 8000) (outputs_from g 0) → y ≡ picked (neg_ℤ (pos 8000)) (pos 8000) (outputs_from g1 0)
+    → above ≡ picked (neg_ℤ (pos 2000)) (pos 2000) (outputs_from g2 0) → vx ≡ picked (neg_ℤ (pos 5000)) (pos 5000) (outputs_from g3 0)
+    → vy ≡ picked (neg_ℤ (pos 5000)) (pos 5000) (outputs_from g4 0) → vs ≡ picked (neg_ℤ (pos 2000)) (pos 2000) (outputs_from g5 0)
     → (aircraft_of id x y (altitude +ℤ above) vx vy vs ≡ aircraft_at (outputs_from g) altitude number 0) × (g6 ≡ after 6 g)
 unfolding aircraft_at
 aircraft_drawn g g1 g2 g3 g4 g5 g6 altitude number id x y above vx vy vs e1 e2 e3 e4 e5 e6 n h1 h2 h3 h4 h5 h6 =
@@ -111,9 +119,9 @@ aircraft_drawn g g1 g2 g3 g4 g5 g6 altitude number id x y above vx vy vs e1 e2 e
     let a3 = next_after 2 g g2 g3 a2 e3 in
     let a4 = next_after 3 g g3 g4 a3 e4 in
     let a5 = next_after 4 g g4 g5 a4 e5 in
-    let k2 = picks_at 1 g g1 drawn_positions y e1 h2 in
-    let k3 = picks_at 2 g g2 heights_above above a2 h3 in
-    let k4 = picks_at 3 g g3 drawn_speeds vx a3 h4 in
-    let k5 = picks_at 4 g g4 drawn_speeds vy a4 h5 in
-    let k6 = picks_at 5 g g5 drawn_vertical_speeds vs a5 h6 in
+    let k2 = picks_at 1 g g1 (neg_ℤ (pos 8000)) (pos 8000) y e1 h2 in
+    let k3 = picks_at 2 g g2 (neg_ℤ (pos 2000)) (pos 2000) above a2 h3 in
+    let k4 = picks_at 3 g g3 (neg_ℤ (pos 5000)) (pos 5000) vx a3 h4 in
+    let k5 = picks_at 4 g g4 (neg_ℤ (pos 5000)) (pos 5000) vy a4 h5 in
+    let k6 = picks_at 5 g g5 (neg_ℤ (pos 2000)) (pos 2000) vs a5 h6 in
     ((λ i. aircraft_of (n i) (h1 i) (k2 i) (altitude +ℤ k3 i) (k4 i) (k5 i) (k6 i)), next_after 5 g g5 g6 a5 e6)

@@ -11,15 +11,17 @@ use Rattle.daa_config.specs.declared.kind.Kind.TheVariants.{Track, Speed, Climb,
 use Rattle.daa_state.specs.InRange.{IsPictureInRange}
 use Rattle.daa_state.specs.Picture.{aircraft_of}
 use Rattle.daa_state.specs.declared.word.Picture.{Picture}
-use Rattle.daa_exercise.specs.Inside.Counting.{Adds, AddsUp, AreCounted, AreLevelsFrom, CountsPicture, HasCounted, HasRoomFor, HaveAllRoom, HaveRoom, Joins, aircraft_from}
+use Rattle.daa_exercise.specs.Inside.Counting.{Adds, AddsUp, AreCounted, AreLevelsFrom, CountsPicture, HasAlerts, HasCounted, HasRoomFor, HasShown, HaveAllRoom, HaveRoom}
+use Rattle.daa_exercise.specs.Inside.Counting.{Joins, aircraft_from}
 use Rattle.daa_exercise.specs.Inside.Parts.{IsPart}
-use Rattle.daa_exercise.specs.Levels.{HasAlerts, HasShown, counts_of, how_often}
-use Rattle.daa_exercise.specs.Moments.{begin_of, moment_of}
-use Rattle.daa_exercise.specs.Outputs.{Outputs, outputs_of}
+use Rattle.daa_exercise.specs.Levels.{counts_of}
+use Rattle.daa_exercise.specs.Moments.{moment_of}
+use Rattle.daa_exercise.specs.Inside.Drawing.{Outputs}
+use Rattle.daa_exercise.specs.Outputs.{outputs_of}
 use Rattle.daa_exercise.specs.declared.clerk.Part.{Part}
 use Rattle.daa_exercise.specs.declared.counting.Counts.{Counts}
-use Rattle.daa_exercise.proofs.CountLemmas.{aircraft_from_next, aircraft_from_none, all_next, count_few}
-use Rattle.daa_exercise.proofs.RangeLemmas.{drawn_range}
+use Rattle.daa_exercise.proofs.CountLemmas.{aircraft_from_next, aircraft_from_none, all_next, count_few, how_often}
+use Rattle.daa_exercise.proofs.RangeLemmas.{moment_range}
 use Rattle.daa_exercise.proofs.TallyLemmas.{AreFirst, first_joined}
 
 -- ---- one tally
@@ -164,7 +166,7 @@ pub next_counted : (s : Settings) → IsAccepted s → (seed from count other at
     → AreCounted s (outputs_of seed) from (count + 1) new
 next_counted s ok seed from count other at picture old new same e is h k =
     let moved : picture ≡ moment_of (outputs_of seed) (from + count) = is ∙ ap₂ (λ (x t : ℕ). moment_of (outputs_of x) t) same e in
-    let in' = subst IsPictureInRange (sym is) (drawn_range (outputs_of other) at (begin_of (outputs_of other) at)) in
+    let in' = subst IsPictureInRange (sym is) (moment_range (outputs_of other) at) in
     all_next s (outputs_of seed) ok from count picture old new in' moved h k
 
 -- the same, where the time of the moment is given

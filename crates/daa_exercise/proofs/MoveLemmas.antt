@@ -1,17 +1,14 @@
 -- The moment of outputs from a place on is that of the outputs that are left there.
-use Rattle.std.proofs.Common.{◌≡◌, ◌∙◌, ◌+◌, ◌*◌, ℕ, ℤ, pos, ◌+ℤ◌, nat_abs, List, [], ◌∷◌, ◌++◌, length, map, sym, ap, ap₂, arith, add_assoc, add-zero, zero-add, add-one}
+use Rattle.std.proofs.Common.{◌≡◌, ◌∙◌, ◌+◌, ◌*◌, ℕ, ℤ, pos, neg_ℤ, ◌+ℤ◌, nat_abs, List, [], ◌∷◌, ◌++◌, length, map, refl, sym, ap, ap₂, arith, add_assoc, add-zero, zero-add, add-one}
 use Rattle.std.proofs.lemmas.List.FromFn.{length-map-range_with_len, map-range_with_len_more}
 use Rattle.std.specs.List.{range_with_len}
 use Rattle.rand_pcg.specs.Lcg.{Lcg}
 use Rattle.daa_state.specs.declared.word.Own.{Own}
 use Rattle.daa_state.specs.declared.word.Traffic.{Traffic}
 use Rattle.daa_state.specs.declared.word.Picture.{Picture}
-use Rattle.daa_exercise.specs.Inside.Drawing.{after}
-use Rattle.daa_exercise.specs.Moments.{aircraft_counts, own_tracks, own_ground_speeds, own_altitudes}
-use Rattle.daa_exercise.specs.Moments.{drawn_vertical_speeds, drawn_positions, heights_above}
-use Rattle.daa_exercise.specs.Moments.{drawn_speeds, name_of, own_at, count_at, aircraft_at}
-use Rattle.daa_exercise.specs.Moments.{traffic_at, moment_at, draws_at, begin_of, moment_of}
-use Rattle.daa_exercise.specs.Outputs.{Outputs, outputs_from, picked}
+use Rattle.daa_exercise.specs.Inside.Drawing.{Outputs, after, draws_at, moment_at, name_of, outputs_from, traffic_at}
+use Rattle.daa_exercise.specs.Moments.{own_at, count_at, aircraft_at, begin_of, moment_of}
+use Rattle.daa_exercise.specs.Outputs.{picked}
 use Rattle.daa_exercise.proofs.DrawLemmas.{own_of, aircraft_of, outputs_after, none_after, after_after, next_after}
 
 module _ (output : Outputs) (m : ℕ) where
@@ -25,7 +22,8 @@ module _ (output : Outputs) (m : ℕ) where
   unfolding own_at
   own_moved at =
       let t = moved at 1 in let g = moved at 2 in let v = moved at 3 in
-      λ i. own_of (pos 0) (pos 0) (picked own_altitudes (output (m + at))) (picked own_tracks (t i)) (picked own_ground_speeds (g i)) (picked drawn_vertical_speeds (v i))
+      λ i. own_of (pos 0) (pos 0) (picked (pos 0) (pos 20000) (output (m + at))) (picked (pos 0) (pos 359) (t i)) (picked (pos 500) (pos 5000) (g i))
+      (picked (neg_ℤ (pos 2000)) (pos 2000) (v i))
 
   pub count_moved : (at : ℕ) → count_at left at ≡ count_at output (m + at)
   unfolding count_at
@@ -35,8 +33,9 @@ module _ (output : Outputs) (m : ℕ) where
   unfolding aircraft_at
   aircraft_moved altitude number at =
       let y = moved at 1 in let h = moved at 2 in let e = moved at 3 in let n = moved at 4 in let v = moved at 5 in
-      λ i. aircraft_of (name_of number) (picked drawn_positions (output (m + at))) (picked drawn_positions (y i)) (altitude +ℤ picked heights_above (h i))
-      (picked drawn_speeds (e i)) (picked drawn_speeds (n i)) (picked drawn_vertical_speeds (v i))
+      λ i. aircraft_of (name_of number) (picked (neg_ℤ (pos 8000)) (pos 8000) (output (m + at))) (picked (neg_ℤ (pos 8000)) (pos 8000) (y i))
+      (altitude +ℤ picked (neg_ℤ (pos 2000)) (pos 2000) (h i)) (picked (neg_ℤ (pos 5000)) (pos 5000) (e i)) (picked (neg_ℤ (pos 5000)) (pos 5000) (n i))
+      (picked (neg_ℤ (pos 2000)) (pos 2000) (v i))
 
   pub traffic_moved : (altitude : ℤ) (count at : ℕ) → traffic_at left altitude count at ≡ traffic_at output altitude count (m + at)
   unfolding traffic_at
@@ -54,6 +53,11 @@ module _ (output : Outputs) (m : ℕ) where
       ∙ ap (λ (n : ℕ). traffic_at output (own_at output (m + at)).alt n (m + (at + 5))) (count_moved at)
       ∙ ap (traffic_at output (own_at output (m + at)).alt (count_at output (m + at))) (sym (add_assoc m at 5)) in
       λ i. record { time = time; own = own i; traffic = record { items = traffic i } }
+
+-- the moment of a time is that of the draws from where they begin
+pub moment_is : (output : Outputs) (time : ℕ) → moment_of output time ≡ moment_at output time (begin_of output time)
+unfolding moment_of moment_at traffic_at
+moment_is output time = refl
 
 abbrev pub picture_of : ℕ → Own → List Traffic → Picture
 picture_of time own items = record { time = time; own = own; traffic = record { items = items } }
@@ -94,22 +98,23 @@ next_follows g d e time at rest =
 -- and this is the moment
 pub next_is : (g d : Lcg) (time : ℕ) (picture : Picture) → d ≡ after (begin_of (outputs_from g) time) g → picture ≡ moment_at (outputs_from d) time 0
     → picture ≡ moment_of (outputs_from g) time
-next_is g d time picture at is = is ∙ ap (λ (x : Lcg). moment_at (outputs_from x) time 0) at ∙ moment_after g (begin_of (outputs_from g) time) time
+next_is g d time picture at is =
+    is ∙ ap (λ (x : Lcg). moment_at (outputs_from x) time 0) at ∙ moment_after g (begin_of (outputs_from g) time) time ∙ sym (moment_is (outputs_from g) time)
 
 -- ---- the parts of a moment, drawn one after another
 
-count_drawn : (g d : Lcg) (count : ℕ) → d ≡ after 4 g → count ≡ nat_abs (picked aircraft_counts (outputs_from d 0)) → count ≡ count_at (outputs_from g) 0
+count_drawn : (g d : Lcg) (count : ℕ) → d ≡ after 4 g → count ≡ nat_abs (picked (pos 0) (pos 8) (outputs_from d 0)) → count ≡ count_at (outputs_from g) 0
 unfolding count_at
-count_drawn g d count at is = is ∙ ap (λ (x : Lcg). nat_abs (picked aircraft_counts (outputs_from x 0))) at ∙ ap (λ (w : ℕ). nat_abs (picked aircraft_counts w)) (outputs_after 4 0 g)
+count_drawn g d count at is = is ∙ ap (λ (x : Lcg). nat_abs (picked (pos 0) (pos 8) (outputs_from x 0))) at ∙ ap (λ (w : ℕ). nat_abs (picked (pos 0) (pos 8) w)) (outputs_after 4 0 g)
 
 -- the outputs of a moment are left behind: four, one, and six for each aircraft
 pub draws_drawn : (g g1 g2 g3 : Lcg) (count : ℕ) → g1 ≡ after 4 g → g2 ≡ after 1 g1 → g3 ≡ after (6 * count) g2
-    → count ≡ nat_abs (picked aircraft_counts (outputs_from g1 0)) → g3 ≡ after (draws_at (outputs_from g) 0) g
+    → count ≡ nat_abs (picked (pos 0) (pos 8) (outputs_from g1 0)) → g3 ≡ after (draws_at (outputs_from g) 0) g
 draws_drawn g g1 g2 g3 count e1 e2 e3 is_count =
     e3 ∙ ap (after (6 * count)) (next_after 4 g g1 g2 e1 e2) ∙ after_after 5 (6 * count) g ∙ ap (λ (c : ℕ). after (5 + 6 * c) g) (count_drawn g g1 count e1 is_count)
 
 pub moment_drawn : (g g1 g2 g3 : Lcg) (time count : ℕ) (own : Own) (items : List Traffic) → g1 ≡ after 4 g → g2 ≡ after 1 g1 → g3 ≡ after (6 * count) g2
-    → own ≡ own_at (outputs_from g) 0 → count ≡ nat_abs (picked aircraft_counts (outputs_from g1 0)) → items ≡ traffic_at (outputs_from g2) own.alt count 0
+    → own ≡ own_at (outputs_from g) 0 → count ≡ nat_abs (picked (pos 0) (pos 8) (outputs_from g1 0)) → items ≡ traffic_at (outputs_from g2) own.alt count 0
     → (picture_of time own items ≡ moment_at (outputs_from g) time 0) × (g3 ≡ after (draws_at (outputs_from g) 0) g)
 unfolding moment_at
 moment_drawn g g1 g2 g3 time count own items e1 e2 e3 is_own is_count is_traffic =

@@ -1,7 +1,7 @@
 -- An exercise has exactly one summary.
-use Rattle.std.proofs.Common.{◌≡◌, ◌∙◌, ◌+◌, ℕ, zero, suc, List, [], ◌∷◌, ◌++◌, length, refl, sym, ap₂, arith}
+use Rattle.std.proofs.Common.{◌≡◌, ◌∙◌, ◌+◌, ℕ, zero, suc, List, [], ◌∷◌, ◌++◌, length, map, refl, sym, ap₂, arith, subst}
 use Rattle.std.specs.Prelude.{slice_index}
-use Rattle.std.specs.List.{AllZip}
+use Rattle.std.specs.List.{AllZip, range_with_len}
 use Rattle.std.proofs.lemmas.List.{ext_get_or}
 use Rattle.daa_config.specs.Candidates.{start_of}
 use Rattle.daa_fixed.specs.One.{HasOne}
@@ -18,11 +18,13 @@ use Rattle.daa_engine.specs.Covered.{CoveredAt}
 use Rattle.daa_bands.specs.Parts.{SplitsByEach}
 use Rattle.daa_engine.specs.MomentText.{AreAircraftLines}
 use Rattle.daa_engine.proofs.SomeText.{one_text}
-use Rattle.daa_exercise.specs.Levels.{HasAlerts, HasShown, AreLevels, aircraft_in, counts_of}
-use Rattle.daa_exercise.specs.Moments.{moment_of, begin_of}
-use Rattle.daa_exercise.specs.Summary.{IsSummaryOf, summary_text}
-use Rattle.daa_exercise.specs.Outputs.{Outputs, outputs_of}
-use Rattle.daa_exercise.proofs.RangeLemmas.{drawn_range}
+use Rattle.daa_exercise.specs.Inside.Counting.{HasAlerts, HasShown, aircraft_in, summary_text}
+use Rattle.daa_exercise.specs.Inside.Drawing.{Outputs}
+use Rattle.daa_exercise.specs.Levels.{counts_of}
+use Rattle.daa_exercise.specs.Moments.{moment_of}
+use Rattle.daa_exercise.specs.Summary.{IsSummaryOf}
+use Rattle.daa_exercise.specs.Outputs.{outputs_of}
+use Rattle.daa_exercise.proofs.RangeLemmas.{moment_range}
 
 -- ---- one moment has these levels and no others
 
@@ -61,20 +63,21 @@ module _ (s : Settings) (p : Picture) where
 
 -- ---- so have all moments
 
-module _ (Has : Picture → List ℕ → Type 0) (output : Outputs) where
-  some_levels : ((time : ℕ) → (levels : List ℕ) × Has (moment_of output time) levels) → (count : ℕ) → (levels : List ℕ) × AreLevels Has output count levels
-  some_levels some zero = ([], refl)
-  some_levels some (suc count) =
-      let before = some_levels some count in
-      let here = some count in
-      (before.0 ++ here.0, record { first = before.0; second = here.0; first_is = before.1; second_is = here.1; joined = refl })
+module _ (Has : Picture → List ℕ → Type 0) where
+  some_levels : (output : Outputs) → ((time : ℕ) → (levels : List ℕ) × Has (moment_of output time) levels) → (count time : ℕ)
+      → (levels : List ℕ) × SplitsByEach Has (map (moment_of output) (range_with_len time count)) levels
+  some_levels output some zero time = ([], refl)
+  some_levels output some (suc count) time =
+      let here = some time in
+      let more = some_levels output some count (time + 1) in
+      (here.0 ++ more.0, record { first = here.0; second = more.0; first_is = here.1; second_is = more.1; joined = refl })
 
-  levels_once : ((p : Picture) (a b : List ℕ) → Has p a → Has p b → a ≡ b) → (count : ℕ) (a b : List ℕ) → AreLevels Has output count a → AreLevels Has output count b → a ≡ b
-  levels_once once zero a b h k = h ∙ sym k
-  levels_once once (suc count) a b h k =
-      let before = levels_once once count h.first k.first h.first_is k.first_is in
-      let here = once (moment_of output count) h.second k.second h.second_is k.second_is in
-      h.joined ∙ ap₂ (λ (x y : List ℕ). x ++ y) before here ∙ sym k.joined
+  levels_once : ((p : Picture) (a b : List ℕ) → Has p a → Has p b → a ≡ b) → (pictures : List Picture) (a b : List ℕ) → SplitsByEach Has pictures a → SplitsByEach Has pictures b → a ≡ b
+  levels_once once [] a b h k = h ∙ sym k
+  levels_once once (p ∷ pictures) a b h k =
+      let here = once p h.first k.first h.first_is k.first_is in
+      let more = levels_once once pictures h.second k.second h.second_is k.second_is in
+      h.joined ∙ ap₂ (λ (x y : List ℕ). x ++ y) here more ∙ sym k.joined
 
 -- ---- the summary
 
@@ -82,31 +85,38 @@ module _ (s : Settings) (seed moments : ℕ) (ok : IsAccepted s) where
   abbrev output : Outputs
   output = outputs_of seed
 
-  range : (time : ℕ) → IsPictureInRange (moment_of output time)
-  range time = drawn_range output time (begin_of output time)
+  abbrev pictures : List Picture
+  pictures = map (moment_of output) (range_with_len 0 moments)
 
-  alerts : (levels : List ℕ) × AreLevels (HasAlerts s) output moments levels
-  alerts = some_levels (HasAlerts s) output (λ time. some_alerts s (moment_of output time) ok (range time)) moments
+  alerts : (levels : List ℕ) × SplitsByEach (HasAlerts s) pictures levels
+  alerts = some_levels (HasAlerts s) output (λ time. some_alerts s (moment_of output time) ok (moment_range output time)) moments 0
 
-  shown : (kind : Kind) → (levels : List ℕ) × AreLevels (λ p. HasShown s p kind) output moments levels
-  shown kind = some_levels (λ p. HasShown s p kind) output (λ time. some_shown s (moment_of output time) ok (range time) kind) moments
+  shown : (kind : Kind) → (levels : List ℕ) × SplitsByEach (λ (p : Picture). HasShown s p kind) pictures levels
+  shown kind = some_levels (λ p. HasShown s p kind) output (λ time. some_shown s (moment_of output time) ok (moment_range output time) kind) moments 0
 
-  abbrev text_of : List ℕ → (Kind → List ℕ) → Text
-  text_of xs ys = summary_text seed moments (aircraft_in output moments) (counts_of (length s.levels) xs) (λ kind. counts_of (length s.levels) (ys kind))
+  abbrev text_of : List Picture → List ℕ → (Kind → List ℕ) → Text
+  text_of ps xs ys = summary_text seed moments (aircraft_in ps) (counts_of (length s.levels) xs) (λ kind. counts_of (length s.levels) (ys kind))
 
-  text_once : (other : Text) → IsSummaryOf s seed moments other → other ≡ text_of alerts.0 (λ kind. (shown kind).0)
+  text_once : (other : Text) → IsSummaryOf s seed moments other → other ≡ text_of pictures alerts.0 (λ kind. (shown kind).0)
+  unfolding summary_text
   text_once other is =
-      let a = levels_once (HasAlerts s) output (alerts_once s) moments is.alerts alerts.0 is.alerts_are alerts.1 in
+      let are = subst (λ (ps : List Picture). SplitsByEach (HasAlerts s) ps is.alerts) is.pictures_are is.alerts_are in
+      let a = levels_once (HasAlerts s) (alerts_once s) pictures is.alerts alerts.0 are alerts.1 in
+      let there : (kind : Kind) → SplitsByEach (λ (p : Picture). HasShown s p kind) pictures (is.shown kind) = λ kind.
+      subst (λ (ps : List Picture). SplitsByEach (λ (p : Picture). HasShown s p kind) ps (is.shown kind)) is.pictures_are (is.shown_are kind) in
       let b : (kind : Kind) → is.shown kind ≡ (shown kind).0 = λ kind.
-      levels_once (λ p. HasShown s p kind) output (λ p. shown_once s p kind) moments (is.shown kind) (shown kind).0 (is.shown_are kind) (shown kind).1 in
-      is.text_is ∙ (λ i. text_of (a i) (λ kind. b kind i))
+      levels_once (λ p. HasShown s p kind) (λ p. shown_once s p kind) pictures (is.shown kind) (shown kind).0 (there kind) (shown kind).1 in
+      is.text_is ∙ (λ i. text_of (is.pictures_are i) (a i) (λ kind. b kind i))
 
   pub one_summary : HasOne (IsSummaryOf s seed moments)
+  unfolding summary_text
   one_summary = record {
-    one = text_of alerts.0 (λ kind. (shown kind).0);
+    one = text_of pictures alerts.0 (λ kind. (shown kind).0);
     is = record {
+      pictures = pictures;
       alerts = alerts.0;
       shown = λ kind. (shown kind).0;
+      pictures_are = refl;
       alerts_are = alerts.1;
       shown_are = λ kind. (shown kind).1;
       text_is = refl;

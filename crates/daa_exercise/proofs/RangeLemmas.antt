@@ -1,5 +1,5 @@
 -- Every moment that is drawn is in range.
-use Rattle.std.proofs.Common.{◌≡◌, ◌∙◌, ◌<◌, ◌≤◌, ◌+◌, ◌*◌, ◌%◌, ℕ, zero, suc, ℤ, pos, ◌+ℤ◌, ◌-ℤ◌, ◌≤ℤ◌, nat_abs, true, List, [], ◌∷◌, refl, sym, ap, subst, arith, zero-add}
+use Rattle.std.proofs.Common.{◌≡◌, ◌∙◌, ◌<◌, ◌≤◌, ◌+◌, ◌*◌, ◌%◌, ℕ, zero, suc, ℤ, pos, ◌+ℤ◌, ◌-ℤ◌, ◌≤ℤ◌, neg_ℤ, nat_abs, true, List, [], ◌∷◌, refl, sym, ap, subst, arith, zero-add}
 use Rattle.std.specs.Prelude.{All, slice_index_or}
 use Rattle.std.proofs.lemmas.Fmt.{decimal_digit}
 use Rattle.std.proofs.lemmas.Int.{ints}
@@ -8,11 +8,10 @@ use Rattle.daa_state.specs.Id.{is_id}
 use Rattle.daa_state.specs.InRange.{IsWithin, IsOwnInRange, IsTrafficInRange, IsPictureInRange}
 use Rattle.daa_state.specs.Ranges.{Bounds, positions, altitudes, tracks, ground_speeds, speeds, vertical_speeds}
 use Rattle.daa_state.specs.declared.word.Traffic.{Traffic}
-use Rattle.daa_exercise.specs.Moments.{own_altitudes, own_tracks, own_ground_speeds, drawn_vertical_speeds}
-use Rattle.daa_exercise.specs.Moments.{aircraft_counts, drawn_positions, heights_above, drawn_speeds}
-use Rattle.daa_exercise.specs.Moments.{name_of, own_at, count_at, aircraft_at, traffic_at, moment_at}
-use Rattle.daa_exercise.specs.Outputs.{Outputs, picked}
-use Rattle.daa_exercise.proofs.MoveLemmas.{traffic_count}
+use Rattle.daa_exercise.specs.Inside.Drawing.{Outputs, moment_at, name_of, traffic_at}
+use Rattle.daa_exercise.specs.Moments.{own_at, count_at, aircraft_at, begin_of, moment_of}
+use Rattle.daa_exercise.specs.Outputs.{picked}
+use Rattle.daa_exercise.proofs.MoveLemmas.{moment_is, traffic_count}
 
 -- ---- a number that an output picks is in the range
 
@@ -26,7 +25,8 @@ left_over : (output size : ℕ) → output % (size + 1) < size + 1
 left_over output size = omega arith
 
 -- and so in every range around it
-pub picks : (range outer : Bounds) (output : ℕ) → outer.low ≤ℤ range.low → range.low ≤ℤ range.high → range.high ≤ℤ outer.high → IsWithin outer (picked range output)
+pub picks : (range outer : Bounds) (output : ℕ) → outer.low ≤ℤ range.low → range.low ≤ℤ range.high → range.high ≤ℤ outer.high
+    → IsWithin outer (picked range.low range.high output)
 picks range outer output low ordered high =
     let n = output % (nat_abs (range.high -ℤ range.low) + 1) in
     let a = least range.low range.high n in
@@ -35,6 +35,32 @@ picks range outer output low ordered high =
   where
     between : {x y z : ℤ} → x ≤ℤ y → y ≤ℤ z → x ≤ℤ z
     between {x} {y} {z} h k = omega (arith, ints)
+
+-- ---- the ranges of what is drawn
+
+abbrev own_altitudes : Bounds
+own_altitudes = record { low = pos 0; high = pos 20000 }
+
+abbrev own_tracks : Bounds
+own_tracks = record { low = pos 0; high = pos 359 }
+
+abbrev own_ground_speeds : Bounds
+own_ground_speeds = record { low = pos 500; high = pos 5000 }
+
+abbrev drawn_vertical_speeds : Bounds
+drawn_vertical_speeds = record { low = neg_ℤ (pos 2000); high = pos 2000 }
+
+abbrev aircraft_counts : Bounds
+aircraft_counts = record { low = pos 0; high = pos 8 }
+
+abbrev drawn_positions : Bounds
+drawn_positions = record { low = neg_ℤ (pos 8000); high = pos 8000 }
+
+abbrev heights_above : Bounds
+heights_above = record { low = neg_ℤ (pos 2000); high = pos 2000 }
+
+abbrev drawn_speeds : Bounds
+drawn_speeds = record { low = neg_ℤ (pos 5000); high = pos 5000 }
 
 -- ---- a moment
 
@@ -76,7 +102,7 @@ module _ (output : Outputs) where
   unfolding count_at
   count_few at = let h = (picks aircraft_counts aircraft_counts
       (output (at + 4)) (omega (arith, ints)) (omega (arith, ints)) (omega (arith, ints))) in
-      size (picked aircraft_counts (output (at + 4))) h.0 h.1
+      size (picked (pos 0) (pos 8) (output (at + 4))) h.0 h.1
     where
       size : (z : ℤ) → pos 0 ≤ℤ z → z ≤ℤ pos 8 → nat_abs z ≤ 8
       size z low high = omega (arith, ints)
@@ -87,7 +113,7 @@ module _ (output : Outputs) where
     id = names i lt;
     x = picks drawn_positions positions (output at) (omega (arith, ints)) (omega (arith, ints)) (omega (arith, ints));
     y = picks drawn_positions positions (output (at + 1)) (omega (arith, ints)) (omega (arith, ints)) (omega (arith, ints));
-    alt = above altitude (picked heights_above (output (at + 2))) high
+    alt = above altitude (picked (neg_ℤ (pos 2000)) (pos 2000) (output (at + 2))) high
         (picks heights_above heights_above (output (at + 2)) (omega (arith, ints)) (omega (arith, ints)) (omega (arith, ints)));
     vx = picks drawn_speeds speeds (output (at + 3)) (omega (arith, ints)) (omega (arith, ints)) (omega (arith, ints));
     vy = picks drawn_speeds speeds (output (at + 4)) (omega (arith, ints)) (omega (arith, ints)) (omega (arith, ints));
@@ -111,3 +137,6 @@ module _ (output : Outputs) where
     traffic = traffic_range (own_at output at).alt (count_at output at) (at + 5) (own_altitude at) (count_few at);
     count = (let n = traffic_count output (own_at output at).alt (count_at output at) (at + 5) in let few = count_few at in omega (arith, n, few));
   }
+
+  pub moment_range : (time : ℕ) → IsPictureInRange (moment_of output time)
+  moment_range time = subst IsPictureInRange (sym (moment_is output time)) (drawn_range time (begin_of output time))

@@ -8,6 +8,7 @@ use Rattle.std.proofs.lemmas.Bool.Decides.{nat_tests}
 use Rattle.std.proofs.lemmas.List.FromFn.{sum_by-map-range_with_len_more}
 use Rattle.std.proofs.lemmas.List.Sums.{sum_by-cons}
 use Rattle.std.proofs.lemmas.Slice.Zip.{AllZip-long}
+use Rattle.daa_bands.specs.Parts.{SplitsByEach}
 use Rattle.daa_config.specs.Candidates.{values_of}
 use Rattle.daa_config.specs.Settings.{Settings}
 use Rattle.daa_config.specs.declared.kind.Kind.{Kind}
@@ -15,10 +16,9 @@ use Rattle.daa_legs.specs.Alerts.{IsAlertLevel}
 use Rattle.daa_state.specs.Picture.{aircraft_of}
 use Rattle.daa_state.specs.declared.word.Picture.{Picture}
 use Rattle.daa_state.specs.declared.word.Traffic.{Traffic}
-use Rattle.daa_exercise.specs.Levels.{HasAlerts, HasShown, AreLevels, aircraft_in, counts_of, how_often}
-use Rattle.daa_exercise.specs.Moments.{moment_of}
-use Rattle.daa_exercise.specs.Outputs.{Outputs}
-use Rattle.daa_exercise.proofs.CountLemmas.{aircraft_next, aircraft_none}
+use Rattle.daa_exercise.specs.Inside.Counting.{HasAlerts, HasShown, aircraft_in}
+use Rattle.daa_exercise.specs.Levels.{counts_of}
+use Rattle.daa_exercise.proofs.CountLemmas.{how_often}
 
 -- ---- one level more
 
@@ -99,14 +99,14 @@ upto_each top (x ∷ xs) h = (h 0 (omega arith), upto_each top xs (λ i lt. h (s
 
 -- ---- the levels of all moments
 
-module _ (Has : Picture → List ℕ → Type 0) (output : Outputs) (top : ℕ) (each : (picture : Picture) (levels : List ℕ) → Has picture levels → AreUpto top levels) where
-  all_upto : (count : ℕ) (levels : List ℕ) → AreLevels Has output count levels → AreUpto top levels
-  all_upto zero levels e = subst (AreUpto top) (sym e) tt
-  all_upto (suc count) levels are =
+module _ (Has : Picture → List ℕ → Type 0) (top : ℕ) (each : (picture : Picture) (levels : List ℕ) → Has picture levels → AreUpto top levels) where
+  all_upto : (pictures : List Picture) (levels : List ℕ) → SplitsByEach Has pictures levels → AreUpto top levels
+  all_upto [] levels e = subst (AreUpto top) (sym e) tt
+  all_upto (picture ∷ pictures) levels are =
       subst (AreUpto top) (sym are.joined)
-      (upto_append top are.first are.second (all_upto count are.first are.first_is) (each (moment_of output count) are.second are.second_is))
+      (upto_append top are.first are.second (each picture are.first are.first_is) (all_upto pictures are.second are.second_is))
 
-module _ (s : Settings) (output : Outputs) where
+module _ (s : Settings) where
   alerts_upto : (p : Picture) (levels : List ℕ) → HasAlerts s p levels → AreUpto (length s.levels) levels
   alerts_upto p levels has = go (aircraft_of p) levels has
     where
@@ -116,18 +116,19 @@ module _ (s : Settings) (output : Outputs) where
       go (t ∷ ts) [] h = absurd h
       go (t ∷ ts) (l ∷ levels) h = (h.0.within, go ts levels h.1)
 
-  alerts_many : (count : ℕ) (levels : List ℕ) → AreLevels (HasAlerts s) output count levels → length levels ≡ aircraft_in output count
-  alerts_many zero levels e = ap (λ (xs : List ℕ). length xs) e ∙ sym (aircraft_none output)
-  alerts_many (suc count) levels are =
-      let a = alerts_many count are.first are.first_is in
-      let b = AllZip-long (IsAlertLevel s (moment_of output count).own) (aircraft_of (moment_of output count)) are.second are.second_is in
+  alerts_many : (pictures : List Picture) (levels : List ℕ) → SplitsByEach (HasAlerts s) pictures levels → length levels ≡ aircraft_in pictures
+  alerts_many [] levels e = ap (λ (xs : List ℕ). length xs) e
+  alerts_many (p ∷ pictures) levels are =
+      let a = alerts_many pictures are.second are.second_is in
+      let b = AllZip-long (IsAlertLevel s p.own) (aircraft_of p) are.first are.first_is in
       let n = ap (λ (xs : List ℕ). length xs) are.joined ∙ length-append are.first are.second in
-      let next = ap (aircraft_in output) (sym (add-one count)) ∙ aircraft_next output count in
-      omega (arith, a, b, n, next)
+      let all = sum_by-cons (λ (picture : Picture). length (aircraft_of picture)) p pictures in
+      omega (arith, a, b, n, all)
 
-  pub alerts_add_up : (count : ℕ) (levels : List ℕ) → AreLevels (HasAlerts s) output count levels → sum (counts_of (length s.levels) levels) ≡ aircraft_in output count
-  alerts_add_up count levels are =
-      counts_sum (length s.levels) levels (all_upto (HasAlerts s) output (length s.levels) alerts_upto count levels are) ∙ alerts_many count levels are
+  pub alerts_add_up : (pictures : List Picture) (levels : List ℕ) → SplitsByEach (HasAlerts s) pictures levels
+      → sum (counts_of (length s.levels) levels) ≡ aircraft_in pictures
+  alerts_add_up pictures levels are =
+      counts_sum (length s.levels) levels (all_upto (HasAlerts s) (length s.levels) alerts_upto pictures levels are) ∙ alerts_many pictures levels are
 
   module _ (kind : Kind) where
     abbrev Shown : Picture → List ℕ → Type 0
@@ -136,17 +137,19 @@ module _ (s : Settings) (output : Outputs) where
     shown_upto : (p : Picture) (levels : List ℕ) → Shown p levels → AreUpto (length s.levels) levels
     shown_upto p levels has = upto_each (length s.levels) levels (λ i lt. (has.greatest i lt).within)
 
-    shown_many : (count : ℕ) (levels : List ℕ) → AreLevels Shown output count levels → length levels ≡ count * length (values_of kind s)
-    shown_many zero levels e = ap (λ (xs : List ℕ). length xs) e ∙ sym (zero-mul (length (values_of kind s)))
-    shown_many (suc count) levels are =
-        let a = shown_many count are.first are.first_is in
-        let b = are.second_is.each in
+    shown_many : (pictures : List Picture) (levels : List ℕ) → SplitsByEach Shown pictures levels → length levels ≡ length pictures * length (values_of kind s)
+    shown_many [] levels e = ap (λ (xs : List ℕ). length xs) e ∙ sym (zero-mul (length (values_of kind s)))
+    shown_many (p ∷ pictures) levels are =
+        let a = shown_many pictures are.second are.second_is in
+        let b = are.first_is.each in
         let n = ap (λ (xs : List ℕ). length xs) are.joined ∙ length-append are.first are.second in
-        n ∙ next (length are.first) (length are.second) count (length (values_of kind s)) a b
+        let more : suc (length pictures) ≡ length (p ∷ pictures) = omega arith in
+        n ∙ next (length are.first) (length are.second) (length pictures) (length (values_of kind s)) b a
+        ∙ ap (λ (c : ℕ). c * length (values_of kind s)) more
       where
-        next : (x y c m : ℕ) → x ≡ c * m → y ≡ m → x + y ≡ suc c * m
+        next : (x y c m : ℕ) → x ≡ m → y ≡ c * m → x + y ≡ suc c * m
         next x y c m e h = omega (arith, e, h, suc-mul c m)
 
-    pub shown_add_up : (count : ℕ) (levels : List ℕ) → AreLevels Shown output count levels
-        → sum (counts_of (length s.levels) levels) ≡ count * length (values_of kind s)
-    shown_add_up count levels are = counts_sum (length s.levels) levels (all_upto Shown output (length s.levels) shown_upto count levels are) ∙ shown_many count levels are
+    pub shown_add_up : (pictures : List Picture) (levels : List ℕ) → SplitsByEach Shown pictures levels
+        → sum (counts_of (length s.levels) levels) ≡ length pictures * length (values_of kind s)
+    shown_add_up pictures levels are = counts_sum (length s.levels) levels (all_upto Shown (length s.levels) shown_upto pictures levels are) ∙ shown_many pictures levels are

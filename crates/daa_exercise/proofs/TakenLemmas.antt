@@ -20,9 +20,9 @@ use Rattle.daa_state.specs.declared.word.Picture.{Picture}
 use Rattle.daa_state.specs.declared.word.Word.{Word}
 use Rattle.daa_state.specs.declared.word.Word.TheVariants as says
 use Rattle.daa_state.proofs.StepLemmas.{step-Traffic}
-use Rattle.daa_exercise.specs.Moments.{name_of, own_at, count_at, aircraft_at, traffic_at, moment_at}
+use Rattle.daa_exercise.specs.Inside.Drawing.{Outputs, moment_at, name_of, traffic_at}
+use Rattle.daa_exercise.specs.Moments.{own_at, count_at, aircraft_at}
 use Rattle.daa_exercise.specs.Taken.{IsTaken, moment_words, steps}
-use Rattle.daa_exercise.specs.Outputs.{Outputs}
 use Rattle.daa_exercise.proofs.MoveLemmas.{picture_of, traffic_count}
 use Rattle.daa_exercise.proofs.RangeLemmas.{aircraft_is, count_few, drawn_range}
 

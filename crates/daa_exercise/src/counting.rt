@@ -9,9 +9,8 @@ ghost use Rattle.daa_bands.specs.KindBands.{AreShown};
 ghost use Rattle.daa_engine.specs.Covered.{CoveredAt};
 ghost use Rattle.daa_state.specs.InRange.{IsPictureInRange};
 ghost use Rattle.daa_exercise.specs.Inside.Counting.{Adds, AddsUp, AreCounted, CountsPicture};
-ghost use Rattle.daa_exercise.specs.Inside.Counting.{HasRoomFor, HaveAllRoom, IsRoomy};
-ghost use Rattle.daa_exercise.specs.Levels.{HasAlerts};
-ghost use Rattle.daa_exercise.specs.Outputs.{Outputs};
+ghost use Rattle.daa_exercise.specs.Inside.Counting.{HasAlerts, HasRoomFor, HaveAllRoom, IsRoomy};
+ghost use Rattle.daa_exercise.specs.Inside.Drawing.{Outputs};
 ghost use Rattle.daa_config.specs.Settings.{IsAccepted, Settings};
 
 use crate::tally::Tally;

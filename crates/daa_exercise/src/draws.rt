@@ -3,10 +3,10 @@
 
 ghost use Rattle.std.specs.Prelude.{◌≡◌, ◌≤◌, ◌+◌, ◌*◌, ◌≤ℤ◌, nat_abs, pos};
 ghost use Rattle.daa_state.specs.InRange.{IsPictureInRange};
-ghost use Rattle.daa_exercise.specs.Inside.Drawing.{after, bounds_of, AreBounds};
-ghost use Rattle.daa_exercise.specs.Moments.{aircraft_counts, name_of, own_at};
-ghost use Rattle.daa_exercise.specs.Moments.{aircraft_at, traffic_at, draws_at, moment_at};
-ghost use Rattle.daa_exercise.specs.Outputs.{generator_of, picked, outputs_from};
+ghost use Rattle.daa_exercise.specs.Inside.Drawing.{after, generator_of, outputs_from, AreBounds};
+ghost use Rattle.daa_exercise.specs.Inside.Drawing.{name_of, traffic_at, moment_at, draws_at};
+ghost use Rattle.daa_exercise.specs.Moments.{own_at, aircraft_at};
+ghost use Rattle.daa_exercise.specs.Outputs.{picked};
 
 use arrayvec::ArrayVec;
 use daa_state::{Id, MOST_AIRCRAFT, Own, Picture, Traffic};
@@ -73,7 +73,7 @@ impl Model for Draws {
 
 impl Draws {
     /// The outputs of a seed.
-    #[tactic(auto, unfolding(crate::specs::Outputs::generator_of))]
+    #[tactic(auto, unfolding(crate::specs::Inside::Drawing::generator_of))]
     pub(crate) fn of(seed: u32) -> Draws
         ensures { result ≡ generator_of seed }
     {
@@ -85,7 +85,7 @@ impl Draws {
     /// The number that the next output picks.
     fn pick(&mut self, bounds: &Bounds) -> i32
         requires { AreBounds bounds.now }
-        ensures value { result ≡ picked (bounds_of bounds.now) (outputs_from self.old 0) }
+        ensures value { result ≡ picked bounds.now.low bounds.now.high (outputs_from self.old 0) }
         ensures least { bounds.now.low ≤ℤ result }
         ensures most { result ≤ℤ bounds.now.high }
         ensures rest { self.new ≡ after 1 self.old }
@@ -118,7 +118,7 @@ impl Draws {
 
     /// How many aircraft the next output gives a moment: 0 to 8.
     fn next_count(&mut self) -> u32
-        ensures value { result ≡ nat_abs (picked aircraft_counts (outputs_from self.old 0)) }
+        ensures value { result ≡ nat_abs (picked (pos 0) (pos 8) (outputs_from self.old 0)) }
         ensures few { result ≤ 8 }
         ensures rest { self.new ≡ after 1 self.old }
     {

@@ -13,7 +13,7 @@ use daa_report::{Line, kind_word};
 
 /// The summary of a seed and a number of moments, with the counts of the levels up to the top one,
 /// which is at most 4.
-#[tactic(auto, unfolding(crate::specs::Summary::summary_text))]
+#[tactic(auto, unfolding(crate::specs::Inside::Counting::summary_text))]
 pub(crate) fn summary(seed: u32, moments: u32, top: u32, counts: &Counts) -> ArrayVec<u8, 512>
     requires { top ≤ 4 }
     ensures { result.items ≡ written seed moments top counts.now }

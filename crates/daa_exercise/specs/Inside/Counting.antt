@@ -1,19 +1,33 @@
 -- How far the levels of an exercise are counted.
-use Rattle.std.specs.Prelude.{◌≡◌, ◌+◌, ◌*◌, ◌≤◌, ℕ, zero, suc, List, [], ◌++◌, length, map, slice_index, take}
-use Rattle.std.specs.List.{range_with_len, sum}
+use Rattle.std.specs.Prelude.{◌≡◌, ◌+◌, ◌*◌, ◌≤◌, ℕ, zero, suc, List, [], ◌∷◌, ◌++◌, length, map, codes, slice_index, take}
+use Rattle.std.specs.List.{AllZip, range_with_len, sum_by}
 use Rattle.daa_config.specs.Settings.{Settings}
 use Rattle.daa_config.specs.declared.kind.Kind.{Kind}
 use Rattle.daa_config.specs.declared.kind.Kind.TheVariants.{Track, Speed, Climb, Height}
 use Rattle.daa_state.specs.Picture.{aircraft_of}
 use Rattle.daa_state.specs.declared.word.Picture.{Picture}
+use Rattle.daa_legs.specs.Alerts.{IsAlertLevel}
 use Rattle.daa_bands.specs.Board.{mask_levels}
+use Rattle.daa_bands.specs.KindBands.{AreShown}
 use Rattle.daa_bands.specs.Parts.{SplitsInto}
-use Rattle.daa_report.specs.Lines.{Text}
-use Rattle.daa_exercise.specs.Outputs.{Outputs}
-use Rattle.daa_exercise.specs.Levels.{HasAlerts, HasShown, counts_of}
+use Rattle.daa_report.specs.Lines.{Text, kind_word, numbers_line}
+use Rattle.daa_engine.specs.Covered.{CoveredAt}
+use Rattle.daa_engine.specs.MomentText.{of_each}
+use Rattle.daa_exercise.specs.Inside.Drawing.{Outputs}
+use Rattle.daa_exercise.specs.Levels.{counts_of}
 use Rattle.daa_exercise.specs.Moments.{moment_of}
-use Rattle.daa_exercise.specs.Summary.{summary_text}
 use Rattle.daa_exercise.specs.declared.counting.Counts.{Counts}
+
+-- ---- one moment
+
+module _ (settings : Settings) (picture : Picture) where
+  -- each aircraft, in order, has its alert level
+  abbrev pub HasAlerts : List ℕ → Type 0
+  HasAlerts levels = AllZip (IsAlertLevel settings picture.own) (aircraft_of picture) levels
+
+  -- each candidate of the kind, in order, has its shown level
+  abbrev pub HasShown : Kind → List ℕ → Type 0
+  HasShown kind levels = AreShown (CoveredAt settings picture) (length settings.levels) settings kind levels
 
 -- ---- a tally
 
@@ -39,6 +53,10 @@ HaveRoom first second = (level : ℕ) → slice_index first level + slice_index 
 
 -- ---- the moments from a time on
 
+-- how many aircraft there are in moments
+abbrev pub aircraft_in : List Picture → ℕ
+aircraft_in pictures = sum_by (λ (picture : Picture). length (aircraft_of picture)) pictures
+
 -- the levels of each of so many moments from a time on, one moment after the other
 abbrev pub AreLevelsFrom : (Picture → List ℕ → Type 0) → Outputs → (time count : ℕ) → List ℕ → Type 0
 AreLevelsFrom Has output time zero levels = levels ≡ []
@@ -53,7 +71,7 @@ pub record HasCounted (Has : Picture → List ℕ → Type 0) (output : Outputs)
 
 -- how many aircraft there are in these moments
 unfoldable pub aircraft_from : Outputs → (time count : ℕ) → ℕ
-aircraft_from output time count = sum (map (λ (t : ℕ). length (aircraft_of (moment_of output t))) (range_with_len time count))
+aircraft_from output time count = aircraft_in (map (moment_of output) (range_with_len time count))
 
 -- ---- all that is counted
 
@@ -111,6 +129,16 @@ tally_of counts Track = counts.track
 tally_of counts Speed = counts.speed
 tally_of counts Climb = counts.climb
 tally_of counts Height = counts.height
+
+-- the lines of a summary: the seed and the number of moments; how many aircraft there were; how often each level was an
+-- aircraft's alert level; and how often it was the shown level of a candidate of each kind
+unfoldable pub summary_text : (seed moments aircraft : ℕ) → (alerts : List ℕ) → (shown : Kind → List ℕ) → Text
+summary_text seed moments aircraft alerts shown =
+    numbers_line (codes "exercise") (seed ∷ moments ∷ [])
+    ++ (numbers_line (codes "aircraft") (aircraft ∷ [])
+    ++ (numbers_line (codes "alert") alerts
+    ++ (of_each (λ kind. numbers_line (kind_word kind) (shown kind))
+    ++ numbers_line (codes "done") [])))
 
 -- the summary that these counts give, up to the greatest level
 abbrev pub written : (seed moments top : ℕ) → Counts → Text

@@ -3,6 +3,6 @@ use Rattle.daa_exercise.proofs.laws.counts_add_up.Goals as goal
 
 pub returns : goal.returns
 returns c = record {
-  alerts = λ s output moments levels are. alerts_add_up s output moments levels are;
-  shown = λ s kind output moments levels are. shown_add_up s output kind moments levels are;
+  alerts = λ s pictures levels are. alerts_add_up s pictures levels are;
+  shown = λ s kind pictures levels are. shown_add_up s kind pictures levels are;
 }

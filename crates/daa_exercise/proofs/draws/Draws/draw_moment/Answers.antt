@@ -1,6 +1,6 @@
 use Rattle.std.proofs.Common.{sym, subst}
 use Rattle.daa_state.specs.InRange.{IsPictureInRange}
-use Rattle.daa_exercise.specs.Outputs.{outputs_from}
+use Rattle.daa_exercise.specs.Inside.Drawing.{outputs_from}
 use Rattle.daa_exercise.proofs.MoveLemmas.{moment_drawn}
 use Rattle.daa_exercise.proofs.RangeLemmas.{drawn_range}
 use Rattle.daa_exercise.proofs.draws.Draws.draw_moment.Goals as goal

@@ -1,6 +1,6 @@
 use Rattle.std.proofs.Common.{◌≡◌, ◌∙◌, List, length, ap, sym, arith}
 use Rattle.daa_state.specs.declared.word.Traffic.{Traffic}
-use Rattle.daa_exercise.specs.Outputs.{outputs_from}
+use Rattle.daa_exercise.specs.Inside.Drawing.{outputs_from}
 use Rattle.daa_exercise.proofs.DrawLemmas.{none_after}
 use Rattle.daa_exercise.proofs.MoveLemmas.{no_traffic, traffic_count, traffic_more}
 use Rattle.daa_exercise.proofs.draws.Draws.draw_traffic.Goals as goal

@@ -1,7 +1,5 @@
 use Rattle.std.proofs.Common.{◌≡◌, ◌*◌}
-use Rattle.daa_exercise.specs.Inside.Drawing.{after}
-use Rattle.daa_exercise.specs.Moments.{traffic_at}
-use Rattle.daa_exercise.specs.Outputs.{outputs_from}
+use Rattle.daa_exercise.specs.Inside.Drawing.{after, outputs_from, traffic_at}
 use Rattle.daa_exercise.proofs.draws.Draws.draw_traffic.Given as goal
 
 -- the aircraft so far are drawn

@@ -1,4 +1,4 @@
-use Rattle.daa_exercise.specs.Outputs.{generator_of}
+use Rattle.daa_exercise.specs.Inside.Drawing.{generator_of}
 use Rattle.daa_exercise.proofs.MoveLemmas.{first_is}
 use Rattle.daa_exercise.proofs.sequence.Sequence.of.Goals as goal
 

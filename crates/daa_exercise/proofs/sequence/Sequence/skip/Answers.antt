@@ -1,4 +1,4 @@
-use Rattle.daa_exercise.specs.Outputs.{generator_of}
+use Rattle.daa_exercise.specs.Inside.Drawing.{generator_of}
 use Rattle.daa_exercise.proofs.MoveLemmas.{next_follows}
 use Rattle.daa_exercise.proofs.sequence.Sequence.skip.Goals as goal
 
