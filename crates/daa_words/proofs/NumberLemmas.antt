@@ -13,7 +13,7 @@ use Rattle.clap.specs.Values.{IsSignedIn, IsUnsignedIn, read_as, reading_of}
 use Rattle.clap.specs.ValueTests.{accepts, is_unsigned_in}
 use Rattle.clap.specs.Walk.{Row, Rule, Text, rows_of}
 use Rattle.clap.specs.declared.builder.value_parser.ValueParser.TheVariants.{Signed, Unsigned}
-use Rattle.daa_words.specs.Order.{number_at, number_of}
+use Rattle.daa_words.specs.Order.{number_at}
 use Rattle.daa_words.proofs.LevelOptions.{HasText}
 
 -- ---- a text
@@ -23,6 +23,10 @@ value text = digits_value 10 (without_leading_plus text)
 
 abbrev number_if : Text → Bool → Option ℕ
 number_if text b = cond b (Some (value text)) None
+
+-- the number that a text is to `u32`
+abbrev pub number_of : Text → Option ℕ
+number_of text = number_if text (is_unsigned_in 0 4294967295 text)
 
 fits : (text : Text) → is_unsigned_in 0 4294967295 text ≡ true → IsUnsignedIn 0 4294967295 text
 fits text e = accepts-Accepts false (Unsigned 0 4294967295) text e

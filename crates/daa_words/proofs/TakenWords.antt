@@ -11,11 +11,12 @@ use Rattle.clap.specs.Simple.{built, filled, subcommand_of, with_index}
 use Rattle.clap.specs.Takes.{is_given}
 use Rattle.clap.specs.Walk.{Row, Rule, Text, first_of}
 use Rattle.daa_words.specs.Task.{Task, Replay, Exercise, Judge}
-use Rattle.daa_words.specs.Command.{ahead, config, daidalus, moments, seed, states, workers}
-use Rattle.daa_words.specs.Order.{Asked, IsInRange, TaskIsInRange, asked_by, number_at, number_of, order_of, task_by}
+use Rattle.daa_words.specs.Command.{config, daidalus, workers}
+use Rattle.daa_words.specs.Inside.Command.{ahead, moments, seed, states}
+use Rattle.daa_words.specs.Order.{Asked, IsInRange, TaskIsInRange, asked_by, number_at, order_of, task_by}
 use Rattle.daa_words.specs.Laws.{AsksFor, AsksForTask}
 use Rattle.daa_words.proofs.LevelOptions.{Each, HasIfNamed, HasText, enters, subcommand_text}
-use Rattle.daa_words.proofs.NumberLemmas.{HasNumber, number_at_text, number_there}
+use Rattle.daa_words.proofs.NumberLemmas.{HasNumber, number_at_text, number_of, number_there}
 use Rattle.daa_words.proofs.NoHelp.{IsKnownOrHelp, subcommand_known}
 use Rattle.daa_words.proofs.WordsLemmas.{taken_by_order}
 

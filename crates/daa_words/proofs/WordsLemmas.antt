@@ -1,20 +1,21 @@
 -- What clap's clauses give of the definition, and what is read where they find a fault.
-use Rattle.std.proofs.Common.{codes, ◌≡◌, ◌≢◌, ℕ, true, cond, List, [], ◌∷◌, Option, Some, None, arith, option_map, refl, ap, ◌∙◌, inl, inr}
+use Rattle.std.proofs.Common.{codes, ◌≡◌, ◌≢◌, ℕ, true, false, cond, List, [], ◌∷◌, Option, Some, None, arith, option_map, refl, ap, ◌∙◌, inl, inr}
 use Rattle.std.specs.Prelude.{option_and_then}
 use Rattle.std.proofs.lemmas.Bool.Decides.{nat_tests}
-use Rattle.clap.specs.Walk.{Text, first_of, is_empty, rows_of}
+use Rattle.clap.specs.Walk.{Row, Text, first_of, is_empty, rows_of}
 use Rattle.clap.specs.Kinds.{Kinds, HasKind}
 use Rattle.clap.specs.Faults.{fault_of, is_simple_and_free}
 use Rattle.clap.specs.Simple.{is_simple}
 use Rattle.clap.specs.Values.{kind_of}
 use Rattle.clap.specs.declared.error.Error.{Error}
+use Rattle.clap.specs.declared.error.kind.ErrorKind.{ErrorKind}
 use Rattle.clap.specs.declared.error.kind.ErrorKind.TheVariants.{OutOfMemory}
 use Rattle.clap.specs.Matches.{first_value}
 use Rattle.clap.specs.declared.parser.matches.Found.{Found}
 use Rattle.clap.proofs.WalkLemmas.{first_value-rows}
 use Rattle.clap.proofs.OnLiterals.{clap_on_literals}
 use Rattle.daa_words.specs.Command.{daidalus}
-use Rattle.daa_words.specs.Order.{Asked, asked_by, judge_by, number_at, order_of, task_by}
+use Rattle.daa_words.specs.Order.{Asked, asked_by, number_at, order_of, task_by}
 use Rattle.daa_words.specs.Task.{Task, Judge}
 
 -- the command line is one of those whose faults clap states
@@ -36,7 +37,7 @@ refuses (k ∷ ks) e h other = λ none. cc
 -- where there is a fault there is no order
 pub no_order : (words : List Text) → fault_of daidalus words ≢ [] → order_of words ≡ None
 unfolding order_of
-no_order words h = go _ (fault_of daidalus words) h
+no_order words h = ap (option_and_then asked_by) (go _ (fault_of daidalus words) h)
   where
     go : {Y : Type 0} (r : Option Y) (kinds : Kinds) → kinds ≢ [] → cond (is_empty kinds) r None ≡ None
     go r [] h = absurd (h refl)
@@ -55,7 +56,7 @@ asked_read name f task config workers named text number =
     ∙ ap (λ c. asked_with (task_by name (rows_of f)) c workers) (text ∙ first_value-rows f (codes "config"))
     ∙ ap (asked_with (task_by name (rows_of f)) (first_of (codes "config") (rows_of f))) number
 
-pub states_read : (f : Found) (states : Option Text) → states ≡ first_value f (codes "states") → option_map Judge states ≡ judge_by (rows_of f)
+pub states_read : (f : Found) (states : Option Text) → states ≡ first_value f (codes "states") → option_map Judge states ≡ option_map Judge (first_of (codes "states") (rows_of f))
 states_read f states text = ap (option_map Judge) (text ∙ first_value-rows f (codes "states"))
 
 -- where there is an order there is no fault
@@ -63,6 +64,9 @@ pub taken_by_order : (words : List Text) (asked : Asked) → order_of words ≡ 
 unfolding order_of
 taken_by_order words asked = go _ (fault_of daidalus words)
   where
-    go : (r : Option Asked) (kinds : Kinds) → cond (is_empty kinds) r None ≡ Some asked → kinds ≡ []
+    filled : (k : ErrorKind) (ks : Kinds) → is_empty (k ∷ ks) ≡ false
+    filled k ks = grind (arith, nat_tests)
+
+    go : (r : Option (Text × List Row)) (kinds : Kinds) → option_and_then asked_by (cond (is_empty kinds) r None) ≡ Some asked → kinds ≡ []
     go r [] e = refl
-    go r (k ∷ ks) e = grind (arith, nat_tests, e)
+    go r (k ∷ ks) e = let none : None ≡ Some asked = rw (filled k ks) at e in cc

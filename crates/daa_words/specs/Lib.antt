@@ -2,3 +2,4 @@ pub mod Command
 pub mod Task
 pub mod Order
 pub mod Laws
+pub mod Inside

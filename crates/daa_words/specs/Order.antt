@@ -40,38 +40,22 @@ pub record IsInRange (asked : Asked) : Type 0 where
   pub at_most_16 : asked.workers ≤ 16
   pub task : TaskIsInRange asked.task
 
--- the number that a text is to `u32`: digits, after a `+` if there is one
-abbrev pub number_of : Text → Option ℕ
-number_of text =
-    if is_unsigned_in 0 4294967295 text then Some (digits_value 10 (without_leading_plus text))
-    else None
-
--- the number at an option, in the text that clap reads there: clap has taken a minus off it, and
--- lets none but that of a zero pass
+-- the number at an option: what the text that clap reads there is to `u32`, digits after a `+` if
+-- there is one; clap has taken a minus off it, and lets none but that of a zero pass
 abbrev pub number_at : Text → List Row → Option ℕ
-number_at id rows = option_and_then number_of (one_of id rows)
+number_at id rows = option_and_then
+    (λ text. if is_unsigned_in 0 4294967295 text then Some (digits_value 10 (without_leading_plus text)) else None)
+    (one_of id rows)
 
--- a replay, by the number at its option
-abbrev pub replay_by : List Row → Option Task
-replay_by rows = option_map Replay (number_at (codes "ahead") rows)
-
--- an exercise, by the numbers at its options
-abbrev pub exercise_by : List Row → Option Task
-exercise_by rows =
-    option_and_then (λ seed. option_map (Exercise seed) (number_at (codes "moments") rows))
-    (number_at (codes "seed") rows)
-
--- a comparison, by the text at its option
-abbrev pub judge_by : List Row → Option Task
-judge_by rows = option_map Judge (first_of (codes "states") rows)
-
--- the task of a subcommand, by its name and the rows of its options; none where no task has the
--- name
+-- the task of a subcommand, by its name and the rows of its options: with the numbers, or the text,
+-- at these; none where one is not there, or no task has the name
 abbrev pub task_by : Text → List Row → Option Task
 task_by name rows =
-    if bytes_eq name (codes "replay") then replay_by rows
-    else if bytes_eq name (codes "exercise") then exercise_by rows
-    else if bytes_eq name (codes "judge") then judge_by rows else None
+    if bytes_eq name (codes "replay") then option_map Replay (number_at (codes "ahead") rows)
+    else if bytes_eq name (codes "exercise") then
+    option_and_then (λ seed. option_map (Exercise seed) (number_at (codes "moments") rows)) (number_at (codes "seed") rows)
+    else if bytes_eq name (codes "judge") then option_map Judge (first_of (codes "states") rows)
+    else None
 
 -- what a subcommand asks for, by its name and the rows of its options: its task, the first text at
 -- `--config`, and the number at `--workers`; none where one of them is not there
@@ -80,10 +64,7 @@ asked_by p = option_and_then (λ task. option_and_then (λ config. option_map
     (λ workers. record { task = task; config = config; workers = workers })
     (number_at (codes "workers") p.1)) (first_of (codes "config") p.1)) (task_by p.0 p.1)
 
--- what the words ask for, the program's name first: none where clap's definition finds a fault in
--- them, and else what the subcommand asks for
+-- what the words ask for, the program's name first: what the subcommand asks for, where clap's
+-- definition finds no fault in them, and else none
 unfoldable pub order_of : List Text → Option Asked
-order_of words =
-    if is_empty (fault_of daidalus words) then option_and_then asked_by
-    (subcommand_of daidalus words)
-    else None
+order_of words = option_and_then asked_by (if is_empty (fault_of daidalus words) then subcommand_of daidalus words else None)

@@ -1,16 +1,18 @@
 //! The command line that clap is given, each option and each subcommand a function of its own.
 
-ghost use Rattle.std.specs.Prelude.{◌≡◌, IfOk, false};
+ghost use Rattle.std.specs.Prelude.{◌≡◌, IfOk, true, false, [], ◌∷◌, codes};
+ghost use Rattle.clap.specs.Simple.{new_app, on_top};
 ghost use Rattle.clap.specs.Words.{app_of, rule_of};
 ghost use Rattle.clap.specs.declared.builder.command.Command.TheViews.{out-Command as fields_of};
 ghost use Rattle.daa_words.specs.Command as spec;
+ghost use Rattle.daa_words.specs.Inside.Command as inside;
 
 use clap::{Arg, ArgAction, Command, value_parser};
 use std::alloc::{AllocError, Global};
 
 /// An option with one value, which may be any text.
 fn option<'a>(alloc: Global, name: &'a str) -> Arg<'a>
-    ensures rule { rule_of result ≡ spec.option name.entry.now }
+    ensures rule { rule_of result ≡ record (spec.option name.entry.now) { required = false } }
     ensures local { result.global ≡ false }
 {
     Arg::new(alloc, name).long(name).action(ArgAction::Set)
@@ -36,7 +38,7 @@ fn workers<'a>(alloc: Global) -> Arg<'a>
 
 /// `--ahead N`.
 fn ahead<'a>(alloc: Global) -> Arg<'a>
-    ensures rule { rule_of result ≡ spec.ahead }
+    ensures rule { rule_of result ≡ inside.ahead }
     ensures local { result.global ≡ false }
 {
     option(alloc, "ahead")
@@ -46,7 +48,7 @@ fn ahead<'a>(alloc: Global) -> Arg<'a>
 
 /// `--states FILE`.
 fn states<'a>(alloc: Global) -> Arg<'a>
-    ensures rule { rule_of result ≡ spec.states }
+    ensures rule { rule_of result ≡ inside.states }
     ensures local { result.global ≡ false }
 {
     option(alloc, "states").required(true)
@@ -54,7 +56,7 @@ fn states<'a>(alloc: Global) -> Arg<'a>
 
 /// `--seed N`.
 fn seed<'a>(alloc: Global) -> Arg<'a>
-    ensures rule { rule_of result ≡ spec.seed }
+    ensures rule { rule_of result ≡ inside.seed }
     ensures local { result.global ≡ false }
 {
     option(alloc, "seed")
@@ -64,7 +66,7 @@ fn seed<'a>(alloc: Global) -> Arg<'a>
 
 /// `--moments M`.
 fn moments<'a>(alloc: Global) -> Arg<'a>
-    ensures rule { rule_of result ≡ spec.moments }
+    ensures rule { rule_of result ≡ inside.moments }
     ensures local { result.global ≡ false }
 {
     option(alloc, "moments")
@@ -74,7 +76,9 @@ fn moments<'a>(alloc: Global) -> Arg<'a>
 
 /// `replay --config FILE [--workers N] [--ahead N]`.
 fn replay<'a>(alloc: Global) -> Result<Command<'a>, AllocError>
-    ensures { IfOk result (λ c. (app_of c ≡ spec.replay) × ((fields_of c).has_globals ≡ false)) }
+    ensures { IfOk result (λ c.
+        (app_of c ≡ inside.leaf "replay" (spec.config ∷ spec.workers ∷ inside.ahead ∷ []))
+        × ((fields_of c).has_globals ≡ false)) }
 {
     Command::new(alloc, "replay")
         .arg(config(alloc))?
@@ -84,7 +88,9 @@ fn replay<'a>(alloc: Global) -> Result<Command<'a>, AllocError>
 
 /// `exercise --config FILE --seed N --moments M [--workers N]`.
 fn exercise<'a>(alloc: Global) -> Result<Command<'a>, AllocError>
-    ensures { IfOk result (λ c. (app_of c ≡ spec.exercise) × ((fields_of c).has_globals ≡ false)) }
+    ensures { IfOk result (λ c. (app_of c ≡ inside.leaf "exercise"
+        (spec.config ∷ inside.seed ∷ inside.moments ∷ spec.workers ∷ []))
+        × ((fields_of c).has_globals ≡ false)) }
 {
     Command::new(alloc, "exercise")
         .arg(config(alloc))?
@@ -95,7 +101,9 @@ fn exercise<'a>(alloc: Global) -> Result<Command<'a>, AllocError>
 
 /// `judge --config FILE --states FILE [--workers N]`.
 fn judge<'a>(alloc: Global) -> Result<Command<'a>, AllocError>
-    ensures { IfOk result (λ c. (app_of c ≡ spec.judge) × ((fields_of c).has_globals ≡ false)) }
+    ensures { IfOk result (λ c.
+        (app_of c ≡ inside.leaf "judge" (spec.config ∷ inside.states ∷ spec.workers ∷ []))
+        × ((fields_of c).has_globals ≡ false)) }
 {
     Command::new(alloc, "judge")
         .arg(config(alloc))?
@@ -105,7 +113,8 @@ fn judge<'a>(alloc: Global) -> Result<Command<'a>, AllocError>
 
 /// The program's name, which a subcommand must follow.
 fn base<'a>(alloc: Global) -> Command<'a>
-    ensures app { app_of result ≡ spec.base }
+    ensures app { app_of result
+        ≡ on_top (λ s. record s { subcommand_required = true }) (new_app (codes "daidalus")) }
     ensures local { (fields_of result).has_globals ≡ false }
 {
     Command::new(alloc, "daidalus").subcommand_required(true)

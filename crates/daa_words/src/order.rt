@@ -1,8 +1,9 @@
 //! What words ask for, read from the matches of a subcommand.
 
-ghost use Rattle.std.specs.Prelude.{◌≡◌, option_map};
-ghost use Rattle.clap.specs.Words.{found_of, rows_of};
+ghost use Rattle.std.specs.Prelude.{◌≡◌, codes, option_and_then, option_map};
+ghost use Rattle.clap.specs.Words.{first_of, found_of, rows_of};
 ghost use Rattle.daa_words.specs.Order as spec;
+ghost use Rattle.daa_words.specs.Task.{Exercise, Judge, Replay};
 
 use clap::ArgMatches;
 
@@ -48,7 +49,10 @@ fn number_at(name: &str, matches: &ArgMatches) -> Option<u32>
 
 /// An exercise, by the numbers at its options.
 fn exercise_by<'a>(matches: &ArgMatches<'a>) -> Option<Task<'a>>
-    ensures { option_map spec.task_of result ≡ spec.exercise_by (rows_of (found_of matches.now)) }
+    ensures { option_map spec.task_of result ≡ option_and_then
+        (λ seed. option_map (Exercise seed)
+        (spec.number_at (codes "moments") (rows_of (found_of matches.now))))
+        (spec.number_at (codes "seed") (rows_of (found_of matches.now))) }
 {
     let seed = number_at("seed", matches)?;
     let moments = number_at("moments", matches)?;
@@ -57,7 +61,8 @@ fn exercise_by<'a>(matches: &ArgMatches<'a>) -> Option<Task<'a>>
 
 /// A replay, by the number at its option.
 fn replay_by<'a>(matches: &ArgMatches<'a>) -> Option<Task<'a>>
-    ensures { option_map spec.task_of result ≡ spec.replay_by (rows_of (found_of matches.now)) }
+    ensures { option_map spec.task_of result ≡ option_map Replay
+        (spec.number_at (codes "ahead") (rows_of (found_of matches.now))) }
 {
     let ahead = number_at("ahead", matches)?;
     Some(Task::Replay { ahead })
@@ -65,7 +70,8 @@ fn replay_by<'a>(matches: &ArgMatches<'a>) -> Option<Task<'a>>
 
 /// A comparison, by the text at its option.
 fn judge_by<'a>(matches: &ArgMatches<'a>) -> Option<Task<'a>>
-    ensures { option_map spec.task_of result ≡ spec.judge_by (rows_of (found_of matches.now)) }
+    ensures { option_map spec.task_of result ≡ option_map Judge
+        (first_of (codes "states") (rows_of (found_of matches.now))) }
 {
     let states = matches.get_str("states")?;
     Some(Task::Judge { states })

@@ -1,0 +1,2 @@
+-- Cited by private functions, tests and proofs alone; believe only what docs/PROVED.md names here.
+pub mod Command
