@@ -1,31 +1,36 @@
 -- The whole list of candidates by the lists of the kinds.
-use Rattle.std.proofs.Common.{◌≡◌, ◌<◌, ◌≤◌, ◌+◌, ◌++◌, ◌∙◌, ℕ, zero, suc, List, [], ◌∷◌, length, Some, refl, ap, arith, length-append}
+use Rattle.std.proofs.Common.{◌≡◌, ◌<◌, ◌≤◌, ◌+◌, ◌++◌, ◌∙◌, ℕ, zero, suc, List, [], ◌∷◌, length, map, Some, refl, ap, arith, length-append}
 use Rattle.std.proofs.lemmas.List.{length-map}
 use Rattle.std.proofs.lemmas.Option.{slice_get-map}
 use Rattle.std.specs.Option.{option_map}
 use Rattle.std.specs.Prelude.{ℤ, slice_get}
 use Rattle.daa_fixed.specs.Size.{IsFrom}
 use Rattle.daa_config.specs.Settings.{Settings, IsAccepted, IsInBounds, IsCandidateInRange, value_bounds}
-use Rattle.daa_config.specs.Candidates.{values_of, least_of, greatest_of, candidates_of, candidates_to, candidate_to, start_of, IsCandidateOf}
+use Rattle.daa_config.specs.Candidates.{values_of, least_of, greatest_of, candidates_of, candidate_to, start_of, IsCandidateOf}
 use Rattle.daa_config.specs.declared.kind.Kind.{Kind}
 use Rattle.daa_config.specs.declared.kind.Kind.TheVariants.{Track, Speed, Climb, Height}
+use Rattle.daa_config.specs.declared.candidate.Candidate.{Candidate}
 use Rattle.daa_config.specs.declared.candidate.Candidate.TheVariants.{Hold}
 use Rattle.daa_config.proofs.GridLemmas.{length-values, few_tracks, few_of_kind}
 
+-- the candidates that go to the values of a kind
+abbrev candidates_to : Kind → Settings → List Candidate
+candidates_to k s = map (candidate_to k) (values_of k s)
+
 length-to : (k : Kind) (s : Settings) → length (candidates_to k s) ≡ length (values_of k s)
-unfolding candidates_to
 length-to k s = length-map (values_of k s) (candidate_to k)
 
 pub length_candidates : (s : Settings)
     → length (candidates_of s) ≡ 1 + length (values_of Track s) + length (values_of Speed s) + length (values_of Climb s) + length (values_of Height s)
 unfolding candidates_of
 length_candidates s =
-    let t = candidates_to Track s in let g = candidates_to Speed s in let v = candidates_to Climb s in let a = candidates_to Height s in
+    let t = candidates_to Track s in let g = candidates_to Speed s in let v = candidates_to Climb s in let a = candidates_to Height s ++ [] in
     omega (
       arith,
       length-append t (g ++ (v ++ a)),
       length-append g (v ++ a),
       length-append v a,
+      length-append (candidates_to Height s) [],
       length-to Track s,
       length-to Speed s,
       length-to Climb s,
@@ -86,7 +91,6 @@ get_right [] ys i = ap (slice_get ys) (omega arith)
 get_right (x ∷ xs) ys i = let e : length (x ∷ xs) + i ≡ suc (length xs + i) = omega arith in ap (slice_get (x ∷ (xs ++ ys))) e ∙ get_right xs ys i
 
 get_to : (k : Kind) (s : Settings) (i : ℕ) (v : ℤ) → slice_get (values_of k s) i ≡ Some v → slice_get (candidates_to k s) i ≡ Some (candidate_to k v)
-unfolding candidates_to
 get_to k s i v e = slice_get-map (candidate_to k) (values_of k s) i ∙ ap (option_map (candidate_to k)) e
 
 -- Hold is the first
@@ -100,25 +104,25 @@ pub candidate_at : (k : Kind) (s : Settings) (i : ℕ) (v : ℤ) → slice_get (
     → slice_get (candidates_of s) (start_of k s + i) ≡ Some (candidate_to k v)
 unfolding candidates_of start_of
 candidate_at Track s i v e =
-    let t = candidates_to Track s in let r = candidates_to Speed s ++ (candidates_to Climb s ++ candidates_to Height s) in
+    let t = candidates_to Track s in let r = candidates_to Speed s ++ (candidates_to Climb s ++ (candidates_to Height s ++ [])) in
     let j : 1 + i ≡ suc i = omega arith in
     ap (slice_get (Hold ∷ (t ++ r))) j ∙ get_left t r i _ (get_to Track s i v e)
 candidate_at Speed s i v e =
-    let t = candidates_to Track s in let g = candidates_to Speed s in let r = candidates_to Climb s ++ candidates_to Height s in
+    let t = candidates_to Track s in let g = candidates_to Speed s in let r = candidates_to Climb s ++ (candidates_to Height s ++ []) in
     let lt = length-to Track s in
     let j : 1 + length (values_of Track s) + i ≡ suc (length t + i) = omega arith in
     ap (slice_get (Hold ∷ (t ++ (g ++ r)))) j ∙ get_right t (g ++ r) i ∙ get_left g r i _ (get_to Speed s i v e)
 candidate_at Climb s i v e =
-    let t = candidates_to Track s in let g = candidates_to Speed s in let w = candidates_to Climb s in let a = candidates_to Height s in
+    let t = candidates_to Track s in let g = candidates_to Speed s in let w = candidates_to Climb s in let a = candidates_to Height s ++ [] in
     let lt = length-to Track s in let lg = length-to Speed s in
     let j : 1 + length (values_of Track s) + length (values_of Speed s) + i ≡ suc (length t + (length g + i)) = omega arith in
     ap (slice_get (Hold ∷ (t ++ (g ++ (w ++ a))))) j ∙ get_right t (g ++ (w ++ a)) (length g + i) ∙ get_right g (w ++ a) i ∙ get_left w a i _ (get_to Climb s i v e)
 candidate_at Height s i v e =
-    let t = candidates_to Track s in let g = candidates_to Speed s in let w = candidates_to Climb s in let a = candidates_to Height s in
+    let t = candidates_to Track s in let g = candidates_to Speed s in let w = candidates_to Climb s in let a = candidates_to Height s ++ [] in
     let lt = length-to Track s in let lg = length-to Speed s in let lw = length-to Climb s in
     let j : 1 + length (values_of Track s) + length (values_of Speed s) + length (values_of Climb s) + i ≡ suc (length t + (length g + (length w + i))) = omega arith in
     ap (slice_get (Hold ∷ (t ++ (g ++ (w ++ a))))) j ∙ get_right t (g ++ (w ++ a)) (length g + (length w + i)) ∙ get_right g (w ++ a) (length w + i)
-    ∙ get_right w a i ∙ get_to Height s i v e
+    ∙ get_right w a i ∙ get_left (candidates_to Height s) [] i _ (get_to Height s i v e)
 
 -- ---- ranges of what is listed
 

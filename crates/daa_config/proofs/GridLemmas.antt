@@ -1,16 +1,20 @@
 -- Values of a kind, by their indices.
-use Rattle.std.proofs.Common.{◌≡◌, ◌<◌, ◌≤◌, ◌+◌, ◌*◌, ◌/◌, ◌∙◌, ℕ, zero, suc, List, [], ◌∷◌, length, Some, refl, sym, ap, arith, subst}
+use Rattle.std.proofs.Common.{◌≡◌, ◌<◌, ◌≤◌, ◌+◌, ◌*◌, ◌/◌, ◌∙◌, ℕ, zero, suc, List, [], ◌∷◌, length, map, Some, refl, sym, ap, arith, subst}
 use Rattle.std.specs.Prelude.{ℤ, pos, ◌+ℤ◌, ◌*ℤ◌, ◌-ℤ◌, ◌≤ℤ◌, ◌<ℤ◌, nat_abs, slice_get, slice_index_or, All, Contains, ◌-◌}
+use Rattle.std.specs.List.{range_with_len}
+use Rattle.std.specs.Option.{option_map}
 use Rattle.std.proofs.lemmas.Int.{ints, to_z-of_z}
+use Rattle.std.proofs.lemmas.List.FromFn.{length-map-range_with_len}
+use Rattle.std.proofs.lemmas.Option.{slice_get-map}
 use mir.Val.{SFits, to_z, of_z}
 use mir.Syntax.{w32, w64}
 use Rattle.std.proofs.Math.Nat.{le-div_iff_mul-le, mul-le-mul_right}
-use lib.IntN.{suc_ℤ-*ℤ, pos-*ℤ-pos, zero-*ℤ, +ℤ_idr, +ℤ_assoc, +ℤ_comm}
+use lib.IntN.{pos-*ℤ-pos, zero-*ℤ, +ℤ_idr}
 use Rattle.daa_fixed.specs.Size.{IsFrom}
 use Rattle.daa_config.specs.Numbers.{count_of}
 use Rattle.daa_config.specs.Inside.Stepped.{IsStepped}
 use Rattle.daa_config.specs.Settings.{Settings, IsAccepted, IsInBounds, value_bounds}
-use Rattle.daa_config.specs.Candidates.{rising, grid_of, values_of, least_of, greatest_of, AreStepsUpTo}
+use Rattle.daa_config.specs.Candidates.{grid_of, values_of, least_of, greatest_of, AreStepsUpTo}
 use Rattle.daa_config.specs.declared.numbers.Grid.{Grid}
 use Rattle.daa_config.specs.declared.kind.Kind.{Kind}
 use Rattle.daa_config.specs.declared.kind.Kind.TheVariants.{Track, Speed, Climb, Height}
@@ -83,29 +87,33 @@ some_value g = omega arith
 
 -- ---- the list of values
 
-pub length-rising : (low step : ℤ) (n : ℕ) → length (rising low step n) ≡ n
-unfolding rising
-length-rising low step zero = refl
-length-rising low step (suc n) = ap suc (length-rising (low +ℤ step) step n)
+-- the index at an index
+index_at : (a n i : ℕ) → i < n → slice_get (range_with_len a n) i ≡ Some (a + i)
+index_at a zero i h = absurd (omega arith)
+index_at a (suc n) zero h = let e : a ≡ a + 0 = omega arith in ap (λ (j : ℕ). Some j) e
+index_at a (suc n) (suc i) h = let e : a + 1 + i ≡ a + suc i = omega arith in index_at (a + 1) n i (omega arith) ∙ ap (λ (j : ℕ). Some j) e
 
-pub get-rising : (low step : ℤ) (n i : ℕ) → i < n → slice_get (rising low step n) i ≡ Some (low +ℤ pos i *ℤ step)
-unfolding rising
-get-rising low step zero i h = absurd (omega arith)
-get-rising low step (suc n) zero h = ap (λ (z : ℤ). Some z) (sym (ap (λ (z : ℤ). low +ℤ z) (zero-*ℤ step) ∙ +ℤ_idr low))
-get-rising low step (suc n) (suc i) h =
-    get-rising (low +ℤ step) step n i (omega arith)
-    ∙ ap (λ (z : ℤ). Some z) (+ℤ_assoc low step (pos i *ℤ step) ∙ ap (λ (z : ℤ). low +ℤ z) (+ℤ_comm step (pos i *ℤ step) ∙ sym (suc_ℤ-*ℤ (pos i) step)))
+-- the value at an index
+abbrev step_of : Grid → ℕ → ℤ
+step_of g i = g.min +ℤ pos i *ℤ g.step
+
+step_at : (g : Grid) (i : ℕ) → i < count_of g → slice_get (map (step_of g) (range_with_len 0 (count_of g))) i ≡ Some (step_of g i)
+step_at g i h =
+    let e : 0 + i ≡ i = omega arith in
+    slice_get-map (step_of g) (range_with_len 0 (count_of g)) i
+    ∙ ap (option_map (step_of g)) (index_at 0 (count_of g) i h ∙ ap (λ (j : ℕ). Some j) e)
 
 pub length-values : (k : Kind) (s : Settings) → length (values_of k s) ≡ count_of (grid_of k s)
 unfolding values_of
-length-values k s = length-rising (grid_of k s).min (grid_of k s).step (count_of (grid_of k s))
+length-values k s = length-map-range_with_len (step_of (grid_of k s)) 0 (count_of (grid_of k s))
+
+below_count : (k : Kind) (s : Settings) (i : ℕ) → i < length (values_of k s) → i < count_of (grid_of k s)
+below_count k s i h = omega (arith, length-values k s)
 
 pub get-values : (k : Kind) (s : Settings) (i : ℕ) → i < length (values_of k s)
     → slice_get (values_of k s) i ≡ Some ((grid_of k s).min +ℤ pos i *ℤ (grid_of k s).step)
 unfolding values_of
-get-values k s i h =
-    let g = grid_of k s in
-    get-rising g.min g.step (count_of g) i (omega (arith, length-rising g.min g.step (count_of g)))
+get-values k s i h = step_at (grid_of k s) i (below_count k s i h)
 
 -- ---- the kinds of an accepted configuration
 

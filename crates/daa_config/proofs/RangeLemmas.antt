@@ -17,8 +17,9 @@ use Rattle.daa_config.specs.declared.numbers.Numbers.{Numbers}
 use Rattle.daa_config.specs.declared.numbers.LevelNumbers.{LevelNumbers}
 use Rattle.daa_config.specs.declared.numbers.RecoveryNumbers.{RecoveryNumbers}
 use Rattle.daa_taumod.specs.declared.Volume.{Volume}
-use Rattle.daa_config.specs.Limits.{full_turn, most_levels, most_values}
-use Rattle.daa_config.specs.Numbers.{levels_are_wrong, count_of, has_too_many}
+use Rattle.daa_config.specs.Limits.{full_turn}
+use Rattle.daa_config.specs.Numbers.{count_of}
+use Rattle.daa_config.specs.Inside.Numbers.{levels_are_wrong, has_too_many}
 use Rattle.daa_config.specs.Rows.{Row, document_rows, grid_rows, level_rows, recovery_rows}
 use Rattle.daa_config.specs.Inside.Rows.{level_fits, recovery_fits}
 use Rattle.daa_config.specs.Inside.Stepped.{IsStepped}
@@ -133,13 +134,13 @@ fits_grid values g h =
     let e = and_parts (is_in (pos 1) (pos 10000) g.rate) _ d.1 in
     record { min = in_bounds _ _ _ a.0; max = in_bounds _ _ _ b.0; step = in_bounds _ _ _ d.0; rate = in_bounds _ _ _ e.0 }
 
-in_range : (values : Bounds) (g : Grid) → Fits values g → nat_lt most_values (count_of g) ≡ false → IsGridInRange values g
+in_range : (values : Bounds) (g : Grid) → Fits values g → nat_lt 512 (count_of g) ≡ false → IsGridInRange values g
 in_range values g f h = record {
   least = f.min.least;
   ordered = f.max.least;
   most = f.max.most;
   step = f.step;
-  few = not_over most_values (count_of g) h;
+  few = not_over 512 (count_of g) h;
 }
 
 -- ---- the numbers of the document's own rows
@@ -328,13 +329,13 @@ accepted w fitting divides counted few =
     let r = ranges w fitting in
     let p = r.numbers in
     let l = or_parts (length w.levels == 0) _ counted in
-    let m = or_parts (nat_lt most_levels (length w.levels)) _ l.1 in
-    let x = or_parts (nat_lt most_values (count_of w.numbers.gs)) _ few in
-    let y = or_parts (nat_lt most_values (count_of w.numbers.vs)) _ x.1 in
-    let z = or_parts (nat_lt most_values (count_of w.numbers.alt)) _ y.1 in
+    let m = or_parts (nat_lt 4 (length w.levels)) _ l.1 in
+    let x = or_parts (nat_lt 512 (count_of w.numbers.gs)) _ few in
+    let y = or_parts (nat_lt 512 (count_of w.numbers.vs)) _ x.1 in
+    let z = or_parts (nat_lt 512 (count_of w.numbers.alt)) _ y.1 in
     let same : length (map level_of w.levels) ≡ length w.levels = length-map w.levels level_of in
     let one = some_of (length w.levels) l.0 in
-    let four = not_over most_levels (length w.levels) m.0 in
+    let four = not_over 4 (length w.levels) m.0 in
     record {
       rates = record { turn = p.turn_rate; gs = r.gs.rate; vs = r.vs.rate; alt = r.alt.rate };
       track_step = p.track_step;
@@ -350,12 +351,12 @@ accepted w fitting divides counted few =
     }
 
 -- levels whose count passes are no more than a list of them has room for
-pub few_counted : (resolve : ℤ) (levels : List LevelNumbers) → levels_are_wrong resolve levels ≡ false → length levels ≤ most_levels
+pub few_counted : (resolve : ℤ) (levels : List LevelNumbers) → levels_are_wrong resolve levels ≡ false → length levels ≤ 4
 unfolding levels_are_wrong
 few_counted resolve levels counted =
     let l = or_parts (length levels == 0) _ counted in
-    let m = or_parts (nat_lt most_levels (length levels)) _ l.1 in
-    not_over most_levels (length levels) m.0
+    let m = or_parts (nat_lt 4 (length levels)) _ l.1 in
+    not_over 4 (length levels) m.0
 
 -- ---- counting along a grid
 

@@ -12,11 +12,11 @@ use Rattle.toml.specs.Parse.{parse_document}
 use Rattle.daa_config.specs.declared.fault.ConfigFault.{ConfigFault}
 use Rattle.daa_config.specs.declared.fault.ConfigFault.TheVariants.{TooLong, NotToml, UnknownKey, MissingKey, NotNumber, OutOfRange, Levels, TooMany}
 use Rattle.daa_config.specs.Document.{any_table, number_in}
-use Rattle.daa_config.specs.Limits.{longest_text, full_turn}
-use Rattle.daa_config.specs.Numbers.{levels_are_wrong, has_too_many}
-use Rattle.daa_config.specs.Rows.{Text, has_other_key, lacks_key, holds_other}
+use Rattle.daa_config.specs.Limits.{full_turn}
+use Rattle.daa_config.specs.Inside.Numbers.{levels_are_wrong, has_too_many}
+use Rattle.daa_config.specs.Rows.{has_other_key, lacks_key, holds_other}
 use Rattle.daa_config.specs.Settings.{Settings, IsAccepted}
-use Rattle.daa_config.specs.ConfigOf.{Written, rows_of, settings_of, written_in, config_in, config_of}
+use Rattle.daa_config.specs.ConfigOf.{Written, rows_of, settings_of, config_in, config_of}
 use Rattle.daa_config.specs.Level.{level_of, cylinder_of, asks_one, asks_nearest, is_set}
 use Rattle.daa_config.proofs.RangeLemmas.{accepted}
 
@@ -25,7 +25,7 @@ abbrev refused : Result Settings ConfigFault
 refused = Err NotToml
 
 -- what a text is that is not too long
-abbrev short_text : Text → Result Settings ConfigFault
+abbrev short_text : List ℕ → Result Settings ConfigFault
 short_text t = cond (not (is_utf8 t)) (Err NotToml) (option_map_or config_in (parse_document t) (Err NotToml))
 
 document_read : (t : List ℕ) (ms : Members) → IsUtf8 t → parse_document t ≡ Some ms → short_text t ≡ config_in ms
@@ -38,10 +38,10 @@ document_refused t h = go (is_utf8 t) refl
     go true e = rw (h (IsUtf8-from_is_utf8 t e)) refl
     go false e = refl
 
-not_long : (n : ℕ) → n ≤ longest_text → nat_lt longest_text n ≡ false
+not_long : (n : ℕ) → n ≤ 65536 → nat_lt 65536 n ≡ false
 not_long n h = grind (arith, nat_tests)
 
-short : (t : List ℕ) → length t ≤ longest_text → config_of t ≡ short_text t
+short : (t : List ℕ) → length t ≤ 65536 → config_of t ≡ short_text t
 unfolding config_of
 short t h = rw (not_long (length t) h) refl
 
@@ -58,7 +58,7 @@ past true e r y h = cc
 past false e r y h = (refl, h)
 
 settled : (w : Written) (s : Settings) → settings_of w ≡ Ok s → IsAccepted s
-unfolding settings_of
+unfolding settings_of levels_are_wrong has_too_many
 settled w s h =
     let t : Settings = record {
       numbers = w.numbers;
@@ -79,7 +79,7 @@ settled w s h =
 
 -- last times are asked for where the number that is written asks for them
 asked : (w : Written) (s : Settings) → settings_of w ≡ Ok s → s.last_times ≡ is_set w.last_times
-unfolding settings_of
+unfolding settings_of levels_are_wrong has_too_many
 asked w s h =
     let fit = list_all (λ row. row.fits) (rows_of w) in
     let divides = full_turn % nat_abs w.numbers.track_step == 0 in
@@ -90,12 +90,12 @@ asked w s h =
     cc (many.1)
 
 pub asked_as_written : (ms : Members) (s : Settings) → config_in ms ≡ Ok s → s.last_times ≡ is_set (number_in ms "last_times")
-unfolding config_in written_in
+unfolding config_in
 asked_as_written ms s h =
     let other = past (any_table has_other_key ms) UnknownKey _ s h in
     let lacking = past (any_table lacks_key ms) MissingKey _ s other.1 in
     let holding = past (any_table holds_other ms) NotNumber _ s lacking.1 in
-    asked (written_in ms) s holding.1
+    asked _ s holding.1
 
 of_document : (ms : Members) (s : Settings) → config_in ms ≡ Ok s → IsAccepted s
 unfolding config_in
@@ -103,15 +103,15 @@ of_document ms s h =
     let other = past (any_table has_other_key ms) UnknownKey _ s h in
     let lacking = past (any_table lacks_key ms) MissingKey _ s other.1 in
     let holding = past (any_table holds_other ms) NotNumber _ s lacking.1 in
-    settled (written_in ms) s holding.1
+    settled _ s holding.1
 
 of_parsed : (o : Option Members) (s : Settings) → option_map_or config_in o (Err NotToml) ≡ Ok s → IsAccepted s
 of_parsed None s h = cc
 of_parsed (Some ms) s h = of_document ms s h
 
-pub in_range : (text : Text) (s : Settings) → config_of text ≡ Ok s → IsAccepted s
+pub in_range : (text : List ℕ) (s : Settings) → config_of text ≡ Ok s → IsAccepted s
 unfolding config_of
 in_range text s h =
-    let short = past (nat_lt longest_text (length text)) TooLong _ s h in
+    let short = past (nat_lt 65536 (length text)) TooLong _ s h in
     let utf8 = past (not (is_utf8 text)) NotToml _ s short.1 in
     of_parsed (parse_document text) s utf8.1

@@ -1,5 +1,6 @@
 -- The candidates of a configuration.
-use Rattle.std.specs.Prelude.{◌≡◌, ℕ, zero, suc, ◌+◌, ◌-◌, ◌<◌, ℤ, pos, ◌+ℤ◌, ◌*ℤ◌, ◌≤ℤ◌, ◌<ℤ◌, List, [], ◌∷◌, ◌++◌, length, map, slice_get, Some}
+use Rattle.std.specs.Prelude.{◌≡◌, ℕ, ◌+◌, ◌-◌, ◌<◌, ℤ, pos, ◌+ℤ◌, ◌*ℤ◌, ◌≤ℤ◌, ◌<ℤ◌, List, [], ◌∷◌, length, map, slice_get, Some}
+use Rattle.std.specs.List.{flat_map, range_with_len}
 use Rattle.daa_fixed.specs.Size.{IsFrom}
 use Rattle.daa_config.specs.declared.candidate.Candidate.{Candidate}
 use Rattle.daa_config.specs.declared.candidate.Candidate.TheVariants.{Hold, Track as ToTrack, Speed as ToSpeed, Climb as ToClimb, Height as ToHeight}
@@ -16,14 +17,10 @@ grid_of Speed settings = settings.numbers.gs
 grid_of Climb settings = settings.numbers.vs
 grid_of Height settings = settings.numbers.alt
 
--- low, low + step, ..: this number of values
-unfoldable pub rising : ℤ → ℤ → ℕ → List ℤ
-rising low step zero = []
-rising low step (suc n) = low ∷ rising (low +ℤ step) step n
-
--- the rising list of values of a kind
+-- the rising list of values of a kind: min, min + step, ..
 unfoldable pub values_of : Kind → Settings → List ℤ
-values_of kind settings = rising (grid_of kind settings).min (grid_of kind settings).step (count_of (grid_of kind settings))
+values_of kind settings =
+    map (λ i. (grid_of kind settings).min +ℤ pos i *ℤ (grid_of kind settings).step) (range_with_len 0 (count_of (grid_of kind settings)))
 
 -- the least value of a kind, which is the first
 unfoldable pub least_of : Kind → Settings → ℤ
@@ -48,13 +45,9 @@ candidate_to Speed g = ToSpeed g
 candidate_to Climb w = ToClimb w
 candidate_to Height a = ToHeight a
 
--- the candidates that go to the values of a kind
-unfoldable pub candidates_to : Kind → Settings → List Candidate
-candidates_to kind settings = map (candidate_to kind) (values_of kind settings)
-
 -- Hold, then those to tracks, ground speeds, vertical speeds and altitudes
 unfoldable pub candidates_of : Settings → List Candidate
-candidates_of settings = Hold ∷ (candidates_to Track settings ++ (candidates_to Speed settings ++ (candidates_to Climb settings ++ candidates_to Height settings)))
+candidates_of settings = Hold ∷ flat_map (λ kind. map (candidate_to kind) (values_of kind settings)) (Track ∷ Speed ∷ Climb ∷ Height ∷ [])
 
 -- where the candidates of a kind begin in the whole list
 unfoldable pub start_of : Kind → Settings → ℕ

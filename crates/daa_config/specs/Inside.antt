@@ -3,3 +3,4 @@ pub mod Stepped
 pub mod Counts
 pub mod Rows
 pub mod Written
+pub mod Numbers

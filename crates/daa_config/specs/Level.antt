@@ -1,5 +1,6 @@
 -- A level in units: 36 to 0.001 NM and 60 to a foot.
-use Rattle.std.specs.Prelude.{◌*◌, zero, ℤ, pos, nat_abs, Bool, true, false, not, ◌&&◌, ◌||◌, if◌then◌else◌, Option, Some, None}
+use Rattle.std.specs.Prelude.{◌*◌, zero, ℤ, pos, nat_abs, Bool, true, false, not, ◌&&◌, ◌||◌, if◌then◌else◌, Option}
+use Rattle.std.specs.Option.{option_map_or}
 use Rattle.daa_taumod.specs.declared.Model.{Model}
 use Rattle.daa_taumod.specs.declared.Model.TheVariants.{Tau, Tcpa, Taumod, Tep}
 use Rattle.daa_taumod.specs.declared.Volume.{Volume}
@@ -42,8 +43,7 @@ cylinder_of n = record {
 
 -- the recovery is asked to name the value nearest to the present one
 abbrev pub asks_nearest : Option RecoveryNumbers → Bool
-asks_nearest None = false
-asks_nearest (Some n) = is_set n.nearest
+asks_nearest recovery = option_map_or (λ n. is_set n.nearest) recovery false
 
 -- the level of these numbers
 abbrev pub level_of : LevelNumbers → Level

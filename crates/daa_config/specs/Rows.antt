@@ -11,13 +11,9 @@ use Rattle.daa_config.specs.declared.numbers.Numbers.{Numbers}
 use Rattle.daa_config.specs.declared.numbers.LevelNumbers.{LevelNumbers}
 use Rattle.daa_config.specs.declared.numbers.RecoveryNumbers.{RecoveryNumbers}
 
--- bytes, as numbers
-abbrev pub Text : Type 0
-Text = List ℕ
-
 -- a key of a table: whether it must be there, what may stand at it, and whether its number is in its range
 pub record Row : Type 0 where
-  pub key : Text
+  pub key : List ℕ
   pub needed : Bool
   pub holds : Data → Bool
   pub fits : Bool

@@ -13,7 +13,7 @@ use Rattle.daa_config.specs.declared.level.Level.{Level}
 use Rattle.daa_config.specs.declared.limits.Bounds.{Bounds}
 use Rattle.daa_config.specs.declared.numbers.Grid.{Grid}
 use Rattle.daa_config.specs.declared.numbers.Numbers.{Numbers}
-use Rattle.daa_config.specs.Limits.{from_to, full_turn, most_levels, most_values}
+use Rattle.daa_config.specs.Limits.{from_to, full_turn}
 use Rattle.daa_config.specs.Numbers.{count_of}
 
 -- the numbers of a configuration, the cylinder that a recovery stays out of where one is asked for, whether a recovery names the value
@@ -73,7 +73,7 @@ pub record IsGridInRange (values : Bounds) (g : Grid) : Type 0 where
   pub ordered : g.min ≤ℤ g.max
   pub most : g.max ≤ℤ values.high
   pub step : IsFrom (pos 1) (values.high -ℤ values.low) g.step
-  pub few : count_of g ≤ most_values
+  pub few : count_of g ≤ 512
 
 -- a level's volume in units, and the seconds that it looks ahead and alerts
 pub record IsLevelInRange (level : Level) : Type 0 where
@@ -101,7 +101,7 @@ pub record IsAccepted (settings : Settings) : Type 0 where
   pub vs : IsGridInRange (value_bounds Climb) settings.numbers.vs
   pub alt : IsGridInRange (value_bounds Height) settings.numbers.alt
   pub some_level : 1 ≤ length settings.levels
-  pub few_levels : length settings.levels ≤ most_levels
+  pub few_levels : length settings.levels ≤ 4
   pub level : (l : ℕ) (level : Level) → IsLevelAt settings l level → IsLevelInRange level
   pub recovery : (cylinder : Volume) → settings.recovery ≡ Some cylinder → IsCylinder cylinder
   pub resolve : IsFrom (pos 1) (pos (length settings.levels)) settings.numbers.resolve

@@ -8,7 +8,7 @@ ghost use Rattle.daa_config.specs.ConfigOf.{rows_of, settings_of};
 ghost use Rattle.daa_config.specs.Inside.Rows.{recovery_fits, level_fits};
 ghost use Rattle.daa_config.specs.Level.{asks_one};
 ghost use Rattle.daa_config.specs.Limits.{full_turn};
-ghost use Rattle.daa_config.specs.Numbers.{levels_are_wrong, has_too_many};
+ghost use Rattle.daa_config.specs.Inside.Numbers.{levels_are_wrong, has_too_many};
 ghost use Rattle.daa_config.specs.Rows as listed;
 
 use crate::config::Config;
@@ -90,7 +90,7 @@ fn are_all_in_range(
 }
 
 /// Whether the numbers are allowed in a configuration.
-#[tactic(auto, unfolding(crate::specs::ConfigOf::settings_of))]
+#[tactic(auto, unfolding(crate::specs::ConfigOf::settings_of, crate::specs::Inside::Numbers::levels_are_wrong, crate::specs::Inside::Numbers::has_too_many))]
 pub(crate) fn test(
     numbers: &Numbers,
     recovery: &Option<RecoveryNumbers>,
@@ -135,7 +135,7 @@ impl Config {
     /// The configuration of these numbers, in the units of the text's keys, if they are allowed
     /// in one; else the first that applies of `OutOfRange`, `Levels` and `TooMany`. The first of
     /// the levels is level 1. It takes no memory.
-    #[tactic(auto, unfolding(crate::specs::ConfigOf::settings_of))]
+    #[tactic(auto, unfolding(crate::specs::ConfigOf::settings_of, crate::specs::Inside::Numbers::levels_are_wrong, crate::specs::Inside::Numbers::has_too_many))]
     pub fn of(
         numbers: &Numbers,
         recovery: &Option<RecoveryNumbers>,

@@ -1,9 +1,8 @@
 //! Laws of the definitions, each the contract of a function that does nothing.
 
-ghost use Rattle.std.specs.Prelude.{◌≡◌, Ok, None, codes};
+ghost use Rattle.std.specs.Prelude.{◌≡◌, ℕ, List, Ok, None, codes};
 ghost use Rattle.toml.specs.Data.{Members, get_member};
 ghost use Rattle.daa_config.specs.declared.kind.Kind.{Kind};
-ghost use Rattle.daa_config.specs.Rows.{Text};
 ghost use Rattle.daa_config.specs.Settings.{Settings, IsAccepted};
 ghost use Rattle.daa_config.specs.ConfigOf.{config_of};
 ghost use Rattle.daa_config.specs.Before.{IsAsBefore, IsDocumentAsBefore};
@@ -11,7 +10,7 @@ ghost use Rattle.daa_config.specs.Candidates.{grid_of, values_of, AreStepsUpTo};
 
 /// A text that is taken has its numbers in their ranges.
 pub fn accepted_is_in_range()
-    ensures { (text : Text) (settings : Settings) → config_of text ≡ Ok settings
+    ensures { (text : List ℕ) (settings : Settings) → config_of text ≡ Ok settings
         → IsAccepted settings }
 {}
 

@@ -3,7 +3,8 @@
 ghost use Rattle.std.specs.Prelude.{◌≡◌, nat_abs, ◌%◌, ◌==◌};
 ghost use Rattle.daa_config.specs.Inside.Stepped.{IsStepped};
 ghost use Rattle.daa_config.specs.Limits.{full_turn};
-ghost use Rattle.daa_config.specs.Numbers.{levels_are_wrong, count_of, has_too_many};
+ghost use Rattle.daa_config.specs.Numbers.{count_of};
+ghost use Rattle.daa_config.specs.Inside.Numbers.{levels_are_wrong, has_too_many};
 
 use crate::limits::{FULL_TURN, MOST_LEVELS, MOST_VALUES};
 use arrayvec::ArrayVec;
@@ -101,7 +102,7 @@ pub(crate) fn divides_full_turn(step: i64) -> bool
 }
 
 /// Whether there is no level, there are more than may be, or `resolve` is above their number.
-#[tactic(auto, unfolding(crate::specs::Numbers::levels_are_wrong))]
+#[tactic(auto, unfolding(crate::specs::Inside::Numbers::levels_are_wrong))]
 pub(crate) fn have_wrong_count(numbers: &Numbers, levels: &[LevelNumbers]) -> bool
     ensures { result ≡ levels_are_wrong numbers.now.resolve levels.now }
 {
@@ -119,7 +120,7 @@ pub(crate) fn count(grid: &Grid) -> u64
 }
 
 /// Whether the ground speeds, the vertical speeds or the altitudes are more than may be.
-#[tactic(auto, unfolding(crate::specs::Numbers::has_too_many))]
+#[tactic(auto, unfolding(crate::specs::Inside::Numbers::has_too_many))]
 pub(crate) fn are_too_many(numbers: &Numbers) -> bool
     requires gs { IsStepped numbers.now.gs }
     requires vs { IsStepped numbers.now.vs }

@@ -45,7 +45,7 @@ fn parse(alloc: Global, text: &[u8]) -> Result<Table, ConfigFault>
 }
 
 /// The numbers of a document, where no table of it differs from its rows.
-#[tactic(auto, unfolding(crate::specs::ConfigOf::config_in, crate::specs::ConfigOf::written_in))]
+#[tactic(auto, unfolding(crate::specs::ConfigOf::config_in))]
 fn find(alloc: Global, document: &Table) -> Result<Found, ConfigFault>
     ensures found { IfOk result (λ found. config_in (table_view document.now)
         ≡ settings_of (written_from found)) }
@@ -82,7 +82,7 @@ fn list_levels(levels: &[LevelNumbers]) -> ArrayVec<LevelNumbers, MOST_LEVELS>
 }
 
 /// The numbers, if they are allowed in a configuration.
-#[tactic(auto, unfolding(crate::specs::ConfigOf::settings_of))]
+#[tactic(auto, unfolding(crate::specs::ConfigOf::settings_of, crate::specs::Inside::Numbers::levels_are_wrong, crate::specs::Inside::Numbers::has_too_many))]
 fn accept(found: &Found) -> Result<ConfigNumbers, ConfigFault>
     ensures same { IfOk result (λ numbers. written_by numbers ≡ written_from found.now) }
     ensures accepted { IfOk result (λ numbers. IsOk (settings_of (written_by numbers))) }

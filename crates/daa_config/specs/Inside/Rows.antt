@@ -1,5 +1,5 @@
 -- What the code's rows stand for, and what it finds at keys.
-use Rattle.std.specs.Prelude.{ℤ, pos, Bool, true, ◌&&◌, int_le, List, is_some, Option, Some, None, option_and_then}
+use Rattle.std.specs.Prelude.{ℕ, ℤ, pos, Bool, true, ◌&&◌, int_le, List, is_some, Option, Some, None, option_and_then}
 use Rattle.std.specs.List.{list_any, list_all, filter_map}
 use Rattle.std.specs.Option.{option_map_or}
 use Rattle.toml.specs.Data.{Data, Items, Members, no_members, get_member, as_integer, as_table, as_array}
@@ -11,7 +11,7 @@ use Rattle.daa_config.specs.declared.numbers.RecoveryNumbers.{RecoveryNumbers}
 use Rattle.daa_config.specs.declared.rows.Place.{Place}
 use Rattle.daa_config.specs.declared.rows.Place.TheVariants.{Number, Table, Tables}
 use Rattle.daa_config.specs.declared.rows.Row.{Row as CodeRow}
-use Rattle.daa_config.specs.Rows.{Text, Row, are_tables, level_rows, recovery_rows, has_other_key, lacks_key, holds_other}
+use Rattle.daa_config.specs.Rows.{Row, are_tables, level_rows, recovery_rows, has_other_key, lacks_key, holds_other}
 use Rattle.daa_config.specs.Document.{number_in, grid_by, level_by}
 
 -- what may stand at a place
@@ -37,19 +37,19 @@ differs_by MissingKey = lacks_key
 differs_by NotNumber = holds_other
 
 -- the table at a key
-abbrev pub table_at : Members → Text → Option Members
+abbrev pub table_at : Members → List ℕ → Option Members
 table_at ms key = option_and_then as_table (get_member key ms)
 
 -- the list at a key
-abbrev pub list_at : Members → Text → Option Items
+abbrev pub list_at : Members → List ℕ → Option Items
 list_at ms key = option_and_then as_array (get_member key ms)
 
 -- the whole number at a key, 0 where there is none
-abbrev pub number_at : Members → Text → ℤ
+abbrev pub number_at : Members → List ℕ → ℤ
 number_at ms key = option_map_or (λ z. z) (option_and_then as_integer (get_member key ms)) (pos 0)
 
 -- the numbers of the kind whose table stands at a key
-abbrev pub grid_at : Members → Text → Grid
+abbrev pub grid_at : Members → List ℕ → Grid
 grid_at ms key = grid_by (number_in (option_map_or (λ t. t) (table_at ms key) no_members))
 
 -- a table among the items differs from the rows of a level
