@@ -5,9 +5,9 @@ use Rattle.std.proofs.lemmas.List.Elements.{recursion_from_All, All-from_recursi
 use Rattle.std.proofs.lemmas.Bool.Decides.{nat_tests}
 use Rattle.daa_bands.specs.declared.band.Band.{Band}
 use Rattle.daa_fixed.specs.One.{HasOne}
-use Rattle.daa_bands.specs.Band.{Mark, IsStretch, AreBands}
+use Rattle.daa_bands.specs.Band.{IsStretch, AreBands}
 use Rattle.daa_bands.specs.Parts.{SplitsInto, SplitsByEach}
-use Rattle.daa_bands.specs.Walk.{with_mark, bands_of}
+use Rattle.daa_bands.specs.Walk.{Mark, with_mark, bands_of}
 
 -- ---- bands, one after the other
 

@@ -12,9 +12,9 @@ use Rattle.daa_config.specs.Settings.{Settings}
 use Rattle.daa_config.specs.Candidates.{values_of, start_of}
 use Rattle.daa_config.specs.declared.kind.Kind.{Kind}
 use Rattle.daa_bands.specs.declared.band.Band.{Band}
-use Rattle.daa_bands.specs.Walk.{shown_of, with_mark, bands_of, marks_from, bands_left}
+use Rattle.daa_bands.specs.Walk.{Mark, shown_of, with_mark, bands_of, marks_from, bands_left}
 use Rattle.daa_fixed.specs.Mask.{HasLevel, IsGreatestLevel}
-use Rattle.daa_bands.specs.Band.{Mark, AreBands}
+use Rattle.daa_bands.specs.Band.{AreBands}
 use Rattle.daa_bands.specs.Board.{HasLevelOn, mask_levels}
 use Rattle.daa_fixed.specs.One.{HasOne}
 use Rattle.daa_bands.specs.KindBands.{AreKindBands}

@@ -8,17 +8,13 @@ use Rattle.daa_bands.specs.declared.band.Band.{Band}
 abbrev pub band_of : ℤ → ℤ → ℕ → Band
 band_of from upto level = record { from = from; upto = upto; level = level }
 
--- a value and its level
-abbrev pub Mark : Type 0
-Mark = ℤ × ℕ
-
 -- the stretch of a band begins with the band's first value and ends with its last, and all of it has the band's level
-pub record IsStretch (band : Band) (stretch : List Mark) : Type 0 where
-  pub first : (others : List Mark) × (stretch ≡ (band.from, band.level) ∷ others)
-  pub last : (others : List Mark) × (stretch ≡ others ++ (band.upto, band.level) ∷ [])
+pub record IsStretch (band : Band) (stretch : List (ℤ × ℕ)) : Type 0 where
+  pub first : (others : List (ℤ × ℕ)) × (stretch ≡ (band.from, band.level) ∷ others)
+  pub last : (others : List (ℤ × ℕ)) × (stretch ≡ others ++ (band.upto, band.level) ∷ [])
   pub level : All (λ mark. mark.1 ≡ band.level) stretch
 
--- the stretches of the bands, put together, are the values in order, and neighbours differ in level
-pub record AreBands (marks : List Mark) (bands : List Band) : Type 0 where
+-- the stretches of the bands, put together, are the values in order, each with its level, and neighbours differ in level
+pub record AreBands (marks : List (ℤ × ℕ)) (bands : List Band) : Type 0 where
   pub stretches : SplitsByEach IsStretch bands marks
   pub differ : (before after : List Band) (band next : Band) → bands ≡ before ++ band ∷ next ∷ after → band.level ≢ next.level

@@ -4,12 +4,15 @@ use Rattle.std.specs.Int.{leading_zeros, w8}
 use Rattle.daa_config.specs.Candidates.{values_of, start_of}
 use Rattle.daa_config.specs.Settings.{Settings}
 use Rattle.daa_config.specs.declared.kind.Kind.{Kind}
-use Rattle.daa_bands.specs.Band.{Mark}
 use Rattle.daa_bands.specs.declared.band.Band.{Band}
 
 -- the greatest level that a mask of eight bits has, or 0
 unfoldable pub shown_of : ℕ → ℕ
 shown_of mask = 8 - leading_zeros w8 (mask % 2 ^ 8)
+
+-- a value and its level
+abbrev pub Mark : Type 0
+Mark = ℤ × ℕ
 
 -- a value with its level goes before the bands of the others: into the first of them, if that has its level
 unfoldable pub with_mark : Mark → List Band → List Band

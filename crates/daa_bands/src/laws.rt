@@ -1,19 +1,19 @@
 //! Laws of the definitions, each the contract of a function that does nothing.
 
-ghost use Rattle.std.specs.Prelude.{◌≡◌, Bool, List, [], ◌∷◌, ℕ, pos, length, IsTrue};
+ghost use Rattle.std.specs.Prelude.{◌≡◌, Bool, List, [], ◌∷◌, ℕ, ℤ, pos, length, IsTrue};
 ghost use Rattle.daa_fixed.specs.Mask.{HasLevel, IsGreatestLevel};
 ghost use Rattle.daa_config.specs.Packing.{mask_in};
 ghost use Rattle.daa_config.specs.Settings.{Settings, IsAccepted};
 ghost use Rattle.daa_config.specs.declared.kind.Kind.{Kind};
 ghost use Rattle.daa_fixed.specs.One.{HasOne};
-ghost use Rattle.daa_bands.specs.Band.{Mark, AreBands, band_of};
+ghost use Rattle.daa_bands.specs.Band.{AreBands, band_of};
 ghost use Rattle.daa_bands.specs.Board.{HasLevelOn, IsBoardOf, mask_levels};
 ghost use Rattle.daa_bands.specs.declared.band.Band.{Band};
 ghost use Rattle.daa_bands.specs.KindBands.{AreKindBands};
 
 /// Values with their levels have exactly one list of bands, and so has each kind over any board.
 pub fn has_one_list_of_bands()
-    ensures marks { (marks : List Mark) → HasOne (AreBands marks) }
+    ensures marks { (marks : List (ℤ × ℕ)) → HasOne (AreBands marks) }
     ensures kinds { (board : List ℕ) (settings : Settings) (kind : Kind)
         → HasOne (AreKindBands (HasLevelOn board) mask_levels settings kind) }
 {}
