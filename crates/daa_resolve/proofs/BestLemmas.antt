@@ -10,7 +10,8 @@ use Rattle.daa_config.specs.declared.candidate.Resolution.TheVariants.{To, Nothi
 use Rattle.daa_state.specs.declared.word.Own.{Own}
 use Rattle.daa_resolve.specs.declared.side.Side.{Side}
 use Rattle.daa_resolve.specs.Open.{IsOpen}
-use Rattle.daa_resolve.specs.Resolution.{IsOpenOnSide, IsNearest, IsResolution, distance_to}
+use Rattle.daa_resolve.specs.Resolution.{IsOpenOnSide, IsNearest, IsResolution}
+use Rattle.daa_resolve.specs.Side.{present_of, distance_of}
 use Rattle.daa_resolve.specs.Inside.Best.{IsBest}
 
 module _ (Covered : ℕ → ℕ → Type 0) (s : Settings) (own : Own) (kind : Kind) (side : Side) (n : ℕ) where
@@ -18,7 +19,7 @@ module _ (Covered : ℕ → ℕ → Type 0) (s : Settings) (own : Own) (kind : K
   Open p v = IsOpenOnSide Covered s own kind side p v
 
   abbrev far : ℤ → ℤ
-  far v = distance_to Covered s own kind side v
+  far v = distance_of kind side (present_of kind own) v
 
   -- a value open at index n is v
   same_value : (v w : ℤ) → Open n v → Open n w → v ≡ w

@@ -1,4 +1,4 @@
--- No two choices on a side are equally distance_to, so that there is one answer.
+-- No two choices on a side are equally far, so that there is one answer.
 use Rattle.std.proofs.Common.{◌≡◌, ◌≤◌, ◌+◌, ◌*◌, ◌%◌, ◌∙◌, ℕ, ℤ, pos, ◌≤ℤ◌, ◌+ℤ◌, ◌-ℤ◌, slice_get, Some, refl, sym, ap, subst, arith}
 use Rattle.std.specs.Prelude.{nat_abs, ◌*ℤ◌}
 use Rattle.std.specs.Int.{int_rem_euclid}
@@ -16,7 +16,7 @@ use Rattle.daa_state.specs.declared.word.Own.{Own}
 use Rattle.daa_resolve.specs.declared.side.Side.{Side}
 use Rattle.daa_resolve.specs.declared.side.Side.TheVariants.{Lower, Upper}
 use Rattle.daa_resolve.specs.Side.{way_of, distance_of, present_of}
-use Rattle.daa_resolve.specs.Resolution.{IsResolution, distance_to}
+use Rattle.daa_resolve.specs.Resolution.{IsResolution}
 
 same_turn : (a b m n : ℕ) → a + n ≡ b + m → m % 360 ≡ n % 360 → a ≤ 359 → b ≤ 359 → a ≡ b
 same_turn a b m n e h k l = omega arith
@@ -68,7 +68,7 @@ degrees s i v h e =
 
 module _ (Covered : ℕ → ℕ → Type 0) (s : Settings) (own : Own) (ok : IsAccepted s) where
   pub far_only : (kind : Kind) (side : Side) (p q : ℕ) (v w : ℤ) → slice_get (values_of kind s) p ≡ Some v → slice_get (values_of kind s) q ≡ Some w
-      → distance_to Covered s own kind side v ≡ distance_to Covered s own kind side w → v ≡ w
+      → distance_of kind side (present_of kind own) v ≡ distance_of kind side (present_of kind own) w → v ≡ w
   far_only Track side p q v w a b e =
       let x = degrees s p v ok a in let y = degrees s q w ok b in
       let m = size_is v x.0 in let n = size_is w y.0 in

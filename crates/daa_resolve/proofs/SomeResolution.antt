@@ -16,8 +16,8 @@ use Rattle.daa_bands.specs.Board.{HasLevelOn}
 use Rattle.daa_resolve.specs.Inside.Best.{IsBest}
 use Rattle.daa_resolve.specs.Open.{IsOpen}
 use Rattle.daa_fixed.specs.One.{HasOne}
-use Rattle.daa_resolve.specs.Resolution.{IsOpenOnSide, IsResolution, distance_to}
-use Rattle.daa_resolve.specs.Side.{present_of, distance_of, IsTurn, IsBeyond, IsOnSide}
+use Rattle.daa_resolve.specs.Resolution.{IsOpenOnSide, IsResolution}
+use Rattle.daa_resolve.specs.Side.{present_of, distance_of, IsOnSide}
 use Rattle.daa_resolve.specs.declared.side.Side.{Side}
 use Rattle.daa_resolve.specs.declared.side.Side.TheVariants.{Lower, Upper}
 use Rattle.daa_resolve.proofs.BestLemmas.{skip, first, keep, change, nothing, going}
@@ -52,19 +52,18 @@ one_decided (suc (suc n)) = inr (λ e. omega arith)
 
 -- ---- sides
 
-turn_decided : (side : Side) (angle : ℤ) → IsDecidable (IsTurn side angle)
-turn_decided Upper angle = both_decided (pos 1 ≤ℤ angle) (angle ≤ℤ pos 180) (at_most_decided (pos 1) angle) (at_most_decided angle (pos 180))
-turn_decided Lower angle = both_decided (pos 0 ≤ℤ angle) (angle ≤ℤ pos 179) (at_most_decided (pos 0) angle) (at_most_decided angle (pos 179))
-
-beyond_decided : (side : Side) (now value : ℤ) → IsDecidable (IsBeyond side now value)
-beyond_decided Upper now value = below_decided now value
-beyond_decided Lower now value = at_most_decided value now
+within_decided : (low high angle : ℤ) → IsDecidable ((low ≤ℤ angle) × (angle ≤ℤ high))
+within_decided low high angle = both_decided (low ≤ℤ angle) (angle ≤ℤ high) (at_most_decided low angle) (at_most_decided angle high)
 
 side_decided : (kind : Kind) (side : Side) (now value : ℤ) → IsDecidable (IsOnSide kind side now value)
-side_decided Track side now value = turn_decided side (distance_of Track side now value)
-side_decided Speed side now value = beyond_decided side now value
-side_decided Climb side now value = beyond_decided side now value
-side_decided Height side now value = beyond_decided side now value
+side_decided Track Upper now value = within_decided (pos 1) (pos 180) (distance_of Track Upper now value)
+side_decided Track Lower now value = within_decided (pos 0) (pos 179) (distance_of Track Lower now value)
+side_decided Speed Upper now value = below_decided now value
+side_decided Speed Lower now value = at_most_decided value now
+side_decided Climb Upper now value = below_decided now value
+side_decided Climb Lower now value = at_most_decided value now
+side_decided Height Upper now value = below_decided now value
+side_decided Height Lower now value = at_most_decided value now
 
 -- ---- open candidates
 
@@ -93,6 +92,10 @@ module _ (Covered : ℕ → ℕ → Type 0) (decided : (index l : ℕ) → IsDec
         go (inl a) (inr n) = inr (λ c. n c.is_open)
         go (inr n) b = inr (λ c. n c.on_side)
 
+    -- how far a value is on the side
+    abbrev far : ℤ → ℤ
+    far v = distance_of kind side (present_of kind own) v
+
     -- the nearest of the places below n and of n
     abbrev Best : ℕ → Type 0
     Best n = (best : Option ℕ) × IsBest Covered s own kind side n best
@@ -104,9 +107,9 @@ module _ (Covered : ℕ → ℕ → Type 0) (decided : (index l : ℕ) → IsDec
           let f : w ≡ v = (let x = c.value_is in cc) in none (subst (λ (z : ℤ). IsOpenOnSide Covered s own kind side n z) f c)),
     )
     one_more n v e (None, h) (inl c) = (Some n, first Covered s own kind side n v h c)
-    one_more n v e (Some other, h) (inl c) = go (order_of (distance_to Covered s own kind side h.0) (distance_to Covered s own kind side v))
+    one_more n v e (Some other, h) (inl c) = go (order_of (far h.0) (far v))
       where
-        go : (distance_to Covered s own kind side h.0 ≤ℤ distance_to Covered s own kind side v) ⊎ (distance_to Covered s own kind side v <ℤ distance_to Covered s own kind side h.0) → Best (n + 1)
+        go : (far h.0 ≤ℤ far v) ⊎ (far v <ℤ far h.0) → Best (n + 1)
         go (inl k) = (Some other, keep Covered s own kind side n other v h c k)
         go (inr k) = (Some n, change Covered s own kind side n other v h c (omega (arith, ints)))
 

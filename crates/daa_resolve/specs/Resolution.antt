@@ -17,15 +17,11 @@ module _ (Covered : ℕ → ℕ → Type 0) (settings : Settings) (own : Own) (k
     pub on_side : IsOnSide kind side (present_of kind own) value
     pub is_open : IsOpen Covered settings (start_of kind settings + index)
 
-  -- how far a value is from the present one on the side
-  abbrev pub distance_to : ℤ → ℤ
-  distance_to value = distance_of kind side (present_of kind own) value
-
   -- the value is open on the side, and no other open value there is nearer
   abbrev pub IsNearest : ℤ → Type 0
   IsNearest value =
       (index : ℕ) × IsOpenOnSide index value
-      × ((p : ℕ) (v : ℤ) → IsOpenOnSide p v → distance_to value ≤ℤ distance_to v)
+      × ((p : ℕ) (v : ℤ) → IsOpenOnSide p v → distance_of kind side (present_of kind own) value ≤ℤ distance_of kind side (present_of kind own) v)
 
   -- keep if Hold, the candidate at index 0, is open; else the nearest value, or nothing if none is
   abbrev pub IsResolution : Resolution → Type 0

@@ -25,17 +25,10 @@ abbrev pub distance_of : Kind → Side → ℤ → ℤ → ℤ
 distance_of Track side now value = int_rem_euclid (way_of side now value) (pos full_turn)
 distance_of _ side now value = way_of side now value
 
--- on track, right turns by 1 to 180 degrees and left by 0 to 179
-abbrev pub IsTurn : Side → ℤ → Type 0
-IsTurn Upper angle = (pos 1 ≤ℤ angle) × (angle ≤ℤ pos 180)
-IsTurn Lower angle = (pos 0 ≤ℤ angle) × (angle ≤ℤ pos 179)
-
--- on the other kinds, up has the values greater than the present one, and down the others
-abbrev pub IsBeyond : Side → ℤ → ℤ → Type 0
-IsBeyond Upper now value = now <ℤ value
-IsBeyond Lower now value = value ≤ℤ now
-
--- a value is on a side of the present one
+-- a value is on a side of the present one: on track, right turns by 1 to 180 degrees and left by 0 to 179; on the other kinds, up has
+-- the values greater than the present one, and down the others
 abbrev pub IsOnSide : Kind → Side → ℤ → ℤ → Type 0
-IsOnSide Track side now value = IsTurn side (distance_of Track side now value)
-IsOnSide _ side now value = IsBeyond side now value
+IsOnSide Track Upper now value = (pos 1 ≤ℤ distance_of Track Upper now value) × (distance_of Track Upper now value ≤ℤ pos 180)
+IsOnSide Track Lower now value = (pos 0 ≤ℤ distance_of Track Lower now value) × (distance_of Track Lower now value ≤ℤ pos 179)
+IsOnSide _ Upper now value = now <ℤ value
+IsOnSide _ Lower now value = value ≤ℤ now

@@ -3,8 +3,8 @@
 ghost use Rattle.std.specs.Prelude.{◌≡◌, ◌↔◌, IsTrue, pos};
 ghost use Rattle.std.specs.Int.{int_rem_euclid};
 ghost use Rattle.daa_config.specs.Limits.{full_turn};
-ghost use Rattle.daa_resolve.specs.Side.{present_of, way_of, distance_of};
-ghost use Rattle.daa_resolve.specs.Side.{IsTurn, IsBeyond, IsOnSide};
+ghost use Rattle.daa_config.specs.declared.kind.Kind.TheVariants.{Track, Speed};
+ghost use Rattle.daa_resolve.specs.Side.{present_of, way_of, distance_of, IsOnSide};
 
 use daa_config::Kind;
 use daa_state::Own;
@@ -61,19 +61,20 @@ pub(crate) fn distance(kind: Kind, side: Side, now: &i32, value: &i32) -> i64
     }
 }
 
-/// Whether a track that is reached by turning this angle to a side counts to that side.
-fn is_turn(side: Side, angle: &i64) -> bool
-    ensures { IsTrue result ↔ IsTurn side angle.now }
+/// Whether a track is on a side of the present one, by the angle of turning to that side.
+fn is_turn(side: Side, now: &i32, value: &i32) -> bool
+    ensures { IsTrue result ↔ IsOnSide Track side now.now value.now }
 {
+    let angle = distance(Kind::Track, side, now, value);
     match side {
-        Side::Upper => *angle >= 1 && *angle <= 180,
-        Side::Lower => *angle >= 0 && *angle <= 179,
+        Side::Upper => angle >= 1 && angle <= 180,
+        Side::Lower => angle >= 0 && angle <= 179,
     }
 }
 
-/// Whether a value lies above or below the present one.
+/// Whether a value is on a side of the present one, on the other kinds.
 fn is_beyond(side: Side, now: &i32, value: &i32) -> bool
-    ensures { IsTrue result ↔ IsBeyond side now.now value.now }
+    ensures { IsTrue result ↔ IsOnSide Speed side now.now value.now }
 {
     match side {
         Side::Upper => *value > *now,
@@ -86,7 +87,7 @@ pub(crate) fn is_on_side(kind: Kind, side: Side, now: &i32, value: &i32) -> bool
     ensures { IsTrue result ↔ IsOnSide kind side now.now value.now }
 {
     match kind {
-        Kind::Track => is_turn(side, &distance(kind, side, now, value)),
+        Kind::Track => is_turn(side, now, value),
         Kind::Speed => is_beyond(side, now, value),
         Kind::Climb => is_beyond(side, now, value),
         Kind::Height => is_beyond(side, now, value),
