@@ -35,11 +35,18 @@ module _ (p : OutlookState) (candidate : Candidate) (m : ℕ) (aircraft : Traffi
 
   pub open_all : (l : ℕ) → length p.settings.levels < l → AreOpenBelow l → ¬ IsClosedFrom p candidate m aircraft
   open_all l h open_below x = let w = level_within p.settings x.number x.level x.closes.there in
-      open_below x.number x.level (omega (arith, w, h)) x.closes x.meets
+      open_below x.number x.level (omega (arith, w, h)) x.closes (record { leg = x.leg; not_before = x.violates.0; before = x.before; violates = x.violates.1 })
 
   pub closed_at : (l : ℕ) (level : Level) → IsLevelAt p.settings l level → p.settings.numbers.resolve ≤ℤ pos l
       → MeetsBetween p.settings p.picture.own candidate aircraft level.volume m level.lookahead → IsClosedFrom p candidate m aircraft
-  closed_at l level at from meets = record { number = l; level = level; closes = record { there = at; from = from }; meets = meets }
+  closed_at l level at from meets = record {
+    number = l;
+    level = level;
+    closes = record { there = at; from = from };
+    leg = meets.leg;
+    before = meets.before;
+    violates = (meets.not_before, meets.violates);
+  }
 
 -- ---- aircraft by aircraft
 

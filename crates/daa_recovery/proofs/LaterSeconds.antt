@@ -12,7 +12,9 @@ lasts p candidate m n le r place aircraft there =
         number = x.number;
         level = x.level;
         closes = x.closes;
-        meets = record { leg = x.meets.leg; not_before = omega (arith, le, x.meets.not_before); before = x.meets.before; violates = x.meets.violates };
+        leg = x.leg;
+        before = x.before;
+        violates = (omega (arith, le, x.violates.0), x.violates.1);
       });
       apart = k.apart;
     }

@@ -1,6 +1,6 @@
 -- No two values of a kind have one place in the order in which they are named.
 use Rattle.std.proofs.Common.{◌≡◌, ◌∙◌, ◌+◌, ◌*◌, ◌≤◌, ℕ, ℤ, pos, negsuc, ◌+ℤ◌, ◌-ℤ◌, Bool, true, false, Some, ap, sym, subst, arith}
-use Rattle.std.specs.Prelude.{nat_abs, slice_get}
+use Rattle.std.specs.Prelude.{nat_abs, slice_get, if◌then◌else◌}
 use Rattle.std.specs.Int.{int_rem_euclid}
 use Rattle.std.proofs.lemmas.Int.{ints}
 use Rattle.daa_config.specs.Candidates.{values_of}
@@ -12,7 +12,7 @@ use Rattle.daa_state.specs.declared.word.Own.{Own}
 use Rattle.daa_resolve.specs.Side.{present_of}
 use Rattle.daa_resolve.specs.declared.side.Side.TheVariants.{Upper}
 use Rattle.daa_resolve.proofs.OneResolution.{turn_only, degrees}
-use Rattle.daa_recovery.specs.Order.{way_of, place_of_way, place_by, place_of}
+use Rattle.daa_recovery.specs.Order.{way_of, place_of_way, place_of}
 
 same_pos : (m n : ℕ) → pos m ≡ pos n → m ≡ n
 same_pos m n e = cc
@@ -47,8 +47,8 @@ way_only s Climb now v w i j ok a b e = omega (arith, ints)
 way_only s Height now v w i j ok a b e = omega (arith, ints)
 
 by_only : (nearest : Bool) (s : Settings) (kind : Kind) (now v w : ℤ) (i j : ℕ) → IsAccepted s → slice_get (values_of kind s) i ≡ Some v → slice_get (values_of kind s) j ≡ Some w
-    → place_by nearest kind now v ≡ place_by nearest kind now w → v ≡ w
-by_only true s kind now v w i j ok a b e = way_only s kind now v w i j ok a b (place_only _ _ e)
+    → (if nearest then place_of_way (way_of kind now v) else v) ≡ (if nearest then place_of_way (way_of kind now w) else w) → v ≡ w
+by_only true s kind now v w i j ok a b e = way_only s kind now v w i j ok a b (place_only (way_of kind now v) (way_of kind now w) e)
 by_only false s kind now v w i j ok a b e = e
 
 pub placed_only : (s : Settings) (own : Own) (kind : Kind) (v w : ℤ) (i j : ℕ) → IsAccepted s → slice_get (values_of kind s) i ≡ Some v → slice_get (values_of kind s) j ≡ Some w

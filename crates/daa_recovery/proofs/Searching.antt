@@ -8,8 +8,8 @@ use Rattle.daa_config.specs.declared.candidate.Candidate.{Candidate}
 use Rattle.daa_config.specs.declared.kind.Kind.{Kind}
 use Rattle.daa_config.specs.Candidates.{values_of, candidate_to}
 use Rattle.daa_recovery.specs.OutlookState.{OutlookState}
-use Rattle.daa_recovery.specs.Recovery.{Recovers, RecoversAt, placed, IsFound}
-use Rattle.daa_recovery.specs.Inside.Search.{bound_of, bound_for, IsBeforeHorizon, IsFirstFound, IsFoundBelow, IsLeastAt, IsLeastTime}
+use Rattle.daa_recovery.specs.Recovery.{Recovers, RecoversAt, IsFound}
+use Rattle.daa_recovery.specs.Inside.Search.{placed, bound_of, bound_for, IsBeforeHorizon, IsFirstFound, IsFoundBelow, IsLeastAt, IsLeastTime}
 use Rattle.daa_recovery.specs.declared.recovery.Recovery.{Recovery}
 use Rattle.daa_recovery.proofs.LaterSeconds.{lasts}
 

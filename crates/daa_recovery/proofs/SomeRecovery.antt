@@ -21,16 +21,18 @@ use Rattle.daa_state.specs.declared.word.Picture.{Picture}
 use Rattle.daa_state.specs.declared.word.Traffic.{Traffic}
 use Rattle.daa_state.specs.InRange.{IsTrafficInRange, IsPictureInRange}
 use Rattle.daa_state.specs.Picture.{aircraft_of}
+use Rattle.daa_legs.specs.Meeting.{MeetsWithin}
 use Rattle.daa_legs.specs.Runs.{MeetsBetween}
 use Rattle.daa_legs.proofs.AtLevel.{one_level, looked, nothing, level_at}
 use Rattle.daa_meet.proofs.TrialLemmas.{le_is}
 use Rattle.daa_meet.proofs.Meetings.{within_decided, between_decided}
 use Rattle.daa_recovery.specs.OutlookState.{Closes, IsHorizon, OutlookState}
 use Rattle.daa_recovery.specs.Inside.OutlookState.{IsOutlook}
-use Rattle.daa_recovery.specs.Recovery.{IsClosedFrom, IsInCylinder, IsClear, Recovers, IsFound, IsRecovery}
+use Rattle.daa_recovery.specs.Recovery.{IsClosedFrom, IsClear, Recovers, IsFound, IsRecovery}
 use Rattle.daa_recovery.specs.Inside.Search.{bound_for, IsFoundBelow, IsLeastTime}
 use Rattle.daa_recovery.specs.declared.recovery.Recovery.{Recovery}
 use Rattle.daa_recovery.proofs.Horizons.{IsHorizonUpTo, horizon_first, horizon_more, horizon_all, horizon_short, level_within}
+use Rattle.daa_recovery.proofs.ClosingLevels.{closed_at}
 use Rattle.daa_recovery.proofs.Searching.{found_first, found_kept, found_sooner, found_all}
 use Rattle.daa_recovery.proofs.OneRecovery.{recovery_only}
 
@@ -69,8 +71,9 @@ module _ (p : OutlookState) (is : IsOutlook p) (candidate : Candidate) (c : IsCa
 
     closed_decided : IsDecidable (IsClosedFrom p candidate m aircraft)
     closed_decided = as_decided (
-      (λ (l, lt, x). record { number = l; level = x.level; closes = x.closes; meets = x.meets }),
-      (λ x. let w = level_within p.settings x.number x.level x.closes.there in (x.number, omega (arith, w), record { level = x.level; closes = x.closes; meets = x.meets })),
+      (λ (l, lt, x). closed_at p candidate m aircraft l x.level x.closes.there x.closes.from x.meets),
+      (λ x. let w = level_within p.settings x.number x.level x.closes.there in
+          (x.number, omega (arith, w), record { level = x.level; closes = x.closes; meets = record { leg = x.leg; not_before = x.violates.0; before = x.before; violates = x.violates.1 } })),
     ) (some_decided ClosesAt (suc (length p.settings.levels)) (λ l lt. level_decided l))
 
     clear_decided : IsDecidable (IsClear p candidate m aircraft)
@@ -78,7 +81,7 @@ module _ (p : OutlookState) (is : IsOutlook p) (candidate : Candidate) (c : IsCa
         (within_decided p.settings p.picture.own candidate aircraft is.accepted is.picture.own c t p.cylinder
         is.cylinder p.horizon (horizon_short p.settings p.horizon is.accepted is.horizon))
       where
-        go : IsDecidable (IsClosedFrom p candidate m aircraft) → IsDecidable (IsInCylinder p candidate aircraft) → IsDecidable (IsClear p candidate m aircraft)
+        go : IsDecidable (IsClosedFrom p candidate m aircraft) → IsDecidable (MeetsWithin p.settings p.picture.own candidate aircraft p.cylinder p.horizon) → IsDecidable (IsClear p candidate m aircraft)
         go (inl x) y = inr (λ k. k.open_levels x)
         go (inr none) (inl y) = inr (λ k. k.apart y)
         go (inr none) (inr apart) = inl (record { open_levels = none; apart = apart })

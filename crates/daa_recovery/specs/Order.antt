@@ -1,5 +1,5 @@
 -- Which of the values that recover at the same time is named.
-use Rattle.std.specs.Prelude.{◌*◌, ◌+◌, ℤ, pos, negsuc, ◌+ℤ◌, ◌-ℤ◌, Bool, true, false}
+use Rattle.std.specs.Prelude.{◌*◌, ◌+◌, ℤ, pos, negsuc, ◌+ℤ◌, ◌-ℤ◌, if◌then◌else◌}
 use Rattle.std.specs.Int.{int_rem_euclid}
 use Rattle.daa_config.specs.Limits.{full_turn}
 use Rattle.daa_config.specs.Settings.{Settings}
@@ -19,11 +19,7 @@ abbrev pub place_of_way : ℤ → ℤ
 place_of_way (pos n) = pos (2 * n)
 place_of_way (negsuc n) = pos (2 * n + 3)
 
--- the place of a value among all: the nearest to the present value comes first if the configuration asks for it, else the least
-abbrev pub place_by : Bool → Kind → ℤ → ℤ → ℤ
-place_by true kind now value = place_of_way (way_of kind now value)
-place_by false kind now value = value
-
--- as the configuration asks, from the ownship's present value
+-- the place of a value among all: the nearest to the ownship's present value comes first if the configuration asks for it, else the
+-- least
 abbrev pub place_of : Settings → Own → Kind → ℤ → ℤ
-place_of settings own kind value = place_by settings.nearest kind (present_of kind own) value
+place_of settings own kind value = if settings.nearest then place_of_way (way_of kind (present_of kind own) value) else value

@@ -1,5 +1,5 @@
 -- A moment in which a recovery is looked for.
-use Rattle.std.specs.Prelude.{ℕ, ◌≡◌, ◌≤◌, pos, ◌≤ℤ◌}
+use Rattle.std.specs.Prelude.{ℕ, ◌≡◌, ◌≤◌, ◌<◌, pos, ◌≤ℤ◌}
 use Rattle.daa_taumod.specs.declared.Volume.{Volume}
 use Rattle.daa_config.specs.declared.level.Level.{Level}
 use Rattle.daa_config.specs.Settings.{Settings, IsLevelAt}
@@ -9,6 +9,15 @@ use Rattle.daa_state.specs.declared.word.Picture.{Picture}
 pub record Closes (settings : Settings) (l : ℕ) (level : Level) : Type 0 where
   pub there : IsLevelAt settings l level
   pub from : settings.numbers.resolve ≤ℤ pos l
+
+-- a level that closes is violated on a leg before its lookahead, where a relation says on which leg a volume is violated
+pub record IsClosedBy (settings : Settings) (IsViolatedOn : Volume → ℕ → Type 0) : Type 0 where
+  pub number : ℕ
+  pub level : Level
+  pub closes : Closes settings number level
+  pub leg : ℕ
+  pub before : leg < level.lookahead
+  pub violates : IsViolatedOn level.volume leg
 
 -- m is the greatest lookahead of the levels that close
 pub record IsHorizon (settings : Settings) (m : ℕ) : Type 0 where

@@ -3,34 +3,25 @@ use Rattle.std.specs.Prelude.{ℕ, ℤ, ◌≡◌, ◌≤◌, ◌<◌, ◌≤ℤ
 use Rattle.daa_taumod.specs.declared.Volume.{Volume}
 use Rattle.daa_config.specs.declared.candidate.Candidate.{Candidate}
 use Rattle.daa_config.specs.declared.kind.Kind.{Kind}
-use Rattle.daa_config.specs.declared.level.Level.{Level}
 use Rattle.daa_config.specs.Candidates.{values_of, candidate_to}
 use Rattle.daa_config.specs.Settings.{Settings}
 use Rattle.daa_state.specs.declared.word.Picture.{Picture}
 use Rattle.daa_state.specs.declared.word.Traffic.{Traffic}
 use Rattle.daa_state.specs.Picture.{aircraft_of}
-use Rattle.daa_legs.specs.Meeting.{MeetsWithin}
-use Rattle.daa_legs.specs.Runs.{MeetsBetween}
+use Rattle.daa_legs.specs.Meeting.{ViolatesOn, MeetsWithin}
 use Rattle.daa_recovery.specs.Order.{place_of}
-use Rattle.daa_recovery.specs.OutlookState.{Closes, IsHorizon, OutlookState}
+use Rattle.daa_recovery.specs.OutlookState.{IsClosedBy, IsHorizon, OutlookState}
 use Rattle.daa_recovery.specs.declared.recovery.Recovery.{Recovery}
 
 module _ (p : OutlookState) (candidate : Candidate) where
   -- the aircraft violates a level that closes at some time of a leg from m on, before the level's lookahead
-  pub record IsClosedFrom (m : ℕ) (aircraft : Traffic) : Type 0 where
-    pub number : ℕ
-    pub level : Level
-    pub closes : Closes p.settings number level
-    pub meets : MeetsBetween p.settings p.picture.own candidate aircraft level.volume m level.lookahead
+  abbrev pub IsClosedFrom : ℕ → Traffic → Type 0
+  IsClosedFrom m aircraft = IsClosedBy p.settings (λ volume leg. (m ≤ leg) × ViolatesOn p.settings p.picture.own candidate aircraft volume leg)
 
-  -- the aircraft is in the cylinder at some time of a leg before the horizon
-  abbrev pub IsInCylinder : Traffic → Type 0
-  IsInCylinder aircraft = MeetsWithin p.settings p.picture.own candidate aircraft p.cylinder p.horizon
-
-  -- from m on the aircraft violates no level that closes, and it is never in the cylinder
+  -- from m on the aircraft violates no level that closes, and it is in the cylinder at no time of a leg before the horizon
   pub record IsClear (m : ℕ) (aircraft : Traffic) : Type 0 where
     pub open_levels : ¬ IsClosedFrom m aircraft
-    pub apart : ¬ IsInCylinder aircraft
+    pub apart : ¬ MeetsWithin p.settings p.picture.own candidate aircraft p.cylinder p.horizon
 
   -- the candidate recovers at m: it is clear of every aircraft from m on, and never in the cylinder round one
   abbrev pub Recovers : ℕ → Type 0
@@ -42,14 +33,6 @@ module _ (p : OutlookState) (kind : Kind) where
     pub there : slice_get (values_of kind p.settings) index ≡ Some value
     pub recovers : Recovers p (candidate_to kind value) m
 
-  -- the place of a value in the order that the configuration asks for
-  abbrev pub placed : ℤ → ℤ
-  placed value = place_of p.settings p.picture.own kind value
-
-  -- no value of the kind recovers at m
-  abbrev pub NoneRecovers : ℕ → Type 0
-  NoneRecovers m = (index : ℕ) (value : ℤ) → ¬ RecoversAt index m value
-
   -- the least time from 1 on, before the horizon, at which some value of the kind recovers, and of the values that do then the one
   -- that comes first: the least, or the nearest to the present value
   pub record IsLeast (r : Recovery) : Type 0 where
@@ -57,13 +40,13 @@ module _ (p : OutlookState) (kind : Kind) where
     pub some : 1 ≤ r.after
     pub before : r.after < p.horizon
     pub recovers : RecoversAt index r.after r.value
-    pub none_sooner : (m : ℕ) → 1 ≤ m → m < r.after → NoneRecovers m
-    pub first : (i : ℕ) (value : ℤ) → RecoversAt i r.after value → placed r.value ≤ℤ placed value
+    pub none_sooner : (m : ℕ) → 1 ≤ m → m < r.after → (i : ℕ) (value : ℤ) → ¬ RecoversAt i m value
+    pub first : (i : ℕ) (v : ℤ) → RecoversAt i r.after v → place_of p.settings p.picture.own kind r.value ≤ℤ place_of p.settings p.picture.own kind v
 
   -- the least recovery, or None: no value recovers at any time from 1 on before the horizon
   abbrev pub IsFound : Option Recovery → Type 0
   IsFound (Some r) = IsLeast r
-  IsFound None = (m : ℕ) → 1 ≤ m → m < p.horizon → NoneRecovers m
+  IsFound None = (m : ℕ) → 1 ≤ m → m < p.horizon → (i : ℕ) (value : ℤ) → ¬ RecoversAt i m value
 
 -- the recovery of a kind in a moment, under a configuration that asks for it
 pub record IsRecovery (settings : Settings) (picture : Picture) (kind : Kind) (answer : Option Recovery) : Type 0 where

@@ -1,10 +1,10 @@
 //! Which of the values that recover at the same time is named.
 
-ghost use Rattle.std.specs.Prelude.{◌≡◌, ◌^◌, ◌+ℤ◌, ◌-ℤ◌, pos};
+ghost use Rattle.std.specs.Prelude.{◌≡◌, ◌^◌, ◌+ℤ◌, ◌-ℤ◌, pos, if◌then◌else◌};
 ghost use Rattle.std.specs.Int.{int_rem_euclid};
 ghost use Rattle.daa_config.specs.Limits.{full_turn};
 ghost use Rattle.daa_fixed.specs.Size.{IsWithin};
-ghost use Rattle.daa_recovery.specs.Order.{way_of, place_of_way, place_by};
+ghost use Rattle.daa_recovery.specs.Order.{way_of, place_of_way};
 
 use daa_config::Kind;
 
@@ -52,7 +52,8 @@ fn place_in_order(way: &i64) -> i64
 /// The place of a value among all: the nearest to the present value comes first if `nearest` is
 /// asked for, else the least.
 pub(crate) fn place(nearest: bool, kind: Kind, now: &i32, value: &i32) -> i64
-    ensures { result ≡ place_by nearest kind now.now value.now }
+    ensures { result ≡ (if nearest then place_of_way (way_of kind now.now value.now)
+        else value.now) }
 {
     if nearest {
         place_in_order(&way(kind, now, value))

@@ -5,14 +5,14 @@ ghost use Rattle.std.specs.Prelude.{Some, None, length, slice_get};
 ghost use Rattle.daa_config.specs.Candidates.{values_of, candidate_to as to_value};
 ghost use Rattle.daa_config.specs.Settings.{IsAccepted, IsCandidateInRange};
 ghost use Rattle.daa_taumod.specs.Volume.{IsVolumeInRange};
+ghost use Rattle.daa_legs.specs.Meeting.{MeetsWithin};
 ghost use Rattle.daa_legs.specs.Runs.{MeetsBetween};
 ghost use Rattle.daa_state.specs.InRange.{IsPictureInRange, IsTrafficInRange};
 ghost use Rattle.daa_state.specs.Picture.{aircraft_of};
 ghost use Rattle.daa_recovery.specs.OutlookState.{IsHorizon};
 ghost use Rattle.daa_recovery.specs.Inside.OutlookState.{IsOutlook};
-ghost use Rattle.daa_recovery.specs.Recovery.{IsClosedFrom, IsInCylinder, IsClear};
-ghost use Rattle.daa_recovery.specs.Recovery.{Recovers, IsFound, placed};
-ghost use Rattle.daa_recovery.specs.Inside.Search.{IsCourse, IsFoundBelow};
+ghost use Rattle.daa_recovery.specs.Recovery.{IsClosedFrom, IsClear, Recovers, IsFound};
+ghost use Rattle.daa_recovery.specs.Inside.Search.{IsCourse, IsFoundBelow, placed};
 ghost use Rattle.daa_recovery.specs.Inside.Search.{IsBeforeHorizon, bound_for, IsLeastTime};
 
 use crate::course::Course;
@@ -209,7 +209,9 @@ impl<'a> Outlook<'a> {
     fn is_in_cylinder(&self, course: &Course, aircraft: &Traffic) -> bool
         requires course { IsCourse self.now course.now }
         requires aircraft { IsTrafficInRange aircraft.now }
-        ensures { IsTrue result ↔ IsInCylinder self.now course.now.candidate aircraft.now }
+        ensures { IsTrue result
+            ↔ MeetsWithin self.now.settings self.now.picture.own course.now.candidate aircraft.now
+            self.now.cylinder self.now.horizon }
     {
         self.meets(course, aircraft, self.cylinder, 0, self.horizon)
     }

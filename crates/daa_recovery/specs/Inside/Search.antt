@@ -6,7 +6,8 @@ use Rattle.daa_config.specs.Settings.{IsCandidateInRange, rates_of}
 use Rattle.daa_legs.specs.Branch.{FliesOn}
 use Rattle.daa_legs.specs.Trunk.{AreLegsOf}
 use Rattle.daa_recovery.specs.OutlookState.{OutlookState}
-use Rattle.daa_recovery.specs.Recovery.{Recovers, RecoversAt, placed}
+use Rattle.daa_recovery.specs.Order.{place_of}
+use Rattle.daa_recovery.specs.Recovery.{Recovers, RecoversAt}
 use Rattle.daa_recovery.specs.declared.recovery.Recovery.{Recovery}
 use Rattle.daa_recovery.specs.declared.course.Course.{Course}
 
@@ -27,10 +28,14 @@ IsBeforeHorizon p (Some r) = r.after < p.horizon
 IsBeforeHorizon p None = Unit {0}
 
 module _ (p : OutlookState) (kind : Kind) where
+  -- the place of a value in the order that the configuration asks for
+  abbrev pub placed : ℤ → ℤ
+  placed value = place_of p.settings p.picture.own kind value
+
   -- the time that the next value has to be below: that of the best so far, or one more where the next comes first of the two
   abbrev pub bound_for : Option Recovery → ℤ → ℕ
   bound_for None value = p.horizon
-  bound_for (Some r) value = if int_lt (placed p kind value) (placed p kind r.value) then r.after + 1 else r.after
+  bound_for (Some r) value = if int_lt (placed value) (placed r.value) then r.after + 1 else r.after
 
   -- the value of this recovery is below count, recovers at its time, and comes before all others below count that do so
   pub record IsFirst (count : ℕ) (r : Recovery) : Type 0 where
@@ -39,7 +44,7 @@ module _ (p : OutlookState) (kind : Kind) where
     pub some : 1 ≤ r.after
     pub before : r.after < p.horizon
     pub recovers : RecoversAt p kind index r.after r.value
-    pub first : (i : ℕ) (value : ℤ) → i < count → RecoversAt p kind i r.after value → placed p kind r.value ≤ℤ placed p kind value
+    pub first : (i : ℕ) (value : ℤ) → i < count → RecoversAt p kind i r.after value → placed r.value ≤ℤ placed value
 
   -- what was found, if anything, is the first value that recovers at its time
   abbrev pub IsFirstFound : (count : ℕ) → Option Recovery → Type 0

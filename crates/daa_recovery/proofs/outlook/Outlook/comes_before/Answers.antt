@@ -1,10 +1,15 @@
-use Rattle.std.proofs.Common.{rules, ◌≡◌, ◌∙◌, ℤ, ap, w32, w64, FitsSigned, to_z, of_z}
-use Rattle.std.specs.Prelude.{int_lt}
+use Rattle.std.proofs.Common.{rules, ◌≡◌, ◌∙◌, Bool, ℤ, ap, w32, w64, FitsSigned, to_z, of_z}
+use Rattle.std.specs.Prelude.{int_lt, if◌then◌else◌}
 use Rattle.std.proofs.lemmas.Int.{to_z-of_z}
 use Rattle.daa_recovery.specs.OutlookState.{OutlookState}
-use Rattle.daa_recovery.specs.Order.{place_by}
-use Rattle.daa_recovery.specs.Recovery.{placed}
+use Rattle.daa_config.specs.declared.kind.Kind.{Kind}
+use Rattle.daa_recovery.specs.Order.{way_of, place_of_way}
+use Rattle.daa_recovery.specs.Inside.Search.{placed}
 use Rattle.daa_recovery.proofs.outlook.Outlook.comes_before.Goals as goal
+
+-- the place of a value from this present one, with or without `nearest`
+abbrev place_by : Bool → Kind → ℤ → ℤ → ℤ
+place_by nearest kind now value = if nearest then place_of_way (way_of kind now value) else value
 
 pub returns : goal.returns
 returns c =

@@ -1,9 +1,9 @@
-use Rattle.std.proofs.Common.{pos, arith, length, ap, subst}
+use Rattle.std.proofs.Common.{pos, arith, length, ap, subst, refl}
 use Rattle.std.proofs.lemmas.Int.{ints}
 use Rattle.daa_config.specs.Settings.{IsLevelAt}
 use Rattle.daa_recovery.specs.OutlookState.{OutlookState}
 use Rattle.daa_recovery.specs.Inside.OutlookState.{IsOutlook}
-use Rattle.daa_recovery.proofs.ClosingLevels.{open_more, open_all}
+use Rattle.daa_recovery.proofs.ClosingLevels.{open_more, open_all, closed_at}
 use Rattle.daa_recovery.proofs.outlook.Outlook.is_closed_from.Goals as goal
 
 pub meets-requires-clause-ahead : goal.meets-requires-clause-ahead
@@ -14,6 +14,15 @@ meets-requires-clause-ahead c =
       there = subst (λ (p : OutlookState). IsLevelAt p.settings c.loop-l.l level) c.self.view_is c.level-level.ensures.value;
       from = c.loop-l.invariant.from;
     })
+
+pub returns-then-meets : goal.returns-then-meets
+returns-then-meets c =
+    let level = c.level-level.result.now in (
+      (λ _. closed_at c.args.self.now c.args.course.now.candidate c.args.m c.args.aircraft.now c.loop-l.l level
+          (subst (λ (p : OutlookState). IsLevelAt p.settings c.loop-l.l level) c.self.view_is c.level-level.ensures.value)
+          c.loop-l.invariant.from (c.meets.ensures.0 c.if-meets.true)),
+      (λ _. refl),
+    )
 
 pub loop-l-preserved : goal.loop-l-preserved
 loop-l-preserved c =
