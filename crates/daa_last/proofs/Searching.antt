@@ -1,6 +1,6 @@
 -- The search for an open candidate, and for the greatest delay.
 use Rattle.std.proofs.Common.{◌≡◌, ℕ, ◌+◌, ◌-◌, ◌<◌, ◌≤◌, pos, ℤ, Option, Some, None, length, refl, ap, sym, subst, ◌∙◌, arith, ⊎_elim}
-use Rattle.std.specs.Prelude.{slice_get}
+use Rattle.std.specs.Prelude.{MatchOption, slice_get}
 use Rattle.std.proofs.lemmas.Bool.{cases_lt}
 use Rattle.std.proofs.lemmas.Int.{ints}
 use Rattle.std.proofs.lemmas.Option.{same_Some, slice_get_within}
@@ -16,7 +16,7 @@ use Rattle.daa_state.specs.Picture.{aircraft_of}
 use Rattle.daa_legs.proofs.AtLevel.{one_level}
 use Rattle.daa_recovery.specs.OutlookState.{Closes, IsHorizon}
 use Rattle.daa_recovery.proofs.Horizons.{level_within, horizon_only}
-use Rattle.daa_last.specs.Last.{IsClosedDelayed, IsOpenDelayed, IsSomeOpen, IsLast, HasNoLast, IsLastTime}
+use Rattle.daa_last.specs.Last.{IsClosedDelayed, IsOpenDelayed, IsSomeOpen, IsLast, IsLastTime}
 use Rattle.daa_last.specs.Inside.Starts.{IsHeldOpenOfAll, IsHeldClosedOfSome, AreStarts}
 use Rattle.daa_last.specs.Inside.Search.{MeetsLate, IsClosedLate}
 use Rattle.daa_last.proofs.Openness.{closed_by_hold}
@@ -114,42 +114,41 @@ module _ (settings : Settings) (picture : Picture) (kind : Kind) (horizon : ℕ)
       }
 
   module _ (ahead : IsHorizon settings horizon) where
-    pub last_at : (m : ℕ) → 0 < m → IsTriedDownTo m → IsSomeOpen settings picture kind (m - 1) → IsLast settings picture kind (m - 1)
+    pub last_at : (m : ℕ) → 0 < m → IsTriedDownTo m → IsSomeOpen settings picture kind (m - 1) → IsLastTime settings picture kind (Some (m - 1))
     last_at m some h free =
         let within = h.within in
         record {
           horizon = horizon;
           ahead = ahead;
-          before = omega (arith, within, some);
-          some = free;
-          none_later = λ n lt before. h.none n (omega (arith, lt)) before;
+          last = record { before = omega (arith, within, some); some = free; none_later = λ n lt before. h.none n (omega (arith, lt)) before };
         }
 
-    pub no_last : (m : ℕ) → m ≤ 0 → IsTriedDownTo m → HasNoLast settings picture kind
-    no_last m none h = record { horizon = horizon; ahead = ahead; none = λ n lt. h.none n (omega (arith, none)) lt }
+    pub no_last : (m : ℕ) → m ≤ 0 → IsTriedDownTo m → IsLastTime settings picture kind None
+    no_last m none h = record { horizon = horizon; ahead = ahead; last = λ n lt. h.none n (omega (arith, none)) lt }
 
 -- ---- there are no two
 module _ (settings : Settings) (picture : Picture) (kind : Kind) where
-  no_later : (m n : ℕ) → IsLast settings picture kind m → IsLast settings picture kind n → m < n → ⊥
-  no_later m n h k lt =
-      let same : k.horizon ≡ h.horizon = horizon_only settings k.horizon h.horizon k.ahead h.ahead in
-      let before = k.before in
-      h.none_later n lt (omega (arith, same, before)) k.some
+  module _ (horizon : ℕ) where
+    no_later : (m n : ℕ) → IsLast settings picture kind horizon m → IsLast settings picture kind horizon n → m < n → ⊥
+    no_later m n h k lt = h.none_later n lt k.before k.some
 
-  pub one_last : (m n : ℕ) → IsLast settings picture kind m → IsLast settings picture kind n → m ≡ n
-  one_last m n h k = ⊎_elim
-      (λ lt. absurd (no_later m n h k lt))
-      (λ ge. ⊎_elim (λ gt. absurd (no_later n m k h gt)) (λ le. omega (arith, ge, le)) (cases_lt n m))
-      (cases_lt m n)
+    one_last : (m n : ℕ) → IsLast settings picture kind horizon m → IsLast settings picture kind horizon n → m ≡ n
+    one_last m n h k = ⊎_elim
+        (λ lt. absurd (no_later m n h k lt))
+        (λ ge. ⊎_elim (λ gt. absurd (no_later n m k h gt)) (λ le. omega (arith, ge, le)) (cases_lt n m))
+        (cases_lt m n)
 
-  pub not_both : (m : ℕ) → IsLast settings picture kind m → HasNoLast settings picture kind → ⊥
-  not_both m h k =
-      let same : k.horizon ≡ h.horizon = horizon_only settings k.horizon h.horizon k.ahead h.ahead in
-      let before = h.before in
-      k.none m (omega (arith, same, before)) h.some
+    -- the last time below the horizon
+    abbrev IsLastBelow : Option ℕ → Type 0
+    IsLastBelow found = MatchOption found ((n : ℕ) → n < horizon → ¬ IsSomeOpen settings picture kind n) (IsLast settings picture kind horizon)
+
+    same_last : (x y : Option ℕ) → IsLastBelow x → IsLastBelow y → x ≡ y
+    same_last None None h k = refl
+    same_last None (Some n) h k = absurd (h n k.before k.some)
+    same_last (Some m) None h k = absurd (k m h.before h.some)
+    same_last (Some m) (Some n) h k = ap (λ (i : ℕ). Some i) (one_last m n h k)
 
   pub last_only : (x y : Option ℕ) → IsLastTime settings picture kind x → IsLastTime settings picture kind y → x ≡ y
-  last_only None None h k = refl
-  last_only None (Some n) h k = absurd (not_both n k h)
-  last_only (Some m) None h k = absurd (not_both m h k)
-  last_only (Some m) (Some n) h k = ap (λ (i : ℕ). Some i) (one_last m n h k)
+  last_only x y h k =
+      let same : k.horizon ≡ h.horizon = horizon_only settings k.horizon h.horizon k.ahead h.ahead in
+      same_last h.horizon x y h.last (subst (λ (n : ℕ). IsLastBelow n y) same k.last)

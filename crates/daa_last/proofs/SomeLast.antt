@@ -28,7 +28,7 @@ use Rattle.daa_meet.proofs.Deciding.{sometime_is}
 use Rattle.daa_recovery.specs.OutlookState.{Closes, IsHorizon}
 use Rattle.daa_recovery.proofs.Horizons.{level_within}
 use Rattle.daa_recovery.proofs.SomeRecovery.{at_place, some_horizon}
-use Rattle.daa_last.specs.Delayed.{leg_delayed, relative_delayed, ViolatesDelayed}
+use Rattle.daa_last.specs.Delayed.{leg_delayed, ViolatesDelayed}
 use Rattle.daa_last.specs.Last.{IsClosedDelayed, IsOpenDelayed, IsSomeOpen, IsLastTime}
 use Rattle.daa_last.proofs.Delays.{delayed-in_range}
 use Rattle.daa_last.proofs.Searching.{last_only}
@@ -40,7 +40,8 @@ module _ (settings : Settings) (a : IsAccepted settings) where
     on_decided volume v k lt =
         let in_range = relative_for-in_range 1 (leg_delayed own (rates_of settings) m candidate k) aircraft k
         (delayed-in_range own (rates_of settings) m o a.rates candidate c k (omega (arith, lt))) t (omega (arith, lt)) (omega arith) (omega arith) in
-        by_test (is_violated_sometime (relative_delayed settings own candidate m aircraft k) volume) (sometime_is (relative_delayed settings own candidate m aircraft k) volume in_range v)
+        by_test (is_violated_sometime (relative_for 1 (leg_delayed own (rates_of settings) m candidate k) aircraft k) volume)
+        (sometime_is (relative_for 1 (leg_delayed own (rates_of settings) m candidate k) aircraft k) volume in_range v)
 
     -- level l closes and is violated
     record ClosesAt (l : ℕ) : Type 0 where
@@ -132,14 +133,17 @@ module _ (settings : Settings) (a : IsAccepted settings) where
 
       module _ (horizon : ℕ) (ahead : IsHorizon settings horizon) where
         last_below : (n : ℕ) → n ≤ horizon → ((i : ℕ) → n ≤ i → i < horizon → ¬ IsSomeOpen settings picture kind i) → (answer : Option ℕ) × IsLastTime settings picture kind answer
-        last_below zero le none = (None, record { horizon = horizon; ahead = ahead; none = λ i lt. none i (omega arith) lt })
+        last_below zero le none = (None, record { horizon = horizon; ahead = ahead; last = λ i lt. none i (omega arith) lt })
         last_below (suc n) le none = go (some_open_decided n) (last_below n (omega (arith, le)))
           where
             go : IsDecidable (IsSomeOpen settings picture kind n)
                 → (((i : ℕ) → n ≤ i → i < horizon → ¬ IsSomeOpen settings picture kind i)
                 → (answer : Option ℕ) × IsLastTime settings picture kind answer)
                 → (answer : Option ℕ) × IsLastTime settings picture kind answer
-            go (inl x) earlier = (Some n, record { horizon = horizon; ahead = ahead; before = omega (arith, le); some = x; none_later = λ i lt before. none i (omega (arith, lt)) before })
+            go (inl x) earlier = (
+              Some n,
+              record { horizon = horizon; ahead = ahead; last = record { before = omega (arith, le); some = x; none_later = λ i lt before. none i (omega (arith, lt)) before } },
+            )
             go (inr shut) earlier = earlier (λ i from lt. ⊎_elim
                 (λ same. subst (λ (j : ℕ). ¬ IsSomeOpen settings picture kind j) (omega (arith, same, from)) shut)
                 (λ later. none i (omega (arith, later)) lt)

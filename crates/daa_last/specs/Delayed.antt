@@ -1,7 +1,6 @@
 -- A candidate's flight that begins late: for m seconds the present flight, Hold, is kept, and then the candidate's is begun at Hold's
 -- place at second m.
 use Rattle.std.specs.Prelude.{ℕ, ℤ, pos, ◌+◌, ◌-◌, ◌-ℤ◌, ◌*ℤ◌, nat_lt, if◌then◌else◌}
-use Rattle.daa_fixed.specs.declared.Leg.{Leg}
 use Rattle.daa_fixed.specs.declared.Solid.{Solid}
 use Rattle.daa_fixed.specs.Leg.{plus, sum_below}
 use Rattle.daa_fixed.specs.Time.{HoldsSometime}
@@ -47,10 +46,6 @@ module _ (own : Own) (rates : Rates) (m : ℕ) where
   leg_delayed candidate k = record { place = place_delayed candidate k; velocity = velocity_delayed candidate k }
 
 module _ (settings : Settings) (own : Own) (candidate : Candidate) (m : ℕ) (aircraft : Traffic) where
-  -- leg k, one second, as the aircraft sees it
-  abbrev pub relative_delayed : ℕ → Leg
-  relative_delayed k = relative_for 1 (leg_delayed own (rates_of settings) m candidate k) aircraft k
-
-  -- the volume is violated at some time of leg k, its beginning and its end among them
+  -- the volume is violated at some time of leg k, one second, as the aircraft sees it, its beginning and its end among them
   abbrev pub ViolatesDelayed : Volume → ℕ → Type 0
-  ViolatesDelayed volume k = HoldsSometime 1 (Violates (relative_delayed k) volume)
+  ViolatesDelayed volume k = HoldsSometime 1 (Violates (relative_for 1 (leg_delayed own (rates_of settings) m candidate k) aircraft k) volume)
