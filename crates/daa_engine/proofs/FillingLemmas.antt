@@ -13,8 +13,8 @@ use Rattle.daa_state.specs.Picture.{aircraft_of}
 use Rattle.daa_state.specs.declared.word.Picture.{Picture}
 use Rattle.daa_scan.specs.Adding.{AddsLevels}
 use Rattle.daa_scan.specs.SceneState.{SceneState, MeetsAt}
-use Rattle.daa_engine.specs.Covered.{CoveredAt, scene_of}
-use Rattle.daa_engine.proofs.Covered.{CoveredBelow}
+use Rattle.daa_engine.specs.Covered.{CoveredAt}
+use Rattle.daa_engine.proofs.Covered.{CoveredBelow, scene_of}
 use Rattle.daa_engine.proofs.LevelLemmas.{nothing_set}
 
 -- ---- one aircraft more

@@ -26,7 +26,8 @@ use Rattle.daa_state.specs.declared.word.Picture.{Picture}
 use Rattle.daa_state.specs.declared.word.Traffic.{Traffic}
 use Rattle.daa_alert.specs.declared.aircraft_alert.Alert.{Alert}
 use Rattle.daa_alert.specs.Alert.{IsAlertOf}
-use Rattle.daa_bands.specs.Band.{Mark, IsStretch}
+use Rattle.daa_bands.specs.Band.{IsStretch}
+use Rattle.daa_bands.specs.Walk.{Mark}
 use Rattle.daa_bands.specs.declared.band.Band.{Band}
 use Rattle.daa_resolve.specs.Resolution.{IsResolution}
 use Rattle.daa_resolve.specs.declared.side.Side.{Side}
@@ -341,7 +342,7 @@ module _ (s : Settings) (p : Picture) (ok : IsAccepted s) where
   last_in kind (Some m) is n e =
       let a = is.ahead in
       let few = (ok.level a.number a.level a.closes.there).lookahead_most in
-      let soon : m < 180 = let b = is.before in let e' = a.reached in omega arith in
+      let soon : m < 180 = let b = is.last.before in let e' = a.reached in omega arith in
       subst (λ (i : ℕ). i < 180) (ap (λ (o : Option ℕ). unwrap_or o n) e) soon
 
   last_text_short : (kind : Kind) (answer : Resolution) (text : Text) → IsLastText s p kind answer text → length text ≤ 24

@@ -26,8 +26,8 @@ use Rattle.daa_config.specs.declared.candidate.Resolution.{Resolution}
 use Rattle.daa_last.proofs.SomeLast.{one_last_time}
 use Rattle.daa_recovery.proofs.SomeRecovery.{one_recovery}
 use Rattle.daa_report.specs.Lines.{Text, now_line, alert_line, resolve_line, last_line, recover_line, moment_line, done_line}
-use Rattle.daa_engine.specs.Covered.{CoveredAt, scene_of}
-use Rattle.daa_engine.proofs.Covered.{CoveredBelow}
+use Rattle.daa_engine.specs.Covered.{CoveredAt}
+use Rattle.daa_engine.proofs.Covered.{CoveredBelow, scene_of}
 use Rattle.daa_bands.specs.Parts.{SplitsByEach}
 use Rattle.daa_engine.specs.MomentText.{AreAircraftLines, IsLastText, IsRecoveryText, IsMomentText, line_of, of_each, are_nothing, wants_last, wants_recovery, found_of}
 use Rattle.daa_engine.proofs.OneText.{text_only}

@@ -4,7 +4,8 @@ use Rattle.std.proofs.lemmas.List.{length-replicate}
 use Rattle.daa_bands.specs.Board.{IsBoardOf}
 use Rattle.daa_scan.specs.Adding.{AddsLevels}
 use Rattle.daa_scan.specs.SceneState.{SceneState, MeetsAt}
-use Rattle.daa_engine.specs.Covered.{CoveredAt, scene_of}
+use Rattle.daa_engine.specs.Covered.{CoveredAt}
+use Rattle.daa_engine.proofs.Covered.{scene_of}
 use Rattle.daa_engine.proofs.FillingLemmas.{aircraft_none, aircraft_more, aircraft_all}
 use Rattle.daa_engine.proofs.filling.fill.Goals as goal
 

@@ -1,7 +1,6 @@
 use Rattle.std.proofs.Common.{◌≡◌, length}
 use Rattle.daa_bands.specs.Board.{IsBoardOf}
-use Rattle.daa_engine.specs.Covered.{scene_of}
-use Rattle.daa_engine.proofs.Covered.{CoveredBelow}
+use Rattle.daa_engine.proofs.Covered.{CoveredBelow, scene_of}
 use Rattle.daa_engine.proofs.filling.fill.Given as goal
 
 -- the masks have the levels at which some aircraft so far meets a candidate
