@@ -2,7 +2,8 @@
 use Rattle.std.proofs.Common.{◌≡◌, ◌<◌, ◌≤◌, ◌+◌, ◌++◌, ◌∷◌, [], ℕ, ℤ, List, length, map, take, slice_set, ap, arith}
 use Rattle.std.specs.List.{zip}
 use Rattle.std.proofs.lemmas.List.{length-append, take_more_set, map_push}
-use Rattle.daa_bands.specs.Band.{Mark, IsStretch}
+use Rattle.daa_bands.specs.Band.{IsStretch}
+use Rattle.daa_bands.specs.Walk.{Mark}
 use Rattle.daa_bands.specs.Parts.{SplitsByEach}
 use Rattle.daa_bands.specs.KindBands.{AreKindBands}
 use Rattle.daa_bands.specs.Board.{HasLevelOn, mask_levels}
