@@ -13,6 +13,3 @@ pub use alerting::{alert, alert_level};
 pub use halving::first_leg;
 pub use laws::alerts_are_unique;
 pub use now::now_level;
-
-#[cfg(test)]
-mod tests;

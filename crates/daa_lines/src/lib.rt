@@ -7,6 +7,3 @@ mod lines;
 
 pub use laws::{lines_only_grow, pieces_do_not_matter, stretches_are_the_bytes, worked_examples};
 pub use lines::{InputLine, Lines, Stage};
-
-#[cfg(test)]
-mod tests;

@@ -14,6 +14,3 @@ pub use laws::{
 };
 pub use outlook::{candidate_going_to, horizon_of};
 pub use recovery::{Recovery, least};
-
-#[cfg(test)]
-mod tests;

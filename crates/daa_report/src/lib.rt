@@ -14,6 +14,3 @@ pub use writers::{
     SinkFault, put, write_alert, write_band, write_config, write_differs, write_done, write_last,
     write_moment, write_now, write_recover, write_refused, write_resolve, write_same,
 };
-
-#[cfg(test)]
-mod tests;

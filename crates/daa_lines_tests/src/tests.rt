@@ -3,7 +3,7 @@
 
 ghost use Rattle.std.specs.Prelude.{◌≡◌, ◌<◌, false};
 
-use crate::{InputLine, Lines, Stage};
+use daa_lines::{InputLine, Lines, Stage};
 use std::alloc::{AllocError, Global};
 use std::process::Abort;
 use std::test::Fail;

@@ -3,8 +3,8 @@ use Rattle.std.specs.Prelude.{IsTrue}
 use Rattle.daa_config.specs.declared.candidate.Candidate.TheVariants.{Hold}
 use Rattle.daa_legs.specs.Meeting.{ViolatesOn}
 use Rattle.daa_legs.proofs.Walks.{next_is, next_walked}
-use Rattle.daa_alert.proofs.tests.by_seconds.first_leg_by_seconds.Goals as goal
-use Rattle.daa_alert.proofs.tests.by_seconds.first_leg_by_seconds.Goals.{After-is_hit}
+use Rattle.daa_alert_tests.proofs.tests.by_seconds.first_leg_by_seconds.Goals as goal
+use Rattle.daa_alert_tests.proofs.tests.by_seconds.first_leg_by_seconds.Goals.{After-is_hit}
 
 tested : (c : After-is_hit) → IsTrue c.is_hit.result ↔ ViolatesOn c.args.config.now c.args.own.now Hold c.args.aircraft.now c.level-level.result.now.volume c.loop-k.k
 tested c = next_is c.args.config.now c.args.own.now Hold

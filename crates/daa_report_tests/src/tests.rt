@@ -1,8 +1,12 @@
 //! Each line once, in the bytes of its format.
 
-use super::*;
 use daa_config::{Kind, Resolution};
 use daa_outside::MemSink;
+use daa_report::{
+    HeldLines, Line, SinkFault, put, write_alert, write_band, write_config, write_differs,
+    write_done, write_last, write_moment, write_now, write_recover, write_refused, write_resolve,
+    write_same,
+};
 use daa_state::Id;
 use std::alloc::{AllocError, Global};
 use std::error::Error;

@@ -5,10 +5,10 @@ ghost use Rattle.daa_config.specs.Settings.{IsCandidateInRange};
 ghost use Rattle.daa_taumod.specs.Volume.{IsVolumeInRange};
 ghost use Rattle.daa_state.specs.InRange.{IsPictureInRange};
 
-use super::*;
 use daa_config::examples::ONE_LEVEL;
 use daa_config::{Candidate, Config, Kind, read};
 use daa_meet::meets_between;
+use daa_recovery::{Recovery, least};
 use daa_resolve::present;
 use daa_state::examples::NORTH;
 use daa_state::{Moments, Picture, read_line};

@@ -1,5 +1,5 @@
 use Rattle.std.proofs.Common.{◌≡◌, false}
-use Rattle.daa_lines.proofs.tests.text_of.Given as goal
+use Rattle.daa_lines_tests.proofs.tests.text_of.Given as goal
 
 abbrev pub invariant-loop-piece : goal.invariant-loop-piece
 invariant-loop-piece g l = l.lines.ended ≡ false

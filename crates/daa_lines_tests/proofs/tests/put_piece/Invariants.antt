@@ -1,5 +1,5 @@
 use Rattle.std.proofs.Common.{◌≡◌, false, length}
-use Rattle.daa_lines.proofs.tests.put_piece.Given as goal
+use Rattle.daa_lines_tests.proofs.tests.put_piece.Given as goal
 
 abbrev pub invariant-rest : goal.invariant-rest
 invariant-rest g l = l.lines.ended ≡ false

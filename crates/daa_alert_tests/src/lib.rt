@@ -1,0 +1,5 @@
+//! Tests of daa_alert.
+#![tactic(auto)]
+
+#[cfg(test)]
+mod tests;

@@ -1,0 +1,5 @@
+//! Tests of daa_lines.
+#![tactic(auto)]
+
+#[cfg(test)]
+mod tests;

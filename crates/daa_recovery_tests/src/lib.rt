@@ -1,0 +1,5 @@
+//! Tests of daa_recovery.
+#![tactic(auto)]
+
+#[cfg(test)]
+mod tests;

@@ -1,0 +1,5 @@
+//! Tests of daa_report.
+#![tactic(auto)]
+
+#[cfg(test)]
+mod tests;
