@@ -2,10 +2,10 @@
 
 ghost use Rattle.std.specs.Prelude.{◌≡◌, ◌≤◌, ◌+◌, ◌*◌, ◌++◌, length, codes, decimal};
 ghost use Rattle.std.specs.Fmt.{signed_decimal};
-ghost use Rattle.arrayvec.specs.ArrayVec.{array_vec_len};
-ghost use Rattle.daa_report.specs.Lines.{first_text, resolution_text};
-ghost use Rattle.daa_report.specs.Lines.{found_text, seconds_text, number_field};
 ghost use Rattle.std.specs.List.{flat_map};
+ghost use Rattle.std.specs.Option.{option_map_or};
+ghost use Rattle.arrayvec.specs.ArrayVec.{array_vec_len};
+ghost use Rattle.daa_report.specs.Lines.{resolution_text};
 
 use crate::line::LONGEST_LINE;
 use arrayvec::ArrayVec;
@@ -50,15 +50,16 @@ pub(crate) fn add_signed(line: &mut ArrayVec<u8, LONGEST_LINE>, number: &i32)
     add(line, buffer.format(*number));
 }
 
-/// Adds the number of a leg, or a dash.
-pub(crate) fn add_first(line: &mut ArrayVec<u8, LONGEST_LINE>, first: Option<u32>)
-    requires { array_vec_len line.old + 20 ≤ 64 }
-    ensures items { line.new.items ≡ line.old.items ++ first_text first }
+/// Adds a number, or this word where there is none.
+pub(crate) fn add_number_or(line: &mut ArrayVec<u8, LONGEST_LINE>, number: Option<u32>, none: &str)
+    requires room { array_vec_len line.old + 20 ≤ 64 }
+    requires short { length none.now ≤ 20 }
+    ensures items { line.new.items ≡ line.old.items ++ option_map_or decimal number none.now }
     ensures len { array_vec_len line.new ≤ array_vec_len line.old + 20 }
 {
-    match first {
-        Some(leg) => add_number(line, u64::from(leg)),
-        None => add(line, "-"),
+    match number {
+        Some(number) => add_number(line, u64::from(number)),
+        None => add(line, none),
     }
 }
 
@@ -105,10 +106,20 @@ pub(crate) fn add_resolution_field(line: &mut ArrayVec<u8, LONGEST_LINE>, resolu
     add_resolution(line, resolution);
 }
 
+/// Adds a blank and a number of at most twenty digits.
+pub(crate) fn add_long_field(line: &mut ArrayVec<u8, LONGEST_LINE>, number: u64)
+    requires { array_vec_len line.old + 21 ≤ 64 }
+    ensures items { line.new.items ≡ line.old.items ++ (codes " " ++ decimal number) }
+    ensures len { array_vec_len line.new ≤ array_vec_len line.old + 21 }
+{
+    add(line, " ");
+    add_number(line, number);
+}
+
 /// Adds a blank and a number of at most ten digits.
 pub(crate) fn add_number_field(line: &mut ArrayVec<u8, LONGEST_LINE>, number: u32)
     requires { array_vec_len line.old + 11 ≤ 64 }
-    ensures items { line.new.items ≡ line.old.items ++ number_field number }
+    ensures items { line.new.items ≡ line.old.items ++ (codes " " ++ decimal number) }
     ensures len { array_vec_len line.new ≤ array_vec_len line.old + 11 }
 {
     let mut buffer = Buffer::new();
@@ -119,7 +130,8 @@ pub(crate) fn add_number_field(line: &mut ArrayVec<u8, LONGEST_LINE>, number: u3
 /// Adds a blank and each of the numbers.
 pub(crate) fn add_number_fields(line: &mut ArrayVec<u8, LONGEST_LINE>, numbers: &[u32])
     requires { array_vec_len line.old + 11 * length numbers.now ≤ 64 }
-    ensures items { line.new.items ≡ line.old.items ++ flat_map number_field numbers.now }
+    ensures items { line.new.items
+        ≡ line.old.items ++ flat_map (λ number. codes " " ++ decimal number) numbers.now }
     ensures len { array_vec_len line.new ≤ array_vec_len line.old + 11 * length numbers.now }
 {
     for number in numbers {
@@ -127,29 +139,19 @@ pub(crate) fn add_number_fields(line: &mut ArrayVec<u8, LONGEST_LINE>, numbers: 
     }
 }
 
-/// Adds a number of seconds, or that there are none.
-pub(crate) fn add_seconds(line: &mut ArrayVec<u8, LONGEST_LINE>, seconds: &Option<u32>)
-    requires { array_vec_len line.old + 11 ≤ 64 }
-    ensures items { line.new.items ≡ line.old.items ++ seconds_text seconds.now }
-    ensures len { array_vec_len line.new ≤ array_vec_len line.old + 11 }
-{
-    match seconds {
-        Some(seconds) => add_number_field(line, *seconds),
-        None => add_field(line, "none"),
-    }
-}
-
-/// Adds a number of seconds and a value, or that there are none.
+/// Adds a number of seconds and a value, or `none` in their place.
 pub(crate) fn add_found(line: &mut ArrayVec<u8, LONGEST_LINE>, found: &Option<(u32, i32)>)
-    requires { array_vec_len line.old + 23 ≤ 64 }
-    ensures items { line.new.items ≡ line.old.items ++ found_text found.now }
-    ensures len { array_vec_len line.new ≤ array_vec_len line.old + 23 }
+    requires { array_vec_len line.old + 32 ≤ 64 }
+    ensures items { line.new.items ≡ line.old.items
+        ++ option_map_or (λ f. decimal f.0 ++ codes " " ++ signed_decimal f.1) found.now
+        (codes "none") }
+    ensures len { array_vec_len line.new ≤ array_vec_len line.old + 32 }
 {
     match found {
         Some((after, value)) => {
-            add_number_field(line, *after);
+            add_number(line, u64::from(*after));
             add_signed_field(line, value);
         }
-        None => add_field(line, "none"),
+        None => add(line, "none"),
     }
 }

@@ -20,7 +20,7 @@ pub fn kind_word(kind: Kind) -> &'static str
 
 /// The word that the lines have for a kind's lower side: `left` or `down`.
 pub(crate) fn lower_word(kind: Kind) -> &'static str
-    ensures value { result.now ≡ lines.lower_word kind }
+    ensures value { result.now ≡ (lines.side_words kind).0 }
     ensures short { length result.now ≤ 5 }
 {
     match kind {
@@ -33,7 +33,7 @@ pub(crate) fn lower_word(kind: Kind) -> &'static str
 
 /// The word that the lines have for a kind's upper side: `right` or `up`.
 pub(crate) fn upper_word(kind: Kind) -> &'static str
-    ensures value { result.now ≡ lines.upper_word kind }
+    ensures value { result.now ≡ (lines.side_words kind).1 }
     ensures short { length result.now ≤ 5 }
 {
     match kind {

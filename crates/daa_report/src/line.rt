@@ -1,13 +1,12 @@
 //! The lines of a report, as values.
 
-ghost use Rattle.std.specs.Prelude.{◌≡◌, ◌≤◌, ◌+◌, ◌*◌, length};
-ghost use Rattle.daa_report.specs.Lines.{alert_line, band_line, config_line, differs_line};
-ghost use Rattle.daa_report.specs.Lines.{done_line, last_line, moment_line, now_line, numbers_line};
-ghost use Rattle.daa_report.specs.Lines.{recover_line, refused_line, resolve_line, same_line};
+ghost use Rattle.std.specs.Prelude.{◌≡◌, ◌≤◌, ◌+◌, ◌*◌, ◌++◌, [], ◌∷◌, length, codes};
+ghost use Rattle.daa_report.specs.Lines.{alert_line, band_line, last_line, numbers_line};
+ghost use Rattle.daa_report.specs.Lines.{recover_line, resolve_line};
 
 use crate::adding::{
-    add, add_bytes, add_field, add_first, add_found, add_number, add_number_fields,
-    add_resolution_field, add_seconds, add_signed_field,
+    add, add_bytes, add_field, add_found, add_long_field, add_number, add_number_fields,
+    add_number_or, add_resolution_field, add_signed_field,
 };
 use crate::kind_words::{kind_word, lower_word, upper_word};
 use arrayvec::ArrayVec;
@@ -52,44 +51,37 @@ impl Line {
 
     /// The line `refused NUMBER CODE`: the input's line of this number, from 1 on, was refused with
     /// the fault of this code.
-    #[tactic(auto, unfolding(crate::specs::Lines::refused_line))]
+    #[tactic(auto, unfolding(crate::specs::Lines::numbers_line))]
     pub fn refused(number: u64, code: u8) -> Line
-        ensures text { result ≡ refused_line number code }
+        ensures text { result ≡ numbers_line (codes "refused") (number ∷ code ∷ []) }
         ensures few { length result ≤ 64 }
     {
         let mut line = ArrayVec::<u8, LONGEST_LINE>::new();
-        add(&mut line, "refused ");
-        add_number(&mut line, number);
-        add(&mut line, " ");
-        add_number(&mut line, u64::from(code));
+        add(&mut line, "refused");
+        add_long_field(&mut line, number);
+        add_long_field(&mut line, u64::from(code));
         add(&mut line, "\n");
         Line { bytes: line }
     }
 
     /// The line `moment TIME`: the moment of this time, in seconds, begins.
-    #[tactic(auto, unfolding(crate::specs::Lines::moment_line))]
     pub fn moment(time: u32) -> Line
-        ensures text { result ≡ moment_line time }
+        ensures text { result ≡ numbers_line (codes "moment") (time ∷ []) }
         ensures few { length result ≤ 64 }
     {
-        let mut line = ArrayVec::<u8, LONGEST_LINE>::new();
-        add(&mut line, "moment ");
-        add_number(&mut line, u64::from(time));
-        add(&mut line, "\n");
-        Line { bytes: line }
+        Line::numbers("moment", &[time])
     }
 
     /// The line `now ID LEVEL`: the level that an aircraft violates now, or 0.
-    #[tactic(auto, unfolding(crate::specs::Lines::now_line))]
+    #[tactic(auto, unfolding(crate::specs::Lines::numbers_line))]
     pub fn now(id: &Id, level: u8) -> Line
-        ensures text { result ≡ now_line id.now level }
+        ensures text { result ≡ numbers_line (codes "now " ++ id.now) (level ∷ []) }
         ensures few { length result ≤ 64 }
     {
         let mut line = ArrayVec::<u8, LONGEST_LINE>::new();
         add(&mut line, "now ");
         add_bytes(&mut line, bytes_of(id));
-        add(&mut line, " ");
-        add_number(&mut line, u64::from(level));
+        add_number_fields(&mut line, &[u32::from(level)]);
         add(&mut line, "\n");
         Line { bytes: line }
     }
@@ -107,7 +99,7 @@ impl Line {
         add(&mut line, " ");
         add_number(&mut line, u64::from(level));
         add(&mut line, " ");
-        add_first(&mut line, first);
+        add_number_or(&mut line, first, "-");
         add(&mut line, "\n");
         Line { bytes: line }
     }
@@ -155,9 +147,10 @@ impl Line {
         ensures few { length result ≤ 64 }
     {
         let mut line = ArrayVec::<u8, LONGEST_LINE>::new();
-        add(&mut line, "last");
-        add_field(&mut line, kind_word(kind));
-        add_seconds(&mut line, &seconds);
+        add(&mut line, "last ");
+        add(&mut line, kind_word(kind));
+        add(&mut line, " ");
+        add_number_or(&mut line, seconds, "none");
         add(&mut line, "\n");
         Line { bytes: line }
     }
@@ -171,24 +164,20 @@ impl Line {
         ensures few { length result ≤ 64 }
     {
         let mut line = ArrayVec::<u8, LONGEST_LINE>::new();
-        add(&mut line, "recover");
-        add_field(&mut line, kind_word(kind));
+        add(&mut line, "recover ");
+        add(&mut line, kind_word(kind));
+        add(&mut line, " ");
         add_found(&mut line, &found);
         add(&mut line, "\n");
         Line { bytes: line }
     }
 
     /// The line `done TIME`: the moment of this time, in seconds, ends.
-    #[tactic(auto, unfolding(crate::specs::Lines::done_line))]
     pub fn done(time: u32) -> Line
-        ensures text { result ≡ done_line time }
+        ensures text { result ≡ numbers_line (codes "done") (time ∷ []) }
         ensures few { length result ≤ 64 }
     {
-        let mut line = ArrayVec::<u8, LONGEST_LINE>::new();
-        add(&mut line, "done ");
-        add_number(&mut line, u64::from(time));
-        add(&mut line, "\n");
-        Line { bytes: line }
+        Line::numbers("done", &[time])
     }
 
     /// The line of a word and numbers, with a blank before each number. It has at most 64 bytes
@@ -207,22 +196,16 @@ impl Line {
     }
 
     /// The line `config CODE`: the configuration was refused with the fault of this code.
-    #[tactic(auto, unfolding(crate::specs::Lines::config_line))]
     pub fn config(code: u8) -> Line
-        ensures text { result ≡ config_line code }
+        ensures text { result ≡ numbers_line (codes "config") (code ∷ []) }
         ensures few { length result ≤ 64 }
     {
-        let mut line = ArrayVec::<u8, LONGEST_LINE>::new();
-        add(&mut line, "config ");
-        add_number(&mut line, u64::from(code));
-        add(&mut line, "\n");
-        Line { bytes: line }
+        Line::numbers("config", &[u32::from(code)])
     }
 
     /// The line `same`: a report is the right one, byte for byte.
-    #[tactic(auto, unfolding(crate::specs::Lines::same_line))]
     pub fn same() -> Line
-        ensures text { result ≡ same_line }
+        ensures text { result ≡ codes "same\n" }
         ensures few { length result ≤ 64 }
     {
         let mut line = ArrayVec::<u8, LONGEST_LINE>::new();
@@ -232,14 +215,14 @@ impl Line {
 
     /// The line `differs NUMBER`: a report differs from the right one, in the line of this number,
     /// from 1 on, first.
-    #[tactic(auto, unfolding(crate::specs::Lines::differs_line))]
+    #[tactic(auto, unfolding(crate::specs::Lines::numbers_line))]
     pub fn differs(number: u64) -> Line
-        ensures text { result ≡ differs_line number }
+        ensures text { result ≡ numbers_line (codes "differs") (number ∷ []) }
         ensures few { length result ≤ 64 }
     {
         let mut line = ArrayVec::<u8, LONGEST_LINE>::new();
-        add(&mut line, "differs ");
-        add_number(&mut line, number);
+        add(&mut line, "differs");
+        add_long_field(&mut line, number);
         add(&mut line, "\n");
         Line { bytes: line }
     }

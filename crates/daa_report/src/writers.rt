@@ -1,9 +1,8 @@
 //! Writes pieces and lines to a sink.
 
-ghost use Rattle.std.specs.Prelude.{◌≤◌, ◌≡◌, length, drop};
-ghost use Rattle.daa_report.specs.Lines.{alert_line, band_line, config_line, differs_line};
-ghost use Rattle.daa_report.specs.Lines.{done_line, last_line, moment_line, now_line};
-ghost use Rattle.daa_report.specs.Lines.{recover_line, refused_line, resolve_line, same_line};
+ghost use Rattle.std.specs.Prelude.{◌≤◌, ◌≡◌, ◌++◌, [], ◌∷◌, length, drop, codes};
+ghost use Rattle.daa_report.specs.Lines.{alert_line, band_line, last_line, numbers_line};
+ghost use Rattle.daa_report.specs.Lines.{recover_line, resolve_line};
 ghost use Rattle.daa_report.specs.Says.{Says};
 
 use crate::line::Line;
@@ -46,7 +45,7 @@ fn rest_from(bytes: &[u8], at: usize) -> &[u8]
 /// programs: `daidalus` makes the line, and writes it with `put`.
 pub fn write_refused<K: Sink>(sink: &mut K, number: u64, code: u8) -> Result<(), SinkFault>
     ensures { Says (K.taken sink.old) (K.taken sink.new) (K.faults sink.old) (K.faults sink.new)
-        (refused_line number code) result }
+        (numbers_line (codes "refused") (number ∷ code ∷ [])) result }
 {
     put(sink, Line::refused(number, code).as_bytes())
 }
@@ -55,7 +54,7 @@ pub fn write_refused<K: Sink>(sink: &mut K, number: u64, code: u8) -> Result<(),
 /// holds the line back.
 pub fn write_moment<K: Sink>(sink: &mut K, time: u32) -> Result<(), SinkFault>
     ensures { Says (K.taken sink.old) (K.taken sink.new) (K.faults sink.old) (K.faults sink.new)
-        (moment_line time) result }
+        (numbers_line (codes "moment") (time ∷ [])) result }
 {
     put(sink, Line::moment(time).as_bytes())
 }
@@ -64,7 +63,7 @@ pub fn write_moment<K: Sink>(sink: &mut K, time: u32) -> Result<(), SinkFault>
 /// `daidalus` holds the line back.
 pub fn write_now<K: Sink>(sink: &mut K, id: &Id, level: u8) -> Result<(), SinkFault>
     ensures { Says (K.taken sink.old) (K.taken sink.new) (K.faults sink.old) (K.faults sink.new)
-        (now_line id.now level) result }
+        (numbers_line (codes "now " ++ id.now) (level ∷ [])) result }
 {
     put(sink, Line::now(id, level).as_bytes())
 }
@@ -140,7 +139,7 @@ pub fn write_recover<K: Sink>(
 /// holds the line back.
 pub fn write_done<K: Sink>(sink: &mut K, time: u32) -> Result<(), SinkFault>
     ensures { Says (K.taken sink.old) (K.taken sink.new) (K.faults sink.old) (K.faults sink.new)
-        (done_line time) result }
+        (numbers_line (codes "done") (time ∷ [])) result }
 {
     put(sink, Line::done(time).as_bytes())
 }
@@ -148,7 +147,7 @@ pub fn write_done<K: Sink>(sink: &mut K, time: u32) -> Result<(), SinkFault>
 /// Writes that the configuration was refused with this code.
 pub fn write_config<K: Sink>(sink: &mut K, code: u8) -> Result<(), SinkFault>
     ensures { Says (K.taken sink.old) (K.taken sink.new) (K.faults sink.old) (K.faults sink.new)
-        (config_line code) result }
+        (numbers_line (codes "config") (code ∷ [])) result }
 {
     put(sink, Line::config(code).as_bytes())
 }
@@ -156,7 +155,7 @@ pub fn write_config<K: Sink>(sink: &mut K, code: u8) -> Result<(), SinkFault>
 /// Writes that a report is the right one.
 pub fn write_same<K: Sink>(sink: &mut K) -> Result<(), SinkFault>
     ensures { Says (K.taken sink.old) (K.taken sink.new) (K.faults sink.old)
-        (K.faults sink.new) same_line result }
+        (K.faults sink.new) (codes "same\n") result }
 {
     put(sink, Line::same().as_bytes())
 }
@@ -165,7 +164,7 @@ pub fn write_same<K: Sink>(sink: &mut K) -> Result<(), SinkFault>
 /// the first that does.
 pub fn write_differs<K: Sink>(sink: &mut K, line: u64) -> Result<(), SinkFault>
     ensures { Says (K.taken sink.old) (K.taken sink.new) (K.faults sink.old) (K.faults sink.new)
-        (differs_line line) result }
+        (numbers_line (codes "differs") (line ∷ [])) result }
 {
     put(sink, Line::differs(line).as_bytes())
 }
