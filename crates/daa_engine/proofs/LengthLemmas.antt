@@ -2,8 +2,8 @@
 use Rattle.std.proofs.Common.{◌≡◌, ◌<◌, ◌≤◌, ◌+◌, ◌*◌, ◌^◌, ◌++◌, ◌∙◌, ℕ, suc, ℤ}
 use Rattle.std.proofs.Common.{pos, negsuc, ◌≤ℤ◌, Bool, true, false, List, [], ◌∷◌, length, Option}
 use Rattle.std.proofs.Common.{Some, None, option_map, refl, sym, ap, subst, arith, length-append, slice_get}
-use Rattle.std.specs.Prelude.{codes, decimal, slice_index, MatchOption}
-use Rattle.std.specs.Option.{unwrap_or}
+use Rattle.std.specs.Prelude.{codes, decimal, is_some, slice_index, MatchOption}
+use Rattle.std.specs.Option.{option_map_or, unwrap_or}
 use Rattle.daa_legs.specs.Alerts.{IsFirstLeg}
 use Rattle.std.specs.Fmt.{signed_decimal}
 use Rattle.std.specs.List.{flat_map, zip, AllByRecursion}
@@ -28,6 +28,7 @@ use Rattle.daa_alert.specs.declared.aircraft_alert.Alert.{Alert}
 use Rattle.daa_alert.specs.Alert.{IsAlertOf}
 use Rattle.daa_bands.specs.Band.{IsStretch}
 use Rattle.daa_bands.specs.Walk.{Mark}
+use Rattle.daa_bands.specs.KindBands.{AreKindBands}
 use Rattle.daa_bands.specs.declared.band.Band.{Band}
 use Rattle.daa_resolve.specs.Resolution.{IsResolution}
 use Rattle.daa_resolve.specs.declared.side.Side.{Side}
@@ -35,13 +36,12 @@ use Rattle.daa_resolve.specs.declared.side.Side.TheVariants.{Lower, Upper}
 use Rattle.daa_last.specs.Last.{IsLastTime}
 use Rattle.daa_recovery.specs.Recovery.{IsRecovery}
 use Rattle.daa_recovery.specs.declared.recovery.Recovery.{Recovery}
-use Rattle.daa_report.specs.Lines.{Text, kind_word, lower_word, upper_word, first_text, resolution_text, moment_line, now_line, alert_line}
-use Rattle.daa_report.specs.Lines.{band_line, resolve_line, last_line, seconds_text, recover_line, found_text, number_field, done_line}
+use Rattle.daa_report.specs.Lines.{Text, kind_word, side_words, resolution_text, numbers_line, alert_line, band_line, resolve_line, last_line, recover_line}
 use Rattle.daa_engine.specs.Covered.{CoveredAt}
 use Rattle.daa_engine.specs.Longest.{longest_moment}
 use Rattle.daa_bands.specs.Parts.{SplitsByEach}
-use Rattle.daa_engine.specs.MomentText.{AreAircraftLines, AreBandLines, AreResolutions, IsLastText, IsRecoveryLine, IsRecoveryText}
-use Rattle.daa_engine.specs.MomentText.{IsMomentText, line_of, of_each, found_of, wants_last, wants_recovery}
+use Rattle.daa_engine.specs.MomentText.{AreAircraftLines, IsLastText, IsRecoveryText, IsMomentText, of_each}
+use Rattle.daa_engine.specs.Inside.Findings.{found_of}
 
 -- ---- numbers
 
@@ -78,61 +78,66 @@ word_of_kind Speed = omega arith
 word_of_kind Climb = omega arith
 word_of_kind Height = omega arith
 
-lower_of_kind : (kind : Kind) → length (lower_word kind) ≤ 5
+lower_of_kind : (kind : Kind) → length ((side_words kind).0) ≤ 5
 lower_of_kind Track = omega arith
 lower_of_kind Speed = omega arith
 lower_of_kind Climb = omega arith
 lower_of_kind Height = omega arith
 
-upper_of_kind : (kind : Kind) → length (upper_word kind) ≤ 5
+upper_of_kind : (kind : Kind) → length ((side_words kind).1) ≤ 5
 upper_of_kind Track = omega arith
 upper_of_kind Speed = omega arith
 upper_of_kind Climb = omega arith
 upper_of_kind Height = omega arith
 
-first_short : (first : Option ℕ) → ((leg : ℕ) → first ≡ Some leg → leg < 2 ^ 32) → length (first_text first) ≤ 20
-first_short None h = omega arith
-first_short (Some leg) h = few_digits leg (h leg refl)
+-- a number of at most this length, or a word
+number_or_short : (number : Option ℕ) (word : Text) → length word ≤ 20 → ((n : ℕ) → number ≡ Some n → n < 2 ^ 32) → length (option_map_or decimal number word) ≤ 20
+number_or_short None word w h = w
+number_or_short (Some n) word w h = few_digits n (h n refl)
 
 resolution_short : (resolution : Resolution) → ((z : ℤ) → resolution ≡ To z → IsValue z) → length (resolution_text resolution) ≤ 12
 resolution_short Keep h = omega arith
 resolution_short (To z) h = few_signed z (h z refl)
 resolution_short Nothing h = omega arith
 
-pub moment_short : (time : ℕ) → time < 2 ^ 32 → length (moment_line time) ≤ 28
-unfolding moment_line
-moment_short time h = omega (arith, joined (codes "moment " ++ decimal time) (codes "\n") 27 1 (joined (codes "moment ") (decimal time) 7 20 (omega arith) (few_digits time h)) (omega arith))
+-- a word and one number
+number_short : (word : Text) (n most : ℕ) → length word ≤ most → n < 2 ^ 32 → length (numbers_line word (n ∷ [])) ≤ most + 22
+unfolding numbers_line
+number_short word n most w h =
+    let field = joined (codes " ") (decimal n) 1 20 (omega arith) (few_digits n h) in
+    let fields = joined (codes " " ++ decimal n) [] 21 0 field (omega arith) in
+    let all : length (numbers_line word (n ∷ [])) ≤ most + 21 + 1 = joined
+    (word ++ ((codes " " ++ decimal n) ++ []))
+    (codes "\n")
+    (most + 21)
+    1
+    (joined word ((codes " " ++ decimal n) ++ []) most 21 w fields)
+    (omega arith) in
+    omega (arith, all)
 
-done_short : (time : ℕ) → time < 2 ^ 32 → length (done_line time) ≤ 26
-unfolding done_line
-done_short time h = omega (arith, joined (codes "done " ++ decimal time) (codes "\n") 25 1 (joined (codes "done ") (decimal time) 5 20 (omega arith) (few_digits time h)) (omega arith))
+pub moment_short : (time : ℕ) → time < 2 ^ 32 → length (numbers_line (codes "moment") (time ∷ [])) ≤ 28
+moment_short time h = omega (arith, number_short (codes "moment") time 6 (omega arith) h)
 
-now_short : (id : Text) (level : ℕ) → length id ≤ 8 → level < 2 ^ 32 → length (now_line id level) ≤ 64
-unfolding now_line
-now_short id level i l =
-    let blank : length (codes " ") ≤ 1 = omega arith in
-    omega (
-      arith,
-      few_digits level l,
-      length-append (codes "now ") id,
-      length-append (codes "now " ++ id) (codes " "),
-      length-append (codes "now " ++ id ++ codes " ") (decimal level),
-      length-append (codes "now " ++ id ++ codes " " ++ decimal level) (codes "\n"),
-    )
+done_short : (time : ℕ) → time < 2 ^ 32 → length (numbers_line (codes "done") (time ∷ [])) ≤ 26
+done_short time h = omega (arith, number_short (codes "done") time 4 (omega arith) h)
+
+now_short : (id : Text) (level : ℕ) → length id ≤ 8 → level < 2 ^ 32 → length (numbers_line (codes "now " ++ id) (level ∷ [])) ≤ 64
+now_short id level i l = omega (arith, number_short (codes "now " ++ id) level 12 (omega (arith, joined (codes "now ") id 4 8 (omega arith) i)) l)
 
 alert_short : (id : Text) (level : ℕ) (first : Option ℕ) → length id ≤ 8 → level < 2 ^ 32 → ((leg : ℕ) → first ≡ Some leg → leg < 2 ^ 32) → length (alert_line id level first) ≤ 64
 unfolding alert_line
 alert_short id level first i l f =
+    let w = option_map_or decimal first (codes "-") in
     omega (
       arith,
       few_digits level l,
-      first_short first f,
+      number_or_short first (codes "-") (omega arith) f,
       length-append (codes "alert ") id,
       length-append (codes "alert " ++ id) (codes " "),
       length-append (codes "alert " ++ id ++ codes " ") (decimal level),
       length-append (codes "alert " ++ id ++ codes " " ++ decimal level) (codes " "),
-      length-append (codes "alert " ++ id ++ codes " " ++ decimal level ++ codes " ") (first_text first),
-      length-append (codes "alert " ++ id ++ codes " " ++ decimal level ++ codes " " ++ first_text first) (codes "\n"),
+      length-append (codes "alert " ++ id ++ codes " " ++ decimal level ++ codes " ") w,
+      length-append (codes "alert " ++ id ++ codes " " ++ decimal level ++ codes " " ++ w) (codes "\n"),
     )
 
 band_short : (kind : Kind) (from upto : ℤ) (level : ℕ) → IsValue from → IsValue upto → level < 2 ^ 32 → length (band_line kind from upto level) ≤ 64
@@ -158,7 +163,7 @@ resolve_short : (kind : Kind) (lower upper : Resolution) → ((z : ℤ) → lowe
     → length (resolve_line kind lower upper) ≤ 52
 unfolding resolve_line
 resolve_short kind lower upper l u =
-    let k = kind_word kind in let w = lower_word kind in let a = resolution_text lower in let v = upper_word kind in let b = resolution_text upper in
+    let k = kind_word kind in let w = (side_words kind).0 in let a = resolution_text lower in let v = (side_words kind).1 in let b = resolution_text upper in
     let r = codes "resolve" in let s = codes " " in
     omega (
       arith,
@@ -180,22 +185,22 @@ resolve_short kind lower upper l u =
       length-append (r ++ s ++ k ++ s ++ w ++ s ++ a ++ s ++ v ++ s ++ b) (codes "\n"),
     )
 
-seconds_short : (seconds : Option ℕ) → ((n : ℕ) → seconds ≡ Some n → n < 180) → length (seconds_text seconds) ≤ 13
+seconds_short : (seconds : Option ℕ) → ((n : ℕ) → seconds ≡ Some n → n < 180) → length (option_map_or decimal seconds (codes "none")) ≤ 12
 seconds_short None h = omega arith
-seconds_short (Some n) h = joined (codes " ") (decimal n) 1 12 (omega arith) (length-decimal-le 12 n (omega arith) (omega (arith, h n refl)) (omega (arith, h n refl)))
+seconds_short (Some n) h = length-decimal-le 12 n (omega arith) (omega (arith, h n refl)) (omega (arith, h n refl))
 
 last_short : (kind : Kind) (seconds : Option ℕ) → ((n : ℕ) → seconds ≡ Some n → n < 180) → length (last_line kind seconds) ≤ 24
 unfolding last_line
 last_short kind seconds h =
-    let k = kind_word kind in let w = codes "last" in let s = codes " " in let f = seconds_text seconds in
+    let k = kind_word kind in let w = codes "last " in let s = codes " " in let f = option_map_or decimal seconds (codes "none") in
     omega (
       arith,
       word_of_kind kind,
       seconds_short seconds h,
-      length-append w s,
-      length-append (w ++ s) k,
-      length-append (w ++ s ++ k) f,
-      length-append (w ++ s ++ k ++ f) (codes "\n"),
+      length-append w k,
+      length-append (w ++ k) s,
+      length-append (w ++ k ++ s) f,
+      length-append (w ++ k ++ s ++ f) (codes "\n"),
     )
 
 -- after how many seconds, and a value
@@ -203,27 +208,30 @@ record IsFoundShort (found : ℕ × ℤ) : Type 0 where
   soon : found.0 < 2 ^ 32
   fits : IsValue found.1
 
-found_short : (found : Option (ℕ × ℤ)) → ((pair : ℕ × ℤ) → found ≡ Some pair → IsFoundShort pair) → length (found_text found) ≤ 40
+-- the two of them on a line
+abbrev found_text : ℕ × ℤ → Text
+found_text pair = decimal pair.0 ++ codes " " ++ signed_decimal pair.1
+
+found_short : (found : Option (ℕ × ℤ)) → ((pair : ℕ × ℤ) → found ≡ Some pair → IsFoundShort pair) → length (option_map_or found_text found (codes "none")) ≤ 40
 found_short None h = omega arith
 found_short (Some pair) h =
     let f = h pair refl in
-    let n : length (number_field pair.0) ≤ 21 = joined (codes " ") (decimal pair.0) 1 20 (omega arith) (few_digits pair.0 f.soon) in
-    let v : length (codes " " ++ signed_decimal pair.1) ≤ 13 = joined (codes " ") (signed_decimal pair.1) 1 12 (omega arith) (few_signed pair.1 f.fits) in
-    omega (arith, joined (number_field pair.0) (codes " " ++ signed_decimal pair.1) 21 13 n v)
+    let n = joined (decimal pair.0) (codes " ") 20 1 (few_digits pair.0 f.soon) (omega arith) in
+    omega (arith, joined (decimal pair.0 ++ codes " ") (signed_decimal pair.1) 21 12 n (few_signed pair.1 f.fits))
 
 recover_short : (kind : Kind) (found : Option (ℕ × ℤ)) → ((pair : ℕ × ℤ) → found ≡ Some pair → IsFoundShort pair)
     → length (recover_line kind found) ≤ 64
 unfolding recover_line
 recover_short kind found h =
-    let k = kind_word kind in let r = codes "recover" in let s = codes " " in let f = found_text found in
+    let k = kind_word kind in let r = codes "recover " in let s = codes " " in let f = option_map_or found_text found (codes "none") in
     omega (
       arith,
       word_of_kind kind,
       found_short found h,
-      length-append r s,
-      length-append (r ++ s) k,
-      length-append (r ++ s ++ k) f,
-      length-append (r ++ s ++ k ++ f) (codes "\n"),
+      length-append r k,
+      length-append (r ++ k) s,
+      length-append (r ++ k ++ s) f,
+      length-append (r ++ k ++ s ++ f) (codes "\n"),
     )
 
 -- ---- bands
@@ -291,7 +299,7 @@ lines_few : {X : Type 0} (f : X → Text) (P : X → Type 0) → ((x : X) → P 
 lines_few f P h [] all = omega arith
 lines_few f P h (x ∷ xs) all = omega (arith, length-append (f x) (flat_map f xs), h x all.0, lines_few f P h xs all.1)
 
-band_is_short : (kind : Kind) (band : Band) → IsBand band → length (line_of kind band) ≤ 64
+band_is_short : (kind : Kind) (band : Band) → IsBand band → length (band_line kind band.from band.upto band.level) ≤ 64
 band_is_short kind band h = band_short kind band.from band.upto band.level h.from h.upto (let l = h.level in omega arith)
 
 -- an answer that gives no value
@@ -314,8 +322,9 @@ module _ (s : Settings) (p : Picture) (ok : IsAccepted s) where
       let same : Some _ ≡ Some z = sym there.there ∙ e in
       subst IsValue (ap (λ (o : Option ℤ). unwrap_or o z) same) w
 
-  kind_short : (kind : Kind) (text : Text) → AreBandLines s p kind text → length text ≤ 64 * length (values_of kind s)
-  kind_short kind text (bands, are, e) =
+  kind_short : (kind : Kind) (bands : List Band) → AreKindBands (CoveredAt s p) (length s.levels) s kind bands
+      → length (flat_map (λ band. band_line kind band.from band.upto band.level) bands) ≤ 64 * length (values_of kind s)
+  kind_short kind bands are =
       let values = values_of kind s in
       let few = ok.few_levels in
       let levels = levels_in are.levels (λ i lt. let w = (are.shown.greatest i lt).within in omega arith) in
@@ -323,8 +332,7 @@ module _ (s : Settings) (p : Picture) (ok : IsAccepted s) where
       let in' = bands_in (zip values are.levels) bands are.are.stretches marks in
       omega (
         arith,
-        ap length e,
-        lines_few (line_of kind) IsBand (band_is_short kind) bands in',
+        lines_few (λ band. band_line kind band.from band.upto band.level) IsBand (band_is_short kind) bands in',
         bands_few (zip values are.levels) bands are.are.stretches,
         marks_few values are.levels,
       )
@@ -334,8 +342,9 @@ module _ (s : Settings) (p : Picture) (ok : IsAccepted s) where
   resolution_in kind side (To y) h z e = value_in kind h.1.0 z (h.1.1.value_is ∙ ap (λ (r : Resolution). Some (value_or r y)) e)
   resolution_in kind side Nothing h z e = absurd (subst IsNotTo e tt)
 
-  resolutions_short : (kind : Kind) (lower upper : Resolution) → AreResolutions s p kind lower upper → length (resolve_line kind lower upper) ≤ 52
-  resolutions_short kind lower upper h = resolve_short kind lower upper (resolution_in kind Lower lower h.lower_is) (resolution_in kind Upper upper h.upper_is)
+  resolutions_short : (kind : Kind) (answers : Side → Resolution) → ((side : Side) → IsResolution (CoveredAt s p) s p.own kind side (answers side))
+      → length (resolve_line kind (answers Lower) (answers Upper)) ≤ 52
+  resolutions_short kind answers h = resolve_short kind (answers Lower) (answers Upper) (resolution_in kind Lower (answers Lower) (h Lower)) (resolution_in kind Upper (answers Upper) (h Upper))
 
   last_in : (kind : Kind) (found : Option ℕ) → IsLastTime s p kind found → (n : ℕ) → found ≡ Some n → n < 180
   last_in kind None is n e = absurd (cc e)
@@ -345,12 +354,14 @@ module _ (s : Settings) (p : Picture) (ok : IsAccepted s) where
       let soon : m < 180 = let b = is.last.before in let e' = a.reached in omega arith in
       subst (λ (i : ℕ). i < 180) (ap (λ (o : Option ℕ). unwrap_or o n) e) soon
 
-  last_text_short : (kind : Kind) (answer : Resolution) (text : Text) → IsLastText s p kind answer text → length text ≤ 24
-  last_text_short kind answer text is = by_wish (wants_last s answer) refl
-    where
-      by_wish : (w : Bool) → wants_last s answer ≡ w → length text ≤ 24
-      by_wish true e = let l = is.line e in omega (arith, ap length l.2, last_short kind l.0 (last_in kind l.0 l.1))
-      by_wish false e = omega (arith, ap length (is.none e))
+  last_line_short : (kind : Kind) (text : Text) → IsLastText s p true Nothing kind text → length text ≤ 24
+  last_line_short kind text (found, is, e) = omega (arith, ap length e, last_short kind found (last_in kind found is))
+
+  last_text_short : (asked : Bool) (answer : Resolution) (kind : Kind) (text : Text) → IsLastText s p asked answer kind text → length text ≤ 24
+  last_text_short false answer kind text e = omega (arith, ap length e)
+  last_text_short true Keep kind text e = omega (arith, ap length e)
+  last_text_short true (To z) kind text is = last_line_short kind text is
+  last_text_short true Nothing kind text is = last_line_short kind text is
 
   recovery_in : (kind : Kind) (found : Option Recovery) → IsRecovery s p kind found → (pair : ℕ × ℤ) → option_map found_of found ≡ Some pair → IsFoundShort pair
   recovery_in kind None is pair e = absurd (cc e)
@@ -362,15 +373,14 @@ module _ (s : Settings) (p : Picture) (ok : IsAccepted s) where
       let short : IsFoundShort (found_of r) = record { soon = soon; fits = value_in kind least.index r.value least.recovers.there } in
       subst IsFoundShort (ap (λ (o : Option (ℕ × ℤ)). unwrap_or o pair) e) short
 
-  recovery_line_short : (kind : Kind) (text : Text) → IsRecoveryLine s p kind text → length text ≤ 64
-  recovery_line_short kind text (found, is, e) = omega (arith, ap length e, recover_short kind (option_map found_of found) (recovery_in kind found is))
-
-  recovery_short : (kind : Kind) (lower upper : Resolution) (text : Text) → IsRecoveryText s p kind lower upper text → length text ≤ 64
-  recovery_short kind lower upper text is = by_wish (wants_recovery s lower upper) refl
-    where
-      by_wish : (w : Bool) → wants_recovery s lower upper ≡ w → length text ≤ 64
-      by_wish true e = recovery_line_short kind text (is.line e)
-      by_wish false e = omega (arith, ap length (is.none e))
+  recovery_short : (asked : Bool) (lower upper : Resolution) (kind : Kind) (text : Text) → IsRecoveryText s p asked lower upper kind text → length text ≤ 64
+  recovery_short false lower upper kind text e = omega (arith, ap length e)
+  recovery_short true Keep upper kind text e = omega (arith, ap length e)
+  recovery_short true (To z) upper kind text e = omega (arith, ap length e)
+  recovery_short true Nothing Keep kind text e = omega (arith, ap length e)
+  recovery_short true Nothing (To z) kind text e = omega (arith, ap length e)
+  recovery_short true Nothing Nothing kind text (found, is, e) =
+      omega (arith, ap length e, recover_short kind (option_map found_of found) (recovery_in kind found is))
 
   leg_in : (t : Traffic) (alert : Alert) → IsAlertOf s p.own t alert → (leg : ℕ) → alert.first ≡ Some leg → leg < 2 ^ 32
   leg_in t alert a leg e =
@@ -388,7 +398,7 @@ module _ (s : Settings) (p : Picture) (ok : IsAccepted s) where
       omega (
         arith,
         ap length e,
-        length-append (now_line t.id now) (alert_line t.id alert.level alert.first),
+        length-append (numbers_line (codes "now " ++ t.id) (now ∷ [])) (alert_line t.id alert.level alert.first),
         now_short t.id now i (omega arith),
         alert_short t.id alert.level alert.first i (omega arith) (leg_in t alert is.alert_is),
       )
@@ -401,13 +411,14 @@ module _ (s : Settings) (p : Picture) (ok : IsAccepted s) where
 
   pub text_short : IsPictureInRange p → p.time < 2 ^ 32 → (text : Text) → IsMomentText s p text → length text ≤ longest_moment
   text_short r t text is =
-      let alerts = is.alerts in let bands = is.bands in let lower = is.lower in let upper = is.upper in let lasts = is.lasts in let recoveries = is.recoveries in
-      let resolutions : Kind → Text = λ kind. resolve_line kind (lower kind) (upper kind) in
+      let alerts = is.alerts in let answers = is.answers in let lasts = is.lasts in let recoveries = is.recoveries in
+      let bands : Kind → Text = λ kind. flat_map (λ band. band_line kind band.from band.upto band.level) (is.bands kind) in
+      let resolutions : Kind → Text = λ kind. resolve_line kind (answers kind Lower) (answers kind Upper) in
       let bt = bands Track in let bs = bands Speed in let bc = bands Climb in let bh = bands Height in
       let at = resolutions Track in let as' = resolutions Speed in let ac = resolutions Climb in let ah = resolutions Height in
       let lt = lasts Track in let ls = lasts Speed in let lc = lasts Climb in let lh = lasts Height in
       let rt = recoveries Track in let rs = recoveries Speed in let rc = recoveries Climb in let rh = recoveries Height in
-      let m = moment_line p.time in let d = done_line p.time in
+      let m = numbers_line (codes "moment") (p.time ∷ []) in let d = numbers_line (codes "done") (p.time ∷ []) in
       omega (
         arith,
         ap length is.text_is,
@@ -415,22 +426,22 @@ module _ (s : Settings) (p : Picture) (ok : IsAccepted s) where
         moment_short p.time t,
         done_short p.time t,
         alerts_short (aircraft_of p) (recursion_from_All IsTrafficInRange (aircraft_of p) r.traffic) alerts is.alerts_are,
-        kind_short Track bt (is.bands_are Track),
-        kind_short Speed bs (is.bands_are Speed),
-        kind_short Climb bc (is.bands_are Climb),
-        kind_short Height bh (is.bands_are Height),
-        resolutions_short Track (lower Track) (upper Track) (is.resolutions_are Track),
-        resolutions_short Speed (lower Speed) (upper Speed) (is.resolutions_are Speed),
-        resolutions_short Climb (lower Climb) (upper Climb) (is.resolutions_are Climb),
-        resolutions_short Height (lower Height) (upper Height) (is.resolutions_are Height),
-        last_text_short Track (lower Track) lt (is.lasts_are Track),
-        last_text_short Speed (lower Speed) ls (is.lasts_are Speed),
-        last_text_short Climb (lower Climb) lc (is.lasts_are Climb),
-        last_text_short Height (lower Height) lh (is.lasts_are Height),
-        recovery_short Track (lower Track) (upper Track) rt (is.recoveries_are Track),
-        recovery_short Speed (lower Speed) (upper Speed) rs (is.recoveries_are Speed),
-        recovery_short Climb (lower Climb) (upper Climb) rc (is.recoveries_are Climb),
-        recovery_short Height (lower Height) (upper Height) rh (is.recoveries_are Height),
+        kind_short Track (is.bands Track) (is.bands_are Track),
+        kind_short Speed (is.bands Speed) (is.bands_are Speed),
+        kind_short Climb (is.bands Climb) (is.bands_are Climb),
+        kind_short Height (is.bands Height) (is.bands_are Height),
+        resolutions_short Track (answers Track) (is.answers_are Track),
+        resolutions_short Speed (answers Speed) (is.answers_are Speed),
+        resolutions_short Climb (answers Climb) (is.answers_are Climb),
+        resolutions_short Height (answers Height) (is.answers_are Height),
+        last_text_short s.last_times (answers Track Lower) Track lt (is.lasts_are Track),
+        last_text_short s.last_times (answers Speed Lower) Speed ls (is.lasts_are Speed),
+        last_text_short s.last_times (answers Climb Lower) Climb lc (is.lasts_are Climb),
+        last_text_short s.last_times (answers Height Lower) Height lh (is.lasts_are Height),
+        recovery_short (is_some s.recovery) (answers Track Lower) (answers Track Upper) Track rt (is.recoveries_are Track),
+        recovery_short (is_some s.recovery) (answers Speed Lower) (answers Speed Upper) Speed rs (is.recoveries_are Speed),
+        recovery_short (is_some s.recovery) (answers Climb Lower) (answers Climb Upper) Climb rc (is.recoveries_are Climb),
+        recovery_short (is_some s.recovery) (answers Height Lower) (answers Height Upper) Height rh (is.recoveries_are Height),
         length-values Track s,
         length-values Speed s,
         length-values Climb s,

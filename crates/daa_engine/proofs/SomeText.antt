@@ -1,5 +1,5 @@
 -- A picture in range has a text.
-use Rattle.std.specs.Prelude.{is_some}
+use Rattle.std.specs.Prelude.{codes, is_some}
 use Rattle.std.proofs.Common.{◌≡◌, ◌≢◌, ◌++◌, Bool, true, false, Option, Some, None, option_map, ℕ, zero, suc, List, [], ◌∷◌, length, refl, subst, arith, inl, inr, ⊎_elim}
 use Rattle.std.proofs.lemmas.Bool.{cases_lt}
 use Rattle.std.proofs.lemmas.Option.{slice_get_within}
@@ -23,13 +23,16 @@ use Rattle.daa_resolve.specs.declared.side.Side.{Side}
 use Rattle.daa_resolve.specs.declared.side.Side.TheVariants.{Lower, Upper}
 use Rattle.daa_resolve.proofs.SomeResolution.{one_resolution}
 use Rattle.daa_config.specs.declared.candidate.Resolution.{Resolution}
+use Rattle.daa_config.specs.declared.candidate.Resolution.TheVariants.{Keep, To, Nothing}
 use Rattle.daa_last.proofs.SomeLast.{one_last_time}
 use Rattle.daa_recovery.proofs.SomeRecovery.{one_recovery}
-use Rattle.daa_report.specs.Lines.{Text, now_line, alert_line, resolve_line, last_line, recover_line, moment_line, done_line}
+use Rattle.daa_report.specs.Lines.{Text, numbers_line, alert_line, resolve_line, last_line, recover_line}
 use Rattle.daa_engine.specs.Covered.{CoveredAt}
 use Rattle.daa_engine.proofs.Covered.{CoveredBelow, scene_of}
 use Rattle.daa_bands.specs.Parts.{SplitsByEach}
-use Rattle.daa_engine.specs.MomentText.{AreAircraftLines, IsLastText, IsRecoveryText, IsMomentText, line_of, of_each, are_nothing, wants_last, wants_recovery, found_of}
+use Rattle.daa_engine.specs.MomentText.{AreAircraftLines, IsLastText, IsRecoveryText, IsMomentText, of_each}
+use Rattle.daa_engine.specs.Inside.Findings.{found_of}
+use Rattle.daa_engine.specs.Inside.Written.{line_of}
 use Rattle.daa_engine.proofs.OneText.{text_only}
 
 module _ (s : Settings) (p : Picture) (a : IsAccepted s) (r : IsPictureInRange p) where
@@ -63,7 +66,7 @@ module _ (s : Settings) (p : Picture) (a : IsAccepted s) (r : IsPictureInRange p
   aircraft_lines t in' =
       let now = some_now s p.own t (now_decided s p.own t a r.own in') in
       let alert = some_alert s p.own t (on_decided s p.own t a r.own in') (alerts_decided s p.own t a r.own in') in
-      (now_line t.id now.0 ++ alert_line t.id alert.0.level alert.0.first, record { now = now.0; alert = alert.0; now_is = now.1; alert_is = alert.1; text_is = refl })
+      (numbers_line (codes "now " ++ t.id) (now.0 ∷ []) ++ alert_line t.id alert.0.level alert.0.first, record { now = now.0; alert = alert.0; now_is = now.1; alert_is = alert.1; text_is = refl })
 
   alert_lines : (ts : List Traffic) → AllByRecursion IsTrafficInRange ts → (text : Text) × SplitsByEach (AreAircraftLines s p) ts text
   alert_lines [] in' = ([], refl)
@@ -78,55 +81,49 @@ module _ (s : Settings) (p : Picture) (a : IsAccepted s) (r : IsPictureInRange p
   resolution : (kind : Kind) (side : Side) → HasOne (IsResolution (CoveredAt s p) s p.own kind side)
   resolution kind side = one_resolution (CoveredAt s p) covered_decided s p.own kind side a
 
-  last_texts : (kind : Kind) (answer : Resolution) → (text : Text) × IsLastText s p kind answer text
-  last_texts kind answer = by_wish (wants_last s answer) refl
-    where
-      by_wish : (w : Bool) → wants_last s answer ≡ w → (text : Text) × IsLastText s p kind answer text
-      by_wish true e =
-          let f = one_last_time s a p r kind in
-          (last_line kind f.one, record { line = λ _. (f.one, f.is, refl); none = λ g. absurd (cc (e, g)) })
-      by_wish false e = ([], record { line = λ t. absurd (cc (t, e)); none = λ _. refl })
+  last_line_text : (kind : Kind) → (text : Text) × IsLastText s p true Nothing kind text
+  last_line_text kind = let f = one_last_time s a p r kind in (last_line kind f.one, (f.one, f.is, refl))
 
-  recovery_texts : (kind : Kind) (lower upper : Resolution) → (text : Text) × IsRecoveryText s p kind lower upper text
-  recovery_texts kind lower upper = by_wish (is_some s.recovery) (are_nothing lower upper) refl refl
-    where
-      asked : {X : Type 0} (o : Option X) → is_some o ≡ true → o ≢ None
-      asked (Some v) e f = cc f
-      asked None e f = cc e
+  last_texts : (asked : Bool) (answer : Resolution) (kind : Kind) → (text : Text) × IsLastText s p asked answer kind text
+  last_texts false answer kind = ([], refl)
+  last_texts true Keep kind = ([], refl)
+  last_texts true (To v) kind = last_line_text kind
+  last_texts true Nothing kind = last_line_text kind
 
-      silent : wants_recovery s lower upper ≡ false → (text : Text) × IsRecoveryText s p kind lower upper text
-      silent e = ([], record { line = λ t. absurd (cc (t, e)); none = λ _. refl })
+  there : {X : Type 0} (o : Option X) → is_some o ≡ true → o ≢ None
+  there (Some v) e f = cc f
+  there None e f = cc e
 
-      by_wish : (w n : Bool) → is_some s.recovery ≡ w → are_nothing lower upper ≡ n → (text : Text) × IsRecoveryText s p kind lower upper text
-      by_wish true true e f =
-          let f1 = one_recovery s a p kind r (asked s.recovery e) in
-          let t : wants_recovery s lower upper ≡ true = cc (e, f) in
-          (recover_line kind (option_map found_of f1.one), record { line = λ _. (f1.one, f1.is, refl); none = λ g. absurd (cc (t, g)) })
-      by_wish false n e f = silent (cc e)
-      by_wish true false e f = silent (cc (e, f))
+  recovery_texts : (asked : Bool) → is_some s.recovery ≡ asked → (lower upper : Resolution) (kind : Kind) → (text : Text) × IsRecoveryText s p asked lower upper kind text
+  recovery_texts false e lower upper kind = ([], refl)
+  recovery_texts true e Keep upper kind = ([], refl)
+  recovery_texts true e (To v) upper kind = ([], refl)
+  recovery_texts true e Nothing Keep kind = ([], refl)
+  recovery_texts true e Nothing (To v) kind = ([], refl)
+  recovery_texts true e Nothing Nothing kind =
+      let f = one_recovery s a p kind r (there s.recovery e) in (recover_line kind (option_map found_of f.one), (f.one, f.is, refl))
 
   some_text : (text : Text) × IsMomentText s p text
   some_text =
       let alerts = alert_lines (aircraft_of p) (recursion_from_All IsTrafficInRange (aircraft_of p) r.traffic) in
       let band_text = λ (kind : Kind). flat_map (line_of kind) (bands kind).one in
-      let lower = λ (kind : Kind). (resolution kind Lower).one in
-      let upper = λ (kind : Kind). (resolution kind Upper).one in
-      let answer_text = λ (kind : Kind). resolve_line kind (lower kind) (upper kind) in
-      let last_text = λ (kind : Kind). (last_texts kind (lower kind)).0 in
-      let recovery_text = λ (kind : Kind). (recovery_texts kind (lower kind) (upper kind)).0 in (
-        moment_line p.time ++ (alerts.0 ++ (of_each band_text ++ (of_each answer_text ++ (of_each last_text ++ (of_each recovery_text ++ done_line p.time))))),
+      let answers = λ (kind : Kind) (side : Side). (resolution kind side).one in
+      let answer_text = λ (kind : Kind). resolve_line kind (answers kind Lower) (answers kind Upper) in
+      let last_text = λ (kind : Kind). (last_texts s.last_times (answers kind Lower) kind).0 in
+      let recovery_text = λ (kind : Kind). (recovery_texts (is_some s.recovery) refl (answers kind Lower) (answers kind Upper) kind).0 in (
+        numbers_line (codes "moment") (p.time ∷ [])
+            ++ (alerts.0 ++ (of_each band_text ++ (of_each answer_text ++ (of_each last_text ++ (of_each recovery_text ++ numbers_line (codes "done") (p.time ∷ [])))))),
         record {
           alerts = alerts.0;
-          bands = band_text;
-          lower = lower;
-          upper = upper;
+          bands = λ kind. (bands kind).one;
+          answers = answers;
           lasts = last_text;
           recoveries = recovery_text;
           alerts_are = alerts.1;
-          bands_are = λ kind. ((bands kind).one, (bands kind).is, refl);
-          resolutions_are = λ kind. record { lower_is = (resolution kind Lower).is; upper_is = (resolution kind Upper).is };
-          lasts_are = λ kind. (last_texts kind (lower kind)).1;
-          recoveries_are = λ kind. (recovery_texts kind (lower kind) (upper kind)).1;
+          bands_are = λ kind. (bands kind).is;
+          answers_are = λ kind side. (resolution kind side).is;
+          lasts_are = λ kind. (last_texts s.last_times (answers kind Lower) kind).1;
+          recoveries_are = λ kind. (recovery_texts (is_some s.recovery) refl (answers kind Lower) (answers kind Upper) kind).1;
           text_is = refl;
         },
       )

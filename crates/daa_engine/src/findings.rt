@@ -6,7 +6,7 @@ ghost use Rattle.daa_bands.specs.Board.{HasLevelOn};
 ghost use Rattle.daa_state.specs.InRange.{IsPictureInRange};
 ghost use Rattle.daa_engine.specs.Inside.Findings.{IsLastFound, IsRecoveryFound};
 ghost use Rattle.daa_engine.specs.Inside.Findings.{IsFinding, AreFindings};
-ghost use Rattle.daa_engine.specs.MomentText.{are_nothing, is_keep, found_of};
+ghost use Rattle.daa_engine.specs.Inside.Findings.{are_nothing, is_keep, found_of};
 
 use daa_bands::Board;
 use daa_config::{Config, Kind, Resolution};

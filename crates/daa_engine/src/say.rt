@@ -1,14 +1,12 @@
 //! Writes what was found of a moment. To say a line is to hold it back until there is no room for
 //! one more, or the text ends.
 
-ghost use Rattle.std.specs.Prelude.{◌≡◌, length};
+ghost use Rattle.std.specs.Prelude.{◌≡◌, ◌++◌, [], ◌∷◌, length, codes};
 ghost use Rattle.daa_state.specs.Picture.{aircraft_of};
 ghost use Rattle.daa_report.specs.Says.{Says};
 ghost use Rattle.daa_report.specs.Held.{SaysOrHolds};
-ghost use Rattle.daa_report.specs.Lines.{moment_line, now_line, alert_line};
-ghost use Rattle.daa_report.specs.Lines.{resolve_line, done_line};
-ghost use Rattle.daa_engine.specs.MomentText.{line_of};
-ghost use Rattle.daa_engine.specs.Inside.Written.{aircraft_text, alerts_text, bands_text};
+ghost use Rattle.daa_report.specs.Lines.{numbers_line, alert_line, resolve_line};
+ghost use Rattle.daa_engine.specs.Inside.Written.{aircraft_text, alerts_text, line_of, bands_text};
 ghost use Rattle.daa_engine.specs.Inside.Written.{last_text, recovery_text, kind_text};
 ghost use Rattle.daa_engine.specs.Inside.Written.{kinds_text, written};
 
@@ -29,7 +27,7 @@ fn say_now<K: Sink>(
 ) -> Result<(), SinkFault>
     ensures { SaysOrHolds (K.taken sink.old) (K.taken sink.new) held.old held.new
         (K.faults sink.old) (K.faults sink.new)
-        (now_line aircraft.now.id found.now.level_now) result }
+        (numbers_line (codes "now " ++ aircraft.now.id) (found.now.level_now ∷ [])) result }
 {
     held.say(sink, &Line::now(&aircraft.id, found.level_now))
 }
@@ -241,7 +239,8 @@ fn say_kinds<K: Sink>(
 /// Says the line that begins a moment.
 fn say_head<K: Sink>(held: &mut HeldLines, sink: &mut K, picture: &Picture) -> Result<(), SinkFault>
     ensures { SaysOrHolds (K.taken sink.old) (K.taken sink.new) held.old held.new
-        (K.faults sink.old) (K.faults sink.new) (moment_line picture.now.time) result }
+        (K.faults sink.old) (K.faults sink.new)
+        (numbers_line (codes "moment") (picture.now.time ∷ [])) result }
 {
     held.say(sink, &Line::moment(picture.time))
 }
@@ -249,7 +248,8 @@ fn say_head<K: Sink>(held: &mut HeldLines, sink: &mut K, picture: &Picture) -> R
 /// Says the line that ends a moment.
 fn say_foot<K: Sink>(held: &mut HeldLines, sink: &mut K, picture: &Picture) -> Result<(), SinkFault>
     ensures { SaysOrHolds (K.taken sink.old) (K.taken sink.new) held.old held.new
-        (K.faults sink.old) (K.faults sink.new) (done_line picture.now.time) result }
+        (K.faults sink.old) (K.faults sink.new)
+        (numbers_line (codes "done") (picture.now.time ∷ [])) result }
 {
     held.say(sink, &Line::done(picture.time))
 }

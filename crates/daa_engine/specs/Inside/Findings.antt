@@ -1,7 +1,9 @@
 -- What is found of a moment before it is written.
-use Rattle.std.specs.Prelude.{◌≡◌, ◌<◌, ℕ, false, IsTrue, List, length, slice_index_or, Option, Some, None, option_map, ℤ}
+use Rattle.std.specs.Prelude.{◌≡◌, ◌<◌, ℕ, ℤ, Bool, true, false, not, ◌&&◌, IsTrue}
+use Rattle.std.specs.Prelude.{List, length, slice_index_or, Option, Some, None, option_map, is_some}
 use Rattle.daa_config.specs.Settings.{Settings}
 use Rattle.daa_config.specs.declared.candidate.Resolution.{Resolution}
+use Rattle.daa_config.specs.declared.candidate.Resolution.TheVariants.{Keep, Nothing}
 use Rattle.daa_config.specs.declared.kind.Kind.{Kind}
 use Rattle.daa_config.specs.declared.kind.Kind.TheVariants.{Track, Speed, Climb, Height}
 use Rattle.daa_state.specs.declared.word.Own.{Own}
@@ -16,7 +18,6 @@ use Rattle.daa_engine.specs.declared.findings.Findings.{Findings}
 use Rattle.daa_last.specs.Last.{IsLastTime}
 use Rattle.daa_recovery.specs.Recovery.{IsRecovery}
 use Rattle.daa_recovery.specs.declared.recovery.Recovery.{Recovery}
-use Rattle.daa_engine.specs.MomentText.{wants_last, wants_recovery, found_of}
 use Rattle.daa_state.specs.declared.word.Picture.{Picture}
 
 -- the level now and the alert are those of the aircraft
@@ -35,6 +36,28 @@ finding_of findings Track = findings.track
 finding_of findings Speed = findings.speed
 finding_of findings Climb = findings.climb
 finding_of findings Height = findings.height
+
+-- the present flight may be kept
+abbrev pub is_keep : Resolution → Bool
+is_keep Keep = true
+is_keep _ = false
+
+-- neither side of a kind has an answer
+abbrev pub are_nothing : Resolution → Resolution → Bool
+are_nothing Nothing Nothing = true
+are_nothing _ _ = false
+
+-- a kind has a line of its last time: the configuration asks for it, and the present flight may not be kept
+abbrev pub wants_last : Settings → Resolution → Bool
+wants_last settings answer = settings.last_times && not (is_keep answer)
+
+-- a kind has a line of its recovery: the configuration asks for it, and neither side has an answer
+abbrev pub wants_recovery : Settings → Resolution → Resolution → Bool
+wants_recovery settings lower upper = is_some settings.recovery && are_nothing lower upper
+
+-- the numbers on the line of a recovery: after how many seconds, and the value
+abbrev pub found_of : Recovery → ℕ × ℤ
+found_of r = (r.after, r.value)
 
 -- this is what the line of the last time of a kind with this answer says, where it has one
 abbrev pub IsLastFound : Settings → Picture → Kind → Resolution → Option (Option ℕ) → Type 0

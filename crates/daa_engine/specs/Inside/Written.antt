@@ -1,5 +1,5 @@
 -- The text of a moment as a function of what was found of it.
-use Rattle.std.specs.Prelude.{ℕ, ℤ, List, [], ◌++◌, Option, Some, None}
+use Rattle.std.specs.Prelude.{ℕ, ℤ, List, [], ◌∷◌, ◌++◌, Option, Some, None, codes}
 use Rattle.std.specs.List.{flat_map, zip}
 use Rattle.daa_config.specs.Settings.{Settings}
 use Rattle.daa_config.specs.declared.kind.Kind.{Kind}
@@ -7,8 +7,9 @@ use Rattle.daa_state.specs.Picture.{aircraft_of}
 use Rattle.daa_state.specs.declared.word.Picture.{Picture}
 use Rattle.daa_state.specs.declared.word.Traffic.{Traffic}
 use Rattle.daa_bands.specs.Walk.{bands_left}
-use Rattle.daa_report.specs.Lines.{Text, moment_line, now_line, alert_line, resolve_line, last_line, recover_line, done_line}
-use Rattle.daa_engine.specs.MomentText.{of_each, line_of}
+use Rattle.daa_bands.specs.declared.band.Band.{Band}
+use Rattle.daa_report.specs.Lines.{Text, numbers_line, alert_line, band_line, resolve_line, last_line, recover_line}
+use Rattle.daa_engine.specs.MomentText.{of_each}
 use Rattle.daa_engine.specs.declared.alerts.AircraftAlert.{AircraftAlert}
 use Rattle.daa_engine.specs.declared.findings.Finding.{Finding}
 use Rattle.daa_engine.specs.declared.findings.Findings.{Findings}
@@ -18,11 +19,15 @@ use Rattle.daa_engine.specs.Inside.Findings.{finding_of}
 
 -- the two lines of an aircraft
 unfoldable pub aircraft_text : Traffic × AircraftAlert → Text
-aircraft_text pair = now_line pair.0.id pair.1.level_now ++ alert_line pair.0.id pair.1.alert.level pair.1.alert.first
+aircraft_text pair = numbers_line (codes "now " ++ pair.0.id) (pair.1.level_now ∷ []) ++ alert_line pair.0.id pair.1.alert.level pair.1.alert.first
 
 -- the two lines of each aircraft, in the order of the input
 unfoldable pub alerts_text : List Traffic → List AircraftAlert → Text
 alerts_text traffic alerts = flat_map aircraft_text (zip traffic alerts)
+
+-- the line of a band of a kind
+abbrev pub line_of : Kind → Band → Text
+line_of kind = λ band. band_line kind band.from band.upto band.level
 
 -- the lines of the bands that a board shows
 unfoldable pub bands_text : Settings → List ℕ → Kind → Text
@@ -52,8 +57,9 @@ kinds_text settings board part findings = of_each (λ kind. kind_text settings b
 -- the text of a moment, line by line
 unfoldable pub written : Settings → Picture → List ℕ → List AircraftAlert → Findings → Text
 written settings picture board alerts findings =
-    moment_line picture.time
+    numbers_line (codes "moment") (picture.time ∷ [])
     ++ (alerts_text (aircraft_of picture) alerts
     ++ (kinds_text settings board Bands findings
     ++ (kinds_text settings board Resolutions findings
-    ++ (kinds_text settings board LastTimes findings ++ (kinds_text settings board Recoveries findings ++ done_line picture.time)))))
+    ++ (kinds_text settings board LastTimes findings
+    ++ (kinds_text settings board Recoveries findings ++ numbers_line (codes "done") (picture.time ∷ []))))))

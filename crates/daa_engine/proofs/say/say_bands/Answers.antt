@@ -3,8 +3,7 @@ use Rattle.std.specs.List.{flat_map}
 use Rattle.std.proofs.lemmas.List.{append-nil}
 use Rattle.daa_bands.specs.declared.band.Band.{Band}
 use Rattle.daa_bands.specs.Walk.{bands_left}
-use Rattle.daa_engine.specs.MomentText.{line_of}
-use Rattle.daa_engine.specs.Inside.Written.{bands_text}
+use Rattle.daa_engine.specs.Inside.Written.{line_of, bands_text}
 use Rattle.daa_engine.proofs.LoopLemmas.{bands_split, next_split}
 use Rattle.daa_report.proofs.HeldLemmas.{said_front, said_as, said_more}
 use Rattle.daa_engine.proofs.say.say_bands.Goals as goal
