@@ -41,7 +41,7 @@ module _ (s : Settings) (p : Picture) where
   some_alerts ok in' = let one = one_text s p ok in' in alert_levels (aircraft_of p) one.is.alerts one.is.alerts_are
 
   some_shown : IsAccepted s → IsPictureInRange p → (kind : Kind) → (levels : List ℕ) × HasShown s p kind levels
-  some_shown ok in' kind = let bands = ((one_text s p ok in').is.bands_are kind).1 in (bands.levels, bands.shown)
+  some_shown ok in' kind = let bands = (one_text s p ok in').is.bands_are kind in (bands.levels, bands.shown)
 
   zip_once : (ts : List Traffic) (a b : List ℕ) → AllZip (IsAlertLevel s p.own) ts a → AllZip (IsAlertLevel s p.own) ts b → a ≡ b
   zip_once [] [] [] h k = refl
