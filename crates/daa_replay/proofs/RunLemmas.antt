@@ -1,10 +1,10 @@
 -- What a run leaves, by its status.
-use Rattle.std.proofs.Common.{◌≡◌, ◌≢◌, ◌≤◌, ◌==◌, ℕ, List, Result, Ok, Err, refl, sym, ap, subst, ◌∙◌, arith, inl, inr, if◌then◌else◌}
-use Rattle.std.specs.Prelude.{OnErr, OnOk, Option, length}
+use Rattle.std.proofs.Common.{◌≡◌, ◌≢◌, ◌≤◌, ◌==◌, ℕ, List, [], ◌∷◌, Result, Ok, Err, refl, sym, ap, subst, ◌∙◌, arith, inl, inr, if◌then◌else◌}
+use Rattle.std.specs.Prelude.{OnErr, OnOk, Option, length, codes}
 use Rattle.daa_outside.specs.Shelf.{longest_text}
 use Rattle.daa_config.specs.Settings.{Settings}
 use Rattle.daa_outside.specs.Faults.{HasRisen}
-use Rattle.daa_report.specs.Lines.{Text, config_line, same_line, differs_line}
+use Rattle.daa_report.specs.Lines.{Text, numbers_line}
 use Rattle.daa_report.specs.Says.{Says}
 use Rattle.daa_words.specs.Task.{Task, Replay, Exercise, Judge}
 use Rattle.daa_exercise.specs.Summary.{IsSummaryOf}
@@ -59,7 +59,7 @@ by_work most status settings work known old new e h = subst (λ (t : Work). Leav
 
 -- `same` was written, or the sink failed within it
 pub same_written : {E : Type 0} (settings : Settings) (states : Bytes) (most : ℕ) (old new : Outside) (r : Result (Unit {0}) E) (result : Status)
-    → Judged settings states most found.Alike old.source new.source → Says old.sink.bytes new.sink.bytes old.sink.faults new.sink.faults same_line r
+    → Judged settings states most found.Alike old.source new.source → Says old.sink.bytes new.sink.bytes old.sink.faults new.sink.faults (codes "same\n") r
     → OnOk r (result ≡ Accepted) → OnErr r (result ≡ SinkFault) → Judges settings most states old new result
 same_written settings states most old new (Ok x) result j s whole broken =
     subst (Judges settings most states old new) (sym whole) (record { judged = j; written = record { taken = s.whole; calm = s.cause.steady } })
@@ -68,7 +68,7 @@ same_written settings states most old new (Err x) result j s whole broken =
 
 -- the number of the first line that differs was written, or the sink failed within it
 pub difference_written : {E : Type 0} (settings : Settings) (states : Bytes) (most number : ℕ) (old new : Outside) (r : Result (Unit {0}) E) (result : Status)
-    → Judged settings states most (found.Differs number) old.source new.source → Says old.sink.bytes new.sink.bytes old.sink.faults new.sink.faults (differs_line number) r
+    → Judged settings states most (found.Differs number) old.source new.source → Says old.sink.bytes new.sink.bytes old.sink.faults new.sink.faults (numbers_line (codes "differs") (number ∷ [])) r
     → OnOk r (result ≡ Refused) → OnErr r (result ≡ SinkFault) → Judges settings most states old new result
 difference_written settings states most number old new (Ok x) result j s whole broken =
     subst (Judges settings most states old new) (sym whole) (record { number = number; judged = j; written = record { taken = s.whole; calm = s.cause.steady } })
@@ -205,8 +205,8 @@ module _ (most : ℕ) (words : List Text) (old new : Outside) where
       reason_runs unready.NotTaken result opens tells risen calm =
           line_runs NotTaken usage_line result (calm (λ e. cc)) (inl (opens, refl)) (λ w. record { source = source; text = usage_line; is = (opens, refl); written = w }) tells
       reason_runs (unready.Refused fault) result (code, refused, is) tells risen calm =
-          line_runs BadConfiguration (config_line code) result (calm (λ e. cc)) (inr (inl (code, refused, refl)))
-          (λ w. record { source = source; text = config_line code; is = (code, refused, refl); written = w })
+          line_runs BadConfiguration (numbers_line (codes "config") (code ∷ [])) result (calm (λ e. cc)) (inr (inl (code, refused, refl)))
+          (λ w. record { source = source; text = numbers_line (codes "config") (code ∷ []); is = (code, refused, refl); written = w })
           (subst (λ (o : Option ℕ). WritesCode o old.sink new.sink result) is tells)
       reason_runs unready.StatesLong result opens tells risen calm =
           line_runs StatesLong long_line result (calm (λ e. cc)) (inr (inr (opens, refl))) (λ w. record { source = source; text = long_line; is = (opens, refl); written = w }) tells

@@ -1,6 +1,6 @@
 -- Every picture that an input ends is in range, and so the input has a report.
 use Rattle.std.proofs.Common.{suc, arith, Bool, List, [], ◌∷◌, ◌++◌, refl, subst}
-use Rattle.std.specs.Prelude.{All, IfOk}
+use Rattle.std.specs.Prelude.{All, IfOk, codes}
 use Rattle.std.proofs.lemmas.Result.{IfOk-weaker}
 use Rattle.daa_fixed.specs.One.{HasOne}
 use Rattle.daa_bands.specs.Parts.{SplitsByEach}
@@ -13,7 +13,7 @@ use Rattle.daa_state.specs.WordOf.{word_of}
 use Rattle.daa_state.proofs.CheckedLemmas.{IfOk-with}
 use Rattle.daa_state.proofs.WordRanges.{word_of-range}
 use Rattle.daa_state.proofs.StepRanges.{IsStateInRange, step-range}
-use Rattle.daa_report.specs.Lines.{Text, refused_line}
+use Rattle.daa_report.specs.Lines.{Text, numbers_line}
 use Rattle.daa_engine.proofs.SomeText.{one_text}
 use Rattle.daa_replay.specs.declared.lines.Event.{Event}
 use Rattle.daa_replay.specs.declared.lines.Event.TheVariants as event
@@ -38,7 +38,7 @@ events_in_range bytes ended = each_picture (λ line. Unit {0}) IsStateInRange Is
 
 module _ (settings : Settings) (accepted : IsAccepted settings) where
   some_event_text : (e : Event) → IsEventInRange e → (text : Text) × IsEventText settings e text
-  some_event_text (event.Refused number fault) h = (refused_line number (code_of fault), refl)
+  some_event_text (event.Refused number fault) h = (numbers_line (codes "refused") (number ∷ code_of fault ∷ []), refl)
   some_event_text (event.Ended picture) h = let t = one_text settings picture accepted h in (t.one, t.is)
 
   some_texts : (events : List Event) → All IsEventInRange events → (text : Text) × SplitsByEach (IsEventText settings) events text

@@ -1,9 +1,9 @@
 -- The report of an input.
-use Rattle.std.specs.Prelude.{◌≡◌, ◌++◌, Bool}
+use Rattle.std.specs.Prelude.{◌≡◌, [], ◌∷◌, ◌++◌, Bool, codes}
 use Rattle.daa_config.specs.Settings.{Settings}
 use Rattle.daa_lines.specs.LinesOf.{Bytes}
 use Rattle.daa_state.specs.Fault.{code_of}
-use Rattle.daa_report.specs.Lines.{Text, refused_line}
+use Rattle.daa_report.specs.Lines.{Text, numbers_line}
 use Rattle.daa_bands.specs.Parts.{SplitsByEach}
 use Rattle.daa_engine.specs.MomentText.{IsMomentText}
 use Rattle.daa_replay.specs.declared.lines.Event.{Event}
@@ -13,7 +13,7 @@ use Rattle.daa_replay.specs.Lines.{events_of}
 module _ (settings : Settings) where
   -- the text of an event: one line for a refusal, the moment's lines for an ended moment
   abbrev pub IsEventText : Event → Text → Type 0
-  IsEventText (event.Refused number fault) text = text ≡ refused_line number (code_of fault)
+  IsEventText (event.Refused number fault) text = text ≡ numbers_line (codes "refused") (number ∷ code_of fault ∷ [])
   IsEventText (event.Ended picture) text = IsMomentText settings picture text
 
   -- the report of the bytes, which are the whole input where it has ended, and else its beginning:

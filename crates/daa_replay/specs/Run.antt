@@ -1,9 +1,9 @@
 -- What a run of the program leaves at its shelf, its source and its sink, by its status.
-use Rattle.std.specs.Prelude.{ℕ, ◌≡◌, ◌≢◌, ◌≤◌, ◌⊎◌, List, Option, Some, None}
+use Rattle.std.specs.Prelude.{ℕ, ◌≡◌, ◌≢◌, ◌≤◌, ◌⊎◌, List, [], ◌∷◌, Option, Some, None, codes}
 use Rattle.daa_outside.specs.Faults.{HasRisen}
 use Rattle.daa_outside.specs.Shelf.{Texts}
 use Rattle.daa_config.specs.Settings.{Settings}
-use Rattle.daa_report.specs.Lines.{Text, config_line}
+use Rattle.daa_report.specs.Lines.{Text, numbers_line}
 use Rattle.daa_words.specs.Order.{Asked, order_of}
 use Rattle.daa_words.specs.Task.{Task}
 use Rattle.daa_replay.specs.Outside.{Outside, OnlyWrites, OnlyBegins}
@@ -25,7 +25,7 @@ IsUsage words line = (order_of words ≡ None) × (line ≡ usage_line)
 
 -- the line in place of a report has the code of the configuration, which is refused
 abbrev pub IsCode : List Text → Option Texts → Text → Type 0
-IsCode words texts line = (code : ℕ) × IsRefused words texts code × (line ≡ config_line code)
+IsCode words texts line = (code : ℕ) × IsRefused words texts code × (line ≡ numbers_line (codes "config") (code ∷ []))
 
 -- the line in place of a report is `states long`: the states are too long
 abbrev pub IsLong : List Text → Option Texts → Text → Type 0

@@ -1,8 +1,8 @@
 //! Writes the text of an event: a line of a refusal, or the lines of an ended moment.
 
-ghost use Rattle.std.specs.Prelude.{◌≡◌, ◌≤◌, length};
+ghost use Rattle.std.specs.Prelude.{◌≡◌, ◌≤◌, [], ◌∷◌, length, codes};
 ghost use Rattle.daa_engine.specs.Longest.{longest_moment};
-ghost use Rattle.daa_report.specs.Lines.{Text, refused_line};
+ghost use Rattle.daa_report.specs.Lines.{Text, numbers_line};
 ghost use Rattle.daa_replay.specs.Lines.{IsEventInRange};
 ghost use Rattle.daa_report.specs.Says.{Says, SaysSome};
 ghost use Rattle.daa_replay.specs.Moment.{IsEventText};
@@ -25,8 +25,8 @@ pub(crate) struct Context<'a, R, G> {
 /// Writes the line of a refusal.
 pub(crate) fn write_refusal<K: Sink>(sink: &mut K, number: u64, code: u8) -> Result<(), SinkFault>
     ensures says { Says (K.taken sink.old) (K.taken sink.new) (K.faults sink.old)
-        (K.faults sink.new) (refused_line number code) result }
-    ensures short { length (refused_line number code) ≤ 64 }
+        (K.faults sink.new) (numbers_line (codes "refused") (number ∷ code ∷ [])) result }
+    ensures short { length (numbers_line (codes "refused") (number ∷ code ∷ [])) ≤ 64 }
 {
     let line = Line::refused(number, code);
     put(sink, line.as_bytes())

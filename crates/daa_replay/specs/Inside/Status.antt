@@ -1,10 +1,10 @@
 -- The status of a run, and what is left where a run without a configuration says why.
-use Rattle.std.specs.Prelude.{ℕ, Option, None, Some, ◌≡◌, ◌≤◌, ◌⊎◌}
+use Rattle.std.specs.Prelude.{ℕ, Option, None, Some, ◌≡◌, ◌≤◌, ◌⊎◌, [], ◌∷◌, codes}
 use Rattle.daa_replay.specs.declared.status.Status.{Status}
 use Rattle.daa_replay.specs.declared.status.Status.TheVariants.{Accepted, Refused, NotTaken, BadConfiguration, SourceFault, SinkFault, NoMemory, ShelfFault, Limit, StatesLong}
 use Rattle.daa_config.specs.Fault as config
 use Rattle.daa_outside.specs.Faults.{HasRisen}
-use Rattle.daa_report.specs.Lines.{Text, config_line}
+use Rattle.daa_report.specs.Lines.{Text, numbers_line}
 use Rattle.daa_report.specs.Says.{AppendsFront}
 use Rattle.daa_replay.specs.declared.opening.Unready.{Unready}
 use Rattle.daa_replay.specs.declared.opening.Unready.TheVariants as unready
@@ -42,7 +42,7 @@ WritesLine said old new text result =
 abbrev pub WritesCode : Option ℕ → StreamState → StreamState → Status → Type 0
 WritesCode None old new result = (result ≡ status.NoMemory) × (new ≡ old)
 WritesCode (Some code) old new result =
-    WritesLine status.BadConfiguration old new (config_line code) result
+    WritesLine status.BadConfiguration old new (numbers_line (codes "config") (code ∷ [])) result
 
 -- what is written where a run could not be made ready, and its status
 abbrev pub WritesReason : Unready → StreamState → StreamState → Status → Type 0
