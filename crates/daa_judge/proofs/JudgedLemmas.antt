@@ -1,34 +1,20 @@
 -- Fronts that two runs of bytes have in common, and lines.
-use Rattle.std.proofs.Common.{◌≡◌, ◌≢◌, ◌≤◌, ◌+◌, ◌++◌, ◌==◌, ◌∙◌, ℕ, Bool, true, false, [], ◌∷◌, length, drop, refl, sym, ap, arith, eq-eqb, append-nil}
+use Rattle.std.proofs.Common.{◌≡◌, ◌≢◌, ◌≤◌, ◌+◌, ◌++◌, ◌==◌, ◌∙◌, ℕ, true, false, [], ◌∷◌, length, drop, refl, sym, ap, arith, cond, eq-eqb, append-nil}
 use Rattle.std.specs.Prelude.{slice_index}
 use Rattle.std.proofs.lemmas.Bool.Decides.{nat_tests}
+use Rattle.std.proofs.lemmas.List.Sums.{sum_by-append, count_by-le-length}
 use Rattle.daa_ahead.specs.Bytes.{Bytes}
-use Rattle.daa_judge.specs.Judged.{common_front, line_feeds, Differs}
+use Rattle.daa_judge.specs.Judged.{common_front, Differs}
+use Rattle.daa_judge.specs.Matching.{line_feeds}
 
 -- ---- line ends
 
-first_byte : (x : ℕ) (xs : Bytes) → line_feeds (x ∷ xs) ≡ line_feeds (x ∷ []) + line_feeds xs
-first_byte x xs = go (x == 10) refl
-  where
-    go : (b : Bool) → (x == 10) ≡ b → line_feeds (x ∷ xs) ≡ line_feeds (x ∷ []) + line_feeds xs
-    go true e = rw e (omega arith)
-    go false e = rw e (omega arith)
-
-at_most_one : (x : ℕ) → line_feeds (x ∷ []) ≤ 1
-at_most_one x = go (x == 10) refl
-  where
-    go : (b : Bool) → (x == 10) ≡ b → line_feeds (x ∷ []) ≤ 1
-    go true e = rw e (omega arith)
-    go false e = rw e (omega arith)
-
 pub feeds-append : (xs ys : Bytes) → line_feeds (xs ++ ys) ≡ line_feeds xs + line_feeds ys
-feeds-append [] ys = omega arith
-feeds-append (x ∷ xs) ys = omega (arith, first_byte x (xs ++ ys), first_byte x xs, feeds-append xs ys)
+feeds-append xs ys = sum_by-append (λ (byte : ℕ). cond (byte == 10) 1 0) xs ys
 
 -- no more lines end in bytes than there are bytes
 pub feeds-few : (xs : Bytes) → line_feeds xs ≤ length xs
-feeds-few [] = omega arith
-feeds-few (x ∷ xs) = omega (arith, first_byte x xs, at_most_one x, feeds-few xs)
+feeds-few xs = count_by-le-length (λ (byte : ℕ). byte == 10) xs
 
 -- ---- where two runs of bytes part
 

@@ -12,10 +12,10 @@ use Rattle.daa_ahead.proofs.Handing.{last_after}
 use Rattle.std.proofs.lemmas.Bool.{false≢true}
 use Rattle.std.proofs.Math.Seq.{take-add}
 use Rattle.daa_judge.specs.declared.found.Found.TheVariants as found
-use Rattle.daa_judge.specs.Judged.{line_feeds, longest_read, Differs}
+use Rattle.daa_judge.specs.Judged.{Differs}
 use Rattle.daa_judge.specs.Found.{Finds, ShowsDifference}
-use Rattle.daa_judge.specs.Matching.{IsMatched, Compares}
-use Rattle.daa_judge.specs.Inside.Stepping.{found_at, Took}
+use Rattle.daa_judge.specs.Matching.{line_feeds, IsMatched, Compares}
+use Rattle.daa_judge.specs.Inside.Stepping.{found_at, longest_read, Took}
 use Rattle.daa_judge.specs.declared.found.Found.{Found}
 use Rattle.daa_judge.specs.declared.matching.Matching.{Matching}
 use Rattle.daa_judge.proofs.JudgedLemmas.{Parted, parts, feeds-append}
@@ -52,7 +52,8 @@ module _ (most : ℕ) (first m now : StreamState) (before : Bytes) (old : Matchi
   parted piece text rest n few r all lt other same apart =
       let front = before ++ take n piece in
       record {
-        bytes = before ++ piece;
+        front = before;
+        last = piece;
         handed = record {
           handed = Consumes-trans first.bytes m.bytes now.bytes before piece h.handed (subst (Consumes m.bytes now.bytes) all r.handed);
           bound = omega (arith, h.size, r.bound, length-append before piece);
@@ -65,7 +66,8 @@ module _ (most : ℕ) (first m now : StreamState) (before : Bytes) (old : Matchi
             (by_front before piece further n)
             (sym (append_assoc before text rest) ∙ by_front before text rest n ∙ ap (λ (l : Bytes). (before ++ l) ++ (drop n text ++ rest)) (sym same))
             (apart_there further));
-        stops = record { front = before; last = piece; bytes_are = refl; begins = (text ++ rest, refl); one_read = few };
+        begins = (text ++ rest, refl);
+        one_read = few;
         calm = r.calm ∙ h.calm;
       }
     where
@@ -85,28 +87,31 @@ module _ (most : ℕ) (first m now : StreamState) (before : Bytes) (old : Matchi
   over End (y ∷ text) rest some r =
       let last = last_after End most old.left first m now before h.size h.handed h.calm r in
       record {
-        bytes = before;
-        handed = record { handed = last.handed; bound = omega (arith, h.size) };
+        front = before;
+        last = [];
+        handed = record { handed = subst (Consumes first.bytes now.bytes) (sym (append-nil before)) last.handed; bound = omega (arith, h.size, length-append before []) };
         ended = true;
         over = λ e. last.over;
-        differs = λ further e. subst (λ (k : ℕ). Differs (before ++ ((y ∷ text) ++ rest)) k (before ++ further)) (sym h.line)
-            (parts before further ((y ∷ text) ++ rest) (before ++ ((y ∷ text) ++ rest)) (before ++ further) refl refl
+        differs = λ further e. subst (λ (k : ℕ). Differs (before ++ ((y ∷ text) ++ rest)) k ((before ++ []) ++ further)) (sym h.line)
+            (parts before further ((y ∷ text) ++ rest) (before ++ ((y ∷ text) ++ rest)) ((before ++ []) ++ further) (ap (λ (l : Bytes). l ++ further) (append-nil before)) refl
             (subst (λ (l : Bytes). Parted l ((y ∷ text) ++ rest)) (sym (e refl)) tt));
-        stops = record { front = before; last = []; bytes_are = sym (append-nil before); begins = ((y ∷ text) ++ rest, refl); one_read = omega arith };
+        begins = ((y ∷ text) ++ rest, refl);
+        one_read = omega arith;
         calm = last.calm;
       }
   over Fault text rest some r =
       let last = last_after Fault most old.left first m now before h.size h.handed h.calm r in
-      record { bytes = before; handed = record { handed = last.handed; bound = omega (arith, h.size) }; begins = (text ++ rest, refl); risen = last.risen }
+      (before, last, omega (arith, h.size), (text ++ rest, refl))
   over Limit text rest some r =
       let last = last_after Limit most old.left first m now before h.size h.handed h.calm r in
-      record { bytes = before; next = last.next; size = last.full; handed = last.handed; begins = (text ++ rest, refl); calm = last.calm }
+      (before, last, (text ++ rest, refl))
   over Stopped text rest some r = absurd r
 
   -- the report is over, and a byte more was read
   pub beyond : (count : ℕ) (buf : Bytes) → count ≤ length buf → length buf ≤ longest_read → ReadsMore count old.left buf m now → ShowsDifference before most old.line first now
   beyond count buf in' few r = record {
-    bytes = before ++ take count buf;
+    front = before;
+    last = take count buf;
     handed = record {
       handed = Consumes-trans first.bytes m.bytes now.bytes before (take count buf) h.handed r.handed;
       bound = omega (arith, h.size, r.bound, length-append before (take count buf), length-take count buf);
@@ -116,13 +121,8 @@ module _ (most : ℕ) (first m now : StreamState) (before : Bytes) (old : Matchi
     differs = λ further e. subst (λ (k : ℕ). Differs before k ((before ++ take count buf) ++ further)) (sym h.line)
         (parts before (take count buf ++ further) [] before ((before ++ take count buf) ++ further) (append_assoc before (take count buf) further) (sym (append-nil before))
         (some_more (take count buf) further (omega (arith, r.some, length-take count buf))));
-    stops = record {
-      front = before;
-      last = take count buf;
-      bytes_are = refl;
-      begins = ([], sym (append-nil before));
-      one_read = omega (arith, length-take count buf, in', few);
-    };
+    begins = ([], sym (append-nil before));
+    one_read = omega (arith, length-take count buf, in', few);
     calm = r.calm ∙ h.calm;
   }
     where
@@ -134,17 +134,17 @@ module _ (most : ℕ) (first m now : StreamState) (before : Bytes) (old : Matchi
   pub same : ReadsLast End old.left m now [] → Finds before most found.Alike first now
   same r =
       let last = last_after End most old.left first m now before h.size h.handed h.calm r in
-      record { handed = record { handed = last.handed; bound = omega (arith, h.size) }; over = last.over; calm = last.calm }
+      (last, omega (arith, h.size))
 
   pub fails : ReadsLast Fault old.left m now [] → Finds before most found.Fault first now
   fails r =
       let last = last_after Fault most old.left first m now before h.size h.handed h.calm r in
-      record { bytes = before; handed = record { handed = last.handed; bound = omega (arith, h.size) }; begins = ([], sym (append-nil before)); risen = last.risen }
+      (before, last, omega (arith, h.size), ([], sym (append-nil before)))
 
   pub passes : ReadsLast Limit old.left m now [] → Finds before most found.Limit first now
   passes r =
       let last = last_after Limit most old.left first m now before h.size h.handed h.calm r in
-      record { bytes = before; next = last.next; size = last.full; handed = last.handed; begins = ([], sym (append-nil before)); calm = last.calm }
+      (before, last, ([], sym (append-nil before)))
 
 -- ---- by the functions
 

@@ -1,12 +1,15 @@
 -- How far a report was compared with what a source hands out.
-use Rattle.std.specs.Prelude.{ℕ, ◌≡◌, ◌≤◌, ◌+◌, ◌^◌, ◌++◌, length}
+use Rattle.std.specs.Prelude.{ℕ, ◌≡◌, ◌≤◌, ◌+◌, ◌^◌, ◌++◌, ◌==◌, length, count_by}
 use Rattle.std.specs.Io.KnownBytes.{Consumes}
 use Rattle.daa_ahead.specs.Bytes.{Bytes, StreamState}
-use Rattle.daa_judge.specs.Judged.{line_feeds}
 use Rattle.daa_judge.specs.Found.{Finds}
 use Rattle.daa_judge.specs.declared.found.Found.{Found}
 use Rattle.daa_judge.specs.declared.found.Found.TheVariants as found
 use Rattle.daa_judge.specs.declared.matching.Matching.{Matching}
+
+-- how many lines end in these bytes
+abbrev pub line_feeds : Bytes → ℕ
+line_feeds bytes = count_by (λ byte. byte == 10) bytes
 
 -- since a first state the source handed out this text and nothing else
 pub record IsMatched (most : ℕ) (first : StreamState) (text : Bytes) (m : Matching)

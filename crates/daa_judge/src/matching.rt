@@ -4,9 +4,8 @@ ghost use Rattle.std.specs.Prelude.{◌≡◌, ◌≤◌, ◌<◌, ◌^◌, [], 
 ghost use Rattle.daa_ahead.specs.Bytes.{Bytes, StreamState, stream_state};
 ghost use Rattle.daa_ahead.specs.Next.{ReadsMore};
 ghost use Rattle.daa_judge.specs.Found.{Finds};
-ghost use Rattle.daa_judge.specs.Judged.{longest_read};
 ghost use Rattle.daa_judge.specs.Matching.{Compares, HasRoom, IsMatched};
-ghost use Rattle.daa_judge.specs.Inside.Stepping.{Steps, found_at};
+ghost use Rattle.daa_judge.specs.Inside.Stepping.{Steps, found_at, longest_read};
 
 use crate::found::Found;
 use crate::pieces::{common, line_feeds};

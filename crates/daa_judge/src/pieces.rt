@@ -1,7 +1,7 @@
 //! Two pieces of bytes beside each other.
 
 ghost use Rattle.std.specs.Prelude.{◌≡◌, ◌≢◌, ◌<◌, ◌≤◌, ◌∷◌, [], length, take, slice_index};
-ghost use Rattle.daa_judge.specs.Judged as spec;
+ghost use Rattle.daa_judge.specs.Matching as spec;
 
 /// How many bytes at their fronts two pieces have in common.
 pub(crate) fn common(piece: &[u8], other: &[u8]) -> usize

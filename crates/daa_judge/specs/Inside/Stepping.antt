@@ -11,6 +11,10 @@ use Rattle.daa_judge.specs.declared.matching.Matching.{Matching}
 use Rattle.daa_judge.specs.declared.matching.Step.{Step}
 use Rattle.daa_judge.specs.declared.matching.Step.TheVariants as step
 
+-- how many bytes one read gives at most
+abbrev pub longest_read : ℕ
+longest_read = 4096
+
 -- what the end of reading says of a report of which more was wanted; the next byte is in this line
 abbrev pub found_at : Ended → ℕ → Found
 found_at End line = found.Differs line

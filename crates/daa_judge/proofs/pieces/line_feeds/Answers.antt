@@ -1,6 +1,6 @@
 use Rattle.std.proofs.Common.{◌∷◌, [], ap, arith, take, get_or}
 use Rattle.std.proofs.lemmas.List.{take_more}
-use Rattle.daa_judge.specs.Judged.{line_feeds}
+use Rattle.daa_judge.specs.Matching.{line_feeds}
 use Rattle.daa_judge.proofs.JudgedLemmas.{feeds-append}
 use Rattle.daa_judge.proofs.pieces.line_feeds.Goals as goal
 

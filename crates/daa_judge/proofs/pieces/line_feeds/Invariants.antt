@@ -1,5 +1,5 @@
 use Rattle.std.proofs.Common.{◌≡◌, ◌≤◌, take}
-use Rattle.daa_judge.specs.Judged as spec
+use Rattle.daa_judge.specs.Matching as spec
 use Rattle.daa_judge.proofs.pieces.line_feeds.Given as goal
 
 abbrev pub invariant-loop-byte : goal.invariant-loop-byte
