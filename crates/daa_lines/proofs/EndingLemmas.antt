@@ -1,5 +1,5 @@
 -- How the end of the input keeps which bytes went in and which lines came out.
-use Rattle.std.proofs.Common.{◌≡◌, ◌≤◌, ℕ, Bool, true, false, List, [], ◌∷◌, ◌++◌, length, refl, sym, ap, ap₂, ◌∙◌, arith, append-nil, nat_le, nat_lt, subst, if◌then◌else◌}
+use Rattle.std.proofs.Common.{◌≡◌, ◌≤◌, ℕ, Bool, true, false, List, [], ◌∷◌, ◌++◌, length, refl, sym, ap, ap₂, ◌∙◌, arith, append-nil, nat_le, subst, if◌then◌else◌}
 use Rattle.std.proofs.lemmas.Bool.{false≢true}
 use Rattle.std.proofs.lemmas.Bool.Decides.{nat_tests}
 use Rattle.daa_lines.specs.LinesOf.{Bytes, long_length, shown}
@@ -16,12 +16,12 @@ use Rattle.daa_lines.proofs.ShownLemmas.{short_rest, shown-append, whole_line}
 same_last : (rest : Bytes) → long_length ≤ length rest → last_line true rest ≡ last_line false rest
 same_last rest h =
     let long : nat_le long_length (length rest) ≡ true = grind (arith, nat_tests) in
-    let some : nat_lt 0 (length rest) ≡ true = grind (arith, nat_tests) in
+    let some : nat_le 1 (length rest) ≡ true = grind (arith, nat_tests) in
     rw (long, some) refl
 
 begun_last : (byte : ℕ) (line : Bytes) → last_line true (byte ∷ line) ≡ (byte ∷ line) ∷ []
 begun_last byte line =
-    let some : nat_lt 0 (length (byte ∷ line)) ≡ true = grind (arith, nat_tests) in
+    let some : nat_le 1 (length (byte ∷ line)) ≡ true = grind (arith, nat_tests) in
     rw some refl
 
 ending : (done taken : List Bytes) (rest line : Bytes) (stage : Stage) → IsSized stage line → Lasts (cut_at done rest) taken stage line

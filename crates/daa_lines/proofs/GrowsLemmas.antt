@@ -1,5 +1,5 @@
 -- The lines of a longer stream begin with those of a shorter one.
-use Rattle.std.proofs.Common.{◌≡◌, ◌+◌, ◌==◌, ℕ, Bool, true, false, List, [], ◌∷◌, ◌++◌, length, take, refl, sym, ap, ◌∙◌, arith, nat_lt, append_assoc, length-append, append-nil, inl, inr}
+use Rattle.std.proofs.Common.{◌≡◌, ◌+◌, ◌==◌, ℕ, Bool, true, false, List, [], ◌∷◌, ◌++◌, length, take, refl, sym, ap, ◌∙◌, arith, nat_le, append_assoc, length-append, append-nil, inl, inr}
 use Rattle.std.proofs.lemmas.List.{take-append-le}
 use Rattle.std.proofs.lemmas.Bool.{cases_lt}
 use Rattle.std.proofs.lemmas.Bool.Decides.{nat_tests}
@@ -64,7 +64,7 @@ ending done (b ∷ rest) =
   where
     begun : (done : List Bytes) (b : ℕ) (rest : Bytes) → shown (done ++ last_line true (b ∷ rest)) ≡ shown done ++ take long_length (b ∷ rest) ∷ []
     begun done b rest =
-        let some : nat_lt 0 (length (b ∷ rest)) ≡ true = grind (arith, nat_tests) in
+        let some : nat_le 1 (length (b ∷ rest)) ≡ true = grind (arith, nat_tests) in
         rw some (shown-append done ((b ∷ rest) ∷ []))
 
 -- the lines at the end of the input begin with those before

@@ -1,5 +1,5 @@
 -- The lines of an input. A line ends at a line feed, or with the input, and keeps a carriage return at its end.
-use Rattle.std.specs.Prelude.{ℕ, Bool, true, false, List, [], ◌∷◌, ◌==◌, length, nat_le, nat_lt, map, take, if◌then◌else◌}
+use Rattle.std.specs.Prelude.{ℕ, Bool, List, [], ◌∷◌, ◌==◌, length, nat_le, map, take, if◌then◌else◌}
 use Rattle.std.specs.List.{slice_split}
 
 -- bytes, as numbers
@@ -18,15 +18,11 @@ long_length = 256
 unfoldable pub stretches_of : Bytes → List Bytes
 stretches_of bytes = slice_split (λ byte. byte == line_feed) bytes
 
--- whether the rest is a line: at the end of the input if it is not empty, before it if it is long
-abbrev pub is_line : Bool → Bytes → Bool
-is_line true rest = nat_lt 0 (length rest)
-is_line false rest = nat_le long_length (length rest)
-
--- the stretches that are lines: all but the rest, and the rest where it is one
+-- the stretches that are lines: all but the rest, and the rest at the end of the input if it is not empty, before it if
+-- it is long
 abbrev pub lines_in : Bool → List Bytes → List Bytes
 lines_in ended [] = []
-lines_in ended (rest ∷ []) = if is_line ended rest then rest ∷ [] else []
+lines_in ended (rest ∷ []) = if nat_le (if ended then 1 else long_length) (length rest) then rest ∷ [] else []
 lines_in ended (line ∷ stretches) = line ∷ lines_in ended stretches
 
 -- the lines of the bytes, which are the whole input where it has ended, and else its beginning
