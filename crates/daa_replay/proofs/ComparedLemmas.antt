@@ -2,8 +2,9 @@
 use Rattle.std.proofs.Common.{◌≡◌, ◌≢◌, ◌∙◌, ◌<◌, ◌≤◌, ℕ, zero, suc, Bool, true, false, List, [], ◌∷◌, ◌++◌, Option, None, Some, refl, sym, ap, arith, append_assoc, append-nil, length, length-append, take}
 use Rattle.std.specs.Io.KnownBytes.{Consumes}
 use Rattle.daa_ahead.specs.Bytes.{StreamState, IsSpent}
-use Rattle.daa_judge.specs.Found.{IsSame, ShowsDifference, PassesWithin}
+use Rattle.daa_judge.specs.Found.{Finds, ShowsDifference}
 use Rattle.daa_judge.specs.Judged.{Begins}
+use Rattle.daa_judge.specs.declared.found.Found.TheVariants as found
 use Rattle.daa_lines.specs.LinesOf.{Bytes}
 
 false_not_true : false ≡ true → ⊥
@@ -38,44 +39,44 @@ take_front (x ∷ xs) ys zero e = absurd (omega (arith, e))
 take_front (x ∷ xs) ys (suc n) e = ap (λ (l : Bytes). x ∷ l) (take_front xs ys n (omega (arith, e)))
 
 module _ (report : Bytes) (most : ℕ) (old new : StreamState) (all : Bytes) (told : old.bytes ≡ Some all) where
-  pub same_all : IsSame report most old new → all ≡ report
+  pub same_all : Finds report most found.Alike old new → all ≡ report
   same_all s =
-      let h = handed_all old.bytes new.bytes all report told s.handed.handed in
-      h.all_are ∙ ap (λ (l : Bytes). report ++ l) (h.none s.over) ∙ append-nil report
+      let h = handed_all old.bytes new.bytes all report told s.0.handed in
+      h.all_are ∙ ap (λ (l : Bytes). report ++ l) (h.none s.0.over) ∙ append-nil report
 
-  pub same_short : IsSame report most old new → length all ≤ most
-  same_short s = let e = same_all s in omega (arith, ap length e, s.handed.bound)
+  pub same_short : Finds report most found.Alike old new → length all ≤ most
+  same_short s = let e = same_all s in omega (arith, ap length e, s.1)
 
   pub other_all : (number : ℕ) → ShowsDifference report most number old new → all ≢ report
   other_all number d e =
-      let h = handed_all old.bytes new.bytes all d.bytes told d.handed.handed in
+      let h = handed_all old.bytes new.bytes all (d.front ++ d.last) told d.handed.handed in
       (d.differs h.more (λ t. h.none (d.over t))).other (sym h.all_are ∙ e)
 
   pub other_long : (number : ℕ) → ShowsDifference report most number old new → most < length all → Begins (take most all) report → ⊥
   other_long number d long (rest, begins) = go d.ended refl
     where
-      h : HasLeft old.bytes new.bytes all d.bytes
-      h = handed_all old.bytes new.bytes all d.bytes told d.handed.handed
+      h : HasLeft old.bytes new.bytes all (d.front ++ d.last)
+      h = handed_all old.bytes new.bytes all (d.front ++ d.last) told d.handed.handed
 
       go : (b : Bool) → d.ended ≡ b → ⊥
       go true e =
           let n = ap length (h.none (d.over e)) in
           let b = d.handed.bound in
-          absurd (omega (arith, ap length h.all_are, length-append d.bytes h.more))
+          absurd (omega (arith, ap length h.all_are, length-append (d.front ++ d.last) h.more))
       go false e =
-          let t = take_over d.bytes h.more most d.handed.bound in
-          let r : d.bytes ++ (t.0 ++ rest) ≡ report =
-          sym (append_assoc d.bytes t.0 rest) ∙ ap (λ (l : Bytes). l ++ rest) (sym t.1 ∙ ap (take most) (sym h.all_are)) ∙ sym begins in
+          let t = take_over (d.front ++ d.last) h.more most d.handed.bound in
+          let r : (d.front ++ d.last) ++ (t.0 ++ rest) ≡ report =
+          sym (append_assoc (d.front ++ d.last) t.0 rest) ∙ ap (λ (l : Bytes). l ++ rest) (sym t.1 ∙ ap (take most) (sym h.all_are)) ∙ sym begins in
           (d.differs (t.0 ++ rest) (λ k. absurd (false_not_true (sym e ∙ k)))).other r
 
-  pub passes_long : PassesWithin report most old new → most < length all
+  pub passes_long : Finds report most found.Limit old new → most < length all
   passes_long p =
-      let h = handed_all old.bytes new.bytes all (p.bytes ++ p.next ∷ []) told p.handed in
-      omega (arith, p.size, ap length h.all_are, length-append (p.bytes ++ p.next ∷ []) h.more, length-append p.bytes (p.next ∷ []))
+      let h = handed_all old.bytes new.bytes all (p.0 ++ p.1.next ∷ []) told p.1.handed in
+      omega (arith, p.1.full, ap length h.all_are, length-append (p.0 ++ p.1.next ∷ []) h.more, length-append p.0 (p.1.next ∷ []))
 
-  pub passes_begins : PassesWithin report most old new → Begins (take most all) report
+  pub passes_begins : Finds report most found.Limit old new → Begins (take most all) report
   passes_begins p =
-      let h = handed_all old.bytes new.bytes all (p.bytes ++ p.next ∷ []) told p.handed in
-      let e : take most all ≡ p.bytes =
-      ap (take most) (h.all_are ∙ append_assoc p.bytes (p.next ∷ []) h.more) ∙ take_front p.bytes ((p.next ∷ []) ++ h.more) most p.size in
-      (p.begins.0, p.begins.1 ∙ ap (λ (l : Bytes). l ++ p.begins.0) (sym e))
+      let h = handed_all old.bytes new.bytes all (p.0 ++ p.1.next ∷ []) told p.1.handed in
+      let e : take most all ≡ p.0 =
+      ap (take most) (h.all_are ∙ append_assoc p.0 (p.1.next ∷ []) h.more) ∙ take_front p.0 ((p.1.next ∷ []) ++ h.more) most p.1.full in
+      (p.2.0, p.2.1 ∙ ap (λ (l : Bytes). l ++ p.2.0) (sym e))

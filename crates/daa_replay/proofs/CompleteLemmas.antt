@@ -3,22 +3,25 @@ use Rattle.std.proofs.Common.{◌≡◌, ◌<◌, ◌≤◌, ◌⊎◌, ℕ, Boo
 use Rattle.std.specs.Io.KnownBytes.{Consumes}
 use Rattle.std.specs.Prelude.{IsSomeAnd, take}
 use Rattle.daa_outside.specs.Shelf.{Texts, longest_text}
-use Rattle.daa_judge.specs.declared.found.Found.TheVariants.{Limit}
+use Rattle.daa_judge.specs.declared.found.Found.TheVariants as found
 use Rattle.daa_outside.specs.Faults.{HasRisen}
 use Rattle.daa_ahead.specs.Bytes.{StreamState, IsSpent}
+use Rattle.daa_ahead.specs.Moves.{PassesMost}
 use Rattle.daa_config.specs.ConfigOf.{config_of}
 use Rattle.daa_config.specs.Settings.{Settings}
 use Rattle.daa_lines.specs.LinesOf.{Bytes}
 use Rattle.daa_report.specs.Lines.{Text}
 use Rattle.daa_words.specs.Order.{Asked, order_of}
 use Rattle.daa_words.specs.Task.{Task, Replay, Exercise, Judge}
-use Rattle.daa_replay.specs.Outside.{Outside, OnlyBegins}
-use Rattle.daa_replay.specs.Judge.{WritesSame, WritesDifference, WritesNothing}
-use Rattle.daa_replay.specs.Opening.{IsHeld, IsHeldLong, Opens, OpensLong, IsRefused, HoldsNone, HoldsNoStates}
+use Rattle.daa_replay.specs.Outside.{Outside, TakesSome, OnlyBreaks}
+use Rattle.daa_replay.specs.Judge.{IsSame, IsDifference, WritesNothing}
+use Rattle.daa_replay.specs.Opening.{IsHeld, Opens, OpensLong, IsRefused, HoldsNone, HoldsNoStates}
+use Rattle.daa_replay.specs.Inside.Opening.{IsHeldLong}
 use Rattle.daa_replay.specs.Moment.{IsReportOf}
-use Rattle.daa_replay.specs.Replay.{ReadsAll, PassesLimit}
+use Rattle.daa_replay.specs.Replay.{Reports, ReportsAll}
 use Rattle.daa_replay.specs.Run.{Under, IsLine, Runs, Breaks}
-use Rattle.daa_replay.specs.Tasks.{OfStates, Accepts, Refuses, FailsToRead, FailsToWrite, Exceeds}
+use Rattle.daa_replay.specs.Tasks.{OfStates, Ends}
+use Rattle.daa_replay.specs.declared.status.Status.TheVariants.{Accepted, Refused, SourceFault, SinkFault, Limit}
 use Rattle.daa_replay.specs.Complete.{RunsAreComplete, EndsAsGiven, Decides, IsQuiet, HoldsAccepted, HoldsStates, HoldsLong}
 use Rattle.daa_replay.proofs.ComparedLemmas.{same_all, same_short, other_all, other_long, passes_long, passes_begins}
 
@@ -42,15 +45,16 @@ spent_size (Some xs) (Some ys) all bytes e h s =
     omega (arith, ap length h, ap length same, ap length none, length-append bytes ys)
 
 module _ (settings : Settings) (most : ℕ) (old new : Outside) (all : Bytes) (told : old.source.bytes ≡ Some all) where
-  pub short : (refused : Bool) → ReadsAll settings most old new refused → length all ≤ most
+  pub short : (refused : Bool) → ReportsAll settings most old new refused → length all ≤ most
   short refused r =
-      let size = spent_size old.source.bytes new.source.bytes all r.bytes told r.handed.handed r.over in
-      omega (arith, r.handed.bound)
+      let p = r.reports in
+      let size = spent_size old.source.bytes new.source.bytes all p.bytes told p.read.handed p.read.over in
+      omega (arith, p.bound)
 
-  pub long : PassesLimit settings most old new → most < length all
+  pub long : Reports settings most old new (PassesMost most) false → most < length all
   long p =
-      let size = handed_size old.source.bytes new.source.bytes all (p.bytes ++ p.next ∷ []) told p.handed in
-      omega (arith, p.size, length-append p.bytes (p.next ∷ []))
+      let size = handed_size old.source.bytes new.source.bytes all (p.bytes ++ p.read.next ∷ []) told p.read.handed in
+      omega (arith, p.read.full, length-append p.bytes (p.read.next ∷ []))
 
 -- ---- words are taken or not, a text is held or not, and it is accepted or refused
 
@@ -183,26 +187,39 @@ module _ (most status : ℕ) (words : List Text) (old new : Outside) (r : Runs m
   not_taken_here P n u = not_taken_now words u.opens.asked n u.opens.taken
 
   -- the source failed
-  risen_of : (task : Task) (settings : Settings) → FailsToRead most old new task settings → HasRisen old.source.faults new.source.faults
-  risen_of (Replay ahead) settings f = f.risen
+  risen_of : (task : Task) (settings : Settings) → Ends most old new SourceFault task settings → HasRisen old.source.faults new.source.faults
+  risen_of (Replay ahead) settings f = f.read.risen
   risen_of (Exercise seed moments) settings f = absurd f
-  risen_of (Judge name) settings f = f.so.judged.finds.risen
+  risen_of (Judge name) settings f = f.so.judged.finds.1.risen
 
   read_risen : status ≡ 4 → HasRisen old.source.faults new.source.faults
   read_risen e = let u = r.read_fault e in risen_of u.task u.settings u.so
 
+  -- the sink failed
+  broken_of : (task : Task) (settings : Settings) → Ends most old new SinkFault task settings → HasRisen old.sink.faults new.sink.faults
+  broken_of (Replay ahead) settings f = f.written.risen
+  broken_of (Exercise seed moments) settings f = f.1.risen
+  broken_of (Judge name) settings f = f.so.risen
+
+  write_risen : status ≡ 5 → HasRisen old.sink.faults new.sink.faults
+  write_risen e = go (r.write_fault e)
+    where
+      go : Breaks most words old new → HasRisen old.sink.faults new.sink.faults
+      go (inl l) = l.1.risen
+      go (inr u) = broken_of u.task u.settings u.so
+
   -- the sink failed: while which text
   broken : (G : Type 0) (b : Breaks most words old new) → (order_of words ≡ None → G) → ((code : ℕ) → IsRefused words old.shelf.texts code → G)
-      → (OpensLong words old.shelf.texts → G) → (Left (FailsToWrite most old new) → G) → G
-  broken G b usage code long under = go b.so
+      → (OpensLong words old.shelf.texts → G) → (Left (Ends most old new SinkFault) → G) → G
+  broken G b usage code long under = go b
     where
       of_line : (line : Text) → IsLine words old.shelf.texts line → G
       of_line line (inl u) = usage u.0
       of_line line (inr (inl c)) = code c.0 c.1
       of_line line (inr (inr l)) = long l.0
 
-      go : OnlyBegins (IsLine words old.shelf.texts) old new ⊎ Left (FailsToWrite most old new) → G
-      go (inl l) = of_line l.text l.is
+      go : OnlyBreaks (IsLine words old.shelf.texts) old new ⊎ Left (Ends most old new SinkFault) → G
+      go (inl l) = of_line (l.1.front ++ l.1.unwritten) l.1.is
       go (inr u) = under u
 
   -- the words ask for this task
@@ -212,36 +229,36 @@ module _ (most status : ℕ) (words : List Text) (old new : Outside) (r : Runs m
 
   -- a replay with an accepted configuration
   module _ (ahead : ℕ) (o : HoldsAccepted words old.shelf.texts (Replay ahead)) (q : IsQuiet old new) where
-    by_bytes : (G : Type 0) → ((s : Settings) → ReadsAll s most old new false → status ≡ 0 → G)
-        → ((s : Settings) → ReadsAll s most old new true → status ≡ 1 → G)
+    by_bytes : (G : Type 0) → ((s : Settings) → ReportsAll s most old new false → status ≡ 0 → G)
+        → ((s : Settings) → ReportsAll s most old new true → status ≡ 1 → G)
         → (status ≡ 6 → G)
-        → ((s : Settings) → PassesLimit s most old new → status ≡ 8 → G) → G
+        → ((s : Settings) → Reports s most old new (PassesMost most) false → status ≡ 8 → G) → G
     by_bytes G s0 s1 s6 s8 = by_status status G r.named
-        (λ e. let u = r.accepted e in s0 u.settings (of_task (Replay ahead) o.settings o.opens (Accepts most old new) u) e)
-        (λ e. let u = r.refused e in s1 u.settings (of_task (Replay ahead) o.settings o.opens (Refuses most old new) u) e)
-        (λ e. absurd (not_taken_now words o.opens.asked (r.not_taken e).is.0 o.opens.taken))
-        (λ e. let u = (r.bad_configuration e).is in absurd (open_or_refused words _ o.held _ o.settings u.0 o.told o.opens u.1))
+        (λ e. let u = r.accepted e in s0 u.settings (of_task (Replay ahead) o.settings o.opens (Ends most old new Accepted) u) e)
+        (λ e. let u = r.refused e in s1 u.settings (of_task (Replay ahead) o.settings o.opens (Ends most old new Refused) u) e)
+        (λ e. absurd (not_taken_now words o.opens.asked (r.not_taken e).1.is.0 o.opens.taken))
+        (λ e. let u = (r.bad_configuration e).1.is in absurd (open_or_refused words _ o.held _ o.settings u.0 o.told o.opens u.1))
         (λ e. absurd (q.source (read_risen e)))
-        (λ e. absurd (q.sink (r.write_fault e).risen))
+        (λ e. absurd (q.sink (write_risen e)))
         s6
         (λ e. absurd (q.shelf (r.fetch_fault e).risen))
-        (λ e. let u = r.limit e in s8 u.settings (of_task (Replay ahead) o.settings o.opens (Exceeds most old new) u) e)
-        (λ e. let u = (r.states_long e).is.0 in absurd (no_judge_replay words old.shelf.texts ahead u.name o.settings u.settings o.opens u.opens))
+        (λ e. let u = r.limit e in s8 u.settings (of_task (Replay ahead) o.settings o.opens (Ends most old new Limit) u) e)
+        (λ e. let u = (r.states_long e).1.is.0 in absurd (no_judge_replay words old.shelf.texts ahead u.name o.settings u.settings o.opens u.opens))
 
   -- an exercise with an accepted configuration
   module _ (seed moments : ℕ) (o : HoldsAccepted words old.shelf.texts (Exercise seed moments)) (q : IsQuiet old new) where
     ended : (status ≡ 0) ⊎ (status ≡ 6)
     ended = by_status status _ r.named
         (λ e. inl e)
-        (λ e. absurd (of_task (Exercise seed moments) o.settings o.opens (Refuses most old new) (r.refused e)))
-        (λ e. absurd (not_taken_now words o.opens.asked (r.not_taken e).is.0 o.opens.taken))
-        (λ e. let u = (r.bad_configuration e).is in absurd (open_or_refused words _ o.held _ o.settings u.0 o.told o.opens u.1))
-        (λ e. absurd (of_task (Exercise seed moments) o.settings o.opens (FailsToRead most old new) (r.read_fault e)))
-        (λ e. absurd (q.sink (r.write_fault e).risen))
+        (λ e. absurd (of_task (Exercise seed moments) o.settings o.opens (Ends most old new Refused) (r.refused e)))
+        (λ e. absurd (not_taken_now words o.opens.asked (r.not_taken e).1.is.0 o.opens.taken))
+        (λ e. let u = (r.bad_configuration e).1.is in absurd (open_or_refused words _ o.held _ o.settings u.0 o.told o.opens u.1))
+        (λ e. absurd (of_task (Exercise seed moments) o.settings o.opens (Ends most old new SourceFault) (r.read_fault e)))
+        (λ e. absurd (q.sink (write_risen e)))
         (λ e. inr e)
         (λ e. absurd (q.shelf (r.fetch_fault e).risen))
-        (λ e. absurd (of_task (Exercise seed moments) o.settings o.opens (Exceeds most old new) (r.limit e)))
-        (λ e. let u = (r.states_long e).is.0 in absurd (no_judge_exercise words old.shelf.texts seed moments u.name o.settings u.settings o.opens u.opens))
+        (λ e. absurd (of_task (Exercise seed moments) o.settings o.opens (Ends most old new Limit) (r.limit e)))
+        (λ e. let u = (r.states_long e).1.is.0 in absurd (no_judge_exercise words old.shelf.texts seed moments u.name o.settings u.settings o.opens u.opens))
 
   -- a comparison with states that the shelf holds
   module _ (settings : Settings) (states : Text) (o : HoldsStates words old.shelf.texts settings states) where
@@ -252,36 +269,36 @@ module _ (most status : ℕ) (words : List Text) (old new : Outside) (r : Runs m
         let held = held_same words old.shelf.texts o.held o.opens.name o.opens.name t.states states o.told refl t.held o.opens.held in
         subst (λ (x : Text). P settings x) held (subst (λ (x : Settings). P x t.states) same t.so)
 
-    same_here : status ≡ 0 → WritesSame settings most old new states
+    same_here : status ≡ 0 → TakesSome (IsSame settings most old new states) old.sink new.sink
     same_here e =
         let u = r.accepted e in
-        here (λ s t. WritesSame s most old new t) (Accepts most old new) u
-        (of_task (Judge o.opens.name) settings o.opens.opens (Accepts most old new) u)
+        here (λ s t. TakesSome (IsSame s most old new t) old.sink new.sink) (Ends most old new Accepted) u
+        (of_task (Judge o.opens.name) settings o.opens.opens (Ends most old new Accepted) u)
 
-    other_here : status ≡ 1 → WritesDifference settings most old new states
+    other_here : status ≡ 1 → TakesSome (IsDifference settings most old new states) old.sink new.sink
     other_here e =
         let u = r.refused e in
-        here (λ s t. WritesDifference s most old new t) (Refuses most old new) u
-        (of_task (Judge o.opens.name) settings o.opens.opens (Refuses most old new) u)
+        here (λ s t. TakesSome (IsDifference s most old new t) old.sink new.sink) (Ends most old new Refused) u
+        (of_task (Judge o.opens.name) settings o.opens.opens (Ends most old new Refused) u)
 
-    limit_here : status ≡ 8 → WritesNothing settings most old new Limit states
+    limit_here : status ≡ 8 → WritesNothing settings most old new found.Limit states
     limit_here e =
         let u = r.limit e in
-        here (λ s t. WritesNothing s most old new Limit t) (Exceeds most old new) u
-        (of_task (Judge o.opens.name) settings o.opens.opens (Exceeds most old new) u)
+        here (λ s t. WritesNothing s most old new found.Limit t) (Ends most old new Limit) u
+        (of_task (Judge o.opens.name) settings o.opens.opens (Ends most old new Limit) u)
 
     by_finding : (G : Type 0) → IsQuiet old new → (status ≡ 0 → G) → (status ≡ 1 → G) → (status ≡ 6 → G) → (status ≡ 8 → G) → G
     by_finding G q s0 s1 s6 s8 = by_status status G r.named
         s0
         s1
-        (λ e. absurd (not_taken_now words o.opens.opens.asked (r.not_taken e).is.0 o.opens.opens.taken))
-        (λ e. let u = (r.bad_configuration e).is in absurd (open_or_refused words _ o.held _ settings u.0 o.told o.opens.opens u.1))
+        (λ e. absurd (not_taken_now words o.opens.opens.asked (r.not_taken e).1.is.0 o.opens.opens.taken))
+        (λ e. let u = (r.bad_configuration e).1.is in absurd (open_or_refused words _ o.held _ settings u.0 o.told o.opens.opens u.1))
         (λ e. absurd (q.source (read_risen e)))
-        (λ e. absurd (q.sink (r.write_fault e).risen))
+        (λ e. absurd (q.sink (write_risen e)))
         s6
         (λ e. absurd (q.shelf (r.fetch_fault e).risen))
         s8
-        (λ e. let u = (r.states_long e).is.0 in
+        (λ e. let u = (r.states_long e).1.is.0 in
         absurd (held_or_long words old.shelf.texts o.held o.opens.name u.name states o.told
         (one_name words old.shelf.texts o.opens.name u.name settings u.settings o.opens.opens u.opens) o.opens.held o.opens.short u.long))
 
@@ -294,18 +311,18 @@ module _ (most status : ℕ) (words : List Text) (old new : Outside) (r : Runs m
 
       decides : Decides most status old new settings states all
       decides = record {
-        same = λ e. let j = (same_here e).judged in
+        same = λ e. let j = (same_here e).is.0 in
             subst (λ (x : Text). IsReportOf settings states true x) (sym (same_all j.report.one most so sn all told j.finds)) j.report.is;
-        other = λ e is. let t = other_here e in let j = t.judged in other_all j.report.one most so sn all told t.number j.finds (j.report.only all is);
+        other = λ e is. let t = (other_here e).is in let j = t.1 in other_all j.report.one most so sn all told t.0 j.finds (j.report.only all is);
         short = λ q few. by_finding _ q inl (λ e. inr (inl e)) (λ e. inr (inr e))
             (λ e. let j = (limit_here e).judged in let l = passes_long j.report.one most so sn all told j.finds in absurd (omega (arith, few, l)));
         long = λ q many. by_finding _ q
-            (λ e. let j = (same_here e).judged in let l = same_short j.report.one most so sn all told j.finds in absurd (omega (arith, many, l)))
+            (λ e. let j = (same_here e).is.0 in let l = same_short j.report.one most so sn all told j.finds in absurd (omega (arith, many, l)))
             (λ e. inr (inl e)) (λ e. inr (inr e)) inl;
         begins = λ e. let j = (limit_here e).judged in let b = passes_begins j.report.one most so sn all told j.finds in
             (b.0, subst (λ (x : Text). IsReportOf settings states true x) b.1 j.report.is);
-        parts = λ e many b. let t = other_here e in let j = t.judged in
-            other_long j.report.one most so sn all told t.number j.finds many (b.0, sym (j.report.only (take most all ++ b.0) b.1));
+        parts = λ e many b. let t = (other_here e).is in let j = t.1 in
+            other_long j.report.one most so sn all told t.0 j.finds many (b.0, sym (j.report.only (take most all ++ b.0) b.1));
       }
 
   -- a comparison with states that are too long
@@ -315,15 +332,15 @@ module _ (most status : ℕ) (words : List Text) (old new : Outside) (r : Runs m
 
     long_ends : (status ≡ 5) ⊎ ((status ≡ 6) ⊎ ((status ≡ 7) ⊎ (status ≡ 9)))
     long_ends = by_status status _ r.named
-        (λ e. absurd (long_here _ (of_task (Judge o.opens.name) o.opens.settings o.opens.opens (Accepts most old new) (r.accepted e))))
-        (λ e. absurd (long_here _ (of_task (Judge o.opens.name) o.opens.settings o.opens.opens (Refuses most old new) (r.refused e))))
-        (λ e. absurd (not_taken_now words o.opens.opens.asked (r.not_taken e).is.0 o.opens.opens.taken))
-        (λ e. let u = (r.bad_configuration e).is in absurd (open_or_refused words _ o.held _ o.opens.settings u.0 o.told o.opens.opens u.1))
-        (λ e. absurd (long_here _ (of_task (Judge o.opens.name) o.opens.settings o.opens.opens (FailsToRead most old new) (r.read_fault e))))
+        (λ e. absurd (long_here _ (of_task (Judge o.opens.name) o.opens.settings o.opens.opens (Ends most old new Accepted) (r.accepted e))))
+        (λ e. absurd (long_here _ (of_task (Judge o.opens.name) o.opens.settings o.opens.opens (Ends most old new Refused) (r.refused e))))
+        (λ e. absurd (not_taken_now words o.opens.opens.asked (r.not_taken e).1.is.0 o.opens.opens.taken))
+        (λ e. let u = (r.bad_configuration e).1.is in absurd (open_or_refused words _ o.held _ o.opens.settings u.0 o.told o.opens.opens u.1))
+        (λ e. absurd (long_here _ (of_task (Judge o.opens.name) o.opens.settings o.opens.opens (Ends most old new SourceFault) (r.read_fault e))))
         (λ e. inl e)
         (λ e. inr (inl e))
         (λ e. inr (inr (inl e)))
-        (λ e. absurd (long_here _ (of_task (Judge o.opens.name) o.opens.settings o.opens.opens (Exceeds most old new) (r.limit e))))
+        (λ e. absurd (long_here _ (of_task (Judge o.opens.name) o.opens.settings o.opens.opens (Ends most old new Limit) (r.limit e))))
         (λ e. inr (inr (inr e)))
 
   -- a comparison with states that are not there
@@ -340,17 +357,17 @@ module _ (most status : ℕ) (words : List Text) (old new : Outside) (r : Runs m
 
     none_ends : (status ≡ 6) ⊎ (status ≡ 7)
     none_ends = by_status status _ r.named
-        (λ e. absurd (none_here _ (of_task (Judge o.name) o.settings o.opens (Accepts most old new) (r.accepted e))))
-        (λ e. absurd (none_here _ (of_task (Judge o.name) o.settings o.opens (Refuses most old new) (r.refused e))))
-        (λ e. absurd (not_taken_now words o.opens.asked (r.not_taken e).is.0 o.opens.taken))
-        (λ e. absurd (none_refused (r.bad_configuration e).is.0 (r.bad_configuration e).is.1))
-        (λ e. absurd (none_here _ (of_task (Judge o.name) o.settings o.opens (FailsToRead most old new) (r.read_fault e))))
+        (λ e. absurd (none_here _ (of_task (Judge o.name) o.settings o.opens (Ends most old new Accepted) (r.accepted e))))
+        (λ e. absurd (none_here _ (of_task (Judge o.name) o.settings o.opens (Ends most old new Refused) (r.refused e))))
+        (λ e. absurd (not_taken_now words o.opens.asked (r.not_taken e).1.is.0 o.opens.taken))
+        (λ e. absurd (none_refused (r.bad_configuration e).1.is.0 (r.bad_configuration e).1.is.1))
+        (λ e. absurd (none_here _ (of_task (Judge o.name) o.settings o.opens (Ends most old new SourceFault) (r.read_fault e))))
         (λ e. absurd (broken ⊥ (r.write_fault e) (λ n. not_taken_now words o.opens.asked n o.opens.taken) none_refused none_long
-        (λ u. none_here _ (of_task (Judge o.name) o.settings o.opens (FailsToWrite most old new) u))))
+        (λ u. none_here _ (of_task (Judge o.name) o.settings o.opens (Ends most old new SinkFault) u))))
         (λ e. inl e)
         (λ e. inr e)
-        (λ e. absurd (none_here _ (of_task (Judge o.name) o.settings o.opens (Exceeds most old new) (r.limit e))))
-        (λ e. absurd (none_long (r.states_long e).is.0))
+        (λ e. absurd (none_here _ (of_task (Judge o.name) o.settings o.opens (Ends most old new Limit) (r.limit e))))
+        (λ e. absurd (none_long (r.states_long e).1.is.0))
 
   pub ends_as_given : EndsAsGiven most words status old new
   ends_as_given = record {
@@ -368,29 +385,29 @@ module _ (most status : ℕ) (words : List Text) (old new : Outside) (r : Runs m
         (λ e. absurd (not_taken_here _ n (r.accepted e)))
         (λ e. absurd (not_taken_here _ n (r.refused e)))
         (λ e. inl e)
-        (λ e. let u = (r.bad_configuration e).is in absurd (not_taken_now words u.1.asked n u.1.taken))
+        (λ e. let u = (r.bad_configuration e).1.is in absurd (not_taken_now words u.1.asked n u.1.taken))
         (λ e. absurd (not_taken_here _ n (r.read_fault e)))
         (λ e. inr (inl e))
         (λ e. inr (inr e))
         (λ e. let u = r.fetch_fault e in absurd (not_taken_now words u.asked n u.taken))
         (λ e. absurd (not_taken_here _ n (r.limit e)))
-        (λ e. let u = (r.states_long e).is.0 in absurd (not_taken_now words u.opens.asked n u.opens.taken));
+        (λ e. let u = (r.states_long e).1.is.0 in absurd (not_taken_now words u.opens.asked n u.opens.taken));
     rejected = λ k. by_status status _ r.named
         (λ e. absurd (opened_refused _ k.held k.code k.told (r.accepted e) k.refused))
         (λ e. absurd (opened_refused _ k.held k.code k.told (r.refused e) k.refused))
-        (λ e. absurd (not_taken_now words k.refused.asked (r.not_taken e).is.0 k.refused.taken))
+        (λ e. absurd (not_taken_now words k.refused.asked (r.not_taken e).1.is.0 k.refused.taken))
         (λ e. inl e)
         (λ e. absurd (opened_refused _ k.held k.code k.told (r.read_fault e) k.refused))
         (λ e. inr (inl e))
         (λ e. inr (inr (inl e)))
         (λ e. inr (inr (inr e)))
         (λ e. absurd (opened_refused _ k.held k.code k.told (r.limit e) k.refused))
-        (λ e. let u = (r.states_long e).is.0 in absurd (open_or_refused words _ k.held (Judge u.name) u.settings k.code k.told u.opens k.refused));
+        (λ e. let u = (r.states_long e).1.is.0 in absurd (open_or_refused words _ k.held (Judge u.name) u.settings k.code k.told u.opens k.refused));
     missing = λ m. by_status status _ r.named
         (λ e. absurd (opened_missing _ (r.accepted e) m))
         (λ e. absurd (opened_missing _ (r.refused e) m))
-        (λ e. absurd (not_taken_now words m.asked (r.not_taken e).is.0 m.taken))
-        (λ e. let u = (r.bad_configuration e).is in absurd (refused_or_missing words _ u.0 u.1 m))
+        (λ e. absurd (not_taken_now words m.asked (r.not_taken e).1.is.0 m.taken))
+        (λ e. let u = (r.bad_configuration e).1.is in absurd (refused_or_missing words _ u.0 u.1 m))
         (λ e. absurd (opened_missing _ (r.read_fault e) m))
         (λ e. absurd (broken ⊥ (r.write_fault e)
         (λ n. not_taken_now words m.asked n m.taken)
@@ -400,9 +417,9 @@ module _ (most status : ℕ) (words : List Text) (old new : Outside) (r : Runs m
         (λ e. inl e)
         (λ e. inr e)
         (λ e. absurd (opened_missing _ (r.limit e) m))
-        (λ e. let u = (r.states_long e).is.0 in absurd (open_or_missing words _ (Judge u.name) u.settings u.opens m));
+        (λ e. let u = (r.states_long e).1.is.0 in absurd (open_or_missing words _ (Judge u.name) u.settings u.opens m));
     no_read_fault = λ calm e. calm (read_risen e);
-    no_write_fault = λ calm e. calm (r.write_fault e).risen;
+    no_write_fault = λ calm e. calm (write_risen e);
     no_fetch_fault = λ calm e. calm (r.fetch_fault e).risen;
   }
 

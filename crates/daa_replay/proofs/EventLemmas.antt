@@ -1,15 +1,17 @@
 -- The events of an input that goes on.
-use Rattle.std.proofs.Common.{ℕ, ◌+◌, ◌≡◌, List, [], ◌∷◌, ◌++◌, length, take, arith, refl, sym, ap, ◌∙◌, Bool, true, false, append_assoc, append-nil}
+use Rattle.std.proofs.Common.{ℕ, ◌+◌, ◌≡◌, List, [], ◌∷◌, ◌++◌, length, take, arith, refl, sym, ap, ◌∙◌, Bool, true, false, if◌then◌else◌, is_some, Ok, Err, append_assoc, append-nil}
 use Rattle.daa_lines.specs.LinesOf.{Bytes, lines_of, shown}
 use Rattle.daa_lines.proofs.GrowsLemmas.{Begins, lines_begin, lines_end}
 use Rattle.daa_state.specs.Fault.{Checked, ◌>>=◌}
+use Rattle.daa_state.specs.declared.fault.LineFault.TheVariants.{Unfinished}
 use Rattle.daa_state.specs.declared.word.Word.{Word}
 use Rattle.daa_state.specs.MomentStep.{MomentsState, Stepped, start, step, finished}
 use Rattle.daa_state.proofs.WordLaws.{word_of-take}
 use Rattle.daa_replay.specs.declared.lines.Event.{Event}
+use Rattle.daa_replay.specs.declared.lines.Event.TheVariants as event
 use Rattle.daa_replay.specs.Inside.Lines.{state_after}
 use Rattle.daa_replay.specs.Inside.Events.{IsFront}
-use Rattle.daa_replay.specs.Lines.{line_step, next_state, line_event, end_event, events_from, events_of}
+use Rattle.daa_replay.specs.Lines.{line_step, next_state, line_event, events_from, events_of}
 
 -- the events of lines are those of the first ones, and then those of the others
 pub events_from-append : (state : MomentsState) (number : ℕ) (ended : Bool) (xs ys : List Bytes) →
@@ -39,11 +41,24 @@ events_from-push state number xs line =
     events_from-append state number false xs (line ∷ [])
     ∙ ap (λ (l : List Event). events_from state number false xs ++ l) (append-nil _)
 
+-- the event of the end of the input, under the number after the last line's
+abbrev pub end_event : ℕ → Checked (Unit {0}) → List Event
+end_event number (Ok over) = []
+end_event number (Err fault) = event.Refused number fault ∷ []
+
+at_end : (state : MomentsState) (number : ℕ) → events_from state number true [] ≡ end_event number (finished state)
+at_end state number = by_open (is_some state.moment)
+  where
+    by_open : (is_open : Bool) → (if is_open then event.Refused number Unfinished ∷ [] else []) ≡ end_event number (if is_open then Err Unfinished else Ok tt)
+    by_open true = refl
+    by_open false = refl
+
 -- the end of the input adds its event
 pub events_from-end : (state : MomentsState) (number : ℕ) (xs : List Bytes) →
     events_from state number true xs ≡ events_from state number false xs ++ end_event (number + length xs) (finished (state_after state xs))
 events_from-end state number xs =
     ap (events_from state number true) (sym (append-nil xs)) ∙ events_from-append state number true xs []
+    ∙ ap (λ (l : List Event). events_from state number false xs ++ l) (at_end (state_after state xs) (number + length xs))
 
 -- the events need 256 bytes of a line alone
 pub events_from-shown : (state : MomentsState) (number : ℕ) (ended : Bool) (lines : List Bytes) →

@@ -11,10 +11,10 @@ use Rattle.daa_state.specs.Fault.{Checked, ◌>>=◌}
 use Rattle.daa_state.specs.WordOf.{word_of}
 use Rattle.daa_state.specs.declared.word.Word.{Word}
 use Rattle.daa_lines.proofs.TakingLemmas.{standing_none, standing_one}
-use Rattle.daa_replay.specs.Lines.{line_step, next_state, line_event, end_event, events_from, events_of}
+use Rattle.daa_replay.specs.Lines.{line_step, next_state, line_event, events_from, events_of}
 use Rattle.daa_replay.specs.Inside.Lines.{Follows, state_after, given_with}
 use Rattle.daa_replay.specs.Inside.Events.{IsFront}
-use Rattle.daa_replay.proofs.EventLemmas.{events_from-append, events_from-push, events_from-end, events_from-shown, state_after-append}
+use Rattle.daa_replay.proofs.EventLemmas.{end_event, events_from-append, events_from-push, events_from-end, events_from-shown, state_after-append}
 
 -- the line that stands is taken, and its event is given
 pub follows-line : (bytes : Bytes) (given : List Event) (old new : LinesState) (before : MomentsState) → is_standing old.stage ≡ true

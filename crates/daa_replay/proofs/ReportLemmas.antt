@@ -8,11 +8,10 @@ use Rattle.daa_report.specs.Lines.{Text}
 use Rattle.daa_ahead.specs.Bytes.{ToldBytes}
 use Rattle.daa_replay.specs.declared.lines.Event.{Event}
 use Rattle.daa_replay.specs.Lines.{events_of}
-use Rattle.daa_replay.specs.Inside.Batch.{StopsWithin}
+use Rattle.daa_replay.specs.Inside.Batch.{AppendsSome, StopsWithin}
 use Rattle.daa_replay.specs.Inside.Events.{IsFront}
 use Rattle.daa_replay.specs.Inside.Moment.{BeginsText}
 use Rattle.daa_replay.specs.Moment.{IsEventText}
-use Rattle.daa_replay.specs.Outside.{TakesSome}
 use Rattle.daa_replay.proofs.EventLemmas.{events_begin}
 use Rattle.daa_replay.proofs.TextLemmas.{begins-more}
 
@@ -49,7 +48,7 @@ module _ (settings : Settings) where
 module _ {settings : Settings} where
   -- the sink failed within the texts of the first events
   pub stops-first : (old new : ToldBytes) (bytes : Bytes) (ended : Bool) (events : List Event) → IsFront events (events_of bytes ended)
-      → StopsWithin settings events old new → TakesSome (IsBegun settings bytes ended) old new
+      → StopsWithin settings events old new → AppendsSome (IsBegun settings bytes ended) old new
   stops-first old new bytes ended events front s = record {
     text = s.whole ++ s.begun;
     is = record {
@@ -66,7 +65,7 @@ module _ {settings : Settings} where
   }
 
   -- a beginning of the report of some bytes is one of the report of more bytes
-  pub stops-more : (old new : ToldBytes) (bytes more : Bytes) → TakesSome (IsBegun settings bytes false) old new → TakesSome (IsBegun settings (bytes ++ more) false) old new
+  pub stops-more : (old new : ToldBytes) (bytes more : Bytes) → AppendsSome (IsBegun settings bytes false) old new → AppendsSome (IsBegun settings (bytes ++ more) false) old new
   stops-more old new bytes more s =
       let longer = events_begin bytes more in record {
         text = s.text;

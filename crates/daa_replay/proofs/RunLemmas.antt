@@ -17,14 +17,14 @@ use Rattle.daa_replay.specs.declared.opening.Unready.{Unready}
 use Rattle.daa_replay.specs.declared.opening.Unready.TheVariants as unready
 use Rattle.daa_replay.specs.declared.status.Status.TheVariants.{Accepted, Refused, NotTaken, BadConfiguration, SourceFault, SinkFault, NoMemory, ShelfFault, Limit, StatesLong}
 use Rattle.daa_replay.specs.Judge.{Judged}
-use Rattle.daa_replay.specs.Opening.{usage_line, long_line, Opens, IsHeld}
-use Rattle.daa_replay.specs.Outside.{Outside, ShelfState, outside, OnlyWrites, Takes}
-use Rattle.daa_replay.specs.Tasks.{Accepts, Refuses, FailsToRead, Exceeds}
+use Rattle.daa_replay.specs.Opening.{usage_line, Opens, IsHeld}
+use Rattle.daa_replay.specs.Outside.{Outside, ShelfState, outside, OnlyWrites, BreaksSome}
+use Rattle.daa_replay.specs.Tasks.{Ends}
 use Rattle.daa_ahead.specs.Bytes.{StreamState}
 use Rattle.daa_replay.specs.Inside.Run.{Leaves, Performs, Replays, Judges, Exercises}
 use Rattle.daa_replay.specs.Run.{Breaks, FetchFails, IsCode, IsLine, IsLong, IsUntouched, IsUsage, Runs, Under}
 use Rattle.daa_replay.specs.Inside.Opening.{OpensAs, IsWork}
-use Rattle.daa_replay.specs.Inside.Status.{code_of, WritesReason, WritesLine, WritesCode}
+use Rattle.daa_replay.specs.Inside.Status.{code_of, long_line, BreaksLine, Takes, WritesReason, WritesLine, WritesCode}
 
 -- ---- statuses and their numbers
 
@@ -62,18 +62,18 @@ pub same_written : {E : Type 0} (settings : Settings) (states : Bytes) (most : �
     → Judged settings states most found.Alike old.source new.source → Says old.sink.bytes new.sink.bytes old.sink.faults new.sink.faults (codes "same\n") r
     → OnOk r (result ≡ Accepted) → OnErr r (result ≡ SinkFault) → Judges settings most states old new result
 same_written settings states most old new (Ok x) result j s whole broken =
-    subst (Judges settings most states old new) (sym whole) (record { judged = j; written = record { taken = s.whole; calm = s.cause.steady } })
+    subst (Judges settings most states old new) (sym whole) (record { text = codes "same\n"; is = (j, refl); taken = s.whole; calm = s.cause.steady })
 same_written settings states most old new (Err x) result j s whole broken =
-    subst (Judges settings most states old new) (sym broken) (record { risen = s.cause.risen; so = inl (j, s.front) })
+    subst (Judges settings most states old new) (sym broken) (record { risen = s.cause.risen; front = s.front.0; unwritten = s.front.1; is = inl (j, sym s.front.2); taken = s.front.3 })
 
 -- the number of the first line that differs was written, or the sink failed within it
 pub difference_written : {E : Type 0} (settings : Settings) (states : Bytes) (most number : ℕ) (old new : Outside) (r : Result (Unit {0}) E) (result : Status)
     → Judged settings states most (found.Differs number) old.source new.source → Says old.sink.bytes new.sink.bytes old.sink.faults new.sink.faults (numbers_line (codes "differs") (number ∷ [])) r
     → OnOk r (result ≡ Refused) → OnErr r (result ≡ SinkFault) → Judges settings most states old new result
 difference_written settings states most number old new (Ok x) result j s whole broken =
-    subst (Judges settings most states old new) (sym whole) (record { number = number; judged = j; written = record { taken = s.whole; calm = s.cause.steady } })
+    subst (Judges settings most states old new) (sym whole) (record { text = numbers_line (codes "differs") (number ∷ []); is = (number, j, refl); taken = s.whole; calm = s.cause.steady })
 difference_written settings states most number old new (Err x) result j s whole broken =
-    subst (Judges settings most states old new) (sym broken) (record { risen = s.cause.risen; so = inr (number, j, s.front) })
+    subst (Judges settings most states old new) (sym broken) (record { risen = s.cause.risen; front = s.front.0; unwritten = s.front.1; is = inr (number, j, sym s.front.2); taken = s.front.3 })
 
 -- the summary was written, or the sink failed within it
 pub exercised : {E : Type 0} (settings : Settings) (most seed moments : ℕ) (before after : ShelfState) (so ko kn : StreamState) (text : Text) (r : Result (Unit {0}) E) (result : Status)
@@ -81,25 +81,25 @@ pub exercised : {E : Type 0} (settings : Settings) (most seed moments : ℕ) (be
     → OnOk r (result ≡ Accepted) → OnErr r (result ≡ SinkFault) → Exercises settings most seed moments (outside before so ko) (outside after so kn) result
 exercised settings most seed moments before after so ko kn text (Ok x) result i s whole broken =
     subst (Exercises settings most seed moments (outside before so ko) (outside after so kn)) (sym whole)
-    (record { source = refl; text = text; is = i; written = record { taken = s.whole; calm = s.cause.steady } })
+    (refl, record { text = text; is = i; taken = s.whole; calm = s.cause.steady })
 exercised settings most seed moments before after so ko kn text (Err x) result i s whole broken =
     subst (Exercises settings most seed moments (outside before so ko) (outside after so kn)) (sym broken)
-    (s.cause.risen, record { source = refl; text = text; is = i; begun = s.front })
+    (refl, record { risen = s.cause.risen; front = s.front.0; unwritten = s.front.1; is = subst (IsSummaryOf settings seed moments) s.front.2 i; taken = s.front.3 })
 
 -- ---- the run
 
 module _ (most : ℕ) (words : List Text) (old new : Outside) where
   -- what a run leaves
   abbrev Left : Status → Type 0
-  Left Accepted = Under words old.shelf.texts (Accepts most old new)
-  Left Refused = Under words old.shelf.texts (Refuses most old new)
+  Left Accepted = Under words old.shelf.texts (Ends most old new Accepted)
+  Left Refused = Under words old.shelf.texts (Ends most old new Refused)
   Left NotTaken = OnlyWrites (IsUsage words) old new
   Left BadConfiguration = OnlyWrites (IsCode words old.shelf.texts) old new
-  Left SourceFault = Under words old.shelf.texts (FailsToRead most old new)
+  Left SourceFault = Under words old.shelf.texts (Ends most old new SourceFault)
   Left SinkFault = Breaks most words old new
   Left NoMemory = IsUntouched old new
   Left ShelfFault = FetchFails words old new
-  Left Limit = Under words old.shelf.texts (Exceeds most old new)
+  Left Limit = Under words old.shelf.texts (Ends most old new Limit)
   Left StatesLong = OnlyWrites (IsLong words old.shelf.texts) old new
 
   module _ (texts : new.shelf.texts ≡ old.shelf.texts) (fetches : old.shelf.faults ≤ new.shelf.faults) where
@@ -134,7 +134,7 @@ module _ (most : ℕ) (words : List Text) (old new : Outside) where
       replayed ahead opens Accepted r = record { task = Replay ahead; settings = settings; opens = opens; so = r }
       replayed ahead opens Refused r = record { task = Replay ahead; settings = settings; opens = opens; so = r }
       replayed ahead opens SourceFault r = record { task = Replay ahead; settings = settings; opens = opens; so = r }
-      replayed ahead opens SinkFault r = record { risen = r.risen; so = inr (record { task = Replay ahead; settings = settings; opens = opens; so = r }) }
+      replayed ahead opens SinkFault r = inr (record { task = Replay ahead; settings = settings; opens = opens; so = r })
       replayed ahead opens Limit r = record { task = Replay ahead; settings = settings; opens = opens; so = r }
       replayed ahead opens NotTaken r = absurd r
       replayed ahead opens BadConfiguration r = absurd r
@@ -144,7 +144,7 @@ module _ (most : ℕ) (words : List Text) (old new : Outside) where
 
       drawn : (seed moments : ℕ) → Opens words old.shelf.texts (Exercise seed moments) settings → (s : Status) → Exercises settings most seed moments old new s → Left s
       drawn seed moments opens Accepted r = record { task = Exercise seed moments; settings = settings; opens = opens; so = r }
-      drawn seed moments opens SinkFault r = record { risen = r.0; so = inr (record { task = Exercise seed moments; settings = settings; opens = opens; so = r.1 }) }
+      drawn seed moments opens SinkFault r = inr (record { task = Exercise seed moments; settings = settings; opens = opens; so = r })
       drawn seed moments opens Refused r = absurd r
       drawn seed moments opens SourceFault r = absurd r
       drawn seed moments opens Limit r = absurd r
@@ -160,10 +160,7 @@ module _ (most : ℕ) (words : List Text) (old new : Outside) where
         judged Accepted r = record { task = Judge name; settings = settings; opens = opens; so = record { states = states; held = held; short = short; so = r } }
         judged Refused r = record { task = Judge name; settings = settings; opens = opens; so = record { states = states; held = held; short = short; so = r } }
         judged SourceFault r = record { task = Judge name; settings = settings; opens = opens; so = record { states = states; held = held; short = short; so = r } }
-        judged SinkFault r = record {
-          risen = r.risen;
-          so = inr (record { task = Judge name; settings = settings; opens = opens; so = record { states = states; held = held; short = short; so = r } });
-        }
+        judged SinkFault r = inr (record { task = Judge name; settings = settings; opens = opens; so = record { states = states; held = held; short = short; so = r } })
         judged Limit r = record { task = Judge name; settings = settings; opens = opens; so = record { states = states; held = held; short = short; so = r } }
         judged NotTaken r = absurd r
         judged BadConfiguration r = absurd r
@@ -191,25 +188,30 @@ module _ (most : ℕ) (words : List Text) (old new : Outside) where
       reads : old.source.faults ≤ new.source.faults
       reads = same_count _ _ (ap (λ (x : StreamState). x.faults) source)
 
+      broken : (text : Text) → BreaksLine old.sink new.sink text → IsLine words old.shelf.texts text → BreaksSome (IsLine words old.shelf.texts) old.sink new.sink
+      broken text b is =
+          let f = b.front in
+          record { risen = b.risen; front = f.0; unwritten = f.1; is = subst (IsLine words old.shelf.texts) f.2 is; taken = f.3 }
+
       line_runs : (said : Status) (text : Text) (result : Status) → new.shelf.faults ≡ old.shelf.faults → IsLine words old.shelf.texts text
           → (Takes old.sink new.sink text → Left said) → WritesLine said old.sink new.sink text result → Runs most words (code_of result) old new
       line_runs said text result calm is whole (inl w) =
           by_status result (subst Left (sym w.0) (whole w.1)) (λ n. calm) reads (same_count _ _ w.1.calm)
       line_runs said text result calm is whole (inr w) =
-          by_status result (subst Left (sym w.0) (record { risen = w.1.risen; so = inl (record { source = source; text = text; is = is; begun = w.1.front }) })) (λ n. calm) reads
+          by_status result (subst Left (sym w.0) (inl (source, broken text w.1 is))) (λ n. calm) reads
           w.1.later
 
       pub reason_runs : (why : Unready) (result : Status) → OpensAs words old.shelf.texts (Err why) → WritesReason why old.sink new.sink result
           → (why ≡ unready.ShelfFault → HasRisen old.shelf.faults new.shelf.faults) → (why ≢ unready.ShelfFault → new.shelf.faults ≡ old.shelf.faults)
           → Runs most words (code_of result) old new
       reason_runs unready.NotTaken result opens tells risen calm =
-          line_runs NotTaken usage_line result (calm (λ e. cc)) (inl (opens, refl)) (λ w. record { source = source; text = usage_line; is = (opens, refl); written = w }) tells
+          line_runs NotTaken usage_line result (calm (λ e. cc)) (inl (opens, refl)) (λ w. (source, record { text = usage_line; is = (opens, refl); taken = w.taken; calm = w.calm })) tells
       reason_runs (unready.Refused fault) result (code, refused, is) tells risen calm =
           line_runs BadConfiguration (numbers_line (codes "config") (code ∷ [])) result (calm (λ e. cc)) (inr (inl (code, refused, refl)))
-          (λ w. record { source = source; text = numbers_line (codes "config") (code ∷ []); is = (code, refused, refl); written = w })
+          (λ w. (source, record { text = numbers_line (codes "config") (code ∷ []); is = (code, refused, refl); taken = w.taken; calm = w.calm }))
           (subst (λ (o : Option ℕ). WritesCode o old.sink new.sink result) is tells)
       reason_runs unready.StatesLong result opens tells risen calm =
-          line_runs StatesLong long_line result (calm (λ e. cc)) (inr (inr (opens, refl))) (λ w. record { source = source; text = long_line; is = (opens, refl); written = w }) tells
+          line_runs StatesLong long_line result (calm (λ e. cc)) (inr (inr (opens, refl))) (λ w. (source, record { text = long_line; is = (opens, refl); taken = w.taken; calm = w.calm })) tells
       reason_runs unready.ShelfFault result opens tells risen calm =
           by_status result (subst Left (sym tells.0) (record { asked = opens.0; taken = opens.1; risen = risen refl; untouched = record { source = source; sink = tells.1 } }))
           (λ n. absurd (n tells.0)) reads (same_count _ _ (ap (λ (x : StreamState). x.faults) tells.1))

@@ -1,6 +1,5 @@
 -- What a comparison of a report with that of given states leaves, by how it ends.
 use Rattle.std.specs.Prelude.{ℕ, ◌≡◌, ◌⊎◌, true, [], ◌∷◌, codes}
-use Rattle.daa_outside.specs.Faults.{HasRisen}
 use Rattle.daa_ahead.specs.Bytes.{StreamState}
 use Rattle.daa_fixed.specs.One.{HasOne}
 use Rattle.daa_config.specs.Settings.{Settings}
@@ -9,8 +8,7 @@ use Rattle.daa_judge.specs.declared.found.Found.{Found}
 use Rattle.daa_judge.specs.declared.found.Found.TheVariants as found
 use Rattle.daa_lines.specs.LinesOf.{Bytes}
 use Rattle.daa_report.specs.Lines.{Text, numbers_line}
-use Rattle.daa_report.specs.Says.{AppendsFront}
-use Rattle.daa_replay.specs.Outside.{Outside, Takes}
+use Rattle.daa_replay.specs.Outside.{Outside, BreaksSome}
 use Rattle.daa_replay.specs.Moment.{IsReportOf}
 
 -- comparing the one report of the states with what the source handed out found this
@@ -25,28 +23,19 @@ module _ (settings : Settings) (most : ℕ) (old new : Outside) where
   abbrev pub IsFound : Bytes → Found → Type 0
   IsFound states result = Judged settings states most result old.source new.source
 
-  -- the bytes are the report, and `same` was written
-  pub record WritesSame (states : Bytes) : Type 0 where
-    pub judged : IsFound states found.Alike
-    pub written : Takes old.sink new.sink (codes "same\n")
+  -- the line is `same`: the bytes are the report
+  abbrev pub IsSame : Bytes → Text → Type 0
+  IsSame states line = IsFound states found.Alike × (line ≡ codes "same\n")
 
-  -- they are not, and the number of the first line that differs was written
-  pub record WritesDifference (states : Bytes) : Type 0 where
-    pub number : ℕ
-    pub judged : IsFound states (found.Differs number)
-    pub written : Takes old.sink new.sink (numbers_line (codes "differs") (number ∷ []))
+  -- the line has the number of the first line that differs: they are not
+  abbrev pub IsDifference : Bytes → Text → Type 0
+  IsDifference states line = (number : ℕ) × IsFound states (found.Differs number) × (line ≡ numbers_line (codes "differs") (number ∷ []))
 
   -- comparing ended before this was known, and nothing was written
   pub record WritesNothing (result : Found) (states : Bytes) : Type 0 where
     pub judged : IsFound states result
     pub sink : new.sink ≡ old.sink
 
-  -- a beginning of the line was written
-  abbrev pub BeginsLine : Text → Type 0
-  BeginsLine line = AppendsFront old.sink.bytes new.sink.bytes line
-
-  -- the sink failed, and a beginning of the line was written
-  pub record BreaksJudgement (states : Bytes) : Type 0 where
-    pub risen : HasRisen old.sink.faults new.sink.faults
-    pub so : (IsFound states found.Alike × BeginsLine (codes "same\n"))
-        ⊎ ((number : ℕ) × IsFound states (found.Differs number) × BeginsLine (numbers_line (codes "differs") (number ∷ [])))
+  -- the sink failed, and a beginning of one of these lines was written
+  abbrev pub BreaksJudgement : Bytes → Type 0
+  BreaksJudgement states = BreaksSome (λ line. IsSame states line ⊎ IsDifference states line) old.sink new.sink

@@ -1,10 +1,12 @@
 -- The events of an input: what its lines give, one after the other.
-use Rattle.std.specs.Prelude.{ℕ, ◌+◌, ◌++◌, Bool, true, false, List, [], ◌∷◌, Option, None, Some, Ok, Err}
+use Rattle.std.specs.Prelude.{ℕ, ◌+◌, ◌++◌, Bool, true, false, if◌then◌else◌, List, [], ◌∷◌, is_some, Ok, Err}
+use Rattle.std.specs.Option.{option_map_or}
 use Rattle.daa_lines.specs.LinesOf.{Bytes, lines_of}
 use Rattle.daa_state.specs.Fault.{Checked, ◌>>=◌}
 use Rattle.daa_state.specs.InRange.{IsPictureInRange}
 use Rattle.daa_state.specs.WordOf.{word_of}
-use Rattle.daa_state.specs.MomentStep.{MomentsState, Stepped, start, step, finished}
+use Rattle.daa_state.specs.MomentStep.{MomentsState, Stepped, start, step}
+use Rattle.daa_state.specs.declared.fault.LineFault.TheVariants.{Unfinished}
 use Rattle.daa_state.specs.declared.word.Picture.{Picture}
 use Rattle.daa_replay.specs.declared.lines.Event.{Event}
 use Rattle.daa_replay.specs.declared.lines.Event.TheVariants as event
@@ -18,27 +20,16 @@ abbrev pub next_state : MomentsState → Checked Stepped → MomentsState
 next_state state (Ok next) = next.state
 next_state state (Err fault) = state
 
--- the event of an ended moment, if one ended
-abbrev pub picture_event : Option Picture → List Event
-picture_event None = []
-picture_event (Some picture) = event.Ended picture ∷ []
-
 -- the event of the line with this number: a refusal, an ended moment, or nothing
 abbrev pub line_event : ℕ → Checked Stepped → List Event
-line_event number (Ok next) = picture_event next.picture
+line_event number (Ok next) = option_map_or (λ picture. event.Ended picture ∷ []) next.picture []
 line_event number (Err fault) = event.Refused number fault ∷ []
 
--- the event of the end of the input, under the number after the last line's: a refusal if a moment
--- is open
-abbrev pub end_event : ℕ → Checked (Unit {0}) → List Event
-end_event number (Ok over) = []
-end_event number (Err fault) = event.Refused number fault ∷ []
-
--- the events of lines, the first of which has the number; if these are all lines, the event of the
--- end follows
+-- the events of lines, the first of which has the number; if these are all lines, and a moment is
+-- still open, a refusal follows under the number after the last line's
 abbrev pub events_from : MomentsState → ℕ → Bool → List Bytes → List Event
 events_from state number false [] = []
-events_from state number true [] = end_event number (finished state)
+events_from state number true [] = if is_some state.moment then event.Refused number Unfinished ∷ [] else []
 events_from state number ended (line ∷ lines) =
     line_event number (line_step state line)
     ++ events_from (next_state state (line_step state line)) (number + 1) ended lines

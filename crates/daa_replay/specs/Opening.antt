@@ -13,10 +13,6 @@ use Rattle.daa_words.specs.Task.{Task, Judge}
 abbrev pub usage_line : Text
 usage_line = codes "usage: daidalus replay --config FILE [--workers N] [--ahead N] | exercise --config FILE --seed N --moments M [--workers N] | judge --config FILE --states FILE [--workers N]\n"
 
--- the line that is written if the states are too long
-abbrev pub long_line : Text
-long_line = codes "states long\n"
-
 -- if the shelf shows its texts, it holds this text under the name
 abbrev pub IsHeld : Option Texts → Text → Text → Type 0
 IsHeld texts name text = IfSome texts (λ held. held name ≡ Some text)
@@ -32,11 +28,6 @@ pub record Opens (words : List Text) (texts : Option Texts) (task : Task)
   pub held : IsHeld texts asked.config text
   pub accepted : config_of text ≡ Ok settings
 
--- if the shelf shows its texts, it holds a text under the name that is too long to be fetched
-abbrev pub IsHeldLong : Option Texts → Text → Type 0
-IsHeldLong texts name =
-    IfSome texts (λ held. IsSomeAnd (held name) (λ text. longest_text < length text))
-
 -- the words ask for a comparison with the report of the states under a name, which the shelf holds
 -- there
 pub record OpensStates (words : List Text) (texts : Option Texts) (settings : Settings)
@@ -46,12 +37,13 @@ pub record OpensStates (words : List Text) (texts : Option Texts) (settings : Se
   pub held : IsHeld texts name states
   pub short : length states ≤ longest_text
 
--- the same with states that are too long
+-- the same with states that are too long: if the shelf shows its texts, it holds a text under the
+-- name that is too long to be fetched
 pub record OpensLong (words : List Text) (texts : Option Texts) : Type 0 where
   pub name : Text
   pub settings : Settings
   pub opens : Opens words texts (Judge name) settings
-  pub long : IsHeldLong texts name
+  pub long : IfSome texts (λ held. IsSomeAnd (held name) (λ text. longest_text < length text))
 
 -- the words are taken, and the text that the shelf holds under the name that they give is refused
 -- with this code

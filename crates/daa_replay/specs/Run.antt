@@ -6,9 +6,10 @@ use Rattle.daa_config.specs.Settings.{Settings}
 use Rattle.daa_report.specs.Lines.{Text, numbers_line}
 use Rattle.daa_words.specs.Order.{Asked, order_of}
 use Rattle.daa_words.specs.Task.{Task}
-use Rattle.daa_replay.specs.Outside.{Outside, OnlyWrites, OnlyBegins}
-use Rattle.daa_replay.specs.Opening.{usage_line, long_line, Opens, OpensLong, IsRefused}
-use Rattle.daa_replay.specs.Tasks.{Accepts, Refuses, FailsToRead, FailsToWrite, Exceeds}
+use Rattle.daa_replay.specs.Outside.{Outside, OnlyWrites, OnlyBreaks}
+use Rattle.daa_replay.specs.Opening.{usage_line, Opens, OpensLong, IsRefused}
+use Rattle.daa_replay.specs.Tasks.{Ends}
+use Rattle.daa_replay.specs.declared.status.Status.TheVariants.{Accepted, Refused, SourceFault, SinkFault, Limit}
 
 -- the words are taken, and P holds of their task under the configuration that they and the shelf
 -- give
@@ -29,17 +30,16 @@ IsCode words texts line = (code : ℕ) × IsRefused words texts code × (line �
 
 -- the line in place of a report is `states long`: the states are too long
 abbrev pub IsLong : List Text → Option Texts → Text → Type 0
-IsLong words texts line = OpensLong words texts × (line ≡ long_line)
+IsLong words texts line = OpensLong words texts × (line ≡ codes "states long\n")
 
 -- the line is one of these three lines in place of a report
 abbrev pub IsLine : List Text → Option Texts → Text → Type 0
 IsLine words texts line = IsUsage words line ⊎ (IsCode words texts line ⊎ IsLong words texts line)
 
--- the sink failed while such a line, or what the task writes, was written
-pub record Breaks (most : ℕ) (words : List Text) (old new : Outside) : Type 0 where
-  pub risen : HasRisen old.sink.faults new.sink.faults
-  pub so : OnlyBegins (IsLine words old.shelf.texts) old new
-      ⊎ Under words old.shelf.texts (FailsToWrite most old new)
+-- the sink failed within such a line, or within what the task writes
+abbrev pub Breaks : ℕ → List Text → Outside → Outside → Type 0
+Breaks most words old new =
+    OnlyBreaks (IsLine words old.shelf.texts) old new ⊎ Under words old.shelf.texts (Ends most old new SinkFault)
 
 -- nothing was read and nothing was written
 pub record IsUntouched (old new : Outside) : Type 0 where
@@ -58,17 +58,17 @@ pub record Runs (most : ℕ) (words : List Text) (status : ℕ) (old new : Outsi
   pub named : status ≤ 9
   -- 0 and 1: the input was read to its end, and no line of it was refused (0), or some (1); an
   -- exercise ended (0); a report is that of the states (0), or is not (1)
-  pub accepted : status ≡ 0 → Under words old.shelf.texts (Accepts most old new)
-  pub refused : status ≡ 1 → Under words old.shelf.texts (Refuses most old new)
+  pub accepted : status ≡ 0 → Under words old.shelf.texts (Ends most old new Accepted)
+  pub refused : status ≡ 1 → Under words old.shelf.texts (Ends most old new Refused)
   pub not_taken : status ≡ 2 → OnlyWrites (IsUsage words) old new
   pub bad_configuration : status ≡ 3 → OnlyWrites (IsCode words old.shelf.texts) old new
-  pub read_fault : status ≡ 4 → Under words old.shelf.texts (FailsToRead most old new)
+  pub read_fault : status ≡ 4 → Under words old.shelf.texts (Ends most old new SourceFault)
   pub write_fault : status ≡ 5 → Breaks most words old new
   -- there was no memory for the words, the shelf's texts, the configuration, the engine or the
   -- sheet
   pub no_memory : status ≡ 6 → IsUntouched old new
   pub fetch_fault : status ≡ 7 → FetchFails words old new
-  pub limit : status ≡ 8 → Under words old.shelf.texts (Exceeds most old new)
+  pub limit : status ≡ 8 → Under words old.shelf.texts (Ends most old new Limit)
   pub states_long : status ≡ 9 → OnlyWrites (IsLong words old.shelf.texts) old new
   -- the shelf keeps its texts, and fails at status 7 alone
   pub texts : new.shelf.texts ≡ old.shelf.texts

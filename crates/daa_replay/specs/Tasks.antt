@@ -1,16 +1,19 @@
--- What a run leaves, by its task and by how it ends.
+-- What a run leaves, by how it ends and by its task.
 use Rattle.std.specs.Prelude.{ℕ, ◌≤◌, true, false, Option, length}
+use Rattle.daa_ahead.specs.Moves.{ReadFails, PassesMost}
 use Rattle.daa_config.specs.Settings.{Settings}
-use Rattle.daa_judge.specs.declared.found.Found.TheVariants.{Fault, Limit}
+use Rattle.daa_judge.specs.declared.found.Found.TheVariants as found
 use Rattle.daa_lines.specs.LinesOf.{Bytes}
 use Rattle.daa_outside.specs.Shelf.{Texts, longest_text}
 use Rattle.daa_report.specs.Lines.{Text}
 use Rattle.daa_exercise.specs.Summary.{IsSummaryOf}
 use Rattle.daa_words.specs.Task.{Task, Replay, Exercise, Judge}
-use Rattle.daa_replay.specs.Judge.{WritesSame, WritesDifference, WritesNothing, BreaksJudgement}
+use Rattle.daa_replay.specs.declared.status.Status.{Status}
+use Rattle.daa_replay.specs.declared.status.Status.TheVariants.{Accepted, Refused, SourceFault, SinkFault, Limit}
+use Rattle.daa_replay.specs.Judge.{IsSame, IsDifference, WritesNothing, BreaksJudgement}
 use Rattle.daa_replay.specs.Opening.{IsHeld}
-use Rattle.daa_replay.specs.Outside.{Outside, OnlyWrites, OnlyBegins}
-use Rattle.daa_replay.specs.Replay.{ReadsAll, ReadFails, WriteFails, PassesLimit}
+use Rattle.daa_replay.specs.Outside.{Outside, TakesSome, OnlyWrites, OnlyBreaks}
+use Rattle.daa_replay.specs.Replay.{Reports, ReportsAll, WriteFails}
 
 -- P holds of the states that the shelf holds under the name, which are not too long
 pub record OfStates (texts : Option Texts) (name : Text) (P : Bytes → Type 0) : Type 0 where
@@ -20,39 +23,23 @@ pub record OfStates (texts : Option Texts) (name : Text) (P : Bytes → Type 0) 
   pub so : P states
 
 module _ (most : ℕ) (old new : Outside) where
-  -- the same of the states that the shelf held before the run
-  abbrev pub OfHeld : Text → (Bytes → Type 0) → Type 0
-  OfHeld name P = OfStates old.shelf.texts name P
-
-  -- the input was read to its end, and no line of it was refused; the exercise ended; the report is
-  -- that of the states
-  abbrev pub Accepts : Task → Settings → Type 0
-  Accepts (Replay ahead) settings = ReadsAll settings most old new false
-  Accepts (Exercise seed moments) settings = OnlyWrites (IsSummaryOf settings seed moments) old new
-  Accepts (Judge name) settings = OfHeld name (WritesSame settings most old new)
-
-  -- the input was read to its end, and some line of it was refused; the report is not that of the
-  -- states
-  abbrev pub Refuses : Task → Settings → Type 0
-  Refuses (Replay ahead) settings = ReadsAll settings most old new true
-  Refuses (Exercise seed moments) settings = ⊥
-  Refuses (Judge name) settings = OfHeld name (WritesDifference settings most old new)
-
-  -- the source failed
-  abbrev pub FailsToRead : Task → Settings → Type 0
-  FailsToRead (Replay ahead) settings = ReadFails settings most old new
-  FailsToRead (Exercise seed moments) settings = ⊥
-  FailsToRead (Judge name) settings = OfHeld name (WritesNothing settings most old new Fault)
-
-  -- the sink failed
-  abbrev pub FailsToWrite : Task → Settings → Type 0
-  FailsToWrite (Replay ahead) settings = WriteFails settings most old new ahead
-  FailsToWrite (Exercise seed moments) settings =
-      OnlyBegins (IsSummaryOf settings seed moments) old new
-  FailsToWrite (Judge name) settings = OfHeld name (BreaksJudgement settings most old new)
-
-  -- there were more bytes than may be read
-  abbrev pub Exceeds : Task → Settings → Type 0
-  Exceeds (Replay ahead) settings = PassesLimit settings most old new
-  Exceeds (Exercise seed moments) settings = ⊥
-  Exceeds (Judge name) settings = OfHeld name (WritesNothing settings most old new Limit)
+  -- what a run of a task leaves. Accepted: the input was read to its end, and no line of it was
+  -- refused; the exercise ended; the report is that of the states. Refused: the input was read to
+  -- its end, and some line of it was refused; the report is not that of the states. SourceFault and
+  -- SinkFault: the source or the sink failed. Limit: there were more bytes than may be read
+  abbrev pub Ends : Status → Task → Settings → Type 0
+  Ends Accepted (Replay ahead) settings = ReportsAll settings most old new false
+  Ends Accepted (Exercise seed moments) settings = OnlyWrites (IsSummaryOf settings seed moments) old new
+  Ends Accepted (Judge name) settings =
+      OfStates old.shelf.texts name (λ states. TakesSome (IsSame settings most old new states) old.sink new.sink)
+  Ends Refused (Replay ahead) settings = ReportsAll settings most old new true
+  Ends Refused (Judge name) settings =
+      OfStates old.shelf.texts name (λ states. TakesSome (IsDifference settings most old new states) old.sink new.sink)
+  Ends SourceFault (Replay ahead) settings = Reports settings most old new ReadFails false
+  Ends SourceFault (Judge name) settings = OfStates old.shelf.texts name (WritesNothing settings most old new found.Fault)
+  Ends SinkFault (Replay ahead) settings = WriteFails settings most old new ahead
+  Ends SinkFault (Exercise seed moments) settings = OnlyBreaks (IsSummaryOf settings seed moments) old new
+  Ends SinkFault (Judge name) settings = OfStates old.shelf.texts name (BreaksJudgement settings most old new)
+  Ends Limit (Replay ahead) settings = Reports settings most old new (PassesMost most) false
+  Ends Limit (Judge name) settings = OfStates old.shelf.texts name (WritesNothing settings most old new found.Limit)
+  Ends _ _ _ = ⊥

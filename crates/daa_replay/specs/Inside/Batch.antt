@@ -13,10 +13,15 @@ use Rattle.daa_replay.specs.declared.batch.Part.{Part}
 use Rattle.daa_replay.specs.declared.place.Place.{Place}
 use Rattle.daa_replay.specs.Lines.{is_refusal}
 use Rattle.daa_replay.specs.Moment.{IsEventText}
-use Rattle.daa_replay.specs.Outside.{TakesSome}
 use Rattle.daa_replay.specs.Inside.Events.{HasLines}
 use Rattle.daa_replay.specs.Inside.Moment.{BeginsText}
 use Rattle.daa_replay.specs.Inside.Place.{Gives, IsPlace, Reading, reading_at}
+
+-- the sink took a text of which P holds after what it had taken before
+pub record AppendsSome (P : Text → Type 0) (old new : ToldBytes) : Type 0 where
+  pub text : Text
+  pub is : P text
+  pub taken : Appends old new text
 
 module _ (settings : Settings) where
   -- the text grew by that of the event
@@ -25,7 +30,7 @@ module _ (settings : Settings) where
 
   -- the sink took the texts of these events
   abbrev pub TakesTexts : List Event → (old new : ToldBytes) → Type 0
-  TakesTexts events old new = TakesSome (SplitsByEach (IsEventText settings) events) old new
+  TakesTexts events old new = AppendsSome (SplitsByEach (IsEventText settings) events) old new
 
   -- the sink took the texts of some first events, and a beginning of the next one's
   pub record StopsWithin (events : List Event) (old new : ToldBytes) : Type 0 where

@@ -1,5 +1,5 @@
 -- What is known when a run was made ready, or why it was not.
-use Rattle.std.specs.Prelude.{ℕ, ◌≡◌, ◌≤◌, length, List, Option, None, Some, Result, Ok, Err}
+use Rattle.std.specs.Prelude.{ℕ, ◌≡◌, ◌<◌, ◌≤◌, length, List, Option, None, Some, Result, Ok, Err, IfSome, IsSomeAnd}
 use Rattle.std.specs.Option.{option_map_or}
 use Rattle.daa_engine.specs.EngineState.{EngineState}
 use Rattle.daa_outside.specs.Shelf.{Texts, longest_text}
@@ -17,7 +17,7 @@ use Rattle.daa_replay.specs.declared.opening.Unready.{Unready}
 use Rattle.daa_replay.specs.declared.opening.Unready.TheVariants.{NotTaken, Refused, StatesLong, ShelfFault, NoMemory}
 use Rattle.daa_replay.specs.declared.opening.Work.{Work}
 use Rattle.daa_replay.specs.declared.opening.Work.TheVariants as work
-use Rattle.daa_replay.specs.Opening.{IsHeld, IsHeldLong, Opens, OpensLong, IsRefused}
+use Rattle.daa_replay.specs.Opening.{IsHeld, Opens, OpensLong, IsRefused}
 
 -- a fault that has a code refuses the configuration; the one without says that memory ran out
 abbrev pub unready_of : ConfigFault → Unready
@@ -58,6 +58,11 @@ IsWork texts task (work.Exercise seed moments) = task ≡ Exercise seed moments
 IsWork texts task (work.Judge states sheet) =
     (name : Text) × (task ≡ Judge name) × IsHeld texts name states.items
     × (length states.items ≤ longest_text)
+
+-- if the shelf shows its texts, it holds a text under the name that is too long to be fetched
+abbrev pub IsHeldLong : Option Texts → Text → Type 0
+IsHeldLong texts name =
+    IfSome texts (λ held. IsSomeAnd (held name) (λ text. longest_text < length text))
 
 -- the work of a task was made ready, or why it was not
 abbrev pub PreparesAs : Option Texts → Task → Result Work Unready → Type 0

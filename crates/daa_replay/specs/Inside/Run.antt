@@ -1,32 +1,32 @@
 -- What the work of a run leaves at the shelf, the source and the sink, by its status.
 use Rattle.std.specs.Prelude.{ℕ, ◌≤◌, true, false}
+use Rattle.daa_ahead.specs.Moves.{ReadFails, PassesMost}
 use Rattle.daa_config.specs.Settings.{Settings}
 use Rattle.daa_exercise.specs.Summary.{IsSummaryOf}
 use Rattle.daa_judge.specs.declared.found.Found.TheVariants as found
 use Rattle.daa_lines.specs.LinesOf.{Bytes}
-use Rattle.daa_outside.specs.Faults.{HasRisen}
 use Rattle.daa_replay.specs.declared.opening.Work.{Work}
 use Rattle.daa_replay.specs.declared.opening.Work.TheVariants as work
 use Rattle.daa_replay.specs.declared.status.Status.{Status}
 use Rattle.daa_replay.specs.declared.status.Status.TheVariants.{Accepted, Refused, SourceFault, SinkFault, Limit}
-use Rattle.daa_replay.specs.Judge.{WritesSame, WritesDifference, WritesNothing, BreaksJudgement}
-use Rattle.daa_replay.specs.Outside.{Outside, OnlyWrites, OnlyBegins}
-use Rattle.daa_replay.specs.Replay.{ReadsAll, ReadFails, WriteFails, PassesLimit}
+use Rattle.daa_replay.specs.Judge.{IsSame, IsDifference, WritesNothing, BreaksJudgement}
+use Rattle.daa_replay.specs.Outside.{Outside, TakesSome, OnlyWrites, OnlyBreaks}
+use Rattle.daa_replay.specs.Replay.{Reports, ReportsAll, WriteFails}
 
 module _ (settings : Settings) (most : ℕ) where
   -- what a replay leaves
   abbrev pub Replays : (ahead : ℕ) → (old new : Outside) → Status → Type 0
-  Replays ahead old new Accepted = ReadsAll settings most old new false
-  Replays ahead old new Refused = ReadsAll settings most old new true
-  Replays ahead old new SourceFault = ReadFails settings most old new
+  Replays ahead old new Accepted = ReportsAll settings most old new false
+  Replays ahead old new Refused = ReportsAll settings most old new true
+  Replays ahead old new SourceFault = Reports settings most old new ReadFails false
   Replays ahead old new SinkFault = WriteFails settings most old new ahead
-  Replays ahead old new Limit = PassesLimit settings most old new
+  Replays ahead old new Limit = Reports settings most old new (PassesMost most) false
   Replays ahead old new _ = ⊥
 
   -- what a comparison leaves
   abbrev pub Judges : (states : Bytes) → (old new : Outside) → Status → Type 0
-  Judges states old new Accepted = WritesSame settings most old new states
-  Judges states old new Refused = WritesDifference settings most old new states
+  Judges states old new Accepted = TakesSome (IsSame settings most old new states) old.sink new.sink
+  Judges states old new Refused = TakesSome (IsDifference settings most old new states) old.sink new.sink
   Judges states old new SourceFault = WritesNothing settings most old new found.Fault states
   Judges states old new SinkFault = BreaksJudgement settings most old new states
   Judges states old new Limit = WritesNothing settings most old new found.Limit states
@@ -35,8 +35,7 @@ module _ (settings : Settings) (most : ℕ) where
   -- what an exercise leaves
   abbrev pub Exercises : (seed moments : ℕ) → (old new : Outside) → Status → Type 0
   Exercises seed moments old new Accepted = OnlyWrites (IsSummaryOf settings seed moments) old new
-  Exercises seed moments old new SinkFault = HasRisen old.sink.faults new.sink.faults
-      × OnlyBegins (IsSummaryOf settings seed moments) old new
+  Exercises seed moments old new SinkFault = OnlyBreaks (IsSummaryOf settings seed moments) old new
   Exercises seed moments old new _ = ⊥
 
   -- what the work leaves

@@ -1,5 +1,6 @@
 -- The status of a run, and what is left where a run without a configuration says why.
-use Rattle.std.specs.Prelude.{ℕ, Option, None, Some, ◌≡◌, ◌≤◌, ◌⊎◌, [], ◌∷◌, codes}
+use Rattle.std.specs.Prelude.{ℕ, List, Option, None, Some, ◌≡◌, ◌≤◌, ◌⊎◌, [], ◌∷◌, codes}
+use Rattle.std.specs.Io.KnownBytes.{Appends}
 use Rattle.daa_replay.specs.declared.status.Status.{Status}
 use Rattle.daa_replay.specs.declared.status.Status.TheVariants.{Accepted, Refused, NotTaken, BadConfiguration, SourceFault, SinkFault, NoMemory, ShelfFault, Limit, StatesLong}
 use Rattle.daa_config.specs.Fault as config
@@ -9,8 +10,7 @@ use Rattle.daa_report.specs.Says.{AppendsFront}
 use Rattle.daa_replay.specs.declared.opening.Unready.{Unready}
 use Rattle.daa_replay.specs.declared.opening.Unready.TheVariants as unready
 use Rattle.daa_replay.specs.declared.status.Status.TheVariants as status
-use Rattle.daa_replay.specs.Opening.{usage_line, long_line}
-use Rattle.daa_replay.specs.Outside.{Takes}
+use Rattle.daa_replay.specs.Opening.{usage_line}
 use Rattle.daa_ahead.specs.Bytes.{StreamState}
 
 -- the number that the process ends with
@@ -26,6 +26,11 @@ code_of ShelfFault = 7
 code_of Limit = 8
 code_of StatesLong = 9
 
+-- the sink took exactly this text, and no call of it failed
+pub record Takes (old new : StreamState) (text : List ℕ) : Type 0 where
+  pub taken : Appends old.bytes new.bytes text
+  pub calm : new.faults ≡ old.faults
+
 -- the line was not written whole, since the sink failed
 pub record BreaksLine (old new : StreamState) (text : Text) : Type 0 where
   pub risen : HasRisen old.faults new.faults
@@ -37,6 +42,10 @@ abbrev pub WritesLine : Status → StreamState → StreamState → Text → Stat
 WritesLine said old new text result =
     ((result ≡ said) × Takes old new text)
     ⊎ ((result ≡ status.SinkFault) × BreaksLine old new text)
+
+-- the line that is written if the states are too long
+abbrev pub long_line : Text
+long_line = codes "states long\n"
 
 -- the code of the configuration was written; where there is none, there was no memory
 abbrev pub WritesCode : Option ℕ → StreamState → StreamState → Status → Type 0
