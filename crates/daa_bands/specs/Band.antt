@@ -8,7 +8,8 @@ use Rattle.daa_bands.specs.declared.band.Band.{Band}
 abbrev pub band_of : ℤ → ℤ → ℕ → Band
 band_of from upto level = record { from = from; upto = upto; level = level }
 
--- the stretch of a band begins with the band's first value and ends with its last, and all of it has the band's level
+-- the stretch of a band, values each with its level, begins with the band's first value and ends with its last, and all of
+-- it has the band's level
 pub record IsStretch (band : Band) (stretch : List (ℤ × ℕ)) : Type 0 where
   pub first : (others : List (ℤ × ℕ)) × (stretch ≡ (band.from, band.level) ∷ others)
   pub last : (others : List (ℤ × ℕ)) × (stretch ≡ others ++ (band.upto, band.level) ∷ [])

@@ -24,9 +24,9 @@ module _ (output : ℕ → ℕ) where
   unfoldable pub count_at : ℕ → ℕ
   count_at at = nat_abs (picked (pos 0) (pos 8) (output (at + 4)))
 
-  -- the aircraft of a number is named A1, A2, ..; its six numbers are the draws from a place on: its place in thousandths of a
-  -- nautical mile, its height above the ownship's altitude in feet, its speeds east and north in tenths of a knot and its
-  -- vertical speed in feet per minute; its report is of this second
+  -- the aircraft of a number is named A1, A2, ..; its six numbers are the draws from a place on: its place east and north in
+  -- thousandths of a nautical mile, its height above the ownship's altitude in feet, its speeds east and north in tenths of a
+  -- knot and its vertical speed in feet per minute; its report is of this second
   unfoldable pub aircraft_at : ℤ → ℕ → ℕ → Traffic
   aircraft_at own_altitude number at = record {
     id = codes "A" ++ decimal number;
@@ -44,7 +44,7 @@ module _ (output : ℕ → ℕ) where
   begin_of zero = 0
   begin_of (suc time) = begin_of time + (5 + 6 * count_at (begin_of time))
 
-  -- the moment of a time: the ownship, and then so many aircraft, one after the other, numbered from 1
+  -- the moment of a time: the ownship, and then as many aircraft as were drawn, one after the other, numbered from 1
   unfoldable pub moment_of : ℕ → Picture
   moment_of time = let at = begin_of time in record {
     time = time;

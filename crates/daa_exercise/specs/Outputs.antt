@@ -5,7 +5,7 @@ use Rattle.rand_pcg.specs.Lcg.{advance}
 use Rattle.rand_pcg.specs.Pcg.{multiplier_64, pcg32, pcg32_of_seed}
 
 -- the outputs of a seed, of 32 bits and numbered from 0: those that a PCG32 generator gives whose state and stream are the
--- 16 bytes that are made of the number
+-- 16 bytes that are made of the seed
 unfoldable pub outputs_of : (seed number : ℕ) → ℕ
 outputs_of seed number = (pcg32 (advance 64 multiplier_64 number (pcg32_of_seed (pcg32_seed 16 seed)))).0
 

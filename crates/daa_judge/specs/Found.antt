@@ -7,9 +7,9 @@ use Rattle.daa_judge.specs.declared.found.Found.{Found}
 use Rattle.daa_judge.specs.declared.found.Found.TheVariants as found
 
 module _ (report : Bytes) (most : ℕ) where
-  -- what was read, and whether it was all (`ended`), shows that it differs from the report, and in
-  -- which line first, whatever else follows; all of it but the last read, of at most 4096 bytes,
-  -- begins the report
+  -- what was read shows, whatever may follow it (nothing, if it was all: `ended`), that it differs
+  -- from the report, and in which line first; all of it but at most the last 4096 bytes begin the
+  -- report
   pub record ShowsDifference (number : ℕ) (old new : StreamState) : Type 0 where
     pub front : Bytes
     pub last : Bytes

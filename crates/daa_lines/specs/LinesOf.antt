@@ -18,8 +18,8 @@ long_length = 256
 unfoldable pub stretches_of : Bytes → List Bytes
 stretches_of bytes = slice_split (λ byte. byte == line_feed) bytes
 
--- the stretches that are lines: all but the rest, and the rest at the end of the input if it is not empty, before it if
--- it is long
+-- the stretches that are lines: all but the rest, and the rest if it is not empty at the end of the input, or long
+-- before the end
 abbrev pub lines_in : Bool → List Bytes → List Bytes
 lines_in ended [] = []
 lines_in ended (rest ∷ []) = if nat_le (if ended then 1 else long_length) (length rest) then rest ∷ [] else []

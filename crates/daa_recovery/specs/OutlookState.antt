@@ -10,7 +10,8 @@ pub record Closes (settings : Settings) (l : ℕ) (level : Level) : Type 0 where
   pub there : IsLevelAt settings l level
   pub from : settings.numbers.resolve ≤ℤ pos l
 
--- a level that closes is violated on a leg before its lookahead, where a relation says on which leg a volume is violated
+-- some level that closes is violated on a leg before its lookahead; `IsViolatedOn volume leg` says that the volume is
+-- violated on that leg
 pub record IsClosedBy (settings : Settings) (IsViolatedOn : Volume → ℕ → Type 0) : Type 0 where
   pub number : ℕ
   pub level : Level

@@ -27,7 +27,8 @@ module _ (settings : Settings) (most : ℕ) (old new : Outside) where
   abbrev pub IsSame : Bytes → Text → Type 0
   IsSame states line = IsFound states found.Alike × (line ≡ codes "same\n")
 
-  -- the line has the number of the first line that differs: they are not
+  -- the line is `differs` and the number of the first line that is not the report's: the bytes are
+  -- not the report
   abbrev pub IsDifference : Bytes → Text → Type 0
   IsDifference states line = (number : ℕ) × IsFound states (found.Differs number) × (line ≡ numbers_line (codes "differs") (number ∷ []))
 

@@ -11,7 +11,8 @@ use Rattle.daa_replay.specs.declared.lines.Event.TheVariants as event
 use Rattle.daa_replay.specs.Lines.{events_of}
 
 module _ (settings : Settings) where
-  -- the text of an event: one line for a refusal, the moment's lines for an ended moment
+  -- the text of an event: of a refusal one line, with the refused line's number and the fault's
+  -- code; of an ended moment its lines
   abbrev pub IsEventText : Event → Text → Type 0
   IsEventText (event.Refused number fault) text = text ≡ numbers_line (codes "refused") (number ∷ code_of fault ∷ [])
   IsEventText (event.Ended picture) text = IsMomentText settings picture text

@@ -25,8 +25,10 @@ pub record OfStates (texts : Option Texts) (name : Text) (P : Bytes → Type 0) 
 module _ (most : ℕ) (old new : Outside) where
   -- what a run of a task leaves. Accepted: the input was read to its end, and no line of it was
   -- refused; the exercise ended; the report is that of the states. Refused: the input was read to
-  -- its end, and some line of it was refused; the report is not that of the states. SourceFault and
-  -- SinkFault: the source or the sink failed. Limit: there were more bytes than may be read
+  -- its end, and some line of it was refused; the report is not that of the states. SourceFault: the
+  -- source failed, and the report of what was read by then was written, or nothing of a comparison.
+  -- SinkFault: the sink failed, and a beginning was written. Limit: the limit of bytes was read, and
+  -- then one byte more; the report of the bytes before it was written, or nothing of a comparison
   abbrev pub Ends : Status → Task → Settings → Type 0
   Ends Accepted (Replay ahead) settings = ReportsAll settings most old new false
   Ends Accepted (Exercise seed moments) settings = OnlyWrites (IsSummaryOf settings seed moments) old new
