@@ -7,7 +7,7 @@ ghost use Rattle.daa_state.specs.InRange.{IsOwnInRange, IsTrafficInRange};
 mod by_seconds;
 
 use by_seconds::first_leg_by_seconds;
-use daa_alert::{alert, first_leg, now_level};
+use daa_alert::{Alert, alert, first_leg, now_level};
 use daa_config::examples::{FOUR_LEVELS, LARGEST_VALUES, ONE_LEVEL, THREE_LEVELS};
 use daa_config::{Config, read};
 use daa_state::examples::{ABEAM, CLIMBING, NORTH};
