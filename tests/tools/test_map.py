@@ -181,7 +181,7 @@ class Layout(unittest.TestCase):
         for path in glob.glob("crates/*/proofs/**/*.antt", root_dir=TOP, recursive=True):
             for number, line in enumerate(read(path).splitlines(), 1):
                 if not re.match("(pub )?use ", line):
-                    self.assertLessEqual(len(line), 200, f"{path}:{number}")
+                    self.assertLessEqual(len(line), 202, f"{path}:{number}")
 
 
 class WrongBodies(unittest.TestCase):
