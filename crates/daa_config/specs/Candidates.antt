@@ -17,7 +17,7 @@ grid_of Speed settings = settings.numbers.gs
 grid_of Climb settings = settings.numbers.vs
 grid_of Height settings = settings.numbers.alt
 
--- the rising list of values of a kind: min, min + step, ..
+-- the rising list of values of a kind: min, min + step, .., as many as its grid has
 unfoldable pub values_of : Kind → Settings → List ℤ
 values_of kind settings =
     map (λ i. (grid_of kind settings).min +ℤ pos i *ℤ (grid_of kind settings).step) (range_with_len 0 (count_of (grid_of kind settings)))

@@ -34,8 +34,8 @@ rows_of w =
 
 -- ---- the faults, in the order of their numbers
 
--- the configuration of these numbers, unless one is out of its range or a level asks for two models; there is no level, more than may be
--- or `resolve` is above their number; or ground speed, vertical speed or altitude has more values than may be
+-- the configuration of these numbers, unless a number is out of its range, `track_step` divides no full turn, or a level asks for two models;
+-- there is no level, there are more than 4, or `resolve` is above their number; or ground speed, vertical speed or altitude has more than 512 values
 unfoldable pub settings_of : Written → Result Settings ConfigFault
 settings_of w =
     if not (list_all (λ row. row.fits) (rows_of w) && (full_turn % nat_abs w.numbers.track_step == 0)) then Err OutOfRange

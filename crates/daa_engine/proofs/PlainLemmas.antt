@@ -52,7 +52,8 @@ module _ (s : Settings) (p : Picture) (unasked : s.last_times ≡ false) where
     bands_are = h.bands_are;
     answers_are = h.answers_are;
     recoveries_are = h.recoveries_are;
-    text_is = h.text_is ∙ with_no_last h.alerts (λ kind. flat_map (line_of kind) (h.bands kind)) (λ kind. resolve_line kind (h.answers kind Lower) (h.answers kind Upper)) h.recoveries (of_each h.lasts)
+    text_is = h.text_is ∙ with_no_last h.alerts
+        (λ kind. flat_map (line_of kind) (h.bands kind)) (λ kind. resolve_line kind (h.answers kind Lower) (h.answers kind Upper)) h.recoveries (of_each h.lasts)
         (none_each h.lasts (λ kind. no_last s.last_times unasked (h.answers kind Lower) kind (h.lasts kind) (h.lasts_are kind)));
   }
 
@@ -68,7 +69,8 @@ module _ (s : Settings) (p : Picture) (unasked : s.last_times ≡ false) where
     answers_are = h.answers_are;
     lasts_are = λ kind. silent s.last_times unasked (h.answers kind Lower) kind;
     recoveries_are = h.recoveries_are;
-    text_is = h.text_is ∙ sym (with_no_last h.alerts (λ kind. flat_map (line_of kind) (h.bands kind)) (λ kind. resolve_line kind (h.answers kind Lower) (h.answers kind Upper)) h.recoveries (of_each (λ kind. []))
+    text_is = h.text_is ∙ sym (with_no_last h.alerts
+        (λ kind. flat_map (line_of kind) (h.bands kind)) (λ kind. resolve_line kind (h.answers kind Lower) (h.answers kind Upper)) h.recoveries (of_each (λ kind. []))
         (none_each (λ kind. []) (λ kind. refl)));
   }
 

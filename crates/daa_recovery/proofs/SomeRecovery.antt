@@ -81,7 +81,8 @@ module _ (p : OutlookState) (is : IsOutlook p) (candidate : Candidate) (c : IsCa
         (within_decided p.settings p.picture.own candidate aircraft is.accepted is.picture.own c t p.cylinder
         is.cylinder p.horizon (horizon_short p.settings p.horizon is.accepted is.horizon))
       where
-        go : IsDecidable (IsClosedFrom p candidate m aircraft) → IsDecidable (MeetsWithin p.settings p.picture.own candidate aircraft p.cylinder p.horizon) → IsDecidable (IsClear p candidate m aircraft)
+        go : IsDecidable (IsClosedFrom p candidate m aircraft) → IsDecidable (MeetsWithin p.settings p.picture.own candidate aircraft p.cylinder p.horizon)
+            → IsDecidable (IsClear p candidate m aircraft)
         go (inl x) y = inr (λ k. k.open_levels x)
         go (inr none) (inl y) = inr (λ k. k.apart y)
         go (inr none) (inr apart) = inl (record { open_levels = none; apart = apart })

@@ -19,7 +19,7 @@ begins_with_format (name ∷ fields) = bytes_eq name (codes "format")
 abbrev pub is_format_line : List ℕ → Bool
 is_format_line line = begins_with_format (fields_of (strip_carriage_return line))
 
--- the word that the first field names, read from the others; a line without a field, or that is a comment, says nothing
+-- the word that the first field names, read from the others; a line without fields, or whose first begins with a number sign (35), says nothing
 unfoldable pub four_word_of_fields : List (List ℕ) → Checked Word
 four_word_of_fields [] = Ok says.Skip
 four_word_of_fields (name ∷ fields) =

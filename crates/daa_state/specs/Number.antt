@@ -7,7 +7,7 @@ use Rattle.daa_state.specs.Fault.{Checked, ◌>>=◌, checked_map}
 use Rattle.daa_state.specs.Ranges.{Bounds}
 use Rattle.daa_state.specs.declared.fault.LineFault.TheVariants.{BadNumber, OutOfRange}
 
--- the number that 1 to 10 digits write
+-- the number that the bytes write, if they are 1 to 10 digits (the digit 0 is 48)
 abbrev pub number_of_digits : List ℕ → Checked ℕ
 number_of_digits digits =
     if nat_le 1 (length digits) && nat_le (length digits) 10 && list_all is_ascii_digit digits

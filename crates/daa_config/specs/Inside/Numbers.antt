@@ -1,4 +1,4 @@
--- How many levels and values may not be.
+-- Whether the levels or the values are too many, or there is no level.
 use Rattle.std.specs.Prelude.{ℤ, pos, Bool, ◌||◌, ◌==◌, nat_lt, int_lt, List, [], ◌∷◌, length}
 use Rattle.std.specs.List.{list_any}
 use Rattle.daa_config.specs.declared.numbers.Numbers.{Numbers}
