@@ -11,6 +11,3 @@ mod products;
 mod tau;
 
 pub use detection::{hits, is_hit};
-
-#[cfg(test)]
-mod tests;

@@ -14,6 +14,3 @@ pub use laws::{
     delayed_by_0_is_the_candidate, has_one_last_time, held_before_it_begins, open_by_0_is_open,
     worked_examples,
 };
-
-#[cfg(test)]
-mod tests;

@@ -5,8 +5,7 @@ ghost use Rattle.std.specs.Prelude.{◌≡◌, ◌<◌, ◌≤◌, unsigned_abs}
 ghost use Rattle.daa_fixed.specs.Leg.{IsLegInRange, IsSolidBelow};
 ghost use Rattle.daa_taumod.specs.Volume.{IsVolumeInRange};
 
-use super::*;
-use crate::detection::nearest_hit;
+use daa_detect::{hits, is_hit};
 use daa_fixed::{Flat, Leg, Point, Solid, before, dot, square};
 use daa_taumod::{Model, Volume, violates};
 use daa_vwindow::window;
@@ -341,14 +340,14 @@ fn violates_at_one_of_four(leg: &Leg, volume: &Volume) -> bool
         || violates_at(leg, volume, middle_of(leg, volume))
 }
 
-/// What `hits` answers, where the body without the box test and the plain one answer the same.
+/// What `hits` answers, where `is_hit` and a body without the box test answer the same.
 fn agree(leg: &Leg, volume: &Volume) -> Option<bool>
     requires leg { IsLegInRange leg.now }
     requires volume { IsVolumeInRange volume.now }
 {
     let answer = hits(leg, volume).is_some();
     let plain = violates_at_one_of_four(leg, volume);
-    if answer == nearest_hit(leg, volume).is_some() && answer == plain {
+    if answer == is_hit(leg, volume) && answer == plain {
         Some(answer)
     } else {
         None

@@ -3,9 +3,9 @@
 ghost use Rattle.std.specs.Prelude.{IfSome};
 ghost use Rattle.daa_state.specs.InRange.{IsPictureInRange};
 
-use super::*;
 use daa_config::examples::ONE_LEVEL;
 use daa_config::{Config, Kind, read};
+use daa_last::last_of;
 use daa_state::examples::{CLIMBING, NORTH};
 use daa_state::{Moments, Picture, read_line};
 use std::process::Abort;

@@ -1,0 +1,5 @@
+//! Tests of daa_detect.
+#![tactic(auto)]
+
+#[cfg(test)]
+mod tests;

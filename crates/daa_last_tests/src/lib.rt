@@ -1,0 +1,5 @@
+//! Tests of daa_last.
+#![tactic(auto)]
+
+#[cfg(test)]
+mod tests;
