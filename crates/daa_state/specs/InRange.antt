@@ -8,7 +8,6 @@ use Rattle.daa_state.specs.declared.word.Traffic.{Traffic}
 use Rattle.daa_state.specs.declared.word.Picture.{Picture}
 use Rattle.daa_state.specs.declared.word.Word.{Word}
 use Rattle.daa_state.specs.declared.word.Word.TheVariants as says
-use Rattle.daa_state.specs.declared.moments.Moment.{Moment}
 
 -- the number is in the range; both ends belong to it
 abbrev pub IsWithin : Bounds → ℤ → Type 0
