@@ -1,4 +1,4 @@
-use Rattle.std.proofs.Common.{◌∙◌, sym, true, false}
+use Rattle.std.proofs.Common.{◌∙◌, sym}
 use Rattle.daa_config.specs.ConfigOf.{Written}
 use Rattle.daa_config.proofs.RangeLemmas.{AreKindsFit, levels_decide, recovery_refuses, top_refuses}
 use Rattle.daa_config.proofs.accepting.are_all_in_range.Goals as goal
