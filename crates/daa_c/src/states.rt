@@ -2,18 +2,20 @@
 
 ghost use Rattle.std.specs.Prelude.{◌≡◌, pos, ◌≢◌, negsuc, true, false};
 ghost use Rattle.daa_numbers.specs.Faults.{IsFaultOf};
-ghost use Rattle.daa_numbers.specs.Lines.{IsLineTaken, IsLineRefused};
+ghost use Rattle.daa_numbers.specs.Lines.{IsLineTaken, IsLineRefused, KeepsMoment};
 
 use daa_numbers::{DaaFault, DaaLines, DaaTraffic, Own};
 
 /// Takes the next state line. Returns 0; or -1 if the line ended the moment, whose numbers stay; or
-/// the number of the line's fault, 1 to 13, and then nothing has changed.
+/// the number of the line's fault, 1 to 13, and then nothing has changed. The numbers of a moment that
+/// has ended stay until the next one begins.
 #[unsafe(no_mangle)]
 pub extern "C" fn daa_line(line: &[u8], lines: &mut DaaLines) -> i32
     ensures taken { result ≡ pos 0 → IsLineTaken lines.old line.now false lines.new }
     ensures ended { result ≡ negsuc 0 → IsLineTaken lines.old line.now true lines.new }
     ensures refused { result ≢ pos 0 → result ≢ negsuc 0 → IsLineRefused lines.old line.now result }
     ensures kept { result ≢ pos 0 → result ≢ negsuc 0 → lines.new ≡ lines.old }
+    ensures stays { lines.new.opened ≡ 0 → KeepsMoment lines.old lines.new }
 {
     daa_numbers::line(line, lines)
 }

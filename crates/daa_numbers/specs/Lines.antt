@@ -39,6 +39,10 @@ picture_by lines = record { time = lines.time; own = lines.own; traffic = record
 abbrev pub picture_if : Bool → DaaLines → Option Picture
 picture_if ended lines = if ended then Some (picture_by lines) else None
 
+-- the numbers of the moment are those of before, whether or not one is open
+abbrev pub KeepsMoment : (old new : DaaLines) → Type 0
+KeepsMoment old new = new ≡ record old { format = new.format; ended = new.ended; last = new.last; opened = new.opened }
+
 -- what a line makes of those before it: its word, and then the step of the word; or the first fault
 abbrev pub line_step : MomentsState → List ℕ → Checked Stepped
 line_step state line = word_of line state.format >>= step state

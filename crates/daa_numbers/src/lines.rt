@@ -7,6 +7,7 @@ ghost use Rattle.daa_state.specs.Fault.{code_of};
 ghost use Rattle.daa_state.specs.InRange.{IsFormat, IsWordInRange};
 ghost use Rattle.daa_state.specs.MomentStep.{has_id};
 ghost use Rattle.daa_numbers.specs.Lines.{format_by, aircraft_by, IsLineTaken, IsLineRefused};
+ghost use Rattle.daa_numbers.specs.Lines.{KeepsMoment};
 ghost use Rattle.daa_numbers.specs.Inside.Lines.{IsStep, IsNoStep};
 ghost use Rattle.daa_numbers.specs.States.{text_of, traffic_of};
 
@@ -72,6 +73,7 @@ fn begin(lines: &mut DaaLines, time: u32) -> Result<(), LineFault>
     ensures taken { OnOk result (IsStep lines.old (Word.Moment time) false lines.new) }
     ensures refused { IfErr result (IsNoStep lines.old (Word.Moment time)) }
     ensures kept { OnErr result (lines.new ≡ lines.old) }
+    ensures stays { lines.new.opened ≡ 0 → KeepsMoment lines.old lines.new }
 {
     if lines.opened != 0 {
         return Err(LineFault::MomentOpen);
@@ -92,6 +94,7 @@ fn add_own(lines: &mut DaaLines, own: &Own) -> Result<(), LineFault>
     ensures taken { OnOk result (IsStep lines.old (Word.Own own.now) false lines.new) }
     ensures refused { IfErr result (IsNoStep lines.old (Word.Own own.now)) }
     ensures kept { OnErr result (lines.new ≡ lines.old) }
+    ensures stays { lines.new.opened ≡ 0 → KeepsMoment lines.old lines.new }
 {
     if lines.opened == 0 {
         return Err(LineFault::NoMoment);
@@ -132,6 +135,7 @@ fn add_traffic(lines: &mut DaaLines, traffic: &Traffic) -> Result<(), LineFault>
     ensures taken { OnOk result (IsStep lines.old (Word.Traffic traffic.now) false lines.new) }
     ensures refused { IfErr result (IsNoStep lines.old (Word.Traffic traffic.now)) }
     ensures kept { OnErr result (lines.new ≡ lines.old) }
+    ensures stays { lines.new.opened ≡ 0 → KeepsMoment lines.old lines.new }
 {
     if lines.opened == 0 {
         return Err(LineFault::NoMoment);
@@ -154,6 +158,7 @@ fn set_format(lines: &mut DaaLines, format: u32) -> Result<(), LineFault>
     ensures taken { OnOk result (IsStep lines.old (Word.Format format) false lines.new) }
     ensures refused { IfErr result (IsNoStep lines.old (Word.Format format)) }
     ensures kept { OnErr result (lines.new ≡ lines.old) }
+    ensures stays { lines.new.opened ≡ 0 → KeepsMoment lines.old lines.new }
 {
     if lines.opened != 0 {
         return Err(LineFault::MomentOpen);
@@ -168,6 +173,7 @@ fn end(lines: &mut DaaLines) -> Result<(), LineFault>
     ensures taken { OnOk result (IsStep lines.old Word.End true lines.new) }
     ensures refused { IfErr result (IsNoStep lines.old Word.End) }
     ensures kept { OnErr result (lines.new ≡ lines.old) }
+    ensures stays { lines.new.opened ≡ 0 → KeepsMoment lines.old lines.new }
 {
     if lines.opened == 0 {
         return Err(LineFault::NoMoment);
@@ -188,6 +194,7 @@ fn take(lines: &mut DaaLines, word: &Word) -> Result<bool, LineFault>
     ensures taken { IfOk result (λ ended. IsStep lines.old word.now ended lines.new) }
     ensures refused { IfErr result (IsNoStep lines.old word.now) }
     ensures kept { OnErr result (lines.new ≡ lines.old) }
+    ensures stays { lines.new.opened ≡ 0 → KeepsMoment lines.old lines.new }
 {
     match word {
         Word::Moment(time) => begin(lines, *time)?,
@@ -211,12 +218,14 @@ fn fault_number(fault: LineFault) -> i32
 }
 
 /// Takes the next state line. Returns 0; or -1 if the line ended the moment, whose numbers stay; or
-/// the number of the line's fault, 1 to 13, and then nothing has changed.
+/// the number of the line's fault, 1 to 13, and then nothing has changed. The numbers of a moment that
+/// has ended stay until the next one begins.
 pub fn line(line: &[u8], lines: &mut DaaLines) -> i32
     ensures taken { result ≡ pos 0 → IsLineTaken lines.old line.now false lines.new }
     ensures ended { result ≡ negsuc 0 → IsLineTaken lines.old line.now true lines.new }
     ensures refused { result ≢ pos 0 → result ≢ negsuc 0 → IsLineRefused lines.old line.now result }
     ensures kept { result ≢ pos 0 → result ≢ negsuc 0 → lines.new ≡ lines.old }
+    ensures stays { lines.new.opened ≡ 0 → KeepsMoment lines.old lines.new }
 {
     let word = match read_line(line, format(lines)) {
         Ok(word) => word,
