@@ -108,6 +108,8 @@ impl Moments {
     pub fn adds(&mut self, word: &Word) -> bool
         requires range { IsWordInRange word.now }
         ensures taken { result ≡ true → step self.old word.now ≡ Ok (stepped self.new None) }
+        ensures passed { result ≡ false → IfOk (step self.old word.now)
+            (λ next. next.picture ≡ None → next.state.moment ≡ self.old.moment) }
         ensures unchanged { result ≡ false → self.new ≡ self.old }
     {
         match word {
