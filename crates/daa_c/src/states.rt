@@ -6,8 +6,9 @@ ghost use Rattle.daa_numbers.specs.Lines.{IsLineTaken, IsLineRefused, KeepsMomen
 
 use daa_numbers::{DaaFault, DaaLines, DaaTraffic, Own};
 
-/// Takes the next state line. Returns 0; or -1 if the line ended the moment, whose numbers stay until
-/// the next one begins; or the number of the line's fault, 1 to 13, and then nothing has changed.
+/// Takes the next state line. Returns 0; or -1 if the line ended the moment, whose numbers stay
+/// until the next one begins; or the number of the line's fault, 1 to 13, and then nothing has
+/// changed.
 #[unsafe(no_mangle)]
 pub extern "C" fn daa_line(line: &[u8], lines: &mut DaaLines) -> i32
     ensures taken { result ≡ pos 0 → IsLineTaken lines.old line.now false lines.new }

@@ -47,7 +47,8 @@ pub fn drawn_moments_are_taken()
 {}
 
 /// Over any moments, how often each level was an alert level adds up to the number of aircraft, and
-/// how often each was shown for a kind to the number of moments times that of the kind's candidates.
+/// how often each was shown for a kind to the number of moments times that of the kind's
+/// candidates.
 pub fn counts_add_up()
     ensures alerts { (settings : Settings) (pictures : List Picture) (levels : List ℕ)
         → SplitsByEach (λ (picture : Picture).

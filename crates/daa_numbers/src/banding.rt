@@ -17,7 +17,8 @@ use crate::setting::{DaaConfig, accept};
 use daa_bands::{Band, Board, runs};
 use daa_config::{Config, Kind};
 
-/// A stretch of a kind's rising values, from one up to another, that all show one level.
+/// A stretch of a kind's rising values, from one up to another, that all show one level; in the
+/// kind's unit.
 #[repr(C)]
 #[derive(Clone, Copy)]
 pub struct DaaBand {

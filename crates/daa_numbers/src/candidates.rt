@@ -9,7 +9,8 @@ use crate::codes::{BAD_INDEX, fault_code};
 use crate::setting::{DaaConfig, accept};
 use daa_config::Candidate;
 
-/// A candidate: its kind, 1 to 4, or 0 for the present flight, and the value that it goes to.
+/// A candidate: its kind, 1 to 4, or 0 for the present flight, and the value that it goes to, in
+/// the kind's unit.
 #[repr(C)]
 #[derive(Clone, Copy)]
 pub struct DaaCandidate {

@@ -1,7 +1,7 @@
 //! The engine over plain numbers, as a caller of another language has them: structs with the layout
 //! of C in, alerts, levels, bands, answers, recoveries, last times and the text of a moment out.
-//! Nothing is kept: each call answers from its arguments alone. daa_c and daa_web export these
-//! functions.
+//! Nothing is kept: each call answers from its arguments alone. daa_c, daa_toml and daa_web export
+//! these functions. The codes are those of `daidalus.h` of daa_c.
 #![tactic(auto)]
 
 mod alerts;

@@ -217,8 +217,9 @@ fn fault_number(fault: LineFault) -> i32
     i32::from(fault.code())
 }
 
-/// Takes the next state line. Returns 0; or -1 if the line ended the moment, whose numbers stay until
-/// the next one begins; or the number of the line's fault, 1 to 13, and then nothing has changed.
+/// Takes the next state line. Returns 0; or -1 if the line ended the moment, whose numbers stay
+/// until the next one begins; or the number of the line's fault, 1 to 13, and then nothing has
+/// changed.
 pub fn line(line: &[u8], lines: &mut DaaLines) -> i32
     ensures taken { result ≡ pos 0 → IsLineTaken lines.old line.now false lines.new }
     ensures ended { result ≡ negsuc 0 → IsLineTaken lines.old line.now true lines.new }

@@ -13,7 +13,8 @@ use crate::states::DaaTraffic;
 use daa_recovery::{Recovery, least};
 use daa_state::Own;
 
-/// The recovery of a kind: 1, after how many seconds and the value; or all 0 where there is none.
+/// The recovery of a kind: 1, after how many seconds and the value, in the kind's unit; or all 0
+/// where there is none.
 #[repr(C)]
 #[derive(Clone, Copy)]
 pub struct DaaRecovery {

@@ -14,7 +14,8 @@ use daa_config::Resolution;
 use daa_resolve::nearest;
 use daa_state::Own;
 
-/// The answer: 0 to keep the present flight, 1 to go to the value, 2 for no open candidate.
+/// The answer: 0 to keep the present flight, 1 to go to the value, in the kind's unit, 2 for no
+/// open candidate.
 #[repr(C)]
 #[derive(Clone, Copy)]
 pub struct DaaResolution {

@@ -84,8 +84,9 @@ fn fill(numbers: &ConfigNumbers, config: &mut DaaConfig)
     ask(numbers.recovery, config);
 }
 
-/// Fills in the numbers of a configuration's text, or answers its fault. The places after the last
-/// level stay as they were, and so does the cylinder if no recovery is asked for.
+/// Fills in the numbers of a configuration's text and returns 0, or answers its fault, 1 to 8, or
+/// 20 if memory ran out. The places after the last level stay as they were, and so does the
+/// cylinder if no recovery is asked for.
 pub fn read(alloc: Global, text: &[u8], config: &mut DaaConfig) -> i32
     ensures read { result ≡ pos 0 → IsReadAs text.now config.new }
     ensures kept { result ≢ pos 0 → config.new ≡ config.old }

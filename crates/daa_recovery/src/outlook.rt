@@ -286,7 +286,7 @@ pub fn horizon_of(config: &Config) -> u32
     horizon
 }
 
-/// The candidate of a kind that goes to a value.
+/// The candidate of a kind that goes to a value, in the kind's unit.
 pub fn candidate_going_to(kind: Kind, value: &i32) -> Candidate
     ensures { result ≡ to_value kind value.now }
 {

@@ -335,8 +335,8 @@ impl Lane {
     }
 }
 
-/// A lane for each worker, if there is memory for them. Their sheets have so many bytes together, as
-/// far as each has more than it needs.
+/// A lane for each worker, if there is memory for them. Their sheets have so many bytes together,
+/// as far as each has more than it needs.
 fn lanes_in(alloc: Global, workers: u32, sheets: usize) -> Option<Vec<Lane>> {
     let mut lanes = Vec::new(alloc);
     let sheet = sheets / (workers as usize).max(1);

@@ -63,9 +63,9 @@ pub(crate) fn begin() -> Progress
     }
 }
 
-/// Feeds bytes of a piece, of which the first `done` are fed, up to a line that does more than begin
-/// a moment or add to it, and returns its event, if it has one. The lines before it are taken on the
-/// way, without room for an event.
+/// Feeds bytes of a piece, of which the first `done` are fed, up to a line that does more than
+/// begin a moment or add to it, and returns its event, if it has one. The lines before it are taken
+/// on the way, without room for an event.
 #[inline(always)]
 pub(crate) fn next_of_lines(
     lines: &mut Lines,

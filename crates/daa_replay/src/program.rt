@@ -47,12 +47,12 @@ fn run_words<R: Threads + Sync, F: Shelf, S: Source + Send, K: Sink + Send, G: G
 }
 
 /// Reads the command words and fetches the configuration that they name from the shelf. A replay
-/// reads state lines from the source, at most `most` bytes of them, and writes their report to the
-/// sink; an exercise reads nothing and writes the summary of the moments that its seed draws; a
-/// comparison fetches states too, reads at most `most` bytes, and writes whether they are the
-/// report of the states, or in which line they first differ. `words[0]` is the program's name. The
-/// bytes are the same for every number of workers, and where nothing fails for every number of
-/// pieces that are read ahead.
+/// reads state lines from the source, at most `most` bytes of them and one more, and writes the
+/// report of at most `most` to the sink; an exercise reads nothing and writes the summary of the
+/// moments that its seed draws; a comparison fetches states too, reads as much as a replay, and
+/// writes whether it is the report of the states, or in which line they first differ. `words[0]` is
+/// the program's name. Where nothing fails, the bytes are the same for every number of workers and
+/// of pieces that are read ahead.
 ///
 /// Returns the status of the process:
 /// - 0 if the input was read to its end and no line was refused, or the exercise ended, or a

@@ -20,8 +20,9 @@ pub extern "C" fn daa_check(config: &DaaConfig) -> i32
     daa_numbers::check(config)
 }
 
-/// Takes the next state line. Returns 0; or -1 if the line ended the moment, whose numbers stay until
-/// the next one begins; or the number of the line's fault, 1 to 13, and then nothing has changed.
+/// Takes the next state line. Returns 0; or -1 if the line ended the moment, whose numbers stay
+/// until the next one begins; or the number of the line's fault, 1 to 13, and then nothing has
+/// changed.
 #[unsafe(no_mangle)]
 pub extern "C" fn daa_line(line: &[u8], lines: &mut DaaLines) -> i32
     ensures taken { result ≡ pos 0 → IsLineTaken lines.old line.now false lines.new }
