@@ -117,7 +117,7 @@ function daaCore(root) {
 
     // ---- a configuration
 
-    /** The configuration of a text of TOML, of bytes. Codes 1 to 5 are found by the readers of TOML, 6 to 8 by the engine. */
+    /** The configuration of a text of TOML, of bytes. Codes 1 to 5 are found here, 6 to 8 by the engine's check. */
     read(toml) {
       if (toml.length > LONGEST_CONFIG) throw new Refused(1);
       const document = daa.readToml(toml);

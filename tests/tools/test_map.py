@@ -75,6 +75,7 @@ class Map(unittest.TestCase):
             text = f"//! Tests of {of}.\n#![tactic(auto)]\n\n#[cfg(test)]\nmod tests;\n"
             self.assertEqual(read(f"crates/{name}/src/lib.rt"), text)
             self.assertIn(of, crates()[name])
+            self.assertFalse(os.path.exists(os.path.join(TOP, "crates", of, "proofs", "tests")), of)
             for path in glob.glob(os.path.join(TOP, "crates", of, "src", "**", "*.rt"), recursive=True):
                 self.assertNotIn("#[test]", read(path), path)
 

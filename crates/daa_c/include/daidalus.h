@@ -5,7 +5,7 @@
  * daa_decide). Each call answers from its arguments alone, so calls may run in parallel in threads of the caller.
  * No call starts a thread, waits, prints, or keeps a pointer after it returns. Only daa_read takes memory (malloc), and
  * frees it before it returns; it stands in an archive of its own, libdaa_toml.a, and the others in libdaa_c.a, which asks
- * for no allocator. A call takes less than 256 KB of stack (measured, not proved).
+ * for no allocator. A call takes less than 256 KB of stack (measured, but for daa_last; not proved).
  *
  * Each call but daa_line and daa_version returns DAA_OK, or another number of the list below; then it has filled in
  * nothing. Every number is checked, also those of a configuration, so no number passed in makes a call undefined. Where
@@ -99,7 +99,7 @@ struct daa_level {
  * step 1 to 62000).
  * recovery: 0 if no recovery is asked for, else hdist in 0.001 NM (1 to 10000) and vdist in ft (0 to 10000) are the
  * cylinder that a recovery stays out of. nearest: 1 if of the values that are clear again soonest the one nearest to the
- * present value is named, 0 if the least is.
+ * present value is named (a track by the angle of the turn; of two as near the right or the greater one), 0 if the least is.
  * last_times: 1 if the last times to manoeuvre are asked for, else 0.
  * count: how many levels there are, 1 to 4; level[0] is level 1. Elements of level from count on are not read. */
 struct daa_config {
