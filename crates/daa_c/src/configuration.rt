@@ -7,7 +7,7 @@ ghost use Rattle.daa_numbers.specs.Numbers.{settings_by};
 
 use daa_numbers::{DaaCandidate, DaaConfig};
 
-/// Returns 0 if a configuration is accepted, else its fault.
+/// Returns 0 if a configuration is accepted, else its fault, 6 to 8.
 #[unsafe(no_mangle)]
 pub extern "C" fn daa_check(config: &DaaConfig) -> i32
     ensures { result ≡ answer_of (settings_by config.now) }

@@ -71,8 +71,9 @@ impl FlightDeck {
     }
 
     /// Publishes the moments of the text while the displays look. At the end each display's screen
-    /// has seen what was published, and its drawing is the text of the last picture. `Err` says that
-    /// the text could not be published whole, or that a display could not draw the last picture.
+    /// has seen what was published, and its drawing is the text of the last picture. `Err` says
+    /// that the text could not be published whole, or that a display could not draw the last
+    /// picture.
     pub fn show<R: Threads + Wait + Sync>(
         &mut self,
         rt: &R,

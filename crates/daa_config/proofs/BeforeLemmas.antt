@@ -1,4 +1,5 @@
--- A level's table that has neither a key `tau` nor a key `tep`, and a document that has no key `last_times`.
+-- A level's table that has neither a key `tau` nor a key `tep`, a recovery's that has no key `nearest`, and a document that has no
+-- key `last_times`.
 use Prim.Native.String.{String}
 use Rattle.std.proofs.Common.{◌≡◌, ◌∙◌, ℕ, ℤ, pos, Bool, true, false, not, ◌||◌, ◌&&◌, List, Option, Some, None, refl, ap}
 use Rattle.std.specs.Prelude.{codes, option_and_then, is_some, int_le, if◌then◌else◌}
@@ -13,10 +14,11 @@ use Rattle.toml.specs.Data.{Data, Members, no_members, member, get_member, as_in
 use Rattle.daa_taumod.specs.declared.Model.TheVariants.{Tau, Tcpa, Taumod, Tep}
 use Rattle.daa_config.specs.declared.numbers.LevelNumbers.{LevelNumbers}
 use Rattle.daa_config.specs.declared.numbers.Numbers.{Numbers}
-use Rattle.daa_config.specs.Before.{IsAsBefore, IsDocumentAsBefore, rows_to_tcpa, rows_to_recovery, numbers_of, document_numbers}
+use Rattle.daa_config.specs.declared.numbers.RecoveryNumbers.{RecoveryNumbers}
+use Rattle.daa_config.specs.Before.{IsAsBefore, IsRecoveryAsBefore, IsDocumentAsBefore, rows_to_tcpa, rows_to_vdist, rows_to_recovery, numbers_of, recovery_numbers, document_numbers}
 use Rattle.daa_config.specs.Document.{number_in}
 use Rattle.daa_config.specs.Level.{is_set}
-use Rattle.daa_config.specs.Rows.{Row, document_rows, level_rows, has_other_key}
+use Rattle.daa_config.specs.Rows.{Row, document_rows, level_rows, recovery_rows, has_other_key}
 use Rattle.daa_config.proofs.TextLemmas.{asked_as_written}
 
 -- ---- keys that a table lacks
@@ -114,6 +116,32 @@ module _ (ms : Members) (tau : get_member (codes "tau") ms ≡ None) (tep : get_
     one = one_asks _ (is_set (number_in ms "tcpa")) _ tau_unset tep_unset;
     model = model_asked _ (is_set (number_in ms "tcpa")) _ tau_unset tep_unset;
   }
+
+-- ---- the recovery
+-- of three tests the last makes no difference
+third_fewer : (a b x : Bool) → x ≡ false → (a || (b || (x || false))) ≡ (a || (b || false))
+third_fewer a b x hx = rw hx refl
+
+recovery_unknown : (r : RecoveryNumbers) (ms : Members) → get_member (codes "nearest") ms ≡ None
+    → has_other_key (recovery_rows r) ms ≡ has_other_key (rows_to_vdist r) ms
+recovery_unknown r no_members nearest = refl
+recovery_unknown r (member key d ms) nearest =
+    let t = apart (codes "nearest") key d ms nearest in
+    let of : String → Bool = λ name. bytes_eq (codes name) key in
+    further _ _ (has_other_key (recovery_rows r) ms) (has_other_key (rows_to_vdist r) ms)
+    (third_fewer (of "hdist") (of "vdist") (of "nearest") t.0)
+    (recovery_unknown r ms t.1)
+
+pub recovery_as_before : (ms : Members) → get_member (codes "nearest") ms ≡ None → IsRecoveryAsBefore ms
+recovery_as_before ms nearest =
+    let zero_is : number_in ms "nearest" ≡ pos 0 = rw nearest refl in
+    record {
+      unknown = recovery_unknown (recovery_numbers ms) ms nearest;
+      missing = refl;
+      other = rw nearest refl;
+      fit = rw zero_is refl;
+      not_asked = ap is_set zero_is;
+    }
 
 -- ---- the document
 -- of nine tests the last makes no difference

@@ -1,15 +1,17 @@
 -- What a level's table says that has neither a key `tau` nor a key `tep`: the same as with the rows up to `tcpa`, and by that
--- key alone. And what a document says that has no key `last_times`: the same as with the rows up to `recovery`.
-use Rattle.std.specs.Prelude.{◌≡◌, ℤ, true, false, List, take, Ok, if◌then◌else◌}
+-- key alone. What a recovery's table says that has no key `nearest`: the same as with the rows up to `vdist`. And what a document
+-- says that has no key `last_times`: the same as with the rows up to `recovery`.
+use Rattle.std.specs.Prelude.{◌≡◌, ℤ, true, false, List, take, Some, Ok, if◌then◌else◌}
 use Rattle.std.specs.List.{list_all}
 use Rattle.toml.specs.Data.{Members}
 use Rattle.daa_taumod.specs.declared.Model.TheVariants.{Taumod, Tcpa}
 use Rattle.daa_config.specs.declared.numbers.LevelNumbers.{LevelNumbers}
 use Rattle.daa_config.specs.declared.numbers.Numbers.{Numbers}
+use Rattle.daa_config.specs.declared.numbers.RecoveryNumbers.{RecoveryNumbers}
 use Rattle.daa_config.specs.ConfigOf.{config_in}
-use Rattle.daa_config.specs.Document.{number_in, grid_in, level_by, numbers_by}
-use Rattle.daa_config.specs.Level.{is_set, asks_one, model_of}
-use Rattle.daa_config.specs.Rows.{Row, document_rows, level_rows, has_other_key, lacks_key, holds_other}
+use Rattle.daa_config.specs.Document.{number_in, grid_in, level_by, recovery_by, numbers_by}
+use Rattle.daa_config.specs.Level.{is_set, asks_one, asks_nearest, model_of}
+use Rattle.daa_config.specs.Rows.{Row, document_rows, level_rows, recovery_rows, has_other_key, lacks_key, holds_other}
 use Rattle.daa_config.specs.Settings.{Settings}
 
 -- the rows up to `tcpa`
@@ -28,6 +30,24 @@ pub record IsAsBefore (table : Members) : Type 0 where
   pub fit : list_all (λ row. row.fits) (level_rows (numbers_of table)) ≡ list_all (λ row. row.fits) (rows_to_tcpa (numbers_of table))
   pub one : asks_one (numbers_of table) ≡ true
   pub model : model_of (numbers_of table) ≡ (if is_set (number_in table "tcpa") then Tcpa else Taumod)
+
+-- ---- the recovery
+
+-- the rows up to `vdist`
+abbrev pub rows_to_vdist : RecoveryNumbers → List Row
+rows_to_vdist r = take 2 (recovery_rows r)
+
+-- the numbers of a recovery's table
+abbrev pub recovery_numbers : Members → RecoveryNumbers
+recovery_numbers table = recovery_by (number_in table)
+
+-- the last row makes no difference to the table, and it does not ask for the nearest value
+pub record IsRecoveryAsBefore (table : Members) : Type 0 where
+  pub unknown : has_other_key (recovery_rows (recovery_numbers table)) table ≡ has_other_key (rows_to_vdist (recovery_numbers table)) table
+  pub missing : lacks_key (recovery_rows (recovery_numbers table)) table ≡ lacks_key (rows_to_vdist (recovery_numbers table)) table
+  pub other : holds_other (recovery_rows (recovery_numbers table)) table ≡ holds_other (rows_to_vdist (recovery_numbers table)) table
+  pub fit : list_all (λ row. row.fits) (recovery_rows (recovery_numbers table)) ≡ list_all (λ row. row.fits) (rows_to_vdist (recovery_numbers table))
+  pub not_asked : asks_nearest (Some (recovery_numbers table)) ≡ false
 
 -- ---- the document
 

@@ -22,8 +22,8 @@ pub enum ConfigFault {
     /// A table lacks a key that it must have.
     #[error("fault 4: a key is missing")]
     MissingKey,
-    /// A number's place holds no whole number, `gs`, `vs` or `alt` is no table, or `level` is no
-    /// list of tables.
+    /// A number's place holds no whole number, `gs`, `vs`, `alt` or `recovery` is no table, or
+    /// `level` is no list of tables.
     #[error("fault 5: a value is no whole number, or no table")]
     NotNumber,
     /// A number is outside its range, `min` is above `max`, `track_step` does not divide 360, or

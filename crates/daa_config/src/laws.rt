@@ -5,7 +5,7 @@ ghost use Rattle.toml.specs.Data.{Members, get_member};
 ghost use Rattle.daa_config.specs.declared.kind.Kind.{Kind};
 ghost use Rattle.daa_config.specs.Settings.{Settings, IsAccepted};
 ghost use Rattle.daa_config.specs.ConfigOf.{config_of};
-ghost use Rattle.daa_config.specs.Before.{IsAsBefore, IsDocumentAsBefore};
+ghost use Rattle.daa_config.specs.Before.{IsAsBefore, IsRecoveryAsBefore, IsDocumentAsBefore};
 ghost use Rattle.daa_config.specs.Candidates.{grid_of, values_of, AreStepsUpTo};
 
 /// A text that is taken has its numbers in their ranges.
@@ -20,6 +20,13 @@ pub fn levels_without_tau_and_tep_are_as_before()
     ensures { (table : Members) → get_member (codes "tau") table ≡ None
         → get_member (codes "tep") table ≡ None
         → IsAsBefore table }
+{}
+
+/// A recovery's table without a key `nearest` is read as if there were no such key: it has the
+/// same faults, and does not ask for the nearest value.
+pub fn recoveries_without_nearest_are_as_before()
+    ensures { (table : Members) → get_member (codes "nearest") table ≡ None
+        → IsRecoveryAsBefore table }
 {}
 
 /// A text without a key `last_times` at its top is read as if there were no such key: it has the

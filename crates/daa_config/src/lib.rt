@@ -25,7 +25,8 @@ pub use fault::ConfigFault;
 pub use kind::Kind;
 pub use laws::{
     accepted_is_in_range, levels_without_tau_and_tep_are_as_before,
-    texts_without_last_times_are_as_before, values_are_all_steps,
+    recoveries_without_nearest_are_as_before, texts_without_last_times_are_as_before,
+    values_are_all_steps,
 };
 pub use level::Level;
 pub use numbers::{ConfigNumbers, Grid, LevelNumbers, Numbers, RecoveryNumbers};

@@ -24,7 +24,7 @@ pub(crate) fn velocity_of(aircraft: &Traffic) -> Solid
     }
 }
 
-/// Where the aircraft is now, in units.
+/// Where the aircraft is now: 36 units are a thousandth of a nautical mile, 60 are a foot.
 pub fn traffic_now(aircraft: &Traffic) -> Solid
     requires { IsTrafficInRange aircraft.now }
     ensures { result ≡ traffic_place aircraft.now 0 }

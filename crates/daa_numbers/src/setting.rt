@@ -105,7 +105,7 @@ pub fn read(alloc: Global, text: &[u8], config: &mut DaaConfig) -> i32
     }
 }
 
-/// Returns 0 if a configuration is accepted, else its fault.
+/// Returns 0 if a configuration is accepted, else its fault, 6 to 8.
 pub fn check(config: &DaaConfig) -> i32
     ensures { result ≡ answer_of (settings_by config.now) }
 {

@@ -19,7 +19,8 @@ pub enum Side {
     Upper,
 }
 
-/// The ownship's present value of a kind: its track, ground speed, vertical speed or altitude.
+/// The ownship's present value of a kind: its track in degrees, ground speed in tenths of a knot,
+/// vertical speed in feet per minute or altitude in feet.
 pub fn present(own: &Own, kind: Kind) -> i32
     ensures { result ≡ present_of kind own.now }
 {

@@ -12,7 +12,7 @@ ghost use Rattle.daa_numbers.specs.States.{picture_of};
 
 use daa_numbers::{DaaConfig, DaaFault, DaaLines, DaaTraffic, Own};
 
-/// Returns 0 if a configuration is accepted, else its fault.
+/// Returns 0 if a configuration is accepted, else its fault, 6 to 8.
 #[unsafe(no_mangle)]
 pub extern "C" fn daa_check(config: &DaaConfig) -> i32
     ensures { result ≡ answer_of (settings_by config.now) }

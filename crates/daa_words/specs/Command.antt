@@ -19,7 +19,7 @@ number_option name least most =
 abbrev pub config : Rule
 config = option (codes "config")
 
--- `--workers N`, how many workers decide a moment: 4 if it is not given
+-- `--workers N`, how many workers share the moments, or the work of one: 4 if it is not given
 abbrev pub workers : Rule
 workers = record (number_option (codes "workers") 1 16) { required = false; defaults = codes "4" ∷ [] }
 
