@@ -79,6 +79,12 @@ class Map(unittest.TestCase):
             for path in glob.glob(os.path.join(TOP, "crates", of, "src", "**", "*.rt"), recursive=True):
                 self.assertNotIn("#[test]", read(path), path)
 
+    def test_each_crate_stands_on_rows_above_its_own(self):
+        above = set()
+        for name, below in crates().items():
+            self.assertLessEqual(set(below) & set(crates()), above, name)
+            above.add(name)
+
     def test_the_map_has_the_crates_in_their_order(self):
         text = read("docs/ARCHITECTURE.md")
         self.assertEqual(re.findall(r"^\| \[(\w+)\]\(\.\./crates/\1\) \|", text, re.M), list(described()))
