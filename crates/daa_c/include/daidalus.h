@@ -197,8 +197,8 @@ struct daa_recovery {
 
 /* The last time of a kind. found: 1, and then after (seconds, 0 to 179, below the greatest lookahead of the levels from
  * resolve up) is the greatest number of seconds for which the present flight may be kept so that some candidate of the kind
- * that begins then is open; or 0 if there is none, and after is 0. Later starts are not looked at: where the present flight
- * is open, after does not say that a later one comes too late. After 0 stands for a manoeuvre that must begin now. An
+ * that begins then is open; or 0 if there is none, and after is 0. Read it where the present flight is not open: then after
+ * 0 stands for a manoeuvre that must begin now. Where it is open, a small number or none does not say that one is due. An
  * earlier start need not be open. */
 struct daa_last {
     int32_t found;
