@@ -35,7 +35,9 @@ function daaRecording(root) {
   const OLDEST = 10; // s: as tools/from_daa has it where nothing else is asked
   const MOST_AGE = 60;
   const LAST_SECOND = 4294967295;
+  const MOST_LATITUDE = 90;
   const FARTHEST_OWN = 100; // NM: an ownship that is farther from where it began is put at 0 0
+  const ROUNDING = 1e-6; // s: what the rounding of a time's unit may cost
   const LINE_ENDS = /\r\n|[\n\v\f\r\x1c-\x1e\x85\u2028\u2029]/;
 
   class NoRecording extends Error {}
@@ -55,13 +57,14 @@ function daaRecording(root) {
     return rest < 0 ? rest + by : rest;
   }
 
-  /** The second that a time lies in; a millionth is left for the rounding of its unit. */
-  const wholeSecond = (time) => Math.floor(time + 1e-6);
+  /** The second that a time lies in. */
+  const wholeSecond = (time) => Math.floor(time + ROUNDING);
 
   // ---- reading
 
   const FAR_OR_MANY = "out of range, or more than there may be, in a moment";
   const COMMA = ": a decimal comma? Write a point";
+  const SWAPPED = ": are lat and lon in each other's place?";
   const shortened = (line) => line.trim().slice(0, 60);
   const many = (count, what) => `${count} ${what}${count === 1 || what === "aircraft" ? "" : "s"}`;
   const trimmed = (cell) => cell.replace(/^[ \t"]+|[ \t"]+$/g, "");
@@ -152,7 +155,8 @@ function daaRecording(root) {
       const hint = /^[-+0-9.]*,[0-9]*$/.test(cell) ? COMMA : "";
       if (found === null) fail(`${where}: no number for ${column}: ${shortened(line)}${hint}`);
       const scaled = isTimeOfDay ? found : found * this.worth[column];
-      return Math.abs(scaled) <= GREATEST ? scaled : fail(`${where}: ${shortened(cell)} is too large a number for ${column}`);
+      const [most, asked] = column === "lat" ? [MOST_LATITUDE, SWAPPED] : [GREATEST, ""];
+      return Math.abs(scaled) <= most ? scaled : fail(`${where}: ${shortened(cell)} is too large a number for ${column}${asked}`);
     }
 
     /** A report of an aircraft: s, degrees or NM, ft, knots eastward and northward, ft/min. */
@@ -175,21 +179,22 @@ function daaRecording(root) {
   /** The rows of a recording, whether its places are latitudes and longitudes, and what of it is not used. */
   function readRows(text) {
     const all = text.split(LINE_ENDS).map((line, i) => [i + 1, line]).filter(([, line]) => line.trim() && !line.trimStart().startsWith("#"));
-    const lines = all.filter(([, line]) => !line.includes("="));
-    if (!lines.length) fail("no header line");
+    const settings = all.findIndex(([, line]) => !line.includes("="));
+    if (settings < 0) fail("no header line");
+    const lines = all.slice(settings);
     const header = new Header(lines[0][1], lines.length > 1 ? lines[1][1] : "");
     const rows = lines.slice(header.hasUnitLine ? 2 : 1).map(([number, line]) => header.row(line, number));
     if (!rows.length) fail("no report of an aircraft");
-    const settings = all.length - lines.length;
     const notes = settings ? [`left out: ${many(settings, "line")} KEY = VALUE; a configuration says what they say`] : [];
     if (header.unused.length) notes.push(`not used: the column${header.unused.length > 1 ? "s" : ""} ${header.unused.join(", ")}`);
     return { rows, onEarth: header.has(["lat", "lon"]), notes };
   }
 
-  /** An identifier of at most 8 letters for each name, which keeps the digits at its end. */
+  /** An identifier of at most 8 letters for each name: the name itself, or one that keeps the digits at its end. */
   function identifiers(names) {
-    const given = new Map();
-    for (const name of names) {
+    const isSound = (name) => /^[A-Za-z0-9_-]{1,8}$/.test(name);
+    const given = new Map(names.filter(isSound).map((name) => [name, name]));
+    for (const name of names.filter((one) => !isSound(one))) {
       const clean = name.replace(/[^A-Za-z0-9_-]/g, "");
       const digits = /[0-9]{0,7}$/.exec(clean)[0];
       let short = clean.length <= 8 ? clean : clean.slice(0, 8 - digits.length) + digits;
@@ -219,7 +224,7 @@ function daaRecording(root) {
   /** Makes moments of rows. */
   class Maker {
     constructor(rows, onEarth) {
-      Object.assign(this, { rows, onEarth, ids: identifiers([...new Set(rows.map((row) => row.name))]), leftOut: new Map() });
+      Object.assign(this, { rows, onEarth, ids: identifiers([...new Set(rows.map((row) => row.name))]), leftOut: new Map(), far: 0 });
     }
 
     /** Counts what is left out: a thing by its name, and why. */
@@ -236,7 +241,9 @@ function daaRecording(root) {
       const isNear = Math.max(Math.abs(east), Math.abs(north)) <= FARTHEST_OWN;
       const own = { x: isNear ? round(1000 * east) : 0, y: isNear ? round(1000 * north) : 0, alt: round(row.alt), trk: whole % 360,
         gs: round(10 * Math.hypot(row.east, row.north)), vs: round(row.vs) };
-      return { own: isWithin(own, ["vs"]) && own.gs <= FASTEST ? own : null, angle: (track - whole) * EARTH };
+      const isTaken = isWithin(own, ["vs"]) && own.gs <= FASTEST;
+      this.far += Number(isTaken && !isNear);
+      return { own: isTaken ? own : null, angle: (track - whole) * EARTH };
     }
 
     /** An aircraft's numbers, or null where they are out of range: its latest report, flown straight on by the fraction of a second. */
@@ -279,7 +286,7 @@ function daaRecording(root) {
     trafficAt(ownRow, own, angle, latest) {
       const found = [];
       for (const row of latest.values()) {
-        const made = ownRow.time - row.time > OLDEST ? undefined : this.trafficOf(row, ownRow, own, angle);
+        const made = ownRow.time - row.time > OLDEST + ROUNDING ? undefined : this.trafficOf(row, ownRow, own, angle);
         if (made && found.length < daa.MOST_AIRCRAFT) found.push(made);
         else this.leaveOut("aircraft", made === undefined ? `whose report is older than ${OLDEST} s, in a moment` : FAR_OR_MANY);
       }
@@ -306,6 +313,7 @@ function daaRecording(root) {
     const moments = maker.moments(names.includes(ownName) ? ownName : names[0]);
     for (const [name, short] of maker.ids) if (name !== short) notes.push(`${name} is written ${short}`);
     for (const [count, what, why] of maker.leftOut.values()) notes.push(`left out: ${many(count, what)} ${why}`);
+    if (maker.far) notes.push(`${many(maker.far, "moment")} with the ownship at 0 0, more than ${FARTHEST_OWN} NM from where it began`);
     if (!moments.length) fail(`no moment is left; ${notes.join("; ")}`);
     return { states: stateLines(moments), names, notes };
   }

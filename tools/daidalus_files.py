@@ -32,6 +32,7 @@ def run_tool(name, main):
     if sys.stdout is None:
         tell(f"{name}: standard output is closed")
         sys.exit(5)
+    sys.stdout.reconfigure(errors="surrogateescape")  # a file's name goes out as the bytes that it is
     try:
         status = status_of(name, main)
         sys.stdout.flush()
@@ -551,6 +552,9 @@ def answer_word(answers):
     return {(True, True): "both", (True, False): "lower", (False, True): "upper", (False, False): "none"}[lower, upper]
 
 
+MOST_REPORT_BYTES = 64  # of a line, without its end
+
+
 class ReportReader:
     """Takes the lines of a report, one by one; `name` is what it is called in messages."""
 
@@ -560,7 +564,7 @@ class ReportReader:
     def take(self, line):
         """Takes a line without its end; gives the moment that it ends, or the refused line that it tells of, or None."""
         self.line += 1
-        found = parsed(line)
+        found = parsed(line) if len(line) <= MOST_REPORT_BYTES else None
         if found is None or (self.open is None) != (found[0] in ("refused", "moment")):
             raise self.problem(f"is no line of a report there: {line[:60]!a}{hint_on(line)}")
         word, said = found
@@ -594,9 +598,9 @@ class ReportReader:
             before.append(said)
         elif word == "now":
             at.alerts[said[0]] = Alert(said[1], 0, None)
+        elif word in ("alert", "steady") and said[0] not in at.alerts:
+            raise self.problem(f"is of {said[0]}, of which no line `now` stands before it")
         elif word == "alert":
-            if said[0] not in at.alerts:
-                raise self.problem(f"is an alert of {said[0]}, of which no line `now` stands before it")
             at.alerts[said[0]] = Alert(at.alerts[said[0]].now, said[1], said[2])
         else:
             place = {"resolve": at.answers, "last": at.last, "recover": at.recover, "steady": at.steady}[word]
@@ -639,13 +643,12 @@ def check_begun(reader, rest):
 
 
 def lines_of(path):
-    """The lines of a file in bytes, each with its end."""
+    """The lines of a report in bytes, each with its end; of one that is too long the beginning, with an end too."""
+    most = MOST_REPORT_BYTES + 2
     try:
-        if path == "-":
-            yield from standard_input()
-            return
-        with open(path, "rb") as file:
-            yield from file
+        with contextlib.nullcontext(standard_input()) if path == "-" else open(path, "rb") as file:
+            for line in iter(functools.partial(file.readline, most), b""):
+                yield line if len(line) < most else line + b"\n"
     except OSError as fault:
         raise unreadable(path, fault) from None
 
@@ -698,6 +701,14 @@ def encounters_of(moments, pause=None):
             found.append([])
         found[-1].append(moment)
     return found
+
+
+def read_words(parser, *files):
+    """What a parser makes of the command words; at most one of these files may be standard input."""
+    given = parser.parse_intermixed_args()
+    if [getattr(given, name) for name in files].count("-") > 1:
+        parser.error("standard input is one file and not two")
+    return given
 
 
 def add_pause(parser):

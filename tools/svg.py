@@ -56,10 +56,10 @@ def ticks(low, high, most=6):
 
 
 class Scale:
-    """From values to places on the picture."""
+    """From values to places on the picture; its values span at least `least`."""
 
-    def __init__(self, low, high, begin, end):
-        self.low, self.high, self.begin, self.end = low, max(high, low + 1), begin, end
+    def __init__(self, low, high, begin, end, least=1):
+        self.low, self.high, self.begin, self.end = low, max(high, low + least), begin, end
 
     def __call__(self, value):
         within = min(max(value, self.low), self.high)

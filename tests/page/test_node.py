@@ -873,6 +873,24 @@ class Recordings(unittest.TestCase):
             "Intruder12 is written Intrud12", "left out: 1 aircraft out of range, or more than there may be, in a moment",
             "left out: 2 aircraft whose report is older than 10 s, in a moment"])
 
+    def test_latitudes_past_the_pole(self):
+        head = "name,time,lat,lon,alt,trk,gs,vs\n"
+        for lat in ("139.70", "-90.5"):
+            self.assertEqual(self.refusal(f"{head}own,0,{lat},35.6,0,0,100,0\n"),
+                             f"line 2: {lat} is too large a number for lat: are lat and lon in each other's place?")
+        self.assertIsNone(self.refusal(f"{head}own,0,-90,0,0,0,100,0\n"))
+
+    def test_what_is_made_and_told_as_the_tool_does(self):
+        """Names that are identifiers are kept; a row may have an equals sign; 16.1 - 6.1 is a little more than 10 in floating point;
+        and an ownship far from where it began."""
+        text = ("a = 1\nname time sx sy sz trk gs vs\nown 6.1 0 0 1000 0 100 0\n@@ 6.1 1 0 1000 0 100 0\nA0 6.1 2 0 1000 0 100 0\n"
+                "B=1 6.1 3 0 1000 0 100 0\nown 16.1 -101 0 1000 0 100 0\nown 17.1 -102 0 99999 0 100 0\n")
+        states = self.from_daa(text, "own")
+        self.assertEqual(re.findall("traffic (.*?) ", states), 2 * ["A1", "A0", "B1"])
+        self.assertEqual(in_node([["recording", text.encode(), "own"]])[0], {"states": states, "names": ["own", "@@", "A0", "B=1"], "notes": [
+            "left out: 1 line KEY = VALUE; a configuration says what they say", "@@ is written A1", "B=1 is written B1",
+            "left out: 1 moment whose ownship is out of range", "1 moment with the ownship at 0 0, more than 100 NM from where it began"]})
+
     def test_many_aircraft_two_at_one_place_and_times_before_the_first_second(self):
         head, own = "name time sx sy sz trk gs vs\n", "own {} 0 0 1000 0 100 0\n"
         for text in (head + "".join(f"T{number} 0 {number} 0 1000 0 100 0\n" for number in range(66)) + own.format(0) + own.format(1),

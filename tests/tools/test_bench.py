@@ -86,6 +86,13 @@ class Bench(ToolTest):
                 self.assertEqual(ran.returncode, 1, ran.stdout)
                 self.assertRegex(ran.stdout + ran.stderr, "FAILED|status 1")
 
+    def test_words_that_go_with_built_alone(self):
+        for words in (["--task", "batch"], ["--program", "/bin/false"]):
+            ran = subprocess.run([sys.executable, "-B", os.path.join(TOP, "bench", "refuse_memory"), *words, "--upto", "0"],
+                                 env={**os.environ, "PATH": "/nowhere"}, capture_output=True, text=True, timeout=120)
+            self.assertEqual((ran.returncode, ran.stdout), (2, ""), ran.stderr)
+            self.assertTrue(ran.stderr.endswith("error: --task and --program go with --built\n"), ran.stderr)
+
     def batch_without_memory(self, named):
         """What is told of a batch that is read ahead, from the last requests of the opening to that for the ring."""
         words = ["--built", "--task", "batch", "--from", "120", "--upto", "159", "--program", named]

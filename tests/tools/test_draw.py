@@ -93,7 +93,13 @@ class Pictures(ToolTest):
         text = "format 2\n" + STATES.replace("10000 -1350 0 0", "10000 -1350 0 100 36").replace("11000 -1350 0 0", "11000 -1350 0 0 0")
         report = read_report(self.write("a.report", REPORT))
         traces = draw.Picture(report.moments, report.refused, read_moments(self.write("in.states", text))).traces()
-        self.assertEqual([place[1:4] for place in traces["A"]], [(1.65, 8, 10060), (2.625, 8, 11000)])
+        self.assertEqual([place[1:4] for place in dict(traces)["A"]], [(1.65, 8, 10060), (2.625, 8, 11000)])
+
+    def test_an_aircraft_may_be_named_ownship(self):
+        """Its traces are drawn by themselves, as those of an aircraft of another name."""
+        drawn = [self.picture(REPORT.replace(" A ", f" {name} "), "--states", self.write("in.states", STATES.replace(" A ", f" {name} ")))[1]
+                 for name in ("A", "ownship")]
+        self.assertEqual(drawn[0].replace(">A<", ">ownship<").replace(">A:", ">ownship:"), drawn[1])
 
     def test_other_states_are_refused(self):
         report = self.write("a.report", REPORT)
@@ -126,6 +132,13 @@ class Pictures(ToolTest):
         root, out = self.picture(REPORT, "--title", "a < b")
         self.assertEqual(self.words(root)[0], "a < b")
         self.assertIn("<title>a &lt; b</title>", out)
+        report = self.write("a.report", REPORT)
+        for title in ("\udcff", "a\x01", "\x1f", "\ufffe"):
+            status, out, said = self.tool("draw", "--title", title, report)
+            self.assertEqual((status, out), (2, ""))
+            self.assertTrue(said.endswith(f"error: argument --title: {title!a} has a character that no SVG can hold\n"), said)
+        for title in ("Übung\t3", "\U0001f469\u200d\u2708"):
+            self.assertEqual(ElementTree.fromstring(self.picture(REPORT, "--title", title)[1])[0].text, title)
 
     def test_last_times_are_lines(self):
         """Track has 3 s at the second moment alone: its line stands at the top of its panel, from 10 s to the end."""

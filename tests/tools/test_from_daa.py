@@ -30,6 +30,17 @@ class FromDaa(ToolTest):
         moments, _ = self.made(HEAD + "own 0 179.99 0 0 100 0 0\nA 0 -179.99 0 0 100 0 0\n")
         self.assertEqual(moments[0].traffic[0][1:3], (1200, 0))
 
+    def test_latitudes_past_the_pole(self):
+        """As one has where latitude and longitude are in each other's place; at the pole itself nothing is refused."""
+        text = HEAD + "own 35.60 139.70 0 0 100 0 0\nA {} 139.70 0 0 100 0 0\n"
+        for lat in ("139.70", "-90.5"):
+            status, out, said = self.tool("from_daa", self.write("in.daa", text.format(lat)))
+            self.assertEqual((status, out), (3, ""))
+            self.assert_one_line(said, f"line 4: {lat} is too large a number for lat: are lat and lon in each other's place?\n")
+        radians = HEAD.replace("[deg] [deg] [ft]", "[rad] [deg] [ft]")
+        for recording in (HEAD + "own 90 0 0 0 100 0 0\n", radians + f"own -{math.pi / 2} 0 0 0 100 0 0\n"):
+            self.assertEqual(len(self.made(recording)[0]), 1)
+
     def test_places_and_speeds_in_the_plane(self):
         moments, _ = self.made(PLANE + "own 1 2 5000 0 150 0 0\nA 3 1.5 4000 -30.04 40 -500 0\n")
         self.assertEqual(moments[0].own, Own(0, 0, 5000, 0, 1500, 0))
@@ -124,6 +135,33 @@ class FromDaa(ToolTest):
         moments, _ = self.made(recording, "--oldest", "60")
         self.assertEqual(moments[1].traffic[0].age, 30)
 
+    def test_a_report_that_is_just_as_old_as_it_may_be(self):
+        """16.1 - 6.1 is a little more than 10 in floating point. A hundredth of a second later it is too old."""
+        recording = PLANE + "own 0 0 0 0 100 0 6.1\nA 1 0 0 0 0 0 6.1\nown 0 0 0 0 100 0 {}\n"
+        self.assertEqual([aircraft.age for aircraft in self.made(recording.format(16.1))[0][1].traffic], [10])
+        moments, said = self.made(recording.format(16.11))
+        self.assertEqual(moments[1].traffic, [])
+        self.assertIn("left out: 1 aircraft whose report is older than 10 s", said)
+
+    def test_an_ownship_far_from_where_it_began(self):
+        """At 100 NM it is there; farther away it is at 0 0, and what is round it with it. A moment that is left out is not counted."""
+        rows = "".join(f"own {east} 0 {alt} 0 100 0 {time}\nA {east} 1 0 0 0 0 {time}\n"
+                       for time, (east, alt) in enumerate(((0, 0), (-100, 0), (101, 0), (102, 0), (103, 70000))))
+        moments, said = self.made(PLANE + rows)
+        self.assertEqual([(moment.own.x, moment.traffic[0].x) for moment in moments], [(0, 0), (-100000, -100000), (0, 0), (0, 0)])
+        self.assertIn("from_daa: 2 moments with the ownship at 0 0, more than 100 NM from where it began\n", said)
+        self.assertNotIn("where it began", self.made(PLANE + "own 0 0 0 0 100 0 0\nown 100 0 0 0 100 0 1\n")[1])
+
+    def test_lines_with_an_equals_sign(self):
+        """Before the header they are left out; after it they are rows like others."""
+        text = "# made\na = 1\nb = 2\nname,time,sx,sy,alt,vx,vy,vs\nown,0,0,0,0,0,100,0\nA,0,1,0,0,0,0,0\n"
+        moments, said = self.made(text.replace("A,", "B=1,"))
+        self.assertEqual([aircraft.id for aircraft in moments[0].traffic], ["B1"])
+        self.assertIn("left out: 2 lines `KEY = VALUE`", said)
+        status, out, said = self.tool("from_daa", self.write("in.csv", text + "c = 3\n"))
+        self.assertEqual((status, out), (3, ""))
+        self.assertIn("line 7: no number for ", said)
+
     def test_one_moment_a_second(self):
         moments, said = self.made(PLANE + "".join(f"own 0 0 0 0 100 0 {tenth / 10}\n" for tenth in range(25)))
         self.assertEqual([moment.time for moment in moments], [0, 1, 2])
@@ -147,6 +185,13 @@ class FromDaa(ToolTest):
         self.assertIn("Intruder1 is written Intrude1", said)
         moments, _ = self.made(PLANE + "own 0 0 0 0 100 0 0\nA123456789 1 0 0 0 0 0 0\n")
         self.assertEqual(moments[0].traffic[0].id, "A3456789")
+
+    def test_a_name_that_is_an_identifier_is_kept(self):
+        """Also where another one would become the same first."""
+        rows = "".join(f"{name} {place} 0 0 0 0 0 0\n" for place, name in enumerate(("@@", "A-B", "A(0)", "A0", "A/B", "AB", "A1")))
+        moments, said = self.made(PLANE + "own 0 0 0 0 100 0 0\n" + rows)
+        self.assertEqual([aircraft.id for aircraft in moments[0].traffic], ["A2", "A-B", "A3", "A0", "A4", "AB", "A1"])
+        self.assertEqual(re.findall("from_daa: (.*) is written (.*)", said), [("@@", "A2"), ("A(0)", "A3"), ("A/B", "A4")])
 
     def test_the_ownship_that_is_named(self):
         recording = PLANE + "A 1 0 0 0 50 0 0\nown 0 0 0 0 100 0 0\n"

@@ -65,8 +65,8 @@ class FromParameters(ToolTest):
         self.assertEqual(self.tool("check", self.write("c.toml", out)), (0, "", ""))
         return tomllib.loads(out), said.splitlines()
 
-    def refused(self, text, *parts):
-        status, out, said = self.tool("from_parameters", self.write("nasa.conf", text))
+    def refused(self, text, *parts, words=()):
+        status, out, said = self.tool("from_parameters", self.write("nasa.conf", text), *words)
         self.assertEqual((status, out), (3, ""), said)
         for part in parts:
             self.assert_one_line(said, part)
@@ -121,6 +121,13 @@ class FromParameters(ToolTest):
         self.assertFalse(any("fewer recoveries" in line for line in said), said)
         made, _ = self.made(TOP + RECOVERY.split("recovery_hdir")[0] + LEVELS)
         self.assertEqual(made["recovery"]["hdist"], 660)
+        made, said = self.made(TOP + LEVELS, "--hdist", "82", "--vdist", "100")
+        self.assertLessEqual({"hdist": 82, "vdist": 100}.items(), made["recovery"].items())
+        self.assertFalse(any("recover" in line for line in said), said)
+        self.refused(TOP + LEVELS, "the parameter min_vertical_recovery is missing", words=("--hdist", "82"))
+        for words in (("--hdist", "82"), ("--vdist", "0")):
+            self.refused(TOP + RECOVERY.replace("true", "false") + LEVELS, "line 23: recovery_hdir = false: the file asks for no recovery, "
+                         "so --hdist and --vdist have no place", words=words)
         for word, is_there in (("T", True), ("1", True), ("False", False), ("f", False), ("0", False)):
             self.assertEqual("recovery" in self.made(TOP + RECOVERY.replace("true", word) + LEVELS)[0], is_there, word)
         self.refused(TOP + "recovery_hdir = yes\n" + LEVELS, "line 21: recovery_hdir = yes: this is none of true, t, 1, false, f, 0")
@@ -169,6 +176,12 @@ class FromParameters(ToolTest):
         self.assertFalse(any("one_alert" in line for line in said))
         made, _ = self.made(TOP.replace("alerters = one, two\n", "") + LEVELS.replace("one_", ""))
         self.assertEqual(made, WANTED)
+        text = TOP.replace("one, two", "one, one_b") + LEVELS + level(1, "MID", 900, 60, 50, name="one_b").replace("spread_hdir = 0", "spread_hdir = 5")
+        for name, zthr, is_told in (("one", 700, False), ("one_b", 900, True)):
+            made, said = self.made(text, "--alerter", name)
+            self.assertEqual(made["level"][0]["zthr"], zthr)
+            self.assertEqual(any("one_b_alert_1_spread_hdir = 5 [deg] is left out" in line for line in said), is_told, said)
+            self.assertEqual(any("one_alert_1_spread_hdir" in line for line in said), not is_told, said)
         status, _, said = self.tool("from_parameters", self.write("nasa.conf", TOP + LEVELS), "--alerter", "three")
         self.assertEqual(status, 3)
         self.assert_one_line(said, "no alerter three; there are one, two")

@@ -3,6 +3,7 @@ import os
 import re
 import signal
 import subprocess
+import tempfile
 import time
 import unittest
 
@@ -30,7 +31,8 @@ REPORT = ("moment 0\nnow A 0\nalert A 2 43\ntrack 0 5 3\ntrack 10 180 0\ntrack 1
           + KEEP + "recover track 12 40\ndone 10\n")
 NO_REPORTS = (("", "it is empty"), ("hello\n", "line 1 is no line of a report there: 'hello'"), ("done 0\n", "line 1"),
               ("moment 0\nmoment 1\n", "line 2"),
-              ("moment 0\ndone 0\n", "line 2 ends a moment that is not whole"), ("moment 0\nalert A 0 -\n", "line 2 is an alert of A"),
+              ("moment 0\ndone 0\n", "line 2 ends a moment that is not whole"), ("moment 0\nalert A 0 -\n", "line 2 is of A, of which no line"),
+              ("moment 0\nnow A 0\nsteady B 0\n", "line 3 is of B, of which no line"),
               ("moment 0\ntrack 5 0 1\n", "line 2 does not rise"), ("moment 0\ntrack 0 5 1\ntrack 5 9 0\n", "line 3 does not rise"),
               ("config 3\n", "line 1 is no line of a report there: 'config 3'; the configuration was refused, and tools/check says why"),
               ("format 2\nmoment 0\n", "these are state lines, of which ./daidalus replay makes a report"), ("moment", "no whole line"),
@@ -38,7 +40,9 @@ NO_REPORTS = (("", "it is empty"), ("hello\n", "line 1 is no line of a report th
               (REPORT.replace("done 0", "done 1"), "line 16 ends a moment that is not whole: 'done 1'"),
               (REPORT.replace("gs 500 7000", f"gs 500 {'9' * 5000}"), "line 7 is no line of a report there"),
               (f"moment {'1' * 5000}\n", "line 1 is no line"), (f"refused {'1' * 5000} 3\n", "line 1 is no line"),
-              ("moment 0\ngs 3000 700000000000000000000 0\n", "line 2 is no line"))
+              ("moment 0\ngs 3000 700000000000000000000 0\n", "line 2 is no line"),
+              (f"moment 0\nnow {'A' * 59} 0\n", "line 2 is no line"), (f"moment 0\nnow {'A' * 60} 0{'1' * 9}\n", "line 2 is no line"),
+              ("x" * 99, "line 1 is no line of a report there: 'xxx"), (f"# {'x' * 99}\n", "a report has no comments"))
 
 
 class Reports(ToolTest):
@@ -54,6 +58,13 @@ class Reports(ToolTest):
                 self.assertEqual((status, out), (4, ""), (words, text))
                 self.assert_one_line(said, part)
         self.assertEqual([self.tool(*words)[0] for words in (["summary", "x"], ["draw", "x"], ["compare", "x", "y"])], [7, 7, 7])
+
+    def test_a_line_may_have_64_bytes(self):
+        """With its end 65; the next name is one byte longer."""
+        for name, status in (("A" * 58, 0), ("A" * 59, 4)):
+            report = REPORT.replace("now A", f"now {name}").replace("alert A 2 43", "").replace("alert A 2 0", "").replace("\n\n", "\n")
+            self.assertEqual(len(f"now {name} 0"), 64 + status // 4)
+            self.assertEqual(self.tool("summary", self.write("b.report", report))[0], status)
 
     def test_a_name_that_is_empty_is_of_no_file(self):
         """As a variable of a shell that has no value gives one: it is not as if the word were left out."""
@@ -174,6 +185,36 @@ class Reports(ToolTest):
         self.assertEqual(out.splitlines()[:4], ["moment 0 A: only in the first", "moment 0 B: only in the second",
                                                 "moment 10: only in the first", "moment 11: only in the second"])
 
+    def test_compare_tells_of_a_moment_beside_a_report_without_any(self):
+        one, other = self.write("b.report", "refused 9 6\n"), self.write("c.report", "refused 9 6\n" + REPORT.split("refused")[0])
+        for words, which in (([one, other], "second"), ([other, one], "first")):
+            status, out, _ = self.tool("compare", *words)
+            self.assertEqual((status, out.splitlines()[0]), (1, f"moment 0: only in the {which}"))
+
+    def test_compare_tells_where_one_band_ends(self):
+        """Of ground speeds no report has two bands; of tracks the greatest is on no step of 5 degrees."""
+        one = REPORT.split("refused")[0]
+        for old, new, line, total in (("gs 500 7000 0", "gs 500 6000 0", "gs 7000: 0 and -", "gs: 1 of 2 differ"),
+                                      ("gs 500 7000 0", "gs 600 7000 0", "gs 500: 0 and -", "gs: 1 of 2 differ"),
+                                      ("gs 500 7000 0", "gs 500 500 0", "gs 7000: 0 and -", "gs: 1 of 2 differ"),
+                                      ("gs 500 7000 0", "gs 500 7000 1", "gs 500 to 7000: 0 and 1", "gs: 1 of 1 differ"),
+                                      ("gs 500 7000 0\n", "", "gs 500 to 7000: 0 and -", "gs: 1 of 1 differ"),
+                                      ("track 185 355 3", "track 185 357 3", "track 357: - and 3", "track: 1 of 73 differ")):
+            status, out, _ = self.tool("compare", self.write("b.report", one), self.write("c.report", one.replace(old, new)))
+            self.assertEqual((status, out.splitlines()[0]), (1, f"moment 0 {line}"))
+            self.assertIn(f"\n{total}", out)
+
+    def test_compare_tells_of_steady_levels(self):
+        """Where both reports have them; so one to which they were added says what it said before."""
+        steady = self.write("b.report", REPORT.replace("alert A 2 43\n", "alert A 2 43\nsteady A 1\n"))
+        other = self.write("c.report", REPORT.replace("alert A 2 43\n", "alert A 2 43\nsteady A 2\n"))
+        status, out, _ = self.tool("compare", steady, other)
+        self.assertEqual((status, out.splitlines()[0]), (1, "moment 0 A steady: 1 and 2"))
+        self.assertIn("\nfirst second: 0 of 2 differ\nsteady: 1 of 1 differ, 100.0 % (1 by +1)\ntrack: 0 of", out)
+        for one in (steady, self.report):
+            status, out, _ = self.tool("compare", one, one if one == steady else steady)
+            self.assertEqual((status, "steady: 0 of 1 differ\n" in out, "steady" in out), (0, one == steady, one == steady))
+
     def test_compare_takes_the_finer_steps(self):
         """Of steps of 5 and of 10 degrees the candidates are those of 5; the second report tells nothing of the first gap."""
         other = REPORT.replace("track 0 5 3\ntrack 10 180 0\ntrack 185 355 3", "track 0 0 3\ntrack 10 180 0\ntrack 190 350 3")
@@ -243,10 +284,14 @@ class Reports(ToolTest):
         self.assertEqual(list(compare.common_runs(one, other, 5)),
                          [(0, 5, (3, 3)), (10, 10, (0, 3)), (15, 20, (0, 1)), (25, 25, (0, None))])
 
-    def test_compare_takes_standard_input_once(self):
-        status, out, said = self.tool("compare", "-", "-", given=REPORT)
-        self.assertEqual((status, out), (2, ""))
-        self.assertIn("standard input is one report and not two", said)
+    def test_standard_input_is_one_file(self):
+        """Also where its name is left out; and a title may be as it is written."""
+        for words in (("compare", "-", "-"), ("check", "-", "-"), ("check", "--advice", "-", "-"), ("reference", "-", "-"), ("reference", "-"),
+                      ("draw", "--states", "-", "-"), ("draw", "--states", "-")):
+            status, out, said = self.tool(*words, given=REPORT)
+            self.assertEqual((status, out), (2, ""), words)
+            self.assertIn("standard input is one file and not two\n", said)
+        self.assertEqual(self.tool("draw", "--title", "-", given=REPORT)[0], 0)
 
     def test_compare_finds_no_difference_in_one_report(self):
         status, out, _ = self.tool("compare", self.report, self.report)
@@ -274,6 +319,23 @@ class Pipes(unittest.TestCase):
                                     ("tools/summary nothing 2>&-", 7, ""), ("tools/summary nothing 2>/dev/full", 7, "")):
             run = subprocess.run(["sh", "-c", words], cwd=TOP, capture_output=True, text=True)
             self.assertEqual((run.returncode, run.stdout, run.stderr), (status, "", said), words)
+
+    def test_a_line_without_an_end_is_not_read_whole(self):
+        """With little memory; the whole line would take all of it."""
+        for words in ("tools/summary", "tools/steady", "tools/draw", "tools/table bands"):
+            run = subprocess.run(["sh", "-c", f"ulimit -v 500000; {words} </dev/full"], cwd=TOP, capture_output=True, text=True)
+            self.assertEqual((run.returncode, run.stdout), (4, ""), run.stderr)
+            self.assertRegex(run.stderr, r"^\w+: standard input: line 1 is no line of a report there: '(\\x00){60}'\n$")
+
+    def test_a_files_name_is_written_as_it_is(self):
+        """One that is no UTF-8, to an output that is."""
+        with tempfile.TemporaryDirectory() as folder:
+            name = os.fsencode(folder) + b"/\xff.toml"
+            with open(name, "wb") as file:
+                file.write(b"x = 1\n")
+            run = subprocess.run([os.path.join(TOP, "tools", "check"), name], capture_output=True, env={**os.environ, "PYTHONIOENCODING": "utf-8:strict"})
+        self.assertEqual((run.returncode, run.stderr), (3, b""))
+        self.assertTrue(run.stdout.startswith(name + b": config 3: x is no key"), run.stdout)
 
     def test_an_interrupt_ends_a_tool_by_its_signal(self):
         # (a shell that calls the gate in the background has the signal ignored)

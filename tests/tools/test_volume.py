@@ -1,6 +1,8 @@
 """tools/volume against the definition: what it takes as near is what tools/reference takes as the horizontal part."""
+import math
 import os
 import random
+import re
 import unittest
 
 from common import CONFIG, TOP, ToolTest, module
@@ -61,6 +63,22 @@ class Volumes(ToolTest):
         status, out, said = self.tool("volume", CONFIG, "--level", "2")
         with open(os.path.join(TOP, "docs", "volume.svg"), encoding="utf-8") as file:
             self.assertEqual((status, out, said), (0, file.read(), ""))
+
+    def test_a_small_volume_is_round_and_on_the_frame(self):
+        """Where 0 s are left, it reaches dthr to all sides; its ticks are fractions where whole miles are too far apart."""
+        with open(CONFIG, encoding="utf-8") as file:
+            text = file.read().replace("tthr = 35", "tthr = 0")
+        for dthr, wanted in ((82, {"-0.1", "0.1", "dthr 0.082 NM", "modified tau 0 s: 0.082 NM"}), (1, {"-0.001", "0.002", "dthr 0.001 NM"}), (660, {"-1", "1", "2"})):
+            status, out, _ = self.tool("volume", self.write("c.toml", text.replace("dthr = 660", f"dthr = {dthr}")))
+            self.assertEqual(status, 0)
+            self.assertLessEqual(wanted, set(re.findall(">([^<]*)</text>", out)))
+            x, y, radius = (float(value) for value in re.search(r'<circle cx="([^"]*)" cy="([^"]*)" r="([^"]*)"', out).groups())
+            self.assertTrue(60 <= radius <= 120 and volume.LEFT <= x - radius and x + radius <= volume.LEFT + volume.PLAN, (x, radius))
+            columns = [tuple(map(float, found)) for found in re.findall(r"M([\d.]+) ([\d.]+)h([\d.]+)v([\d.]+)h-", re.search(r'd="([^"]*)"', out)[1])]
+            self.assertEqual(len(columns), 120)
+            for begin, top, width, height in columns:
+                half = math.sqrt(max(radius ** 2 - (begin + width / 2 - x) ** 2, 0))
+                self.assertTrue(abs(top - (y - half)) < 2.5 and abs(top + height - (y + half)) < 2.5, (dthr, begin, top, height, half))
 
     def test_each_model_is_named_with_its_time(self):
         with open(CONFIG, encoding="utf-8") as file:

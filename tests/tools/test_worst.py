@@ -1,7 +1,10 @@
 """bench/worst: what it draws is accepted, its search keeps what takes longer, and the least stack is found."""
+import os
 import random
+import tempfile
 import unittest
 from types import SimpleNamespace
+from unittest import mock
 
 from common import module
 from daidalus_files import MODELS, Moment, Reader, config_of, examine_config
@@ -108,6 +111,23 @@ class Calls(unittest.TestCase):
         for part in ("text[] = { 103, 115 };", "own = { 1, 2, 3, 4, 5, 6 };", 'traffic[] = { {"AB", -7, 8, 9, 10, 11, 12, 0} };'):
             self.assertIn(part, text)
         self.assertNotIn("@", text)
+
+    def test_the_archives_are_those_that_the_documents_make(self):
+        with tempfile.TemporaryDirectory() as folder:
+            paths = [os.path.join(folder, name) for name in ("libdaa_c.a", "libdaa_toml.a")]
+            for path in paths:
+                with self.assertRaises(SystemExit) as ended:
+                    worst.archives_in(folder)
+                self.assertEqual(str(ended.exception), f"bench/worst: there is no {path}: examples/archive makes it")
+                with open(path, "wb"):
+                    pass
+            self.assertEqual(worst.archives_in(folder), paths)
+
+    def test_without_archives_nothing_is_measured(self):
+        with mock.patch.object(worst, "CRATE", "/nowhere"), mock.patch("sys.argv", ["worst", "--measure", "nothing", "--calls", "--program", "/bin/true"]):
+            with self.assertRaises(SystemExit) as ended:
+                worst.main()
+        self.assertEqual(str(ended.exception), "bench/worst: there is no /nowhere/out/x86-64/libdaa_c.a: examples/archive makes it")
 
 
 if __name__ == "__main__":
