@@ -2,7 +2,7 @@
  *
  *     feed CONFIGURATION < BUS
  *
- * A line of BUS is one of these, in the units of daidalus.h; T is in whole seconds:
+ * A line of BUS is one of these, in the units of daidalus.h; T is in whole seconds, 0 to 4294967295:
  *
  *     own T X Y ALT TRK GS VS
  *     traffic T ID X Y ALT VX VY VS
@@ -31,6 +31,7 @@ struct track {
 };
 
 struct table {
+    long long now; /* the second that began last, -1 before the first */
     struct own_report own;
     struct track tracks[MOST_AIRCRAFT];
     size_t count;
@@ -64,10 +65,15 @@ static void drop(struct table *table, size_t place) {
 }
 
 /* The latest report of a name stands. A second one of the same time is another aircraft under that name, or a source that
- * repeats itself: the later line stands, and it is said. */
+ * repeats itself: the later line stands, and it is said. One of a later second than the next would stand before all sound
+ * ones, and is not taken. */
 static void take_traffic(struct table *table, const struct track *report) {
     const struct daa_traffic *new = &report->traffic;
     struct track *old = find(table, new->id);
+    if (table->now >= 0 && report->time > table->now + 1) {
+        fprintf(stderr, "second %lld: a report of %.8s is left out: it is of second %lld\n", table->now, new->id, report->time);
+        return;
+    }
     if (old && old->time == report->time)
         fprintf(stderr, "second %lld: %.8s was reported twice: its later report stands\n", report->time, new->id);
     if (old && old->time > report->time) return;
@@ -79,25 +85,26 @@ static void take_traffic(struct table *table, const struct track *report) {
     *old = *report;
 }
 
-/* Aircraft that have been silent for more than 60 seconds are no longer known. */
-static void drop_silent(struct table *table, long long now) {
+/* An aircraft is no longer known where it has been silent for more than 60 seconds, or its report is of a second to come. */
+static void drop_unknown(struct table *table) {
     for (size_t i = table->count; i-- > 0;) {
-        if (now - table->tracks[i].time <= MOST_AGE) continue;
-        fprintf(stderr, "second %lld: %.8s is dropped: it was silent for %lld seconds\n", now, table->tracks[i].traffic.id,
-                now - table->tracks[i].time);
+        const struct track *it = &table->tracks[i];
+        long long age = table->now - it->time;
+        if (0 <= age && age <= MOST_AGE) continue;
+        fprintf(stderr, "second %lld: %.8s is dropped: ", table->now, it->traffic.id);
+        if (age < 0) fprintf(stderr, "its report is of second %lld\n", it->time);
+        else fprintf(stderr, "it was silent for %lld seconds\n", age);
         drop(table, i);
     }
 }
 
-/* The aircraft of second now, each with the age of its report; one of a later second is left out. */
-static size_t make_picture(const struct table *table, long long now, struct daa_traffic *out) {
-    size_t count = 0;
+/* The aircraft of this second, each with the age of its report. */
+static size_t make_picture(const struct table *table, struct daa_traffic *out) {
     for (size_t i = 0; i < table->count; i++) {
-        if (table->tracks[i].time > now) continue;
-        out[count] = table->tracks[i].traffic;
-        out[count++].age = (uint32_t)(now - table->tracks[i].time);
+        out[i] = table->tracks[i].traffic;
+        out[i].age = (uint32_t)(table->now - table->tracks[i].time);
     }
-    return count;
+    return table->count;
 }
 
 /* Leaves out each aircraft of which something is wrong, and says what. Returns whether the ownship is sound: without it there
@@ -124,12 +131,13 @@ static void decide(const struct daa_config *config, struct table *table, long lo
     static uint8_t text[MOST_TEXT];
     struct daa_traffic traffic[MOST_AIRCRAFT];
     size_t count, length;
-    drop_silent(table, now);
+    table->now = now;
+    drop_unknown(table);
     if (!table->own.known || table->own.time != now) {
         fprintf(stderr, "second %lld: no guidance: there is no ownship of this second\n", now);
         return;
     }
-    count = make_picture(table, now, traffic);
+    count = make_picture(table, traffic);
     if (!leave_out(now, &table->own.own, traffic, &count)) return;
     int32_t answer = daa_report(config, (uint32_t)now, &table->own.own, traffic, count, text, sizeof text, &length);
     if (answer != DAA_OK) {
@@ -140,6 +148,8 @@ static void decide(const struct daa_config *config, struct table *table, long lo
     fflush(stdout);
 }
 
+static int is_time(long long time) { return 0 <= time && time <= UINT32_MAX; }
+
 /* Takes one line of the bus. Returns whether it has the form of one. */
 static int take_line(const struct daa_config *config, struct table *table, const char *line) {
     struct own_report own = {.known = 1};
@@ -148,17 +158,17 @@ static int take_line(const struct daa_config *config, struct table *table, const
     char id[10] = {0}, rest; /* one byte more than a name may have: a longer one must not pass a part of itself on as x */
     long long now;
     if (sscanf(line, "own %lld %d %d %d %d %d %d %c", &own.time, &own.own.x, &own.own.y, &own.own.alt, &own.own.trk,
-               &own.own.gs, &own.own.vs, &rest) == 7) {
+               &own.own.gs, &own.own.vs, &rest) == 7 && is_time(own.time)) {
         table->own = own;
         return 1;
     }
     if (sscanf(line, "traffic %lld %9s %d %d %d %d %d %d %c", &track.time, id, &it->x, &it->y, &it->alt, &it->vx, &it->vy,
-               &it->vs, &rest) == 8 && strlen(id) <= DAA_MOST_ID) {
+               &it->vs, &rest) == 8 && strlen(id) <= DAA_MOST_ID && is_time(track.time)) {
         memcpy(it->id, id, sizeof it->id);
         take_traffic(table, &track);
         return 1;
     }
-    if (sscanf(line, "tick %lld %c", &now, &rest) == 1 && now >= 0 && now <= UINT32_MAX) {
+    if (sscanf(line, "tick %lld %c", &now, &rest) == 1 && is_time(now)) {
         decide(config, table, now);
         return 1;
     }
@@ -166,7 +176,7 @@ static int take_line(const struct daa_config *config, struct table *table, const
 }
 
 int main(int words, char **word) {
-    static struct table table;
+    static struct table table = {.now = -1};
     struct daa_config config;
     char line[256];
     if (words != 2) {
