@@ -17,7 +17,7 @@
 #include <stdlib.h>
 #include <string.h>
 
-enum { MOST_AIRCRAFT = 64, MOST_AGE = 60, MOST_TEXT = 130176 };
+enum { MOST_AIRCRAFT = 64, MOST_AGE = 60, MOST_LINE = 256, MOST_TEXT = 130176 };
 
 struct own_report {
     long long time;
@@ -148,28 +148,44 @@ static void decide(const struct daa_config *config, struct table *table, long lo
     fflush(stdout);
 }
 
-static int is_time(long long time) { return 0 <= time && time <= UINT32_MAX; }
+/* Reads a word as a whole number; one that long long cannot hold becomes its least or greatest. Returns whether it is one. */
+static int read_number(const char *word, long long *number) {
+    char *end;
+    *number = strtoll(word, &end, 10);
+    return *end == 0;
+}
+
+/* Reads six words as the numbers of a state; one that int32_t cannot hold becomes its least or greatest: daa_fault names it. */
+static int read_state(char *const *words, int32_t *state) {
+    for (int i = 0; i < 6; i++) {
+        long long number;
+        if (!read_number(words[i], &number)) return 0;
+        state[i] = number < INT32_MIN ? INT32_MIN : number > INT32_MAX ? INT32_MAX : (int32_t)number;
+    }
+    return 1;
+}
 
 /* Takes one line of the bus. Returns whether it has the form of one. */
 static int take_line(const struct daa_config *config, struct table *table, const char *line) {
-    struct own_report own = {.known = 1};
-    struct track track = {0};
-    struct daa_traffic *it = &track.traffic;
-    char id[10] = {0}, rest; /* one byte more than a name may have: a longer one must not pass a part of itself on as x */
-    long long now;
-    if (sscanf(line, "own %lld %d %d %d %d %d %d %c", &own.time, &own.own.x, &own.own.y, &own.own.alt, &own.own.trk,
-               &own.own.gs, &own.own.vs, &rest) == 7 && is_time(own.time)) {
-        table->own = own;
+    char copy[MOST_LINE], *words[10]; /* one word more than a line may have */
+    int32_t state[6];
+    long long time;
+    int count = 0;
+    for (char *word = strtok(strcpy(copy, line), " \t\r\n"); word && count < 10; word = strtok(NULL, " \t\r\n"))
+        words[count++] = word;
+    if (count < 2 || !read_number(words[1], &time) || time < 0 || time > UINT32_MAX) return 0;
+    if (strcmp(words[0], "own") == 0 && count == 8 && read_state(words + 2, state)) {
+        table->own = (struct own_report){time, 1, {state[0], state[1], state[2], state[3], state[4], state[5]}};
         return 1;
     }
-    if (sscanf(line, "traffic %lld %9s %d %d %d %d %d %d %c", &track.time, id, &it->x, &it->y, &it->alt, &it->vx, &it->vy,
-               &it->vs, &rest) == 8 && strlen(id) <= DAA_MOST_ID && is_time(track.time)) {
-        memcpy(it->id, id, sizeof it->id);
+    if (strcmp(words[0], "traffic") == 0 && count == 9 && strlen(words[2]) <= DAA_MOST_ID && read_state(words + 3, state)) {
+        struct track track = {time, {{0}, state[0], state[1], state[2], state[3], state[4], state[5], 0}};
+        memcpy(track.traffic.id, words[2], strlen(words[2]));
         take_traffic(table, &track);
         return 1;
     }
-    if (sscanf(line, "tick %lld %c", &now, &rest) == 1 && is_time(now)) {
-        decide(config, table, now);
+    if (strcmp(words[0], "tick") == 0 && count == 2) {
+        decide(config, table, time);
         return 1;
     }
     return 0;
@@ -178,7 +194,7 @@ static int take_line(const struct daa_config *config, struct table *table, const
 int main(int words, char **word) {
     static struct table table = {.now = -1};
     struct daa_config config;
-    char line[256];
+    char line[MOST_LINE];
     if (words != 2) {
         fprintf(stderr, "usage: feed CONFIGURATION < BUS\n");
         return 2;
