@@ -232,7 +232,7 @@ def config_of(numbers):
 def c_traffic(traffic):
     """An aircraft for C. An identifier that C cannot hold is handed on as none, which the engine refuses."""
     name = traffic.id.encode("utf-8", "replace")
-    return (name if len(name) <= 8 else b"", *astuple(traffic)[1:])
+    return (name if len(name) <= 8 and b"\0" not in name else b"", *astuple(traffic)[1:])
 
 
 # --- the engine
