@@ -2,7 +2,7 @@
  *
  *     feed CONFIGURATION < BUS
  *
- * A line of BUS is one of these, in the units of daidalus.h; T is in whole seconds:
+ * A line of BUS is one of these, in the units of daidalus.h; T is in whole seconds, 0 to 4294967295:
  *
  *     own T X Y ALT TRK GS VS
  *     traffic T ID X Y ALT VX VY VS
@@ -17,7 +17,7 @@
 #include <stdlib.h>
 #include <string.h>
 
-enum { MOST_AIRCRAFT = 64, MOST_AGE = 60, MOST_TEXT = 130176 };
+enum { MOST_AIRCRAFT = 64, MOST_AGE = 60, MOST_LINE = 256, MOST_TEXT = 130176 };
 
 struct own_report {
     long long time;
@@ -31,6 +31,7 @@ struct track {
 };
 
 struct table {
+    long long now; /* the second that began last, -1 before the first */
     struct own_report own;
     struct track tracks[MOST_AIRCRAFT];
     size_t count;
@@ -64,10 +65,15 @@ static void drop(struct table *table, size_t place) {
 }
 
 /* The latest report of a name stands. A second one of the same time is another aircraft under that name, or a source that
- * repeats itself: the later line stands, and it is said. */
+ * repeats itself: the later line stands, and it is said. One of a later second than the next would stand before all sound
+ * ones, and is not taken. */
 static void take_traffic(struct table *table, const struct track *report) {
     const struct daa_traffic *new = &report->traffic;
     struct track *old = find(table, new->id);
+    if (table->now >= 0 && report->time > table->now + 1) {
+        fprintf(stderr, "second %lld: a report of %.8s is left out: it is of second %lld\n", table->now, new->id, report->time);
+        return;
+    }
     if (old && old->time == report->time)
         fprintf(stderr, "second %lld: %.8s was reported twice: its later report stands\n", report->time, new->id);
     if (old && old->time > report->time) return;
@@ -79,25 +85,26 @@ static void take_traffic(struct table *table, const struct track *report) {
     *old = *report;
 }
 
-/* Aircraft that have been silent for more than 60 seconds are no longer known. */
-static void drop_silent(struct table *table, long long now) {
+/* An aircraft is no longer known where it has been silent for more than 60 seconds, or its report is of a second to come. */
+static void drop_unknown(struct table *table) {
     for (size_t i = table->count; i-- > 0;) {
-        if (now - table->tracks[i].time <= MOST_AGE) continue;
-        fprintf(stderr, "second %lld: %.8s is dropped: it was silent for %lld seconds\n", now, table->tracks[i].traffic.id,
-                now - table->tracks[i].time);
+        const struct track *it = &table->tracks[i];
+        long long age = table->now - it->time;
+        if (0 <= age && age <= MOST_AGE) continue;
+        fprintf(stderr, "second %lld: %.8s is dropped: ", table->now, it->traffic.id);
+        if (age < 0) fprintf(stderr, "its report is of second %lld\n", it->time);
+        else fprintf(stderr, "it was silent for %lld seconds\n", age);
         drop(table, i);
     }
 }
 
-/* The aircraft of second now, each with the age of its report; one of a later second is left out. */
-static size_t make_picture(const struct table *table, long long now, struct daa_traffic *out) {
-    size_t count = 0;
+/* The aircraft of this second, each with the age of its report. */
+static size_t make_picture(const struct table *table, struct daa_traffic *out) {
     for (size_t i = 0; i < table->count; i++) {
-        if (table->tracks[i].time > now) continue;
-        out[count] = table->tracks[i].traffic;
-        out[count++].age = (uint32_t)(now - table->tracks[i].time);
+        out[i] = table->tracks[i].traffic;
+        out[i].age = (uint32_t)(table->now - table->tracks[i].time);
     }
-    return count;
+    return table->count;
 }
 
 /* Leaves out each aircraft of which something is wrong, and says what. Returns whether the ownship is sound: without it there
@@ -124,12 +131,13 @@ static void decide(const struct daa_config *config, struct table *table, long lo
     static uint8_t text[MOST_TEXT];
     struct daa_traffic traffic[MOST_AIRCRAFT];
     size_t count, length;
-    drop_silent(table, now);
+    table->now = now;
+    drop_unknown(table);
     if (!table->own.known || table->own.time != now) {
         fprintf(stderr, "second %lld: no guidance: there is no ownship of this second\n", now);
         return;
     }
-    count = make_picture(table, now, traffic);
+    count = make_picture(table, traffic);
     if (!leave_out(now, &table->own.own, traffic, &count)) return;
     int32_t answer = daa_report(config, (uint32_t)now, &table->own.own, traffic, count, text, sizeof text, &length);
     if (answer != DAA_OK) {
@@ -140,35 +148,53 @@ static void decide(const struct daa_config *config, struct table *table, long lo
     fflush(stdout);
 }
 
+/* Reads a word as a whole number; one that long long cannot hold becomes its least or greatest. Returns whether it is one. */
+static int read_number(const char *word, long long *number) {
+    char *end;
+    *number = strtoll(word, &end, 10);
+    return *end == 0;
+}
+
+/* Reads six words as the numbers of a state; one that int32_t cannot hold becomes its least or greatest: daa_fault names it. */
+static int read_state(char *const *words, int32_t *state) {
+    for (int i = 0; i < 6; i++) {
+        long long number;
+        if (!read_number(words[i], &number)) return 0;
+        state[i] = number < INT32_MIN ? INT32_MIN : number > INT32_MAX ? INT32_MAX : (int32_t)number;
+    }
+    return 1;
+}
+
 /* Takes one line of the bus. Returns whether it has the form of one. */
 static int take_line(const struct daa_config *config, struct table *table, const char *line) {
-    struct own_report own = {.known = 1};
-    struct track track = {0};
-    struct daa_traffic *it = &track.traffic;
-    char id[10] = {0}, rest; /* one byte more than a name may have: a longer one must not pass a part of itself on as x */
-    long long now;
-    if (sscanf(line, "own %lld %d %d %d %d %d %d %c", &own.time, &own.own.x, &own.own.y, &own.own.alt, &own.own.trk,
-               &own.own.gs, &own.own.vs, &rest) == 7) {
-        table->own = own;
+    char copy[MOST_LINE], *words[10]; /* one word more than a line may have */
+    int32_t state[6];
+    long long time;
+    int count = 0;
+    for (char *word = strtok(strcpy(copy, line), " \t\r\n"); word && count < 10; word = strtok(NULL, " \t\r\n"))
+        words[count++] = word;
+    if (count < 2 || !read_number(words[1], &time) || time < 0 || time > UINT32_MAX) return 0;
+    if (strcmp(words[0], "own") == 0 && count == 8 && read_state(words + 2, state)) {
+        table->own = (struct own_report){time, 1, {state[0], state[1], state[2], state[3], state[4], state[5]}};
         return 1;
     }
-    if (sscanf(line, "traffic %lld %9s %d %d %d %d %d %d %c", &track.time, id, &it->x, &it->y, &it->alt, &it->vx, &it->vy,
-               &it->vs, &rest) == 8 && strlen(id) <= DAA_MOST_ID) {
-        memcpy(it->id, id, sizeof it->id);
+    if (strcmp(words[0], "traffic") == 0 && count == 9 && strlen(words[2]) <= DAA_MOST_ID && read_state(words + 3, state)) {
+        struct track track = {time, {{0}, state[0], state[1], state[2], state[3], state[4], state[5], 0}};
+        memcpy(track.traffic.id, words[2], strlen(words[2]));
         take_traffic(table, &track);
         return 1;
     }
-    if (sscanf(line, "tick %lld %c", &now, &rest) == 1 && now >= 0 && now <= UINT32_MAX) {
-        decide(config, table, now);
+    if (strcmp(words[0], "tick") == 0 && count == 2) {
+        decide(config, table, time);
         return 1;
     }
     return 0;
 }
 
 int main(int words, char **word) {
-    static struct table table;
+    static struct table table = {.now = -1};
     struct daa_config config;
-    char line[256];
+    char line[MOST_LINE];
     if (words != 2) {
         fprintf(stderr, "usage: feed CONFIGURATION < BUS\n");
         return 2;

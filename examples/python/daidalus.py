@@ -176,10 +176,22 @@ class Refused(ValueError):
 
 # --- the structs of daidalus.h
 
+def held(number, kind):
+    """The number, or if this type of C cannot hold it, one that the engine refuses everywhere."""
+    return number if kind(number).value == number else 2 ** (8 * ctypes.sizeof(kind) - 1) - 1
+
+
+class Struct(ctypes.Structure):
+    """A struct of C that holds its numbers, in place of cutting them as ctypes does."""
+
+    def __setattr__(self, name, value):
+        kind = dict(self._fields_).get(name)
+        super().__setattr__(name, held(value, kind) if kind in (c_int32, c_uint32, c_int64, c_uint64) else value)
+
+
 def struct(*parts):
-    """The struct of C whose fields have these names and types, in this order."""
-    return type("Struct", (ctypes.Structure,),
-                {"_fields_": [(name, kind) for names, kind in parts for name in names.split()]})
+    """The struct whose fields have these names and types, in this order."""
+    return type("Struct", (Struct,), {"_fields_": [(name, kind) for names, kind in parts for name in names.split()]})
 
 
 class C:
@@ -220,7 +232,7 @@ def config_of(numbers):
 def c_traffic(traffic):
     """An aircraft for C. An identifier that C cannot hold is handed on as none, which the engine refuses."""
     name = traffic.id.encode("utf-8", "replace")
-    return (name if len(name) <= 8 else b"", *astuple(traffic)[1:])
+    return (name if len(name) <= 8 and b"\0" not in name else b"", *astuple(traffic)[1:])
 
 
 # --- the engine
@@ -233,7 +245,7 @@ class Engine:
 
     def ask(self, name, *words):
         """Makes a call, and raises Refused where it does not answer 0."""
-        code = getattr(self.calls, name)(*words)
+        code = getattr(self.calls, name)(*(held(word, c_int32) if isinstance(word, int) else word for word in words))
         if code:
             raise Refused(code)
 
@@ -312,7 +324,9 @@ class Moment:
         return to.after if to.found else None
 
     def report(self, time: int) -> bytes:
-        """The moment's text, as the program writes it."""
+        """The moment's text, as the program writes it. The time is in seconds, 0 to 4294967295."""
+        if not 0 <= time < 2**32:
+            raise ValueError(f"the time {time} is not in 0..{2**32 - 1}")
         text, length = ctypes.create_string_buffer(MOST_TEXT), c_size_t()
         self.engine.ask("daa_report", byref(self.config), c_uint32(time), *self.picture, text, c_size_t(MOST_TEXT),
                         byref(length))

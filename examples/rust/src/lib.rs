@@ -224,7 +224,7 @@ impl Config {
 /// An aircraft for C. An identifier that C cannot hold is handed on as none, which the engine refuses.
 fn c_traffic(it: &Traffic) -> raw::Traffic {
     let mut id = [0; 8];
-    if it.id.len() <= id.len() {
+    if it.id.len() <= id.len() && !it.id.contains('\0') {
         id[..it.id.len()].copy_from_slice(it.id.as_bytes());
     }
     raw::Traffic { id, x: it.x, y: it.y, alt: it.alt, vx: it.vx, vy: it.vy, vs: it.vs, age: it.age }
