@@ -1,5 +1,5 @@
-//! The calls of C: each is a function of daa_numbers under the name that `include/daidalus.h`
-//! declares.
+//! The calls of C, under the names that `include/daidalus.h` declares: each but `daa_version` is a
+//! function of daa_numbers.
 #![tactic(auto)]
 
 mod configuration;

@@ -1,6 +1,6 @@
 //! State lines, taken one after the other into a caller's numbers.
 
-ghost use Rattle.std.specs.Prelude.{◌≡◌, ◌≢◌, pos, negsuc, true, false, OnOk, OnErr, IfOk, IfErr};
+ghost use Rattle.std.specs.Prelude.{◌≡◌, ◌≢◌, ◌≤◌, pos, negsuc, true, false, OnOk, OnErr, IfOk, IfErr};
 ghost use Rattle.std.specs.List.{list_any};
 ghost use Rattle.std.specs.Str.{bytes_eq};
 ghost use Rattle.daa_state.specs.Fault.{code_of};
@@ -74,6 +74,7 @@ fn begin(lines: &mut DaaLines, time: u32) -> Result<(), LineFault>
     ensures refused { IfErr result (IsNoStep lines.old (Word.Moment time)) }
     ensures kept { OnErr result (lines.new ≡ lines.old) }
     ensures stays { lines.new.opened ≡ 0 → KeepsMoment lines.old lines.new }
+    ensures few { lines.old.count ≤ 64 → lines.new.count ≤ 64 }
 {
     if lines.opened != 0 {
         return Err(LineFault::MomentOpen);
@@ -95,6 +96,7 @@ fn add_own(lines: &mut DaaLines, own: &Own) -> Result<(), LineFault>
     ensures refused { IfErr result (IsNoStep lines.old (Word.Own own.now)) }
     ensures kept { OnErr result (lines.new ≡ lines.old) }
     ensures stays { lines.new.opened ≡ 0 → KeepsMoment lines.old lines.new }
+    ensures few { lines.old.count ≤ 64 → lines.new.count ≤ 64 }
 {
     if lines.opened == 0 {
         return Err(LineFault::NoMoment);
@@ -136,6 +138,7 @@ fn add_traffic(lines: &mut DaaLines, traffic: &Traffic) -> Result<(), LineFault>
     ensures refused { IfErr result (IsNoStep lines.old (Word.Traffic traffic.now)) }
     ensures kept { OnErr result (lines.new ≡ lines.old) }
     ensures stays { lines.new.opened ≡ 0 → KeepsMoment lines.old lines.new }
+    ensures few { lines.old.count ≤ 64 → lines.new.count ≤ 64 }
 {
     if lines.opened == 0 {
         return Err(LineFault::NoMoment);
@@ -159,6 +162,7 @@ fn set_format(lines: &mut DaaLines, format: u32) -> Result<(), LineFault>
     ensures refused { IfErr result (IsNoStep lines.old (Word.Format format)) }
     ensures kept { OnErr result (lines.new ≡ lines.old) }
     ensures stays { lines.new.opened ≡ 0 → KeepsMoment lines.old lines.new }
+    ensures few { lines.old.count ≤ 64 → lines.new.count ≤ 64 }
 {
     if lines.opened != 0 {
         return Err(LineFault::MomentOpen);
@@ -174,6 +178,7 @@ fn end(lines: &mut DaaLines) -> Result<(), LineFault>
     ensures refused { IfErr result (IsNoStep lines.old Word.End) }
     ensures kept { OnErr result (lines.new ≡ lines.old) }
     ensures stays { lines.new.opened ≡ 0 → KeepsMoment lines.old lines.new }
+    ensures few { lines.old.count ≤ 64 → lines.new.count ≤ 64 }
 {
     if lines.opened == 0 {
         return Err(LineFault::NoMoment);
@@ -195,6 +200,7 @@ fn take(lines: &mut DaaLines, word: &Word) -> Result<bool, LineFault>
     ensures refused { IfErr result (IsNoStep lines.old word.now) }
     ensures kept { OnErr result (lines.new ≡ lines.old) }
     ensures stays { lines.new.opened ≡ 0 → KeepsMoment lines.old lines.new }
+    ensures few { lines.old.count ≤ 64 → lines.new.count ≤ 64 }
 {
     match word {
         Word::Moment(time) => begin(lines, *time)?,
@@ -219,13 +225,14 @@ fn fault_number(fault: LineFault) -> i32
 
 /// Takes the next state line. Returns 0; or -1 if the line ended the moment, whose numbers stay
 /// until the next one begins; or the number of the line's fault, 1 to 13, and then nothing has
-/// changed.
+/// changed. Where at most 64 aircraft were counted, at most 64 are then.
 pub fn line(line: &[u8], lines: &mut DaaLines) -> i32
     ensures taken { result ≡ pos 0 → IsLineTaken lines.old line.now false lines.new }
     ensures ended { result ≡ negsuc 0 → IsLineTaken lines.old line.now true lines.new }
     ensures refused { result ≢ pos 0 → result ≢ negsuc 0 → IsLineRefused lines.old line.now result }
     ensures kept { result ≢ pos 0 → result ≢ negsuc 0 → lines.new ≡ lines.old }
     ensures stays { lines.new.opened ≡ 0 → KeepsMoment lines.old lines.new }
+    ensures few { lines.old.count ≤ 64 → lines.new.count ≤ 64 }
 {
     let word = match read_line(line, format(lines)) {
         Ok(word) => word,

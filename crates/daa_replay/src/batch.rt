@@ -92,7 +92,8 @@ pub(crate) struct Batch {
     tried: usize,
 }
 
-/// The unit of a moment, by which its worker passes the gate: the number of its last line.
+/// The unit of a moment, by which its worker passes the gate: the number of its last line, or
+/// 4294967295 if that is greater.
 pub(crate) fn unit_of(lines: &Lines) -> u32 {
     lines.number().min(u32::MAX as u64) as u32
 }

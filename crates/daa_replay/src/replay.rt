@@ -118,7 +118,7 @@ fn take_piece<R: Threads + Sync, K: Sink, G: Gate>(
     }
 }
 
-/// Reads for the taker: in turn if `places` is 0, else ahead of it by up to `places` pieces.
+/// Reads for the taker: in turn if `places` is 0, else ahead of it while `places` pieces may wait.
 fn read_for<R: Threads + Sync, S: Source + Send, T: Taker + Send, G>(
     context: &Context<'_, R, G>,
     source: &mut S,
@@ -258,7 +258,7 @@ fn buffer_in(alloc: Global, workers: u32) -> Vec<u8> {
 }
 
 /// Writes the report of the source's bytes, at most `most` of them, under this configuration. It
-/// reads in turn if `places` is 0, and else ahead by up to `places` pieces.
+/// reads in turn if `places` is 0, and else ahead while `places` pieces may wait.
 pub(crate) fn run_replay<R: Threads + Sync, S: Source + Send, K: Sink + Send, G: Gate>(
     context: &Context<'_, R, G>,
     engine: &mut Engine,

@@ -241,7 +241,17 @@ fn expect(rt: &impl Abort, found: &(u8, Vec<u8>), status: u8, text: &[u8]) {
     assert!(rt; taken.as_slice() == text, "{taken:?}");
 }
 
-/// A run over this input ends with this status and this text.
+/// The same with a sink that has room for this text and no more, unless the sink is to fail: then a
+/// write that is not needed fails, also one of no bytes.
+fn with_room_for<'a>(outside: Outside<'a>, status: u8, text: &[u8]) -> Outside<'a> {
+    if status == 5 {
+        return outside;
+    }
+    let room = text.len();
+    Outside { room, ..outside }
+}
+
+/// A run over this input ends with this status and this text, for which the sink has just room.
 fn gives<R: Abort + Threads + Sync + AllocGlobal>(
     rt: &R,
     input: &[u8],
@@ -249,7 +259,7 @@ fn gives<R: Abort + Threads + Sync + AllocGlobal>(
     status: u8,
     text: &[u8],
 ) -> Result<(), Fail> {
-    let found = status_and_text(rt, input, outside)?;
+    let found = status_and_text(rt, input, with_room_for(outside, status, text))?;
     expect(rt, &found, status, text);
     Ok(())
 }

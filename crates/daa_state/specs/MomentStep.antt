@@ -1,5 +1,5 @@
 -- What a word makes of the moments.
-use Rattle.std.specs.Prelude.{ℕ, Bool, false, List, [], ◌∷◌, ◌++◌, ◌==◌, length, nat_le, is_some, ok_or, Option, Some, None, Ok, Err, if◌then◌else◌}
+use Rattle.std.specs.Prelude.{ℕ, Bool, true, false, List, [], ◌∷◌, ◌++◌, ◌==◌, length, nat_le, is_some, ok_or, Option, Some, None, Ok, Err, if◌then◌else◌}
 use Rattle.std.specs.List.{list_any}
 use Rattle.std.specs.Str.{bytes_eq}
 use Rattle.daa_state.specs.Fault.{Checked, ◌>>=◌, checked_map}
@@ -56,6 +56,13 @@ with_traffic (Some moment) traffic =
     if has_id traffic.id moment.traffic.items then Err SameId
     else if length moment.traffic.items == 64 then Err Full
     else Ok (record moment { traffic = record { items = moment.traffic.items ++ traffic ∷ [] } })
+
+-- the word begins a moment or adds to the open one
+abbrev pub is_addition : Word → Bool
+is_addition (says.Moment time) = true
+is_addition (says.Own own) = true
+is_addition (says.Traffic aircraft) = true
+is_addition word = false
 
 -- the open moment ends: its picture, if it has an ownship
 unfoldable pub ended_picture : Option Moment → Checked Picture

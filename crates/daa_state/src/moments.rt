@@ -7,7 +7,7 @@ ghost use Rattle.std.specs.Str.{bytes_eq};
 ghost use Rattle.daa_state.specs.InRange.{IsFormat, IsWordInRange, IsOwnInRange};
 ghost use Rattle.daa_state.specs.InRange.{IsTrafficInRange, IsPictureInRange};
 ghost use Rattle.daa_state.specs.Inside.InRange.{IsMomentInRange};
-ghost use Rattle.daa_state.specs.MomentStep.{step, stepped, finished, start, begun_moment};
+ghost use Rattle.daa_state.specs.MomentStep.{step, stepped, finished, start, begun_moment, is_addition};
 ghost use Rattle.daa_state.specs.MomentStep.{has_own, with_own, with_traffic, ended_picture, has_id};
 
 use crate::fault::LineFault;
@@ -111,6 +111,7 @@ impl Moments {
         ensures passed { result ≡ false → IfOk (step self.old word.now)
             (λ next. next.picture ≡ None → next.state.moment ≡ self.old.moment) }
         ensures unchanged { result ≡ false → self.new ≡ self.old }
+        ensures adds { result ≡ true → is_addition word.now ≡ true }
     {
         match word {
             Word::Moment(time) => match begin(&self.moment, self.last, *time) {

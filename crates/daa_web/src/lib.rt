@@ -22,7 +22,7 @@ pub extern "C" fn daa_check(config: &DaaConfig) -> i32
 
 /// Takes the next state line. Returns 0; or -1 if the line ended the moment, whose numbers stay
 /// until the next one begins; or the number of the line's fault, 1 to 13, and then nothing has
-/// changed.
+/// changed. Where at most 64 aircraft were counted, at most 64 are then.
 #[unsafe(no_mangle)]
 pub extern "C" fn daa_line(line: &[u8], lines: &mut DaaLines) -> i32
     ensures taken { result ≡ pos 0 → IsLineTaken lines.old line.now false lines.new }
@@ -30,6 +30,7 @@ pub extern "C" fn daa_line(line: &[u8], lines: &mut DaaLines) -> i32
     ensures refused { result ≢ pos 0 → result ≢ negsuc 0 → IsLineRefused lines.old line.now result }
     ensures kept { result ≢ pos 0 → result ≢ negsuc 0 → lines.new ≡ lines.old }
     ensures stays { lines.new.opened ≡ 0 → KeepsMoment lines.old lines.new }
+    ensures few { lines.old.count ≤ 64 → lines.new.count ≤ 64 }
 {
     daa_numbers::line(line, lines)
 }

@@ -68,13 +68,15 @@ fn reading_ahead_keeps_the_limit_and_goes_far(rt: HostRuntime) -> Result<(), Fai
 
 /// With pieces of nine bytes: a read and a write that fail, the most bytes that are read, the
 /// status, and what the sink took.
-static FAULTS: [(u64, u64, u64, u8, &[u8]); 6] = [
+static FAULTS: [(u64, u64, u64, u8, &[u8]); 7] = [
     (7, 0, 63, 5, b""),
     (99, 0, 63, 5, b""),
     (6, 0, 63, 4, b""),
     (1, 99, 63, 4, b""),
     (99, 1, 63, 5, b"moment 0\nnow A 1\nalert A 1 0\n"),
     (7, 99, 63, 4, ONE_TEXT),
+    // the end is met once, and not asked for again
+    (8, 99, 63, 0, ONE_TEXT),
 ];
 
 #[test]

@@ -70,8 +70,7 @@ pub(super) fn alone<R: Abort + Threads + Sync + AllocGlobal>(
     Ok(text)
 }
 
-/// Replays by these numbers of workers, in these pieces, write this text. The sink has room for it
-/// and no more, so that a write that is not needed, also of no bytes, fails.
+/// Replays by these numbers of workers, in these pieces, write this text.
 fn all_write<R: Abort + Threads + Sync + AllocGlobal>(
     rt: &R,
     numbers: &[&str],
@@ -83,7 +82,6 @@ fn all_write<R: Abort + Threads + Sync + AllocGlobal>(
         for read_pieces in pieces {
             let outside = Outside {
                 read_pieces,
-                room: text.len(),
                 ..PLAIN
             };
             gives_by(rt, workers, input, outside, 1, text)?;
@@ -333,7 +331,6 @@ fn reads_until<R: Abort + Threads + Sync + AllocGlobal>(
     let outside = Outside {
         read_pieces: &[size; 3],
         read_fails: &[fails],
-        room: 100_000,
         ..PLAIN
     };
     gives_by(rt, workers, input, outside, 4, text)

@@ -1,6 +1,8 @@
 //! Reports that are compared with that of states on the shelf.
 
-use super::{ONE, ONE_TEXT, ONES, Outside, PLAIN, SEVENS, expect, status_over, strings, whole};
+use super::{
+    ONE, ONE_TEXT, ONES, Outside, PLAIN, SEVENS, expect, status_over, strings, whole, with_room_for,
+};
 use daa_outside::MemShelf;
 use std::alloc::AllocError;
 use std::process::Abort;
@@ -47,7 +49,7 @@ pub(super) fn judges<R: Abort + Threads + Sync + AllocGlobal>(
     text: &[u8],
 ) -> Result<(), Fail> {
     let mut shelf = shelf_of_both(rt, states, outside)?;
-    let found = status_over(rt, &mut shelf, report, outside)?;
+    let found = status_over(rt, &mut shelf, report, with_room_for(outside, status, text))?;
     expect(rt, &found, status, text);
     Ok(())
 }
@@ -228,6 +230,9 @@ fn judges_until<R: Abort + Threads + Sync + AllocGlobal>(
 fn reading_stops_at_a_difference_and_at_the_limit(rt: HostRuntime) -> Result<(), Fail> {
     judges_until(&rt, OTHER, 1, 1, b"differs 3\n")?;
     judges_until(&rt, ONE_TEXT, 0, 4, b"")?;
+    // the end is met once, and not asked for again
+    judges_until(&rt, ONE_TEXT, 2, 0, b"same\n")?;
+    judges_until(&rt, b"", 1, 1, b"differs 1\n")?;
     keeps_limits(&rt, ONE_TEXT, &OF_THE_REPORT)?;
     keeps_limits(&rt, longer_text(&rt)?.as_slice(), &OF_A_LONGER_ONE)?;
     keeps_limits(&rt, b"x", &[(1, 1, b"differs 1\n")])
