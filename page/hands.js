@@ -3,18 +3,18 @@
 (function () {
   const { ui } = daa;
   const { wrap, unplan, scaleOf, vectorSeconds } = daa;
-  const { state, within, shownViews, changed, lookOf, restore, edited, choose, play, goTo, act, remove } = ui;
+  const { state, within, shownViews, changed, lookOf, restore, edited, choose, partsOf, aircraftOf, play, goTo, act, remove } = ui;
 
   // ---- moving things: by the pointer
 
   const pointIn = (svg, event) => new DOMPoint(event.clientX, event.clientY).matrixTransform(svg.getScreenCTM().inverse());
-  const aircraftOf = (id) => (id ? state.current.traffic.find((one) => one.id === id) : state.current.own);
+  const whose = (key) => (partsOf(key)[1] ? aircraftOf(key) : state.current.own);
 
   /** Moves what a key names to a point of a display. */
   function moveTo(key, point, view) {
     const { own } = state.current;
-    const [what, id] = key.split(":");
-    const one = aircraftOf(id);
+    const [what] = partsOf(key);
+    const one = whose(key);
     const look = { ...view.drawn, ...lookOf(view) };
     if (what === "p") movePlace(one, unplan(look, point));
     else if (what === "v") {
@@ -101,12 +101,12 @@
   /** A key pressed at what can be moved; whether it means something there. */
   function press(key, pressed, more, view) {
     const { own, traffic } = state.current;
-    const [what, id] = key.split(":");
-    const one = aircraftOf(id);
+    const [what] = partsOf(key);
+    const one = whose(key);
     const right = { ArrowRight: 1, ArrowLeft: -1 }[pressed] || 0;
     const up = { ArrowUp: 1, ArrowDown: -1 }[pressed] || 0;
     const high = { PageUp: 1, PageDown: -1 }[pressed] || 0;
-    if (pressed === "Delete" && id) {
+    if (pressed === "Delete" && one !== own) {
       remove(traffic.indexOf(one));
       return true;
     }

@@ -5,7 +5,7 @@
  * state and the reports. Bands are shown only with the states that they are the answer to. */
 "use strict";
 (function () {
-  const { VIEW_HEIGHTS, clamp, flown, escape, draw } = daa;
+  const { VIEW_HEIGHTS, clamp, flown, escape, draw, calledIn } = daa;
   const ui = (daa.ui = {}); // what the page's scripts share
   const $ = (id) => document.getElementById(id);
   const RANGES_NM = [1.5, 3, 6, 9, 12, 18, 24, 36, 48, 96, 192]; // so that their thirds are short numbers
@@ -249,6 +249,14 @@
     touched();
   }
 
+  /** The parts of a key: what is moved, and of which aircraft; of the ownship where none is called. */
+  const partsOf = (key) => /^([^:]*):?(.*)$/s.exec(key).slice(1);
+  function aircraftOf(key) {
+    const [, called] = partsOf(key);
+    const { traffic } = state.current;
+    return traffic.find((one) => calledIn(traffic, one) === called);
+  }
+
   function choose(key) {
     state.chosen = key;
     changed();
@@ -326,5 +334,5 @@
   }
 
   Object.assign(ui, { $, LIMITS, state, within, shownViews, setText, setHtml, download, changed, saidOf, faultOf, edited,
-    choose, lookOf, restore, play, goTo, act, RANGES_NM, fill, modelOf, survey, go, pause, fitting });
+    choose, partsOf, aircraftOf, lookOf, restore, play, goTo, act, RANGES_NM, fill, modelOf, survey, go, pause, fitting });
 })();

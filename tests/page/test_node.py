@@ -425,6 +425,41 @@ class Used(unittest.TestCase):
         for (*_, line), states in zip(steps, found, strict=True):
             self.assertIn(line + "\n", states)
 
+    def named(self, script):
+        """What a script returns that types at the chosen aircraft, which is BRAVO."""
+        return on_page("""
+            const type = async (field, value) => {
+              await fire($("state"), "input", { target: { dataset: { field, scale: "1" }, value } });
+              await settle();
+            };
+            await fire($("aircraft"), "click", { target: { dataset: { choose: "BRAVO" } } });
+            """ + script)
+
+    def test_a_name_is_written_past_that_of_another_aircraft(self):
+        """At AMBER two have one name, and each has a symbol; the last letter goes to the one that is named."""
+        keys, states = self.named(f'await type("id", "AMBER"); const keys = [...display().daa.handles.keys()]; await type("id", "AMBER2"); return [keys, {STATES}];')
+        self.assertEqual(len({key for key in keys if key.startswith("p:")}), 3)
+        self.assertEqual(re.findall("(?m)^traffic (.*)$", states), ["AMBER 3000 8000 10000 -1350 0 0", "AMBER2 -1200 -300 10600 0 3600 -600"])
+
+    def test_an_aircraft_without_a_name_stays_chosen(self):
+        """What is typed then is its number and not the ownship's, and both have a symbol."""
+        places, states = self.named(f"""
+            await type("id", "");
+            await type("alt", "9000");
+            const symbols = [...display().daa.handles].filter(([key]) => key.startsWith("p:"));
+            return [symbols.map(([, it]) => it.getAttribute("transform")), {STATES}];""")
+        self.assertEqual(len(set(places)), 3)
+        self.assertIn("own 0 0 10000 0 3600 0\n", states)
+        self.assertIn("traffic  -1200 -300 9000 0 3600 -600\n", states)
+
+    def test_a_name_with_a_colon_is_moved(self):
+        """Also one whose first part is another aircraft's name."""
+        for name in ("AMBER:1", "X:Y"):
+            states = self.named(f'await type("id", "{name}"); await press("p:{name}", "ArrowUp"); await drag("p:{name}", -30, 0); return {STATES};')
+            amber, other = re.findall("(?m)^traffic (.*)$", states)
+            self.assertEqual(amber, "AMBER 3000 8000 10000 -1350 0 0")
+            self.assertRegex(other, f"^{name} -2[0-9]{{3}} -20[0-9] 10600 0 3600 -600$")
+
     def test_what_is_held_goes_with_the_pointer(self):
         """North up and with the track up: a handle stands where it is let go, but for whole numbers; the track bug at the pointer's
         bearing, a tape's pointer at its height."""
