@@ -49,7 +49,7 @@
 
   function hold(svg, event) {
     const handle = event.target.closest(".handle");
-    if (!handle) return;
+    if (!handle || event.button !== 0 || !event.isPrimary) return;
     event.preventDefault();
     const { key } = handle.dataset;
     const { own } = state.current;
@@ -76,6 +76,10 @@
     svg.addEventListener("pointermove", (event) => {
       if (!state.held) return;
       const { off, key } = state.held;
+      if (!event.buttons || !whose(key)) { // its release was not told, or it is there no more
+        drop();
+        return;
+      }
       const point = pointIn(svg, event);
       moveTo(key, { x: point.x + off.x, y: point.y + off.y }, view());
       edited();
@@ -84,7 +88,7 @@
     svg.addEventListener("pointercancel", drop);
     svg.addEventListener("wheel", (event) => {
       event.preventDefault();
-      act(event.deltaY > 0 ? "wide" : "near", view(), figure);
+      if (event.deltaY) act(event.deltaY > 0 ? "wide" : "near", view(), figure);
     }, { passive: false });
     svg.addEventListener("keydown", (event) => {
       const handle = event.target.closest(".handle");
@@ -138,7 +142,7 @@
 
   document.addEventListener("keydown", (event) => {
     if (event.ctrlKey || event.metaKey || event.altKey) return;
-    if (event.target.closest("input, textarea, select, button, summary, [role=group][tabindex]") && event.key !== "Escape") return;
+    if (event.target.closest("input, textarea, select, button, summary, [role=group][tabindex='0']") && event.key !== "Escape") return;
     const range = (what) => () => shownViews().forEach((view) => act(what, view, true));
     const does = { " ": play, ",": () => goTo(state.index - 1), ".": () => goTo(state.index + 1), Escape: restore,
       "+": range("near"), "-": range("wide"), 0: range("fit") }[event.key];

@@ -229,6 +229,16 @@ class Moved(PageTest):
         self.page.step_to(0)
         self.assertEqual(self.page.report(), before)
 
+    def test_keys_count_after_a_drag_and_after_a_click(self):
+        """Whatever of the display has the focus then."""
+        moments = moments_of(replayed(THREE_LEVELS, bytes_of(ENCOUNTER)))
+        self.page.drag("p:AMBER", (-20, 40))
+        self.page.press(".")
+        self.check_moment(moments[1])
+        self.page.click("figure[data-view='0'] [data-layer=head] text")
+        self.page.press(".")
+        self.check_moment(moments[2])
+
     def test_everything_that_can_be_held_is_dragged(self):
         for key, offset in (("track", (90, 60)), ("gs", (0, 60)), ("vs", (0, -50)), ("alt", (0, 40)), ("v:BRAVO", (30, 30)), ("v:", (20, 10)), ("p:", (15, -25))):
             with self.subTest(key=key):

@@ -489,6 +489,35 @@ class Used(unittest.TestCase):
             else:
                 self.assertLess(abs(held[1] - to[1]), 5, key)
 
+    def test_the_first_button_alone_holds(self):
+        """And the first pointer; what is held is let go where its release was not told, and where it was removed."""
+        before, found = on_page(f"""
+            const hold = (values) => fire(display(), "pointerdown", {{ target: handle("p:AMBER"), clientX: 0, clientY: 0, button: 0, isPrimary: true, ...values }});
+            const move = async (buttons) => {{
+              await fire(display(), "pointermove", {{ clientX: 9, clientY: 9, buttons }});
+              return [Boolean(page.held), {STATES}];
+            }};
+            const before = {STATES}, found = [];
+            for (const [values, buttons] of [[{{ button: 2 }}, 2], [{{ isPrimary: false }}, 1], [{{}}, 0]]) {{
+              await hold(values);
+              found.push(await move(buttons));
+            }}
+            await hold({{}});
+            await press("p:AMBER", "Delete");
+            found.push(await move(1));
+            return [before, found];""")
+        self.assertEqual(found, [[False, before]] * 3 + [[False, re.sub("traffic AMBER .*\n", "", before)]])
+
+    def test_a_wheel_that_turns_sideways_keeps_the_range(self):
+        found = on_page("""
+            const ranges = [];
+            for (const deltaY of [0, 1, -1]) {
+              await fire(display(), "wheel", { deltaY });
+              ranges.push(page.views[0].look.range);
+            }
+            return ranges;""")
+        self.assertEqual(found, [12, 18, 12])
+
     def test_a_late_answer_to_an_older_moment_is_not_shown(self):
         """The answers to two changes come one after the other, and nothing is shown before the second."""
         found = on_page("""
