@@ -16,7 +16,7 @@
 
   const state = { engine: null, survey: null, views: [], name: "", moments: [], refused: [], index: 0, current: null, version: 0,
     edited: false, chosen: "p:", held: null, playing: null, compare: false, paper: false, notes: [], ids: [], job: 0, unfolded: false,
-    linesOpen: false, recording: null, told: [], times: [] };
+    linesOpen: false, recording: null, untaken: "", told: [], times: [] };
   daa.page = state;
 
   const within = (value, field) => clamp(Math.round(value), ...LIMITS[field]);
@@ -190,7 +190,8 @@
     setText($("engine"), `engine ${Math.round(state.engine.size / 1024)} KB${took}`);
     const refused = edited ? [] : state.refused.filter((it) => it.before === index);
     setText($("notes"), [...state.told, ...refused.map((it) => `line ${it.refused} was refused with code ${it.code}`)].join("; "));
-    setText($("fault"), shownViews().filter(isAnswered).map((view) => view.fault).find(Boolean) || "");
+    const fault = shownViews().filter(isAnswered).map((view) => view.fault).find(Boolean);
+    setText($("fault"), [state.untaken, fault].filter(Boolean).join("; "));
   }
 
   // ---- all moments, over time

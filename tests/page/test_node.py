@@ -337,6 +337,15 @@ class Drawn(unittest.TestCase):
 
 
 STATES = "daa.stateLines([page.current])"
+OPEN = """const open = async (...files) => {
+  await fire(screen, "drop", { dataTransfer: { files: files.map(([name, text]) => ({ name, arrayBuffer: async () => daa.bytesOf(text).buffer })) } });
+  await settle();
+};"""
+EDIT = """const edit = async (text) => {
+  $("toml").value = text;
+  await fire($("toml"), "input");
+  await settle();
+};"""
 
 
 @unittest.skipUnless(NODE, HOW)
@@ -605,6 +614,80 @@ class Used(unittest.TestCase):
             return [before, meanwhile, names()];""")
         held = ["three_levels", "recovery", "encounter.states", {"trackUp": True, "range": 24, "heights": 6000}]
         self.assertEqual((before, meanwhile[0], after), (held, "recovery", held))
+
+    def test_a_refused_configuration_gives_no_name(self):
+        """What is shown is named as the one that it is shown under."""
+        head, label, fault = on_page(OPEN + """
+            await open(["strict.toml", given[0]]);
+            await press("p:AMBER", "ArrowUp");
+            return [display().querySelector("[data-layer=head]").innerHTML, display().getAttribute("aria-label"), $("config-fault").textContent];""",
+            text_of(THREE_LEVELS).replace("track_step = 5\n", "track_step = 7\n"))
+        self.assertEqual([text.text for text in xml_of(head)][2], "three_levels")
+        self.assertRegex(label, "^Display under three_levels: ")
+        self.assertIn("track_step = 7 does not divide 360", fault)
+
+    def test_a_link_holds_the_configuration_that_counts(self):
+        """And not what was edited since, and is refused."""
+        edited = text_of(THREE_LEVELS).replace("track_step = 5\n", "track_step = 10\n")
+        before, after = on_page(EDIT + """
+            const shown = () => [page.views[0].name, page.views[0].said.text];
+            await edit(given[0]);
+            await edit("x = 1\\n" + given[0]);
+            const before = shown();
+            await fire($("link"), "click");
+            await edit(given[1]);
+            page.hash = "";
+            await fire(screen, "hashchange");
+            await settle();
+            return [before, shown()];""", edited, text_of(RECOVERY))
+        with tempfile.NamedTemporaryFile("w", suffix=".toml") as file:
+            file.write(edited)
+            file.flush()
+            self.assertEqual(before, ["edited", moments_of(replayed(file.name, bytes_of(ENCOUNTER)))[0]])
+        self.assertEqual(after, before)
+
+    def test_a_refused_moment_has_no_link(self):
+        told, hash = on_page("""
+            await fire($("state"), "input", { target: { dataset: { field: "alt", scale: "1" }, value: "70000" } });
+            await settle();
+            await fire($("link"), "click");
+            return [$("link").textContent, location.hash];""")
+        self.assertEqual((told, hash), ("No link: alt of the ownship is not within -2000 and 60000", ""))
+
+    def test_a_link_that_holds_no_moment_is_left(self):
+        """Links of another form, and one whose state lines are refused."""
+        whole = {"states": "moment 7\nown 0 0 0 0 0 0\nend\n", "name": "", "configs": [{}, {}], "look": [{}, {}]}
+        wrong = [5, {}, [], {**whole, "configs": [{}, {}, {}]}, {**whole, "look": [{}, None]}, {**whole, "look": {}}, {**whole, "states": "moment 7\n"}]
+        times = on_page("""
+            const times = [];
+            for (const held of given) {
+              location.hash = `#${await daa.pack(held)}`;
+              await fire(screen, "hashchange");
+              times.push(page.current.time);
+            }
+            return times;""", *wrong, whole)
+        self.assertEqual(times, [0] * len(wrong) + [7])
+
+    def test_a_file_that_is_not_taken_is_told_until_another_one_is_opened(self):
+        told = on_page(OPEN + """
+            const told = [];
+            for (const [name, text] of given) {
+              await open([name, text]);
+              $("slider").value = "1";
+              await fire($("slider"), "input");
+              await settle();
+              told.push($("fault").textContent);
+            }
+            return told;""", ["none.states", "nothing\n"], ["none.daa", "name time\n"], ["a.states", text_of(ENCOUNTER)])
+        self.assertEqual(told, ["none.states has no whole moment; line 1 was refused with code 2",
+                                "none.daa: the header has no column for alt, vs, a place (lat lon, or sx sy), a speed (trk gs, or vx vy)", ""])
+
+    def test_the_ownship_is_chosen_in_a_recording_alone(self):
+        """In the one that is shown, whatever is refused after it."""
+        files = (("none.daa", "name time\n"), ("a.daa", text_of(os.path.join(EXAMPLES, "recording.daa"))), ("none.states", "nothing\n"),
+                 ("a.states", text_of(ENCOUNTER)), ("none.daa", "name time\n"))
+        hidden = on_page(OPEN + "const hidden = []; for (const it of given) { await open(it); hidden.push($('own-label').hidden); } return hidden;", *files)
+        self.assertEqual(hidden, [True, False, False, True, True])
 
     def test_files_that_are_dropped_and_the_one_that_is_saved(self):
         """A configuration counts for states that come before it; it is saved as it was edited."""
