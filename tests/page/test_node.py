@@ -108,6 +108,10 @@ class Module(unittest.TestCase):
         for levels in ([3, 0] * 300 + [3], [0, 3] * 300 + [3], [3, 2] * 300 + [3]):
             self.assertEqual(in_node([["strip", levels]])[0], {"3": 300 * (1 + 5) + 1 + 2})
 
+    def test_200000_moments_have_a_strip(self):
+        """Of 334 moments a column, the first of which alone has a level: a box, and its tracks, one of them in two parts."""
+        self.assertEqual(in_node([["strip", [3] + [0] * 199999]])[0], {"3": 1 + 5})
+
 
 # What is drawn.
 
@@ -645,6 +649,10 @@ class Used(unittest.TestCase):
             file.flush()
             self.assertEqual(before, ["edited", moments_of(replayed(file.name, bytes_of(ENCOUNTER)))[0]])
         self.assertEqual(after, before)
+
+    def test_a_link_holds_a_long_text(self):
+        text = "".join(map(str, random.Random(1).choices(range(1000), k=100000)))
+        self.assertTrue(on_page("return (await daa.unpack(`#${await daa.pack(given[0])}`)) === given[0];", text))
 
     def test_a_refused_moment_has_no_link(self):
         told, hash = on_page("""
