@@ -29,7 +29,10 @@
     element.innerHTML = html;
     return true;
   };
-  const fill = (select, names) => { select.innerHTML = names.map((name) => `<option>${escape(name)}</option>`).join(""); };
+  /** Puts names to choose from; each is a value of its own, since the words of an option lose blanks. */
+  const fill = (select, names) => {
+    select.innerHTML = names.map((name) => `<option value="${escape(name)}">${escape(name)}</option>`).join("");
+  };
 
   function download(blob, name) {
     const link = Object.assign(document.createElement("a"), { href: URL.createObjectURL(blob), download: name });

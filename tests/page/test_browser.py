@@ -410,6 +410,13 @@ class Loaded(PageTest):
             self.check_moment(moments[4])
         self.assertIn("Intruder2 is written Intrude2", self.page.text("#notes"))
 
+    def test_a_name_with_blanks_is_chosen(self):
+        """As the ownship, whose altitude is then that of its row."""
+        rows = "".join(f"{name},{time},0,{alt},{alt},0,100,0\n" for time in (0, 1) for name, alt in (("A", 1000), ("B  2", 2000)))
+        self.page.open_files(self.page.file("blanks.csv", "name,time,sx [m],sy [m],sz,trk,gs,vs\n" + rows))
+        self.page.select("#own", "B 2")
+        self.assertEqual(self.page.js("return [document.querySelector('#own').value, daa.page.current.own.alt]"), ["B  2", 2000])
+
     def test_a_file_that_is_none(self):
         self.page.open_files(self.page.file("none.states", "nothing\n"))
         self.assertIn("none.states has no whole moment; line 1 was refused with code 2", self.page.text("#fault"))
