@@ -2,10 +2,11 @@
 "use strict";
 (function () {
   const { ui } = daa;
-  const { KINDS, SIDES, wrap, flown, escape, shownWords, calledIn } = daa;
+  const { KINDS, SIDES, clamp, wrap, flown, escape, shownWords, calledIn } = daa;
   const { $, LIMITS, state, within, shownViews, setText, setHtml, download, changed, saidOf, faultOf, edited, choose,
     aircraftOf } = ui;
   const MOST_QUIET = 5; // so many aircraft without an alert are listed before they are folded
+  const MOST_TYPED = 1e6; // out of the range of each number, and within the engine's
 
   // ---- the table
 
@@ -90,7 +91,7 @@
     for (const input of $("state").querySelectorAll("input")) {
       const { field, scale } = input.dataset;
       const shown = field === "id" ? from.id : String(from[field] / Number(scale));
-      if (document.activeElement !== input) input.value = shown;
+      if (document.activeElement !== input || !state.edited) input.value = shown; // what is being typed stays
     }
   }
 
@@ -102,7 +103,7 @@
     if (field === "id") {
       one.id = target.value;
       state.chosen = `p:${calledIn(state.current.traffic, one)}`;
-    } else if (target.value !== "" && Number.isFinite(number) && Math.abs(number) < 1e6) one[field] = Math.round(number * Number(scale));
+    } else if (target.value !== "" && Number.isFinite(number)) one[field] = Math.round(clamp(number, -MOST_TYPED, MOST_TYPED) * Number(scale));
     edited();
   });
   $("state").addEventListener("click", ({ target }) => {

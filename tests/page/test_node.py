@@ -422,6 +422,28 @@ class Used(unittest.TestCase):
         self.assertEqual(other, {"id": "AMBER", "x": "3", "y": "8", "alt": "10000", "vx": "-135", "vy": "0", "vs": "0", "age": "0"})
         self.assertIn("traffic AMBER 2500 7750 10000 -1205 100 200 3\n", last)
 
+    def test_a_number_beyond_all_is_told(self):
+        """And not left as it was some letters ago."""
+        for value in ("1e21", "-1e21"):
+            told = on_page("""
+                await fire($("state"), "input", { target: { dataset: { field: given[0], scale: given[1] }, value: given[2] } });
+                await settle();
+                return $("fault").textContent;""", "x", "1000", value)
+            self.assertEqual(told, "x of the ownship is not within -200000 and 200000")
+
+    def test_escape_takes_back_what_is_being_typed(self):
+        typed, after = on_page("""
+            const input = $("state").querySelectorAll("input").find((it) => it.dataset.field === "alt");
+            document.activeElement = input;
+            input.value = "9000.0";
+            await fire($("state"), "input", { target: input });
+            await settle();
+            const typed = input.value;
+            await fire(document, "keydown", { target: input, key: "Escape" });
+            await settle();
+            return [typed, input.value];""")
+        self.assertEqual((typed, after), ("9000.0", "10000"))
+
     def test_the_limits_are_those_of_state_lines(self):
         wanted = {field.name.lower(): [field.low, field.high] for field in (X, Y, ALT, TRK, GS, VX, VY, VS, AGE)}
         self.assertEqual(on_page("return daa.ui.LIMITS;"), wanted)
