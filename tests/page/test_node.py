@@ -9,6 +9,7 @@ import shutil
 import subprocess
 import sys
 import tempfile
+import time
 import unittest
 from xml.etree import ElementTree
 
@@ -1034,6 +1035,15 @@ class Recordings(unittest.TestCase):
             head = mark.join("name time sx sy sz trk gs vs".split())
             self.assertEqual(self.refusal(f"{head}\n" + mark.join(["own", "0", "0,5", "0", "1000", "0", "100", "0"])), f"{told}: a decimal comma? Write a point")
         self.assertEqual(self.refusal("name time sx sy sz trk gs vs\nown 0 0 0 1000 0 100 0 7\n"), "line 2 has 9 fields, the header 8")
+
+    def test_long_cells_are_read_at_once(self):
+        """Digits that end in a letter, and blanks within a cell and within the name of a column: in time that grows with their number."""
+        head, digits, blanks = "name,time,sx,sy,sz,trk,gs,vs", "1" * 50000 + "x", "a" + " " * 300000 + "b"
+        begun = time.monotonic()
+        self.assertEqual(self.refusal(f"{head}\nown,0,{digits},0,0,0,0,0"), f"line 2: no number for sx: own,0,{'1' * 54}")
+        self.assertEqual(self.refusal(f"{head}\nown,0,{blanks},0,0,0,0,0"), "line 2: no number for sx: own,0,a" + " " * 53)
+        self.assertEqual(self.refusal(f"{head},{blanks}\n"), "no report of an aircraft")
+        self.assertLess(time.monotonic() - begun, 20)
 
     def test_what_no_moment_can_be_made_of_is_refused(self):
         head, told = "name,time [h],sx,sy,sz [km],trk,gs,vs\n", "line 2: {} is too large a number for {}"
