@@ -341,6 +341,10 @@
   }
 
 
+  /** What keys call an aircraft, no two the same: its name. Where it has none, or one before it has the same, its place, in words
+   *  that are longer than a name may be. */
+  const calledIn = (traffic, one) => (one.id && traffic.find(({ id }) => id === one.id) === one ? one.id : `aircraft ${traffic.indexOf(one)}`);
+
   /** What is said of an aircraft while there is no answer. */
   const UNKNOWN = { level: 0, now: 0, first: null, unknown: true };
 
@@ -358,7 +362,7 @@
     const tip = plan(view, ahead.x, ahead.y);
     const end = off ? shown : within(g, p, tip);
     const miles = Math.hypot(here.x - model.own.x, here.y - model.own.y) / 1000;
-    return { one, place, alert, p, off, shown, tip, end, miles, tag: heightTag(model.own, one) };
+    return { one, place, alert, p, off, shown, tip, end, miles, tag: heightTag(model.own, one), called: calledIn(model.traffic, one) };
   }
 
   /** Labels of all aircraft, those that alert first, since they choose first. */
@@ -375,7 +379,7 @@
     lines.push({ x1: own.x, y1: own.y, x2: tip.x, y2: tip.y });
     const labels = new daa.Labels({ ...g.centre, radius: g.radius - 1 }, boxes, lines);
     const order = [...all].sort((a, b) => b.alert.level - a.alert.level || a.off - b.off || a.miles - b.miles);
-    for (const it of order) it.label = labelOf(view, labels, it, `p:${it.one.id}` === view.chosen);
+    for (const it of order) it.label = labelOf(view, labels, it, `p:${it.called}` === view.chosen);
   }
 
   /** The bearings of the open tracks and of the recovery. */
@@ -442,21 +446,21 @@
   const knob = (stroke) => `${focusRing(10)}<circle r="4.5" fill="var(--ground)" stroke="${stroke}" stroke-width="2"/>${grip(12)}`;
   const strokeOf = (level) => (level ? edge(level) : "var(--ink)");
 
-  function velocityHandle(view, { one, off, tip, end, alert }) {
+  function velocityHandle(view, { one, off, tip, end, alert, called }) {
     if (off || end !== tip) return null;
     const speed = n(Math.hypot(one.vx, one.vy) / 10);
-    return { key: `v:${one.id}`, x: tip.x, y: tip.y, label: `velocity of ${one.id}`, number: speed,
+    return { key: `v:${called}`, x: tip.x, y: tip.y, label: `velocity of ${one.id}`, number: speed,
       value: `east ${n(one.vx / 10)}, north ${n(one.vy / 10)} knots`, inside: knob(strokeOf(alert.level)) };
   }
 
   function aircraftHandle(view, it) {
-    const { one, alert, off, shown, end, miles, tag } = it;
+    const { one, alert, off, shown, end, miles, tag, called } = it;
     const line = off ? "" : `<path d="M0 0L${n(end.x - shown.x)} ${n(end.y - shown.y)}" stroke="${strokeOf(alert.level)}" stroke-width="2"/>`;
     const mark = symbol(alert);
     const told = alert.unknown ? "no answer" : alert.level ? `alert level ${alert.level} in ${alert.first} seconds` : "no alert";
     const height = tag.replace("−", "minus ").replace("↑", " climbing").replace("↓", " sinking");
     const value = `${n(miles)} NM away, ${height} hundred feet, ${told}${alert.now ? `, level ${alert.now} now` : ""}`;
-    return { key: `p:${one.id}`, x: shown.x, y: shown.y, label: one.id, number: n(miles), value, level: alert.level,
+    return { key: `p:${called}`, x: shown.x, y: shown.y, label: one.id, number: n(miles), value, level: alert.level,
       inside: `${focusRing(20)}${line}${off ? `<g opacity=".7" transform="scale(.8)">${mark}</g>` : mark}${drawLabel(view.g, it)}${grip(15)}` };
   }
 
@@ -774,5 +778,5 @@
   }
 
   Object.assign(root.daa, { draw, unplan, scaleOf, wrap, clamp, flown, escape, heightTag, patterns, STYLE, TAPES, SIDES, MODELS,
-    VIEW_HEIGHTS, vectorSeconds, shownValue, shownWords, paint });
+    VIEW_HEIGHTS, vectorSeconds, shownValue, shownWords, paint, calledIn });
 })(globalThis);

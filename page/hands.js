@@ -3,18 +3,18 @@
 (function () {
   const { ui } = daa;
   const { wrap, unplan, scaleOf, vectorSeconds } = daa;
-  const { state, within, shownViews, changed, lookOf, restore, edited, choose, play, goTo, act, remove } = ui;
+  const { state, within, shownViews, changed, lookOf, restore, edited, choose, partsOf, aircraftOf, play, goTo, act, remove } = ui;
 
   // ---- moving things: by the pointer
 
   const pointIn = (svg, event) => new DOMPoint(event.clientX, event.clientY).matrixTransform(svg.getScreenCTM().inverse());
-  const aircraftOf = (id) => (id ? state.current.traffic.find((one) => one.id === id) : state.current.own);
+  const whose = (key) => (partsOf(key)[1] ? aircraftOf(key) : state.current.own);
 
   /** Moves what a key names to a point of a display. */
   function moveTo(key, point, view) {
     const { own } = state.current;
-    const [what, id] = key.split(":");
-    const one = aircraftOf(id);
+    const [what] = partsOf(key);
+    const one = whose(key);
     const look = { ...view.drawn, ...lookOf(view) };
     if (what === "p") movePlace(one, unplan(look, point));
     else if (what === "v") {
@@ -49,7 +49,7 @@
 
   function hold(svg, event) {
     const handle = event.target.closest(".handle");
-    if (!handle) return;
+    if (!handle || event.button !== 0 || !event.isPrimary) return;
     event.preventDefault();
     const { key } = handle.dataset;
     const { own } = state.current;
@@ -76,6 +76,10 @@
     svg.addEventListener("pointermove", (event) => {
       if (!state.held) return;
       const { off, key } = state.held;
+      if (!event.buttons || !whose(key)) { // its release was not told, or it is there no more
+        drop();
+        return;
+      }
       const point = pointIn(svg, event);
       moveTo(key, { x: point.x + off.x, y: point.y + off.y }, view());
       edited();
@@ -84,7 +88,7 @@
     svg.addEventListener("pointercancel", drop);
     svg.addEventListener("wheel", (event) => {
       event.preventDefault();
-      act(event.deltaY > 0 ? "wide" : "near", view(), figure);
+      if (event.deltaY) act(event.deltaY > 0 ? "wide" : "near", view(), figure);
     }, { passive: false });
     svg.addEventListener("keydown", (event) => {
       const handle = event.target.closest(".handle");
@@ -101,12 +105,12 @@
   /** A key pressed at what can be moved; whether it means something there. */
   function press(key, pressed, more, view) {
     const { own, traffic } = state.current;
-    const [what, id] = key.split(":");
-    const one = aircraftOf(id);
+    const [what] = partsOf(key);
+    const one = whose(key);
     const right = { ArrowRight: 1, ArrowLeft: -1 }[pressed] || 0;
     const up = { ArrowUp: 1, ArrowDown: -1 }[pressed] || 0;
     const high = { PageUp: 1, PageDown: -1 }[pressed] || 0;
-    if (pressed === "Delete" && id) {
+    if (pressed === "Delete" && one !== own) {
       remove(traffic.indexOf(one));
       return true;
     }
@@ -138,7 +142,7 @@
 
   document.addEventListener("keydown", (event) => {
     if (event.ctrlKey || event.metaKey || event.altKey) return;
-    if (event.target.closest("input, textarea, select, button, summary, [role=group][tabindex]") && event.key !== "Escape") return;
+    if (event.target.closest("input, textarea, select, button, summary, [role=group][tabindex='0']") && event.key !== "Escape") return;
     const range = (what) => () => shownViews().forEach((view) => act(what, view, true));
     const does = { " ": play, ",": () => goTo(state.index - 1), ".": () => goTo(state.index + 1), Escape: restore,
       "+": range("near"), "-": range("wide"), 0: range("fit") }[event.key];

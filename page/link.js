@@ -9,7 +9,7 @@
   /** The part of a link after #, for a value. */
   async function pack(value) {
     const bytes = await through(daa.bytesOf(JSON.stringify(value)), new CompressionStream("deflate-raw"));
-    const text = btoa(String.fromCharCode(...bytes));
+    const text = btoa(Array.from(bytes, (byte) => String.fromCharCode(byte)).join(""));
     return `m=${text.replaceAll("+", "-").replaceAll("/", "_").replace(/=+$/, "")}`;
   }
 

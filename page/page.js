@@ -3,8 +3,8 @@
 (function () {
   const { ui } = daa;
   const { Engine, Refused, Desk, MODELS, VIEW_HEIGHTS, draw, bytesOf } = daa;
-  const { $, RANGES_NM, state, setText, setHtml, fill, download, changed, lookOf, modelOf, survey, go, pause, fitting,
-    chip } = ui;
+  const { $, RANGES_NM, state, setText, setHtml, fill, download, changed, faultOf, lookOf, modelOf, survey, go, pause,
+    fitting, chip } = ui;
   const PICTURE = { width: 1240, height: 760 };
   const MISSING = "This page needs a browser with 64-bit WebAssembly memory: Chrome, Edge or Chromium from version 133 on, or "
     + "Firefox from 134 on. The engine is compiled for it, and this browser cannot run it, so nothing is shown.";
@@ -15,7 +15,6 @@
   function configure(place, text, name) {
     const view = state.views[place];
     view.toml = typeof text === "string" ? text : new TextDecoder().decode(text);
-    view.name = name;
     view.refusal = null;
     try {
       view.config = state.engine.read(typeof text === "string" ? bytesOf(text) : text);
@@ -24,7 +23,7 @@
       view.refusal = problem;
       return false;
     }
-    view.edition += 1;
+    Object.assign(view, { name, taken: view.toml, edition: view.edition + 1 });
     if (place === 0 && state.moments.length) survey();
     changed();
     return true;
@@ -80,36 +79,46 @@
 
   // ---- state lines, recordings and examples
 
+  /** Tells of a file that is not taken, until another one is opened. */
+  function tell(words) {
+    state.untaken = words;
+    changed();
+  }
+
+  /** Takes a text of states; whether it has a moment. */
   function loadStates(bytes, name, told = []) {
     const events = state.engine.readStates(bytes);
     const moments = events.filter((it) => it.moment).map((it) => it.moment);
     if (!moments.length) {
       const first = events.find((it) => it.refused);
-      setText($("fault"), `${name} has no whole moment${first ? `; line ${first.refused} was refused with code ${first.code}` : ""}`);
-      return;
+      tell(`${name} has no whole moment${first ? `; line ${first.refused} was refused with code ${first.code}` : ""}`);
+      return false;
     }
     let before = 0;
     state.refused = [];
     for (const event of events) if (event.moment) before += 1; else state.refused.push({ ...event, before });
     if (state.refused.length) told = [...told, `${name}: ${state.refused.length} ${state.refused.length === 1 ? "line was" : "lines were"} refused`];
     pause();
-    Object.assign(state, { moments, name, told, index: 0, chosen: "p:", unfolded: false });
+    Object.assign(state, { moments, name, told, index: 0, chosen: "p:", unfolded: false, untaken: "" });
     $("slider").max = moments.length - 1;
     for (const view of state.views) view.look.range = fitting(moments);
     survey();
     go(0);
+    return true;
   }
 
+  /** Takes a recording, seen from one of its aircraft; whether it has a moment. */
   function loadRecording(text, name, own = null) {
     try {
       const { states, names, notes } = daa.fromRecording(text, own);
       state.recording = { text, name };
       fill($("own"), names);
       $("own").value = names.includes(own) ? own : names[0];
-      loadStates(bytesOf(states), name, notes);
+      return loadStates(bytesOf(states), name, notes);
     } catch (problem) {
       if (!(problem instanceof daa.NoRecording)) throw problem;
-      setText($("fault"), `${name}: ${problem.message}`);
+      tell(`${name}: ${problem.message}`);
+      return false;
     }
   }
 
@@ -117,9 +126,8 @@
   function load(bytes, name) {
     const text = new TextDecoder().decode(bytes);
     const isRecording = daa.isRecording(text);
-    if (isRecording) loadRecording(text, name);
-    else loadStates(bytes, name);
-    $("own-label").hidden = !isRecording;
+    const isTaken = isRecording ? loadRecording(text, name) : loadStates(bytes, name);
+    if (isTaken) $("own-label").hidden = !isRecording;
   }
 
   function loadConfig(bytes, name) {
@@ -138,6 +146,7 @@
 
   async function takeFiles(files) {
     const isConfig = (file) => file.name.endsWith(".toml");
+    tell("");
     for (const file of [...files].sort((a, b) => isConfig(b) - isConfig(a))) {
       const bytes = new Uint8Array(await file.arrayBuffer());
       if (isConfig(file)) loadConfig(bytes, file.name);
@@ -161,16 +170,23 @@
   // ---- a link that holds the moment
 
   function linked() {
-    const configs = state.views.map(({ name, toml }) => ({ name, toml }));
+    const configs = state.views.map(({ name, taken }) => ({ name, toml: taken }));
     return { states: daa.stateLines([state.current]), name: state.name, configs, look: state.views.map(({ look }) => look), compare: state.compare };
   }
 
+  /** Whether a link's value has the form of what `linked` makes. */
+  function isLinked(held) {
+    const isForEachView = (list) => Array.isArray(list) && list.length === state.views.length && list.every(Boolean);
+    return held && isForEachView(held.configs) && isForEachView(held.look);
+  }
+
+  /** Takes the link of the page's address; whether it holds a moment. */
   async function takeLink() {
     const held = await daa.unpack(location.hash);
-    if (!held || location.hash === state.hash) return false;
+    if (!isLinked(held) || location.hash === state.hash) return false;
+    if (!loadStates(bytesOf(String(held.states)), String(held.name))) return false;
     state.hash = location.hash;
     held.configs.forEach(({ name, toml }, place) => configure(place, String(toml), String(name)));
-    loadStates(bytesOf(String(held.states)), String(held.name));
     held.look.forEach(({ trackUp, range, heights }, place) => Object.assign(state.views[place].look, { trackUp: Boolean(trackUp),
       range: RANGES_NM.includes(range) ? range : 12, heights: VIEW_HEIGHTS.includes(heights) ? heights : 3000 }));
     state.compare = Boolean(held.compare);
@@ -181,15 +197,22 @@
     return true;
   }
 
-  $("link").addEventListener("click", async ({ target }) => {
-    state.hash = `#${await daa.pack(linked())}`;
+  /** Makes the link, and says what became of it. A moment that is refused has none: it could not be read from there. */
+  async function copyLink() {
+    const held = linked();
+    if (state.engine.readStates(bytesOf(held.states)).some((event) => event.refused)) return `No link: ${faultOf(state.views[0])}`;
+    state.hash = `#${await daa.pack(held)}`;
     location.hash = state.hash;
     try {
       await navigator.clipboard.writeText(location.href);
-      target.textContent = "Copied";
+      return "Copied";
     } catch {
-      target.textContent = "In the address line";
+      return "In the address line";
     }
+  }
+
+  $("link").addEventListener("click", async ({ target }) => {
+    target.textContent = await copyLink();
     setTimeout(() => { target.textContent = "Copy link"; }, 2500);
   });
   addEventListener("hashchange", takeLink);

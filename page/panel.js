@@ -2,14 +2,15 @@
 "use strict";
 (function () {
   const { ui } = daa;
-  const { KINDS, SIDES, wrap, flown, escape, shownWords } = daa;
-  const { $, LIMITS, state, within, shownViews, setText, setHtml, download, changed, saidOf, faultOf, edited, choose } = ui;
+  const { KINDS, SIDES, clamp, wrap, flown, escape, shownWords, calledIn } = daa;
+  const { $, LIMITS, state, within, shownViews, setText, setHtml, download, changed, saidOf, faultOf, edited, choose,
+    aircraftOf } = ui;
   const MOST_QUIET = 5; // so many aircraft without an alert are listed before they are folded
+  const MOST_TYPED = 1e6; // out of the range of each number, and within the engine's
 
   // ---- the table
 
-  const idOf = (key) => (key.includes(":") ? key.slice(2) : "");
-  const chosenAircraft = () => state.current.traffic.find((one) => one.id === idOf(state.chosen) && idOf(state.chosen) !== "");
+  const chosenAircraft = () => aircraftOf(state.chosen);
   const chip = (level) => `<span class="chip l${level}">${level}</span>`;
 
   /** The aircraft, those that alert first, each with its place in the input. */
@@ -33,26 +34,30 @@
     return `${chip(alert.level)}${first}${alert.now && alert.now !== alert.level ? `, ${chip(alert.now)} now` : ""}`;
   }
 
-  const choiceHtml = (id, words) => `<td><button type="button" data-choose="${escape(id)}" aria-pressed="${idOf(state.chosen) === id}">`
-    + `${escape(words)}</button></td>`;
+  /** The button that chooses an aircraft, or where none is given the ownship. */
+  function choiceHtml(words, isChosen, one) {
+    const called = one ? calledIn(state.current.traffic, one) : "";
+    return `<td><button type="button" data-choose="${escape(called)}" aria-pressed="${isChosen}">${escape(words)}</button></td>`;
+  }
 
-  function rowHtml({ one, alert, miles, bearing, above }) {
+  function rowHtml({ one, alert, miles, bearing, above }, chosen) {
     const sign = above > 0 ? "+" : above < 0 ? "−" : "";
-    return `<tr class="${one === chosenAircraft() ? "chosen" : ""}">${choiceHtml(one.id, one.id || "(no name)")}<td>${wordsOfAlert(alert)}</td>`
+    return `<tr class="${one === chosen ? "chosen" : ""}">${choiceHtml(one.id || "(no name)", one === chosen, one)}<td>${wordsOfAlert(alert)}</td>`
       + `<td>${miles.toFixed(2)}</td><td>${String(bearing).padStart(3, "0")}</td><td>${sign}${Math.abs(above)}</td></tr>`;
   }
 
   function paintTable() {
     const { own, traffic } = state.current;
+    const chosen = chosenAircraft();
     const rows = rowsOf(saidOf(state.views[0]));
     const quiet = rows.filter(isQuiet);
     const folds = quiet.length > MOST_QUIET;
-    const shown = folds && !state.unfolded ? rows.filter((row) => !isQuiet(row) || row.one === chosenAircraft()) : rows;
+    const shown = folds && !state.unfolded ? rows.filter((row) => !isQuiet(row) || row.one === chosen) : rows;
     const climb = own.vs ? ` · ${own.vs} ft/min` : "";
-    const first = `<tr class="own ${chosenAircraft() ? "" : "chosen"}">${choiceHtml("", "ownship")}`
+    const first = `<tr class="own ${chosen ? "" : "chosen"}">${choiceHtml("ownship", !chosen)}`
       + `<td colspan="4">${own.trk}° · ${own.gs / 10} kt · ${own.alt} ft${climb}</td></tr>`;
     const focused = document.activeElement.dataset.choose;
-    const isNew = setHtml($("aircraft").tBodies[0], first + shown.map(rowHtml).join(""));
+    const isNew = setHtml($("aircraft").tBodies[0], first + shown.map((row) => rowHtml(row, chosen)).join(""));
     const again = isNew && focused !== undefined && document.querySelector(`[data-choose="${CSS.escape(focused)}"]`);
     if (again) again.focus();
     $("rest").hidden = !folds;
@@ -86,7 +91,7 @@
     for (const input of $("state").querySelectorAll("input")) {
       const { field, scale } = input.dataset;
       const shown = field === "id" ? from.id : String(from[field] / Number(scale));
-      if (document.activeElement !== input) input.value = shown;
+      if (document.activeElement !== input || !state.edited) input.value = shown; // what is being typed stays
     }
   }
 
@@ -97,8 +102,8 @@
     const number = Number(target.value);
     if (field === "id") {
       one.id = target.value;
-      state.chosen = `p:${one.id}`;
-    } else if (target.value !== "" && Number.isFinite(number) && Math.abs(number) < 1e6) one[field] = Math.round(number * Number(scale));
+      state.chosen = `p:${calledIn(state.current.traffic, one)}`;
+    } else if (target.value !== "" && Number.isFinite(number)) one[field] = Math.round(clamp(number, -MOST_TYPED, MOST_TYPED) * Number(scale));
     edited();
   });
   $("state").addEventListener("click", ({ target }) => {

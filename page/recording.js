@@ -67,7 +67,7 @@ function daaRecording(root) {
   const SWAPPED = ": are lat and lon in each other's place?";
   const shortened = (line) => line.trim().slice(0, 60);
   const many = (count, what) => `${count} ${what}${count === 1 || what === "aircraft" ? "" : "s"}`;
-  const trimmed = (cell) => cell.replace(/^[ \t"]+|[ \t"]+$/g, "");
+  const trimmed = (cell) => cell.replace(/^[ \t"]+|(?<![ \t"])[ \t"]+$/g, ""); // which looks at each run of blanks once
 
   /** What stands between fields: in all lines a semicolon where the header has one, so that a comma there is one of a number. */
   const marksOf = (header) => (header.includes(";") ? /;/ : /[,;]/);
@@ -81,12 +81,12 @@ function daaRecording(root) {
 
   /** A header's name and unit. */
   function splitUnit(cell) {
-    const found = /^([^[(]*?)\s*[[(]([^\])]*)[\])]$/.exec(cell);
-    return found ? [found[1].toLowerCase(), found[2]] : [cell.toLowerCase(), null];
+    const found = /^([^[(]*)[[(]([^\])]*)[\])]$/.exec(cell);
+    return found ? [found[1].trimEnd().toLowerCase(), found[2]] : [cell.toLowerCase(), null];
   }
 
   function numberOf(cell) {
-    if (!/^\s*[+-]?(\d+(_\d+)*\.?(\d+(_\d+)*)?|\.\d+(_\d+)*)([eE][+-]?\d+(_\d+)*)?\s*$/.test(cell)) return null;
+    if (!/^\s*[+-]?(\d+(_\d+)*(\.(\d+(_\d+)*)?)?|\.\d+(_\d+)*)([eE][+-]?\d+(_\d+)*)?\s*$/.test(cell)) return null;
     const found = Number(cell.replaceAll("_", ""));
     return Number.isFinite(found) ? found : null;
   }

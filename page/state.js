@@ -5,7 +5,7 @@
  * state and the reports. Bands are shown only with the states that they are the answer to. */
 "use strict";
 (function () {
-  const { VIEW_HEIGHTS, clamp, flown, escape, draw } = daa;
+  const { VIEW_HEIGHTS, clamp, flown, escape, draw, calledIn } = daa;
   const ui = (daa.ui = {}); // what the page's scripts share
   const $ = (id) => document.getElementById(id);
   const RANGES_NM = [1.5, 3, 6, 9, 12, 18, 24, 36, 48, 96, 192]; // so that their thirds are short numbers
@@ -16,7 +16,7 @@
 
   const state = { engine: null, survey: null, views: [], name: "", moments: [], refused: [], index: 0, current: null, version: 0,
     edited: false, chosen: "p:", held: null, playing: null, compare: false, paper: false, notes: [], ids: [], job: 0, unfolded: false,
-    linesOpen: false, recording: null, told: [], times: [] };
+    linesOpen: false, recording: null, untaken: "", told: [], times: [] };
   daa.page = state;
 
   const within = (value, field) => clamp(Math.round(value), ...LIMITS[field]);
@@ -29,7 +29,10 @@
     element.innerHTML = html;
     return true;
   };
-  const fill = (select, names) => { select.innerHTML = names.map((name) => `<option>${escape(name)}</option>`).join(""); };
+  /** Puts names to choose from; each is a value of its own, since the words of an option lose blanks. */
+  const fill = (select, names) => {
+    select.innerHTML = names.map((name) => `<option value="${escape(name)}">${escape(name)}</option>`).join("");
+  };
 
   function download(blob, name) {
     const link = Object.assign(document.createElement("a"), { href: URL.createObjectURL(blob), download: name });
@@ -190,7 +193,8 @@
     setText($("engine"), `engine ${Math.round(state.engine.size / 1024)} KB${took}`);
     const refused = edited ? [] : state.refused.filter((it) => it.before === index);
     setText($("notes"), [...state.told, ...refused.map((it) => `line ${it.refused} was refused with code ${it.code}`)].join("; "));
-    setText($("fault"), shownViews().filter(isAnswered).map((view) => view.fault).find(Boolean) || "");
+    const fault = shownViews().filter(isAnswered).map((view) => view.fault).find(Boolean);
+    setText($("fault"), [state.untaken, fault].filter(Boolean).join("; "));
   }
 
   // ---- all moments, over time
@@ -247,6 +251,14 @@
     pause();
     state.edited = true;
     touched();
+  }
+
+  /** The parts of a key: what is moved, and of which aircraft; of the ownship where none is called. */
+  const partsOf = (key) => /^([^:]*):?(.*)$/s.exec(key).slice(1);
+  function aircraftOf(key) {
+    const [, called] = partsOf(key);
+    const { traffic } = state.current;
+    return traffic.find((one) => calledIn(traffic, one) === called);
   }
 
   function choose(key) {
@@ -326,5 +338,5 @@
   }
 
   Object.assign(ui, { $, LIMITS, state, within, shownViews, setText, setHtml, download, changed, saidOf, faultOf, edited,
-    choose, lookOf, restore, play, goTo, act, RANGES_NM, fill, modelOf, survey, go, pause, fitting });
+    choose, partsOf, aircraftOf, lookOf, restore, play, goTo, act, RANGES_NM, fill, modelOf, survey, go, pause, fitting });
 })();

@@ -128,7 +128,7 @@
     const x = g.x(moments[index].time);
     const wide = Math.max(Math.min(g.x(next), g.x(moments[index].time + 4 * medianStep(moments))) - x, 3);
     svg.querySelector(".now").setAttribute("d", box(x - 0.5, 1, wide + 1, g.top + g.tall - 1));
-    const most = notes.length ? Math.max(...notes.map((note) => Math.max(0, ...note.levels.values()))) : 0;
+    const most = notes.reduce((level, note) => Math.max(level, ...note.levels.values()), 0);
     svg.setAttribute("aria-label", `Alert levels and track bands over time: ${moments.length} moments, the greatest alert level is ${most}`);
   }
 

@@ -100,8 +100,8 @@ async function press(key, pressed, shiftKey = false) {
 /** Where the handle was, and where it is while it is held. */
 async function drag(key, right, down) {
   const [x, y] = placeOf(key);
-  fire(display(), "pointerdown", { target: handle(key), clientX: x, clientY: y, pointerId: 1 });
-  fire(display(), "pointermove", { clientX: x + right, clientY: y + down });
+  fire(display(), "pointerdown", { target: handle(key), clientX: x, clientY: y, pointerId: 1, button: 0, isPrimary: true });
+  fire(display(), "pointermove", { clientX: x + right, clientY: y + down, buttons: 1 });
   await settle();
   const held = placeOf(key);
   fire(display(), "pointerup");

@@ -229,6 +229,16 @@ class Moved(PageTest):
         self.page.step_to(0)
         self.assertEqual(self.page.report(), before)
 
+    def test_keys_count_after_a_drag_and_after_a_click(self):
+        """Whatever of the display has the focus then."""
+        moments = moments_of(replayed(THREE_LEVELS, bytes_of(ENCOUNTER)))
+        self.page.drag("p:AMBER", (-20, 40))
+        self.page.press(".")
+        self.check_moment(moments[1])
+        self.page.click("figure[data-view='0'] [data-layer=head] text")
+        self.page.press(".")
+        self.check_moment(moments[2])
+
     def test_everything_that_can_be_held_is_dragged(self):
         for key, offset in (("track", (90, 60)), ("gs", (0, 60)), ("vs", (0, -50)), ("alt", (0, 40)), ("v:BRAVO", (30, 30)), ("v:", (20, 10)), ("p:", (15, -25))):
             with self.subTest(key=key):
@@ -399,6 +409,13 @@ class Loaded(PageTest):
             self.page.step_to(4)
             self.check_moment(moments[4])
         self.assertIn("Intruder2 is written Intrude2", self.page.text("#notes"))
+
+    def test_a_name_with_blanks_is_chosen(self):
+        """As the ownship, whose altitude is then that of its row."""
+        rows = "".join(f"{name},{time},0,{alt},{alt},0,100,0\n" for time in (0, 1) for name, alt in (("A", 1000), ("B  2", 2000)))
+        self.page.open_files(self.page.file("blanks.csv", "name,time,sx [m],sy [m],sz,trk,gs,vs\n" + rows))
+        self.page.select("#own", "B 2")
+        self.assertEqual(self.page.js("return [document.querySelector('#own').value, daa.page.current.own.alt]"), ["B  2", 2000])
 
     def test_a_file_that_is_none(self):
         self.page.open_files(self.page.file("none.states", "nothing\n"))

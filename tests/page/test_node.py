@@ -9,6 +9,7 @@ import shutil
 import subprocess
 import sys
 import tempfile
+import time
 import unittest
 from xml.etree import ElementTree
 
@@ -107,6 +108,10 @@ class Module(unittest.TestCase):
         """Of 601 moments two share a column, and the last has one of its own: 5 boxes of tracks, one of them in two parts; 2 of it."""
         for levels in ([3, 0] * 300 + [3], [0, 3] * 300 + [3], [3, 2] * 300 + [3]):
             self.assertEqual(in_node([["strip", levels]])[0], {"3": 300 * (1 + 5) + 1 + 2})
+
+    def test_200000_moments_have_a_strip(self):
+        """Of 334 moments a column, the first of which alone has a level: a box, and its tracks, one of them in two parts."""
+        self.assertEqual(in_node([["strip", [3] + [0] * 199999]])[0], {"3": 1 + 5})
 
 
 # What is drawn.
@@ -337,6 +342,15 @@ class Drawn(unittest.TestCase):
 
 
 STATES = "daa.stateLines([page.current])"
+OPEN = """const open = async (...files) => {
+  await fire(screen, "drop", { dataTransfer: { files: files.map(([name, text]) => ({ name, arrayBuffer: async () => daa.bytesOf(text).buffer })) } });
+  await settle();
+};"""
+EDIT = """const edit = async (text) => {
+  $("toml").value = text;
+  await fire($("toml"), "input");
+  await settle();
+};"""
 
 
 @unittest.skipUnless(NODE, HOW)
@@ -409,6 +423,28 @@ class Used(unittest.TestCase):
         self.assertEqual(other, {"id": "AMBER", "x": "3", "y": "8", "alt": "10000", "vx": "-135", "vy": "0", "vs": "0", "age": "0"})
         self.assertIn("traffic AMBER 2500 7750 10000 -1205 100 200 3\n", last)
 
+    def test_a_number_beyond_all_is_told(self):
+        """And not left as it was some letters ago."""
+        for value in ("1e21", "-1e21"):
+            told = on_page("""
+                await fire($("state"), "input", { target: { dataset: { field: given[0], scale: given[1] }, value: given[2] } });
+                await settle();
+                return $("fault").textContent;""", "x", "1000", value)
+            self.assertEqual(told, "x of the ownship is not within -200000 and 200000")
+
+    def test_escape_takes_back_what_is_being_typed(self):
+        typed, after = on_page("""
+            const input = $("state").querySelectorAll("input").find((it) => it.dataset.field === "alt");
+            document.activeElement = input;
+            input.value = "9000.0";
+            await fire($("state"), "input", { target: input });
+            await settle();
+            const typed = input.value;
+            await fire(document, "keydown", { target: input, key: "Escape" });
+            await settle();
+            return [typed, input.value];""")
+        self.assertEqual((typed, after), ("9000.0", "10000"))
+
     def test_the_limits_are_those_of_state_lines(self):
         wanted = {field.name.lower(): [field.low, field.high] for field in (X, Y, ALT, TRK, GS, VX, VY, VS, AGE)}
         self.assertEqual(on_page("return daa.ui.LIMITS;"), wanted)
@@ -424,6 +460,41 @@ class Used(unittest.TestCase):
         found = on_page(f"const found = []; for (const step of given) {{ await press(...step); found.push({STATES}); }} return found;", *(step[:3] for step in steps))
         for (*_, line), states in zip(steps, found, strict=True):
             self.assertIn(line + "\n", states)
+
+    def named(self, script):
+        """What a script returns that types at the chosen aircraft, which is BRAVO."""
+        return on_page("""
+            const type = async (field, value) => {
+              await fire($("state"), "input", { target: { dataset: { field, scale: "1" }, value } });
+              await settle();
+            };
+            await fire($("aircraft"), "click", { target: { dataset: { choose: "BRAVO" } } });
+            """ + script)
+
+    def test_a_name_is_written_past_that_of_another_aircraft(self):
+        """At AMBER two have one name, and each has a symbol; the last letter goes to the one that is named."""
+        keys, states = self.named(f'await type("id", "AMBER"); const keys = [...display().daa.handles.keys()]; await type("id", "AMBER2"); return [keys, {STATES}];')
+        self.assertEqual(len({key for key in keys if key.startswith("p:")}), 3)
+        self.assertEqual(re.findall("(?m)^traffic (.*)$", states), ["AMBER 3000 8000 10000 -1350 0 0", "AMBER2 -1200 -300 10600 0 3600 -600"])
+
+    def test_an_aircraft_without_a_name_stays_chosen(self):
+        """What is typed then is its number and not the ownship's, and both have a symbol."""
+        places, states = self.named(f"""
+            await type("id", "");
+            await type("alt", "9000");
+            const symbols = [...display().daa.handles].filter(([key]) => key.startsWith("p:"));
+            return [symbols.map(([, it]) => it.getAttribute("transform")), {STATES}];""")
+        self.assertEqual(len(set(places)), 3)
+        self.assertIn("own 0 0 10000 0 3600 0\n", states)
+        self.assertIn("traffic  -1200 -300 9000 0 3600 -600\n", states)
+
+    def test_a_name_with_a_colon_is_moved(self):
+        """Also one whose first part is another aircraft's name."""
+        for name in ("AMBER:1", "X:Y"):
+            states = self.named(f'await type("id", "{name}"); await press("p:{name}", "ArrowUp"); await drag("p:{name}", -30, 0); return {STATES};')
+            amber, other = re.findall("(?m)^traffic (.*)$", states)
+            self.assertEqual(amber, "AMBER 3000 8000 10000 -1350 0 0")
+            self.assertRegex(other, f"^{name} -2[0-9]{{3}} -20[0-9] 10600 0 3600 -600$")
 
     def test_what_is_held_goes_with_the_pointer(self):
         """North up and with the track up: a handle stands where it is let go, but for whole numbers; the track bug at the pointer's
@@ -453,6 +524,35 @@ class Used(unittest.TestCase):
                 self.assertLess(math.dist(held, to), 4, key)
             else:
                 self.assertLess(abs(held[1] - to[1]), 5, key)
+
+    def test_the_first_button_alone_holds(self):
+        """And the first pointer; what is held is let go where its release was not told, and where it was removed."""
+        before, found = on_page(f"""
+            const hold = (values) => fire(display(), "pointerdown", {{ target: handle("p:AMBER"), clientX: 0, clientY: 0, button: 0, isPrimary: true, ...values }});
+            const move = async (buttons) => {{
+              await fire(display(), "pointermove", {{ clientX: 9, clientY: 9, buttons }});
+              return [Boolean(page.held), {STATES}];
+            }};
+            const before = {STATES}, found = [];
+            for (const [values, buttons] of [[{{ button: 2 }}, 2], [{{ isPrimary: false }}, 1], [{{}}, 0]]) {{
+              await hold(values);
+              found.push(await move(buttons));
+            }}
+            await hold({{}});
+            await press("p:AMBER", "Delete");
+            found.push(await move(1));
+            return [before, found];""")
+        self.assertEqual(found, [[False, before]] * 3 + [[False, re.sub("traffic AMBER .*\n", "", before)]])
+
+    def test_a_wheel_that_turns_sideways_keeps_the_range(self):
+        found = on_page("""
+            const ranges = [];
+            for (const deltaY of [0, 1, -1]) {
+              await fire(display(), "wheel", { deltaY });
+              ranges.push(page.views[0].look.range);
+            }
+            return ranges;""")
+        self.assertEqual(found, [12, 18, 12])
 
     def test_a_late_answer_to_an_older_moment_is_not_shown(self):
         """The answers to two changes come one after the other, and nothing is shown before the second."""
@@ -541,6 +641,84 @@ class Used(unittest.TestCase):
             return [before, meanwhile, names()];""")
         held = ["three_levels", "recovery", "encounter.states", {"trackUp": True, "range": 24, "heights": 6000}]
         self.assertEqual((before, meanwhile[0], after), (held, "recovery", held))
+
+    def test_a_refused_configuration_gives_no_name(self):
+        """What is shown is named as the one that it is shown under."""
+        head, label, fault = on_page(OPEN + """
+            await open(["strict.toml", given[0]]);
+            await press("p:AMBER", "ArrowUp");
+            return [display().querySelector("[data-layer=head]").innerHTML, display().getAttribute("aria-label"), $("config-fault").textContent];""",
+            text_of(THREE_LEVELS).replace("track_step = 5\n", "track_step = 7\n"))
+        self.assertEqual([text.text for text in xml_of(head)][2], "three_levels")
+        self.assertRegex(label, "^Display under three_levels: ")
+        self.assertIn("track_step = 7 does not divide 360", fault)
+
+    def test_a_link_holds_the_configuration_that_counts(self):
+        """And not what was edited since, and is refused."""
+        edited = text_of(THREE_LEVELS).replace("track_step = 5\n", "track_step = 10\n")
+        before, after = on_page(EDIT + """
+            const shown = () => [page.views[0].name, page.views[0].said.text];
+            await edit(given[0]);
+            await edit("x = 1\\n" + given[0]);
+            const before = shown();
+            await fire($("link"), "click");
+            await edit(given[1]);
+            page.hash = "";
+            await fire(screen, "hashchange");
+            await settle();
+            return [before, shown()];""", edited, text_of(RECOVERY))
+        with tempfile.NamedTemporaryFile("w", suffix=".toml") as file:
+            file.write(edited)
+            file.flush()
+            self.assertEqual(before, ["edited", moments_of(replayed(file.name, bytes_of(ENCOUNTER)))[0]])
+        self.assertEqual(after, before)
+
+    def test_a_link_holds_a_long_text(self):
+        text = "".join(map(str, random.Random(1).choices(range(1000), k=100000)))
+        self.assertTrue(on_page("return (await daa.unpack(`#${await daa.pack(given[0])}`)) === given[0];", text))
+
+    def test_a_refused_moment_has_no_link(self):
+        told, hash = on_page("""
+            await fire($("state"), "input", { target: { dataset: { field: "alt", scale: "1" }, value: "70000" } });
+            await settle();
+            await fire($("link"), "click");
+            return [$("link").textContent, location.hash];""")
+        self.assertEqual((told, hash), ("No link: alt of the ownship is not within -2000 and 60000", ""))
+
+    def test_a_link_that_holds_no_moment_is_left(self):
+        """Links of another form, and one whose state lines are refused."""
+        whole = {"states": "moment 7\nown 0 0 0 0 0 0\nend\n", "name": "", "configs": [{}, {}], "look": [{}, {}]}
+        wrong = [5, {}, [], {**whole, "configs": [{}, {}, {}]}, {**whole, "look": [{}, None]}, {**whole, "look": {}}, {**whole, "states": "moment 7\n"}]
+        times = on_page("""
+            const times = [];
+            for (const held of given) {
+              location.hash = `#${await daa.pack(held)}`;
+              await fire(screen, "hashchange");
+              times.push(page.current.time);
+            }
+            return times;""", *wrong, whole)
+        self.assertEqual(times, [0] * len(wrong) + [7])
+
+    def test_a_file_that_is_not_taken_is_told_until_another_one_is_opened(self):
+        told = on_page(OPEN + """
+            const told = [];
+            for (const [name, text] of given) {
+              await open([name, text]);
+              $("slider").value = "1";
+              await fire($("slider"), "input");
+              await settle();
+              told.push($("fault").textContent);
+            }
+            return told;""", ["none.states", "nothing\n"], ["none.daa", "name time\n"], ["a.states", text_of(ENCOUNTER)])
+        self.assertEqual(told, ["none.states has no whole moment; line 1 was refused with code 2",
+                                "none.daa: the header has no column for alt, vs, a place (lat lon, or sx sy), a speed (trk gs, or vx vy)", ""])
+
+    def test_the_ownship_is_chosen_in_a_recording_alone(self):
+        """In the one that is shown, whatever is refused after it."""
+        files = (("none.daa", "name time\n"), ("a.daa", text_of(os.path.join(EXAMPLES, "recording.daa"))), ("none.states", "nothing\n"),
+                 ("a.states", text_of(ENCOUNTER)), ("none.daa", "name time\n"))
+        hidden = on_page(OPEN + "const hidden = []; for (const it of given) { await open(it); hidden.push($('own-label').hidden); } return hidden;", *files)
+        self.assertEqual(hidden, [True, False, False, True, True])
 
     def test_files_that_are_dropped_and_the_one_that_is_saved(self):
         """A configuration counts for states that come before it; it is saved as it was edited."""
@@ -857,6 +1035,15 @@ class Recordings(unittest.TestCase):
             head = mark.join("name time sx sy sz trk gs vs".split())
             self.assertEqual(self.refusal(f"{head}\n" + mark.join(["own", "0", "0,5", "0", "1000", "0", "100", "0"])), f"{told}: a decimal comma? Write a point")
         self.assertEqual(self.refusal("name time sx sy sz trk gs vs\nown 0 0 0 1000 0 100 0 7\n"), "line 2 has 9 fields, the header 8")
+
+    def test_long_cells_are_read_at_once(self):
+        """Digits that end in a letter, and blanks within a cell and within the name of a column: in time that grows with their number."""
+        head, digits, blanks = "name,time,sx,sy,sz,trk,gs,vs", "1" * 50000 + "x", "a" + " " * 300000 + "b"
+        begun = time.monotonic()
+        self.assertEqual(self.refusal(f"{head}\nown,0,{digits},0,0,0,0,0"), f"line 2: no number for sx: own,0,{'1' * 54}")
+        self.assertEqual(self.refusal(f"{head}\nown,0,{blanks},0,0,0,0,0"), "line 2: no number for sx: own,0,a" + " " * 53)
+        self.assertEqual(self.refusal(f"{head},{blanks}\n"), "no report of an aircraft")
+        self.assertLess(time.monotonic() - begun, 20)
 
     def test_what_no_moment_can_be_made_of_is_refused(self):
         head, told = "name,time [h],sx,sy,sz [km],trk,gs,vs\n", "line 2: {} is too large a number for {}"
