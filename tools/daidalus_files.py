@@ -559,7 +559,7 @@ class ReportReader:
     """Takes the lines of a report, one by one; `name` is what it is called in messages."""
 
     def __init__(self, name):
-        self.name, self.line, self.moments, self.open = name, 0, 0, None
+        self.name, self.line, self.moments, self.open, self.told = name, 0, 0, None, set()
 
     def take(self, line):
         """Takes a line without its end; gives the moment that it ends, or the refused line that it tells of, or None."""
@@ -571,7 +571,7 @@ class ReportReader:
         if word == "refused":
             return RefusedLine(*said, self.moments)
         if word == "moment":
-            self.open = MomentReport(said[0], self.line)
+            self.open, self.told = MomentReport(said[0], self.line), set()
         elif word == "done":
             return self.end(said[0], line)
         else:
@@ -596,7 +596,11 @@ class ReportReader:
             if said.first > said.last or before and said.first <= before[-1].last:
                 raise self.problem(f"does not rise: {said.first} {said.last}")
             before.append(said)
-        elif word == "now":
+            return
+        if (word, said[0]) in self.told:
+            raise self.problem(f"stands twice in its moment: {word} {said[0]}")
+        self.told.add((word, said[0]))
+        if word == "now":
             at.alerts[said[0]] = Alert(said[1], 0, None)
         elif word in ("alert", "steady") and said[0] not in at.alerts:
             raise self.problem(f"is of {said[0]}, of which no line `now` stands before it")

@@ -24,6 +24,9 @@ def tools_for_users():
 KEEP = "resolve gs down keep up keep\nresolve vs down keep up keep\nresolve alt down keep up keep\n"
 TOOLS = ("check", "compare", "draw", "encounters", "from_daa", "from_parameters", "moments", "reference", "steady", "summary", "table",
          "volume")
+# A line, and one that may not follow it, since its moment has such a line already.
+TWICE = (("alert A 2 43", "now A 1"), ("alert A 2 43", "alert A 2 43"), ("recover track 12 40", "resolve gs down keep up keep"),
+         ("recover track 12 40", "recover track none"), ("alert A 2 0", "steady A 1\nsteady A 2"), ("recover track 12 40", "last gs 1\nlast gs none"))
 # Two moments, with a refused line between them: A alerts, and violates at the second one; no track is left there.
 REPORT = ("moment 0\nnow A 0\nalert A 2 43\ntrack 0 5 3\ntrack 10 180 0\ntrack 185 355 3\ngs 500 7000 0\nvs 0 0 0\nalt 0 9000 0\n"
           "alt 9500 10500 1\nalt 11000 50000 0\nresolve track left none right 10\n" + KEEP + "done 0\nrefused 9 6\n"
@@ -42,6 +45,7 @@ NO_REPORTS = (("", "it is empty"), ("hello\n", "line 1 is no line of a report th
               (f"moment {'1' * 5000}\n", "line 1 is no line"), (f"refused {'1' * 5000} 3\n", "line 1 is no line"),
               ("moment 0\ngs 3000 700000000000000000000 0\n", "line 2 is no line"),
               (f"moment 0\nnow {'A' * 59} 0\n", "line 2 is no line"), (f"moment 0\nnow {'A' * 60} 0{'1' * 9}\n", "line 2 is no line"),
+              *((REPORT.replace(f"{line}\n", f"{line}\n{more}\n"), f"stands twice in its moment: {' '.join(more.split()[:2])}\n") for line, more in TWICE),
               ("x" * 99, "line 1 is no line of a report there: 'xxx"), (f"# {'x' * 99}\n", "a report has no comments"))
 
 
