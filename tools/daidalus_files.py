@@ -53,6 +53,9 @@ def status_of(name, main):
         return problem.status
     except SystemExit as end:  # after --help, or words that are not taken
         return end.code
+    except MemoryError:
+        tell(f"{name}: what is read does not fit into memory")
+        return 7
 
 
 def tell(words):
@@ -73,13 +76,13 @@ def unreadable(path, fault):
     return Problem(f"{path or 'a file without a name'}: {fault.strerror}", 7)
 
 
-def read_bytes(path):
-    """The bytes of a file, or of standard input where the name is `-`."""
+def read_bytes(path, most=-1):
+    """The bytes of a file, or of standard input where the name is `-`; where `most` is given, the first so many."""
     try:
         if path == "-":
-            return standard_input().read()
+            return standard_input().read(most)
         with open(path, "rb") as file:
-            return file.read()
+            return file.read(most)
     except OSError as fault:
         raise unreadable(path, fault) from None
 
@@ -171,7 +174,7 @@ def shown(value):
 def examine_config(text):
     """The document of a text, or None where there is none, and all its faults; the program answers the least code."""
     if len(text) > LONGEST_TEXT:
-        return None, [Fault(1, f"{len(text)} bytes are more than {LONGEST_TEXT}")]
+        return None, [Fault(1, f"the text has more than {LONGEST_TEXT} bytes")]
     try:
         document = read_toml(text)
     except TomlFault as fault:
@@ -272,9 +275,14 @@ def config_of(document):
                   document.get("last_times", 0))
 
 
+def read_config_text(path):
+    """The text of a configuration, or of one that is too long the beginning, which is too long as well."""
+    return read_bytes(path, LONGEST_TEXT + 1)
+
+
 def read_config(path):
     """The configuration in a file; one that is refused is a problem."""
-    document, faults = examine_config(read_bytes(path))
+    document, faults = examine_config(read_config_text(path))
     if faults:
         raise Problem(f"{path}: config {faults[0].code}: {faults[0].why}", 3)
     return config_of(document)

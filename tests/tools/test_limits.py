@@ -1,7 +1,11 @@
 """What the tools must not let pass: each test fails where one place of a tool is wrong, and no other test sees that place."""
+import os
+import resource
+import subprocess
+import sys
 import unittest
 
-from common import CONFIG, ToolTest
+from common import CONFIG, TOP, ToolTest
 from test_from_daa import HEAD, PLANE
 from test_reports import REPORT
 
@@ -76,6 +80,27 @@ class Check(ToolTest):
         self.assertRegex(out, r"(?m)^.*in\.states:1: refused 4: ")
         self.assertEqual(self.tool("check", bad)[0], 3)
         self.assertEqual(self.tool("check", CONFIG, states)[0], 1)
+
+
+class Endless(ToolTest):
+    """A file without an end: a configuration is read until it is too long, as the program does, and all else until memory ends."""
+
+    def ran(self, name, *words):
+        """Status, standard output and standard error of a tool that may take half a gigabyte."""
+        limited = lambda: resource.setrlimit(resource.RLIMIT_AS, (2**29, 2**29))
+        run = subprocess.run([sys.executable, "-B", os.path.join(TOP, "tools", name), *words], preexec_fn=limited, stdin=subprocess.DEVNULL,
+                             capture_output=True, text=True, timeout=120)
+        return run.returncode, run.stdout, run.stderr
+
+    def test_a_configuration_without_an_end_is_too_long(self):
+        said = "/dev/zero: config 1: the text has more than 65536 bytes\n"
+        self.assertEqual(self.ran("check", "/dev/zero"), (3, said, ""))
+        for name in ("reference", "volume"):
+            self.assertEqual(self.ran(name, "/dev/zero"), (3, "", f"{name}: {said}"))
+
+    def test_what_does_not_fit_into_memory_is_told_in_a_line(self):
+        for name, *words in (("check", CONFIG), ("reference", CONFIG), ("from_daa",), ("from_parameters",)):
+            self.assertEqual(self.ran(name, *words, "/dev/zero"), (7, "", f"{name}: what is read does not fit into memory\n"))
 
 
 if __name__ == "__main__":
