@@ -1,11 +1,15 @@
-"""What the scripts of this folder share: the built program, the inputs `far` and `near`, and measured runs."""
+"""What the scripts of this folder share: the built program, the words of numbers, the inputs `far` and `near`, and measured runs."""
 import os
+import shutil
 import subprocess
 import sys
 import threading
 import time
 
 TOP = os.path.dirname(os.path.dirname(os.path.realpath(__file__)))
+sys.path.insert(0, os.path.join(TOP, "tools"))
+from daidalus_files import at_least_one  # noqa: E402, F401 (tools/ is no package; the scripts take it from here)
+
 CONFIG = os.path.join(TOP, "examples", "three_levels.toml")
 TICK = 0.005  # seconds between two looks at the memory
 
@@ -13,6 +17,8 @@ TICK = 0.005  # seconds between two looks at the memory
 def built_program(named=None):
     """The path of the program that is named, or of the repository's own, which ./daidalus proves and builds where that is due."""
     if named:
+        if not shutil.which(os.path.realpath(named)):
+            sys.exit(f"{sys.argv[0]}: {named} is no program that can be run")
         return os.path.realpath(named)
     words = [os.path.join(TOP, "daidalus"), "replay", "--config", CONFIG]
     if subprocess.run(words, stdin=subprocess.DEVNULL, stdout=subprocess.DEVNULL).returncode != 0:

@@ -10,6 +10,14 @@ from daidalus_files import MODELS, config_of, examine_config, read_config, read_
 soak = module("bench/soak")
 
 WORST = os.path.join(TOP, "bench", "worst_moments", "decide")
+# words that a script does not take, and what it says of them
+NOT_TAKEN = (("worst", ["--calls"], "--calls goes with --measure"),
+             *(("worst", ["--measure", WORST, *words], "--measure searches nothing, so --recovery, --last-times and --write have no place beside it")
+               for words in (["--recovery"], ["--last-times"], ["--write", "x"])),
+             ("worst", [], "there is no valgrind, which counts the instructions (apt-get install valgrind); --by time needs none"),
+             *((script, [f"--{name}", "0"], f"argument --{name}: 0 is no whole number of at least 1")
+               for script, names in (("run", ("moments", "megabytes", "runs")), ("reading", ("megabytes", "runs")), ("worst", ("tries",)),
+                                     ("refuse_memory", ("from", "past", "jobs")), ("soak", ("inputs",))) for name in names))
 # the words that make each script do little, and the end of what it then says
 SCRIPTS = {
     "run": (["--moments", "20", "--megabytes", "1", "--runs", "1"], "the same bytes for every number of workers, and no moment too slow\n"),
@@ -85,6 +93,28 @@ class Bench(ToolTest):
                 ran = self.ran(script, "/bin/false")
                 self.assertEqual(ran.returncode, 1, ran.stdout)
                 self.assertRegex(ran.stdout + ran.stderr, "FAILED|status 1")
+
+    def test_a_program_that_cannot_be_run_is_told_in_a_line(self):
+        for script in SCRIPTS:
+            for named in (os.path.join(self.folder, "nothing"), self.folder, self.write("text", "")):
+                with self.subTest(script, named=named):
+                    ran = self.ran(script, named)
+                    self.assertEqual((ran.returncode, ran.stdout), (1, ""), ran.stderr)
+                    self.assert_one_line(ran.stderr, f": {named} is no program that can be run\n")
+
+    def test_words_that_are_not_taken(self):
+        for script, words, said in NOT_TAKEN:
+            with self.subTest(script, words=words):
+                ran = subprocess.run([sys.executable, "-B", os.path.join(TOP, "bench", script), *words, "--program", "/bin/true"],
+                                     env={**os.environ, "PATH": "/nowhere"}, capture_output=True, text=True, timeout=120)
+                self.assertEqual((ran.returncode, ran.stdout), (2, ""), ran.stderr)
+                self.assertTrue(ran.stderr.endswith(f"error: {said}\n"), ran.stderr)
+
+    def test_a_folder_without_a_moment_is_told_in_a_line(self):
+        ran = subprocess.run([sys.executable, "-B", os.path.join(TOP, "bench", "worst"), "--measure", self.folder, "--program", "/bin/true"],
+                             capture_output=True, text=True, timeout=120)
+        self.assertEqual((ran.returncode, ran.stdout), (1, ""), ran.stderr)
+        self.assert_one_line(ran.stderr, f"bench/worst: {self.folder}/worst.toml: No such file or directory\n")
 
     def test_words_that_go_with_built_alone(self):
         for words in (["--task", "batch"], ["--program", "/bin/false"]):
