@@ -89,7 +89,18 @@ def read_bytes(path, most=-1):
 
 def read_lines(path):
     """The lines of a text; a byte order mark at its beginning is skipped, and a byte that is no text becomes a sign for that."""
-    return read_bytes(path).decode("utf-8-sig", "replace").splitlines()
+    text = read_bytes(path)
+    if is_utf_16(text):
+        raise Problem(f"{path}: {UTF_16}", 3)
+    return text.decode("utf-8-sig", "replace").splitlines()
+
+
+UTF_16 = "the text is in UTF-16, as some editors and spreadsheets write it: save it in UTF-8"
+
+
+def is_utf_16(text):
+    """Whether a text begins with the byte order mark of UTF-16, which is no UTF-8."""
+    return text.startswith((b"\xff\xfe", b"\xfe\xff"))
 
 
 # The configuration.
@@ -178,7 +189,7 @@ def examine_config(text):
     try:
         document = read_toml(text)
     except TomlFault as fault:
-        return None, [Fault(2, str(fault))]
+        return None, [Fault(2, UTF_16 if is_utf_16(text) else str(fault))]
     return document, sorted(faults_of_document(document), key=lambda fault: fault.code)
 
 
@@ -387,6 +398,7 @@ class Reader:
         """The code and the cause, where the line is wrong by itself."""
         if word not in FIELDS:
             hint = "; a byte order mark stands before it: save the file without one" * word.startswith("\xef\xbb\xbf")
+            hint = hint or f"; {UTF_16}" * is_utf_16(word.encode("latin-1"))
             return 2, f"{word!a} is none of the words {', '.join(FIELDS)}{hint}"
         fields = FIELDS[word] + ([AGE] if word == "traffic" and self.form == 2 else [])
         if len(values) != len(fields):
@@ -626,6 +638,10 @@ def hint_on(line):
         return "; these are state lines, of which ./daidalus replay makes a report"
     if word.startswith("#"):
         return "; a report has no comments, and of state lines ./daidalus replay makes one"
+    if line.endswith("\r") and parsed(line[:-1]):
+        return "; a carriage return stands at its end, which no report has: take them off, as by tr -d '\\r'"
+    if is_utf_16(line.encode("latin-1")):
+        return f"; {UTF_16}"
     return "; the configuration was refused, and tools/check says why" if word == "config" else ""
 
 

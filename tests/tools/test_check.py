@@ -183,6 +183,18 @@ class States(ToolTest):
         self.assertTrue(out[0].endswith("; a byte order mark stands before it: save the file without one"), out[0])
         self.assertNotIn("byte order mark", "".join(out[1:]))
 
+    def test_a_text_in_utf_16_is_told(self):
+        """Of either order of bytes; of the states in the first line alone."""
+        hint = "the text is in UTF-16, as some editors and spreadsheets write it: save it in UTF-8"
+        for mark, order in ((b"\xff\xfe", "utf-16-le"), (b"\xfe\xff", "utf-16-be")):
+            path = self.write("in.txt", mark + "moment 0\nown 0 0 0 0 0 0\n".encode(order))
+            out = self.tool("check", CONFIG, path)[1]
+            self.assertRegex(out, rf"^.*:1: refused 2: .*; {hint}\n")
+            self.assertEqual(out.count(hint), 1)
+            self.assertEqual(self.tool("check", path)[:2], (3, f"{path}: config 2: {hint}\n"))
+            for name in ("from_daa", "from_parameters"):
+                self.assertEqual(self.tool(name, path), (3, "", f"{name}: {path}: {hint}\n"))
+
     def test_one_field_is_told_as_one(self):
         out = self.tool("check", CONFIG, self.write("in.states", "moment\nmoment 1 2\nend 1\n"))[1].splitlines()
         self.assertEqual([line.split(": ", 1)[1] for line in out[:3]], [

@@ -33,7 +33,8 @@ REPORT = ("moment 0\nnow A 0\nalert A 2 43\ntrack 0 5 3\ntrack 10 180 0\ntrack 1
           "moment 10\nnow A 1\nalert A 2 0\ntrack 0 355 3\ngs 500 7000 0\nvs 0 0 0\nalt 0 50000 0\nresolve track left none right none\n"
           + KEEP + "recover track 12 40\ndone 10\n")
 NO_REPORTS = (("", "it is empty"), ("hello\n", "line 1 is no line of a report there: 'hello'"), ("done 0\n", "line 1"),
-              ("moment 0\nmoment 1\n", "line 2"),
+              ("moment 0\nmoment 1\n", "line 2"), (REPORT.replace("\n", "\r\n"), "a carriage return stands at its end"),
+              (REPORT.encode("utf-16"), "the text is in UTF-16"),
               ("moment 0\ndone 0\n", "line 2 ends a moment that is not whole"), ("moment 0\nalert A 0 -\n", "line 2 is of A, of which no line"),
               ("moment 0\nnow A 0\nsteady B 0\n", "line 3 is of B, of which no line"),
               ("moment 0\ntrack 5 0 1\n", "line 2 does not rise"), ("moment 0\ntrack 0 5 1\ntrack 5 9 0\n", "line 3 does not rise"),
