@@ -5,7 +5,7 @@
  * daa_decide). Each call answers from its arguments alone, so calls may run in parallel in threads of the caller.
  * No call starts a thread, waits, prints, or keeps a pointer after it returns. Only daa_read takes memory (malloc), and
  * frees it before it returns; it stands in an archive of its own, libdaa_toml.a, and the others in libdaa_c.a, which asks
- * for no allocator. A call takes less than 256 KB of stack (measured, but for daa_last; not proved).
+ * for no allocator. A call takes less than 256 KB of stack (measured; not proved).
  *
  * Each call but daa_line and daa_version returns DAA_OK, or another number of the list below; then it has filled in
  * nothing. Every number is checked, also those of a configuration, so no number passed in makes a call undefined. Where
