@@ -93,6 +93,7 @@ class Bench(ToolTest):
                 ran = self.ran(script, "/bin/false")
                 self.assertEqual(ran.returncode, 1, ran.stdout)
                 self.assertRegex(ran.stdout + ran.stderr, "FAILED|status 1")
+                self.assertNotIn("Traceback", ran.stderr)
 
     def test_a_program_that_cannot_be_run_is_told_in_a_line(self):
         for script in SCRIPTS:
