@@ -77,11 +77,12 @@
   /** All but the mark of the present moment. */
   function whole(g, moments, notes, step) {
     const paths = ["", "", "", "", ""];
-    let [own, open] = ["", ""];
+    let [known, own, open] = ["", "", ""];
     const y = (degree) => g.top + g.tall - (daa.wrap(degree - g.foot) / FULL_TURN) * g.tall;
     for (const column of columnsOf(moments, notes)) {
       const x = g.x(column.from);
       const wide = Math.max(g.x(column.upto) - x, 0.5);
+      known += box(x, 0, wide + 0.5, g.top + g.tall); // so that no seam is seen between two
       g.ids.forEach((id, row) => {
         const level = greatest(column.notes, id);
         if (level) paths[level] += box(x, (row + 1) * ROW - (ROW - 3) * (level / 4), wide, (ROW - 3) * (level / 4));
@@ -93,14 +94,16 @@
       own += box(x, y(note.trk) - 1, wide, 2);
       for (const to of note.open) open += box(x + wide / 2 - 2, y(to) - 2, 4, 4);
     }
-    return frame(g) + paths.map((d, level) => (d ? `<path d="${d}" fill="${daa.paint(level)}" data-level="${level}"/>` : "")).join("")
+    return frame(g, known) + paths.map((d, level) => (d ? `<path d="${d}" fill="${daa.paint(level)}" data-level="${level}"/>` : "")).join("")
       + `<path d="${own}" fill="var(--own)"/><path d="${open}" fill="var(--open)" stroke="var(--ground)" stroke-width=".5"/>`;
   }
 
-  function frame(g) {
+  /** What stands on all but what is known, as on the display, is the ground of what has no answer: a moment that is not decided yet
+   *  is not clear. */
+  function frame(g, known) {
     const text = (x, y, words, more = "") => `<text x="${n(x)}" y="${n(y)}" font-size="11" ${more}>${daa.escape(words)}</text>`;
     const wide = g.width - MARGIN.left - MARGIN.right;
-    let out = `<path d="${box(MARGIN.left, g.top, wide, g.tall)}" fill="var(--l0-fill)"/>`;
+    let out = `<path d="${box(MARGIN.left, 0, wide, g.top + g.tall)}" fill="var(--unknown)"/><path d="${known}" fill="var(--l0-fill)"/>`;
     g.ids.forEach((id, row) => {
       out += text(4, (row + 1) * ROW - 2, id) + `<path d="M${MARGIN.left} ${(row + 1) * ROW}h${n(wide)}" stroke="var(--line)"/>`;
     });

@@ -135,15 +135,16 @@ const TASKS = {
       back: Object.fromEntries(made.map((it) => [it.attributes["data-key"], meant(it)])) };
   },
 
-  /** The strip of an encounter, of 1000 times 150 points: where it has what, its text, and its text where all aircraft have level 1. */
-  over_time(engine, toml, states) {
+  /** The strip of an encounter, of 1000 times 150 points: where it has what, its text, its text where all aircraft have level 1, and
+   *  that where so many moments are decided. */
+  over_time(engine, toml, states, decided = 0) {
     const { svg } = runDrawing();
     const config = engine.read(bytesOf(toml));
     const moments = engine.readStates(bytesOf(states)).map((it) => it.moment);
     const notes = moments.map((moment) => daa.noteOf(moment, daa.readReport(engine.report(config, moment))));
     const others = notes.map((note) => ({ ...note, levels: new Map([...note.levels].map(([id]) => [id, 1])) }));
     const ids = [...notes[0].levels.keys()];
-    const texts = [notes, others].map((some) => {
+    const texts = [notes, others, notes.slice(0, decided)].map((some) => {
       daa.drawStrip(svg, { width: 1000, height: 150 }, { moments, notes: some, ids, index: 0, step: config.grids.track.step });
       return svg.innerHTML;
     });

@@ -337,8 +337,27 @@ class Drawn(unittest.TestCase):
         self.assertEqual(ends, {round(x(time), 1) for time in (10, 20, 60, 190)})
 
     def test_a_strip_of_other_levels_is_drawn_anew(self):
-        one, other = in_node([["over_time", bytes_of(THREE_LEVELS), bytes_of(ENCOUNTER)]])[0]["texts"]
+        one, other, _ = in_node([["over_time", bytes_of(THREE_LEVELS), bytes_of(ENCOUNTER)]])[0]["texts"]
         self.assertNotEqual(one, other)
+
+    def test_the_strip_shows_nothing_clear_that_is_not_decided(self):
+        """Of 19 moments the first 8 are decided; and where no moment is, after one 160 seconds before the next, nothing is clear either."""
+        gap = "".join(text for text, moment in moments_in(bytes_of(ENCOUNTER)) if moment.time in (0, 10, 20, 180)).encode()
+        for states, decided, place, wanted in ((bytes_of(ENCOUNTER), 0, 0, [(0, 190)]), (bytes_of(ENCOUNTER), 8, 2, [(0, 80)]),
+                                               (bytes_of(ENCOUNTER), 0, 2, []), (gap, 0, 0, [(0, 60), (180, 190)])):
+            strip = xml_of(in_node([["over_time", bytes_of(THREE_LEVELS), states, decided]])[0]["texts"][place])
+            found = {it.get("fill"): boxes_of(it) for it in strip.iter("path") if it.get("fill") in ("var(--unknown)", "var(--l0-fill)")}
+            x = lambda time: 78 + time / 190 * (1000 - 88)
+            whole, = found["var(--unknown)"]
+            self.assertEqual((whole[0], whole[2], whole[1] + whole[3]), (78, 912, 134))
+            runs = []
+            for left, top, wide, tall in found["var(--l0-fill)"]:
+                self.assertEqual((top, tall), (whole[1], whole[3]))
+                if runs and abs(left - runs[-1][1]) < 1:
+                    runs[-1][1] = left + wide
+                else:
+                    runs.append([left, left + wide])
+            self.assertEqual([[round(end) for end in run] for run in runs], [[round(x(end) + place / 2) for place, end in enumerate(run)] for run in wanted])
 
 
 STATES = "daa.stateLines([page.current])"
