@@ -537,9 +537,8 @@
     const { title, name, unit, scale } = TAPES[kind];
     const s = scaleOf(view, model, kind);
     const words = text(t.left + t.width / 2, t.top - g.line * 0.55, `${title} ${unit}`, `class="small mid" font-size="${g.font}"`);
-    const ground = model.said ? "var(--disc)" : "var(--unknown)";
     let out = `<g><title>${name}</title>${words}</g>`
-      + `<rect x="${n(t.x)}" y="${n(t.top)}" width="${t.band}" height="${n(t.bottom - t.top)}" fill="${ground}" stroke="var(--line)"/>`;
+      + `<rect x="${n(t.x)}" y="${n(t.top)}" width="${t.band}" height="${n(t.bottom - t.top)}" fill="var(--unknown)" stroke="var(--line)"/>`;
     for (const band of model.said ? model.said.bands[kind] : []) out += bandOnTape(view, model, kind, band, s);
     const step = niceStep((s.high - s.low) / scale, clamp(Math.floor((t.bottom - t.top) / (g.line * 1.6)), 3, 11)) * scale;
     for (let v = Math.ceil(s.low / step) * step; v <= s.high; v += step) {

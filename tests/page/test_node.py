@@ -290,6 +290,21 @@ class Drawn(unittest.TestCase):
                                  (["disc", "var(--l1-edge)"], ["2", "A2", "−12↓", "L2 14 s"]), (["square"], ["3", "A3", "+01", "L3 21 s"]),
                                  (["cross", "square", "var(--l4-edge)"], ["4", "A4", "+00↓", "L4 now"])])
 
+    def test_a_tape_beyond_its_candidates_is_not_clear(self):
+        """Of speeds to 200 knots, for an ownship of 360: above them the tape is as grey as where there is no answer."""
+        config = bytes_of(THREE_LEVELS).replace(b"max = 7000", b"max = 2000")
+        self.assertNotEqual(config, bytes_of(THREE_LEVELS))
+        text, _ = moments_in(bytes_of(ENCOUNTER))[0]
+        with tempfile.NamedTemporaryFile(suffix=".toml") as file:
+            file.write(config)
+            file.flush()
+            self.show(config, text.encode(), replayed(file.name, text.encode()))
+        tape = self.g["tapes"]["gs"]
+        rects = [it for it in self.layers["tapes"].iter("rect") if abs(float(it.get("x")) - tape["x"]) < 1]
+        self.assertEqual((rects[0].get("fill"), float(rects[0].get("height"))), ("var(--unknown)", round(tape["bottom"] - tape["top"], 1)))
+        share = (2000 - 500) / (3600 - 500)
+        self.assertAlmostEqual(min(float(it.get("y")) for it in rects[1:]), tape["bottom"] - share * (tape["bottom"] - tape["top"]), delta=1)
+
     def test_answers_beyond_a_tape(self):
         """Of a report whose altitudes lie 5000 feet from the ownship's: they stand at the ends, and say where to look."""
         text, _ = moments_in(bytes_of(ENCOUNTER))[0]
