@@ -187,9 +187,11 @@
 
   const NAMES = { track: "track", gs: "ground speed", vs: "vertical speed", alt: "altitude" };
 
+  /** It is never older than the display; while something is held, a screen reader waits with it. */
   function paintSummary() {
     const said = saidOf(state.views[0]);
-    if (!state.held) setText($("summary"), said ? summaryOf(said) : faultOf(state.views[0]));
+    $("summary").setAttribute("aria-busy", String(Boolean(state.held)));
+    setText($("summary"), said ? summaryOf(said) : faultOf(state.views[0]));
   }
 
   function summaryOf(said) {

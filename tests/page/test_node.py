@@ -432,6 +432,24 @@ class Used(unittest.TestCase):
         self.assertEqual(told, "Alerts: AMBER level 3 now. Clear again: track 35° after 11 s; vertical speed 4600 ft/min after 11 s; "
                          "altitude 10500 ft after 14 s. Nothing open: ground speed.")
 
+    def test_the_sentence_is_that_of_what_is_held(self):
+        """And of no older moment; a screen reader is told of it when it is let go."""
+        found = on_page("""
+            const { x, y } = page.views[0].drawn.g.centre, [left, top] = handle("p:AMBER").getAttribute("transform").match(/[-.0-9]+/g).map(Number);
+            const told = () => [$("summary").textContent, $("summary").getAttribute("aria-busy")];
+            const found = [told()];
+            fire(display(), "pointerdown", { target: handle("p:AMBER"), clientX: left, clientY: top, pointerId: 1, button: 0, isPrimary: true });
+            fire(display(), "pointermove", { clientX: x + 5, clientY: y - 5, pointerId: 1, buttons: 1 });
+            await settle();
+            found.push(told());
+            fire(display(), "pointerup", { pointerId: 1 });
+            await settle();
+            return [...found, told()];""")
+        self.assertEqual([busy for _, busy in found], ["false", "true", "false"])
+        self.assertRegex(found[0][0], "^Alerts: AMBER level 2 in 43 s")
+        self.assertRegex(found[1][0], "^Alerts: AMBER level 3 now")
+        self.assertEqual(found[1][0], found[2][0])
+
     def test_each_number_is_in_the_unit_that_is_told(self):
         """Places in NM, speeds in knots, of the ownship and of an aircraft; and whose number is out of its range."""
         own, typed, fault, other, last = on_page(f"""
