@@ -55,15 +55,17 @@
     const { own } = state.current;
     const point = pointIn(svg, event);
     const [, x, y] = /translate\((\S+) (\S+)\)/.exec(handle.getAttribute("transform"));
-    state.held = { key, middle: { x: own.x, y: own.y }, trk: own.trk, own: { gs: own.gs, vs: own.vs, alt: own.alt },
+    state.held = { key, pointer: event.pointerId, middle: { x: own.x, y: own.y }, trk: own.trk, own: { gs: own.gs, vs: own.vs, alt: own.alt },
       off: { x: Number(x) - point.x, y: Number(y) - point.y } };
     svg.setPointerCapture(event.pointerId);
     handle.focus({ preventScroll: true });
     choose(key);
   }
 
+  /** What happens to a pointer means something only where it holds something: a second finger neither moves nor drops it. */
+  const isHolding = ({ pointerId }) => Boolean(state.held) && state.held.pointer === pointerId;
+
   function drop() {
-    if (!state.held) return;
     state.held = null;
     changed();
   }
@@ -74,7 +76,7 @@
     figure.querySelector("figcaption").addEventListener("click", ({ target }) => act(target.dataset.do, view(), figure));
     svg.addEventListener("pointerdown", (event) => hold(svg, event));
     svg.addEventListener("pointermove", (event) => {
-      if (!state.held) return;
+      if (!isHolding(event)) return;
       const { off, key } = state.held;
       if (!event.buttons || !whose(key)) { // its release was not told, or it is there no more
         drop();
@@ -84,8 +86,7 @@
       moveTo(key, { x: point.x + off.x, y: point.y + off.y }, view());
       edited();
     });
-    svg.addEventListener("pointerup", drop);
-    svg.addEventListener("pointercancel", drop);
+    for (const end of ["pointerup", "pointercancel"]) svg.addEventListener(end, (event) => { if (isHolding(event)) drop(); });
     svg.addEventListener("wheel", (event) => {
       event.preventDefault();
       if (event.deltaY) act(event.deltaY > 0 ? "wide" : "near", view(), figure);

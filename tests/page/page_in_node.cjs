@@ -101,10 +101,10 @@ async function press(key, pressed, shiftKey = false) {
 async function drag(key, right, down) {
   const [x, y] = placeOf(key);
   fire(display(), "pointerdown", { target: handle(key), clientX: x, clientY: y, pointerId: 1, button: 0, isPrimary: true });
-  fire(display(), "pointermove", { clientX: x + right, clientY: y + down, buttons: 1 });
+  fire(display(), "pointermove", { clientX: x + right, clientY: y + down, pointerId: 1, buttons: 1 });
   await settle();
   const held = placeOf(key);
-  fire(display(), "pointerup");
+  fire(display(), "pointerup", { pointerId: 1 });
   await settle();
   return [[x, y], held];
 }

@@ -596,6 +596,21 @@ class Used(unittest.TestCase):
             return [before, found];""")
         self.assertEqual(found, [[False, before]] * 3 + [[False, re.sub("traffic AMBER .*\n", "", before)]])
 
+    def test_a_second_finger_neither_moves_nor_drops_what_is_held(self):
+        found = on_page(f"""
+            const found = [], [x, y] = handle("p:AMBER").getAttribute("transform").match(/[-.0-9]+/g).map(Number);
+            const touch = async (event, pointerId, right) => {{
+              await fire(display(), event, {{ target: handle("p:AMBER"), clientX: x + right, clientY: y, pointerId, buttons: 1, button: 0, isPrimary: pointerId === 1 }});
+              found.push([{STATES}, Boolean(page.held)]);
+            }};
+            for (const [event, pointerId, right] of given) await touch(event, pointerId, right);
+            return found;""", ("pointerdown", 1, 0), ("pointermove", 1, 20), ("pointerdown", 2, -200), ("pointermove", 2, -150), ("pointerup", 2, -150),
+            ("pointercancel", 2, -150), ("pointermove", 1, 40), ("pointerup", 1, 40))
+        places, held = zip(*found)
+        self.assertEqual(held, (True,) * 7 + (False,))
+        self.assertEqual(len({*places[1:6]}), 1)
+        self.assertEqual(len({places[0], places[1], places[6]}), 3)
+
     def test_a_wheel_that_turns_sideways_keeps_the_range(self):
         found = on_page("""
             const ranges = [];
