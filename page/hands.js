@@ -7,6 +7,8 @@
 
   // ---- moving things: by the pointer
 
+  const SLACK = 3; // points: a click that slips no farther chooses, and moves nothing
+
   const pointIn = (svg, event) => new DOMPoint(event.clientX, event.clientY).matrixTransform(svg.getScreenCTM().inverse());
   const whose = (key) => (partsOf(key)[1] ? aircraftOf(key) : state.current.own);
 
@@ -55,7 +57,7 @@
     const { own } = state.current;
     const point = pointIn(svg, event);
     const [, x, y] = /translate\((\S+) (\S+)\)/.exec(handle.getAttribute("transform"));
-    state.held = { key, pointer: event.pointerId, middle: { x: own.x, y: own.y }, trk: own.trk, own: { gs: own.gs, vs: own.vs, alt: own.alt },
+    state.held = { key, pointer: event.pointerId, from: point, middle: { x: own.x, y: own.y }, trk: own.trk, own: { gs: own.gs, vs: own.vs, alt: own.alt },
       off: { x: Number(x) - point.x, y: Number(y) - point.y } };
     svg.setPointerCapture(event.pointerId);
     handle.focus({ preventScroll: true });
@@ -83,6 +85,9 @@
         return;
       }
       const point = pointIn(svg, event);
+      const { from } = state.held;
+      if (from && Math.hypot(point.x - from.x, point.y - from.y) <= SLACK) return;
+      state.held.from = null;
       moveTo(key, { x: point.x + off.x, y: point.y + off.y }, view());
       edited();
     });

@@ -596,6 +596,22 @@ class Used(unittest.TestCase):
             return [before, found];""")
         self.assertEqual(found, [[False, before]] * 3 + [[False, re.sub("traffic AMBER .*\n", "", before)]])
 
+    def test_a_click_that_slips_moves_nothing(self):
+        """Also at an aircraft out of range, which stands at the rim; once it is moved, it goes with the pointer to each point."""
+        found = on_page(OPEN + f"""
+            await open(["far.states", given[0]]);
+            await drag("p:FAR", 2, -2);
+            const found = [{STATES}, page.edited, page.chosen], [x, y] = handle("p:A").getAttribute("transform").match(/[-.0-9]+/g).map(Number);
+            fire(display(), "pointerdown", {{ target: handle("p:A"), clientX: x, clientY: y, pointerId: 1, button: 0, isPrimary: true }});
+            for (const right of [9, 1]) fire(display(), "pointermove", {{ clientX: x + right, clientY: y, pointerId: 1, buttons: 1 }});
+            await settle();
+            return [...found, page.current.traffic[1].x];""", self.FAR)
+        self.assertEqual(found[:3], [self.FAR, False, "p:FAR"])
+        self.assertTrue(1000 < found[3] < 1100, found[3])
+
+    FAR = "moment 0\nown 0 0 10000 0 3600 0\ntraffic FAR 100000 100000 10000 0 0 0\n" + "".join(
+        f"traffic {name} {1000 * place} 3000 10000 0 -100 0\n" for place, name in enumerate("ABCDEFG", 1)) + "end\n"
+
     def test_a_second_finger_neither_moves_nor_drops_what_is_held(self):
         found = on_page(f"""
             const found = [], [x, y] = handle("p:AMBER").getAttribute("transform").match(/[-.0-9]+/g).map(Number);
