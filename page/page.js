@@ -21,6 +21,7 @@
     } catch (problem) {
       if (!(problem instanceof Refused)) throw problem;
       view.refusal = problem;
+      changed();
       return false;
     }
     Object.assign(view, { name, taken: view.toml, edition: view.edition + 1 });

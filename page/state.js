@@ -194,7 +194,8 @@
     const refused = edited ? [] : state.refused.filter((it) => it.before === index);
     setText($("notes"), [...state.told, ...refused.map((it) => `line ${it.refused} was refused with code ${it.code}`)].join("; "));
     const fault = shownViews().filter(isAnswered).map((view) => view.fault).find(Boolean);
-    setText($("fault"), [state.untaken, fault].filter(Boolean).join("; "));
+    const kept = shownViews().filter((view) => view.refusal).map((view) => `a configuration is refused, and ${view.name} is shown in its place`);
+    setText($("fault"), [state.untaken, ...kept, fault].filter(Boolean).join("; "));
   }
 
   // ---- all moments, over time

@@ -736,6 +736,30 @@ class Used(unittest.TestCase):
         self.assertRegex(label, "^Display under three_levels: ")
         self.assertIn("track_step = 7 does not divide 360", fault)
 
+    def test_a_refused_configuration_is_told_beside_what_is_shown(self):
+        """Where it was opened, edited, or came by a link; until one is taken."""
+        config, held = text_of(THREE_LEVELS), {"states": "moment 7\nown 0 0 0 0 0 0\nend\n", "name": "", "look": [{}, {}]}
+        linked = {**held, "configs": [{"name": "x", "toml": config + "x = 1\n"}, {"name": "y", "toml": config}]}
+        told = on_page(OPEN + EDIT + """
+            const told = [], tell = () => told.push($("fault").textContent);
+            await open(["strict.toml", "x = 1"]);
+            tell();
+            await edit(given[0]);
+            tell();
+            await edit("x = 1");
+            tell();
+            $("preset").value = "recovery";
+            await fire($("preset"), "change", { target: $("preset") });
+            await settle();
+            tell();
+            location.hash = `#${await daa.pack(given[1])}`;
+            await fire(screen, "hashchange");
+            await settle();
+            tell();
+            return told;""", config, linked)
+        kept = "a configuration is refused, and {} is shown in its place".format
+        self.assertEqual(told, [kept("three_levels"), "", kept("edited"), "", kept("recovery")])
+
     def test_a_link_holds_the_configuration_that_counts(self):
         """And not what was edited since, and is refused."""
         edited = text_of(THREE_LEVELS).replace("track_step = 5\n", "track_step = 10\n")
