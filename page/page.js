@@ -184,7 +184,11 @@
   /** Takes the link of the page's address; whether it holds a moment. */
   async function takeLink() {
     const held = await daa.unpack(location.hash);
-    if (!isLinked(held) || location.hash === state.hash) return false;
+    if (location.hash === state.hash) return false;
+    if (!isLinked(held)) {
+      if (location.hash.length > 1) tell("the link holds no moment: is it whole?");
+      return false;
+    }
     if (!loadStates(bytesOf(String(held.states)), String(held.name))) return false;
     state.hash = location.hash;
     held.configs.forEach(({ name, toml }, place) => configure(place, String(toml), String(name)));
@@ -297,7 +301,11 @@
     fill($("preset"), configs);
     configure(1, daa.examples.configs[configs[1]], configs[1]);
     configure(0, daa.examples.configs[configs[0]], configs[0]);
-    if (!(await takeLink())) takeExample(encounters[0]);
+    if (!(await takeLink())) {
+      const { untaken } = state;
+      takeExample(encounters[0]);
+      tell(untaken);
+    }
     new ResizeObserver(changed).observe($("displays"));
     addEventListener("resize", changed);
     document.body.dataset.ready = "yes";

@@ -437,6 +437,7 @@ class Loaded(PageTest):
         self.assertEqual((self.page.states(), self.page.report(0), self.page.report(1), self.page.js("return JSON.stringify(daa.page.views.map((view) => view.look))")), before)
         self.page.open("#m=" + link[5:40])
         self.check_moment(moments_of(replayed(THREE_LEVELS, bytes_of(ENCOUNTER)))[0])
+        self.assertEqual(self.page.text("#fault"), "the link holds no moment: is it whole?")
 
     def test_state_lines_are_copied_for_the_program(self):
         self.page.drag("p:AMBER", (-20, 40))
