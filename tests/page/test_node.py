@@ -540,6 +540,12 @@ class Used(unittest.TestCase):
         self.assertIn("own 0 0 10000 0 3600 0\n", states)
         self.assertIn("traffic  -1200 -300 9000 0 3600 -600\n", states)
 
+    def test_a_letter_of_another_alphabet_is_none_of_a_name(self):
+        """Also one whose last byte is that of a letter: Cyrillic Ё, U+0401, and Polish Ł, U+0141, which would be an A."""
+        for name in ("\u0401", "\u0141MBER"):
+            told = self.named(f'await type("id", "{name}"); return [$("fault").textContent, page.views[0].said];')
+            self.assertEqual(told, [f"an identifier is not 1 to 8 letters, digits, _ or -: {name}", None])
+
     def test_a_name_with_a_colon_is_moved(self):
         """Also one whose first part is another aircraft's name."""
         for name in ("AMBER:1", "X:Y"):
