@@ -172,7 +172,7 @@
 
   function linked() {
     const configs = state.views.map(({ name, taken }) => ({ name, toml: taken }));
-    return { states: daa.stateLines([state.current]), name: state.name, configs, look: state.views.map(({ look }) => look), compare: state.compare };
+    return { states: daa.stateLines([state.current]), name: modelOf(state.views[0]).note, configs, look: state.views.map(({ look }) => look), compare: state.compare };
   }
 
   /** Whether a link's value has the form of what `linked` makes. */

@@ -731,6 +731,16 @@ class Used(unittest.TestCase):
         held = ["three_levels", "recovery", "encounter.states", {"trackUp": True, "range": 24, "heights": 6000}]
         self.assertEqual((before, meanwhile[0], after), (held, "recovery", held))
 
+    def test_a_link_of_a_changed_moment_has_no_name_of_a_recording(self):
+        head = on_page("""
+            await press("p:AMBER", "ArrowUp");
+            await fire($("link"), "click");
+            page.hash = "";
+            await fire(screen, "hashchange");
+            await settle();
+            return display().querySelector("[data-layer=head]").innerHTML;""")
+        self.assertEqual([it.text for it in xml_of(head)][1], "changed by hand")
+
     def test_a_refused_configuration_gives_no_name(self):
         """What is shown is named as the one that it is shown under."""
         head, label, fault = on_page(OPEN + """
