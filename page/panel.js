@@ -128,7 +128,7 @@
   });
 
   async function give(text, button, name) {
-    const before = button.textContent;
+    button.dataset.words ??= button.textContent; // which may say by now what came of a click before this one
     try {
       await navigator.clipboard.writeText(text);
       button.textContent = "Copied";
@@ -136,7 +136,7 @@
       download(new Blob([text], { type: "text/plain" }), name);
       button.textContent = "Saved";
     }
-    setTimeout(() => { button.textContent = before; }, 1500);
+    setTimeout(() => { button.textContent = button.dataset.words; }, 1500);
   }
 
   $("copy").addEventListener("click", ({ target }) => give(daa.stateLines([state.current]), target, `moment-${state.current.time}.states`));

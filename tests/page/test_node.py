@@ -796,6 +796,15 @@ class Used(unittest.TestCase):
             self.assertEqual(before, ["edited", moments_of(replayed(file.name, bytes_of(ENCOUNTER)))[0]])
         self.assertEqual(after, before)
 
+    def test_a_button_that_is_clicked_twice_has_its_words_again(self):
+        words = on_page("""
+            $("copy").textContent = "Copy";
+            for (const time of [1, 2]) await fire($("copy"), "click");
+            const words = [$("copy").textContent];
+            await new Promise((done) => setTimeout(done, 1700));
+            return [...words, $("copy").textContent];""")
+        self.assertEqual(words, ["Saved", "Copy"])
+
     def test_a_link_holds_a_long_text(self):
         text = "".join(map(str, random.Random(1).choices(range(1000), k=100000)))
         self.assertTrue(on_page("return (await daa.unpack(`#${await daa.pack(given[0])}`)) === given[0];", text))
