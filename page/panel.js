@@ -153,7 +153,8 @@
   function lineHtml(line, number) {
     const level = levelOfLine(line);
     const [word] = line.split(" ");
-    const style = ["resolve", "recover", "last"].includes(word) ? word : level === null ? "faint" : "";
+    const isAnswer = ["resolve", "recover", "last"].includes(word);
+    const style = isAnswer ? (/\d/.test(line) ? word : line.includes("none") ? "none" : "") : level === null ? "faint" : "";
     const mark = `<b class="${level ? `l${level}` : ""}">${level || ""}</b>`;
     return `<div class="line" data-line="${number}">${mark}<span class="${style}">${escape(line)}</span></div>`;
   }

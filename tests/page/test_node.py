@@ -412,6 +412,28 @@ class Used(unittest.TestCase):
             moment = moments_of(replayed(THREE_LEVELS, bytes_of(ENCOUNTER)))[place]
             self.assertEqual(marks, {line: level.match(line)[1] if level.match(line) else "" for line in moment.splitlines()})
 
+    def test_a_line_of_answers_has_the_colour_of_what_it_says(self):
+        """Green where something is open on a side, and red where nothing is."""
+        found = on_page("""
+            $("example").value = "encounter, with recoveries";
+            await fire($("example"), "change");
+            const found = [];
+            for (const value of given) {
+              $("slider").value = value;
+              await fire($("slider"), "input");
+              await settle();
+              found.push($("report").innerHTML);
+            }
+            return found;""", "0", "6", "18")
+        styles = {}
+        for report in found:
+            spans = [line.find("span") for line in xml_of(report).iter("div") if line.get("class") == "line"]
+            styles.update({it.text: it.get("class") for it in spans if it.text.split(" ")[0] in ("resolve", "recover")})
+        self.assertEqual({line: style for line, style in styles.items() if " gs " in line or " track " in line}, {
+            "resolve track left none right 10": "resolve", "resolve gs down 2600 up none": "resolve", "resolve track left none right none": "none",
+            "recover track 11 35": "recover", "resolve gs down none up none": "none", "recover gs none": "none",
+            "resolve track left keep right keep": "", "resolve gs down keep up keep": ""})
+
     def test_the_table_flies_an_old_report_on(self):
         """15 seconds old, B is 2.5 NM west and 2.325 NM north of the ownship, and 1175 feet below: 3.414 NM at 312.9 degrees."""
         rows = on_page("""
