@@ -871,6 +871,12 @@ class Used(unittest.TestCase):
         self.assertEqual(told, ["none.states has no whole moment; line 1 was refused with code 2",
                                 "none.daa: the header has no column for alt, vs, a place (lat lon, or sx sy), a speed (trk gs, or vx vy)", ""])
 
+    def test_many_refused_lines_are_counted(self):
+        """And leave room for the aircraft."""
+        told = on_page(OPEN + 'await open(["many.states", given[0]]); return $("notes").textContent;', "nothing\n" * 1000 + text_of(ENCOUNTER))
+        self.assertEqual(told, "many.states: 1000 lines were refused; " + "".join(f"line {line} was refused with code 2; " for line in range(1, 6))
+                         + "995 more were refused before this moment")
+
     def test_the_ownship_is_chosen_in_a_recording_alone(self):
         """In the one that is shown, whatever is refused after it."""
         files = (("none.daa", "name time\n"), ("a.daa", text_of(os.path.join(EXAMPLES, "recording.daa"))), ("none.states", "nothing\n"),
