@@ -752,6 +752,13 @@
       kept.delete(key);
     }
     for (const one of wanted) putHandle(group, kept, one, chosen);
+    // In the order in which they are wanted; the one that has the focus would lose it by a move, so the others go round it.
+    let next = null;
+    for (const { key } of [...wanted].reverse()) {
+      const it = kept.get(key);
+      if (it.nextSibling !== next && it !== document.activeElement) group.insertBefore(it, next);
+      next = it;
+    }
   }
 
   function putHandle(group, kept, { key, x, y, inside, label, value, level, number, least, most }, chosen) {

@@ -16,7 +16,7 @@ const bytesOf = (text) => new Uint8Array(Buffer.from(text, "base64"));
 function runDrawing() {
   const element = () => {
     const [attributes, parts] = [{}, {}];
-    return { attributes, parts, innerHTML: "", append() {}, remove() {}, setAttribute: (name, value) => { attributes[name] = String(value); },
+    return { attributes, parts, innerHTML: "", append() {}, insertBefore() {}, remove() {}, setAttribute: (name, value) => { attributes[name] = String(value); },
       getAttribute: (name) => attributes[name] ?? null, querySelector: (selector) => (parts[selector] ??= element()) };
   };
   const made = [];

@@ -43,8 +43,19 @@ class Element {
   getScreenCTM() { return { inverse: () => null }; }
   closest() { return this; }
   matches() { return false; }
-  append() {}
-  remove() {}
+  get nextSibling() { return this.parent ? this.parent.children[this.parent.children.indexOf(this) + 1] ?? null : null; }
+  append(it) { this.insertBefore(it, null); }
+
+  insertBefore(it, next) {
+    it.remove();
+    it.parent = this;
+    this.children.splice(next ? this.children.indexOf(next) : this.children.length, 0, it);
+  }
+
+  remove() {
+    if (this.parent) this.parent.children.splice(this.parent.children.indexOf(this), 1);
+    this.parent = null;
+  }
   focus() {}
   insertAdjacentHTML() {}
   setPointerCapture() {}

@@ -697,6 +697,27 @@ class Used(unittest.TestCase):
             return found;""")
         self.assertEqual(found, ["❚❚", 0, "▶", 18] * 2)
 
+    def test_what_alerts_is_drawn_over_the_rest(self):
+        """Also where it alerts later, with the focus anywhere: in the first moment nothing alerts, in the second LOUD, in the third QUIET."""
+        one = "moment {}\nown 0 0 10000 0 3600 0\ntraffic LOUD 0 {} {} 0 -3600 0\ntraffic QUIET 0 {} {} 0 -3600 0\nend\n"
+        states = one.format(0, 20000, 10000, 20000, 30000) + one.format(10, 4000, 10000, 4000, 30000) + one.format(20, 4000, 30000, 4000, 10000)
+        found = on_page(OPEN + """
+            await open(["order.states", given[0]]);
+            const found = [];
+            for (const focused of [null, "p:LOUD", "p:QUIET", "track"]) {
+              document.activeElement = focused ? handle(focused) : $("slider");
+              for (const value of ["1", "2", "0"]) {
+                $("slider").value = value;
+                await fire($("slider"), "input");
+                await settle();
+                const group = display().querySelector("[data-layer=handles]");
+                found.push(group.children.map((it) => it.dataset.key).filter((key) => key.startsWith("p:") && key.length > 2));
+              }
+            }
+            return found;""", states)
+        for loud, quiet, _ in (found[place:place + 3] for place in range(0, 12, 3)):
+            self.assertEqual((loud, quiet), (["p:QUIET", "p:LOUD"], ["p:LOUD", "p:QUIET"]))
+
     def test_the_range_that_fits(self):
         """It has the traffic of the encounter in it: both aircraft, at most 8.54 NM away; 9 NM would leave AMBER at the rim."""
         found = on_page("""
