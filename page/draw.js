@@ -39,6 +39,12 @@
   /** The size of letters, at most `font`, in which a text has some width at most. */
   const fitted = (words, font, room) => Math.min(font, (font * room) / widthOf(words, font));
 
+  /** A text, cut where it is wider than there is room. */
+  function cut(words, font, room) {
+    const most = Math.floor((words.length * room) / widthOf(words, font));
+    return most >= words.length ? words : `${words.slice(0, Math.max(most - 2, 0))}…`;
+  }
+
   // ---- colours, patterns and letters, which the style sheet of the page names for light, dark and print
 
   const paint = (level) => (level ? `url(#level${level})` : "var(--l0-fill)");
@@ -655,10 +661,13 @@
     const { g } = view;
     const size = `font-size="${g.font}"`;
     const ahead = `${view.trackUp ? "track up" : "north up"} · ${vectorSeconds(view)} s ahead`;
+    const isWide = g.width > 560;
+    const half = (g.width - (isWide ? widthOf(ahead, g.font) : 0)) / 2 - 8; // left and right of what stands in the middle
+    const note = 16 + widthOf(`${model.time} s`, g.font + 4);
     let out = text(10, g.line * 1.05, `${model.time} s`, `class="value" font-size="${g.font + 3}"`)
-      + text(16 + widthOf(`${model.time} s`, g.font + 4), g.line * 1.05, model.note, `class="small" ${size}`)
-      + text(g.width - 10, g.line * 1.05, model.name, `class="end" ${size}`);
-    if (g.width > 560) out += text(g.width / 2, g.line * 1.05, ahead, `class="small mid" ${size}`);
+      + text(note, g.line * 1.05, cut(model.note, g.font, half - note), `class="small" ${size}`)
+      + text(g.width - 10, g.line * 1.05, cut(model.name, g.font, half - 10), `class="end" ${size}`);
+    if (isWide) out += text(g.width / 2, g.line * 1.05, ahead, `class="small mid" ${size}`);
     return out + (model.fault ? noAnswer(g, model.fault) : "");
   }
 

@@ -634,6 +634,16 @@ class Layout(PageTest):
             self.page.step_to(place)
             self.check_all(f"encounter_{place}")
 
+    def test_long_names(self):
+        """They are cut where they would stand on each other, and keep their beginnings."""
+        name = "a_long_name_of_" + "an_encounter_near_the_coast_" * 6
+        self.page.open_files(self.page.file(f"{name}.states", text_of(ENCOUNTER)), self.page.file(f"{name}.toml", text_of(RECOVERY)))
+        for compare in (False, True):
+            self.check_all(f"long_names_{compare}", compare)
+            words = self.page.js("return [...document.querySelectorAll('[data-layer=head] text')].map((it) => it.textContent)")
+            self.assertEqual(sum(it.startswith("a_long_") for it in words), 3 if compare else 2, words)
+            self.page.click("#compare")
+
     def test_all_closed_with_recoveries(self):
         self.page.select("#example", "encounter, with recoveries")
         self.page.step_to(6)
