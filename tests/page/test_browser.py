@@ -16,6 +16,7 @@ from shared import (DISPLAYED_SECONDS, ENCOUNTER, EXAMPLES, RECOVERY, THREE_LEVE
                     moments_in, places_of, replayed, text_of, tool)
 
 SIZES = ((1024, 700), (1024, 768), (1280, 800), (1920, 1080))
+SMALL = ((800, 600), (1366, 400), (844, 390), (390, 844))  # the last two of a telephone
 LONGEST = [os.path.join(TOP, "bench", "worst_moments", "wait", f"worst.{end}") for end in ("toml", "states")]
 CROWD = 20
 
@@ -633,6 +634,25 @@ class Layout(PageTest):
         for place in (2, 3):
             self.page.step_to(place)
             self.check_all(f"encounter_{place}")
+
+    def test_small_windows(self):
+        """All stands in one column, which scrolls down and not sideways: the displays are large enough to be read, and no control is cut."""
+        self.page.select("#example", "encounter, with recoveries")
+        self.page.step_to(6)
+        for compare in (False, True):
+            for width, height in SMALL:
+                with self.subTest(size=(width, height), compare=compare):
+                    self.page.size(width, height)
+                    self.page.settle()
+                    self.assertLessEqual(self.page.js("return document.documentElement.scrollWidth"), width)
+                    for it in self.page.driver.find_elements(By.CSS_SELECTOR, "header > *, .bar > *, figcaption > *, #panel button"):
+                        self.assertTrue(not it.is_displayed() or it.rect["x"] >= 0 and it.rect["x"] + it.rect["width"] <= width, it.get_attribute("outerHTML"))
+                    for view in (0, 1) if compare else (0,):
+                        _, bad = self.check_display(view)
+                        self.assertEqual(bad, [])
+                        self.assertGreaterEqual(self.page.js("return daa.page.views[arguments[0]].drawn.g.radius", view), 80)
+                    self.page.shot(f"small_{width}_{height}_{compare}")
+            self.page.click("#compare")
 
     def test_long_names(self):
         """They are cut where they would stand on each other, and keep their beginnings."""
