@@ -30,8 +30,8 @@
 
   function wordsOfAlert(alert) {
     if (!alert) return "–";
-    const first = alert.first === null ? "" : alert.first === 0 ? " now" : ` ${alert.first} s`;
-    return `${chip(alert.level)}${first}${alert.now && alert.now !== alert.level ? `, ${chip(alert.now)} now` : ""}`;
+    const first = alert.first === null ? "" : alert.first === 0 ? " now" : ` ${alert.first}\u00a0s`;
+    return `${chip(alert.level)}${first}${alert.now && alert.now !== alert.level ? `, ${chip(alert.now)}\u00a0now` : ""}`;
   }
 
   /** The button that chooses an aircraft, or where none is given the ownship. */

@@ -705,7 +705,10 @@ class Layout(PageTest):
         self.assertEqual(self.page.js("return document.querySelectorAll('#aircraft tbody tr').length"), CROWD + 1)
 
     def test_the_panel_and_the_header_are_not_cut(self):
-        """Texts of the panel end within it, also with the configuration open; the panel scrolls where it is longer than the window."""
+        """Texts of the panel end within it, also with the configuration open, of names of eight letters and heights of five digits; the
+        panel scrolls where it is longer than the window."""
+        aircraft = "".join(f"traffic AIRCRF0{i} {x} {y} {alt} 0 -3600 0\n" for i, (x, y, alt) in enumerate(((0, 900, 10050), (100, 20000, 60000), (19000, -20000, -2000))))
+        self.page.open_files(self.page.file("wide.states", f"moment 0\nown 0 0 10000 0 3600 -5000\n{aircraft}end\n"))
         self.page.js("document.querySelectorAll('details').forEach((it) => { it.open = true; })")
         for width, height in SIZES:
             self.page.size(width, height)

@@ -403,7 +403,7 @@ class Used(unittest.TestCase):
             await settle();
             return [first, read()];""")
         rows = [["".join(cell.itertext()) for cell in row] for row in xml_of(first[0])]
-        self.assertEqual(rows, [["ownship", "0° · 360 kt · 10000 ft"], ["AMBER", "2 43 s", "8.54", "021", "0"], ["BRAVO", "0", "1.24", "256", "+600"]])
+        self.assertEqual(rows, [["ownship", "0° · 360 kt · 10000 ft"], ["AMBER", "2 43\u00a0s", "8.54", "021", "0"], ["BRAVO", "0", "1.24", "256", "+600"]])
         self.assertEqual(["".join(row[1].itertext()) for row in xml_of(fifth[0])][1:], ["3 now", "0"])
         self.assertEqual((first[2:], fifth[2:]), (["0 s · 1 of 19", "0 seconds, moment 1 of 19"], ["50 s · 6 of 19", "50 seconds, moment 6 of 19"]))
         level = re.compile(r"(?:now \S+|alert \S+|(?:track|gs|vs|alt) \S+ \S+) ([1-4])\b")
