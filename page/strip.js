@@ -56,7 +56,7 @@
     const wide = width - MARGIN.left - MARGIN.right;
     const top = rows * ROW + 6;
     const foot = Math.round(moments[0].own.trk / 90) * 90 - FULL_TURN / 2; // the ownship's first track is in the middle
-    return { foot, width, height, first, last, top, tall: height - MARGIN.bottom - top,
+    return { foot, width, height, first, last, step: last - moments[moments.length - 1].time, top, tall: height - MARGIN.bottom - top,
       ids: ids.filter((id) => shown.includes(id)), hidden: loud.length - shown.length,
       x: (time) => MARGIN.left + ((time - first) / (last - first)) * wide, time: (x) => first + ((x - MARGIN.left) / wide) * (last - first) };
   }
@@ -125,14 +125,14 @@
       Object.assign(svg, { daaKey: key, daaMoments: moments, daaNotes: notes, daaG: geometryOf(width, height, moments, notes, ids) });
       svg.setAttribute("viewBox", `0 0 ${width} ${height}`);
       svg.innerHTML = `${whole(svg.daaG, moments, notes, step)}<path class="now" fill="none" stroke="var(--focus)" stroke-width="1.5"/>`;
+      const most = notes.reduce((level, note) => Math.max(level, ...note.levels.values()), 0);
+      svg.setAttribute("aria-label", `Alert levels and track bands over time: ${moments.length} moments, the greatest alert level is ${most}`);
     }
     const g = svg.daaG;
     const next = index + 1 < moments.length ? moments[index + 1].time : g.last;
     const x = g.x(moments[index].time);
-    const wide = Math.max(Math.min(g.x(next), g.x(moments[index].time + 4 * medianStep(moments))) - x, 3);
+    const wide = Math.max(Math.min(g.x(next), g.x(moments[index].time + 4 * g.step)) - x, 3);
     svg.querySelector(".now").setAttribute("d", box(x - 0.5, 1, wide + 1, g.top + g.tall - 1));
-    const most = notes.reduce((level, note) => Math.max(level, ...note.levels.values()), 0);
-    svg.setAttribute("aria-label", `Alert levels and track bands over time: ${moments.length} moments, the greatest alert level is ${most}`);
   }
 
   /** The index of the moment that a point of the strip belongs to. */

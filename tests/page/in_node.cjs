@@ -136,7 +136,7 @@ const TASKS = {
   },
 
   /** The strip of an encounter, of 1000 times 150 points: where it has what, its text, its text where all aircraft have level 1, and
-   *  that where so many moments are decided. */
+   *  that where so many moments are decided; the marks of the moments, and how it is told. */
   over_time(engine, toml, states, decided = 0) {
     const { svg } = runDrawing();
     const config = engine.read(bytesOf(toml));
@@ -148,8 +148,14 @@ const TASKS = {
       daa.drawStrip(svg, { width: 1000, height: 150 }, { moments, notes: some, ids, index: 0, step: config.grids.track.step });
       return svg.innerHTML;
     });
-    daa.drawStrip(svg, { width: 1000, height: 150 }, { moments, notes, ids, index: 0, step: config.grids.track.step });
-    return { g: svg.daaG, texts };
+    const draw = (index) => daa.drawStrip(svg, { width: 1000, height: 150 }, { moments, notes, ids, index, step: config.grids.track.step });
+    draw(0);
+    notes.forEach((note) => { note.levels.values = null; }); // for another moment of the same ones no level is looked at again
+    const now = moments.map((_, index) => {
+      draw(index);
+      return svg.parts[".now"].attributes.d;
+    });
+    return { g: svg.daaG, texts, now, label: svg.attributes["aria-label"] };
   },
 
   /** Calls the engine with places out of its memory, and then on a moment: what the first call throws, and the report. */

@@ -351,6 +351,16 @@ class Drawn(unittest.TestCase):
         ends = {round(left + wide, 1) for left, _, wide, _ in boxes}
         self.assertEqual(ends, {round(x(time), 1) for time in (10, 20, 60, 190)})
 
+    def test_the_strip_marks_the_moment(self):
+        """From each to the next, and before a gap four times as long as from one to the next."""
+        states = "".join(text for text, moment in moments_in(bytes_of(ENCOUNTER)) if moment.time in (0, 10, 20, 180))
+        shown = in_node([["over_time", bytes_of(THREE_LEVELS), states.encode()]])[0]
+        x = lambda time: 78 + time / 190 * (1000 - 88)
+        for mark, (begin, end) in zip(shown["now"], ((0, 10), (10, 20), (20, 60), (180, 190)), strict=True):
+            left, top, wide, tall = numbers_in(mark)[:4]
+            self.assertTrue(abs(left - x(begin)) < 1 and abs(left + wide - x(end)) < 1 and (top, tall) == (1, 133), mark)
+        self.assertEqual(shown["label"], "Alert levels and track bands over time: 4 moments, the greatest alert level is 3")
+
     def test_a_strip_of_other_levels_is_drawn_anew(self):
         one, other, _ = in_node([["over_time", bytes_of(THREE_LEVELS), bytes_of(ENCOUNTER)]])[0]["texts"]
         self.assertNotEqual(one, other)
