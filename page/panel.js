@@ -191,8 +191,9 @@
   /** It is never older than the display; while something is held, a screen reader waits with it. */
   function paintSummary() {
     const said = saidOf(state.views[0]);
+    const under = state.compare ? `Under ${state.views[0].name}: ` : ""; // as the table and the strip, it is the first display's alone
     $("summary").setAttribute("aria-busy", String(Boolean(state.held)));
-    setText($("summary"), said ? summaryOf(said) : faultOf(state.views[0]));
+    setText($("summary"), under + (said ? summaryOf(said) : faultOf(state.views[0])));
   }
 
   function summaryOf(said) {

@@ -464,6 +464,14 @@ class Used(unittest.TestCase):
         self.assertEqual(told, "Alerts: AMBER level 3 now. Clear again: track 35° after 11 s; vertical speed 4600 ft/min after 11 s; "
                          "altitude 10500 ft after 14 s. Nothing open: ground speed.")
 
+    def test_the_sentence_beside_two_displays_names_its_own(self):
+        alone, beside = on_page("""
+            const alone = $("summary").textContent;
+            await fire($("compare"), "change", { target: { checked: true } });
+            await settle();
+            return [alone, $("summary").textContent];""")
+        self.assertEqual(beside, f"Under three_levels: {alone}")
+
     def test_the_sentence_is_that_of_what_is_held(self):
         """And of no older moment; a screen reader is told of it when it is let go."""
         found = on_page("""
