@@ -1,5 +1,6 @@
 /* The strip over time: of each aircraft its alert level as bars, and the bands of tracks with the ownship's track and the open
- * ones, drawn as one path for each level. A column that stands for several moments shows the greatest level of each. */
+ * ones, drawn as one path for each level. A column that stands for several moments shows the greatest level of each, and as open
+ * what is open in all of them. */
 "use strict";
 (function (root) {
   const MARGIN = { left: 78, right: 10, bottom: 16 };
@@ -92,7 +93,7 @@
       }
       const [note] = column.notes;
       own += box(x, y(note.trk) - 1, wide, 2);
-      for (const to of note.open) open += box(x + wide / 2 - 2, y(to) - 2, 4, 4);
+      for (const to of note.open.filter((it) => column.notes.every((other) => other.open.includes(it)))) open += box(x + wide / 2 - 2, y(to) - 2, 4, 4);
     }
     return frame(g, known) + paths.map((d, level) => (d ? `<path d="${d}" fill="${daa.paint(level)}" data-level="${level}"/>` : "")).join("")
       + `<path d="${own}" fill="var(--own)"/><path d="${open}" fill="var(--open)" stroke="var(--ground)" stroke-width=".5"/>`;

@@ -101,18 +101,20 @@ const TASKS = {
     }));
   },
 
-  /** How many boxes of each level the strip has, of moments a second apart: in each an aircraft and all tracks have the level. */
+  /** How many boxes of each level the strip has, of moments a second apart: in each an aircraft and all tracks have the level; where
+   *  it is 0, the track of 90 degrees is open. Last are the boxes of open tracks. */
   strip(engine, levels) {
     Object.assign(daa, { clamp: (value, low, high) => Math.min(Math.max(value, low), high), wrap: (degrees) => (degrees + 360) % 360,
       paint: String, escape: String });
     run("strip");
     const moments = levels.map((_, time) => ({ time, own: { trk: 0 } }));
-    const notes = moments.map((moment, i) => daa.noteOf(moment, { aircraft: [{ id: "A", level: levels[i] }], resolve: { track: {} },
+    const notes = moments.map((moment, i) => daa.noteOf(moment, { aircraft: [{ id: "A", level: levels[i] }], resolve: { track: levels[i] ? {} : { upper: 90 } },
       bands: { track: [{ from: 0, upto: 270, level: levels[i] }] } }));
     const svg = { setAttribute() {}, querySelector: () => svg };
     daa.drawStrip(svg, { width: 1000, height: 150 }, { moments, notes, ids: ["A"], index: 0, step: 90 });
     const found = [...svg.innerHTML.matchAll(/<path d="([^"]*)"[^>]* data-level="(\d)"/g)];
-    return Object.fromEntries(found.map(([, boxes, level]) => [level, boxes.split("M").length - 1]));
+    const open = /<path d="([^"]*)" fill="var\(--open\)"/.exec(svg.innerHTML)[1];
+    return [Object.fromEntries(found.map(([, boxes, level]) => [level, boxes.split("M").length - 1])), open.split("M").length - 1];
   },
 
   /** A display of a moment, of 1600 times 800 points, with a report: where its compass and tapes are, the text of each layer, each handle,

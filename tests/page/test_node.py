@@ -107,11 +107,15 @@ class Module(unittest.TestCase):
     def test_a_column_of_the_strip_has_the_greatest_level(self):
         """Of 601 moments two share a column, and the last has one of its own: 5 boxes of tracks, one of them in two parts; 2 of it."""
         for levels in ([3, 0] * 300 + [3], [0, 3] * 300 + [3], [3, 2] * 300 + [3]):
-            self.assertEqual(in_node([["strip", levels]])[0], {"3": 300 * (1 + 5) + 1 + 2})
+            self.assertEqual(in_node([["strip", levels]])[0], [{"3": 300 * (1 + 5) + 1 + 2}, 0])
+
+    def test_a_column_of_the_strip_has_as_open_what_is_open_in_all(self):
+        """Of 602 moments two share a column; in the first column both are open, in the second and the third one is."""
+        self.assertEqual(in_node([["strip", [0, 0, 0, 3, 3, 0] + [3] * 596]])[0][1], 1)
 
     def test_200000_moments_have_a_strip(self):
         """Of 334 moments a column, the first of which alone has a level: a box, and its tracks, one of them in two parts."""
-        self.assertEqual(in_node([["strip", [3] + [0] * 199999]])[0], {"3": 1 + 5})
+        self.assertEqual(in_node([["strip", [3] + [0] * 199999]])[0], [{"3": 1 + 5}, 200000 // 334])
 
 
 # What is drawn.
