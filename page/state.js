@@ -196,6 +196,7 @@
     const lines = refused.slice(0, MOST_NOTES).map((it) => `line ${it.refused} was refused with code ${it.code}`);
     if (refused.length > MOST_NOTES) lines.push(`${refused.length - MOST_NOTES} more were refused before this moment`);
     setText($("notes"), [...state.told, ...lines].join("; "));
+    $("notes").className = lines.length ? "problem" : "quiet"; // the moment may lack an aircraft
     const fault = shownViews().filter(isAnswered).map((view) => view.fault).find(Boolean);
     const kept = shownViews().filter((view) => view.refusal).map((view) => `a configuration is refused, and ${view.name} is shown in its place`);
     setText($("fault"), [state.untaken, ...kept, fault].filter(Boolean).join("; "));

@@ -916,7 +916,13 @@ class Used(unittest.TestCase):
 
     def test_many_refused_lines_are_counted(self):
         """And leave room for the aircraft."""
-        told = on_page(OPEN + 'await open(["many.states", given[0]]); return $("notes").textContent;', "nothing\n" * 1000 + text_of(ENCOUNTER))
+        told, *styles = on_page(OPEN + """
+            await open(["many.states", given[0]]);
+            const found = [$("notes").textContent, $("notes").className];
+            await fire($("forward"), "click");
+            await settle();
+            return [...found, $("notes").className];""", "nothing\n" * 1000 + text_of(ENCOUNTER))
+        self.assertEqual(styles, ["problem", "quiet"])
         self.assertEqual(told, "many.states: 1000 lines were refused; " + "".join(f"line {line} was refused with code 2; " for line in range(1, 6))
                          + "995 more were refused before this moment")
 
