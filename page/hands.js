@@ -77,6 +77,9 @@
     const view = () => state.views[Number(figure.dataset.view)];
     figure.querySelector("figcaption").addEventListener("click", ({ target }) => act(target.dataset.do, view(), figure));
     svg.addEventListener("pointerdown", (event) => hold(svg, event));
+    svg.addEventListener("touchstart", (event) => { // a finger scrolls the page, but not where it holds something
+      if (event.target.closest(".handle")) event.preventDefault();
+    }, { passive: false });
     svg.addEventListener("pointermove", (event) => {
       if (!isHolding(event)) return;
       const { off, key } = state.held;

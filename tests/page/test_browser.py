@@ -11,7 +11,7 @@ import unittest
 import xml.etree.ElementTree
 import zlib
 
-from browser import ActionChains, By, HAS_BROWSER, HOW, Keys, browser
+from browser import ActionChains, By, HAS_BROWSER, HOW, IN_FIREFOX, Keys, browser
 from shared import (DISPLAYED_SECONDS, ENCOUNTER, EXAMPLES, RECOVERY, THREE_LEVELS, TOP, Page, answers_of, bands_of, bytes_of, levels_of, moments_of,
                     moments_in, places_of, replayed, text_of, tool)
 
@@ -229,6 +229,22 @@ class Moved(PageTest):
         self.page.step_to(1)
         self.page.step_to(0)
         self.assertEqual(self.page.report(), before)
+
+    @unittest.skipIf(IN_FIREFOX, "a finger is Chromium's alone")
+    def test_a_finger_moves_an_aircraft_and_scrolls_elsewhere(self):
+        self.page.size(390, 844)
+        self.page.settle()
+        before = self.page.states()
+        self.page.swipe(60, 700, 0, -200)
+        self.page.wait("scrollY > 50")
+        self.assertEqual(self.page.states(), before)
+        x, y = self.page.js("scrollTo(0, 100); const m = arguments[0].getScreenCTM(); return [m.e, m.f]", self.page.handle("p:AMBER"))
+        self.page.swipe(x, y, -20, 40)
+        radius, range_nm = self.page.js("return [daa.page.views[0].drawn.g.radius, daa.page.views[0].look.range]")
+        moved = tuple(map(int, re.search(r"traffic AMBER (-?\d+) (-?\d+)", self.page.states()).groups()))
+        right = tuple(start + offset / radius * range_nm * 1000 for start, offset in ((3000, -20), (8000, -40)))
+        self.assertTrue(all(abs(a - b) <= 150 for a, b in zip(moved, right)), (moved, right))
+        self.assertEqual(self.page.js("return scrollY"), 100)
 
     def test_keys_count_after_a_drag_and_after_a_click(self):
         """Whatever of the display has the focus then."""
