@@ -1,5 +1,6 @@
 """The engine's module and the page's readers in node, against the program and the tools, byte for byte."""
 import base64
+import colorsys
 import json
 import math
 import os
@@ -185,11 +186,15 @@ class Drawn(unittest.TestCase):
         return begin, turn, path.get("fill")
 
     def check_ring(self, moment):
-        """The paint at each candidate, the answers' marks with their words, and the letters of the compass."""
+        """The paint at each candidate, the numbers of levels, the answers' marks with their words, and the letters of the compass."""
         wanted = candidates_of(moment, "track")
         sectors = [self.sector(it) for it in self.layers["ring"].iter("path") if it.get("data-level")]
         paints = {track: [paint for begin, turn, paint in sectors if (track - begin) % 360 <= turn] for track in wanted}
         self.assertEqual(paints, {track: [f"url(#level{level})" if level else "var(--l0-fill)"] for track, level in wanted.items()})
+        numbers = self.texts("ring", "level")
+        self.assertTrue(numbers or not any(wanted.values()))
+        for level, x, y in numbers:
+            self.assertEqual([paint for begin, turn, paint in sectors if (self.bearing(x, y) - begin) % 360 <= turn], [f"url(#level{level})"])
         answers, recovery = values_of(moment, "resolve", "track"), values_of(moment, "recover", "track")
         self.assert_bearings(self.marks("ring", "fill", "open"), answers)
         self.assert_bearings([(x, y + 8) for x, y in self.marks("ring", "stroke", "recover")], recovery)
@@ -201,8 +206,9 @@ class Drawn(unittest.TestCase):
         self.assert_bearings([at for _, *at in letters], range(0, 360, 30))
 
     def check_tapes(self, moment, own):
-        """By each tape's own numbers: the paint at each candidate, the ownship's pointer, and the answers' marks with their words."""
-        for kind in ("gs", "vs", "alt"):
+        """By each tape's own numbers: the paint at each candidate, the numbers of levels, the ownship's pointer, and the answers' marks with
+        their words; between two bands nothing is left free."""
+        for kind, title in (("gs", "GS kt"), ("vs", "VS ft/min"), ("alt", "ALT ft")):
             tape, each = self.g["tapes"][kind], 10 if kind == "gs" else 1
             labels = [(int(text) * each, y + 0.36) for text, x, y in self.texts("tapes", "small", "end") if abs(x - tape["x"] + 9) < 1]
             (low, at_low), (high, at_high) = labels[0], labels[-1]
@@ -215,6 +221,13 @@ class Drawn(unittest.TestCase):
             self.assertGreater(len(wanted), 10)
             paints = {value: [paint for top, tall, paint in bands if top <= y(value) <= top + tall] for value in wanted}
             self.assertEqual(paints, {value: [f"url(#level{level})" if level else "var(--l0-fill)"] for value, level in wanted.items()}, kind)
+            lowest_first = sorted(bands, reverse=True)
+            for (top, *_), (above, tall, _) in zip(lowest_first, lowest_first[1:]):
+                self.assertLess(abs(above + tall - top), 2.1, kind)
+            for level, x, at in self.texts("tapes", "level"):
+                if abs(x - tape["x"] - tape["band"] / 2) < 1:
+                    self.assertEqual([paint for top, tall, paint in bands if top <= at <= top + tall], [f"url(#level{level})"], kind)
+            self.assertEqual([text for text, x, _ in self.texts("tapes", "small", "mid") if abs(x - tape["left"] - tape["width"] / 2) < 1], [title])
             right, answers, recovery = tape["x"] + tape["band"], values_of(moment, "resolve", kind), values_of(moment, "recover", kind)
             marks = [at for x, at in self.marks("tapes", "fill", "open") if abs(x - right - 2) < 1]
             marks += [at + 8 for x, at in self.marks("tapes", "stroke", "recover") if abs(x - right - 10) < 1]
@@ -269,6 +282,8 @@ class Drawn(unittest.TestCase):
         self.assertEqual([text for text, *_ in names], ["3 NM", "6 NM"])
         for share, (_, x, y) in zip((1 / 3, 2 / 3), names):
             self.assertAlmostEqual(self.radius(x, y), share * self.g["radius"], delta=1)
+        radii = [float(it.get("r")) / self.g["radius"] for it in self.layers["rose"].iter("circle") if it.get("fill") == "none"]
+        self.assertTrue(len(radii) == 2 and abs(radii[0] - 1 / 3) < 0.001 and abs(radii[1] - 2 / 3) < 0.001, radii)
         circle, = self.layers["trails"].iter("circle")
         self.assertEqual((circle.find("title").text, circle.get("stroke")), ("dthr of level 2", "var(--own)"))
         self.assertAlmostEqual(float(circle.get("r")), 0.4 / 9 * self.g["radius"], delta=0.1)
@@ -281,6 +296,14 @@ class Drawn(unittest.TestCase):
         report = moments_of(replayed(THREE_LEVELS, bytes_of(ENCOUNTER)))[0]
         states = f"format 2\nmoment 0\nown 0 0 10000 0 3600 0\n{aircraft}end\n"
         self.show(THREE_LEVELS, states.encode(), re.sub(r"(?m)(^(now|alert) .*\n)+", alerts, report, count=1))
+        for level, told in enumerate(("no alert", "alert level 1 in 7 seconds", "alert level 2 in 14 seconds, level 1 now", "alert level 3 in 21 seconds",
+                                      "alert level 4 in 0 seconds, level 4 now")):
+            handle, colour = self.handles[f"p:A{level}"], f"var(--l{level}-edge)" if level else "var(--ink)"
+            inside = xml_of(handle["inside"])
+            self.assertEqual([it.get("stroke") for it in inside.iter("path") if re.match("M0 0L.*[0-9]$", it.get("d")) and it.get("stroke-width") == "2"], [colour])
+            self.assertEqual([it.get("stroke") for it in xml_of(self.handles[f"v:A{level}"]["inside"]).iter("circle") if it.get("r") == "4.5"], [colour])
+            self.assertEqual([it.get("style") for it in inside.iter("text") if it.text.startswith("L")], [f"fill:{colour};font-weight:bold"] * bool(level))
+            self.assertTrue(handle["aria-valuetext"].endswith(f" hundred feet, {told}"), handle["aria-valuetext"])
         shapes = {"M0 -9l8 9l-8 9l-8 -9z": "open diamond", "M0 -11l10 11l-10 11l-10 -11z": "diamond", "M-10 -10l20 20M10 -10l-20 20": "cross"}
         found = []
         for level in range(5):
@@ -293,6 +316,66 @@ class Drawn(unittest.TestCase):
         self.assertEqual(found, [(["open diamond"], ["A0", "+00"]), (["diamond"], ["1", "A1", "+03↑", "L1 7 s"]),
                                  (["disc", "var(--l1-edge)"], ["2", "A2", "−12↓", "L2 14 s"]), (["square"], ["3", "A3", "+01", "L3 21 s"]),
                                  (["cross", "square", "var(--l4-edge)"], ["4", "A4", "+00↓", "L4 now"])])
+
+    def test_what_a_screen_reader_is_told_of_places_and_velocities(self):
+        """B's report is 15 seconds old: 3.414 NM away now."""
+        self.show(RECOVERY, TURNED, replayed(RECOVERY, TURNED))
+        told = {key: it["aria-valuetext"] for key, it in self.handles.items()}
+        self.assertEqual({key: told[key] for key in ("v:A", "v:B", "v:", "p:", "track", "gs", "vs", "alt")}, {
+            "v:A": "east -90, north -140 knots", "v:B": "east 120, north 30 knots", "v:": "track 40, 300 knots", "p:": "east 0.5, north -0.7 NM",
+            "track": "40 degrees", "gs": "300 kt", "vs": "300 ft/min", "alt": "10000 ft"})
+        self.assertRegex(told["p:B"], "^3.4 NM away, minus 12 sinking hundred feet, ")
+        numbers = {key: float(self.handles[key]["aria-valuenow"]) for key in ("v:B", "v:", "p:B", "track", "gs", "vs", "alt")}
+        self.assertEqual(numbers, {"v:B": 123.7, "v:": 300, "p:B": 3.4, "track": 40, "gs": 300, "vs": 300, "alt": 10000})
+
+    def test_how_far_ahead_velocities_are_drawn(self):
+        """300 knots are 1.25 NM in 15 seconds; the head tells for how many."""
+        for range_nm, seconds in ((1.5, 15), (3, 30), (6, 60), (12, 60)):
+            self.show(RECOVERY, TURNED, replayed(RECOVERY, TURNED), range=range_nm)
+            self.assertAlmostEqual(self.radius(*self.places["v:"]), 300 * seconds / 3600 / range_nm * self.g["radius"], delta=1)
+            self.assertIn(f"north up · {seconds} s ahead", [text for text, *_ in self.texts("head")])
+
+    def test_an_aircraft_out_of_range_stands_at_the_rim(self):
+        """In its direction, 141.4 NM away, small and without a velocity; one just within the range is as all others."""
+        states = "moment 0\nown 0 0 10000 0 3600 0\ntraffic FAR 100000 100000 10000 0 0 0\ntraffic NEAR -11000 0 10000 0 -100 0\nend\n"
+        self.show(THREE_LEVELS, states.encode(), replayed(THREE_LEVELS, states.encode()), chosen="p:FAR")
+        far, near = self.handles["p:FAR"], self.handles["p:NEAR"]
+        self.assert_bearings([self.places["p:FAR"], self.places["p:NEAR"]], [45, 270])
+        self.assertAlmostEqual(self.radius(*self.places["p:FAR"]), self.g["radius"] - 13, delta=1)
+        self.assertAlmostEqual(self.radius(*self.places["p:NEAR"]), 11 / 12 * self.g["radius"], delta=1)
+        self.assertEqual([it.text for it in xml_of(far["inside"]).iter("text")], ["FAR", "+00 141.4 NM"])
+        self.assertEqual(["scale(.8)" in it["inside"] for it in (far, near)], [True, False])
+        self.assertEqual(["v:FAR" in self.handles, "v:NEAR" in self.handles], [False, True])
+
+    def test_a_label_away_from_its_symbol_has_a_leader(self):
+        """Of 16 aircraft close to each other."""
+        rows = "".join(f"traffic AIRCR{i:03} {700 * (i % 4) - 1000} {700 * (i // 4) - 1000} 10000 0 -3600 0\n" for i in range(16))
+        states = f"moment 0\nown 0 -6000 10000 0 3600 0\n{rows}end\n".encode()
+        self.show(THREE_LEVELS, states, replayed(THREE_LEVELS, states))
+        led = []
+        for key, it in self.handles.items():
+            inside = xml_of(it["inside"])
+            words = [text for text in inside.iter("text") if "halo" in text.get("class")]
+            if not key.startswith("p:AIRCR") or not words:
+                continue
+            first, last, font = float(words[0].get("y")), float(words[-1].get("y")), float(words[0].get("font-size"))
+            away = max(first - font, -last, abs(float(words[0].get("x"))))
+            led.append((away > 40, any(path.get("d").startswith("M0 0L") and path.get("stroke-dasharray") for path in inside.iter("path"))))
+        self.assertTrue(all(has for is_away, has in led if is_away) and any(is_away for is_away, _ in led), led)
+
+    def test_a_levels_colour_and_pattern_are_its_own(self):
+        """Yellow with dots, orange with stripes, red with a lattice, purple with bars, as the page and docs/PAGE.md say."""
+        sheet = text_of(os.path.join(Page.folder, "style.css"))
+        hues = [colorsys.rgb_to_hsv(*(int(part, 16) / 255 for part in re.search(rf"--l{level}-fill: #(..)(..)(..);", sheet).groups()))[0] * 360 for level in (1, 2, 3, 4)]
+        for hue, (low, high) in zip(hues, ((45, 65), (25, 40), (0, 15), (290, 320))):
+            self.assertTrue(low <= hue <= high, hues)
+        patterns = list(xml_of(on_page("return daa.patterns();")).iter("pattern"))
+        shapes = ({"circle"}, {"M-2 2l4 -4M0 10L10 0M8 12l4 -4"}, {"M0 0l9 9M9 0l-9 9"}, {"M0 3h9"})
+        for level, (pattern, shape) in enumerate(zip(patterns, shapes, strict=True), 1):
+            ground, mark = pattern
+            self.assertEqual((pattern.get("id"), ground.get("fill")), (f"level{level}", f"var(--l{level}-fill)"))
+            self.assertEqual({mark.get("d") or mark.tag}, shape)
+            self.assertIn(f"var(--l{level}-mark)", (mark.get("fill"), mark.get("stroke")))
 
     def test_a_tape_beyond_its_candidates_is_not_clear(self):
         """Of speeds to 200 knots, for an ownship of 360: above them the tape is as grey as where there is no answer."""
@@ -416,6 +499,9 @@ class Used(unittest.TestCase):
             await fire($("slider"), "input");
             await settle();
             return [first, read()];""")
+        for _, report, *_ in (first, fifth):
+            for it in [*xml_of(report).iter("b"), *(chip for html, *_ in (first, fifth) for chip in xml_of(html).iter("span"))]:
+                self.assertEqual(it.get("class").split()[-1:], [f"l{it.text}"] if it.text else [])
         rows = [["".join(cell.itertext()) for cell in row] for row in xml_of(first[0])]
         self.assertEqual(rows, [["ownship", "0° · 360 kt · 10000 ft"], ["AMBER", "2 43\u00a0s", "8.54", "021", "0"], ["BRAVO", "0", "1.24", "256", "+600"]])
         self.assertEqual(["".join(row[1].itertext()) for row in xml_of(fifth[0])][1:], ["3 now", "0"])
@@ -468,6 +554,18 @@ class Used(unittest.TestCase):
         self.assertEqual(told, "Alerts: AMBER level 3 now. Clear again: track 35° after 11 s; vertical speed 4600 ft/min after 11 s; "
                          "altitude 10500 ft after 14 s. Nothing open: ground speed.")
 
+    def test_the_sentence_of_many_alerts_counts_the_rest(self):
+        """Four are told, those of the greatest levels, the first of them first; how a display is named has the greatest level of all."""
+        rows = "".join(f"traffic A{i} {60 * i} {3000 + 600 * i} 10000 0 -1500 0\n" for i in range(7)) + "traffic LAST 9000 0 30000 0 0 0\n"
+        states = f"moment 0\nown 0 0 10000 0 1500 0\n{rows}end\n"
+        told, label = on_page(OPEN + """await open(["many.states", given[0]]); return [$("summary").textContent, display().getAttribute("aria-label")];""", states)
+        alerts = re.findall(r"(?m)^alert (\S+) ([1-4]) (\d+)$", replayed(THREE_LEVELS, states.encode()))
+        alerts.sort(key=lambda it: (-int(it[1]), int(it[2])))
+        self.assertGreaterEqual(len(alerts), 6)
+        words = [f"{name} level {level} {'now' if first == '0' else f'in {first} s'}" for name, level, first in alerts[:4]]
+        self.assertTrue(told.startswith(f"Alerts: {', '.join(words)}, {len(alerts) - 4} more. "), told)
+        self.assertEqual(label, f"Display under three_levels: 8 aircraft, the greatest alert level is {alerts[0][1]}")
+
     def test_the_sentence_beside_two_displays_names_its_own(self):
         alone, beside = on_page("""
             const alone = $("summary").textContent;
@@ -519,6 +617,17 @@ class Used(unittest.TestCase):
         self.assertEqual(other, {"id": "AMBER", "x": "3", "y": "8", "alt": "10000", "vx": "-135", "vy": "0", "vs": "0", "age": "0"})
         self.assertIn("traffic AMBER 2500 7750 10000 -1205 100 200 3\n", last)
 
+    def test_each_number_has_its_name_and_unit(self):
+        own, other = on_page("""
+            const named = () => [...$("state").innerHTML.matchAll(/<label>([^<]*?) ?<input[^>]*data-field="(\\w+)"/g)].map(([, words, field]) => [field, words]);
+            const own = named();
+            await fire($("aircraft"), "click", { target: { dataset: { choose: "AMBER" } } });
+            await settle();
+            return [own, named()];""")
+        some = [["x", "east NM"], ["y", "north NM"], ["alt", "altitude ft"]]
+        self.assertEqual(own, [*some, ["trk", "track °"], ["gs", "speed kt"], ["vs", "vertical ft/min"]])
+        self.assertEqual(other, [["id", "name"], *some, ["vx", "east kt"], ["vy", "north kt"], ["vs", "vertical ft/min"], ["age", "age s"]])
+
     def test_a_number_beyond_all_is_told(self):
         """And not left as it was some letters ago."""
         for value in ("1e21", "-1e21"):
@@ -552,10 +661,25 @@ class Used(unittest.TestCase):
                  ("v:", "ArrowRight", True, "own 0 0 10000 1 3600 0"), ("track", "ArrowRight", True, "own 0 0 10000 11 3600 0"),
                  ("gs", "ArrowDown", True, "own 0 0 10000 11 3100 0"), ("vs", "ArrowUp", True, "own 0 0 10000 11 3100 1000"),
                  ("alt", "ArrowUp", True, "own 0 0 11000 11 3100 1000"), ("v:AMBER", "ArrowRight", False, "traffic AMBER 3000 9000 11000 -1345 118 0"),
-                 ("v:BRAVO", "ArrowUp", False, "traffic BRAVO -1200 -300 10600 0 3700 -600"))
+                 ("v:BRAVO", "ArrowUp", False, "traffic BRAVO -1200 -300 10600 0 3700 -600"),
+                 ("p:BRAVO", "PageDown", False, "traffic BRAVO -1200 -300 10500 0 3700 -600"))
         found = on_page(f"const found = []; for (const step of given) {{ await press(...step); found.push({STATES}); }} return found;", *(step[:3] for step in steps))
         for (*_, line), states in zip(steps, found, strict=True):
             self.assertIn(line + "\n", states)
+
+    def test_keys_with_the_track_up(self):
+        """An arrow goes where it points on the display: ahead and to the right of a track of 40 degrees."""
+        places = on_page(OPEN + """
+            await open(["turned.states", given[0]]);
+            await fire(caption, "click", { target: { dataset: { do: "up" } } });
+            await settle();
+            const places = [];
+            for (const key of ["ArrowUp", "ArrowRight"]) {
+              await press("p:A", key, true);
+              places.push([page.current.traffic[0].x, page.current.traffic[0].y]);
+            }
+            return places;""", TURNED.decode())
+        self.assertEqual(places, [[4500 + 643, 4000 + 766], [4500 + 643 + 766, 4000 + 766 - 643]])
 
     def named(self, script):
         """What a script returns that types at the chosen aircraft, which is BRAVO."""
@@ -705,6 +829,52 @@ class Used(unittest.TestCase):
             return found;""")
         self.assertEqual(found, [2, False, False, True])
 
+    def test_nothing_of_a_refused_moment_looks_clear(self):
+        """Ring and tapes are grey, and each aircraft has a ? in place of a level; nothing of the moment before is left."""
+        layers, symbols, table, summary, label = on_page("""
+            await fire($("state"), "input", { target: { dataset: { field: "alt", scale: "1" }, value: "70000" } });
+            await settle();
+            const layers = ["ring", "tapes", "answers"].map((name) => display().querySelector(`[data-layer=${name}]`).innerHTML);
+            const symbols = [...display().daa.handles.values()].filter((it) => /^p:./.test(it.dataset.key)).map((it) => [it.innerHTML, it.getAttribute("aria-valuetext")]);
+            return [layers, symbols, $("aircraft").tBodies[0].innerHTML, $("summary").textContent, display().getAttribute("aria-label")];""")
+        ring, tapes, answers = map(xml_of, layers)
+        self.assertEqual([it.get("fill") for it in ring.iter("path") if it.get("fill")], ["var(--unknown)"])
+        self.assertEqual([it.get("fill") for it in tapes.iter("rect")], ["var(--unknown)"] * 3)
+        self.assertEqual(list(answers), [])
+        self.assertEqual(len(symbols), 2)
+        for inside, told in symbols:
+            words = [it.text for it in xml_of(inside).iter("text")]
+            self.assertTrue(words[0] == "?" and told.endswith(", no answer"), (words, told))
+        self.assertEqual(["".join(row[1].itertext()) for row in xml_of(table)][1:], ["–"] * 2)
+        self.assertEqual((summary, label), ("alt of the ownship is not within -2000 and 60000",
+                                            "Display under three_levels: alt of the ownship is not within -2000 and 60000"))
+
+    def test_an_engine_that_stopped_is_told(self):
+        told = on_page("""
+            page.views[0].desk.ask = async () => ({ stopped: "The engine stopped." });
+            await press("p:AMBER", "ArrowUp");
+            return [$("fault").textContent, $("summary").textContent, $("report").innerHTML.includes("data-line")];""")
+        self.assertEqual(told, ["The engine stopped."] * 2 + [False])
+
+    def test_a_stopped_worker_answers_no_later_question(self):
+        """What it had sent before it was stopped comes after the next question was asked."""
+        found = on_page("""
+            const workers = [], found = [];
+            globalThis.Worker = class { constructor() { workers.push(this); } postMessage(it) { (this.asked ??= []).push(it); } terminate() {} };
+            const desk = new daa.Desk(null);
+            workers[0].onmessage({ data: { ready: true } });
+            desk.ask("first").then((answer) => found.push(["first", answer]));
+            await new Promise((done) => setTimeout(done, 300));
+            desk.forget();
+            desk.ask("second").then((answer) => found.push(["second", answer]));
+            workers[1].onmessage({ data: { ready: true } });
+            workers[0].onmessage({ data: { number: workers[0].asked[1].number, answer: "old" } });
+            await frame();
+            workers[1].onmessage({ data: { number: workers[1].asked[1].number, answer: "new" } });
+            await frame();
+            return [found, workers.length];""")
+        self.assertEqual(found, [[["first", None], ["second", "new"]], 2])
+
     def test_playing_goes_to_the_last_moment(self):
         """And begins anew from there."""
         found = on_page("""
@@ -841,6 +1011,25 @@ class Used(unittest.TestCase):
         kept = "a configuration is refused, and {} is shown in its place".format
         self.assertEqual(told, [kept("three_levels"), "", kept("edited"), "", kept("recovery")])
 
+    def test_the_second_configuration_is_edited_and_chosen(self):
+        """And the first one is left."""
+        found = on_page(EDIT + """
+            const found = [], names = () => found.push(page.views.map(({ name, toml }) => [name, toml === given[0]]));
+            names();
+            $("which").value = "1";
+            await fire($("which"), "change");
+            await edit(given[0]);
+            names();
+            await fire($("preset"), "change", { target: { value: "three_levels" } });
+            names();
+            return found;""", "# edited\n" + text_of(RECOVERY))
+        self.assertEqual(found, [[["three_levels", False], [name, name == "edited"]] for name in ("recovery", "edited", "three_levels")])
+
+    def test_an_aircraft_is_added_within_the_range(self):
+        """Northeast of the ownship, level with it, westward at 150 knots."""
+        states = on_page(f'await fire($("add"), "click"); await settle(); return {STATES};')
+        self.assertIn("traffic NEW1 6000 6000 10000 -1500 0 0\n", states)
+
     def test_a_link_holds_the_configuration_that_counts(self):
         """And not what was edited since, and is refused."""
         edited = text_of(THREE_LEVELS).replace("track_step = 5\n", "track_step = 10\n")
@@ -932,6 +1121,14 @@ class Used(unittest.TestCase):
                  ("a.states", text_of(ENCOUNTER)), ("none.daa", "name time\n"))
         hidden = on_page(OPEN + "const hidden = []; for (const it of given) { await open(it); hidden.push($('own-label').hidden); } return hidden;", *files)
         self.assertEqual(hidden, [True, False, False, True, True])
+
+    def test_the_ownship_that_is_chosen_is_named(self):
+        names = on_page(OPEN + """
+            await open(["a.daa", given[0]]);
+            const names = [$("own").value];
+            await fire($("own"), "change", { target: { value: "Intruder1" } });
+            return [...names, $("own").value];""", text_of(os.path.join(EXAMPLES, "recording.daa")))
+        self.assertEqual(names, ["Ownship", "Intruder1"])
 
     def test_files_that_are_dropped_and_the_one_that_is_saved(self):
         """A configuration counts for states that come before it; it is saved as it was edited."""
