@@ -463,7 +463,8 @@ class Loaded(PageTest):
         self.assertEqual(replayed(THREE_LEVELS, self.page.downloaded(".states")), self.page.report())
 
     def test_pictures(self):
-        """The picture of lines names each band, has no colour that only the page knows, and stands alone; that of points is no blank."""
+        """The picture of lines names each band, has no colour that only the page knows, and stands alone; that of points is no blank. The
+        second display has its own."""
         self.page.step_to(4)
         self.page.click("figure[data-view='0'] [data-do=svg]")
         text = self.page.downloaded(".svg").decode()
@@ -477,6 +478,11 @@ class Loaded(PageTest):
         self.page.click("figure[data-view='0'] [data-do=png]")
         points = self.page.downloaded(".png")
         self.assertTrue(points.startswith(b"\x89PNG") and len(points) > 40000, len(points))
+        self.page.click("#compare")
+        self.page.click("figure[data-view='1'] [data-do=svg]")
+        text = self.page.downloaded(".svg").decode()
+        self.assertIn(">recovery</text>", text)
+        self.assertIn("clear after ", text)
 
 
 def in_three_tries(test):
