@@ -57,8 +57,8 @@
     const { own } = state.current;
     const point = pointIn(svg, event);
     const [, x, y] = /translate\((\S+) (\S+)\)/.exec(handle.getAttribute("transform"));
-    state.held = { key, pointer: event.pointerId, from: point, middle: { x: own.x, y: own.y }, trk: own.trk, own: { gs: own.gs, vs: own.vs, alt: own.alt },
-      off: { x: Number(x) - point.x, y: Number(y) - point.y } };
+    state.held = { key, pointer: event.pointerId, from: point, middle: { x: own.x, y: own.y }, trk: own.trk,
+      own: { gs: own.gs, vs: own.vs, alt: own.alt }, off: { x: Number(x) - point.x, y: Number(y) - point.y } };
     svg.setPointerCapture(event.pointerId);
     handle.focus({ preventScroll: true });
     choose(key);

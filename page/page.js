@@ -172,7 +172,8 @@
 
   function linked() {
     const configs = state.views.map(({ name, taken }) => ({ name, toml: taken }));
-    return { states: daa.stateLines([state.current]), name: modelOf(state.views[0]).note, configs, look: state.views.map(({ look }) => look), compare: state.compare };
+    const { note: name } = modelOf(state.views[0]); // of a moment that was changed by hand no name of a recording
+    return { states: daa.stateLines([state.current]), name, configs, look: state.views.map(({ look }) => look), compare: state.compare };
   }
 
   /** Whether a link's value has the form of what `linked` makes. */

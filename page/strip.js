@@ -93,7 +93,8 @@
       }
       const [note] = column.notes;
       own += box(x, y(note.trk) - 1, wide, 2);
-      for (const to of note.open.filter((it) => column.notes.every((other) => other.open.includes(it)))) open += box(x + wide / 2 - 2, y(to) - 2, 4, 4);
+      const always = note.open.filter((to) => column.notes.every((other) => other.open.includes(to)));
+      for (const to of always) open += box(x + wide / 2 - 2, y(to) - 2, 4, 4);
     }
     return frame(g, known) + paths.map((d, level) => (d ? `<path d="${d}" fill="${daa.paint(level)}" data-level="${level}"/>` : "")).join("")
       + `<path d="${own}" fill="var(--own)"/><path d="${open}" fill="var(--open)" stroke="var(--ground)" stroke-width=".5"/>`;

@@ -303,6 +303,9 @@ class Drawn(unittest.TestCase):
             self.assertEqual([it.get("stroke") for it in inside.iter("path") if re.match("M0 0L.*[0-9]$", it.get("d")) and it.get("stroke-width") == "2"], [colour])
             self.assertEqual([it.get("stroke") for it in xml_of(self.handles[f"v:A{level}"]["inside"]).iter("circle") if it.get("r") == "4.5"], [colour])
             self.assertEqual([it.get("style") for it in inside.iter("text") if it.text.startswith("L")], [f"fill:{colour};font-weight:bold"] * bool(level))
+            fills = [it.get("fill") for it in inside.iter() if it.get("stroke") == "var(--rim)" and it.get("fill")]
+            self.assertEqual(fills, [f"var(--l{level}-fill)"] * bool(level))
+            self.assertEqual([it.get("style") for it in inside.iter("text") if it.get("class") == "level mid"], [f"fill:var(--l{level}-ink)"] * bool(level))
             self.assertTrue(handle["aria-valuetext"].endswith(f" hundred feet, {told}"), handle["aria-valuetext"])
         shapes = {"M0 -9l8 9l-8 9l-8 -9z": "open diamond", "M0 -11l10 11l-10 11l-10 -11z": "diamond", "M-10 -10l20 20M10 -10l-20 20": "cross"}
         found = []
@@ -337,11 +340,13 @@ class Drawn(unittest.TestCase):
 
     def test_an_aircraft_out_of_range_stands_at_the_rim(self):
         """In its direction, 141.4 NM away, small and without a velocity; one just within the range is as all others."""
-        states = "moment 0\nown 0 0 10000 0 3600 0\ntraffic FAR 100000 100000 10000 0 0 0\ntraffic NEAR -11000 0 10000 0 -100 0\nend\n"
+        states = "moment 0\nown 0 0 10000 0 3600 0\ntraffic FAR 100000 100000 10000 0 0 0\ntraffic NEAR -11000 0 10000 0 -100 0\n" \
+                 "traffic OFF 10000 -10000 10000 0 0 0\nend\n"
         self.show(THREE_LEVELS, states.encode(), replayed(THREE_LEVELS, states.encode()), chosen="p:FAR")
         far, near = self.handles["p:FAR"], self.handles["p:NEAR"]
-        self.assert_bearings([self.places["p:FAR"], self.places["p:NEAR"]], [45, 270])
-        self.assertAlmostEqual(self.radius(*self.places["p:FAR"]), self.g["radius"] - 13, delta=1)
+        self.assert_bearings([self.places[f"p:{name}"] for name in ("FAR", "NEAR", "OFF")], [45, 270, 135])
+        for name in ("FAR", "OFF"):
+            self.assertAlmostEqual(self.radius(*self.places[f"p:{name}"]), self.g["radius"] - 13, delta=1)
         self.assertAlmostEqual(self.radius(*self.places["p:NEAR"]), 11 / 12 * self.g["radius"], delta=1)
         self.assertEqual([it.text for it in xml_of(far["inside"]).iter("text")], ["FAR", "+00 141.4 NM"])
         self.assertEqual(["scale(.8)" in it["inside"] for it in (far, near)], [True, False])
@@ -369,6 +374,8 @@ class Drawn(unittest.TestCase):
         hues = [colorsys.rgb_to_hsv(*(int(part, 16) / 255 for part in re.search(rf"--l{level}-fill: #(..)(..)(..);", sheet).groups()))[0] * 360 for level in (1, 2, 3, 4)]
         for hue, (low, high) in zip(hues, ((45, 65), (25, 40), (0, 15), (290, 320))):
             self.assertTrue(low <= hue <= high, hues)
+        for level in (1, 2, 3, 4):
+            self.assertIn(f".l{level} {{ background: var(--l{level}-fill); color: var(--l{level}-ink); }}", sheet)
         patterns = list(xml_of(on_page("return daa.patterns();")).iter("pattern"))
         shapes = ({"circle"}, {"M-2 2l4 -4M0 10L10 0M8 12l4 -4"}, {"M0 0l9 9M9 0l-9 9"}, {"M0 3h9"})
         for level, (pattern, shape) in enumerate(zip(patterns, shapes, strict=True), 1):
@@ -725,7 +732,7 @@ class Used(unittest.TestCase):
     def test_what_is_held_goes_with_the_pointer(self):
         """North up and with the track up: a handle stands where it is let go, but for whole numbers; the track bug at the pointer's
         bearing, a tape's pointer at its height."""
-        moves = (("p:A", -30, 25), ("v:A", 20, -15), ("p:", 15, -25), ("v:", 25, 30), ("track", 60, 40), ("gs", 0, 40), ("vs", 0, -50), ("alt", 0, 40))
+        moves = (("p:A", -30, 25), ("v:A", 20, -15), ("p:B", 25, -30), ("v:B", -15, -20), ("p:", 15, -25), ("v:", 25, 30), ("track", 60, 40), ("gs", 0, 40), ("vs", 0, -50), ("alt", 0, 40))
         centre, *found = on_page("""
             const file = { name: "turned.states", arrayBuffer: async () => daa.bytesOf(given[0]).buffer };
             await fire(screen, "drop", { dataTransfer: { files: [file] } });
@@ -830,13 +837,18 @@ class Used(unittest.TestCase):
         self.assertEqual(found, [2, False, False, True])
 
     def test_nothing_of_a_refused_moment_looks_clear(self):
-        """Ring and tapes are grey, and each aircraft has a ? in place of a level; nothing of the moment before is left."""
-        layers, symbols, table, summary, label = on_page("""
+        """Ring and tapes are grey, and each aircraft has a ? in place of a level; nothing of the moment before is left, and nothing
+        of it after it."""
+        layers, symbols, table, summary, label, fault = on_page("""
             await fire($("state"), "input", { target: { dataset: { field: "alt", scale: "1" }, value: "70000" } });
             await settle();
             const layers = ["ring", "tapes", "answers"].map((name) => display().querySelector(`[data-layer=${name}]`).innerHTML);
             const symbols = [...display().daa.handles.values()].filter((it) => /^p:./.test(it.dataset.key)).map((it) => [it.innerHTML, it.getAttribute("aria-valuetext")]);
-            return [layers, symbols, $("aircraft").tBodies[0].innerHTML, $("summary").textContent, display().getAttribute("aria-label")];""")
+            const answer = [layers, symbols, $("aircraft").tBodies[0].innerHTML, $("summary").textContent, display().getAttribute("aria-label")];
+            await fire($("restore"), "click");
+            await settle();
+            return [...answer, $("fault").textContent];""")
+        self.assertEqual(fault, "")
         ring, tapes, answers = map(xml_of, layers)
         self.assertEqual([it.get("fill") for it in ring.iter("path") if it.get("fill")], ["var(--unknown)"])
         self.assertEqual([it.get("fill") for it in tapes.iter("rect")], ["var(--unknown)"] * 3)
@@ -909,6 +921,21 @@ class Used(unittest.TestCase):
             return found;""", states)
         for loud, quiet, _ in (found[place:place + 3] for place in range(0, 12, 3)):
             self.assertEqual((loud, quiet), (["p:QUIET", "p:LOUD"], ["p:LOUD", "p:QUIET"]))
+
+    def test_the_buttons_step_by_one_and_stop_at_the_ends(self):
+        found = on_page("""
+            const found = [];
+            for (const [button, times] of [["forward", 3], ["back", 1], ["back", 3], ["forward", 30]]) {
+              for (let time = 0; time < times; time++) await fire($(button), "click");
+              found.push(page.index);
+            }
+            return found;""")
+        self.assertEqual(found, [3, 2, 0, 18])
+
+    def test_each_speed_is_what_it_says(self):
+        options = re.findall(r'<option\s+value="(\d+)"[^>]*>×(\d+)</option>', text_of(os.path.join(Page.folder, "index.html")))
+        self.assertEqual([value for value, _ in options], [words for _, words in options])
+        self.assertEqual(len(options), 4)
 
     def test_the_range_that_fits(self):
         """It has the traffic of the encounter in it: both aircraft, at most 8.54 NM away; 9 NM would leave AMBER at the rim."""
@@ -1105,13 +1132,15 @@ class Used(unittest.TestCase):
 
     def test_many_refused_lines_are_counted(self):
         """And leave room for the aircraft."""
-        told, *styles = on_page(OPEN + """
+        told, *styles, after = on_page(OPEN + """
             await open(["many.states", given[0]]);
             const found = [$("notes").textContent, $("notes").className];
             await fire($("forward"), "click");
             await settle();
-            return [...found, $("notes").className];""", "nothing\n" * 1000 + text_of(ENCOUNTER))
-        self.assertEqual(styles, ["problem", "quiet"])
+            found.push($("notes").className);
+            await open(["none.states", given[1]]);
+            return [...found, $("notes").textContent];""", "nothing\n" * 1000 + text_of(ENCOUNTER), text_of(ENCOUNTER))
+        self.assertEqual((styles, after), (["problem", "quiet"], ""))
         self.assertEqual(told, "many.states: 1000 lines were refused; " + "".join(f"line {line} was refused with code 2; " for line in range(1, 6))
                          + "995 more were refused before this moment")
 
