@@ -561,6 +561,20 @@ class Used(unittest.TestCase):
         self.assertEqual(told, "Alerts: AMBER level 3 now. Clear again: track 35° after 11 s; vertical speed 4600 ft/min after 11 s; "
                          "altitude 10500 ft after 14 s. Nothing open: ground speed.")
 
+    def test_the_sentence_names_each_side(self):
+        """Of the encounter's first moment, and of the same in a mirror."""
+        text = moments_in(bytes_of(ENCOUNTER))[0][0]
+        found = on_page(OPEN + """
+            const found = [];
+            for (const text of given) {
+              await open(["a.states", text]);
+              found.push($("summary").textContent);
+            }
+            return found;""", text, text.replace("AMBER 3000 8000 10000 -1350", "AMBER -3000 8000 10000 1350").replace("BRAVO -1200", "BRAVO 1200"))
+        for told, side in zip(found, ("right to 10°", "left to 350°")):
+            self.assertEqual(told, f"Alerts: AMBER level 2 in 43 s. Open: track {side}; ground speed down to 260 kt; vertical speed down to -700 ft/min "
+                             "or up to 700 ft/min; altitude down to 9500 ft or up to 10500 ft.")
+
     def test_the_sentence_of_many_alerts_counts_the_rest(self):
         """Four are told, those of the greatest levels, the first of them first; how a display is named has the greatest level of all."""
         rows = "".join(f"traffic A{i} {60 * i} {3000 + 600 * i} 10000 0 -1500 0\n" for i in range(7)) + "traffic LAST 9000 0 30000 0 0 0\n"
