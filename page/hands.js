@@ -123,7 +123,7 @@
       remove(traffic.indexOf(one));
       return true;
     }
-    if (!right && !up && !high) return false;
+    if (!one || !right && !up && !high) return false; // it may have been removed since it was drawn
     if (high) one.alt = within(one.alt + high * (more ? 1000 : 100), "alt");
     else if (what === "p") pushPlace(one, right, up, more ? 1000 : 100, lookOf(view));
     else if (what === "v") turn(one, right * (more ? 1 : 5), up * 100);

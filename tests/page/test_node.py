@@ -702,6 +702,15 @@ class Used(unittest.TestCase):
             return places;""", TURNED.decode())
         self.assertEqual(places, [[4500 + 643, 4000 + 766], [4500 + 643 + 766, 4000 + 766 - 643]])
 
+    def test_keys_at_what_was_just_removed(self):
+        """They come before it is gone from the display, and move nothing."""
+        states = on_page(f"""
+            const gone = handle("p:AMBER");
+            for (const key of ["Delete", "Delete", "ArrowUp", "PageUp"]) fire(display(), "keydown", {{ target: gone, key }});
+            await settle();
+            return {STATES};""")
+        self.assertEqual(re.findall("(?m)^(?:traffic|own) .*$", states), ["own 0 0 10000 0 3600 0", "traffic BRAVO -1200 -300 10600 0 3600 -600"])
+
     def named(self, script):
         """What a script returns that types at the chosen aircraft, which is BRAVO."""
         return on_page("""
