@@ -776,6 +776,14 @@ class Everyone(PageTest):
                 self.assertGreaterEqual(contrast, 3.5 if ink.endswith("-ink") else 4.5, (scheme, ink, ground))
             self.page.shot(f"ground_{scheme}")
 
+    def test_letters_grow_with_those_that_the_browser_is_set_to(self):
+        """All of the panel, the bar and the header, by one half."""
+        sizes = """return ["#summary", "#aircraft td", "#report", "#toml", "#clock", "header label", "#state input", "#add"].map(
+            (it) => parseFloat(getComputedStyle(document.querySelector(it)).fontSize))"""
+        before = self.page.js(sizes)
+        self.page.js("document.documentElement.style.fontSize = '150%'")
+        self.assertEqual(self.page.js(sizes), [round(1.5 * size, 3) for size in before])
+
     def test_the_ground_is_chosen(self):
         ground = "return getComputedStyle(document.body).backgroundColor"
         self.page.select("#theme", "dark")
