@@ -842,22 +842,26 @@ class Used(unittest.TestCase):
         self.assertEqual(found, [12, 18, 12])
 
     def test_a_late_answer_to_an_older_moment_is_not_shown(self):
-        """The answers to two changes come one after the other, and nothing is shown before the second."""
+        """The answers to two changes come one after the other, and nothing is shown before the second: no band, no mark, no level in a symbol
+        or in the table, no line of the report, and no sentence."""
         found = on_page("""
-            const [view] = page.views, answers = [], bands = () => display().querySelector("[data-layer=ring]").innerHTML.includes("data-level");
+            const [view] = page.views, answers = [], layer = (name) => display().querySelector(`[data-layer=${name}]`).innerHTML;
+            const shown = () => [layer("ring").includes("data-level"), layer("tapes").includes("data-level"), layer("answers") !== "",
+              $("aircraft").tBodies[0].innerHTML.includes("chip"), $("report").innerHTML.includes("data-line"), $("summary").textContent.startsWith("Alerts"),
+              display().getAttribute("aria-label").includes("greatest"), handle("p:AMBER").getAttribute("aria-valuetext").includes("alert level")];
             view.desk.ask = () => new Promise((answer) => answers.push(answer));
             for (const key of ["ArrowUp", "ArrowRight"]) {
               fire(display(), "keydown", { target: handle("p:AMBER"), key });
               for (let frames = 0; frames < 30; frames++) await frame();
             }
-            const { text } = view.said, found = [answers.length, bands()];
+            const { text } = view.said, found = [answers.length, shown()];
             for (const answer of answers) {
               answer({ text });
               for (let frames = 0; frames < 30; frames++) await frame();
-              found.push(bands());
+              found.push(shown());
             }
             return found;""")
-        self.assertEqual(found, [2, False, False, True])
+        self.assertEqual(found, [2, [False] * 8, [False] * 8, [True] * 8])
 
     def test_nothing_of_a_refused_moment_looks_clear(self):
         """Ring and tapes are grey, and each aircraft has a ? in place of a level; nothing of the moment before is left, and nothing
