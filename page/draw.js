@@ -41,8 +41,8 @@
 
   /** A text, cut where it is wider than there is room. */
   function cut(words, font, room) {
-    const most = Math.floor((words.length * room) / widthOf(words, font));
-    return most >= words.length ? words : `${words.slice(0, Math.max(most - 2, 0))}…`;
+    const wide = widthOf(words, font);
+    return wide <= room ? words : `${words.slice(0, Math.max(Math.floor((words.length * room) / wide) - 2, 0))}…`;
   }
 
   // ---- colours, patterns and letters, which the style sheet of the page names for light, dark and print

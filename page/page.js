@@ -187,7 +187,7 @@
     const held = await daa.unpack(location.hash);
     if (location.hash === state.hash) return false;
     if (!isLinked(held)) {
-      if (location.hash.length > 1) tell("the link holds no moment: is it whole?");
+      if (location.hash.startsWith("#m=")) tell("the link holds no moment: is it whole?");
       return false;
     }
     if (!loadStates(bytesOf(String(held.states)), String(held.name))) return false;

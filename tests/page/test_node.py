@@ -1126,20 +1126,22 @@ class Used(unittest.TestCase):
         self.assertEqual((told, hash), ("No link: alt of the ownship is not within -2000 and 60000", ""))
 
     def test_a_link_that_holds_no_moment_is_left(self):
-        """And told: links of another form, and one whose state lines are refused."""
+        """And told: links of another form, and one whose state lines are refused; but the one to the panel is none."""
         whole = {"states": "moment 7\nown 0 0 0 0 0 0\nend\n", "name": "", "configs": [{}, {}], "look": [{}, {}]}
         wrong = [5, {}, [], {**whole, "configs": [{}, {}, {}]}, {**whole, "look": [{}, None]}, {**whole, "look": {}}, {**whole, "states": "moment 7\n"}]
-        times, told = on_page("""
+        times, told, head = on_page("""
             const times = [], told = [];
-            for (const held of given) {
-              location.hash = `#${await daa.pack(held)}`;
+            for (const held of ["panel", ...given]) {
+              location.hash = held === "panel" ? "#panel" : `#${await daa.pack(held)}`;
               await fire(screen, "hashchange");
               await settle();
               times.push(page.current.time);
               told.push($("fault").textContent);
             }
-            return [times, told];""", *wrong, whole)
-        self.assertEqual(times, [0] * len(wrong) + [7])
+            return [times, told, display().querySelector("[data-layer=head]").innerHTML];""", *wrong, whole)
+        self.assertEqual(times, [0] * (1 + len(wrong)) + [7])
+        self.assertEqual([it.text for it in xml_of(head)][1], None)
+        self.assertEqual(told.pop(0), "")
         self.assertEqual(told[-2:], [" has no whole moment; line 2 was refused with code 14", "a configuration is refused, and three_levels is shown in its place"])
         self.assertEqual(set(told[:-2]), {"the link holds no moment: is it whole?"})
 
