@@ -1020,6 +1020,15 @@ class Used(unittest.TestCase):
         held = ["three_levels", "recovery", "encounter.states", {"trackUp": True, "range": 24, "heights": 6000}]
         self.assertEqual((before, meanwhile[0], after), (held, "recovery", held))
 
+    def test_a_copied_link_leaves_the_recording(self):
+        """It stands in the address then, and is not taken from there."""
+        found = on_page("""
+            await fire($("link"), "click");
+            await fire(screen, "hashchange");
+            await settle();
+            return [location.hash.startsWith("#m="), page.moments.length];""")
+        self.assertEqual(found, [True, 19])
+
     def test_a_link_of_a_changed_moment_has_no_name_of_a_recording(self):
         head = on_page("""
             await press("p:AMBER", "ArrowUp");
