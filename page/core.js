@@ -220,7 +220,7 @@ function daaCore(root) {
       OWN.forEach((name, i) => view.setInt32(places.own + 4 * i, own[name], true));
       traffic.forEach((one, place) => {
         const at = places.traffic + SIZES.traffic * place;
-        for (let i = 0; i < ID_SIZE; i++) bytes[at + i] = i < one.id.length ? one.id.charCodeAt(i) : 0;
+        for (let i = 0; i < ID_SIZE; i++) bytes[at + i] = i < one.id.length ? Math.min(one.id.charCodeAt(i), 255) : 0;
         TRAFFIC.forEach((name, i) => view.setInt32(at + ID_SIZE + 4 * i, one[name], true));
       });
     }

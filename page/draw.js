@@ -39,6 +39,12 @@
   /** The size of letters, at most `font`, in which a text has some width at most. */
   const fitted = (words, font, room) => Math.min(font, (font * room) / widthOf(words, font));
 
+  /** A text, cut where it is wider than there is room. */
+  function cut(words, font, room) {
+    const wide = widthOf(words, font);
+    return wide <= room ? words : `${words.slice(0, Math.max(Math.floor((words.length * room) / wide) - 2, 0))}…`;
+  }
+
   // ---- colours, patterns and letters, which the style sheet of the page names for light, dark and print
 
   const paint = (level) => (level ? `url(#level${level})` : "var(--l0-fill)");
@@ -537,9 +543,8 @@
     const { title, name, unit, scale } = TAPES[kind];
     const s = scaleOf(view, model, kind);
     const words = text(t.left + t.width / 2, t.top - g.line * 0.55, `${title} ${unit}`, `class="small mid" font-size="${g.font}"`);
-    const ground = model.said ? "var(--disc)" : "var(--unknown)";
     let out = `<g><title>${name}</title>${words}</g>`
-      + `<rect x="${n(t.x)}" y="${n(t.top)}" width="${t.band}" height="${n(t.bottom - t.top)}" fill="${ground}" stroke="var(--line)"/>`;
+      + `<rect x="${n(t.x)}" y="${n(t.top)}" width="${t.band}" height="${n(t.bottom - t.top)}" fill="var(--unknown)" stroke="var(--line)"/>`;
     for (const band of model.said ? model.said.bands[kind] : []) out += bandOnTape(view, model, kind, band, s);
     const step = niceStep((s.high - s.low) / scale, clamp(Math.floor((t.bottom - t.top) / (g.line * 1.6)), 3, 11)) * scale;
     for (let v = Math.ceil(s.low / step) * step; v <= s.high; v += step) {
@@ -656,10 +661,13 @@
     const { g } = view;
     const size = `font-size="${g.font}"`;
     const ahead = `${view.trackUp ? "track up" : "north up"} · ${vectorSeconds(view)} s ahead`;
+    const isWide = g.width > 560;
+    const half = (g.width - (isWide ? widthOf(ahead, g.font) : 0)) / 2 - 8; // left and right of what stands in the middle
+    const note = 16 + widthOf(`${model.time} s`, g.font + 4);
     let out = text(10, g.line * 1.05, `${model.time} s`, `class="value" font-size="${g.font + 3}"`)
-      + text(16 + widthOf(`${model.time} s`, g.font + 4), g.line * 1.05, model.note, `class="small" ${size}`)
-      + text(g.width - 10, g.line * 1.05, model.name, `class="end" ${size}`);
-    if (g.width > 560) out += text(g.width / 2, g.line * 1.05, ahead, `class="small mid" ${size}`);
+      + text(note, g.line * 1.05, cut(model.note, g.font, half - note), `class="small" ${size}`)
+      + text(g.width - 10, g.line * 1.05, cut(model.name, g.font, half - 10), `class="end" ${size}`);
+    if (isWide) out += text(g.width / 2, g.line * 1.05, ahead, `class="small mid" ${size}`);
     return out + (model.fault ? noAnswer(g, model.fault) : "");
   }
 
@@ -753,6 +761,13 @@
       kept.delete(key);
     }
     for (const one of wanted) putHandle(group, kept, one, chosen);
+    // In the order in which they are wanted; the one that has the focus would lose it by a move, so the others go round it.
+    let next = null;
+    for (const { key } of [...wanted].reverse()) {
+      const it = kept.get(key);
+      if (it.nextSibling !== next && it !== document.activeElement) group.insertBefore(it, next);
+      next = it;
+    }
   }
 
   function putHandle(group, kept, { key, x, y, inside, label, value, level, number, least, most }, chosen) {

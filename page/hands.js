@@ -7,6 +7,8 @@
 
   // ---- moving things: by the pointer
 
+  const SLACK = 3; // points: a click that slips no farther chooses, and moves nothing
+
   const pointIn = (svg, event) => new DOMPoint(event.clientX, event.clientY).matrixTransform(svg.getScreenCTM().inverse());
   const whose = (key) => (partsOf(key)[1] ? aircraftOf(key) : state.current.own);
 
@@ -55,15 +57,17 @@
     const { own } = state.current;
     const point = pointIn(svg, event);
     const [, x, y] = /translate\((\S+) (\S+)\)/.exec(handle.getAttribute("transform"));
-    state.held = { key, middle: { x: own.x, y: own.y }, trk: own.trk, own: { gs: own.gs, vs: own.vs, alt: own.alt },
-      off: { x: Number(x) - point.x, y: Number(y) - point.y } };
+    state.held = { key, pointer: event.pointerId, from: point, middle: { x: own.x, y: own.y }, trk: own.trk,
+      own: { gs: own.gs, vs: own.vs, alt: own.alt }, off: { x: Number(x) - point.x, y: Number(y) - point.y } };
     svg.setPointerCapture(event.pointerId);
     handle.focus({ preventScroll: true });
     choose(key);
   }
 
+  /** What happens to a pointer means something only where it holds something: a second finger neither moves nor drops it. */
+  const isHolding = ({ pointerId }) => Boolean(state.held) && state.held.pointer === pointerId;
+
   function drop() {
-    if (!state.held) return;
     state.held = null;
     changed();
   }
@@ -73,19 +77,24 @@
     const view = () => state.views[Number(figure.dataset.view)];
     figure.querySelector("figcaption").addEventListener("click", ({ target }) => act(target.dataset.do, view(), figure));
     svg.addEventListener("pointerdown", (event) => hold(svg, event));
+    svg.addEventListener("touchstart", (event) => { // a finger scrolls the page, but not where it holds something
+      if (event.target.closest(".handle")) event.preventDefault();
+    }, { passive: false });
     svg.addEventListener("pointermove", (event) => {
-      if (!state.held) return;
+      if (!isHolding(event)) return;
       const { off, key } = state.held;
       if (!event.buttons || !whose(key)) { // its release was not told, or it is there no more
         drop();
         return;
       }
       const point = pointIn(svg, event);
+      const { from } = state.held;
+      if (from && Math.hypot(point.x - from.x, point.y - from.y) <= SLACK) return;
+      state.held.from = null;
       moveTo(key, { x: point.x + off.x, y: point.y + off.y }, view());
       edited();
     });
-    svg.addEventListener("pointerup", drop);
-    svg.addEventListener("pointercancel", drop);
+    for (const end of ["pointerup", "pointercancel"]) svg.addEventListener(end, (event) => { if (isHolding(event)) drop(); });
     svg.addEventListener("wheel", (event) => {
       event.preventDefault();
       if (event.deltaY) act(event.deltaY > 0 ? "wide" : "near", view(), figure);
@@ -114,7 +123,7 @@
       remove(traffic.indexOf(one));
       return true;
     }
-    if (!right && !up && !high) return false;
+    if (!one || !right && !up && !high) return false; // it may have been removed since it was drawn
     if (high) one.alt = within(one.alt + high * (more ? 1000 : 100), "alt");
     else if (what === "p") pushPlace(one, right, up, more ? 1000 : 100, lookOf(view));
     else if (what === "v") turn(one, right * (more ? 1 : 5), up * 100);

@@ -21,6 +21,7 @@
     } catch (problem) {
       if (!(problem instanceof Refused)) throw problem;
       view.refusal = problem;
+      changed();
       return false;
     }
     Object.assign(view, { name, taken: view.toml, edition: view.edition + 1 });
@@ -171,7 +172,8 @@
 
   function linked() {
     const configs = state.views.map(({ name, taken }) => ({ name, toml: taken }));
-    return { states: daa.stateLines([state.current]), name: state.name, configs, look: state.views.map(({ look }) => look), compare: state.compare };
+    const { note: name } = modelOf(state.views[0]); // of a moment that was changed by hand no name of a recording
+    return { states: daa.stateLines([state.current]), name, configs, look: state.views.map(({ look }) => look), compare: state.compare };
   }
 
   /** Whether a link's value has the form of what `linked` makes. */
@@ -183,7 +185,11 @@
   /** Takes the link of the page's address; whether it holds a moment. */
   async function takeLink() {
     const held = await daa.unpack(location.hash);
-    if (!isLinked(held) || location.hash === state.hash) return false;
+    if (location.hash === state.hash) return false;
+    if (!isLinked(held)) {
+      if (location.hash.startsWith("#m=")) tell("the link holds no moment: is it whole?");
+      return false;
+    }
     if (!loadStates(bytesOf(String(held.states)), String(held.name))) return false;
     state.hash = location.hash;
     held.configs.forEach(({ name, toml }, place) => configure(place, String(toml), String(name)));
@@ -296,7 +302,11 @@
     fill($("preset"), configs);
     configure(1, daa.examples.configs[configs[1]], configs[1]);
     configure(0, daa.examples.configs[configs[0]], configs[0]);
-    if (!(await takeLink())) takeExample(encounters[0]);
+    if (!(await takeLink())) {
+      const { untaken } = state;
+      takeExample(encounters[0]);
+      tell(untaken);
+    }
     new ResizeObserver(changed).observe($("displays"));
     addEventListener("resize", changed);
     document.body.dataset.ready = "yes";

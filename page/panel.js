@@ -30,8 +30,8 @@
 
   function wordsOfAlert(alert) {
     if (!alert) return "–";
-    const first = alert.first === null ? "" : alert.first === 0 ? " now" : ` ${alert.first} s`;
-    return `${chip(alert.level)}${first}${alert.now && alert.now !== alert.level ? `, ${chip(alert.now)} now` : ""}`;
+    const first = alert.first === null ? "" : alert.first === 0 ? " now" : ` ${alert.first}\u00a0s`;
+    return `${chip(alert.level)}${first}${alert.now && alert.now !== alert.level ? `, ${chip(alert.now)}\u00a0now` : ""}`;
   }
 
   /** The button that chooses an aircraft, or where none is given the ownship. */
@@ -128,7 +128,7 @@
   });
 
   async function give(text, button, name) {
-    const before = button.textContent;
+    button.dataset.words ??= button.textContent; // which may say by now what came of a click before this one
     try {
       await navigator.clipboard.writeText(text);
       button.textContent = "Copied";
@@ -136,7 +136,7 @@
       download(new Blob([text], { type: "text/plain" }), name);
       button.textContent = "Saved";
     }
-    setTimeout(() => { button.textContent = before; }, 1500);
+    setTimeout(() => { button.textContent = button.dataset.words; }, 1500);
   }
 
   $("copy").addEventListener("click", ({ target }) => give(daa.stateLines([state.current]), target, `moment-${state.current.time}.states`));
@@ -153,7 +153,8 @@
   function lineHtml(line, number) {
     const level = levelOfLine(line);
     const [word] = line.split(" ");
-    const style = ["resolve", "recover", "last"].includes(word) ? word : level === null ? "faint" : "";
+    const isAnswer = ["resolve", "recover", "last"].includes(word);
+    const style = isAnswer ? (/\d/.test(line) ? word : line.includes("none") ? "none" : "") : level === null ? "faint" : "";
     const mark = `<b class="${level ? `l${level}` : ""}">${level || ""}</b>`;
     return `<div class="line" data-line="${number}">${mark}<span class="${style}">${escape(line)}</span></div>`;
   }
@@ -187,9 +188,12 @@
 
   const NAMES = { track: "track", gs: "ground speed", vs: "vertical speed", alt: "altitude" };
 
+  /** It is never older than the display; while something is held, a screen reader waits with it. */
   function paintSummary() {
     const said = saidOf(state.views[0]);
-    if (!state.held) setText($("summary"), said ? summaryOf(said) : faultOf(state.views[0]));
+    const under = state.compare ? `Under ${state.views[0].name}: ` : ""; // as the table and the strip, it is the first display's alone
+    $("summary").setAttribute("aria-busy", String(Boolean(state.held)));
+    setText($("summary"), under + (said ? summaryOf(said) : faultOf(state.views[0])));
   }
 
   function summaryOf(said) {

@@ -12,6 +12,7 @@
   const LIMITS = { x: [-200000, 200000], y: [-200000, 200000], alt: [-2000, 60000], trk: [0, 359], gs: [0, 10000],
     vx: [-10000, 10000], vy: [-10000, 10000], vs: [-10000, 10000], age: [0, 60] };
   const PAPER = { display: { width: 1100, height: 680 }, strip: { width: 1100, height: 150 } };
+  const MOST_NOTES = 5; // so many refused lines of a moment are told one by one
   const SOON = 60; // ms: an answer that takes longer is waited for with the bands hidden
 
   const state = { engine: null, survey: null, views: [], name: "", moments: [], refused: [], index: 0, current: null, version: 0,
@@ -192,9 +193,13 @@
     const took = !times.length ? "" : median < 1 ? ` · ${Math.round(median * 1000)} µs a moment` : ` · ${median.toFixed(1)} ms a moment`;
     setText($("engine"), `engine ${Math.round(state.engine.size / 1024)} KB${took}`);
     const refused = edited ? [] : state.refused.filter((it) => it.before === index);
-    setText($("notes"), [...state.told, ...refused.map((it) => `line ${it.refused} was refused with code ${it.code}`)].join("; "));
+    const lines = refused.slice(0, MOST_NOTES).map((it) => `line ${it.refused} was refused with code ${it.code}`);
+    if (refused.length > MOST_NOTES) lines.push(`${refused.length - MOST_NOTES} more were refused before this moment`);
+    setText($("notes"), [...state.told, ...lines].join("; "));
+    $("notes").className = lines.length ? "problem" : "quiet"; // the moment may lack an aircraft
     const fault = shownViews().filter(isAnswered).map((view) => view.fault).find(Boolean);
-    setText($("fault"), [state.untaken, fault].filter(Boolean).join("; "));
+    const kept = shownViews().filter((view) => view.refusal).map((view) => `a configuration is refused, and ${view.name} is shown in its place`);
+    setText($("fault"), [state.untaken, ...kept, fault].filter(Boolean).join("; "));
   }
 
   // ---- all moments, over time

@@ -1,5 +1,6 @@
 /* The strip over time: of each aircraft its alert level as bars, and the bands of tracks with the ownship's track and the open
- * ones, drawn as one path for each level. A column that stands for several moments shows the greatest level of each. */
+ * ones, drawn as one path for each level. A column that stands for several moments shows the greatest level of each, and as open
+ * what is open in all of them. */
 "use strict";
 (function (root) {
   const MARGIN = { left: 78, right: 10, bottom: 16 };
@@ -56,7 +57,7 @@
     const wide = width - MARGIN.left - MARGIN.right;
     const top = rows * ROW + 6;
     const foot = Math.round(moments[0].own.trk / 90) * 90 - FULL_TURN / 2; // the ownship's first track is in the middle
-    return { foot, width, height, first, last, top, tall: height - MARGIN.bottom - top,
+    return { foot, width, height, first, last, step: last - moments[moments.length - 1].time, top, tall: height - MARGIN.bottom - top,
       ids: ids.filter((id) => shown.includes(id)), hidden: loud.length - shown.length,
       x: (time) => MARGIN.left + ((time - first) / (last - first)) * wide, time: (x) => first + ((x - MARGIN.left) / wide) * (last - first) };
   }
@@ -77,11 +78,12 @@
   /** All but the mark of the present moment. */
   function whole(g, moments, notes, step) {
     const paths = ["", "", "", "", ""];
-    let [own, open] = ["", ""];
+    let [known, own, open] = ["", "", ""];
     const y = (degree) => g.top + g.tall - (daa.wrap(degree - g.foot) / FULL_TURN) * g.tall;
     for (const column of columnsOf(moments, notes)) {
       const x = g.x(column.from);
       const wide = Math.max(g.x(column.upto) - x, 0.5);
+      known += box(x, 0, wide + 0.5, g.top + g.tall); // so that no seam is seen between two
       g.ids.forEach((id, row) => {
         const level = greatest(column.notes, id);
         if (level) paths[level] += box(x, (row + 1) * ROW - (ROW - 3) * (level / 4), wide, (ROW - 3) * (level / 4));
@@ -91,16 +93,19 @@
       }
       const [note] = column.notes;
       own += box(x, y(note.trk) - 1, wide, 2);
-      for (const to of note.open) open += box(x + wide / 2 - 2, y(to) - 2, 4, 4);
+      const always = note.open.filter((to) => column.notes.every((other) => other.open.includes(to)));
+      for (const to of always) open += box(x + wide / 2 - 2, y(to) - 2, 4, 4);
     }
-    return frame(g) + paths.map((d, level) => (d ? `<path d="${d}" fill="${daa.paint(level)}" data-level="${level}"/>` : "")).join("")
+    return frame(g, known) + paths.map((d, level) => (d ? `<path d="${d}" fill="${daa.paint(level)}" data-level="${level}"/>` : "")).join("")
       + `<path d="${own}" fill="var(--own)"/><path d="${open}" fill="var(--open)" stroke="var(--ground)" stroke-width=".5"/>`;
   }
 
-  function frame(g) {
+  /** What stands on all but what is known, as on the display, is the ground of what has no answer: a moment that is not decided yet
+   *  is not clear. */
+  function frame(g, known) {
     const text = (x, y, words, more = "") => `<text x="${n(x)}" y="${n(y)}" font-size="11" ${more}>${daa.escape(words)}</text>`;
     const wide = g.width - MARGIN.left - MARGIN.right;
-    let out = `<path d="${box(MARGIN.left, g.top, wide, g.tall)}" fill="var(--l0-fill)"/>`;
+    let out = `<path d="${box(MARGIN.left, 0, wide, g.top + g.tall)}" fill="var(--unknown)"/><path d="${known}" fill="var(--l0-fill)"/>`;
     g.ids.forEach((id, row) => {
       out += text(4, (row + 1) * ROW - 2, id) + `<path d="M${MARGIN.left} ${(row + 1) * ROW}h${n(wide)}" stroke="var(--line)"/>`;
     });
@@ -122,14 +127,14 @@
       Object.assign(svg, { daaKey: key, daaMoments: moments, daaNotes: notes, daaG: geometryOf(width, height, moments, notes, ids) });
       svg.setAttribute("viewBox", `0 0 ${width} ${height}`);
       svg.innerHTML = `${whole(svg.daaG, moments, notes, step)}<path class="now" fill="none" stroke="var(--focus)" stroke-width="1.5"/>`;
+      const most = notes.reduce((level, note) => Math.max(level, ...note.levels.values()), 0);
+      svg.setAttribute("aria-label", `Alert levels and track bands over time: ${moments.length} moments, the greatest alert level is ${most}`);
     }
     const g = svg.daaG;
     const next = index + 1 < moments.length ? moments[index + 1].time : g.last;
     const x = g.x(moments[index].time);
-    const wide = Math.max(Math.min(g.x(next), g.x(moments[index].time + 4 * medianStep(moments))) - x, 3);
+    const wide = Math.max(Math.min(g.x(next), g.x(moments[index].time + 4 * g.step)) - x, 3);
     svg.querySelector(".now").setAttribute("d", box(x - 0.5, 1, wide + 1, g.top + g.tall - 1));
-    const most = notes.reduce((level, note) => Math.max(level, ...note.levels.values()), 0);
-    svg.setAttribute("aria-label", `Alert levels and track bands over time: ${moments.length} moments, the greatest alert level is ${most}`);
   }
 
   /** The index of the moment that a point of the strip belongs to. */

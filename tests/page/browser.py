@@ -228,6 +228,17 @@ class Chromium(Browser):
         named = [{"name": "prefers-color-scheme", "value": scheme}]
         self.driver.execute_cdp_cmd("Emulation.setEmulatedMedia", {"media": media, "features": named})
 
+    def swipe(self, x, y, right, down):
+        """A finger at a point of the window, and its way."""
+        touch = lambda kind, *at: self.driver.execute_cdp_cmd("Input.dispatchTouchEvent", {"type": kind, "touchPoints": list(at)})
+        self.driver.execute_cdp_cmd("Emulation.setTouchEmulationEnabled", {"enabled": True})
+        touch("touchStart", {"x": x, "y": y})
+        for step in range(1, 9):
+            touch("touchMove", {"x": x + right * step / 8, "y": y + down * step / 8})
+        touch("touchEnd")
+        self.driver.execute_cdp_cmd("Emulation.setTouchEmulationEnabled", {"enabled": False})
+        self.settle()
+
     def problems(self):
         """What the console told of errors since it was asked last."""
         return [entry["message"] for entry in self.driver.get_log("browser") if entry["level"] == "SEVERE"]

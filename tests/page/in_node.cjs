@@ -16,7 +16,7 @@ const bytesOf = (text) => new Uint8Array(Buffer.from(text, "base64"));
 function runDrawing() {
   const element = () => {
     const [attributes, parts] = [{}, {}];
-    return { attributes, parts, innerHTML: "", append() {}, remove() {}, setAttribute: (name, value) => { attributes[name] = String(value); },
+    return { attributes, parts, innerHTML: "", append() {}, insertBefore() {}, remove() {}, setAttribute: (name, value) => { attributes[name] = String(value); },
       getAttribute: (name) => attributes[name] ?? null, querySelector: (selector) => (parts[selector] ??= element()) };
   };
   const made = [];
@@ -101,18 +101,20 @@ const TASKS = {
     }));
   },
 
-  /** How many boxes of each level the strip has, of moments a second apart: in each an aircraft and all tracks have the level. */
+  /** How many boxes of each level the strip has, of moments a second apart: in each an aircraft and all tracks have the level; where
+   *  it is 0, the track of 90 degrees is open. Last are the boxes of open tracks. */
   strip(engine, levels) {
     Object.assign(daa, { clamp: (value, low, high) => Math.min(Math.max(value, low), high), wrap: (degrees) => (degrees + 360) % 360,
       paint: String, escape: String });
     run("strip");
     const moments = levels.map((_, time) => ({ time, own: { trk: 0 } }));
-    const notes = moments.map((moment, i) => daa.noteOf(moment, { aircraft: [{ id: "A", level: levels[i] }], resolve: { track: {} },
+    const notes = moments.map((moment, i) => daa.noteOf(moment, { aircraft: [{ id: "A", level: levels[i] }], resolve: { track: levels[i] ? {} : { upper: 90 } },
       bands: { track: [{ from: 0, upto: 270, level: levels[i] }] } }));
     const svg = { setAttribute() {}, querySelector: () => svg };
     daa.drawStrip(svg, { width: 1000, height: 150 }, { moments, notes, ids: ["A"], index: 0, step: 90 });
     const found = [...svg.innerHTML.matchAll(/<path d="([^"]*)"[^>]* data-level="(\d)"/g)];
-    return Object.fromEntries(found.map(([, boxes, level]) => [level, boxes.split("M").length - 1]));
+    const open = /<path d="([^"]*)" fill="var\(--open\)"/.exec(svg.innerHTML)[1];
+    return [Object.fromEntries(found.map(([, boxes, level]) => [level, boxes.split("M").length - 1])), open.split("M").length - 1];
   },
 
   /** A display of a moment, of 1600 times 800 points, with a report: where its compass and tapes are, the text of each layer, each handle,
@@ -135,20 +137,27 @@ const TASKS = {
       back: Object.fromEntries(made.map((it) => [it.attributes["data-key"], meant(it)])) };
   },
 
-  /** The strip of an encounter, of 1000 times 150 points: where it has what, its text, and its text where all aircraft have level 1. */
-  over_time(engine, toml, states) {
+  /** The strip of an encounter, of 1000 times 150 points: where it has what, its text, its text where all aircraft have level 1, and
+   *  that where so many moments are decided; the marks of the moments, and how it is told. */
+  over_time(engine, toml, states, decided = 0) {
     const { svg } = runDrawing();
     const config = engine.read(bytesOf(toml));
     const moments = engine.readStates(bytesOf(states)).map((it) => it.moment);
     const notes = moments.map((moment) => daa.noteOf(moment, daa.readReport(engine.report(config, moment))));
     const others = notes.map((note) => ({ ...note, levels: new Map([...note.levels].map(([id]) => [id, 1])) }));
     const ids = [...notes[0].levels.keys()];
-    const texts = [notes, others].map((some) => {
+    const texts = [notes, others, notes.slice(0, decided)].map((some) => {
       daa.drawStrip(svg, { width: 1000, height: 150 }, { moments, notes: some, ids, index: 0, step: config.grids.track.step });
       return svg.innerHTML;
     });
-    daa.drawStrip(svg, { width: 1000, height: 150 }, { moments, notes, ids, index: 0, step: config.grids.track.step });
-    return { g: svg.daaG, texts };
+    const draw = (index) => daa.drawStrip(svg, { width: 1000, height: 150 }, { moments, notes, ids, index, step: config.grids.track.step });
+    draw(0);
+    notes.forEach((note) => { note.levels.values = null; }); // for another moment of the same ones no level is looked at again
+    const now = moments.map((_, index) => {
+      draw(index);
+      return svg.parts[".now"].attributes.d;
+    });
+    return { g: svg.daaG, texts, now, label: svg.attributes["aria-label"] };
   },
 
   /** Calls the engine with places out of its memory, and then on a moment: what the first call throws, and the report. */

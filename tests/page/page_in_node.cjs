@@ -43,8 +43,19 @@ class Element {
   getScreenCTM() { return { inverse: () => null }; }
   closest() { return this; }
   matches() { return false; }
-  append() {}
-  remove() {}
+  get nextSibling() { return this.parent ? this.parent.children[this.parent.children.indexOf(this) + 1] ?? null : null; }
+  append(it) { this.insertBefore(it, null); }
+
+  insertBefore(it, next) {
+    it.remove();
+    it.parent = this;
+    this.children.splice(next ? this.children.indexOf(next) : this.children.length, 0, it);
+  }
+
+  remove() {
+    if (this.parent) this.parent.children.splice(this.parent.children.indexOf(this), 1);
+    this.parent = null;
+  }
   focus() {}
   insertAdjacentHTML() {}
   setPointerCapture() {}
@@ -101,10 +112,10 @@ async function press(key, pressed, shiftKey = false) {
 async function drag(key, right, down) {
   const [x, y] = placeOf(key);
   fire(display(), "pointerdown", { target: handle(key), clientX: x, clientY: y, pointerId: 1, button: 0, isPrimary: true });
-  fire(display(), "pointermove", { clientX: x + right, clientY: y + down, buttons: 1 });
+  fire(display(), "pointermove", { clientX: x + right, clientY: y + down, pointerId: 1, buttons: 1 });
   await settle();
   const held = placeOf(key);
-  fire(display(), "pointerup");
+  fire(display(), "pointerup", { pointerId: 1 });
   await settle();
   return [[x, y], held];
 }

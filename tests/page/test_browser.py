@@ -11,11 +11,12 @@ import unittest
 import xml.etree.ElementTree
 import zlib
 
-from browser import ActionChains, By, HAS_BROWSER, HOW, Keys, browser
+from browser import ActionChains, By, HAS_BROWSER, HOW, IN_FIREFOX, Keys, browser
 from shared import (DISPLAYED_SECONDS, ENCOUNTER, EXAMPLES, RECOVERY, THREE_LEVELS, TOP, Page, answers_of, bands_of, bytes_of, levels_of, moments_of,
                     moments_in, places_of, replayed, text_of, tool)
 
 SIZES = ((1024, 700), (1024, 768), (1280, 800), (1920, 1080))
+SMALL = ((800, 600), (1366, 400), (844, 390), (390, 844))  # the last two of a telephone
 LONGEST = [os.path.join(TOP, "bench", "worst_moments", "wait", f"worst.{end}") for end in ("toml", "states")]
 CROWD = 20
 
@@ -229,6 +230,22 @@ class Moved(PageTest):
         self.page.step_to(0)
         self.assertEqual(self.page.report(), before)
 
+    @unittest.skipIf(IN_FIREFOX, "a finger is Chromium's alone")
+    def test_a_finger_moves_an_aircraft_and_scrolls_elsewhere(self):
+        self.page.size(390, 844)
+        self.page.settle()
+        before = self.page.states()
+        self.page.swipe(60, 700, 0, -200)
+        self.page.wait("scrollY > 50")
+        self.assertEqual(self.page.states(), before)
+        x, y = self.page.js("scrollTo(0, 100); const m = arguments[0].getScreenCTM(); return [m.e, m.f]", self.page.handle("p:AMBER"))
+        self.page.swipe(x, y, -20, 40)
+        radius, range_nm = self.page.js("return [daa.page.views[0].drawn.g.radius, daa.page.views[0].look.range]")
+        moved = tuple(map(int, re.search(r"traffic AMBER (-?\d+) (-?\d+)", self.page.states()).groups()))
+        right = tuple(start + offset / radius * range_nm * 1000 for start, offset in ((3000, -20), (8000, -40)))
+        self.assertTrue(all(abs(a - b) <= 150 for a, b in zip(moved, right)), (moved, right))
+        self.assertEqual(self.page.js("return scrollY"), 100)
+
     def test_keys_count_after_a_drag_and_after_a_click(self):
         """Whatever of the display has the focus then."""
         moments = moments_of(replayed(THREE_LEVELS, bytes_of(ENCOUNTER)))
@@ -437,6 +454,7 @@ class Loaded(PageTest):
         self.assertEqual((self.page.states(), self.page.report(0), self.page.report(1), self.page.js("return JSON.stringify(daa.page.views.map((view) => view.look))")), before)
         self.page.open("#m=" + link[5:40])
         self.check_moment(moments_of(replayed(THREE_LEVELS, bytes_of(ENCOUNTER)))[0])
+        self.assertEqual(self.page.text("#fault"), "the link holds no moment: is it whole?")
 
     def test_state_lines_are_copied_for_the_program(self):
         self.page.drag("p:AMBER", (-20, 40))
@@ -445,7 +463,8 @@ class Loaded(PageTest):
         self.assertEqual(replayed(THREE_LEVELS, self.page.downloaded(".states")), self.page.report())
 
     def test_pictures(self):
-        """The picture of lines names each band, has no colour that only the page knows, and stands alone; that of points is no blank."""
+        """The picture of lines names each band, has no colour that only the page knows, and stands alone; that of points is no blank. The
+        second display has its own."""
         self.page.step_to(4)
         self.page.click("figure[data-view='0'] [data-do=svg]")
         text = self.page.downloaded(".svg").decode()
@@ -459,6 +478,11 @@ class Loaded(PageTest):
         self.page.click("figure[data-view='0'] [data-do=png]")
         points = self.page.downloaded(".png")
         self.assertTrue(points.startswith(b"\x89PNG") and len(points) > 40000, len(points))
+        self.page.click("#compare")
+        self.page.click("figure[data-view='1'] [data-do=svg]")
+        text = self.page.downloaded(".svg").decode()
+        self.assertIn(">recovery</text>", text)
+        self.assertIn("clear after ", text)
 
 
 def in_three_tries(test):
@@ -633,6 +657,35 @@ class Layout(PageTest):
             self.page.step_to(place)
             self.check_all(f"encounter_{place}")
 
+    def test_small_windows(self):
+        """All stands in one column, which scrolls down and not sideways: the displays are large enough to be read, and no control is cut."""
+        self.page.select("#example", "encounter, with recoveries")
+        self.page.step_to(6)
+        for compare in (False, True):
+            for width, height in SMALL:
+                with self.subTest(size=(width, height), compare=compare):
+                    self.page.size(width, height)
+                    self.page.settle()
+                    self.assertLessEqual(self.page.js("return document.documentElement.scrollWidth"), width)
+                    for it in self.page.driver.find_elements(By.CSS_SELECTOR, "header > *, .bar > *, figcaption > *, #panel button"):
+                        self.assertTrue(not it.is_displayed() or it.rect["x"] >= 0 and it.rect["x"] + it.rect["width"] <= width, it.get_attribute("outerHTML"))
+                    for view in (0, 1) if compare else (0,):
+                        _, bad = self.check_display(view)
+                        self.assertEqual(bad, [])
+                        self.assertGreaterEqual(self.page.js("return daa.page.views[arguments[0]].drawn.g.radius", view), 80)
+                    self.page.shot(f"small_{width}_{height}_{compare}")
+            self.page.click("#compare")
+
+    def test_long_names(self):
+        """They are cut where they would stand on each other, and keep their beginnings."""
+        name = "a_long_name_of_" + "an_encounter_near_the_coast_" * 6
+        self.page.open_files(self.page.file(f"{name}.states", text_of(ENCOUNTER)), self.page.file(f"{name}.toml", text_of(RECOVERY)))
+        for compare in (False, True):
+            self.check_all(f"long_names_{compare}", compare)
+            words = self.page.js("return [...document.querySelectorAll('[data-layer=head] text')].map((it) => it.textContent)")
+            self.assertEqual(sum(it.startswith("a_long_") for it in words), 3 if compare else 2, words)
+            self.page.click("#compare")
+
     def test_all_closed_with_recoveries(self):
         self.page.select("#example", "encounter, with recoveries")
         self.page.step_to(6)
@@ -674,7 +727,10 @@ class Layout(PageTest):
         self.assertEqual(self.page.js("return document.querySelectorAll('#aircraft tbody tr').length"), CROWD + 1)
 
     def test_the_panel_and_the_header_are_not_cut(self):
-        """Texts of the panel end within it, also with the configuration open; the panel scrolls where it is longer than the window."""
+        """Texts of the panel end within it, also with the configuration open, of names of eight letters and heights of five digits; the
+        panel scrolls where it is longer than the window."""
+        aircraft = "".join(f"traffic AIRCRF0{i} {x} {y} {alt} 0 -3600 0\n" for i, (x, y, alt) in enumerate(((0, 900, 10050), (100, 20000, 60000), (19000, -20000, -2000))))
+        self.page.open_files(self.page.file("wide.states", f"moment 0\nown 0 0 10000 0 3600 -5000\n{aircraft}end\n"))
         self.page.js("document.querySelectorAll('details').forEach((it) => { it.open = true; })")
         for width, height in SIZES:
             self.page.size(width, height)
@@ -719,6 +775,14 @@ class Everyone(PageTest):
             for ink, ground, contrast in self.page.js(CONTRAST):
                 self.assertGreaterEqual(contrast, 3.5 if ink.endswith("-ink") else 4.5, (scheme, ink, ground))
             self.page.shot(f"ground_{scheme}")
+
+    def test_letters_grow_with_those_that_the_browser_is_set_to(self):
+        """All of the panel, the bar and the header, by one half."""
+        sizes = """return ["#summary", "#aircraft td", "#report", "#toml", "#clock", "header label", "#state input", "#add"].map(
+            (it) => parseFloat(getComputedStyle(document.querySelector(it)).fontSize))"""
+        before = self.page.js(sizes)
+        self.page.js("document.documentElement.style.fontSize = '150%'")
+        self.assertEqual(self.page.js(sizes), [round(1.5 * size, 3) for size in before])
 
     def test_the_ground_is_chosen(self):
         ground = "return getComputedStyle(document.body).backgroundColor"

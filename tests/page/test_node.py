@@ -1,5 +1,6 @@
 """The engine's module and the page's readers in node, against the program and the tools, byte for byte."""
 import base64
+import colorsys
 import json
 import math
 import os
@@ -107,11 +108,15 @@ class Module(unittest.TestCase):
     def test_a_column_of_the_strip_has_the_greatest_level(self):
         """Of 601 moments two share a column, and the last has one of its own: 5 boxes of tracks, one of them in two parts; 2 of it."""
         for levels in ([3, 0] * 300 + [3], [0, 3] * 300 + [3], [3, 2] * 300 + [3]):
-            self.assertEqual(in_node([["strip", levels]])[0], {"3": 300 * (1 + 5) + 1 + 2})
+            self.assertEqual(in_node([["strip", levels]])[0], [{"3": 300 * (1 + 5) + 1 + 2}, 0])
+
+    def test_a_column_of_the_strip_has_as_open_what_is_open_in_all(self):
+        """Of 602 moments two share a column; in the first column both are open, in the second and the third one is."""
+        self.assertEqual(in_node([["strip", [0, 0, 0, 3, 3, 0] + [3] * 596]])[0][1], 1)
 
     def test_200000_moments_have_a_strip(self):
         """Of 334 moments a column, the first of which alone has a level: a box, and its tracks, one of them in two parts."""
-        self.assertEqual(in_node([["strip", [3] + [0] * 199999]])[0], {"3": 1 + 5})
+        self.assertEqual(in_node([["strip", [3] + [0] * 199999]])[0], [{"3": 1 + 5}, 200000 // 334])
 
 
 # What is drawn.
@@ -181,11 +186,15 @@ class Drawn(unittest.TestCase):
         return begin, turn, path.get("fill")
 
     def check_ring(self, moment):
-        """The paint at each candidate, the answers' marks with their words, and the letters of the compass."""
+        """The paint at each candidate, the numbers of levels, the answers' marks with their words, and the letters of the compass."""
         wanted = candidates_of(moment, "track")
         sectors = [self.sector(it) for it in self.layers["ring"].iter("path") if it.get("data-level")]
         paints = {track: [paint for begin, turn, paint in sectors if (track - begin) % 360 <= turn] for track in wanted}
         self.assertEqual(paints, {track: [f"url(#level{level})" if level else "var(--l0-fill)"] for track, level in wanted.items()})
+        numbers = self.texts("ring", "level")
+        self.assertTrue(numbers or not any(wanted.values()))
+        for level, x, y in numbers:
+            self.assertEqual([paint for begin, turn, paint in sectors if (self.bearing(x, y) - begin) % 360 <= turn], [f"url(#level{level})"])
         answers, recovery = values_of(moment, "resolve", "track"), values_of(moment, "recover", "track")
         self.assert_bearings(self.marks("ring", "fill", "open"), answers)
         self.assert_bearings([(x, y + 8) for x, y in self.marks("ring", "stroke", "recover")], recovery)
@@ -197,8 +206,9 @@ class Drawn(unittest.TestCase):
         self.assert_bearings([at for _, *at in letters], range(0, 360, 30))
 
     def check_tapes(self, moment, own):
-        """By each tape's own numbers: the paint at each candidate, the ownship's pointer, and the answers' marks with their words."""
-        for kind in ("gs", "vs", "alt"):
+        """By each tape's own numbers: the paint at each candidate, the numbers of levels, the ownship's pointer, and the answers' marks with
+        their words; between two bands nothing is left free."""
+        for kind, title in (("gs", "GS kt"), ("vs", "VS ft/min"), ("alt", "ALT ft")):
             tape, each = self.g["tapes"][kind], 10 if kind == "gs" else 1
             labels = [(int(text) * each, y + 0.36) for text, x, y in self.texts("tapes", "small", "end") if abs(x - tape["x"] + 9) < 1]
             (low, at_low), (high, at_high) = labels[0], labels[-1]
@@ -211,6 +221,13 @@ class Drawn(unittest.TestCase):
             self.assertGreater(len(wanted), 10)
             paints = {value: [paint for top, tall, paint in bands if top <= y(value) <= top + tall] for value in wanted}
             self.assertEqual(paints, {value: [f"url(#level{level})" if level else "var(--l0-fill)"] for value, level in wanted.items()}, kind)
+            lowest_first = sorted(bands, reverse=True)
+            for (top, *_), (above, tall, _) in zip(lowest_first, lowest_first[1:]):
+                self.assertLess(abs(above + tall - top), 2.1, kind)
+            for level, x, at in self.texts("tapes", "level"):
+                if abs(x - tape["x"] - tape["band"] / 2) < 1:
+                    self.assertEqual([paint for top, tall, paint in bands if top <= at <= top + tall], [f"url(#level{level})"], kind)
+            self.assertEqual([text for text, x, _ in self.texts("tapes", "small", "mid") if abs(x - tape["left"] - tape["width"] / 2) < 1], [title])
             right, answers, recovery = tape["x"] + tape["band"], values_of(moment, "resolve", kind), values_of(moment, "recover", kind)
             marks = [at for x, at in self.marks("tapes", "fill", "open") if abs(x - right - 2) < 1]
             marks += [at + 8 for x, at in self.marks("tapes", "stroke", "recover") if abs(x - right - 10) < 1]
@@ -265,6 +282,8 @@ class Drawn(unittest.TestCase):
         self.assertEqual([text for text, *_ in names], ["3 NM", "6 NM"])
         for share, (_, x, y) in zip((1 / 3, 2 / 3), names):
             self.assertAlmostEqual(self.radius(x, y), share * self.g["radius"], delta=1)
+        radii = [float(it.get("r")) / self.g["radius"] for it in self.layers["rose"].iter("circle") if it.get("fill") == "none"]
+        self.assertTrue(len(radii) == 2 and abs(radii[0] - 1 / 3) < 0.001 and abs(radii[1] - 2 / 3) < 0.001, radii)
         circle, = self.layers["trails"].iter("circle")
         self.assertEqual((circle.find("title").text, circle.get("stroke")), ("dthr of level 2", "var(--own)"))
         self.assertAlmostEqual(float(circle.get("r")), 0.4 / 9 * self.g["radius"], delta=0.1)
@@ -277,6 +296,17 @@ class Drawn(unittest.TestCase):
         report = moments_of(replayed(THREE_LEVELS, bytes_of(ENCOUNTER)))[0]
         states = f"format 2\nmoment 0\nown 0 0 10000 0 3600 0\n{aircraft}end\n"
         self.show(THREE_LEVELS, states.encode(), re.sub(r"(?m)(^(now|alert) .*\n)+", alerts, report, count=1))
+        for level, told in enumerate(("no alert", "alert level 1 in 7 seconds", "alert level 2 in 14 seconds, level 1 now", "alert level 3 in 21 seconds",
+                                      "alert level 4 in 0 seconds, level 4 now")):
+            handle, colour = self.handles[f"p:A{level}"], f"var(--l{level}-edge)" if level else "var(--ink)"
+            inside = xml_of(handle["inside"])
+            self.assertEqual([it.get("stroke") for it in inside.iter("path") if re.match("M0 0L.*[0-9]$", it.get("d")) and it.get("stroke-width") == "2"], [colour])
+            self.assertEqual([it.get("stroke") for it in xml_of(self.handles[f"v:A{level}"]["inside"]).iter("circle") if it.get("r") == "4.5"], [colour])
+            self.assertEqual([it.get("style") for it in inside.iter("text") if it.text.startswith("L")], [f"fill:{colour};font-weight:bold"] * bool(level))
+            fills = [it.get("fill") for it in inside.iter() if it.get("stroke") == "var(--rim)" and it.get("fill")]
+            self.assertEqual(fills, [f"var(--l{level}-fill)"] * bool(level))
+            self.assertEqual([it.get("style") for it in inside.iter("text") if it.get("class") == "level mid"], [f"fill:var(--l{level}-ink)"] * bool(level))
+            self.assertTrue(handle["aria-valuetext"].endswith(f" hundred feet, {told}"), handle["aria-valuetext"])
         shapes = {"M0 -9l8 9l-8 9l-8 -9z": "open diamond", "M0 -11l10 11l-10 11l-10 -11z": "diamond", "M-10 -10l20 20M10 -10l-20 20": "cross"}
         found = []
         for level in range(5):
@@ -289,6 +319,85 @@ class Drawn(unittest.TestCase):
         self.assertEqual(found, [(["open diamond"], ["A0", "+00"]), (["diamond"], ["1", "A1", "+03↑", "L1 7 s"]),
                                  (["disc", "var(--l1-edge)"], ["2", "A2", "−12↓", "L2 14 s"]), (["square"], ["3", "A3", "+01", "L3 21 s"]),
                                  (["cross", "square", "var(--l4-edge)"], ["4", "A4", "+00↓", "L4 now"])])
+
+    def test_what_a_screen_reader_is_told_of_places_and_velocities(self):
+        """B's report is 15 seconds old: 3.414 NM away now."""
+        self.show(RECOVERY, TURNED, replayed(RECOVERY, TURNED))
+        told = {key: it["aria-valuetext"] for key, it in self.handles.items()}
+        self.assertEqual({key: told[key] for key in ("v:A", "v:B", "v:", "p:", "track", "gs", "vs", "alt")}, {
+            "v:A": "east -90, north -140 knots", "v:B": "east 120, north 30 knots", "v:": "track 40, 300 knots", "p:": "east 0.5, north -0.7 NM",
+            "track": "40 degrees", "gs": "300 kt", "vs": "300 ft/min", "alt": "10000 ft"})
+        self.assertRegex(told["p:B"], "^3.4 NM away, minus 12 sinking hundred feet, ")
+        numbers = {key: float(self.handles[key]["aria-valuenow"]) for key in ("v:B", "v:", "p:B", "track", "gs", "vs", "alt")}
+        self.assertEqual(numbers, {"v:B": 123.7, "v:": 300, "p:B": 3.4, "track": 40, "gs": 300, "vs": 300, "alt": 10000})
+
+    def test_how_far_ahead_velocities_are_drawn(self):
+        """300 knots are 1.25 NM in 15 seconds; the head tells for how many."""
+        for range_nm, seconds in ((1.5, 15), (3, 30), (6, 60), (12, 60)):
+            self.show(RECOVERY, TURNED, replayed(RECOVERY, TURNED), range=range_nm)
+            self.assertAlmostEqual(self.radius(*self.places["v:"]), 300 * seconds / 3600 / range_nm * self.g["radius"], delta=1)
+            self.assertIn(f"north up · {seconds} s ahead", [text for text, *_ in self.texts("head")])
+
+    def test_an_aircraft_out_of_range_stands_at_the_rim(self):
+        """In its direction, 141.4 NM away, small and without a velocity; one just within the range is as all others."""
+        states = "moment 0\nown 0 0 10000 0 3600 0\ntraffic FAR 100000 100000 10000 0 0 0\ntraffic NEAR -11000 0 10000 0 -100 0\n" \
+                 "traffic OFF 10000 -10000 10000 0 0 0\nend\n"
+        self.show(THREE_LEVELS, states.encode(), replayed(THREE_LEVELS, states.encode()), chosen="p:FAR")
+        far, near = self.handles["p:FAR"], self.handles["p:NEAR"]
+        self.assert_bearings([self.places[f"p:{name}"] for name in ("FAR", "NEAR", "OFF")], [45, 270, 135])
+        for name in ("FAR", "OFF"):
+            self.assertAlmostEqual(self.radius(*self.places[f"p:{name}"]), self.g["radius"] - 13, delta=1)
+        self.assertAlmostEqual(self.radius(*self.places["p:NEAR"]), 11 / 12 * self.g["radius"], delta=1)
+        self.assertEqual([it.text for it in xml_of(far["inside"]).iter("text")], ["FAR", "+00 141.4 NM"])
+        self.assertEqual(["scale(.8)" in it["inside"] for it in (far, near)], [True, False])
+        self.assertEqual(["v:FAR" in self.handles, "v:NEAR" in self.handles], [False, True])
+
+    def test_a_label_away_from_its_symbol_has_a_leader(self):
+        """Of 16 aircraft close to each other."""
+        rows = "".join(f"traffic AIRCR{i:03} {700 * (i % 4) - 1000} {700 * (i // 4) - 1000} 10000 0 -3600 0\n" for i in range(16))
+        states = f"moment 0\nown 0 -6000 10000 0 3600 0\n{rows}end\n".encode()
+        self.show(THREE_LEVELS, states, replayed(THREE_LEVELS, states))
+        led = []
+        for key, it in self.handles.items():
+            inside = xml_of(it["inside"])
+            words = [text for text in inside.iter("text") if "halo" in text.get("class")]
+            if not key.startswith("p:AIRCR") or not words:
+                continue
+            first, last, font = float(words[0].get("y")), float(words[-1].get("y")), float(words[0].get("font-size"))
+            away = max(first - font, -last, abs(float(words[0].get("x"))))
+            led.append((away > 40, any(path.get("d").startswith("M0 0L") and path.get("stroke-dasharray") for path in inside.iter("path"))))
+        self.assertTrue(all(has for is_away, has in led if is_away) and any(is_away for is_away, _ in led), led)
+
+    def test_a_levels_colour_and_pattern_are_its_own(self):
+        """Yellow with dots, orange with stripes, red with a lattice, purple with bars, as the page and docs/PAGE.md say."""
+        sheet = text_of(os.path.join(Page.folder, "style.css"))
+        hues = [colorsys.rgb_to_hsv(*(int(part, 16) / 255 for part in re.search(rf"--l{level}-fill: #(..)(..)(..);", sheet).groups()))[0] * 360 for level in (1, 2, 3, 4)]
+        for hue, (low, high) in zip(hues, ((45, 65), (25, 40), (0, 15), (290, 320))):
+            self.assertTrue(low <= hue <= high, hues)
+        for level in (1, 2, 3, 4):
+            self.assertIn(f".l{level} {{ background: var(--l{level}-fill); color: var(--l{level}-ink); }}", sheet)
+        patterns = list(xml_of(on_page("return daa.patterns();")).iter("pattern"))
+        shapes = ({"circle"}, {"M-2 2l4 -4M0 10L10 0M8 12l4 -4"}, {"M0 0l9 9M9 0l-9 9"}, {"M0 3h9"})
+        for level, (pattern, shape) in enumerate(zip(patterns, shapes, strict=True), 1):
+            ground, mark = pattern
+            self.assertEqual((pattern.get("id"), ground.get("fill")), (f"level{level}", f"var(--l{level}-fill)"))
+            self.assertEqual({mark.get("d") or mark.tag}, shape)
+            self.assertIn(f"var(--l{level}-mark)", (mark.get("fill"), mark.get("stroke")))
+
+    def test_a_tape_beyond_its_candidates_is_not_clear(self):
+        """Of speeds to 200 knots, for an ownship of 360: above them the tape is as grey as where there is no answer."""
+        config = bytes_of(THREE_LEVELS).replace(b"max = 7000", b"max = 2000")
+        self.assertNotEqual(config, bytes_of(THREE_LEVELS))
+        text, _ = moments_in(bytes_of(ENCOUNTER))[0]
+        with tempfile.NamedTemporaryFile(suffix=".toml") as file:
+            file.write(config)
+            file.flush()
+            self.show(config, text.encode(), replayed(file.name, text.encode()))
+        tape = self.g["tapes"]["gs"]
+        rects = [it for it in self.layers["tapes"].iter("rect") if abs(float(it.get("x")) - tape["x"]) < 1]
+        self.assertEqual((rects[0].get("fill"), float(rects[0].get("height"))), ("var(--unknown)", round(tape["bottom"] - tape["top"], 1)))
+        share = (2000 - 500) / (3600 - 500)
+        self.assertAlmostEqual(min(float(it.get("y")) for it in rects[1:]), tape["bottom"] - share * (tape["bottom"] - tape["top"]), delta=1)
 
     def test_answers_beyond_a_tape(self):
         """Of a report whose altitudes lie 5000 feet from the ownship's: they stand at the ends, and say where to look."""
@@ -336,9 +445,38 @@ class Drawn(unittest.TestCase):
         ends = {round(left + wide, 1) for left, _, wide, _ in boxes}
         self.assertEqual(ends, {round(x(time), 1) for time in (10, 20, 60, 190)})
 
+    def test_the_strip_marks_the_moment(self):
+        """From each to the next, and before a gap four times as long as from one to the next."""
+        states = "".join(text for text, moment in moments_in(bytes_of(ENCOUNTER)) if moment.time in (0, 10, 20, 180))
+        shown = in_node([["over_time", bytes_of(THREE_LEVELS), states.encode()]])[0]
+        x = lambda time: 78 + time / 190 * (1000 - 88)
+        for mark, (begin, end) in zip(shown["now"], ((0, 10), (10, 20), (20, 60), (180, 190)), strict=True):
+            left, top, wide, tall = numbers_in(mark)[:4]
+            self.assertTrue(abs(left - x(begin)) < 1 and abs(left + wide - x(end)) < 1 and (top, tall) == (1, 133), mark)
+        self.assertEqual(shown["label"], "Alert levels and track bands over time: 4 moments, the greatest alert level is 3")
+
     def test_a_strip_of_other_levels_is_drawn_anew(self):
-        one, other = in_node([["over_time", bytes_of(THREE_LEVELS), bytes_of(ENCOUNTER)]])[0]["texts"]
+        one, other, _ = in_node([["over_time", bytes_of(THREE_LEVELS), bytes_of(ENCOUNTER)]])[0]["texts"]
         self.assertNotEqual(one, other)
+
+    def test_the_strip_shows_nothing_clear_that_is_not_decided(self):
+        """Of 19 moments the first 8 are decided; and where no moment is, after one 160 seconds before the next, nothing is clear either."""
+        gap = "".join(text for text, moment in moments_in(bytes_of(ENCOUNTER)) if moment.time in (0, 10, 20, 180)).encode()
+        for states, decided, place, wanted in ((bytes_of(ENCOUNTER), 0, 0, [(0, 190)]), (bytes_of(ENCOUNTER), 8, 2, [(0, 80)]),
+                                               (bytes_of(ENCOUNTER), 0, 2, []), (gap, 0, 0, [(0, 60), (180, 190)])):
+            strip = xml_of(in_node([["over_time", bytes_of(THREE_LEVELS), states, decided]])[0]["texts"][place])
+            found = {it.get("fill"): boxes_of(it) for it in strip.iter("path") if it.get("fill") in ("var(--unknown)", "var(--l0-fill)")}
+            x = lambda time: 78 + time / 190 * (1000 - 88)
+            whole, = found["var(--unknown)"]
+            self.assertEqual((whole[0], whole[2], whole[1] + whole[3]), (78, 912, 134))
+            runs = []
+            for left, top, wide, tall in found["var(--l0-fill)"]:
+                self.assertEqual((top, tall), (whole[1], whole[3]))
+                if runs and abs(left - runs[-1][1]) < 1:
+                    runs[-1][1] = left + wide
+                else:
+                    runs.append([left, left + wide])
+            self.assertEqual([[round(end) for end in run] for run in runs], [[round(x(end) + place / 2) for place, end in enumerate(run)] for run in wanted])
 
 
 STATES = "daa.stateLines([page.current])"
@@ -368,8 +506,11 @@ class Used(unittest.TestCase):
             await fire($("slider"), "input");
             await settle();
             return [first, read()];""")
+        for _, report, *_ in (first, fifth):
+            for it in [*xml_of(report).iter("b"), *(chip for html, *_ in (first, fifth) for chip in xml_of(html).iter("span"))]:
+                self.assertEqual(it.get("class").split()[-1:], [f"l{it.text}"] if it.text else [])
         rows = [["".join(cell.itertext()) for cell in row] for row in xml_of(first[0])]
-        self.assertEqual(rows, [["ownship", "0° · 360 kt · 10000 ft"], ["AMBER", "2 43 s", "8.54", "021", "0"], ["BRAVO", "0", "1.24", "256", "+600"]])
+        self.assertEqual(rows, [["ownship", "0° · 360 kt · 10000 ft"], ["AMBER", "2 43\u00a0s", "8.54", "021", "0"], ["BRAVO", "0", "1.24", "256", "+600"]])
         self.assertEqual(["".join(row[1].itertext()) for row in xml_of(fifth[0])][1:], ["3 now", "0"])
         self.assertEqual((first[2:], fifth[2:]), (["0 s · 1 of 19", "0 seconds, moment 1 of 19"], ["50 s · 6 of 19", "50 seconds, moment 6 of 19"]))
         level = re.compile(r"(?:now \S+|alert \S+|(?:track|gs|vs|alt) \S+ \S+) ([1-4])\b")
@@ -377,6 +518,28 @@ class Used(unittest.TestCase):
             marks = {line.find("span").text: line.find("b").text or "" for line in xml_of(report).iter("div") if line.get("class") == "line"}
             moment = moments_of(replayed(THREE_LEVELS, bytes_of(ENCOUNTER)))[place]
             self.assertEqual(marks, {line: level.match(line)[1] if level.match(line) else "" for line in moment.splitlines()})
+
+    def test_a_line_of_answers_has_the_colour_of_what_it_says(self):
+        """Green where something is open on a side, and red where nothing is."""
+        found = on_page("""
+            $("example").value = "encounter, with recoveries";
+            await fire($("example"), "change");
+            const found = [];
+            for (const value of given) {
+              $("slider").value = value;
+              await fire($("slider"), "input");
+              await settle();
+              found.push($("report").innerHTML);
+            }
+            return found;""", "0", "6", "18")
+        styles = {}
+        for report in found:
+            spans = [line.find("span") for line in xml_of(report).iter("div") if line.get("class") == "line"]
+            styles.update({it.text: it.get("class") for it in spans if it.text.split(" ")[0] in ("resolve", "recover")})
+        self.assertEqual({line: style for line, style in styles.items() if " gs " in line or " track " in line}, {
+            "resolve track left none right 10": "resolve", "resolve gs down 2600 up none": "resolve", "resolve track left none right none": "none",
+            "recover track 11 35": "recover", "resolve gs down none up none": "none", "recover gs none": "none",
+            "resolve track left keep right keep": "", "resolve gs down keep up keep": ""})
 
     def test_the_table_flies_an_old_report_on(self):
         """15 seconds old, B is 2.5 NM west and 2.325 NM north of the ownship, and 1175 feet below: 3.414 NM at 312.9 degrees."""
@@ -397,6 +560,58 @@ class Used(unittest.TestCase):
             return $("summary").textContent;""")
         self.assertEqual(told, "Alerts: AMBER level 3 now. Clear again: track 35° after 11 s; vertical speed 4600 ft/min after 11 s; "
                          "altitude 10500 ft after 14 s. Nothing open: ground speed.")
+
+    def test_the_sentence_names_each_side(self):
+        """Of the encounter's first moment, and of the same in a mirror."""
+        text = moments_in(bytes_of(ENCOUNTER))[0][0]
+        found = on_page(OPEN + """
+            const found = [];
+            for (const text of given) {
+              await open(["a.states", text]);
+              found.push($("summary").textContent);
+            }
+            return found;""", text, text.replace("AMBER 3000 8000 10000 -1350", "AMBER -3000 8000 10000 1350").replace("BRAVO -1200", "BRAVO 1200"))
+        for told, side in zip(found, ("right to 10°", "left to 350°")):
+            self.assertEqual(told, f"Alerts: AMBER level 2 in 43 s. Open: track {side}; ground speed down to 260 kt; vertical speed down to -700 ft/min "
+                             "or up to 700 ft/min; altitude down to 9500 ft or up to 10500 ft.")
+
+    def test_the_sentence_of_many_alerts_counts_the_rest(self):
+        """Four are told, those of the greatest levels, the first of them first; how a display is named has the greatest level of all."""
+        rows = "".join(f"traffic A{i} {60 * i} {3000 + 600 * i} 10000 0 -1500 0\n" for i in range(7)) + "traffic LAST 9000 0 30000 0 0 0\n"
+        states = f"moment 0\nown 0 0 10000 0 1500 0\n{rows}end\n"
+        told, label = on_page(OPEN + """await open(["many.states", given[0]]); return [$("summary").textContent, display().getAttribute("aria-label")];""", states)
+        alerts = re.findall(r"(?m)^alert (\S+) ([1-4]) (\d+)$", replayed(THREE_LEVELS, states.encode()))
+        alerts.sort(key=lambda it: (-int(it[1]), int(it[2])))
+        self.assertGreaterEqual(len(alerts), 6)
+        words = [f"{name} level {level} {'now' if first == '0' else f'in {first} s'}" for name, level, first in alerts[:4]]
+        self.assertTrue(told.startswith(f"Alerts: {', '.join(words)}, {len(alerts) - 4} more. "), told)
+        self.assertEqual(label, f"Display under three_levels: 8 aircraft, the greatest alert level is {alerts[0][1]}")
+
+    def test_the_sentence_beside_two_displays_names_its_own(self):
+        alone, beside = on_page("""
+            const alone = $("summary").textContent;
+            await fire($("compare"), "change", { target: { checked: true } });
+            await settle();
+            return [alone, $("summary").textContent];""")
+        self.assertEqual(beside, f"Under three_levels: {alone}")
+
+    def test_the_sentence_is_that_of_what_is_held(self):
+        """And of no older moment; a screen reader is told of it when it is let go."""
+        found = on_page("""
+            const { x, y } = page.views[0].drawn.g.centre, [left, top] = handle("p:AMBER").getAttribute("transform").match(/[-.0-9]+/g).map(Number);
+            const told = () => [$("summary").textContent, $("summary").getAttribute("aria-busy")];
+            const found = [told()];
+            fire(display(), "pointerdown", { target: handle("p:AMBER"), clientX: left, clientY: top, pointerId: 1, button: 0, isPrimary: true });
+            fire(display(), "pointermove", { clientX: x + 5, clientY: y - 5, pointerId: 1, buttons: 1 });
+            await settle();
+            found.push(told());
+            fire(display(), "pointerup", { pointerId: 1 });
+            await settle();
+            return [...found, told()];""")
+        self.assertEqual([busy for _, busy in found], ["false", "true", "false"])
+        self.assertRegex(found[0][0], "^Alerts: AMBER level 2 in 43 s")
+        self.assertRegex(found[1][0], "^Alerts: AMBER level 3 now")
+        self.assertEqual(found[1][0], found[2][0])
 
     def test_each_number_is_in_the_unit_that_is_told(self):
         """Places in NM, speeds in knots, of the ownship and of an aircraft; and whose number is out of its range."""
@@ -422,6 +637,17 @@ class Used(unittest.TestCase):
         self.assertEqual(fault, "alt of the ownship is not within -2000 and 60000")
         self.assertEqual(other, {"id": "AMBER", "x": "3", "y": "8", "alt": "10000", "vx": "-135", "vy": "0", "vs": "0", "age": "0"})
         self.assertIn("traffic AMBER 2500 7750 10000 -1205 100 200 3\n", last)
+
+    def test_each_number_has_its_name_and_unit(self):
+        own, other = on_page("""
+            const named = () => [...$("state").innerHTML.matchAll(/<label>([^<]*?) ?<input[^>]*data-field="(\\w+)"/g)].map(([, words, field]) => [field, words]);
+            const own = named();
+            await fire($("aircraft"), "click", { target: { dataset: { choose: "AMBER" } } });
+            await settle();
+            return [own, named()];""")
+        some = [["x", "east NM"], ["y", "north NM"], ["alt", "altitude ft"]]
+        self.assertEqual(own, [*some, ["trk", "track °"], ["gs", "speed kt"], ["vs", "vertical ft/min"]])
+        self.assertEqual(other, [["id", "name"], *some, ["vx", "east kt"], ["vy", "north kt"], ["vs", "vertical ft/min"], ["age", "age s"]])
 
     def test_a_number_beyond_all_is_told(self):
         """And not left as it was some letters ago."""
@@ -456,10 +682,34 @@ class Used(unittest.TestCase):
                  ("v:", "ArrowRight", True, "own 0 0 10000 1 3600 0"), ("track", "ArrowRight", True, "own 0 0 10000 11 3600 0"),
                  ("gs", "ArrowDown", True, "own 0 0 10000 11 3100 0"), ("vs", "ArrowUp", True, "own 0 0 10000 11 3100 1000"),
                  ("alt", "ArrowUp", True, "own 0 0 11000 11 3100 1000"), ("v:AMBER", "ArrowRight", False, "traffic AMBER 3000 9000 11000 -1345 118 0"),
-                 ("v:BRAVO", "ArrowUp", False, "traffic BRAVO -1200 -300 10600 0 3700 -600"))
+                 ("v:BRAVO", "ArrowUp", False, "traffic BRAVO -1200 -300 10600 0 3700 -600"),
+                 ("p:BRAVO", "PageDown", False, "traffic BRAVO -1200 -300 10500 0 3700 -600"))
         found = on_page(f"const found = []; for (const step of given) {{ await press(...step); found.push({STATES}); }} return found;", *(step[:3] for step in steps))
         for (*_, line), states in zip(steps, found, strict=True):
             self.assertIn(line + "\n", states)
+
+    def test_keys_with_the_track_up(self):
+        """An arrow goes where it points on the display: ahead and to the right of a track of 40 degrees."""
+        places = on_page(OPEN + """
+            await open(["turned.states", given[0]]);
+            await fire(caption, "click", { target: { dataset: { do: "up" } } });
+            await settle();
+            const places = [];
+            for (const key of ["ArrowUp", "ArrowRight"]) {
+              await press("p:A", key, true);
+              places.push([page.current.traffic[0].x, page.current.traffic[0].y]);
+            }
+            return places;""", TURNED.decode())
+        self.assertEqual(places, [[4500 + 643, 4000 + 766], [4500 + 643 + 766, 4000 + 766 - 643]])
+
+    def test_keys_at_what_was_just_removed(self):
+        """They come before it is gone from the display, and move nothing."""
+        states = on_page(f"""
+            const gone = handle("p:AMBER");
+            for (const key of ["Delete", "Delete", "ArrowUp", "PageUp"]) fire(display(), "keydown", {{ target: gone, key }});
+            await settle();
+            return {STATES};""")
+        self.assertEqual(re.findall("(?m)^(?:traffic|own) .*$", states), ["own 0 0 10000 0 3600 0", "traffic BRAVO -1200 -300 10600 0 3600 -600"])
 
     def named(self, script):
         """What a script returns that types at the chosen aircraft, which is BRAVO."""
@@ -488,6 +738,12 @@ class Used(unittest.TestCase):
         self.assertIn("own 0 0 10000 0 3600 0\n", states)
         self.assertIn("traffic  -1200 -300 9000 0 3600 -600\n", states)
 
+    def test_a_letter_of_another_alphabet_is_none_of_a_name(self):
+        """Also one whose last byte is that of a letter: Cyrillic Ё, U+0401, and Polish Ł, U+0141, which would be an A."""
+        for name in ("\u0401", "\u0141MBER"):
+            told = self.named(f'await type("id", "{name}"); return [$("fault").textContent, page.views[0].said];')
+            self.assertEqual(told, [f"an identifier is not 1 to 8 letters, digits, _ or -: {name}", None])
+
     def test_a_name_with_a_colon_is_moved(self):
         """Also one whose first part is another aircraft's name."""
         for name in ("AMBER:1", "X:Y"):
@@ -499,7 +755,7 @@ class Used(unittest.TestCase):
     def test_what_is_held_goes_with_the_pointer(self):
         """North up and with the track up: a handle stands where it is let go, but for whole numbers; the track bug at the pointer's
         bearing, a tape's pointer at its height."""
-        moves = (("p:A", -30, 25), ("v:A", 20, -15), ("p:", 15, -25), ("v:", 25, 30), ("track", 60, 40), ("gs", 0, 40), ("vs", 0, -50), ("alt", 0, 40))
+        moves = (("p:A", -30, 25), ("v:A", 20, -15), ("p:B", 25, -30), ("v:B", -15, -20), ("p:", 15, -25), ("v:", 25, 30), ("track", 60, 40), ("gs", 0, 40), ("vs", 0, -50), ("alt", 0, 40))
         centre, *found = on_page("""
             const file = { name: "turned.states", arrayBuffer: async () => daa.bytesOf(given[0]).buffer };
             await fire(screen, "drop", { dataTransfer: { files: [file] } });
@@ -544,6 +800,37 @@ class Used(unittest.TestCase):
             return [before, found];""")
         self.assertEqual(found, [[False, before]] * 3 + [[False, re.sub("traffic AMBER .*\n", "", before)]])
 
+    def test_a_click_that_slips_moves_nothing(self):
+        """Also at an aircraft out of range, which stands at the rim; once it is moved, it goes with the pointer to each point."""
+        found = on_page(OPEN + f"""
+            await open(["far.states", given[0]]);
+            await drag("p:FAR", 2, -2);
+            const found = [{STATES}, page.edited, page.chosen], [x, y] = handle("p:A").getAttribute("transform").match(/[-.0-9]+/g).map(Number);
+            fire(display(), "pointerdown", {{ target: handle("p:A"), clientX: x, clientY: y, pointerId: 1, button: 0, isPrimary: true }});
+            for (const right of [9, 1]) fire(display(), "pointermove", {{ clientX: x + right, clientY: y, pointerId: 1, buttons: 1 }});
+            await settle();
+            return [...found, page.current.traffic[1].x];""", self.FAR)
+        self.assertEqual(found[:3], [self.FAR, False, "p:FAR"])
+        self.assertTrue(1000 < found[3] < 1100, found[3])
+
+    FAR = "moment 0\nown 0 0 10000 0 3600 0\ntraffic FAR 100000 100000 10000 0 0 0\n" + "".join(
+        f"traffic {name} {1000 * place} 3000 10000 0 -100 0\n" for place, name in enumerate("ABCDEFG", 1)) + "end\n"
+
+    def test_a_second_finger_neither_moves_nor_drops_what_is_held(self):
+        found = on_page(f"""
+            const found = [], [x, y] = handle("p:AMBER").getAttribute("transform").match(/[-.0-9]+/g).map(Number);
+            const touch = async (event, pointerId, right) => {{
+              await fire(display(), event, {{ target: handle("p:AMBER"), clientX: x + right, clientY: y, pointerId, buttons: 1, button: 0, isPrimary: pointerId === 1 }});
+              found.push([{STATES}, Boolean(page.held)]);
+            }};
+            for (const [event, pointerId, right] of given) await touch(event, pointerId, right);
+            return found;""", ("pointerdown", 1, 0), ("pointermove", 1, 20), ("pointerdown", 2, -200), ("pointermove", 2, -150), ("pointerup", 2, -150),
+            ("pointercancel", 2, -150), ("pointermove", 1, 40), ("pointerup", 1, 40))
+        places, held = zip(*found)
+        self.assertEqual(held, (True,) * 7 + (False,))
+        self.assertEqual(len({*places[1:6]}), 1)
+        self.assertEqual(len({places[0], places[1], places[6]}), 3)
+
     def test_a_wheel_that_turns_sideways_keeps_the_range(self):
         found = on_page("""
             const ranges = [];
@@ -555,22 +842,77 @@ class Used(unittest.TestCase):
         self.assertEqual(found, [12, 18, 12])
 
     def test_a_late_answer_to_an_older_moment_is_not_shown(self):
-        """The answers to two changes come one after the other, and nothing is shown before the second."""
+        """The answers to two changes come one after the other, and nothing is shown before the second: no band, no mark, no level in a symbol
+        or in the table, no line of the report, and no sentence."""
         found = on_page("""
-            const [view] = page.views, answers = [], bands = () => display().querySelector("[data-layer=ring]").innerHTML.includes("data-level");
+            const [view] = page.views, answers = [], layer = (name) => display().querySelector(`[data-layer=${name}]`).innerHTML;
+            const shown = () => [layer("ring").includes("data-level"), layer("tapes").includes("data-level"), layer("answers") !== "",
+              $("aircraft").tBodies[0].innerHTML.includes("chip"), $("report").innerHTML.includes("data-line"), $("summary").textContent.startsWith("Alerts"),
+              display().getAttribute("aria-label").includes("greatest"), handle("p:AMBER").getAttribute("aria-valuetext").includes("alert level")];
             view.desk.ask = () => new Promise((answer) => answers.push(answer));
             for (const key of ["ArrowUp", "ArrowRight"]) {
               fire(display(), "keydown", { target: handle("p:AMBER"), key });
               for (let frames = 0; frames < 30; frames++) await frame();
             }
-            const { text } = view.said, found = [answers.length, bands()];
+            const { text } = view.said, found = [answers.length, shown()];
             for (const answer of answers) {
               answer({ text });
               for (let frames = 0; frames < 30; frames++) await frame();
-              found.push(bands());
+              found.push(shown());
             }
             return found;""")
-        self.assertEqual(found, [2, False, False, True])
+        self.assertEqual(found, [2, [False] * 8, [False] * 8, [True] * 8])
+
+    def test_nothing_of_a_refused_moment_looks_clear(self):
+        """Ring and tapes are grey, and each aircraft has a ? in place of a level; nothing of the moment before is left, and nothing
+        of it after it."""
+        layers, symbols, table, summary, label, fault = on_page("""
+            await fire($("state"), "input", { target: { dataset: { field: "alt", scale: "1" }, value: "70000" } });
+            await settle();
+            const layers = ["ring", "tapes", "answers"].map((name) => display().querySelector(`[data-layer=${name}]`).innerHTML);
+            const symbols = [...display().daa.handles.values()].filter((it) => /^p:./.test(it.dataset.key)).map((it) => [it.innerHTML, it.getAttribute("aria-valuetext")]);
+            const answer = [layers, symbols, $("aircraft").tBodies[0].innerHTML, $("summary").textContent, display().getAttribute("aria-label")];
+            await fire($("restore"), "click");
+            await settle();
+            return [...answer, $("fault").textContent];""")
+        self.assertEqual(fault, "")
+        ring, tapes, answers = map(xml_of, layers)
+        self.assertEqual([it.get("fill") for it in ring.iter("path") if it.get("fill")], ["var(--unknown)"])
+        self.assertEqual([it.get("fill") for it in tapes.iter("rect")], ["var(--unknown)"] * 3)
+        self.assertEqual(list(answers), [])
+        self.assertEqual(len(symbols), 2)
+        for inside, told in symbols:
+            words = [it.text for it in xml_of(inside).iter("text")]
+            self.assertTrue(words[0] == "?" and told.endswith(", no answer"), (words, told))
+        self.assertEqual(["".join(row[1].itertext()) for row in xml_of(table)][1:], ["–"] * 2)
+        self.assertEqual((summary, label), ("alt of the ownship is not within -2000 and 60000",
+                                            "Display under three_levels: alt of the ownship is not within -2000 and 60000"))
+
+    def test_an_engine_that_stopped_is_told(self):
+        told = on_page("""
+            page.views[0].desk.ask = async () => ({ stopped: "The engine stopped." });
+            await press("p:AMBER", "ArrowUp");
+            return [$("fault").textContent, $("summary").textContent, $("report").innerHTML.includes("data-line")];""")
+        self.assertEqual(told, ["The engine stopped."] * 2 + [False])
+
+    def test_a_stopped_worker_answers_no_later_question(self):
+        """What it had sent before it was stopped comes after the next question was asked."""
+        found = on_page("""
+            const workers = [], found = [];
+            globalThis.Worker = class { constructor() { workers.push(this); } postMessage(it) { (this.asked ??= []).push(it); } terminate() {} };
+            const desk = new daa.Desk(null);
+            workers[0].onmessage({ data: { ready: true } });
+            desk.ask("first").then((answer) => found.push(["first", answer]));
+            await new Promise((done) => setTimeout(done, 300));
+            desk.forget();
+            desk.ask("second").then((answer) => found.push(["second", answer]));
+            workers[1].onmessage({ data: { ready: true } });
+            workers[0].onmessage({ data: { number: workers[0].asked[1].number, answer: "old" } });
+            await frame();
+            workers[1].onmessage({ data: { number: workers[1].asked[1].number, answer: "new" } });
+            await frame();
+            return [found, workers.length];""")
+        self.assertEqual(found, [[["first", None], ["second", "new"]], 2])
 
     def test_playing_goes_to_the_last_moment(self):
         """And begins anew from there."""
@@ -585,6 +927,42 @@ class Used(unittest.TestCase):
             }
             return found;""")
         self.assertEqual(found, ["❚❚", 0, "▶", 18] * 2)
+
+    def test_what_alerts_is_drawn_over_the_rest(self):
+        """Also where it alerts later, with the focus anywhere: in the first moment nothing alerts, in the second LOUD, in the third QUIET."""
+        one = "moment {}\nown 0 0 10000 0 3600 0\ntraffic LOUD 0 {} {} 0 -3600 0\ntraffic QUIET 0 {} {} 0 -3600 0\nend\n"
+        states = one.format(0, 20000, 10000, 20000, 30000) + one.format(10, 4000, 10000, 4000, 30000) + one.format(20, 4000, 30000, 4000, 10000)
+        found = on_page(OPEN + """
+            await open(["order.states", given[0]]);
+            const found = [];
+            for (const focused of [null, "p:LOUD", "p:QUIET", "track"]) {
+              document.activeElement = focused ? handle(focused) : $("slider");
+              for (const value of ["1", "2", "0"]) {
+                $("slider").value = value;
+                await fire($("slider"), "input");
+                await settle();
+                const group = display().querySelector("[data-layer=handles]");
+                found.push(group.children.map((it) => it.dataset.key).filter((key) => key.startsWith("p:") && key.length > 2));
+              }
+            }
+            return found;""", states)
+        for loud, quiet, _ in (found[place:place + 3] for place in range(0, 12, 3)):
+            self.assertEqual((loud, quiet), (["p:QUIET", "p:LOUD"], ["p:LOUD", "p:QUIET"]))
+
+    def test_the_buttons_step_by_one_and_stop_at_the_ends(self):
+        found = on_page("""
+            const found = [];
+            for (const [button, times] of [["forward", 3], ["back", 1], ["back", 3], ["forward", 30]]) {
+              for (let time = 0; time < times; time++) await fire($(button), "click");
+              found.push(page.index);
+            }
+            return found;""")
+        self.assertEqual(found, [3, 2, 0, 18])
+
+    def test_each_speed_is_what_it_says(self):
+        options = re.findall(r'<option\s+value="(\d+)"[^>]*>×(\d+)</option>', text_of(os.path.join(Page.folder, "index.html")))
+        self.assertEqual([value for value, _ in options], [words for _, words in options])
+        self.assertEqual(len(options), 4)
 
     def test_the_range_that_fits(self):
         """It has the traffic of the encounter in it: both aircraft, at most 8.54 NM away; 9 NM would leave AMBER at the rim."""
@@ -642,6 +1020,25 @@ class Used(unittest.TestCase):
         held = ["three_levels", "recovery", "encounter.states", {"trackUp": True, "range": 24, "heights": 6000}]
         self.assertEqual((before, meanwhile[0], after), (held, "recovery", held))
 
+    def test_a_copied_link_leaves_the_recording(self):
+        """It stands in the address then, and is not taken from there."""
+        found = on_page("""
+            await fire($("link"), "click");
+            await fire(screen, "hashchange");
+            await settle();
+            return [location.hash.startsWith("#m="), page.moments.length];""")
+        self.assertEqual(found, [True, 19])
+
+    def test_a_link_of_a_changed_moment_has_no_name_of_a_recording(self):
+        head = on_page("""
+            await press("p:AMBER", "ArrowUp");
+            await fire($("link"), "click");
+            page.hash = "";
+            await fire(screen, "hashchange");
+            await settle();
+            return display().querySelector("[data-layer=head]").innerHTML;""")
+        self.assertEqual([it.text for it in xml_of(head)][1], "changed by hand")
+
     def test_a_refused_configuration_gives_no_name(self):
         """What is shown is named as the one that it is shown under."""
         head, label, fault = on_page(OPEN + """
@@ -652,6 +1049,49 @@ class Used(unittest.TestCase):
         self.assertEqual([text.text for text in xml_of(head)][2], "three_levels")
         self.assertRegex(label, "^Display under three_levels: ")
         self.assertIn("track_step = 7 does not divide 360", fault)
+
+    def test_a_refused_configuration_is_told_beside_what_is_shown(self):
+        """Where it was opened, edited, or came by a link; until one is taken."""
+        config, held = text_of(THREE_LEVELS), {"states": "moment 7\nown 0 0 0 0 0 0\nend\n", "name": "", "look": [{}, {}]}
+        linked = {**held, "configs": [{"name": "x", "toml": config + "x = 1\n"}, {"name": "y", "toml": config}]}
+        told = on_page(OPEN + EDIT + """
+            const told = [], tell = () => told.push($("fault").textContent);
+            await open(["strict.toml", "x = 1"]);
+            tell();
+            await edit(given[0]);
+            tell();
+            await edit("x = 1");
+            tell();
+            $("preset").value = "recovery";
+            await fire($("preset"), "change", { target: $("preset") });
+            await settle();
+            tell();
+            location.hash = `#${await daa.pack(given[1])}`;
+            await fire(screen, "hashchange");
+            await settle();
+            tell();
+            return told;""", config, linked)
+        kept = "a configuration is refused, and {} is shown in its place".format
+        self.assertEqual(told, [kept("three_levels"), "", kept("edited"), "", kept("recovery")])
+
+    def test_the_second_configuration_is_edited_and_chosen(self):
+        """And the first one is left."""
+        found = on_page(EDIT + """
+            const found = [], names = () => found.push(page.views.map(({ name, toml }) => [name, toml === given[0]]));
+            names();
+            $("which").value = "1";
+            await fire($("which"), "change");
+            await edit(given[0]);
+            names();
+            await fire($("preset"), "change", { target: { value: "three_levels" } });
+            names();
+            return found;""", "# edited\n" + text_of(RECOVERY))
+        self.assertEqual(found, [[["three_levels", False], [name, name == "edited"]] for name in ("recovery", "edited", "three_levels")])
+
+    def test_an_aircraft_is_added_within_the_range(self):
+        """Northeast of the ownship, level with it, westward at 150 knots."""
+        states = on_page(f'await fire($("add"), "click"); await settle(); return {STATES};')
+        self.assertIn("traffic NEW1 6000 6000 10000 -1500 0 0\n", states)
 
     def test_a_link_holds_the_configuration_that_counts(self):
         """And not what was edited since, and is refused."""
@@ -673,6 +1113,15 @@ class Used(unittest.TestCase):
             self.assertEqual(before, ["edited", moments_of(replayed(file.name, bytes_of(ENCOUNTER)))[0]])
         self.assertEqual(after, before)
 
+    def test_a_button_that_is_clicked_twice_has_its_words_again(self):
+        words = on_page("""
+            $("copy").textContent = "Copy";
+            for (const time of [1, 2]) await fire($("copy"), "click");
+            const words = [$("copy").textContent];
+            await new Promise((done) => setTimeout(done, 1700));
+            return [...words, $("copy").textContent];""")
+        self.assertEqual(words, ["Saved", "Copy"])
+
     def test_a_link_holds_a_long_text(self):
         text = "".join(map(str, random.Random(1).choices(range(1000), k=100000)))
         self.assertTrue(on_page("return (await daa.unpack(`#${await daa.pack(given[0])}`)) === given[0];", text))
@@ -686,18 +1135,24 @@ class Used(unittest.TestCase):
         self.assertEqual((told, hash), ("No link: alt of the ownship is not within -2000 and 60000", ""))
 
     def test_a_link_that_holds_no_moment_is_left(self):
-        """Links of another form, and one whose state lines are refused."""
+        """And told: links of another form, and one whose state lines are refused; but the one to the panel is none."""
         whole = {"states": "moment 7\nown 0 0 0 0 0 0\nend\n", "name": "", "configs": [{}, {}], "look": [{}, {}]}
         wrong = [5, {}, [], {**whole, "configs": [{}, {}, {}]}, {**whole, "look": [{}, None]}, {**whole, "look": {}}, {**whole, "states": "moment 7\n"}]
-        times = on_page("""
-            const times = [];
-            for (const held of given) {
-              location.hash = `#${await daa.pack(held)}`;
+        times, told, head = on_page("""
+            const times = [], told = [];
+            for (const held of ["panel", ...given]) {
+              location.hash = held === "panel" ? "#panel" : `#${await daa.pack(held)}`;
               await fire(screen, "hashchange");
+              await settle();
               times.push(page.current.time);
+              told.push($("fault").textContent);
             }
-            return times;""", *wrong, whole)
-        self.assertEqual(times, [0] * len(wrong) + [7])
+            return [times, told, display().querySelector("[data-layer=head]").innerHTML];""", *wrong, whole)
+        self.assertEqual(times, [0] * (1 + len(wrong)) + [7])
+        self.assertEqual([it.text for it in xml_of(head)][1], None)
+        self.assertEqual(told.pop(0), "")
+        self.assertEqual(told[-2:], [" has no whole moment; line 2 was refused with code 14", "a configuration is refused, and three_levels is shown in its place"])
+        self.assertEqual(set(told[:-2]), {"the link holds no moment: is it whole?"})
 
     def test_a_file_that_is_not_taken_is_told_until_another_one_is_opened(self):
         told = on_page(OPEN + """
@@ -713,12 +1168,34 @@ class Used(unittest.TestCase):
         self.assertEqual(told, ["none.states has no whole moment; line 1 was refused with code 2",
                                 "none.daa: the header has no column for alt, vs, a place (lat lon, or sx sy), a speed (trk gs, or vx vy)", ""])
 
+    def test_many_refused_lines_are_counted(self):
+        """And leave room for the aircraft."""
+        told, *styles, after = on_page(OPEN + """
+            await open(["many.states", given[0]]);
+            const found = [$("notes").textContent, $("notes").className];
+            await fire($("forward"), "click");
+            await settle();
+            found.push($("notes").className);
+            await open(["none.states", given[1]]);
+            return [...found, $("notes").textContent];""", "nothing\n" * 1000 + text_of(ENCOUNTER), text_of(ENCOUNTER))
+        self.assertEqual((styles, after), (["problem", "quiet"], ""))
+        self.assertEqual(told, "many.states: 1000 lines were refused; " + "".join(f"line {line} was refused with code 2; " for line in range(1, 6))
+                         + "995 more were refused before this moment")
+
     def test_the_ownship_is_chosen_in_a_recording_alone(self):
         """In the one that is shown, whatever is refused after it."""
         files = (("none.daa", "name time\n"), ("a.daa", text_of(os.path.join(EXAMPLES, "recording.daa"))), ("none.states", "nothing\n"),
                  ("a.states", text_of(ENCOUNTER)), ("none.daa", "name time\n"))
         hidden = on_page(OPEN + "const hidden = []; for (const it of given) { await open(it); hidden.push($('own-label').hidden); } return hidden;", *files)
         self.assertEqual(hidden, [True, False, False, True, True])
+
+    def test_the_ownship_that_is_chosen_is_named(self):
+        names = on_page(OPEN + """
+            await open(["a.daa", given[0]]);
+            const names = [$("own").value];
+            await fire($("own"), "change", { target: { value: "Intruder1" } });
+            return [...names, $("own").value];""", text_of(os.path.join(EXAMPLES, "recording.daa")))
+        self.assertEqual(names, ["Ownship", "Intruder1"])
 
     def test_files_that_are_dropped_and_the_one_that_is_saved(self):
         """A configuration counts for states that come before it; it is saved as it was edited."""
