@@ -3,8 +3,8 @@
 //! soon as 256 bytes of it were fed, and the rest of it is skipped.
 
 ghost use Rattle.std.specs.Prelude.{◌≡◌, ◌<◌, ◌≤◌, ◌+◌, ◌^◌, ◌↔◌, ◌⊎◌, ◌++◌, []};
-ghost use Rattle.std.specs.Prelude.{◌∷◌, List, ℕ, IfSome, length, take, drop};
-ghost use Rattle.std.specs.Prelude.{false, true, slice_get, slice_index, ◌==◌};
+ghost use Rattle.std.specs.Prelude.{◌∷◌, List, ℕ, IfSome, IfNone, length, take, drop};
+ghost use Rattle.std.specs.Prelude.{false, true, slice_get, slice_index, ◌==◌, ◌≢◌};
 ghost use Rattle.daa_lines.specs.LinesOf.{lines_of};
 ghost use Rattle.daa_lines.specs.LinesState.{is_standing};
 ghost use Rattle.daa_lines.specs.Inside.LinesState.{IsSized};
@@ -252,8 +252,9 @@ impl Lines {
     /// The bytes of the line that is ready, if there is one of fewer than 256 bytes. It is not
     /// taken.
     pub fn standing_line(&self) -> Option<&[u8]>
-        ensures { IfSome result (λ bytes. (self.now.stage ≡ Stage.Whole)
+        ensures stands { IfSome result (λ bytes. (self.now.stage ≡ Stage.Whole)
             × (bytes.now ≡ self.now.line)) }
+        ensures none { IfNone result (self.now.stage ≢ Stage.Whole) }
     {
         match self.stage {
             Stage::Whole => Some(self.line.as_slice()),

@@ -250,3 +250,16 @@ fn lines_are_read_on_from_between_two(rt: HostRuntime) {
     assert!(rt; is_whole(others.take_line(), b"cd"));
     assert_eq!(rt; (others.fed(), others.number()), (5, 2));
 }
+
+/// It is shown as often as it is asked for, until it is taken.
+#[test]
+fn a_line_that_stands_is_shown_until_it_is_taken(rt: HostRuntime) {
+    let mut lines = Lines::new();
+    assert!(rt; lines.standing_line().is_none());
+    assert!(rt; lines.feed(b"ab\nc") == 3);
+    for _ in 0..2 {
+        assert!(rt; lines.standing_line() == Some(b"ab".as_slice()));
+    }
+    assert!(rt; matches!(lines.take_line(), InputLine::Whole(_)));
+    assert!(rt; lines.standing_line().is_none());
+}
