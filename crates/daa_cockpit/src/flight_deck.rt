@@ -42,7 +42,8 @@ impl FlightDeck {
         );
     }
 
-    /// Publishes the moments of the text while the displays look.
+    /// Publishes the moments of the text while the displays look. They look until all is published:
+    /// so where no thread can be started for them, this one publishes first.
     fn publish_and_watch<R: Threads + Wait + Sync>(
         &mut self,
         rt: &R,
@@ -58,14 +59,14 @@ impl FlightDeck {
         ensures ground { IsSameDisplay self.old.ground self.new.ground }
     {
         let ended = AtomicBool::new(false);
-        let (published, ()) = join_mut(
+        let ((), published) = join_mut(
             rt,
+            &mut || self.watch(rt, alloc, &ended),
             &mut || {
                 let published = publish_moments(rt, states, feed);
                 ended.store(true, Ordering::SeqCst);
                 published
             },
-            &mut || self.watch(rt, alloc, &ended),
         );
         published
     }
