@@ -299,34 +299,43 @@ fn a_write_of_no_bytes_is_a_fault(rt: HostRuntime) {
     );
 }
 
-/// A writer that can be flushed this many times, and then fails.
+/// A writer that can be flushed this many times, and then fails; what was written waits for a
+/// flush.
 #[derive(Drop)]
-struct Flushes(u32);
+struct Flushes {
+    left: u32,
+    waits: bool,
+}
 
 impl io::Write for Flushes {
     fn write(&mut self, buf: &[u8]) -> io::Result<usize> {
+        self.waits = true;
         Ok(buf.len())
     }
 
     fn flush(&mut self) -> io::Result<()> {
-        if self.0 == 0 {
+        if self.left == 0 {
             return Err(io::Error::from(io::ErrorKind::BrokenPipe));
         }
-        self.0 -= 1;
+        self.left -= 1;
+        self.waits = false;
         Ok(())
     }
 }
 
 #[test]
 fn each_write_is_flushed(rt: HostRuntime) {
-    let mut writer = Flushes(2);
+    let mut writer = Flushes {
+        left: 2,
+        waits: false,
+    };
+    for (piece, left) in [("a", 1), ("b", 0)] {
+        let mut sink = StdSink::new(&mut writer);
+        expect_writes(&rt, &mut sink, &[(piece, Ok(1))]);
+        assert!(rt; writer.left == left && !writer.waits, "after {piece}");
+    }
     let mut sink = StdSink::new(&mut writer);
-    expect_writes(
-        &rt,
-        &mut sink,
-        &[("a", Ok(1)), ("b", Ok(1)), ("c", Err(Failed))],
-    );
-    assert!(rt; writer.0 == 0);
+    expect_writes(&rt, &mut sink, &[("c", Err(Failed))]);
 }
 
 /// A file of so many letters x.
@@ -397,6 +406,14 @@ fn fault_at(alloc: Global, kind: ErrorKind) -> Option<FetchFault> {
 fn want_of_memory_while_a_file_is_read_is_told(rt: HostRuntime) {
     assert!(rt; fault_at(rt.alloc(), ErrorKind::OutOfMemory) == Some(FetchFault::NoMemory));
     assert!(rt; fault_at(rt.alloc(), ErrorKind::BrokenPipe) == Some(FetchFault::Failed));
+}
+
+/// A file without an end is read until it is too long.
+#[test]
+fn a_file_without_an_end_is_too_long(rt: HostRuntime) {
+    let mut endless = FailsOnce::at(u32::MAX, ErrorKind::BrokenPipe);
+    assert!(rt; text_of(rt.alloc(), &mut endless).err() == Some(FetchFault::TooLong));
+    assert!(rt; endless.calls == 65537);
 }
 
 /// A clock by which nobody sleeps.
