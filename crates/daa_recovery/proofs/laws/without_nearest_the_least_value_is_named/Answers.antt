@@ -1,4 +1,4 @@
-use Rattle.std.proofs.Common.{Bool, ℤ, ◌≤ℤ◌, subst}
+use Rattle.std.proofs.Common.{Bool, ◌≤ℤ◌, subst}
 use Rattle.std.specs.Prelude.{if◌then◌else◌}
 use Rattle.daa_recovery.specs.Order.{way_of, place_of_way}
 use Rattle.daa_resolve.specs.Side.{present_of}

@@ -1,6 +1,6 @@
 use Rattle.std.proofs.Common.{pos, ◌+◌, ◌≤ℤ◌, arith}
 use Rattle.std.proofs.lemmas.Int.{ints}
-use Rattle.daa_recovery.proofs.Horizons.{horizon_first, horizon_more, horizon_all}
+use Rattle.daa_recovery.proofs.Horizons.{horizon_more, horizon_all}
 use Rattle.daa_recovery.proofs.outlook.horizon_of.Goals as goal
 
 pub loop-l-preserved : goal.loop-l-preserved

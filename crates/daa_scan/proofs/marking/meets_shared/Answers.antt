@@ -1,4 +1,4 @@
-use Rattle.std.proofs.Common.{◌≡◌, ◌∙◌, List, Bool, ap, sym}
+use Rattle.std.proofs.Common.{◌∙◌, Bool, ap, sym}
 use Rattle.daa_config.specs.Settings.{rates_of}
 use Rattle.daa_scan.specs.Trunks.{trunk_in}
 use Rattle.daa_scan.specs.Inside.Rounds.{settings_in, own_in}

@@ -1,4 +1,4 @@
-use Rattle.std.proofs.Common.{◌<◌, ◌+◌, ◌≤◌, arith, sym, subst, Option}
+use Rattle.std.proofs.Common.{◌<◌, arith, sym, subst, Option}
 use Rattle.daa_recovery.specs.OutlookState.{OutlookState}
 use Rattle.daa_recovery.specs.Inside.Search.{IsBeforeHorizon}
 use Rattle.daa_recovery.specs.declared.recovery.Recovery.{Recovery}

@@ -1,4 +1,4 @@
-use Rattle.std.proofs.Common.{rules, ◌≡◌, ◌∙◌, Bool, ℤ, ap, w32, w64, FitsSigned, to_z, of_z}
+use Rattle.std.proofs.Common.{rules, ◌∙◌, Bool, ℤ, ap, w32, w64, FitsSigned}
 use Rattle.std.specs.Prelude.{int_lt, if◌then◌else◌}
 use Rattle.std.proofs.lemmas.Int.{to_z-of_z}
 use Rattle.daa_recovery.specs.OutlookState.{OutlookState}

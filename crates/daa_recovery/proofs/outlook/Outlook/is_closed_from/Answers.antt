@@ -1,4 +1,4 @@
-use Rattle.std.proofs.Common.{pos, arith, length, ap, subst, refl}
+use Rattle.std.proofs.Common.{arith, length, ap, subst, refl}
 use Rattle.std.proofs.lemmas.Int.{ints}
 use Rattle.daa_config.specs.Settings.{IsLevelAt}
 use Rattle.daa_recovery.specs.OutlookState.{OutlookState}

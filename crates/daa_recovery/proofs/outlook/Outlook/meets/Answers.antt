@@ -1,4 +1,4 @@
-use Rattle.std.proofs.Common.{◌↔◌, ◌+◌, sym, subst, arith}
+use Rattle.std.proofs.Common.{◌↔◌, sym, subst, arith}
 use Rattle.std.specs.Prelude.{IsTrue}
 use Rattle.daa_config.specs.Settings.{rates_of}
 use Rattle.daa_legs.specs.Branch.{FliesOn}
