@@ -78,7 +78,7 @@
     figure.querySelector("figcaption").addEventListener("click", ({ target }) => act(target.dataset.do, view(), figure));
     svg.addEventListener("pointerdown", (event) => hold(svg, event));
     svg.addEventListener("touchstart", (event) => { // a finger scrolls the page, but not where it holds something
-      if (event.target.closest(".handle")) event.preventDefault();
+      if (event.cancelable && event.target.closest(".handle")) event.preventDefault();
     }, { passive: false });
     svg.addEventListener("pointermove", (event) => {
       if (!isHolding(event)) return;

@@ -78,6 +78,13 @@ class Browser:
     def settle(self):
         self.driver.execute_async_script(SETTLE)
 
+    def stand(self):
+        """Waits until the page scrolls no more: a swipe goes on for a while, and a finger then cannot hold anything."""
+        was, now = None, self.js("return scrollY")
+        while was != now:
+            time.sleep(0.3)
+            was, now = now, self.js("return scrollY")
+
     def js(self, script, *words):
         return self.driver.execute_script(script, *words)
 

@@ -237,6 +237,7 @@ class Moved(PageTest):
         before = self.page.states()
         self.page.swipe(60, 700, 0, -200)
         self.page.wait("scrollY > 50")
+        self.page.stand()
         self.assertEqual(self.page.states(), before)
         x, y = self.page.js("scrollTo(0, 100); const m = arguments[0].getScreenCTM(); return [m.e, m.f]", self.page.handle("p:AMBER"))
         self.page.swipe(x, y, -20, 40)
