@@ -8,9 +8,9 @@
  * for no allocator. A call takes less than 256 KB of stack (measured; not proved).
  *
  * Each call but daa_line and daa_version returns DAA_OK, or another number of the list below; then it has filled in
- * nothing. Every number is checked, also those of a configuration, so no number passed in makes a call undefined. Where
- * several numbers apply, a call answers the first in the order: the configuration's, the states', DAA_BAD_KIND,
- * DAA_BAD_SIDE, DAA_BAD_BOARD, and then the others.
+ * nothing. Every number is checked, also those of a configuration, so no number passed in makes a call undefined; but not
+ * those of struct daa_lines, which daa_line alone fills in, from zeros on. Where several numbers apply, a call answers the
+ * first in the order: the configuration's, the states', DAA_BAD_KIND, DAA_BAD_SIDE, DAA_BAD_BOARD, and then the others.
  *
  * The caller must ensure, since nothing checks it: each pointer is valid for what it points to, or for the length that
  * follows it, also of length 0, and is not null; what a call fills in overlaps no other argument of the call, and
@@ -73,8 +73,8 @@ enum daa_kind {
 
 /* The sides of a kind. */
 enum daa_side {
-    DAA_LOWER = 0, /* to the left, slower, or lower */
-    DAA_UPPER = 1  /* to the right, faster, or higher */
+    DAA_LOWER = 0, /* to the left, slower, or lower; also the present value, and a turn by no degree */
+    DAA_UPPER = 1  /* to the right, faster, or higher; also a turn by 180 degrees */
 };
 
 /* The values min, min + step and so on up to max that a kind's candidates go to, at most 512, and by how much a second may

@@ -22,8 +22,8 @@ levels_in ms = option_map_or (λ ds. filter_map as_table (list_of ds)) (option_a
 
 -- ---- the numbers, each from its key
 
--- the whole number at a key, or 0 if there is none. No table differs from its rows by then, so only a key
--- that may be left out can be missing
+-- the whole number at a key, or 0 if there is none. The numbers count only where no table differs from its rows: then only
+-- keys that may be left out are missing
 abbrev pub number_in : Members → String → ℤ
 number_in ms key = option_map_or (λ z. z) (option_and_then as_integer (get_member (codes key) ms)) (pos 0)
 

@@ -1,4 +1,4 @@
--- The tables of a configuration: a row for each key says all that is asked of it.
+-- The tables of a configuration: a row for each key says what is asked of it by itself.
 use Prim.Native.String.{String}
 use Rattle.std.specs.Prelude.{ℕ, ℤ, pos, ◌-ℤ◌, int_le, Bool, true, false, not, ◌&&◌, ◌||◌, List, [], ◌∷◌, is_some, is_none, codes}
 use Rattle.std.specs.List.{list_any, list_all}

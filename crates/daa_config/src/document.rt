@@ -42,8 +42,8 @@ pub(crate) fn list_at<'a>(table: &'a Table, key: &str) -> Option<&'a Array>
     }
 }
 
-/// The whole number at a key, or 0 if there is none. By then `keys.rt` has found that only keys
-/// that may be left out are missing, and that each key holds what its row asks for.
+/// The whole number at a key, or 0 if there is none. The numbers count only where `keys.rt` finds
+/// that no table differs from its rows: then only keys that may be left out are missing.
 fn whole_at(table: &Table, key: &str) -> i64
     ensures { result ≡ number_at (table_view table.now) key.now }
 {

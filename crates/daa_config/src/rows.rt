@@ -1,4 +1,5 @@
-//! The tables of a configuration: a row for each key says all that is asked of it.
+//! The tables of a configuration: a row for each key says what is asked of it by
+//! itself.
 
 ghost use Rattle.std.specs.Prelude.{◌≡◌, ◌-ℤ◌, pos, map, true, false, is_some};
 ghost use Rattle.std.specs.List.{list_all};

@@ -64,7 +64,7 @@ fn has_nearest_hit(leg: &Leg, volume: &Volume) -> bool
 /// decides: the first if the distance grows there, the last if it still falls there (by tau with
 /// one more), and else the closest approach, at which a line that comes within `dthr` is within
 /// `dthr`. It takes two products of 128 bits for a line that misses or that is nearest inside the
-/// window, else four, and by tau at most ten.
+/// window, else at most four, and by tau at most ten.
 pub(crate) fn nearest_hit(leg: &Leg, volume: &Volume) -> Option<Point>
     requires leg { IsLegInRange leg.now }
     requires volume { IsVolumeInRange volume.now }

@@ -24,7 +24,7 @@ pub(crate) fn rate_at(motion: &Motion, point: &Point) -> i64
 }
 
 /// Whether the horizontal part of the volume holds at that time of a leg whose line comes within
-/// `dthr`: two products of 128 bits at most.
+/// `dthr`: two products of 128 bits at most, and four by tau.
 pub(crate) fn holds_at(leg: &Leg, volume: &Volume, motion: &Motion, point: &Point) -> bool
     requires leg { IsLegInRange leg.now }
     requires volume { IsVolumeInRange volume.now }

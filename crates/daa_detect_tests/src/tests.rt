@@ -201,7 +201,7 @@ fn first_seconds_by_model(rt: HostRuntime) -> Result<(), Fail> {
     Ok(())
 }
 
-// Head-on it is 23760 units away after exactly 10 seconds, or a second and 36 units later.
+// Head-on it is 23760 units away after exactly 10 seconds, or a hundredth of a second later.
 #[test]
 fn entry_after_exactly_tthr(rt: HostRuntime) -> Result<(), Fail> {
     let ten = leg(&solid(0, -59760, 0), &NORTHWARD, 1);
@@ -236,7 +236,7 @@ fn tau_of_exactly_tthr(rt: HostRuntime) -> Result<(), Fail> {
     Ok(())
 }
 
-// At 180 seconds it is 120.0075 seconds before a head-on meeting, 199820 units above co-altitude.
+// At 180 seconds it is 120.0075 seconds before a head-on meeting, 199820 units below co-altitude.
 #[test]
 fn largest_numbers(rt: HostRuntime) -> Result<(), Fail> {
     let tau = Volume {

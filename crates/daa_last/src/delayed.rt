@@ -56,8 +56,8 @@ pub(crate) fn meets_late(
     false
 }
 
-/// The velocity of the next second, where the candidate's own flight has one. To an altitude it
-/// rises from where it is.
+/// The velocity of the next second, where `flown` is that of the candidate's own flight. To an
+/// altitude it rises from where it is.
 fn velocity_from(rates: &Rates, candidate: Candidate, place: &Solid, flown: &Solid) -> Solid
     requires rates { AreRatesInRange rates.now }
     requires candidate { IsCandidateInRange candidate }

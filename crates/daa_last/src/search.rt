@@ -42,8 +42,8 @@ pub(crate) fn is_some_open(
     false
 }
 
-/// The place of an aircraft that closes the candidate; the one at the place `likely` is tried
-/// first, since it closed the candidate before.
+/// `None` exactly if the candidate is open; else the place of an aircraft that closes it, which no
+/// clause says. The one at the place `likely` is tried first, since it closed the one before.
 fn closing(
     config: &Config,
     picture: &Picture,

@@ -29,13 +29,14 @@ use daa_state::Own;
 pub struct Branch {
     /// At which it flies straight on: 1/36000 NM and 1/60 foot a second.
     pub velocity: Solid,
-    /// In 1/60 foot. Defined if the flight leaves the leading one within 180 seconds.
+    /// Of its own leg, in 1/60 foot. Defined if it has one: `settles` is above `leaves`, which is
+    /// below 180.
     pub rise: i64,
     /// From 180 on it leaves after the last leg that is flown.
     pub leaves: u32,
     /// `leaves`, or one more.
     pub settles: u32,
-    /// To the right or up, else to the left or down.
+    /// To the right or up, else to the left or down; where it leaves no leading flight, either.
     pub upper: bool,
 }
 

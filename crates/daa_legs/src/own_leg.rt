@@ -11,8 +11,8 @@ pub struct OwnLeg {
     pub velocity: Solid,
 }
 
-/// So many seconds of the ownship at one velocity, from its place at their beginning, each in range
-/// as an `OwnLeg`'s. A flight has 180 seconds.
+/// So many seconds of the ownship at one velocity, from its place at their beginning, the first in
+/// range as an `OwnLeg`. A flight has 180 seconds.
 #[derive(Clone, Copy, Debug, PartialEq, Eq)]
 pub struct OwnRun {
     pub place: Solid,

@@ -40,7 +40,7 @@ IsBare seen worker = SawShort seen worker ⊎ SawChange seen worker
 abbrev pub looks_at : ℕ → List Look → ℕ
 looks_at worker seen = sum_by (λ look. if look.worker == worker then 1 else 0) seen
 
--- at each other worker's range there was one look, and one try at most, which looks again where it fails
+-- at each other worker's range there were at most two looks, of which a try that failed is one
 abbrev pub IsBrief : ℕ → List Look → Type 0
 IsBrief number seen = (other : ℕ) → other ≢ number → looks_at other seen ≤ 2
 

@@ -23,7 +23,7 @@ module _ (p : OutlookState) (candidate : Candidate) where
     pub open_levels : ¬ IsClosedFrom m aircraft
     pub apart : ¬ MeetsWithin p.settings p.picture.own candidate aircraft p.cylinder p.horizon
 
-  -- the candidate recovers at m: it is clear of every aircraft from m on, and never in the cylinder round one
+  -- the candidate recovers at m: it is clear of every aircraft from m on, and before the horizon in the cylinder round none
   abbrev pub Recovers : ℕ → Type 0
   Recovers m = (place : ℕ) (aircraft : Traffic) → slice_get (aircraft_of p.picture) place ≡ Some aircraft → IsClear m aircraft
 

@@ -196,7 +196,7 @@ impl<'a> Outlook<'a> {
     }
 
     /// Whether the candidate keeps clear of an aircraft: it violates no level that closes from
-    /// second `m` on within the level's lookahead, and never comes into the cylinder.
+    /// second `m` on within the level's lookahead, and is not in the cylinder before the horizon.
     fn is_clear(&self, course: &Course, m: u32, aircraft: &Traffic) -> bool
         requires course { IsCourse self.now course.now }
         requires aircraft { IsTrafficInRange aircraft.now }

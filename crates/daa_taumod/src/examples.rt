@@ -27,6 +27,8 @@ pub fn worked_examples()
         (pos 0) (pos 1) }
     ensures soon_by_modified_tau { ViolatesHorizontally inside
         (volume_of 23760 27000 8 0 Model.Taumod) (pos 0) (pos 1) }
+    ensures not_soon_by_modified_tau { ¬ ViolatesHorizontally inside
+        (volume_of 23760 27000 6 0 Model.Taumod) (pos 0) (pos 1) }
     ensures not_soon_by_closest { ¬ ViolatesHorizontally inside
         (volume_of 23760 27000 8 0 Model.Tcpa) (pos 0) (pos 1) }
     ensures soon_by_closest { ViolatesHorizontally inside (volume_of 23760 27000 8 0 Model.Tcpa)

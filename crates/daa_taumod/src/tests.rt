@@ -127,7 +127,7 @@ const HEAD_ON: Leg = Leg {
     secs: 10,
 };
 
-// 20 s after the start it is 37911 units away and going.
+// 20 s after the start it is some 37910 units away and going.
 #[test]
 fn the_entry_point_is_looked_for_until_it_leaves(rt: HostRuntime) -> Result<(), Fail> {
     let by_entry = ahead(10, Model::Tep);

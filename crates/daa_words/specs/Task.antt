@@ -2,7 +2,7 @@
 use Rattle.std.specs.Prelude.{ℕ}
 use Rattle.clap.specs.Walk.{Text}
 
--- a replay reads at most `ahead` pieces ahead;
+-- of what a replay reads ahead at most `ahead` pieces wait, and one more is in hand;
 -- an exercise draws `moments` moments from a seed;
 -- a comparison compares a report with that of the states under a name
 pub data Task : Type 0 where

@@ -33,6 +33,10 @@ not_soon_by_entry (inr h) = too_late h.soon
     too_late (inl later) = absurd later.le
     too_late (inr later) = absurd later.le
 
+not_soon_by_modified_tau : ¬ ViolatesHorizontally inside (volume_of 23760 27000 6 0 Taumod) (pos 0) (pos 1)
+not_soon_by_modified_tau (inl h) = absurd h.le
+not_soon_by_modified_tau (inr h) = absurd h.soon.le
+
 not_soon_by_closest : ¬ ViolatesHorizontally inside (volume_of 23760 27000 8 0 Tcpa) (pos 0) (pos 1)
 not_soon_by_closest (inl h) = absurd h.le
 not_soon_by_closest (inr h) = absurd h.soon.le
@@ -55,6 +59,7 @@ returns c = record {
   soon_by_tau = inr (record { nearing = lt_z_yes tt; soon = le_z_yes tt; near = le_z_yes tt });
   not_soon_by_tau = not_soon_by_tau;
   soon_by_modified_tau = inr (record { nearing = lt_z_yes tt; soon = le_z_yes tt; near = le_z_yes tt });
+  not_soon_by_modified_tau = not_soon_by_modified_tau;
   not_soon_by_closest = not_soon_by_closest;
   soon_by_closest = inr (record { nearing = lt_z_yes tt; soon = le_z_yes tt; near = le_z_yes tt });
   soon_by_entry = inr (record { nearing = lt_z_yes tt; soon = inr (le_z_yes tt); near = le_z_yes tt });
