@@ -8,9 +8,11 @@
  *     traffic T ID X Y ALT VX VY VS
  *     tick T
  *
- * tick stands for the timer: second T begins, and the report of its moment is printed. An aircraft keeps its latest report:
- * the report's age makes the engine fly it straight on (it coasts), and above 60 seconds it is dropped. What is left out of
- * a picture, and why, goes to standard error: an integrator shows it to the crew. No second is answered by an older board. */
+ * tick stands for the timer: second T begins, and the report of its moment is printed. A bus whose seconds do not begin at 0
+ * begins with a tick: before the first one the next second is 0. An aircraft keeps its latest report: the report's age makes
+ * the engine fly it straight on (it coasts), and above 60 seconds it is dropped. What is left out, and why, goes to standard
+ * error: an integrator shows it to the crew. No second is answered by an older board. The loop ends with status 1 where the
+ * bus cannot be read to its end, or a report not be written. */
 #include "daidalus.h"
 
 #include <stdio.h>
@@ -64,16 +66,20 @@ static void drop(struct table *table, size_t place) {
     memmove(&table->tracks[place], &table->tracks[place + 1], (table->count - place) * sizeof table->tracks[0]);
 }
 
+/* Whether a report is of a later second than the next: it would stand before all sound ones, and is not taken. It is said. */
+static int is_ahead(const struct table *table, const char *name, long long time) {
+    if (time <= table->now + 1) return 0;
+    if (table->now < 0) fprintf(stderr, "before the first second: ");
+    else fprintf(stderr, "second %lld: ", table->now);
+    fprintf(stderr, "a report of %s is left out: it is of second %lld\n", name, time);
+    return 1;
+}
+
 /* The latest report of a name stands. A second one of the same time is another aircraft under that name, or a source that
- * repeats itself: the later line stands, and it is said. One of a later second than the next would stand before all sound
- * ones, and is not taken. */
+ * repeats itself: the later line stands, and it is said. */
 static void take_traffic(struct table *table, const struct track *report) {
     const struct daa_traffic *new = &report->traffic;
     struct track *old = find(table, new->id);
-    if (table->now >= 0 && report->time > table->now + 1) {
-        fprintf(stderr, "second %lld: a report of %.8s is left out: it is of second %lld\n", table->now, new->id, report->time);
-        return;
-    }
     if (old && old->time == report->time)
         fprintf(stderr, "second %lld: %.8s was reported twice: its later report stands\n", report->time, new->id);
     if (old && old->time > report->time) return;
@@ -85,15 +91,13 @@ static void take_traffic(struct table *table, const struct track *report) {
     *old = *report;
 }
 
-/* An aircraft is no longer known where it has been silent for more than 60 seconds, or its report is of a second to come. */
-static void drop_unknown(struct table *table) {
+/* An aircraft is no longer known where it has been silent for more than 60 seconds. (No report is of a second to come.) */
+static void drop_silent(struct table *table) {
     for (size_t i = table->count; i-- > 0;) {
         const struct track *it = &table->tracks[i];
         long long age = table->now - it->time;
-        if (0 <= age && age <= MOST_AGE) continue;
-        fprintf(stderr, "second %lld: %.8s is dropped: ", table->now, it->traffic.id);
-        if (age < 0) fprintf(stderr, "its report is of second %lld\n", it->time);
-        else fprintf(stderr, "it was silent for %lld seconds\n", age);
+        if (age <= MOST_AGE) continue;
+        fprintf(stderr, "second %lld: %.8s is dropped: it was silent for %lld seconds\n", table->now, it->traffic.id, age);
         drop(table, i);
     }
 }
@@ -132,7 +136,7 @@ static void decide(const struct daa_config *config, struct table *table, long lo
     struct daa_traffic traffic[MOST_AIRCRAFT];
     size_t count, length;
     table->now = now;
-    drop_unknown(table);
+    drop_silent(table);
     if (!table->own.known || table->own.time != now) {
         fprintf(stderr, "second %lld: no guidance: there is no ownship of this second\n", now);
         return;
@@ -144,8 +148,10 @@ static void decide(const struct daa_config *config, struct table *table, long lo
         fprintf(stderr, "second %lld: no guidance: code %d\n", now, (int)answer);
         return;
     }
-    fwrite(text, 1, length, stdout);
-    fflush(stdout);
+    if (fwrite(text, 1, length, stdout) != length || fflush(stdout)) {
+        fprintf(stderr, "second %lld: its report cannot be written\n", now);
+        exit(1);
+    }
 }
 
 /* Reads a word as a whole number; one that long long cannot hold becomes its least or greatest. Returns whether it is one. */
@@ -165,6 +171,12 @@ static int read_state(char *const *words, int32_t *state) {
     return 1;
 }
 
+/* Begins a second. One that is not later than the last does not begin: reports of the last would be of a second to come. */
+static void take_tick(const struct daa_config *config, struct table *table, long long time) {
+    if (time > table->now) decide(config, table, time);
+    else fprintf(stderr, "second %lld: a tick is left out: it is of second %lld\n", table->now, time);
+}
+
 /* Takes one line of the bus. Returns whether it has the form of one. */
 static int take_line(const struct daa_config *config, struct table *table, const char *line) {
     char copy[MOST_LINE], *words[10]; /* one word more than a line may have */
@@ -175,32 +187,49 @@ static int take_line(const struct daa_config *config, struct table *table, const
         words[count++] = word;
     if (count < 2 || !read_number(words[1], &time) || time < 0 || time > UINT32_MAX) return 0;
     if (strcmp(words[0], "own") == 0 && count == 8 && read_state(words + 2, state)) {
+        if (is_ahead(table, "the ownship", time)) return 1;
         table->own = (struct own_report){time, 1, {state[0], state[1], state[2], state[3], state[4], state[5]}};
         return 1;
     }
     if (strcmp(words[0], "traffic") == 0 && count == 9 && strlen(words[2]) <= DAA_MOST_ID && read_state(words + 3, state)) {
+        if (is_ahead(table, words[2], time)) return 1;
         struct track track = {time, {{0}, state[0], state[1], state[2], state[3], state[4], state[5], 0}};
         memcpy(track.traffic.id, words[2], strlen(words[2]));
         take_traffic(table, &track);
         return 1;
     }
     if (strcmp(words[0], "tick") == 0 && count == 2) {
-        decide(config, table, time);
+        take_tick(config, table, time);
         return 1;
     }
     return 0;
+}
+
+/* Reads the next line to its end, and keeps its first bytes, without its line feed. Returns how many bytes it has, also where
+ * they are too many, or -1 where there is no line. */
+static long long read_line(char line[MOST_LINE]) {
+    long long size = 0;
+    int byte;
+    for (; (byte = getchar()) != EOF && byte != '\n'; size++)
+        if (size < MOST_LINE - 1) line[size] = (char)byte;
+    if (byte == EOF && (size == 0 || ferror(stdin))) return -1;
+    line[size < MOST_LINE ? size : MOST_LINE - 1] = 0;
+    return size;
 }
 
 int main(int words, char **word) {
     static struct table table = {.now = -1};
     struct daa_config config;
     char line[MOST_LINE];
+    long long size;
     if (words != 2) {
         fprintf(stderr, "usage: feed CONFIGURATION < BUS\n");
         return 2;
     }
     read_config(word[1], &config);
-    while (fgets(line, sizeof line, stdin))
-        if (!take_line(&config, &table, line)) fprintf(stderr, "not a line of the bus: %s", line);
-    return 0;
+    while ((size = read_line(line)) >= 0)
+        if (size >= MOST_LINE) fprintf(stderr, "a line of the bus is too long\n");
+        else if (strlen(line) != (size_t)size || !take_line(&config, &table, line)) fprintf(stderr, "not a line of the bus: %s\n", line);
+    if (ferror(stdin)) fprintf(stderr, "the bus cannot be read to its end\n");
+    return ferror(stdin) ? 1 : 0;
 }
