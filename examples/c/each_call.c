@@ -8,7 +8,6 @@
 
 #include <stdio.h>
 #include <stdlib.h>
-#include <string.h>
 
 static const char *const kinds[] = {"", "track", "gs", "vs", "alt"};
 
@@ -18,11 +17,22 @@ static void must(int32_t answer, const char *call) {
     exit(1);
 }
 
+/* Reads the next line, without its line feed, and of one that has more than room bytes only so many: the call refuses them as
+ * it does the whole. Fills in how many there are; a byte 0 is one of them. Returns whether there is a line. */
+static int read_line(uint8_t *line, size_t room, size_t *size) {
+    int byte;
+    *size = 0;
+    while ((byte = getchar()) != EOF && byte != '\n')
+        if (*size < room) line[(*size)++] = (uint8_t)byte;
+    return byte == '\n' || *size > 0;
+}
+
 /* Reads lines up to the end of the first moment. */
 static void read_moment(struct daa_lines *lines) {
-    char line[300];
-    while (fgets(line, sizeof line, stdin)) {
-        int32_t answer = daa_line((const uint8_t *)line, strcspn(line, "\n"), lines);
+    uint8_t line[256]; /* one byte more than a line may have */
+    size_t size;
+    while (read_line(line, sizeof line, &size)) {
+        int32_t answer = daa_line(line, size, lines);
         if (answer == DAA_MOMENT_ENDED) return;
         must(answer, "daa_line");
     }
