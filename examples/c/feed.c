@@ -226,6 +226,10 @@ int main(int words, char **word) {
         fprintf(stderr, "usage: feed CONFIGURATION < BUS\n");
         return 2;
     }
+    if (daa_version() != DAA_VERSION) {
+        fprintf(stderr, "the archive is of version %d, and this program of version %d\n", (int)daa_version(), DAA_VERSION);
+        return 1;
+    }
     read_config(word[1], &config);
     while ((size = read_line(line)) >= 0)
         if (size >= MOST_LINE) fprintf(stderr, "a line of the bus is too long\n");

@@ -93,6 +93,10 @@ int main(int words, char **word) {
         fprintf(stderr, "usage: one_moment CONFIGURATION [report]\n");
         return 2;
     }
+    if (daa_version() != DAA_VERSION) {
+        fprintf(stderr, "the archive is of version %d, and this program of version %d\n", (int)daa_version(), DAA_VERSION);
+        return 1;
+    }
     struct daa_config config = config_in(word[1]);
     words == 2 ? print_answers(&config) : print_report(&config);
 }

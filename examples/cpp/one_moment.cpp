@@ -86,6 +86,10 @@ int main(int words, char **word) try {
         std::cerr << "usage: one_moment CONFIGURATION [report]\n";
         return 2;
     }
+    if (daa_version() != DAA_VERSION) {
+        std::cerr << "the archive is of version " << daa_version() << ", and this program of version " << DAA_VERSION << "\n";
+        return 1;
+    }
     std::string text(65537, '\0'); // one byte more than a configuration may have
     std::ifstream file(word[1], std::ios::binary);
     file.read(&text[0], text.size());

@@ -19,6 +19,7 @@ from dataclasses import astuple, dataclass
 from enum import IntEnum
 from typing import List, Optional
 
+VERSION = 20000  # of daidalus.h: the structs of a library of another version may be others
 MOST_LEVELS, MOST_VALUES, MOST_CANDIDATES, MOST_TEXT = 4, 512, 1897, 130176
 
 
@@ -238,10 +239,13 @@ def c_traffic(traffic):
 # --- the engine
 
 class Engine:
-    """The archive's calls. It has no state: calls may run in threads of the caller."""
+    """The archive's calls. It has no state: calls may run in threads of the caller. OSError says why there is none."""
 
     def __init__(self, path: str):
         self.calls = ctypes.CDLL(path)
+        tell = getattr(self.calls, "daa_version", None)
+        if not tell or tell() != VERSION:
+            raise OSError(f"{path} is of {f'version {tell()}' if tell else 'no version'}, and this module of version {VERSION}")
 
     def ask(self, name, *words):
         """Makes a call, and raises Refused where it does not answer 0."""

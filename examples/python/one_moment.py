@@ -45,9 +45,9 @@ def main(words):
         print("usage: one_moment.py LIBRARY CONFIGURATION [report]", file=sys.stderr)
         return 2
     try:
-        engine = Engine(words[0])
         with open(words[1], "rb") as file:
             text = file.read()
+        engine = Engine(words[0])
     except OSError as fault:
         print(fault, file=sys.stderr)
         return 1

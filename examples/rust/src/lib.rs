@@ -177,13 +177,20 @@ pub fn version() -> i32 {
     unsafe { raw::daa_version() }
 }
 
-/// An accepted configuration.
+/// Panics where the archive that was linked is of another version than this package. No call but [`version`] is made without a
+/// configuration, and so not before this.
+fn check_version() {
+    assert!(version() == raw::VERSION, "the archive is of version {}, and this package of version {}", version(), raw::VERSION);
+}
+
+/// An accepted configuration. To make one panics where the archive that was linked is of another version than this package.
 #[derive(Clone, Copy)]
 pub struct Config(raw::Config);
 
 impl Config {
     /// The configuration of a text of TOML.
     pub fn read(text: &[u8]) -> Result<Config, Refused> {
+        check_version();
         let mut numbers = raw::Config::default();
         // SAFETY: the text is valid for its length, and nothing else borrows the numbers.
         done(unsafe { raw::daa_read(text.as_ptr(), text.len(), &mut numbers) })?;
@@ -216,6 +223,7 @@ impl Config {
     }
 
     fn checked(self) -> Result<Config, Refused> {
+        check_version();
         // SAFETY: the numbers are valid.
         done(unsafe { raw::daa_check(&self.0) }).map(|()| self)
     }

@@ -1,6 +1,9 @@
 //! The declarations of crates/daa_c/include/daidalus.h, whose comments tell units and ranges.
 use crate::{Grid, Level, Own};
 
+/// The version of that header: the structs of an archive of another version may be others.
+pub const VERSION: i32 = 20000;
+
 #[repr(C)]
 #[derive(Clone, Copy, Default)]
 pub struct Config {
