@@ -14,7 +14,7 @@
  *
  * The caller must ensure, since nothing checks it: each pointer is valid for what it points to, or for the length that
  * follows it, also of length 0, and is not null; what a call fills in overlaps no other argument of the call, and
- * no other thread reads or writes it at the time. */
+ * no other thread reads or writes it at the time; and no other thread writes what a call reads while the call runs. */
 #ifndef DAIDALUS_H
 #define DAIDALUS_H
 
