@@ -283,14 +283,24 @@ function daaRecording(root) {
       return made;
     }
 
+    /** How far an aircraft is from the ownship once it has flown straight on until then: NM. */
+    distance(row, ownRow) {
+      const [east, north] = offset(ownRow, row, this.onEarth);
+      const late = ownRow.time - row.time;
+      return Math.hypot(east + (row.east * late) / 3600, north + (row.north * late) / 3600);
+    }
+
+    /** The nearest aircraft, as many as there may be, in the order in which the recording first has them. */
     trafficAt(ownRow, own, angle, latest) {
-      const found = [];
-      for (const row of latest.values()) {
-        const made = ownRow.time - row.time > OLDEST + ROUNDING ? undefined : this.trafficOf(row, ownRow, own, angle);
-        if (made && found.length < daa.MOST_AIRCRAFT) found.push(made);
-        else this.leaveOut("aircraft", made === undefined ? `whose report is older than ${OLDEST} s, in a moment` : FAR_OR_MANY);
+      const found = new Map();
+      const near = [...latest.values()].map((row) => [this.distance(row, ownRow), row]).sort(([one], [other]) => one - other);
+      for (const [, row] of near) {
+        const isOld = ownRow.time - row.time > OLDEST + ROUNDING;
+        const made = isOld || found.size === daa.MOST_AIRCRAFT ? null : this.trafficOf(row, ownRow, own, angle);
+        if (made) found.set(row.name, made);
+        else this.leaveOut("aircraft", isOld ? `whose report is older than ${OLDEST} s, in a moment` : FAR_OR_MANY);
       }
-      return found;
+      return [...latest.keys()].filter((name) => found.has(name)).map((name) => found.get(name));
     }
   }
 

@@ -67,7 +67,7 @@ def on_recovery(config):
         closing = config.levels[config.resolve - 1:]
         if hdist >= min(level.dthr for level in closing):
             yield (f"recovery.hdist = {hdist} is as far as the level itself (dthr): a recovery begins within dthr, so few will be found; "
-                   "82, which is 500 feet, is the horizontal distance of a near mid-air collision")
+                   "83, which is 504 feet, is just outside a near mid-air collision")
 
 
 def advice_on_states(moments, refused, text):

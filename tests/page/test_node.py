@@ -1557,7 +1557,7 @@ class Recordings(unittest.TestCase):
 
     def test_many_aircraft_two_at_one_place_and_times_before_the_first_second(self):
         head, own = "name time sx sy sz trk gs vs\n", "own {} 0 0 1000 0 100 0\n"
-        for text in (head + "".join(f"T{number} 0 {number} 0 1000 0 100 0\n" for number in range(66)) + own.format(0) + own.format(1),
+        for text in (head + "".join(f"T{number} 0 {number * 7 % 66} 0 1000 0 100 0\n" for number in range(66)) + own.format(0) + own.format(1),
                      head + "A 0 1 0 1000 0 100 0\nB 0 1 0 1000 0 100 0\n" + own.format(0),
                      head + "A -7 1 0 1000 0 100 0\n" + "".join(own.format(time) for time in (-5, -0.5, 0, 1))):
             states = self.from_daa(text, "own")

@@ -168,6 +168,14 @@ class States(ToolTest):
             "in: moment 5 is reported without T65", "in: moment 5 keeps its first ownship",
             "in: moment 5 is reported with its first 64 aircraft"]))
 
+    def test_tells_of_lines_that_are_not_read(self):
+        """A misspelt word, and a line that is too long: each may have been an aircraft."""
+        long = "traffic A 0 0 0 0 0 0" + 240 * " " + "\n"
+        for lines, told in ((["Traffic A 0 0 0 0 0 0\n"], "line 3"), (["x\n", long], "lines 3, 4"), (5 * ["x\n"], "lines 3, 4, 5 and 2 more")):
+            states = self.write("in.states", "moment 5\nown 0 0 0 0 0 0\n" + "".join(lines) + "end\n")
+            status, out, _ = self.tool("check", CONFIG, states)
+            self.assertEqual((status, out.splitlines()[len(lines):]), (1, [f"{states}: moment 5 is reported without what stands on {told}"]))
+
     def test_statuses_and_errors(self):
         self.assertEqual(self.tool("check", CONFIG, f"{TOP}/examples/encounter.states"), (0, "", ""))
         status, out, said = self.tool("check", f"{self.folder}/nothing")

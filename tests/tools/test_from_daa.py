@@ -208,10 +208,12 @@ class FromDaa(ToolTest):
         moments, _ = self.made(PLANE + "own 0 0 0 0 100 0 0\nA 1 0 0 0 0 0 0\nB 1 0 0 0 0 0 0\n")
         self.assertEqual([aircraft.id for aircraft in moments[0].traffic], ["A", "B"])
 
-    def test_the_aircraft_past_the_64th_are_left_out(self):
-        moments, said = self.made(PLANE + "".join(f"T{number} {number} 0 0 0 0 0 0\n" for number in range(66)) + "own 0 0 0 0 100 0 0\n", "--own", "own")
-        self.assertEqual([aircraft.id for aircraft in moments[0].traffic], [f"T{number}" for number in range(64)])
-        self.assertIn("left out: 2 aircraft out of range, or more than there may be, in a moment", said)
+    def test_of_more_than_64_aircraft_the_nearest_stay(self):
+        """In the recording's order; T2 flies on for the 10 s since its report, at 900 knots 2.5 NM, and is then farther than T66."""
+        rows = ["T0 70 0 0 0 0 0 20\nT1 69 0 0 0 0 0 20\nT2 64 0 0 900 0 0 10\n", *(f"T{number} {number} 0 0 0 0 0 20\n" for number in range(3, 67))]
+        moments, said = self.made(PLANE + "".join(rows) + "own 0 0 0 0 100 0 20\n", "--own", "own")
+        self.assertEqual([aircraft.id for aircraft in moments[0].traffic], [f"T{number}" for number in range(3, 67)])
+        self.assertIn("left out: 3 aircraft out of range, or more than there may be, in a moment", said)
 
     def test_the_example(self):
         status, out, said = self.tool("from_daa", os.path.join(TOP, "examples", "recording.daa"))

@@ -107,8 +107,18 @@ class FromParameters(ToolTest):
         self.assertEqual((made["gs"]["rate"], made["vs"]["rate"]), (19, 394))
 
     def test_no_level_looks_farther_ahead_than_the_lookahead_time(self):
-        made, _ = self.made(TOP.replace("lookahead_time = 180 [s]", "lookahead_time = 60.9 [s]") + LEVELS)
-        self.assertEqual([each["lookahead"] for each in made["level"]], [60, 60, 55])
+        """2.05 minutes are 123 seconds, and a little less in floating point."""
+        for time, wanted in (("60.9 [s]", [60, 60, 55]), ("2.05 [min]", [123, 123, 55])):
+            made, _ = self.made(TOP.replace("180 [s]", time) + level(1, "FAR", 700, 123, 55) + level(2, "MID", 450, 124, 55) + level(3, "NEAR", 450, 55, 25))
+            self.assertEqual([each["lookahead"] for each in made["level"]], wanted)
+
+    def test_thresholds_are_rounded_upward(self):
+        """500 ft are 500 * 0.3048 / 1852 = 0.08229 NM, 4000 ft 0.65831 NM; 100.2 ft are no more than 101."""
+        text = LEVELS.replace("0.66 [nmi]", "4000 [ft]").replace("ZTHR = 450 [ft]", "ZTHR = 450.2 [ft]")
+        made, said = self.made(TOP + RECOVERY.replace("0.66 [nmi]", "500 [ft]") + text)
+        self.assertEqual([(each["dthr"], each["zthr"]) for each in made["level"]], [(659, 700), (659, 451), (659, 451)])
+        self.assertEqual(made["recovery"]["hdist"], 83)
+        self.assertIn("from_parameters: one_det_1_WCV_DTHR = 4000 [ft] is rounded: 658.315 to dthr = 659 (0.001 NM)", said)
 
     def test_recoveries(self):
         """The distance is taken as it stands, with the warning; or the one that is given."""
@@ -159,7 +169,7 @@ class FromParameters(ToolTest):
         self.assertTrue(any("level 1: WCV_TAUMOD_SUM becomes WCV_TAUMOD" in line for line in said))
         cylinder = level(1, "MID", 450, 75, 55, model="CDCylinder") + "one_det_1_D = 500 [ft]\none_det_1_H = 100 [ft]\n"
         made, _ = self.made(TOP + cylinder)
-        self.assertEqual(made["level"][0], {"dthr": 82, "zthr": 100, "tthr": 0, "tcoa": 0, "alert": 55, "lookahead": 75})
+        self.assertEqual(made["level"][0], {"dthr": 83, "zthr": 100, "tthr": 0, "tcoa": 0, "alert": 55, "lookahead": 75})
         self.refused(TOP + level(1, "MID", 450, 75, 55, model="CD3D"),
                      "there is no such volume here; known are WCV_TAU, WCV_TCPA, WCV_TAUMOD, WCV_TEP, WCV_TAUMOD_SUM, CDCylinder")
 

@@ -196,6 +196,14 @@ class Reports(ToolTest):
             status, out, _ = self.tool("compare", *words)
             self.assertEqual((status, out.splitlines()[0]), (1, f"moment 0: only in the {which}"))
 
+    def test_compare_tells_each_refused_line_of_reports_put_end_to_end(self):
+        """Line numbers begin anew."""
+        one, other = (self.write(name, f"refused 1 {code}\n" + REPORT + "refused 1 4\n" + REPORT) for name, code in (("b.report", 2), ("c.report", 3)))
+        status, out, _ = self.tool("compare", one, other)
+        self.assertEqual(status, 1)
+        self.assertEqual([line for line in out.splitlines() if "refused" in line],
+                         ["line 1 refused: 2 and 3", "refused: 1 of 4 differ, 25.0 % (1 by 2/3)"])
+
     def test_compare_tells_where_one_band_ends(self):
         """Of ground speeds no report has two bands; of tracks the greatest is on no step of 5 degrees."""
         one = REPORT.split("refused")[0]

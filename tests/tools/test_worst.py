@@ -104,6 +104,23 @@ class Stack(unittest.TestCase):
             self.assertEqual(worst.least_stack(lambda size: size >= least, 4, 8192), least)
 
 
+class Goals(unittest.TestCase):
+    def test_a_comment_asks_for_nothing(self):
+        for text, wanted in (("# recovery = 1\n# last_times = 1\n", (False, False)), ("[recovery]\nlast_times = 1\n", (True, True)),
+                             ("recovery = { hdist = 20, vdist = 30 }\nlast_times = 0\n", (True, False))):
+            self.assertEqual((worst.asks(text, r"\[?recovery\b"), worst.asks(text, "last_times *= *1")), wanted)
+
+    def test_states_without_a_moment_are_told(self):
+        with tempfile.TemporaryDirectory() as folder:
+            for name, text in (("worst.toml", ""), ("worst.states", "format 2\n")):
+                with open(os.path.join(folder, name), "w", encoding="ascii") as file:
+                    file.write(text)
+            with mock.patch("sys.argv", ["worst", "--measure", folder]), mock.patch.object(worst, "built_program", lambda _: "true"):
+                with self.assertRaises(SystemExit) as ended:
+                    worst.main()
+        self.assertEqual(ended.exception.code, f"bench/worst: {folder}: no moment ends in it")
+
+
 class Calls(unittest.TestCase):
     def test_the_program_has_the_moments_numbers(self):
         moment = next(iter(Reader().read(b"moment 0\nown 1 2 3 4 5 6\ntraffic AB -7 8 9 10 11 12\nend\n")))

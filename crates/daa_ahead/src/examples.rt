@@ -9,7 +9,7 @@ pub struct HoldingSource<'a, G> {
     pub inner: MemSource,
     /// How many reads were made, at most 255.
     pub calls: u8,
-    /// The number of the read that waits, from 0 on.
+    /// The number of the read that waits, from 0 on, below 255.
     pub waits: u8,
     /// Where it waits.
     pub gate: &'a G,

@@ -101,7 +101,19 @@ impl Sink for Sheet {
 
     ghost faults = { λ s. s.faults };
 
-    fn write(&mut self, piece: &[u8]) -> Result<usize, Failed> {
+    fn write(&mut self, piece: &[u8]) -> Result<usize, Failed>
+        ensures within { IfOk result (λ n. n ≤ length piece.now) }
+        ensures moves { IfOk result (λ n. 0 < length piece.now → 0 < n) }
+        ensures appended { IfOk result
+            (λ n. Appends (Some self.old.text) (Some self.new.text) (take n piece.now)) }
+
+        ensures risen { OnErr result (HasRisen self.old.faults self.new.faults) }
+        ensures kept { OnErr result (Keeps (Some self.old.text) (Some self.new.text)) }
+        ensures never_falls { self.old.faults ≤ self.new.faults }
+        ensures no_fault { OnOk result (self.new.faults ≡ self.old.faults) }
+
+        ensures room { self.new.room ≡ self.old.room }
+    {
         let room = self.space.len() - self.used;
         if room == 0 {
             self.faults = self.faults.saturating_add(1);

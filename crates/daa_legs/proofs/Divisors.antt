@@ -4,13 +4,13 @@ use Rattle.std.proofs.lemmas.Bool.{cases_lt}
 use Rattle.std.proofs.lemmas.Nat.{mul-le}
 
 module _ (way rate share n : ℕ) where
-  pub not_more : way ≤ 7200000 → share * rate ≤ 4294967296 + rate → n * 4294967296 ≤ way * share → n * rate ≤ way + rate
+  pub not_more : way ≤ 7200000 → share * rate < 4294967296 + rate → n * 4294967296 ≤ way * share → n * rate ≤ way + rate
   not_more few most below = ⊎_elim (λ l. absurd (wrong l)) (λ g. g) (cases_lt (way + rate) (n * rate))
     where
       wrong : way + rate < n * rate → ⊥
       wrong l =
           let a : (n * 4294967296) * rate ≤ (way * share) * rate = mul-le (n * 4294967296) rate (way * share) rate below (omega arith) in
-          let b : way * (share * rate) ≤ way * (4294967296 + rate) = mul-le way (share * rate) way (4294967296 + rate) (omega arith) most in
+          let b : way * (share * rate) ≤ way * (4294967296 + rate) = mul-le way (share * rate) way (4294967296 + rate) (omega arith) (omega (arith, most)) in
           let d : (way + rate + 1) * 4294967296 ≤ (n * rate) * 4294967296 = mul-le (way + rate + 1) 4294967296 (n * rate) 4294967296 (omega (arith, l)) (omega arith) in
           let e : way * rate ≤ 7200000 * rate = mul-le way rate 7200000 rate few (omega arith) in
           omega (arith, a, b, d, e)

@@ -10,7 +10,8 @@ use Rattle.daa_config.specs.declared.candidate.Candidate.TheVariants.{Hold, Trac
 use Rattle.daa_state.specs.declared.word.Own.{Own}
 use Rattle.daa_legs.specs.Motion.{velocity_on}
 
--- the flight that leads on the candidate's side: half a turn, or to the greatest or the least value that may be asked for
+-- the flight that leads on the candidate's side: half a turn to the right or a degree less to the left, or to the greatest or
+-- the least value that may be asked for
 unfoldable pub lead_of : Own → Candidate → (upper : Bool) → Candidate
 lead_of own Hold upper = Hold
 lead_of own (Track c) upper = Track (int_rem_euclid (own.trk +ℤ (if upper then pos 180 else pos 181)) (pos 360))
@@ -39,6 +40,6 @@ module _ (own : Own) (rates : Rates) where
   pub record FliesAs (candidate other : Candidate) (n : ℕ) : Type 0 where
     pub same : (k : ℕ) → k < n → velocity_on own rates candidate k ≡ velocity_on own rates other k
 
-  -- from leg n on its value is reached
+  -- from leg n on it has the velocity at which it flies on once its value is reached
   pub record FliesOn (candidate : Candidate) (n : ℕ) : Type 0 where
     pub there : (k : ℕ) → n ≤ k → velocity_on own rates candidate k ≡ velocity_there own candidate

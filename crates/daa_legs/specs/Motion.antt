@@ -11,12 +11,12 @@ use Rattle.daa_state.specs.declared.word.Own.{Own}
 use Rattle.daa_legs.specs.Turn.{turned}
 
 module _ (own : Own) (rates : Rates) where
-  -- the track: after k seconds the turn has come k times the turn rate toward that of the candidate
+  -- the track: after k seconds the turn has come at most k times the turn rate toward that of the candidate, and never past it
   unfoldable pub track_on : Candidate → ℕ → ℤ
   track_on (Track c) k = turned own.trk c (pos k *ℤ rates.turn)
   track_on _ k = own.trk
 
-  -- the ground speed: after k seconds it is k times the rate nearer to that of the candidate
+  -- the ground speed: after k seconds it is at most k times the rate nearer to that of the candidate, and never past it
   unfoldable pub ground_speed_on : Candidate → ℕ → ℤ
   ground_speed_on (Speed g) k = toward_of own.gs g (pos k *ℤ rates.gs)
   ground_speed_on _ k = own.gs

@@ -12,7 +12,7 @@ pub struct Divisor {
     ghost some: { 1 ≤ rate },
     ghost few: { rate ≤ 10000 },
     ghost least: { 4294967296 ≤ share * rate },
-    ghost most: { share * rate ≤ 4294967296 + rate },
+    ghost most: { share * rate < 4294967296 + rate },
 }
 
 impl Divisor {

@@ -261,6 +261,7 @@ nothing_after u v w a vain = let b : FindsNothing v w = vain.claim in let s : En
     last = s.last;
     all = ap (λ (ls : List Look). a.seen ++ ls) s.all ∙ sym (append_assoc a.seen s.early (s.last ∷ []));
     own = s.own ∙ p.number;
+    bare = s.bare;
     shorter = shorter_after u.number a.seen s.early a.shorter (λ l h e. vain.away l h (e ∙ sym p.number));
   };
   brief = after_home u v a b.seen b.brief a.seen a.home p.number;
@@ -336,7 +337,7 @@ seeks_nothing v w x word number workers en ew a b empty few =
         over = record { hand = f.hand; over = refl };
         empty = (look x x.number word, Contains-append_right (a.seen ++ b.seen) l (look x x.number word) (Contains-push [] (look x x.number word)), same_seat.number, empty);
         others = λ o lo ne. bare_left (a.seen ++ b.seen) l o (go o lo ne (cases_lt o number));
-        shorter = record { early = a.seen ++ b.seen; last = look x x.number word; all = refl; own = same_seat.number; shorter = shorter_away v.number (a.seen ++ b.seen) away };
+        shorter = record { early = a.seen ++ b.seen; last = look x x.number word; all = refl; own = same_seat.number; bare = empty; shorter = shorter_away v.number (a.seen ++ b.seen) away };
         brief = λ o n. let p = a.brief o in let q = b.brief o in let y = apart o number workers (λ e. n (e ∙ sym en)) in
             let z = looks_at-append o a.seen b.seen in let z' = looks_at-append o (a.seen ++ b.seen) l in let h = looks_at-not x o x.number word (λ e. n (e ∙ same_seat.number)) in omega arith;
         round = round_before v.number v.workers (a.seen ++ b.seen) l

@@ -40,7 +40,7 @@ IsBare seen worker = SawShort seen worker ⊎ SawChange seen worker
 abbrev pub looks_at : ℕ → List Look → ℕ
 looks_at worker seen = sum_by (λ look. if look.worker == worker then 1 else 0) seen
 
--- at each other worker's range there were at most two looks, of which a try that failed is one
+-- at each other worker's range there were at most two looks
 abbrev pub IsBrief : ℕ → List Look → Type 0
 IsBrief number seen = (other : ℕ) → other ≢ number → looks_at other seen ≤ 2
 
@@ -56,12 +56,13 @@ GoesRound number workers seen = AllPairs (λ look next. look.worker ≢ number �
 abbrev pub GetsShorter : ℕ → List Look → Type 0
 GetsShorter worker seen = AllPairs (λ look next. look.worker ≡ worker → next.worker ≡ worker → range_len (unpacked next.word) < range_len (unpacked look.word)) seen
 
--- the last look is at the worker's range, by the End, and of two looks before it the later one found fewer units
+-- the last look is at the worker's range and found it empty, and of two looks at it before that the later one found fewer units
 pub record EndsShort (worker : ℕ) (seen : List Look) : Type 0 where
   pub early : List Look
   pub last : Look
   pub all : seen ≡ early ++ last ∷ []
   pub own : last.worker ≡ worker
+  pub bare : range_len (unpacked last.word) ≡ 0
   pub shorter : GetsShorter worker early
 
 -- how a unit comes to the hand: by Claim, by Steal, or by Steal and Keep
@@ -71,7 +72,7 @@ IsTaking number steps =
     ⊎ ((other : ℕ) × (steps ≡ Steal number other ∷ []))
     ⊎ ((other : ℕ) × (steps ≡ Steal number other ∷ Keep number ∷ []))
 
--- a call that gives the piece of a unit: it looked at the own range once, and again only if an exchange showed a shorter one
+-- a call that gives the piece of a unit: of its looks at the own range each found fewer units than the one before
 pub record Claims (before after : View) (unit : ℕ) : Type 0 where
   pub seen : List Look
   pub steps : List Step

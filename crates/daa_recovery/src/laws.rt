@@ -39,8 +39,8 @@ pub fn recovering_lasts()
         → Recovers p candidate n }
 {}
 
-/// With no time thresholds a volume is the cylinder: at most so far off, and at most so far above
-/// or below.
+/// With no time thresholds a volume by modified tau is the cylinder: at most so far off, and at
+/// most so far above or below.
 pub fn the_cylinder_is_what_is_near()
     ensures { (leg : Leg) (dthr zthr : ℕ) (n d : ℤ) → pos 1 ≤ℤ d
         → Violates leg (record {

@@ -1,5 +1,5 @@
 -- What the end of a replay leaves.
-use Rattle.std.proofs.Common.{◌≡◌, ◌≤◌, ◌∙◌, ℕ, Bool, true, false, List, [], ◌++◌, length, sym, ap, subst, arith, length-append, append-nil}
+use Rattle.std.proofs.Common.{◌≡◌, ◌≤◌, ◌∙◌, ℕ, Bool, true, false, List, [], ◌++◌, length, sym, ap, subst, arith, append-nil}
 use Rattle.std.specs.List.{list_any}
 use Rattle.daa_ahead.specs.Bytes.{StreamState, stream_state}
 use Rattle.daa_ahead.specs.Moves as ahead
@@ -19,7 +19,7 @@ use Rattle.daa_replay.specs.Inside.Replay.{Course, Breaks, EndsAs, Writes}
 use Rattle.daa_replay.specs.Inside.Run.{Leaves, Replays}
 use Rattle.daa_replay.proofs.CourseLemmas.{breaks_join, writes_join}
 use Rattle.daa_replay.proofs.GivenLemmas.{all_of}
-use Rattle.daa_replay.proofs.ReportLemmas.{IsBegun, stops-first, stops-more}
+use Rattle.daa_replay.proofs.ReportLemmas.{IsBegun, stops-first}
 use Rattle.daa_replay.proofs.SomeReport.{begun-front}
 
 -- of an input that began at the first course, these bytes were read
@@ -78,11 +78,13 @@ module _ (places most : ℕ) (before after : ShelfState) (so sn : StreamState) (
       record {
         so = record {
           bytes = bytes;
-          handed = record { handed = r.handed; bound = omega (arith, within) };
-          in_turn = λ t. record { handed = r.handed; bound = within };
+          bound = within;
+          unreported = [];
+          handed = rw (append-nil bytes) (record { handed = r.handed; bound = omega (arith, within) });
+          in_turn = λ t. cc;
           read_calm = λ t. r.calm;
           ended = true;
-          over = λ t. r.over;
+          over = λ t. r;
           written = front_now ok old.sink new.sink bytes true all.risen (begun_so d e bytes begun true all);
         };
         reads = omega (arith, r.calm);
@@ -117,13 +119,15 @@ module _ (places most : ℕ) (before after : ShelfState) (so sn : StreamState) (
       → Leaves (Replays d.settings most places) status.SinkFault old new
   write_fails ok never_falls b r = record {
     so = record {
-      bytes = bytes ++ r.untaken;
+      bytes = bytes;
+      bound = within;
+      unreported = r.untaken;
       handed = record { handed = r.handed; bound = r.bound };
-      in_turn = λ t. record { handed = r.handed; bound = omega (arith, within, length-append bytes r.untaken, ap length (r.in_turn t)) };
+      in_turn = λ t. r.in_turn t;
       read_calm = λ t. r.calm t;
       ended = false;
       over = λ t. absurd (no t);
-      written = front_now ok old.sink new.sink (bytes ++ r.untaken) false b.risen (stops-more d.taken e.taken bytes r.untaken (begun_so d e bytes begun false b));
+      written = front_now ok old.sink new.sink bytes false b.risen (begun_so d e bytes begun false b);
     };
     reads = never_falls;
     writes = b.later;

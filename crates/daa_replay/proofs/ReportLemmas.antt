@@ -1,5 +1,5 @@
 -- A beginning of a report.
-use Rattle.std.proofs.Common.{◌≡◌, ◌∙◌, Bool, false, List, [], ◌∷◌, ◌++◌, Result, Ok, Err, refl, ap, append_assoc, inl}
+use Rattle.std.proofs.Common.{◌≡◌, ◌∙◌, Bool, List, [], ◌∷◌, ◌++◌, Result, Ok, Err, refl, ap, append_assoc, inl}
 use Rattle.std.specs.Prelude.{OnErr, OnOk}
 use Rattle.daa_bands.specs.Parts.{SplitsByEach}
 use Rattle.daa_config.specs.Settings.{Settings}
@@ -12,7 +12,6 @@ use Rattle.daa_replay.specs.Inside.Batch.{AppendsSome, StopsWithin}
 use Rattle.daa_replay.specs.Inside.Events.{IsFront}
 use Rattle.daa_replay.specs.Inside.Moment.{BeginsText}
 use Rattle.daa_replay.specs.Moment.{IsEventText}
-use Rattle.daa_replay.proofs.EventLemmas.{events_begin}
 use Rattle.daa_replay.proofs.TextLemmas.{begins-more}
 
 -- what holds anyway holds at an error
@@ -63,21 +62,3 @@ module _ {settings : Settings} where
     };
     taken = s.taken;
   }
-
-  -- a beginning of the report of some bytes is one of the report of more bytes
-  pub stops-more : (old new : ToldBytes) (bytes more : Bytes) → AppendsSome (IsBegun settings bytes false) old new → AppendsSome (IsBegun settings (bytes ++ more) false) old new
-  stops-more old new bytes more s =
-      let longer = events_begin bytes more in record {
-        text = s.text;
-        is = record {
-          written = s.is.written;
-          later = s.is.later ++ longer.0;
-          events = longer.1 ∙ ap (λ (e : List Event). e ++ longer.0) s.is.events ∙ append_assoc s.is.written s.is.later longer.0;
-          whole = s.is.whole;
-          texts = s.is.texts;
-          begun = s.is.begun;
-          begins = begins-more settings s.is.later longer.0 s.is.begun s.is.begins;
-          together = s.is.together;
-        };
-        taken = s.taken;
-      }

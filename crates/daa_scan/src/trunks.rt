@@ -23,9 +23,9 @@ use std::marker::Model;
 /// How many flights lead: on two sides of four kinds.
 const LEADS: u32 = 8;
 
-/// The kept flights, half a turn to the right and to the left, and those to the greatest and the
-/// least value of the other kinds; and the branch of each candidate of the whole list. There are
-/// those of the kinds that are needed.
+/// The kept flights, half a turn to the right and a degree less to the left, and those to the
+/// greatest and the least value of the other kinds; and the branch of each candidate but Hold.
+/// There are those of the kinds that are needed.
 #[derive(Drop)]
 pub(crate) struct Trunks<'a> {
     trunks: &'a [Trunk],

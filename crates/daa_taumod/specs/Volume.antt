@@ -42,14 +42,14 @@ height_at leg n d = d *ℤ leg.place.up +ℤ n *ℤ leg.velocity.up
 abbrev pub IsNear : Leg → Volume → ℤ → ℤ → Type 0
 IsNear leg volume n d = dot_of (place_at leg n d) (place_at leg n d) ≤ℤ square_of (pos volume.dthr *ℤ d)
 
--- the straight line has a distance of at most dthr at its closest approach
+-- what moves on the straight line has a distance of at most dthr at its closest approach; of what stands still it holds
 abbrev pub PassesNear : Leg → Volume → ℤ → ℤ → Type 0
 PassesNear leg volume n d =
     square_of (cross_of (place_at leg n d) leg.velocity.flat) ≤ℤ (square_of (pos volume.dthr *ℤ d) *ℤ dot_of leg.velocity.flat leg.velocity.flat)
 
--- where the distance falls, the time that the model looks at is at most tthr: tau, the time to the closest approach, modified
--- tau, or the time until the distance is dthr. For the last no root is needed: flown straight on for tthr seconds, it is
--- then at most dthr, or falls no more.
+-- where the distance falls, on a line that comes within dthr, the time that the model looks at is at most tthr: tau, the time to
+-- the closest approach, modified tau, or the time until the distance is dthr. For the last no root is needed: flown straight on
+-- for tthr seconds, it is then at most dthr, or falls no more.
 abbrev pub IsSoon : Model → Leg → Volume → ℤ → ℤ → Type 0
 IsSoon Tau leg volume n d =
     (dot_of (place_at leg n d) (place_at leg n d) +ℤ pos volume.tthr *ℤ d *ℤ dot_of (place_at leg n d) leg.velocity.flat) ≤ℤ pos 0

@@ -104,8 +104,8 @@ fn is_modified_tau_soon(leg: &Leg, volume: &Volume, point: &Point) -> bool
     tau_sum(leg, volume, point) <= scaled_square(volume.dthr, point)
 }
 
-/// Whether the time until the distance is `dthr` is at most `tthr`: `tthr` seconds later the
-/// distance falls no more, or is at most `dthr`.
+/// Whether the time until the distance is `dthr` is at most `tthr`, on a line that comes within
+/// `dthr`: `tthr` seconds later the distance falls no more, or is at most `dthr`.
 fn is_entry_soon(leg: &Leg, volume: &Volume, point: &Point) -> bool
     requires leg { IsLegInRange leg.now }
     requires volume { IsVolumeInRange volume.now }
@@ -135,8 +135,8 @@ fn is_near_later(leg: &Leg, volume: &Volume, point: &Point) -> bool
     square(&place_later(leg, volume.tthr, point)) <= scaled_square(volume.dthr, point)
 }
 
-/// Whether the straight line comes within `dthr` at its closest approach. The answer is the same at
-/// every time of the leg.
+/// Whether the straight line comes within `dthr` at its closest approach; of what stands still it
+/// is true. The answer is the same at every time of the leg.
 fn passes_near(leg: &Leg, volume: &Volume) -> bool
     requires leg { IsLegInRange leg.now }
     requires volume { IsVolumeInRange volume.now }

@@ -12,7 +12,8 @@ pub record IsWindow (secs : ℕ) (P : ℤ → ℤ → Type 0) (p q : Point) : Ty
   pub holds_last : P q.num q.den
   pub exact : (n d : ℤ) → IsTime secs n d → (P n d ↔ IsBetween p q n d)
 
--- the numbers of the time are small enough to be multiplied with those of a leg in 64 bits: den is at most a vertical speed
+-- the numbers of the time are small enough to be multiplied with those of a leg in 64 bits: den is at most 40000, which no vertical
+-- speed reaches, and num 180 times that
 pub record HasSmallNumbers (p : Point) : Type 0 where
   pub num : p.num ≤ℤ pos 7200000
   pub den : p.den ≤ℤ pos 40000

@@ -2,7 +2,7 @@
 use Rattle.std.specs.Prelude.{ℕ}
 use Rattle.clap.specs.Walk.{Text}
 
--- of what a replay reads ahead at most `ahead` pieces wait, and one more is in hand;
+-- a replay is asked to read ahead by `ahead` pieces;
 -- an exercise draws `moments` moments from a seed;
 -- a comparison compares a report with that of the states under a name
 pub data Task : Type 0 where

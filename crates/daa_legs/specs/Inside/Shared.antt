@@ -1,5 +1,4 @@
--- A leg of which one part is left out: its heights alone, as if both flew at one place, or its way over ground alone, as if both flew
--- at one height.
+-- A leg of which the heights are left out: its way over ground alone, as if both flew at one height.
 use Rattle.std.specs.Prelude.{pos}
 use Rattle.daa_fixed.specs.declared.Leg.{Leg}
 

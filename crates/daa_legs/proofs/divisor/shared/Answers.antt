@@ -6,7 +6,7 @@ use Rattle.daa_legs.proofs.divisor.shared.Goals as goal
 pub returns-clause-below : goal.returns-clause-below
 returns-clause-below c =
     let d = c.args.divisor.now in
-    let most : d.share * d.rate ≤ 4294967296 + d.rate = search rules in
+    let most : d.share * d.rate < 4294967296 + d.rate = search rules in
     subst (λ (w : ℕ). c.from.result * d.share / 4294967296 * d.rate ≤ w + d.rate) c.from.ensures
     (not_more c.from.result d.rate d.share (c.from.result * d.share / 4294967296) (omega (arith, c.from.ensures, c.requires)) most (div-mul-le_self (c.from.result * d.share) 4294967296))
 
