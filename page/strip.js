@@ -1,11 +1,12 @@
 /* The strip over time: of each aircraft its alert level as bars, and the bands of tracks with the ownship's track and the open
  * ones, drawn as one path for each level. A column that stands for several moments shows the greatest level of each, and as open
- * what is open in all of them. */
+ * what is open in all of them; none stands for a gap between two moments. */
 "use strict";
 (function (root) {
   const MARGIN = { left: 78, right: 10, bottom: 16 };
   const ROW = 14;
   const MOST_COLUMNS = 600;
+  const NARROWEST = 0.5; // so wide a column is at least: a gap that is narrower cannot be seen
   const FULL_TURN = 360;
 
   /** What the strip keeps of the report of a moment. */
@@ -20,15 +21,17 @@
     return steps.length ? steps[Math.floor(steps.length / 2)] : 1;
   }
 
-  /** The columns: from when to when each stands, and the notes that it shows. */
-  function columnsOf(moments, notes) {
+  /** The columns: from when to when each stands, and the notes that it shows. Before a gap one ends. */
+  function columnsOf(g, moments, notes) {
     const group = Math.ceil(moments.length / MOST_COLUMNS);
-    const step = medianStep(moments);
+    const most = Math.max(4 * g.step, g.time(MARGIN.left + NARROWEST) - g.first);
     const columns = [];
-    for (let first = 0; first < notes.length; first += group) {
-      const last = Math.min(first + group, notes.length) - 1;
-      const next = last + 1 < moments.length ? moments[last + 1].time : moments[last].time + step;
-      columns.push({ from: moments[first].time, upto: Math.min(next, moments[last].time + 4 * step), notes: notes.slice(first, last + 1) });
+    for (let first = 0, last; first < notes.length; first = last + 1) {
+      last = first;
+      const end = Math.min(first + group, notes.length) - 1;
+      while (last < end && moments[last + 1].time - moments[last].time <= most) last += 1;
+      const next = last + 1 < moments.length ? moments[last + 1].time : g.last;
+      columns.push({ from: moments[first].time, upto: Math.min(next, moments[last].time + 4 * g.step), notes: notes.slice(first, last + 1) });
     }
     return columns;
   }
@@ -80,9 +83,9 @@
     const paths = ["", "", "", "", ""];
     let [known, own, open] = ["", "", ""];
     const y = (degree) => g.top + g.tall - (daa.wrap(degree - g.foot) / FULL_TURN) * g.tall;
-    for (const column of columnsOf(moments, notes)) {
+    for (const column of columnsOf(g, moments, notes)) {
       const x = g.x(column.from);
-      const wide = Math.max(g.x(column.upto) - x, 0.5);
+      const wide = Math.max(g.x(column.upto) - x, NARROWEST);
       known += box(x, 0, wide + 0.5, g.top + g.tall); // so that no seam is seen between two
       g.ids.forEach((id, row) => {
         const level = greatest(column.notes, id);
@@ -120,6 +123,14 @@
     return out + text(MARGIN.left, foot, `${g.first} s${more}`, 'class="small"') + end;
   }
 
+  /** The strip in words: of moments that are not decided yet no level is told. */
+  function toldOf(moments, notes) {
+    const most = notes.reduce((level, note) => Math.max(level, ...note.levels.values()), 0);
+    if (notes.length === moments.length) return `${moments.length} moments, the greatest alert level is ${most}`;
+    const greatest = notes.length ? `, the greatest alert level of these is ${most}` : "";
+    return `${notes.length} of ${moments.length} moments are decided${greatest}`;
+  }
+
   /** Draws the strip: what is known of all moments, and the mark of the present one. */
   function drawStrip(svg, { width, height }, { moments, notes, ids, index, step }) {
     const key = [width, height, notes.length, step, moments[0].time, moments.length].join(" ");
@@ -127,8 +138,7 @@
       Object.assign(svg, { daaKey: key, daaMoments: moments, daaNotes: notes, daaG: geometryOf(width, height, moments, notes, ids) });
       svg.setAttribute("viewBox", `0 0 ${width} ${height}`);
       svg.innerHTML = `${whole(svg.daaG, moments, notes, step)}<path class="now" fill="none" stroke="var(--focus)" stroke-width="1.5"/>`;
-      const most = notes.reduce((level, note) => Math.max(level, ...note.levels.values()), 0);
-      svg.setAttribute("aria-label", `Alert levels and track bands over time: ${moments.length} moments, the greatest alert level is ${most}`);
+      svg.setAttribute("aria-label", `Alert levels and track bands over time: ${toldOf(moments, notes)}`);
     }
     const g = svg.daaG;
     const next = index + 1 < moments.length ? moments[index + 1].time : g.last;

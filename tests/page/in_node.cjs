@@ -1,6 +1,6 @@
 /* node in_node.cjs PAGE < JSON [[word, ..], ..]: runs the page's scripts that need no browser on each task, and writes the JSON
  * list of the answers. Tasks: [replay, TOML, states], [faults, TOML], [read, TOML], [report, text], [config, struct],
- * [recording, text, ownship], [columns], [room, TOML, states], [named, TOML, states], [strip, levels], [trap, TOML, states],
+ * [recording, text, ownship], [columns], [room, TOML, states], [named, TOML, states], [strip, levels, times], [trap, TOML, states],
  * [display, TOML, states, report, look], [over_time, TOML, states]; texts are bytes in base64. */
 "use strict";
 const fs = require("fs");
@@ -101,20 +101,23 @@ const TASKS = {
     }));
   },
 
-  /** How many boxes of each level the strip has, of moments a second apart: in each an aircraft and all tracks have the level; where
-   *  it is 0, the track of 90 degrees is open. Last are the boxes of open tracks. */
-  strip(engine, levels) {
+  /** How many boxes of each level the strip has, of moments a second apart where no times are given: in each an aircraft and all tracks
+   *  have the level; where it is 0, the track of 90 degrees is open. Then come the boxes of open tracks, and from and to which second
+   *  each column stands. */
+  strip(engine, levels, times) {
     Object.assign(daa, { clamp: (value, low, high) => Math.min(Math.max(value, low), high), wrap: (degrees) => (degrees + 360) % 360,
       paint: String, escape: String });
     run("strip");
-    const moments = levels.map((_, time) => ({ time, own: { trk: 0 } }));
+    const moments = levels.map((_, i) => ({ time: times ? times[i] : i, own: { trk: 0 } }));
     const notes = moments.map((moment, i) => daa.noteOf(moment, { aircraft: [{ id: "A", level: levels[i] }], resolve: { track: levels[i] ? {} : { upper: 90 } },
       bands: { track: [{ from: 0, upto: 270, level: levels[i] }] } }));
     const svg = { setAttribute() {}, querySelector: () => svg };
     daa.drawStrip(svg, { width: 1000, height: 150 }, { moments, notes, ids: ["A"], index: 0, step: 90 });
     const found = [...svg.innerHTML.matchAll(/<path d="([^"]*)"[^>]* data-level="(\d)"/g)];
     const open = /<path d="([^"]*)" fill="var\(--open\)"/.exec(svg.innerHTML)[1];
-    return [Object.fromEntries(found.map(([, boxes, level]) => [level, boxes.split("M").length - 1])), open.split("M").length - 1];
+    const [, known] = /<path d="([^"]*)" fill="var\(--l0-fill\)"/.exec(svg.innerHTML);
+    const columns = [...known.matchAll(/M(\S+) \S+h(\S+)v/g)].map(([, x, wide]) => [Number(x), Number(x) + Number(wide) - 0.5].map(svg.daaG.time));
+    return [Object.fromEntries(found.map(([, boxes, level]) => [level, boxes.split("M").length - 1])), open.split("M").length - 1, columns];
   },
 
   /** A display of a moment, of 1600 times 800 points, with a report: where its compass and tapes are, the text of each layer, each handle,
@@ -138,7 +141,7 @@ const TASKS = {
   },
 
   /** The strip of an encounter, of 1000 times 150 points: where it has what, its text, its text where all aircraft have level 1, and
-   *  that where so many moments are decided; the marks of the moments, and how it is told. */
+   *  that where so many moments are decided, with how this one is told; the marks of the moments, and how all of it is told. */
   over_time(engine, toml, states, decided = 0) {
     const { svg } = runDrawing();
     const config = engine.read(bytesOf(toml));
@@ -150,6 +153,7 @@ const TASKS = {
       daa.drawStrip(svg, { width: 1000, height: 150 }, { moments, notes: some, ids, index: 0, step: config.grids.track.step });
       return svg.innerHTML;
     });
+    const part = svg.attributes["aria-label"];
     const draw = (index) => daa.drawStrip(svg, { width: 1000, height: 150 }, { moments, notes, ids, index, step: config.grids.track.step });
     draw(0);
     notes.forEach((note) => { note.levels.values = null; }); // for another moment of the same ones no level is looked at again
@@ -157,7 +161,7 @@ const TASKS = {
       draw(index);
       return svg.parts[".now"].attributes.d;
     });
-    return { g: svg.daaG, texts, now, label: svg.attributes["aria-label"] };
+    return { g: svg.daaG, texts, part, now, label: svg.attributes["aria-label"] };
   },
 
   /** Calls the engine with places out of its memory, and then on a moment: what the first call throws, and the report. */

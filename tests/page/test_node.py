@@ -108,7 +108,7 @@ class Module(unittest.TestCase):
     def test_a_column_of_the_strip_has_the_greatest_level(self):
         """Of 601 moments two share a column, and the last has one of its own: 5 boxes of tracks, one of them in two parts; 2 of it."""
         for levels in ([3, 0] * 300 + [3], [0, 3] * 300 + [3], [3, 2] * 300 + [3]):
-            self.assertEqual(in_node([["strip", levels]])[0], [{"3": 300 * (1 + 5) + 1 + 2}, 0])
+            self.assertEqual(in_node([["strip", levels]])[0][:2], [{"3": 300 * (1 + 5) + 1 + 2}, 0])
 
     def test_a_column_of_the_strip_has_as_open_what_is_open_in_all(self):
         """Of 602 moments two share a column; in the first column both are open, in the second and the third one is."""
@@ -116,7 +116,19 @@ class Module(unittest.TestCase):
 
     def test_200000_moments_have_a_strip(self):
         """Of 334 moments a column, the first of which alone has a level: a box, and its tracks, one of them in two parts."""
-        self.assertEqual(in_node([["strip", [3] + [0] * 199999]])[0], [{"3": 1 + 5}, 200000 // 334])
+        self.assertEqual(in_node([["strip", [3] + [0] * 199999]])[0][:2], [{"3": 1 + 5}, 200000 // 334])
+
+    def test_a_column_of_the_strip_covers_no_gap(self):
+        """Of 601 moments two share a column, but not the two with 9700 seconds between them."""
+        *_, columns = in_node([["strip", [0] * 601, [*range(301), *range(10000, 10300)]]])[0]
+        self.assertEqual(len(columns), 301)
+        before, after = columns[150:152]
+        self.assertTrue(before[0] < 301 and before[1] < 310 and after[0] > 9999, (before, after))
+
+    def test_a_gap_that_cannot_be_seen_ends_no_column(self):
+        """Of 6000 moments, in pairs a second apart and 11 seconds from pair to pair, ten share a column of 912 / 600 points."""
+        *_, columns = in_node([["strip", [0] * 6000, [11 * pair + second for pair in range(3000) for second in (0, 1)]]])[0]
+        self.assertEqual(len(columns), 600)
 
 
 # What is drawn.
@@ -454,6 +466,13 @@ class Drawn(unittest.TestCase):
             left, top, wide, tall = numbers_in(mark)[:4]
             self.assertTrue(abs(left - x(begin)) < 1 and abs(left + wide - x(end)) < 1 and (top, tall) == (1, 133), mark)
         self.assertEqual(shown["label"], "Alert levels and track bands over time: 4 moments, the greatest alert level is 3")
+
+    def test_the_strip_tells_no_level_of_moments_that_are_not_decided(self):
+        """Of the first two of 19 moments the greatest level is 2; it comes to 3 later."""
+        for decided, told in ((0, "0 of 19 moments are decided"), (2, "2 of 19 moments are decided, the greatest alert level of these is 2"),
+                              (19, "19 moments, the greatest alert level is 3")):
+            shown = in_node([["over_time", bytes_of(THREE_LEVELS), bytes_of(ENCOUNTER), decided]])[0]
+            self.assertEqual(shown["part"], f"Alert levels and track bands over time: {told}")
 
     def test_a_strip_of_other_levels_is_drawn_anew(self):
         one, other, _ = in_node([["over_time", bytes_of(THREE_LEVELS), bytes_of(ENCOUNTER)]])[0]["texts"]
