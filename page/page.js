@@ -6,6 +6,7 @@
   const { $, RANGES_NM, state, setText, setHtml, fill, download, changed, faultOf, lookOf, modelOf, survey, go, pause,
     fitting, chip } = ui;
   const PICTURE = { width: 1240, height: 760 };
+  const MOST_NOTES = 5; // so many of the things that a moment lacks are told one by one
   const MISSING = "This page needs a browser with 64-bit WebAssembly memory: Chrome, Edge or Chromium from version 133 on, or "
     + "Firefox from 134 on. The engine is compiled for it, and this browser cannot run it, so nothing is shown.";
 
@@ -86,8 +87,14 @@
     changed();
   }
 
-  /** Takes a text of states; whether it has a moment. */
-  function loadStates(bytes, name, told = []) {
+  /** What a moment lacks in words: each thing, or of many the first few, and how many more. */
+  function wordsOfLack(things, rest) {
+    if (things.length <= MOST_NOTES + 1) return things.join("; ");
+    return `${things.slice(0, MOST_NOTES).join("; ")}; ${things.length - MOST_NOTES} more ${rest}`;
+  }
+
+  /** Takes a text of states, what is told of it and what its moments lack; whether it has a moment. */
+  function loadStates(bytes, name, told = [], lacks = []) {
     const events = state.engine.readStates(bytes);
     const moments = events.filter((it) => it.moment).map((it) => it.moment);
     if (!moments.length) {
@@ -95,12 +102,16 @@
       tell(`${name} has no whole moment${first ? `; line ${first.refused} was refused with code ${first.code}` : ""}`);
       return false;
     }
-    let before = 0;
-    state.refused = [];
-    for (const event of events) if (event.moment) before += 1; else state.refused.push({ ...event, before });
-    if (state.refused.length) told = [...told, `${name}: ${state.refused.length} ${state.refused.length === 1 ? "line was" : "lines were"} refused`];
+    const refused = [[]]; // before each moment, and after the last one
+    for (const event of events) {
+      if (event.moment) refused.push([]);
+      else refused[refused.length - 1].push(`line ${event.refused} was refused with code ${event.code}`);
+    }
+    const count = events.length - moments.length;
+    if (count) told = [...told, `${name}: ${count} ${count === 1 ? "line was" : "lines were"} refused`];
+    lacks = refused.map((lines, index) => [wordsOfLack(lines, "were refused before this moment"), lacks[index]].filter(Boolean).join("; "));
     pause();
-    Object.assign(state, { moments, name, told, index: 0, chosen: "p:", unfolded: false, untaken: "" });
+    Object.assign(state, { moments, name, told, lacks, index: 0, chosen: "p:", unfolded: false, untaken: "" });
     $("slider").max = moments.length - 1;
     for (const view of state.views) view.look.range = fitting(moments);
     survey();
@@ -111,11 +122,11 @@
   /** Takes a recording, seen from one of its aircraft; whether it has a moment. */
   function loadRecording(text, name, own = null) {
     try {
-      const { states, names, notes } = daa.fromRecording(text, own);
-      state.recording = { text, name };
+      const { states, names, notes, missing } = daa.fromRecording(text, own);
+      state.recording = { text, name, own: names.includes(own) ? own : names[0] };
       fill($("own"), names);
-      $("own").value = names.includes(own) ? own : names[0];
-      return loadStates(bytesOf(states), name, notes);
+      $("own").value = state.recording.own;
+      return loadStates(bytesOf(states), name, notes, missing.map((some) => wordsOfLack(some, "are left out of this moment")));
     } catch (problem) {
       if (!(problem instanceof daa.NoRecording)) throw problem;
       tell(`${name}: ${problem.message}`);
@@ -157,7 +168,11 @@
   }
 
   $("example").addEventListener("change", ({ target }) => takeExample(target.value));
-  $("own").addEventListener("change", ({ target }) => loadRecording(state.recording.text, state.recording.name, target.value));
+  $("own").addEventListener("change", ({ target }) => {
+    const { text, name } = state.recording;
+    loadRecording(text, name, target.value);
+    $("own").value = state.recording.own; // the one before, where none can be seen from this one
+  });
   $("file").addEventListener("change", async ({ target }) => {
     await takeFiles(target.files);
     target.value = "";
@@ -173,7 +188,8 @@
   function linked() {
     const configs = state.views.map(({ name, taken }) => ({ name, toml: taken }));
     const { note: name } = modelOf(state.views[0]); // of a moment that was changed by hand no name of a recording
-    return { states: daa.stateLines([state.current]), name, configs, look: state.views.map(({ look }) => look), compare: state.compare };
+    const { told, lacks, index, compare } = state;
+    return { states: daa.stateLines([state.current]), name, told, lacks: lacks[index], configs, look: state.views.map(({ look }) => look), compare };
   }
 
   /** Whether a link's value has the form of what `linked` makes. */
@@ -184,14 +200,16 @@
 
   /** Takes the link of the page's address; whether it holds a moment. */
   async function takeLink() {
-    const held = await daa.unpack(location.hash);
-    if (location.hash === state.hash) return false;
+    const { hash } = location;
+    const held = await daa.unpack(hash);
+    if (hash === state.hash || hash !== location.hash) return false; // or another link came meanwhile
     if (!isLinked(held)) {
-      if (location.hash.startsWith("#m=")) tell("the link holds no moment: is it whole?");
+      if (hash.startsWith("#m=")) tell("the link holds no moment: is it whole?");
       return false;
     }
-    if (!loadStates(bytesOf(String(held.states)), String(held.name))) return false;
-    state.hash = location.hash;
+    const told = Array.isArray(held.told) ? held.told.map(String) : [];
+    if (!loadStates(bytesOf(String(held.states)), String(held.name), told, [String(held.lacks ?? "")])) return false;
+    state.hash = hash;
     held.configs.forEach(({ name, toml }, place) => configure(place, String(toml), String(name)));
     held.look.forEach(({ trackUp, range, heights }, place) => Object.assign(state.views[place].look, { trackUp: Boolean(trackUp),
       range: RANGES_NM.includes(range) ? range : 12, heights: VIEW_HEIGHTS.includes(heights) ? heights : 3000 }));

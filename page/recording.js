@@ -62,7 +62,8 @@ function daaRecording(root) {
 
   // ---- reading
 
-  const FAR_OR_MANY = "out of range, or more than there may be, in a moment";
+  const TOO_OLD = `whose report is older than ${OLDEST} s`;
+  const FAR_OR_MANY = "out of range, or more than there may be";
   const COMMA = ": a decimal comma? Write a point";
   const SWAPPED = ": are lat and lon in each other's place?";
   const shortened = (line) => line.trim().slice(0, 60);
@@ -276,7 +277,7 @@ function daaRecording(root) {
         if (time < least || time > LAST_SECOND) this.leaveOut("moment", "in a second that has one already, or out of range");
         else {
           const { own, angle } = this.ownOf(row, start);
-          if (own) made.push({ time, own, traffic: this.trafficAt(row, own, angle, latest) });
+          if (own) made.push({ time, own, ...this.trafficAt(row, own, angle, latest) });
           else this.leaveOut("moment", "whose ownship is out of range");
         }
       }
@@ -290,17 +291,23 @@ function daaRecording(root) {
       return Math.hypot(east + (row.east * late) / 3600, north + (row.north * late) / 3600);
     }
 
-    /** The nearest aircraft, as many as there may be, in the order in which the recording first has them. */
+    /** The nearest aircraft, as many as there may be, in the order in which the recording first has them; and in words those that are
+     *  missing, the nearest one first. */
     trafficAt(ownRow, own, angle, latest) {
-      const found = new Map();
+      const [found, missing] = [new Map(), []];
       const near = [...latest.values()].map((row) => [this.distance(row, ownRow), row]).sort(([one], [other]) => one - other);
       for (const [, row] of near) {
         const isOld = ownRow.time - row.time > OLDEST + ROUNDING;
         const made = isOld || found.size === daa.MOST_AIRCRAFT ? null : this.trafficOf(row, ownRow, own, angle);
-        if (made) found.set(row.name, made);
-        else this.leaveOut("aircraft", isOld ? `whose report is older than ${OLDEST} s, in a moment` : FAR_OR_MANY);
+        if (made) {
+          found.set(row.name, made);
+          continue;
+        }
+        const why = isOld ? TOO_OLD : FAR_OR_MANY;
+        this.leaveOut("aircraft", `${why}, in a moment`);
+        missing.push(`left out: ${this.ids.get(row.name)}, ${why}`);
       }
-      return [...latest.keys()].filter((name) => found.has(name)).map((name) => found.get(name));
+      return { traffic: [...latest.keys()].filter((name) => found.has(name)).map((name) => found.get(name)), missing };
     }
   }
 
@@ -315,7 +322,8 @@ function daaRecording(root) {
     return lines.map((line) => line + "\n").join("");
   }
 
-  /** The state lines of a recording, seen from an aircraft of it (the first where none is named), its names and what is to be told. */
+  /** The state lines of a recording, seen from an aircraft of it (the first where none is named), its names, what is to be told, and
+   *  who is missing in each moment. */
   function fromRecording(text, ownName = null) {
     const { rows, onEarth, notes } = readRows(text);
     const names = [...new Set(rows.map((row) => row.name))];
@@ -325,7 +333,7 @@ function daaRecording(root) {
     for (const [count, what, why] of maker.leftOut.values()) notes.push(`left out: ${many(count, what)} ${why}`);
     if (maker.far) notes.push(`${many(maker.far, "moment")} with the ownship at 0 0, more than ${FARTHEST_OWN} NM from where it began`);
     if (!moments.length) fail(`no moment is left; ${notes.join("; ")}`);
-    return { states: stateLines(moments), names, notes };
+    return { states: stateLines(moments), names, notes, missing: moments.map((moment) => moment.missing) };
   }
 
   /** Whether a text looks like a recording: its first line with fields names columns. */

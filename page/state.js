@@ -12,10 +12,9 @@
   const LIMITS = { x: [-200000, 200000], y: [-200000, 200000], alt: [-2000, 60000], trk: [0, 359], gs: [0, 10000],
     vx: [-10000, 10000], vy: [-10000, 10000], vs: [-10000, 10000], age: [0, 60] };
   const PAPER = { display: { width: 1100, height: 680 }, strip: { width: 1100, height: 150 } };
-  const MOST_NOTES = 5; // so many refused lines of a moment are told one by one
   const SOON = 60; // ms: an answer that takes longer is waited for with the bands hidden
 
-  const state = { engine: null, survey: null, views: [], name: "", moments: [], refused: [], index: 0, current: null, version: 0,
+  const state = { engine: null, survey: null, views: [], name: "", moments: [], lacks: [], index: 0, current: null, version: 0,
     edited: false, chosen: "p:", held: null, playing: null, compare: false, paper: false, notes: [], ids: [], job: 0, unfolded: false,
     linesOpen: false, recording: null, untaken: "", told: [], times: [] };
   daa.page = state;
@@ -157,7 +156,7 @@
   function modelOf(view) {
     const { time, own, traffic } = state.current;
     return { time, own, traffic, config: view.config, said: saidOf(view), fault: saidOf(view) ? "" : faultOf(view), name: view.name, trail: trail(),
-      note: state.edited ? "changed by hand" : state.name };
+      note: state.edited ? "changed by hand" : state.name, lacks: Boolean(state.lacks[state.index]) };
   }
 
   /** Where the ownship and the aircraft were in the moments before. */
@@ -184,19 +183,16 @@
   }
 
   function paintBar() {
-    const { current, moments, index, edited, times } = state;
+    const { current, moments, index, times, told, lacks } = state;
     $("slider").value = index;
     $("slider").setAttribute("aria-valuetext", `${current.time} seconds, moment ${index + 1} of ${moments.length}`);
     setText($("clock"), `${current.time} s · ${index + 1} of ${moments.length}`);
-    $("restore").disabled = !edited;
+    $("restore").disabled = !state.edited;
     const median = [...times].sort((a, b) => a - b)[Math.floor(times.length / 2)];
     const took = !times.length ? "" : median < 1 ? ` · ${Math.round(median * 1000)} µs a moment` : ` · ${median.toFixed(1)} ms a moment`;
     setText($("engine"), `engine ${Math.round(state.engine.size / 1024)} KB${took}`);
-    const refused = edited ? [] : state.refused.filter((it) => it.before === index);
-    const lines = refused.slice(0, MOST_NOTES).map((it) => `line ${it.refused} was refused with code ${it.code}`);
-    if (refused.length > MOST_NOTES) lines.push(`${refused.length - MOST_NOTES} more were refused before this moment`);
-    setText($("notes"), [...state.told, ...lines].join("; "));
-    $("notes").className = lines.length ? "problem" : "quiet"; // the moment may lack an aircraft
+    setText($("notes"), [...told, lacks[index]].filter(Boolean).join("; "));
+    $("notes").className = lacks[index] ? "problem" : "quiet"; // an aircraft may be missing, whatever was changed by hand since
     const fault = shownViews().filter(isAnswered).map((view) => view.fault).find(Boolean);
     const kept = shownViews().filter((view) => view.refusal).map((view) => `a configuration is refused, and ${view.name} is shown in its place`);
     setText($("fault"), [state.untaken, ...kept, fault].filter(Boolean).join("; "));

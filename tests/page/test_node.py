@@ -1173,6 +1173,125 @@ class Used(unittest.TestCase):
         self.assertEqual(told[-2:], [" has no whole moment; line 2 was refused with code 14", "a configuration is refused, and three_levels is shown in its place"])
         self.assertEqual(set(told[:-2]), {"the link holds no moment: is it whole?"})
 
+    def test_of_two_links_the_later_one_is_taken(self):
+        """Also where it comes while the first one is unpacked, and is unpacked sooner."""
+        held = {"name": "", "configs": [{"name": "x", "toml": text_of(THREE_LEVELS)}] * 2, "look": [{}, {}]}
+        links = [{**held, "states": f"moment {time}\nown 0 0 0 0 0 0\nend\n"} for time in (7, 8)]
+        found = on_page("""
+            const links = [], { unpack } = daa, found = [];
+            for (const held of given) links.push(`#${await daa.pack(held)}`);
+            for (const late of links) {
+              daa.unpack = async (hash) => {
+                const held = await unpack(hash);
+                if (hash === late) await new Promise((done) => setTimeout(done, 50));
+                return held;
+              };
+              const taken = links.map((hash) => {
+                location.hash = hash;
+                return fire(screen, "hashchange");
+              });
+              await Promise.all(taken);
+              await settle();
+              found.push(page.current.time);
+              location.hash = page.hash = "";
+            }
+            return found;""", *links)
+        self.assertEqual(found, [8, 8])
+
+    LACKING = text_of(ENCOUNTER).replace("moment 20\n", "moment 20\ntraffic TOOLONGID 0 0 0 0 0 0\nnothing\n")
+    NOTES = """const notes = async (index) => {
+      if (index !== undefined) {
+        $("slider").value = index;
+        await fire($("slider"), "input");
+      }
+      await settle();
+      return [$("notes").textContent, $("notes").className];
+    };"""
+
+    def test_what_a_moment_lacks_is_told_whatever_is_changed_by_hand(self):
+        """And is not told of the moments round it."""
+        found = on_page(OPEN + self.NOTES + """
+            await open(["wrong.states", given[0]]);
+            const found = [await notes("1"), await notes("2")];
+            await press("p:AMBER", "ArrowUp");
+            return [...found, page.edited, await notes(), await notes("3")];""", self.LACKING)
+        whole = ["wrong.states: 2 lines were refused", "quiet"]
+        refused = re.findall(r"(?m)^refused (\d+) (\d+)$", replayed(THREE_LEVELS, self.LACKING.encode()))
+        self.assertEqual([code for _, code in refused], ["5", "2"])
+        lack = [f"{whole[0]}; " + "; ".join(f"line {line} was refused with code {code}" for line, code in refused), "problem"]
+        self.assertEqual(found, [whole, lack, True, lack, whole])
+
+    def test_a_moment_that_lacks_something_is_called_incomplete_on_the_display(self):
+        """And so in its pictures, whatever is changed by hand; a link has its name alone."""
+        *heads, name = on_page(OPEN + self.NOTES + """
+            const heads = [], head = () => heads.push(display().querySelector("[data-layer=head]").innerHTML);
+            await open(["wrong.states", given[0]]);
+            for (const index of ["1", "2"]) {
+              await notes(index);
+              head();
+            }
+            await fire($("link"), "click");
+            await press("p:AMBER", "ArrowUp");
+            head();
+            return [...heads, (await daa.unpack(location.hash)).name];""", self.LACKING)
+        self.assertEqual([[it.text for it in xml_of(head)][1] for head in heads], ["wrong.states", "incomplete · wrong.states", "incomplete · changed by hand"])
+        self.assertEqual([[it.get("class") for it in xml_of(head)][1] for head in heads], ["small", "none", "none"])
+        self.assertEqual(name, "wrong.states")
+
+    def test_a_link_tells_what_its_moment_lacks(self):
+        """Also of a moment that was changed by hand; and so does a link that is made of it. One of another page, that tells nothing, is taken."""
+        found = on_page(OPEN + self.NOTES + """
+            const visit = async () => {
+              await fire($("link"), "click");
+              $("example").value = "encounter, three levels";
+              await fire($("example"), "change");
+              await settle();
+              const between = await notes();
+              page.hash = "";
+              await fire(screen, "hashchange");
+              return [between, await notes()];
+            };
+            await open(["wrong.states", given[0]]);
+            const found = [await notes("2"), ...await visit(), ...await visit()];
+            await press("p:AMBER", "ArrowUp");
+            found.push(...await visit());
+            const { told, lacks, ...held } = await daa.unpack(location.hash);
+            location.hash = `#${await daa.pack({ ...held, told: 5 })}`;
+            await fire(screen, "hashchange");
+            return [...found, await notes()];""", self.LACKING)
+        (words, style), none = found[0], ["", "quiet"]
+        self.assertEqual(style, "problem")
+        self.assertRegex(words, "^wrong.states: 2 lines were refused; line ")
+        self.assertEqual(found, [[words, style]] + [none, [words, style]] * 3 + [none])
+
+    def test_an_aircraft_that_is_left_out_of_a_recording_is_told_in_its_moments(self):
+        """A's report is 12 seconds old in the second moment, and new in the third; of 71 aircraft around another ownship 7 are too many."""
+        head, own = "name time sx sy sz trk gs vs\n", "own {} 0 0 1000 0 100 0\n"
+        late = head + "A 0 1 0 1000 0 100 0\n" + own.format(0) + own.format(12) + "A 13 1 0 1000 0 100 0\n" + own.format(13)
+        many = head + "".join(f"T{number} 0 {number} 0 1000 0 100 0\n" for number in range(71)) + own.format(0)
+        late_notes, many_notes, linked = on_page(OPEN + self.NOTES + """
+            const seen = async (name, text) => {
+              await open([name, text]);
+              $("own").value = "own";
+              await fire($("own"), "change");
+            };
+            await seen("late.daa", given[0]);
+            const late = [await notes("0"), await notes("1"), await notes("2")];
+            await notes("1");
+            await fire($("link"), "click");
+            await seen("many.daa", given[1]);
+            const many = await notes();
+            page.hash = "";
+            await fire(screen, "hashchange");
+            return [late, many, await notes()];""", late, many)
+        told = "left out: 1 aircraft whose report is older than 10 s, in a moment"
+        lack = [f"{told}; left out: A, whose report is older than 10 s", "problem"]
+        self.assertEqual(late_notes, [[told, "quiet"], lack, [told, "quiet"]])
+        self.assertEqual(linked, lack)
+        why = "out of range, or more than there may be"
+        self.assertEqual(many_notes, [f"left out: 7 aircraft {why}, in a moment; " + "".join(f"left out: T{number}, {why}; " for number in range(64, 69))
+                                      + "2 more are left out of this moment", "problem"])
+
     def test_a_file_that_is_not_taken_is_told_until_another_one_is_opened(self):
         told = on_page(OPEN + """
             const told = [];
@@ -1215,6 +1334,17 @@ class Used(unittest.TestCase):
             await fire($("own"), "change", { target: { value: "Intruder1" } });
             return [...names, $("own").value];""", text_of(os.path.join(EXAMPLES, "recording.daa")))
         self.assertEqual(names, ["Ownship", "Intruder1"])
+
+    def test_the_ownship_that_is_shown_stays_named_where_another_one_has_no_moment(self):
+        """HIGH flies at 70000 feet, where no ownship is."""
+        text = "name time sx sy sz trk gs vs\n" + "".join(f"own {time} 0 0 1000 0 100 0\nHIGH {time} 1 0 70000 0 100 0\n" for time in (0, 1))
+        found = on_page(OPEN + """
+            await open(["a.daa", given[0]]);
+            $("own").value = "HIGH";
+            await fire($("own"), "change");
+            await settle();
+            return [page.current.own.alt, $("own").value, $("fault").textContent];""", text)
+        self.assertEqual(found, [1000, "own", "a.daa: no moment is left; left out: 2 moments whose ownship is out of range"])
 
     def test_files_that_are_dropped_and_the_one_that_is_saved(self):
         """A configuration counts for states that come before it; it is saved as it was edited."""
@@ -1556,6 +1686,15 @@ class Recordings(unittest.TestCase):
             "Intruder12 is written Intrud12", "left out: 1 aircraft out of range, or more than there may be, in a moment",
             "left out: 2 aircraft whose report is older than 10 s, in a moment"])
 
+    def test_who_is_missing_in_each_moment(self):
+        """By its name in state lines; of moments alone that are made."""
+        text = ("name,time,sx,sy,sz,trk,gs,vs\nHIGH,0,0,0,70000,0,100,0\nIntruder12,0,0,0,1000,0,100,0\nown,0,0,0,0,0,100,0\nown,5,0,0,99999,0,100,0\n"
+                "own,9,0,0,0,0,100,0\nHIGH,20,0,0,1000,0,100,0\nown,20,0,0,0,0,100,0\n")
+        far, old = "left out: HIGH, out of range, or more than there may be", "left out: Intrud12, whose report is older than 10 s"
+        found = in_node([["recording", text.encode(), "own"]])[0]
+        self.assertEqual(found["missing"], [[far], [far], [old]])
+        self.assertEqual([moment.time for _, moment in moments_in(found["states"].encode())], [0, 9, 20])
+
     def test_latitudes_past_the_pole(self):
         head = "name,time,lat,lon,alt,trk,gs,vs\n"
         for lat in ("139.70", "-90.5"):
@@ -1572,7 +1711,8 @@ class Recordings(unittest.TestCase):
         self.assertEqual(re.findall("traffic (.*?) ", states), 2 * ["A1", "A0", "B1"])
         self.assertEqual(in_node([["recording", text.encode(), "own"]])[0], {"states": states, "names": ["own", "@@", "A0", "B=1"], "notes": [
             "left out: 1 line KEY = VALUE; a configuration says what they say", "@@ is written A1", "B=1 is written B1",
-            "left out: 1 moment whose ownship is out of range", "1 moment with the ownship at 0 0, more than 100 NM from where it began"]})
+            "left out: 1 moment whose ownship is out of range", "1 moment with the ownship at 0 0, more than 100 NM from where it began"],
+            "missing": [[], []]})
 
     def test_many_aircraft_two_at_one_place_and_times_before_the_first_second(self):
         head, own = "name time sx sy sz trk gs vs\n", "own {} 0 0 1000 0 100 0\n"
