@@ -351,6 +351,9 @@
    *  that are longer than a name may be. */
   const calledIn = (traffic, one) => (one.id && traffic.find(({ id }) => id === one.id) === one ? one.id : `aircraft ${traffic.indexOf(one)}`);
 
+  /** Whether an alert's level is violated as the moment begins, and not only within its first second. */
+  const isNow = ({ level, now, first }) => first === 0 && now >= level;
+
   /** What is said of an aircraft while there is no answer. */
   const UNKNOWN = { level: 0, now: 0, first: null, unknown: true };
 
@@ -408,7 +411,7 @@
   function labelOf(view, labels, { one, alert, off, shown, miles, tag }, isChosen) {
     const f = view.g.font;
     const matters = alert.level > 0 || isChosen;
-    const first = alert.first === 0 ? "now" : `${alert.first} s`;
+    const first = isNow(alert) ? "now" : `${alert.first} s`;
     const words = matters || !off ? [one.id, `${tag}${off ? ` ${n(miles)} NM` : ""}`] : [one.id];
     if (alert.level) words.push(`L${alert.level} ${first}`);
     const line = Math.round(f * 1.15);
@@ -788,11 +791,12 @@
     set("aria-valuetext", value);
     set("class", key === chosen ? "handle chosen" : "handle");
     set("data-level", level);
-    if (it.daaInside === inside) return;
-    it.daaInside = inside;
-    it.innerHTML = `<title>${escape(label)}: ${escape(value)}</title>${inside}`;
+    const whole = `<title>${escape(label)}: ${escape(value)}</title>${inside}`;
+    if (it.daaInside === whole) return;
+    it.daaInside = whole;
+    it.innerHTML = whole;
   }
 
   Object.assign(root.daa, { draw, unplan, scaleOf, wrap, clamp, flown, escape, heightTag, patterns, STYLE, TAPES, SIDES, MODELS,
-    VIEW_HEIGHTS, vectorSeconds, shownValue, shownWords, paint, calledIn });
+    VIEW_HEIGHTS, vectorSeconds, shownValue, shownWords, paint, calledIn, isNow });
 })(globalThis);

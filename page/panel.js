@@ -2,7 +2,7 @@
 "use strict";
 (function () {
   const { ui } = daa;
-  const { KINDS, SIDES, clamp, wrap, flown, escape, shownWords, calledIn } = daa;
+  const { KINDS, SIDES, clamp, wrap, flown, escape, shownWords, calledIn, isNow } = daa;
   const { $, LIMITS, state, within, shownViews, setText, setHtml, download, changed, saidOf, faultOf, edited, choose,
     aircraftOf } = ui;
   const MOST_QUIET = 5; // so many aircraft without an alert are listed before they are folded
@@ -30,7 +30,7 @@
 
   function wordsOfAlert(alert) {
     if (!alert) return "–";
-    const first = alert.first === null ? "" : alert.first === 0 ? " now" : ` ${alert.first}\u00a0s`;
+    const first = alert.first === null ? "" : isNow(alert) ? " now" : ` ${alert.first}\u00a0s`;
     return `${chip(alert.level)}${first}${alert.now && alert.now !== alert.level ? `, ${chip(alert.now)}\u00a0now` : ""}`;
   }
 
@@ -198,7 +198,7 @@
 
   function summaryOf(said) {
     const loud = said.aircraft.filter((one) => one.level).sort((a, b) => b.level - a.level || a.first - b.first);
-    const alerts = loud.slice(0, 4).map((one) => `${one.id} level ${one.level} ${one.first === 0 ? "now" : `in ${one.first} s`}`);
+    const alerts = loud.slice(0, 4).map((one) => `${one.id} level ${one.level} ${isNow(one) ? "now" : `in ${one.first} s`}`);
     if (loud.length > 4) alerts.push(`${loud.length - 4} more`);
     const [open, back, none, last] = [[], [], [], []];
     for (const kind of KINDS) sortAnswers(said, kind, open, back, none, last);

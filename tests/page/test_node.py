@@ -632,6 +632,45 @@ class Used(unittest.TestCase):
         self.assertRegex(found[1][0], "^Alerts: AMBER level 3 now")
         self.assertEqual(found[1][0], found[2][0])
 
+    def test_what_comes_within_the_first_second_is_not_told_as_now(self):
+        """Under the model of the entry point A is no violation as the moment begins, and is one before its first second is over."""
+        head = text_of(THREE_LEVELS).partition("[[level]]")[0].replace("resolve = 2", "resolve = 1")
+        config = f"{head}[[level]]\ndthr = 660\nzthr = 700\ntthr = 9\ntcoa = 0\nlookahead = 1\nalert = 1\ntep = 1\n"
+        found = on_page(OPEN + """
+            await open(["entry.toml", given[0]]);
+            const found = [];
+            for (const states of given.slice(1)) {
+              await open(["a.states", states]);
+              found.push([page.views[0].said.aircraft[0], handle("p:A").innerHTML, $("aircraft").tBodies[0].innerHTML, $("summary").textContent]);
+            }
+            return found;""", config, *(f"moment 0\nown 0 0 1000 0 3600 0\ntraffic A 0 {north} 1000 0 0 0\nend\n" for north in (1660, 600)))
+        self.assertEqual([said for said, *_ in found], [{"id": "A", "now": now, "level": 1, "first": 0} for now in (0, 1)])
+        for (_, inside, table, summary), label, cell, words in zip(found, ("L1 0 s", "L1 now"), ("1 0\u00a0s", "1 now"), ("in 0 s", "now")):
+            self.assertEqual([it.text for it in xml_of(inside).iter("text") if it.text.startswith("L1")], [label])
+            self.assertEqual(["".join(row[1].itertext()) for row in xml_of(table)][1:], [cell])
+            self.assertTrue(summary.startswith(f"Alerts: A level 1 {words}. "), summary)
+
+    def test_a_tooltip_is_not_that_of_an_older_state(self):
+        """Of each handle it is what a screen reader is told, also where nothing else of the handle has changed: of the ownship's place in
+        other moments, and of an aircraft's velocity that was turned."""
+        found = on_page("""
+            const told = () => [...display().daa.handles.values()].map((it) => [it.innerHTML, `${it.getAttribute("aria-label")}: ${it.getAttribute("aria-valuetext")}`]);
+            const found = [told()];
+            for (const value of ["1", "7"]) {
+              $("slider").value = value;
+              await fire($("slider"), "input");
+              await settle();
+              found.push(told());
+            }
+            for (const step of [["p:", "ArrowUp"], ["v:BRAVO", "ArrowLeft"], ["p:AMBER", "PageUp"], ["gs", "ArrowUp"]]) {
+              await press(...step);
+              found.push(told());
+            }
+            return found;""")
+        self.assertEqual(len({words for handles in found for _, words in handles if words.startswith("ownship: ")}), 4)
+        for handles in found:
+            self.assertEqual([xml_of(inside).find("title").text for inside, _ in handles], [words for _, words in handles])
+
     def test_each_number_is_in_the_unit_that_is_told(self):
         """Places in NM, speeds in knots, of the ownship and of an aircraft; and whose number is out of its range."""
         own, typed, fault, other, last = on_page(f"""
