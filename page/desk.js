@@ -4,13 +4,13 @@
  * text of the functions that it needs. */
 "use strict";
 
-/** What runs in the worker: it opens the engine, and answers each question in its turn. */
+/** What runs in the worker: it opens the engine, or says that it cannot, and answers each question in its turn. */
 function daaWorker(scope) {
   let engine = null;
   scope.onmessage = async ({ data }) => {
     if (data.module) {
-      engine = await daa.Engine.open(data.module);
-      scope.postMessage({ ready: true });
+      engine = await daa.Engine.open(data.module).catch(() => null);
+      scope.postMessage(engine ? { ready: true } : { failed: true });
     } else scope.postMessage({ number: data.number, answer: daa.answerOf(engine, data.question) });
   };
 }
@@ -24,7 +24,7 @@ function daaAnswer(root) {
     } catch (problem) {
       if (problem instanceof daa.Refused) return { code: problem.code, fault: problem.fault };
       if (problem instanceof daa.Stopped) return { stopped: problem.message };
-      throw problem;
+      return { stopped: `The engine stopped (${problem}).` };
     }
   };
 }
@@ -42,7 +42,7 @@ daaAnswer(globalThis);
       this.begin();
     }
 
-    /** Starts the worker; where the browser has none, the page itself answers. */
+    /** Starts the worker; where the browser has none, or it fails, the page itself answers. */
     begin() {
       this.ready = false;
       this.busy = null;
@@ -52,12 +52,23 @@ daaAnswer(globalThis);
         this.worker = new Worker(address);
         URL.revokeObjectURL(address);
       } catch {
-        this.worker = null;
-        daa.Engine.open(this.module).then((engine) => { this.engine = engine; this.opened(); });
+        this.answerHere();
         return;
       }
-      this.worker.onmessage = ({ data }) => (data.ready ? this.opened() : this.answered(data));
-      this.worker.postMessage({ module: this.module });
+      const { worker } = this;
+      const failed = () => { if (this.worker === worker) this.answerHere(); };
+      worker.onmessage = ({ data }) => (data.failed ? failed() : data.ready ? this.opened() : this.answered(data));
+      worker.onerror = failed;
+      worker.postMessage({ module: this.module });
+    }
+
+    /** The page itself answers from now on, first what the worker was asked; where it has no engine either, each answer says so. */
+    answerHere() {
+      if (this.worker) this.worker.terminate();
+      if (this.busy) this.waiting.unshift(this.busy);
+      Object.assign(this, { worker: null, ready: false, busy: null });
+      const none = ({ message }) => ({ report() { throw new daa.Stopped(`The engine can't be opened: ${message}.`); } });
+      daa.Engine.open(this.module).catch(none).then((engine) => { this.engine = engine; this.opened(); });
     }
 
     opened() {

@@ -569,16 +569,34 @@ class Broken(PageTest):
             return [thrown, engine.calls !== before, engine.report(view.config, current)];""")
         self.assertEqual(answer, [True, True, self.page.report()])
 
-    def test_a_browser_without_64_bit_memory_is_told(self):
-        """On the page with a first script after which no module is valid."""
+    @contextlib.contextmanager
+    def other_page(self, name, change):
+        """Opens the page with one file changed."""
         right = Page.folder
         self.addCleanup(setattr, Page, "folder", right)
         with tempfile.TemporaryDirectory() as folder:
             Page.folder = os.path.join(folder, "page")
             shutil.copytree(right, Page.folder)
-            with open(os.path.join(Page.folder, "core.js"), "a", encoding="utf-8") as file:
-                file.write("WebAssembly.validate = () => false;\n")
+            with open(os.path.join(Page.folder, name), "w", encoding="utf-8") as file:
+                file.write(change(text_of(os.path.join(right, name))))
+            self.page.driver.get("about:blank")
             self.page.go()
+            yield
+
+    def test_a_browser_that_runs_no_worker_has_answers(self):
+        """On the page with a policy that forbids workers, which the browser tells of only after each was made."""
+        with self.other_page("index.html", lambda text: text.replace("worker-src blob:", "worker-src 'none'")):
+            self.page.wait("document.body.dataset.surveyed === '19'")
+            self.page.settle()
+            self.check_moment(moments_of(replayed(THREE_LEVELS, bytes_of(ENCOUNTER)))[0])
+            self.page.press(".")
+            self.check_moment(moments_of(replayed(THREE_LEVELS, bytes_of(ENCOUNTER)))[1])
+            self.assertIsNone(self.page.js("return daa.page.views[0].desk.worker"))
+        self.page.problems()  # which tell of that refusal
+
+    def test_a_browser_without_64_bit_memory_is_told(self):
+        """On the page with a first script after which no module is valid."""
+        with self.other_page("core.js", lambda text: text + "WebAssembly.validate = () => false;\n"):
             self.page.wait("document.body.dataset.ready === 'no'")
         self.assertIn("needs a browser with 64-bit WebAssembly memory", self.page.text("#missing"))
         self.assertTrue(self.page.one("#missing").is_displayed())

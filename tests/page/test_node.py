@@ -972,6 +972,59 @@ class Used(unittest.TestCase):
             return [found, workers.length];""")
         self.assertEqual(found, [[["first", None], ["second", "new"]], 2])
 
+    WORKERS = """
+        const workers = [];
+        globalThis.Worker = class { constructor() { workers.push(this); } postMessage(it) { (this.asked ??= []).push(it); } terminate() { this.ended = true; } };
+        const question = { config: { bytes: page.views[0].config.bytes }, moment: page.current };"""
+
+    def test_the_page_answers_in_place_of_a_worker_that_fails(self):
+        """Which cannot open the engine, or whose script cannot run, or which ends while it decides; what an older one tells counts no more."""
+        reports = on_page(self.WORKERS + """
+            const reports = [], { asked } = given;
+            for (const fail of [(it) => it.onmessage({ data: { failed: true } }), (it) => it.onerror({}),
+              (it) => { it.onmessage({ data: { ready: true } }); it.onerror({}); }]) {
+              const desk = new daa.Desk(daa.wasm()), answer = desk.ask(question);
+              fail(workers.at(-1));
+              reports.push((await answer).text, (await desk.ask(question)).text, desk.worker, workers.at(-1).ended);
+            }
+            const desk = new daa.Desk(daa.wasm()), [older] = [workers.at(-1)];
+            older.onmessage({ data: { ready: true } });
+            desk.ask(question);
+            await new Promise((done) => setTimeout(done, 300));
+            desk.forget();
+            older.onerror({});
+            return [...reports, desk.worker === workers.at(-1) && desk.worker !== older];""")
+        report = moments_of(replayed(THREE_LEVELS, bytes_of(ENCOUNTER)))[0]
+        self.assertEqual(reports, [report, report, None, True] * 3 + [True])
+
+    def test_a_worker_that_cannot_open_the_engine_says_so(self):
+        posted = on_page("""
+            const posted = [], scope = { postMessage: (it) => posted.push(it) };
+            daaWorker(scope);
+            for (const module of [new Uint8Array(8), daa.wasm()]) await scope.onmessage({ data: { module } });
+            return posted;""")
+        self.assertEqual(posted, [{"failed": True}, {"ready": True}])
+
+    def test_an_engine_that_cannot_be_opened_is_told(self):
+        """To each question, in a worker and on the page."""
+        told = on_page(self.WORKERS + """
+            daa.Engine.open = async () => { throw new Error("no memory"); };
+            const [desk, other] = [new daa.Desk(null), new daa.Desk(null)];
+            workers[0].onmessage({ data: { failed: true } });
+            const told = [await desk.ask(question), await desk.ask(question)];
+            globalThis.Worker = class { constructor() { throw new Error("none"); } };
+            page.views[0].desk = new daa.Desk(null);
+            await press("p:AMBER", "ArrowUp");
+            return [told.map((it) => it.stopped), $("fault").textContent, $("report").innerHTML.includes("data-line")];""")
+        self.assertEqual(told, [["The engine can't be opened: no memory."] * 2, "The engine can't be opened: no memory.", False])
+
+    def test_whatever_an_engine_throws_is_an_answer(self):
+        told = on_page("""
+            page.views[0].desk.engine = { report() { throw new RangeError("too deep"); } };
+            await press("p:AMBER", "ArrowUp");
+            return [$("fault").textContent, $("report").innerHTML.includes("data-line")];""")
+        self.assertEqual(told, ["The engine stopped (RangeError: too deep).", False])
+
     def test_playing_goes_to_the_last_moment(self):
         """And begins anew from there."""
         found = on_page("""
