@@ -411,6 +411,24 @@ class Drawn(unittest.TestCase):
         share = (2000 - 500) / (3600 - 500)
         self.assertAlmostEqual(min(float(it.get("y")) for it in rects[1:]), tape["bottom"] - share * (tape["bottom"] - tape["top"]), delta=1)
 
+    def test_between_two_candidates_the_colour_is_that_of_the_nearer_one(self):
+        """On the ring and on a tape, at two fifths of a step from each candidate; below the least and above the greatest speed is none."""
+        text, report = moments_in(bytes_of(ENCOUNTER))[0][0], moments_of(replayed(THREE_LEVELS, bytes_of(ENCOUNTER)))[0]
+        self.show(THREE_LEVELS, text.encode(), report)
+        paint, (tracks, speeds) = lambda level: f"url(#level{level})" if level else "var(--l0-fill)", (candidates_of(report, kind) for kind in ("track", "gs"))
+        sectors = [self.sector(it) for it in self.layers["ring"].iter("path") if it.get("data-level")]
+        for track, level in tracks.items():
+            for near in (track - 2, track + 2):
+                self.assertEqual([fill for begin, turn, fill in sectors if (near - begin) % 360 <= turn], [paint(level)], near)
+        tape = self.g["tapes"]["gs"]
+        bands = [it for it in self.layers["tapes"].iter("rect") if it.get("data-level") and abs(float(it.get("x")) - tape["x"]) < 1]
+        self.assertEqual((min(speeds), max(speeds), len(set(speeds.values())) > 2), (500, 7000, True))
+        for speed, level in speeds.items():
+            for near in (speed - 40, speed + 40):
+                at = tape["bottom"] - (near - 500) / 6500 * (tape["bottom"] - tape["top"])
+                fills = [it.get("fill") for it in bands if float(it.get("y")) <= at <= float(it.get("y")) + float(it.get("height"))]
+                self.assertEqual(fills, [paint(level)] if 500 <= near <= 7000 else [], near)
+
     def test_answers_beyond_a_tape(self):
         """Of a report whose altitudes lie 5000 feet from the ownship's: they stand at the ends, and say where to look."""
         text, _ = moments_in(bytes_of(ENCOUNTER))[0]
