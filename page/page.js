@@ -34,7 +34,9 @@
   const whichView = () => state.views[Number($("which").value)];
 
   function paintRefusal() {
-    const { refusal, config } = whichView();
+    const { refusal, config, toml } = whichView();
+    const { configs } = daa.examples;
+    $("preset").value = Object.keys(configs).find((name) => configs[name] === toml) ?? ""; // so that it can be taken anew
     const line = refusal && refusal.line && !refusal.message.startsWith("line ") ? `line ${refusal.line}: ` : "";
     setText($("config-fault"), refusal ? `config ${refusal.code}: ${line}${refusal.message}` : "");
     $("toml").setAttribute("aria-invalid", String(Boolean(refusal)));
@@ -158,12 +160,16 @@
 
   async function takeFiles(files) {
     const isConfig = (file) => file.name.endsWith(".toml");
-    tell("");
+    const untaken = [];
     for (const file of [...files].sort((a, b) => isConfig(b) - isConfig(a))) {
-      const bytes = new Uint8Array(await file.arrayBuffer());
-      if (isConfig(file)) loadConfig(bytes, file.name);
+      tell("");
+      const bytes = await file.arrayBuffer().then((buffer) => new Uint8Array(buffer), () => null);
+      if (!bytes) tell(`${file.name} cannot be read`); // as a folder
+      else if (isConfig(file)) loadConfig(bytes, file.name);
       else load(bytes, file.name);
+      if (state.untaken) untaken.push(state.untaken);
     }
+    tell(untaken.join("; ")); // also where another file was taken after it
     $("example").value = "";
   }
 
@@ -318,6 +324,7 @@
     fill($("example"), encounters);
     $("example").insertAdjacentHTML("beforeend", '<option value="" hidden>own files</option>');
     fill($("preset"), configs);
+    $("preset").insertAdjacentHTML("beforeend", '<option value="" hidden>own text</option>');
     configure(1, daa.examples.configs[configs[1]], configs[1]);
     configure(0, daa.examples.configs[configs[0]], configs[0]);
     if (!(await takeLink())) {

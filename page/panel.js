@@ -49,7 +49,8 @@
   function paintTable() {
     const { own, traffic } = state.current;
     const chosen = chosenAircraft();
-    const rows = rowsOf(saidOf(state.views[0]));
+    const said = saidOf(state.views[0]);
+    const rows = rowsOf(said);
     const quiet = rows.filter(isQuiet);
     const folds = quiet.length > MOST_QUIET;
     const shown = folds && !state.unfolded ? rows.filter((row) => !isQuiet(row) || row.one === chosen) : rows;
@@ -61,7 +62,8 @@
     const again = isNew && focused !== undefined && document.querySelector(`[data-choose="${CSS.escape(focused)}"]`);
     if (again) again.focus();
     $("rest").hidden = !folds;
-    setText($("rest"), state.unfolded ? "Fold those without an alert" : `${traffic.length - shown.length} more without an alert`);
+    const without = `without an ${said ? "alert" : "answer"}`;
+    setText($("rest"), state.unfolded ? `Fold those ${without}` : `${traffic.length - shown.length} more ${without}`);
   }
 
   $("aircraft").addEventListener("click", ({ target }) => { if (target.dataset.choose !== undefined) choose(`p:${target.dataset.choose}`); });
@@ -106,6 +108,7 @@
     } else if (target.value !== "" && Number.isFinite(number)) one[field] = Math.round(clamp(number, -MOST_TYPED, MOST_TYPED) * Number(scale));
     edited();
   });
+  $("state").addEventListener("change", changed); // what was typed and is left is shown as it was taken
   $("state").addEventListener("click", ({ target }) => {
     if (target.matches("[data-remove]")) remove(state.current.traffic.indexOf(chosenAircraft()));
   });

@@ -747,6 +747,26 @@ class Used(unittest.TestCase):
             return [typed, input.value];""")
         self.assertEqual((typed, after), ("9000.0", "10000"))
 
+    def test_a_field_that_is_left_shows_what_counts(self):
+        """Of a place that was written too finely, and of an altitude that was taken away."""
+        found = on_page("""
+            const found = [];
+            for (const [field, value] of given) {
+              const input = $("state").querySelectorAll("input").find((it) => it.dataset.field === field);
+              document.activeElement = input;
+              input.value = value;
+              await fire($("state"), "input", { target: input });
+              await settle();
+              found.push(input.value);
+              document.activeElement = $("slider");
+              await fire($("state"), "change", { target: input });
+              await frame();
+              await settle();
+              found.push(input.value);
+            }
+            return found;""", ("x", "1.23456"), ("alt", ""))
+        self.assertEqual(found, ["1.23456", "1.235", "", "10000"])
+
     def test_the_limits_are_those_of_state_lines(self):
         wanted = {field.name.lower(): [field.low, field.high] for field in (X, Y, ALT, TRK, GS, VX, VY, VS, AGE)}
         self.assertEqual(on_page("return daa.ui.LIMITS;"), wanted)
@@ -963,6 +983,19 @@ class Used(unittest.TestCase):
         self.assertEqual(["".join(row[1].itertext()) for row in xml_of(table)][1:], ["–"] * 2)
         self.assertEqual((summary, label), ("alt of the ownship is not within -2000 and 60000",
                                             "Display under three_levels: alt of the ownship is not within -2000 and 60000"))
+
+    def test_aircraft_without_an_answer_are_not_called_those_without_an_alert(self):
+        """Where they are many and folded: of a moment, and of it with an altitude that is refused."""
+        found = on_page(OPEN + """
+            await open(["far.states", given[0]]);
+            const found = [$("rest").textContent];
+            await fire($("state"), "input", { target: { dataset: { field: "alt", scale: "1" }, value: "70000" } });
+            await settle();
+            found.push($("rest").textContent);
+            await fire($("rest"), "click");
+            await settle();
+            return [...found, $("rest").textContent];""", re.sub("(?m)^traffic [A-G].* 3000 ", lambda it: it[0].replace(" 3000 ", " 90000 "), self.FAR))
+        self.assertEqual(found, ["8 more without an alert", "8 more without an answer", "Fold those without an answer"])
 
     def test_an_engine_that_stopped_is_told(self):
         told = on_page("""
@@ -1217,6 +1250,25 @@ class Used(unittest.TestCase):
             return found;""", "# edited\n" + text_of(RECOVERY))
         self.assertEqual(found, [[["three_levels", False], [name, name == "edited"]] for name in ("recovery", "edited", "three_levels")])
 
+    def test_a_configuration_that_was_edited_is_taken_anew(self):
+        """No other one is named as that which counts, so that each one can be chosen."""
+        found = on_page(OPEN + EDIT + """
+            const found = [], name = () => found.push($("preset").value);
+            name();
+            await edit(given[0] + "# edited\\n");
+            name();
+            await edit(given[0]);
+            name();
+            $("which").value = "1";
+            await fire($("which"), "change");
+            name();
+            await open(["own.toml", "# own\\n" + given[0]]);
+            name();
+            await fire($("preset"), "change", { target: { value: "recovery" } });
+            name();
+            return found;""", text_of(THREE_LEVELS))
+        self.assertEqual(found, ["three_levels", "", "three_levels", "recovery", "", "recovery"])
+
     def test_an_aircraft_is_added_within_the_range(self):
         """Northeast of the ownship, level with it, westward at 150 knots."""
         states = on_page(f'await fire($("add"), "click"); await settle(); return {STATES};')
@@ -1415,6 +1467,17 @@ class Used(unittest.TestCase):
             return told;""", ["none.states", "nothing\n"], ["none.daa", "name time\n"], ["a.states", text_of(ENCOUNTER)])
         self.assertEqual(told, ["none.states has no whole moment; line 1 was refused with code 2",
                                 "none.daa: the header has no column for alt, vs, a place (lat lon, or sx sy), a speed (trk gs, or vx vy)", ""])
+
+    def test_each_file_that_is_not_taken_is_told(self):
+        """Of several that are opened at once, before and after one that is taken; a folder, which cannot be read, is one too."""
+        told, name = on_page("""
+            const files = given.map(([name, text]) => ({ name, arrayBuffer: async () => daa.bytesOf(text).buffer }));
+            files.splice(1, 0, { name: "folder", arrayBuffer: async () => { throw new Error("none"); } });
+            await fire(screen, "drop", { dataTransfer: { files } });
+            await settle();
+            return [$("fault").textContent, page.name];""", ["none.states", "nothing\n"], ["a.states", text_of(ENCOUNTER)], ["other.states", ""])
+        self.assertEqual(told, "none.states has no whole moment; line 1 was refused with code 2; folder cannot be read; other.states has no whole moment")
+        self.assertEqual(name, "a.states")
 
     def test_many_refused_lines_are_counted(self):
         """And leave room for the aircraft."""
