@@ -1,5 +1,5 @@
 -- What the end of a replay leaves.
-use Rattle.std.proofs.Common.{◌≡◌, ◌≤◌, ◌∙◌, ℕ, Bool, true, false, List, [], ◌++◌, length, sym, ap, subst, arith, append-nil}
+use Rattle.std.proofs.Common.{◌≡◌, ◌≤◌, ◌∙◌, ℕ, Bool, true, false, List, [], length, sym, ap, subst, arith, append-nil}
 use Rattle.std.specs.List.{list_any}
 use Rattle.daa_ahead.specs.Bytes.{StreamState, stream_state}
 use Rattle.daa_ahead.specs.Moves as ahead

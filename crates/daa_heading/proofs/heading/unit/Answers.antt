@@ -1,4 +1,4 @@
-use Rattle.std.proofs.Common.{rules, ◌≡◌, ◌∙◌, FitsSigned, w32, to_z-of_z, pos, ◌-ℤ◌, ◌≤ℤ◌, ◌<ℤ◌, arith}
+use Rattle.std.proofs.Common.{rules, ◌≡◌, ◌∙◌, FitsSigned, w32, to_z-of_z, pos, ◌-ℤ◌, arith}
 use Rattle.std.proofs.lemmas.Int.{ints}
 use Rattle.daa_heading.specs.Heading.{sine_at}
 use Rattle.daa_heading.proofs.Quarters.{sine_1, sine_2, sine_3, sine_4, cosine_1, cosine_2, cosine_3, cosine_4, yes_le, no_le}

@@ -14,7 +14,7 @@ use Rattle.daa_legs.specs.Inside.OnWay.{IsOnWay, step_of}
 use Rattle.daa_legs.proofs.StateRanges.{own_track, own_climb}
 use Rattle.daa_legs.proofs.Ways.{track_there, speed_there, climb_there, height_there, speed_small, near_round, one_is}
 use Rattle.daa_legs.proofs.motion.velocity_on_way.Goals as goal
-use Rattle.daa_legs.proofs.motion.velocity_on_way.Goals.{After-steps, After-steps-in-Speed, After-steps-in-Climb}
+use Rattle.daa_legs.proofs.motion.velocity_on_way.Goals.{After-steps, After-steps-in-Speed}
 
 pub returns-in-Hold : goal.returns-in-Hold
 unfolding velocity_on ground_speed_on track_on vertical_speed_on
