@@ -82,7 +82,7 @@ class ProgramInPython(unittest.TestCase):
             self.assertEqual(self.ended(*words), (2, "usage: one_moment.py LIBRARY CONFIGURATION [report]\n"), words)
 
     def test_files_that_are_missing(self):
-        for words in (["./missing.so", "examples/three_levels.toml"], ["libc.so.6", "missing.toml"], ["libc.so.6", "missing.toml", "report"]):
+        for words in (["./missing.so", os.path.join(TOP, "examples/three_levels.toml")], ["libc.so.6", "missing.toml"], ["libc.so.6", "missing.toml", "report"]):
             status, said = self.ended(*words)
             self.assertEqual(status, 1)
             self.assertIn("missing", said)
