@@ -125,8 +125,8 @@ impl Matching {
     }
 
     /// Ends the comparison, once the whole report was compared: `Alike` if the source ends here,
-    /// `Differs` if it hands out one more byte, `Limit` if that byte is past the limit, `Fault` if it
-    /// fails.
+    /// `Differs` if it hands out one more byte, `Limit` if that byte is past the limit, `Fault` if
+    /// it fails.
     pub fn end<S: Source>(&self, source: &mut S) -> Found
         ensures finds { (most : ℕ) (first : StreamState) (report : Bytes)
             → IsMatched most first report self.now
