@@ -48,8 +48,8 @@ fn publish_line<W: Wait>(rt: &W, moments: &mut Moments, line: &str, feed: &mut F
 }
 
 /// Publishes the picture of each moment that a line of this text ends, in the order of the lines,
-/// and nothing else. `Err` says that a line is refused, that the last moment does not end, or that
-/// there is no room for a picture; then some of the pictures may be published.
+/// and at `Ok` nothing else. `Err` is for a line that is refused, a last moment that does not end,
+/// and no room for a picture; no clause says so, nor what is published by then.
 pub fn publish_moments<W: Wait>(rt: &W, states: &str, feed: &mut Feed) -> Result<()>
     ensures published { OnOk result
         (pictures_after feed.old.story.pictures states.now ≡ Ok feed.new.story.pictures) }

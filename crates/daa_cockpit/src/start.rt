@@ -26,7 +26,8 @@ pub fn config_text<R: Env + Files + AllocGlobal>(rt: &R) -> Result<String> {
 
 /// An engine of one worker under this configuration.
 fn new_engine(alloc: Global, config: &str) -> Result<Engine>
-    ensures { IfOk result (λ engine. config_of config.now ≡ Ok engine.settings) }
+    ensures settings { IfOk result (λ engine. config_of config.now ≡ Ok engine.settings) }
+    ensures workers { IfOk result (λ engine. engine.workers ≡ 1) }
 {
     match read(alloc, config.as_bytes()) {
         Ok(config) => Engine::new(alloc, config, 1).map_err(|_| anyhow!("no memory")),

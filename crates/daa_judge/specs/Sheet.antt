@@ -1,7 +1,7 @@
 -- What contracts see of a sheet.
 use Rattle.std.specs.Prelude.{ℕ, ◌≡◌, ◌<◌, ◌≤◌, List, length}
 
--- its text, how many writes to it failed, and how many bytes it has room for
+-- its text, how many writes to it failed since it was last cut or cleared, and how many bytes it has room for
 pub record SheetState : Type 0 where
   pub text : List ℕ
   pub faults : ℕ

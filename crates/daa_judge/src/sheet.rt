@@ -66,7 +66,8 @@ impl Sheet {
         }
     }
 
-    /// The text on the sheet. If a write to the sheet has failed, the sheet is full.
+    /// The text on the sheet. If a write to the sheet has failed since it was last cut or cleared,
+    /// the sheet is full.
     pub fn text(&self) -> &[u8]
         ensures value { result.now ≡ self.now.text }
         ensures sheet { IsSheet self.now }
@@ -93,9 +94,9 @@ impl Sheet {
 }
 
 impl Sink for Sheet {
-    ghost use Rattle.std.specs.Prelude.{◌≡◌, ◌≤◌, ◌<◌, Some, length, take, IfOk, OnOk, OnErr};
+    ghost use Rattle.std.specs.Prelude.{◌≡◌, ◌≤◌, ◌<◌, ◌↔◌, Some, length, take, IfOk, IsErr, OnOk, OnErr};
     ghost use Rattle.std.specs.Io.KnownBytes.{Appends, Keeps};
-    ghost use Rattle.daa_outside.specs.Faults.{HasRisen};
+    ghost use Rattle.daa_outside.specs.Faults.{HasRisen, one_more};
 
     ghost taken = { λ s. Some s.text };
 
@@ -112,6 +113,8 @@ impl Sink for Sheet {
         ensures never_falls { self.old.faults ≤ self.new.faults }
         ensures no_fault { OnOk result (self.new.faults ≡ self.old.faults) }
 
+        ensures full { IsErr result ↔ (length self.old.text ≡ self.old.room) }
+        ensures one_fault { OnErr result (self.new.faults ≡ one_more self.old.faults) }
         ensures room { self.new.room ≡ self.old.room }
     {
         let room = self.space.len() - self.used;

@@ -24,7 +24,7 @@ place_now own aircraft = minus (own_place own) (traffic_place aircraft 0)
 
 module _ (settings : Settings) (own : Own) (aircraft : Traffic) where
   -- no relative speed east or north is greater: the greater of the present ground speed and the greatest that a candidate asks
-  -- for, 1 for what the table of sines rounds, and the aircraft's speeds
+  -- for, 1 by which rounded sines may lengthen a velocity (though no axis of it), and the aircraft's speeds
   abbrev pub horizontal_speed : ℤ
   horizontal_speed = int_max own.gs (greatest_of Speed settings) +ℤ pos 1 +ℤ size_of aircraft.vx +ℤ size_of aircraft.vy
 
