@@ -186,9 +186,9 @@ struct daa_resolution {
     int32_t what, value;
 };
 
-/* The recovery of a kind. found: 1, and then after (seconds, 1 to 179) is the least time from which on some value is clear,
- * and value the least that is, or with nearest the one nearest to the present value, in the kind's unit; or 0 if there is
- * none, and after and value are 0. */
+/* The recovery of a kind. found: 1, and then after (seconds, 1 to 179) is the least time from which on some value violates
+ * no level from resolve up, while it stays out of the cylinder from now on, and value the least that does so, or with
+ * nearest the one nearest to the present value, in the kind's unit; or 0 if there is none, and after and value are 0. */
 struct daa_recovery {
     int32_t found;
     uint32_t after;

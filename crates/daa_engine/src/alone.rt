@@ -197,9 +197,9 @@ impl Engine {
     }
 
     /// The recovery of a kind in a moment: the least second, from 1 to 179, from which on some
-    /// candidate of the kind is clear, and the value, in the kind's unit, that `least` of
-    /// daa_recovery names then; or `None` where there is none. The configuration asks for
-    /// recoveries.
+    /// candidate of the kind violates no level from `resolve` up, while it stays out of the
+    /// cylinder from now on, and the value, in the kind's unit, that `least` of daa_recovery names
+    /// then; or `None` where there is none. The configuration asks for recoveries.
     pub fn recovery(&self, picture: &Picture, kind: Kind) -> Option<Recovery>
         requires asked { self.now.settings.recovery ≢ None }
         requires picture { IsPictureInRange picture.now }

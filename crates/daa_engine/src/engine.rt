@@ -168,9 +168,10 @@ impl Engine {
 
     /// Decides a moment and writes its lines to the sink: its first line, the lines of the
     /// aircraft, of the bands of each kind, of the answers, of the last times and of the
-    /// recoveries, and its last line. Everything is found before the first byte is written, and
-    /// nothing is held back when the call returns. `SinkFault` is returned only if the sink failed;
-    /// then a beginning of the lines is written. The lines have at most 130176 bytes together.
+    /// recoveries, and its last line. All levels and answers are found before the first byte is
+    /// written, and nothing is held back when the call returns. `SinkFault` is returned only if the
+    /// sink failed; then a beginning of the lines is written. The lines have at most 130176 bytes
+    /// together.
     pub fn report<R: Threads + Sync, K: Sink, G: Gate>(
         &mut self,
         rt: &R,

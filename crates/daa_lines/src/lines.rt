@@ -101,7 +101,8 @@ impl Lines {
     }
 
     /// The lines of the rest of an input, where so many bytes were fed and lines taken before it,
-    /// and the last of these lines ended with them.
+    /// and the last of these lines ended with them. There is no such input where bytes were fed and
+    /// no line was taken: no clause says what lines come then.
     pub fn resume(fed: u64, number: u64) -> Self
         requires { number ≤ fed }
         ensures { result ≡ record {

@@ -1,4 +1,4 @@
--- What a seat knows of its pool, and how each step changes it.
+-- What a seat knows of its pool that contracts read, and how a Settle changes it.
 use Rattle.std.specs.Prelude.{ℕ, ◌==◌, List, [], ◌∷◌, ◌++◌, if◌then◌else◌}
 use Rattle.std.specs.List.{sum_by}
 use Rattle.daa_schedule.specs.CoreState.{no_units}

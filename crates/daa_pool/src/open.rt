@@ -19,7 +19,8 @@ use std::marker::Brand;
 impl Pool {
     /// A pool for 1 to 16 workers and at least one unit, and one seat for each worker, numbered
     /// from 0. Worker 0 has the range of all units, every other range and every hand is empty, and
-    /// nothing is settled. `NoMemory` says that there was none for the table or for the seats.
+    /// nothing is settled. `NoMemory` says that there was none for the words, the table
+    /// or the seats.
     pub fn open<A: Answers>(
         alloc: Global,
         answers: &A,

@@ -64,8 +64,7 @@ pub record Runs (most : ℕ) (words : List Text) (status : ℕ) (old new : Outsi
   pub bad_configuration : status ≡ 3 → OnlyWrites (IsCode words old.shelf.texts) old new
   pub read_fault : status ≡ 4 → Under words old.shelf.texts (Ends most old new SourceFault)
   pub write_fault : status ≡ 5 → Breaks most words old new
-  -- there was no memory for the words, the shelf's texts, the configuration, the engine or the
-  -- sheet
+  -- nothing was read or written; that there was no memory is meant, and no clause can say it
   pub no_memory : status ≡ 6 → IsUntouched old new
   pub fetch_fault : status ≡ 7 → FetchFails words old new
   pub limit : status ≡ 8 → Under words old.shelf.texts (Ends most old new Limit)

@@ -42,7 +42,7 @@ impl Model for Core {
 impl Core {
     /// Worker 0 has the range of all units, every other range and every hand is empty, and nothing
     /// is on the board. There are 1 to 16 workers and at least one unit, and no answer is 0.
-    /// `NoMemory` says that there was none for the answers, the ranges, the hands or the board.
+    /// `NoMemory` says that there was none for one of the core's lists.
     pub fn open(alloc: Global, answers: &[u64], workers: u32) -> Result<Core, NoMemory>
         requires workers { (0 < workers) × (workers ≤ 16) }
         requires units { (0 < length answers.now) × (length answers.now < 2 ^ 32) }
