@@ -346,6 +346,13 @@
     return `${hundreds < 0 ? "−" : "+"}${String(Math.abs(hundreds)).padStart(2, "0")}${arrow}`;
   }
 
+  /** The same in words. */
+  function wordsOfHeight(tag) {
+    const climb = tag.endsWith("↑") ? ", climbing" : tag.endsWith("↓") ? ", sinking" : "";
+    return `${parseInt(tag.slice(1), 10)} hundred feet ${tag.startsWith("−") ? "below" : "above"}${climb}`;
+  }
+
+  const nameOf = (one) => one.id || "an aircraft without a name";
 
   /** What keys call an aircraft, no two the same: its name. Where it has none, or one before it has the same, its place, in words
    *  that are longer than a name may be. */
@@ -458,7 +465,7 @@
   function velocityHandle(view, { one, off, tip, end, alert, called }) {
     if (off || end !== tip) return null;
     const speed = n(Math.hypot(one.vx, one.vy) / 10);
-    return { key: `v:${called}`, x: tip.x, y: tip.y, label: `velocity of ${one.id}`, number: speed,
+    return { key: `v:${called}`, x: tip.x, y: tip.y, label: `velocity of ${nameOf(one)}`, number: speed,
       value: `east ${n(one.vx / 10)}, north ${n(one.vy / 10)} knots`, inside: knob(strokeOf(alert.level)) };
   }
 
@@ -467,9 +474,8 @@
     const line = off ? "" : `<path d="M0 0L${n(end.x - shown.x)} ${n(end.y - shown.y)}" stroke="${strokeOf(alert.level)}" stroke-width="2"/>`;
     const mark = symbol(alert);
     const told = alert.unknown ? "no answer" : alert.level ? `alert level ${alert.level} in ${alert.first} seconds` : "no alert";
-    const height = tag.replace("−", "minus ").replace("↑", " climbing").replace("↓", " sinking");
-    const value = `${n(miles)} NM away, ${height} hundred feet, ${told}${alert.now ? `, level ${alert.now} now` : ""}`;
-    return { key: `p:${called}`, x: shown.x, y: shown.y, label: one.id, number: n(miles), value, level: alert.level,
+    const value = `${n(miles)} NM away, ${wordsOfHeight(tag)}, ${told}${alert.now ? `, level ${alert.now} now` : ""}`;
+    return { key: `p:${called}`, x: shown.x, y: shown.y, label: nameOf(one), number: n(miles), value, level: alert.level,
       inside: `${focusRing(20)}${line}${off ? `<g opacity=".7" transform="scale(.8)">${mark}</g>` : mark}${drawLabel(view.g, it)}${grip(15)}` };
   }
 
@@ -798,5 +804,5 @@
   }
 
   Object.assign(root.daa, { draw, unplan, scaleOf, wrap, clamp, flown, escape, heightTag, patterns, STYLE, TAPES, SIDES, MODELS,
-    VIEW_HEIGHTS, vectorSeconds, shownValue, shownWords, paint, calledIn, isNow });
+    VIEW_HEIGHTS, vectorSeconds, shownValue, shownWords, paint, calledIn, nameOf, isNow });
 })(globalThis);

@@ -72,6 +72,12 @@
     changed();
   }
 
+  /** The moment as it was recorded; what is held moves no more. */
+  function giveUp() {
+    drop();
+    restore();
+  }
+
   for (const figure of document.querySelectorAll("figure")) {
     const svg = figure.querySelector("svg");
     const view = () => state.views[Number(figure.dataset.view)];
@@ -96,6 +102,7 @@
     });
     for (const end of ["pointerup", "pointercancel"]) svg.addEventListener(end, (event) => { if (isHolding(event)) drop(); });
     svg.addEventListener("wheel", (event) => {
+      if (event.ctrlKey) return; // the browser's own: the page grows or shrinks
       event.preventDefault();
       if (event.deltaY) act(event.deltaY > 0 ? "wide" : "near", view(), figure);
     }, { passive: false });
@@ -118,7 +125,7 @@
     const one = whose(key);
     const right = { ArrowRight: 1, ArrowLeft: -1 }[pressed] || 0;
     const up = { ArrowUp: 1, ArrowDown: -1 }[pressed] || 0;
-    const high = { PageUp: 1, PageDown: -1 }[pressed] || 0;
+    const high = ["p", "v", "alt"].includes(what) ? { PageUp: 1, PageDown: -1 }[pressed] || 0 : 0;
     if (pressed === "Delete" && one !== own) {
       remove(traffic.indexOf(one));
       return true;
@@ -149,11 +156,14 @@
     setVelocity(one, speed * Math.sin(bearing), speed * Math.cos(bearing));
   }
 
+  const TYPES = "input, textarea, select"; // where letters are typed, or choose
+  const PRESSED = `${TYPES}, button, summary, [role=group][tabindex='0']`; // what the space bar presses or scrolls
+
   document.addEventListener("keydown", (event) => {
     if (event.ctrlKey || event.metaKey || event.altKey) return;
-    if (event.target.closest("input, textarea, select, button, summary, [role=group][tabindex='0']") && event.key !== "Escape") return;
+    if (event.key !== "Escape" && event.target.closest(event.key === " " ? PRESSED : TYPES)) return;
     const range = (what) => () => shownViews().forEach((view) => act(what, view, true));
-    const does = { " ": play, ",": () => goTo(state.index - 1), ".": () => goTo(state.index + 1), Escape: restore,
+    const does = { " ": play, ",": () => goTo(state.index - 1), ".": () => goTo(state.index + 1), Escape: giveUp,
       "+": range("near"), "-": range("wide"), 0: range("fit") }[event.key];
     if (!does) return;
     event.preventDefault();

@@ -159,6 +159,7 @@
   }
 
   async function takeFiles(files) {
+    if (!files.length) return; // as where a piece of text was dropped
     const isConfig = (file) => file.name.endsWith(".toml");
     const untaken = [];
     for (const file of [...files].sort((a, b) => isConfig(b) - isConfig(a))) {
@@ -210,6 +211,7 @@
     const held = await daa.unpack(hash);
     if (hash === state.hash || hash !== location.hash) return false; // or another link came meanwhile
     if (!isLinked(held)) {
+      state.hash = ""; // so that the link before is taken where the browser goes forward to it
       if (hash.startsWith("#m=")) tell("the link holds no moment: is it whole?");
       return false;
     }

@@ -3,7 +3,7 @@
 (function () {
   const { ui } = daa;
   const { KINDS, SIDES, clamp, wrap, flown, escape, shownWords, calledIn, isNow } = daa;
-  const { $, LIMITS, state, within, shownViews, setText, setHtml, download, changed, saidOf, faultOf, edited, choose,
+  const { $, LIMITS, OWN_FIELDS, FIELDS, state, within, shownViews, setText, setHtml, download, changed, saidOf, faultOf, edited, choose,
     aircraftOf } = ui;
   const MOST_QUIET = 5; // so many aircraft without an alert are listed before they are folded
   const MOST_TYPED = 1e6; // out of the range of each number, and within the engine's
@@ -73,11 +73,6 @@
   });
 
   // ---- the numbers of the chosen aircraft
-
-  const OWN_FIELDS = [["x", "east", "NM", 1000], ["y", "north", "NM", 1000], ["alt", "altitude", "ft", 1], ["trk", "track", "°", 1],
-    ["gs", "speed", "kt", 10], ["vs", "vertical", "ft/min", 1]];
-  const FIELDS = [["x", "east", "NM", 1000], ["y", "north", "NM", 1000], ["alt", "altitude", "ft", 1], ["vx", "east", "kt", 10],
-    ["vy", "north", "kt", 10], ["vs", "vertical", "ft/min", 1], ["age", "age", "s", 1]];
 
   function paintForm() {
     const one = chosenAircraft();

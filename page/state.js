@@ -5,12 +5,17 @@
  * state and the reports. Bands are shown only with the states that they are the answer to. */
 "use strict";
 (function () {
-  const { VIEW_HEIGHTS, clamp, flown, escape, draw, calledIn } = daa;
+  const { VIEW_HEIGHTS, clamp, flown, escape, draw, calledIn, nameOf } = daa;
   const ui = (daa.ui = {}); // what the page's scripts share
   const $ = (id) => document.getElementById(id);
   const RANGES_NM = [1.5, 3, 6, 9, 12, 18, 24, 36, 48, 96, 192]; // so that their thirds are short numbers
   const LIMITS = { x: [-200000, 200000], y: [-200000, 200000], alt: [-2000, 60000], trk: [0, 359], gs: [0, 10000],
     vx: [-10000, 10000], vy: [-10000, 10000], vs: [-10000, 10000], age: [0, 60] };
+  // The numbers of the ownship and of an aircraft: each one's name and unit on the page, and how many of the engine's that is.
+  const OWN_FIELDS = [["x", "east", "NM", 1000], ["y", "north", "NM", 1000], ["alt", "altitude", "ft", 1], ["trk", "track", "°", 1],
+    ["gs", "speed", "kt", 10], ["vs", "vertical", "ft/min", 1]];
+  const FIELDS = [["x", "east", "NM", 1000], ["y", "north", "NM", 1000], ["alt", "altitude", "ft", 1], ["vx", "east", "kt", 10],
+    ["vy", "north", "kt", 10], ["vs", "vertical", "ft/min", 1], ["age", "age", "s", 1]];
   const PAPER = { display: { width: 1100, height: 680 }, strip: { width: 1100, height: 150 } };
   const SOON = 60; // ms: an answer that takes longer is waited for with the bands hidden
 
@@ -69,7 +74,7 @@
     view.asked = stamp;
     view.desk.forget();
     view.desk.ask({ config: { bytes: view.config.bytes }, moment: copy(state.current) }).then((answer) => {
-      if (!answer || view.asked !== stamp) return;
+      if (!answer || stampOf(view) !== stamp) return; // it is the answer to what is no more
       view.answered = stamp;
       takeAnswer(view, answer);
       paintWhenAnswered();
@@ -85,8 +90,11 @@
   function sentenceOf({ code, fault }) {
     const cause = daa.CAUSES[code] || `code ${code}`;
     if (!fault || fault.code === 18) return cause;
-    const who = fault.code === 16 ? "the ownship" : state.current.traffic[fault.place].id || "an aircraft without a name";
-    return fault.field ? `${fault.field} of ${who} is not within ${fault.least} and ${fault.greatest}` : `${cause}: ${who}`;
+    const isOwn = fault.code === 16;
+    const who = isOwn ? "the ownship" : nameOf(state.current.traffic[fault.place]);
+    if (!fault.field) return `${cause}: ${who}`;
+    const [, name, unit, scale] = (isOwn ? OWN_FIELDS : FIELDS).find(([field]) => field === fault.field);
+    return `${name} of ${who} is not within ${fault.least / scale} and ${fault.greatest / scale}${unit === "°" ? "" : " "}${unit}`;
   }
 
   addEventListener("beforeprint", () => {
@@ -230,15 +238,14 @@
     daa.drawStrip($("strip"), size, { moments, notes, ids, index, step });
   }
 
-  $("strip").addEventListener("pointerdown", (event) => {
-    pause();
-    go(daa.momentAt($("strip"), event.clientX - $("strip").getBoundingClientRect().left, state.moments));
+  $("strip").addEventListener("click", (event) => {
+    goTo(daa.momentAt($("strip"), event.clientX - $("strip").getBoundingClientRect().left, state.moments));
   });
 
   // ---- moments
 
   function go(index) {
-    state.index = clamp(index, 0, state.moments.length - 1);
+    state.index = index;
     restore();
   }
 
@@ -273,7 +280,7 @@
       pause();
       return;
     }
-    if (state.index === state.moments.length - 1) go(0);
+    if (state.index === state.moments.length - 1) goTo(0);
     beginPlaying();
     tellPlaying();
   }
@@ -305,9 +312,11 @@
     $("play").setAttribute("aria-label", state.playing ? "Pause" : "Play");
   }
 
+  /** Goes to another moment by hand; where there is none on that side, what was changed by hand stays. */
   function goTo(index) {
     pause();
-    go(index);
+    const to = clamp(index, 0, state.moments.length - 1);
+    if (to !== state.index) go(to);
   }
 
   $("play").addEventListener("click", play);
@@ -338,6 +347,6 @@
     return RANGES_NM.find((range) => range > most * 1.12) || RANGES_NM[RANGES_NM.length - 1];
   }
 
-  Object.assign(ui, { $, LIMITS, state, within, shownViews, setText, setHtml, download, changed, saidOf, faultOf, edited,
+  Object.assign(ui, { $, LIMITS, OWN_FIELDS, FIELDS, state, within, shownViews, setText, setHtml, download, changed, saidOf, faultOf, edited,
     choose, partsOf, aircraftOf, lookOf, restore, play, goTo, act, RANGES_NM, fill, modelOf, survey, go, pause, fitting });
 })();

@@ -312,7 +312,7 @@ class Moved(PageTest):
         self.assertIn("traffic BRAVO -1200 -300 10200 ", self.page.states())
         self.check_shown()
         self.page.fill("#state [data-field=alt]", "70000")
-        self.assertIn("alt of BRAVO is not within -2000 and 60000", self.page.text("#fault"))
+        self.assertIn("altitude of BRAVO is not within -2000 and 60000 ft", self.page.text("#fault"))
         self.assertEqual(self.page.titles("ring"), [])
         self.assertEqual(self.page.report(), "")
         self.page.fill("#state [data-field=alt]", "9000")
@@ -389,6 +389,11 @@ class Configured(PageTest):
         area.send_keys(Keys.BACKSPACE)
         self.page.settle()
         self.assertEqual(self.page.text("#config-fault"), "")
+        look = "return [daa.page.index, daa.page.views[0].look.range, Boolean(daa.page.playing)]"
+        before = self.page.js(look)
+        area.send_keys("# 0.1, +- ")
+        self.assertTrue(area.get_property("value").startswith("# 0.1, +- "))
+        self.assertEqual(self.page.js(look), before)
 
     def test_levels_are_told_in_words(self):
         for old, new, words in (("tcpa = 0\n", "tau = 1\n", "tau"), ("tau = 1\n", "tep = 1\n", "time to the entry point"),
@@ -681,7 +686,7 @@ class Layout(PageTest):
         self.page.select("#example", "encounter, with recoveries")
         self.page.step_to(6)
         for compare in (False, True):
-            for width, height in SMALL:
+            for width, height in SMALL[:3] if IN_FIREFOX else SMALL:  # a window of Firefox is no narrower than 500 points
                 with self.subTest(size=(width, height), compare=compare):
                     self.page.size(width, height)
                     self.page.settle()
@@ -772,6 +777,7 @@ const contrast = (a, b) => { const [low, high] = [light(colour(a)), light(colour
 const pairs = [];
 for (const ground of ["ground", "panel", "disc"]) for (const ink of ["ink", "faint", "own", "open", "bad", "recover", "l1-edge", "l2-edge", "l3-edge", "l4-edge"]) pairs.push([ink, ground, contrast(ink, ground)]);
 for (const level of [1, 2, 3, 4]) pairs.push([`l${level}-ink`, `l${level}-fill`, contrast(`l${level}-ink`, `l${level}-fill`)]);
+pairs.push(["unknown", "l0-fill", contrast("unknown", "l0-fill")]);
 probe.remove();
 return pairs;
 """
@@ -787,13 +793,14 @@ def pages_of(paper):
 
 
 class Everyone(PageTest):
-    def test_contrast_on_both_grounds(self):
-        """Each text has a contrast of 4.5 on its ground, light and dark; a level's number 3.5 on its colour, and it is bold and large."""
-        for scheme in ("light", "dark"):
-            self.page.media(scheme=scheme)
+    def test_contrast_on_each_ground(self):
+        """Each text has a contrast of 4.5 on its ground, light, dark and of paper; a level's number 3.5 on its colour, and it is bold and large;
+        what has no answer 3 to what is clear."""
+        for media, scheme in (("", "light"), ("", "dark"), ("print", "dark")):
+            self.page.media(media, scheme)
             for ink, ground, contrast in self.page.js(CONTRAST):
-                self.assertGreaterEqual(contrast, 3.5 if ink.endswith("-ink") else 4.5, (scheme, ink, ground))
-            self.page.shot(f"ground_{scheme}")
+                self.assertGreaterEqual(contrast, 3.5 if ink.endswith("-ink") else 3 if ink == "unknown" else 4.5, (media, scheme, ink, ground))
+            self.page.shot(f"ground_{media}{scheme}")
 
     def test_letters_grow_with_those_that_the_browser_is_set_to(self):
         """All of the panel, the bar and the header, by one half."""
@@ -852,7 +859,8 @@ class Everyone(PageTest):
                 self.assertNotIn(value, ("", None), name)
         self.assertIn(("slider", "AMBER"), [node[:2] for node in nodes])
         words = self.page.js("return document.querySelector(\".handle[data-key='p:AMBER']\").getAttribute('aria-valuetext')")
-        self.assertRegex(words, r"^8\.5 NM away, \+00 hundred feet, alert level 2 in 43 seconds$")
+        self.assertRegex(words, r"^8\.5 NM away, 0 hundred feet above, alert level 2 in 43 seconds$")
+        self.assertEqual(self.page.one("#clock").get_attribute("aria-live"), "off")
         self.assertEqual(self.page.one("#summary").get_attribute("aria-live"), "polite")
         self.assertIn("AMBER level 2 in 43 s", self.page.text("#summary"))
         self.assertIn("track right to 10°", self.page.text("#summary"))

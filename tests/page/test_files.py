@@ -79,6 +79,11 @@ class Files(unittest.TestCase):
             inside = before.rfind("<label") > before.rfind("</label>")
             self.assertTrue(inside or "aria-label" in found.group(), found.group())
 
+    def test_no_control_stands_as_it_was_before_the_page_was_loaded_anew(self):
+        """Of those whose state the page keeps: a browser would put them back, and tell nobody."""
+        for name in ("compare", "theme", "which"):
+            self.assertRegex(files()["index.html"], rf'<[^>]* id="{name}" autocomplete="off"')
+
     def test_no_two_levels_have_one_colour(self):
         """On a light and on a dark ground: fills, that of no level too, marks of the patterns, and edges."""
         for part, least in (("fill", 0), ("mark", 1), ("edge", 1)):

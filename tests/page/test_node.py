@@ -19,6 +19,7 @@ from shared import (ENCOUNTER, EXAMPLES, HERE, RECOVERY, THREE_LEVELS, Page, byt
 from daidalus_files import AGE, ALT, GS, TRK, VS, VX, VY, X, Y, examine_config, read_report  # noqa: E402 (after shared, which says where it is)
 
 sys.path.append(os.path.join(os.path.dirname(EXAMPLES), "tests", "tools"))
+import test_toml  # noqa: E402 (the folder is no package)
 from common import module  # noqa: E402 (the folder is no package)
 from exports import numbers_of, rust_structs  # noqa: E402 (the folder is no package)
 
@@ -308,8 +309,9 @@ class Drawn(unittest.TestCase):
         report = moments_of(replayed(THREE_LEVELS, bytes_of(ENCOUNTER)))[0]
         states = f"format 2\nmoment 0\nown 0 0 10000 0 3600 0\n{aircraft}end\n"
         self.show(THREE_LEVELS, states.encode(), re.sub(r"(?m)(^(now|alert) .*\n)+", alerts, report, count=1))
-        for level, told in enumerate(("no alert", "alert level 1 in 7 seconds", "alert level 2 in 14 seconds, level 1 now", "alert level 3 in 21 seconds",
-                                      "alert level 4 in 0 seconds, level 4 now")):
+        for level, told in enumerate(("0 hundred feet above, no alert", "3 hundred feet above, climbing, alert level 1 in 7 seconds",
+                                      "12 hundred feet below, sinking, alert level 2 in 14 seconds, level 1 now", "1 hundred feet above, alert level 3 in 21 seconds",
+                                      "0 hundred feet above, sinking, alert level 4 in 0 seconds, level 4 now")):
             handle, colour = self.handles[f"p:A{level}"], f"var(--l{level}-edge)" if level else "var(--ink)"
             inside = xml_of(handle["inside"])
             self.assertEqual([it.get("stroke") for it in inside.iter("path") if re.match("M0 0L.*[0-9]$", it.get("d")) and it.get("stroke-width") == "2"], [colour])
@@ -318,7 +320,7 @@ class Drawn(unittest.TestCase):
             fills = [it.get("fill") for it in inside.iter() if it.get("stroke") == "var(--rim)" and it.get("fill")]
             self.assertEqual(fills, [f"var(--l{level}-fill)"] * bool(level))
             self.assertEqual([it.get("style") for it in inside.iter("text") if it.get("class") == "level mid"], [f"fill:var(--l{level}-ink)"] * bool(level))
-            self.assertTrue(handle["aria-valuetext"].endswith(f" hundred feet, {told}"), handle["aria-valuetext"])
+            self.assertTrue(handle["aria-valuetext"].endswith(f" NM away, {told}"), handle["aria-valuetext"])
         shapes = {"M0 -9l8 9l-8 9l-8 -9z": "open diamond", "M0 -11l10 11l-10 11l-10 -11z": "diamond", "M-10 -10l20 20M10 -10l-20 20": "cross"}
         found = []
         for level in range(5):
@@ -339,7 +341,7 @@ class Drawn(unittest.TestCase):
         self.assertEqual({key: told[key] for key in ("v:A", "v:B", "v:", "p:", "track", "gs", "vs", "alt")}, {
             "v:A": "east -90, north -140 knots", "v:B": "east 120, north 30 knots", "v:": "track 40, 300 knots", "p:": "east 0.5, north -0.7 NM",
             "track": "40 degrees", "gs": "300 kt", "vs": "300 ft/min", "alt": "10000 ft"})
-        self.assertRegex(told["p:B"], "^3.4 NM away, minus 12 sinking hundred feet, ")
+        self.assertRegex(told["p:B"], "^3.4 NM away, 12 hundred feet below, sinking, ")
         numbers = {key: float(self.handles[key]["aria-valuenow"]) for key in ("v:B", "v:", "p:B", "track", "gs", "vs", "alt")}
         self.assertEqual(numbers, {"v:B": 123.7, "v:": 300, "p:B": 3.4, "track": 40, "gs": 300, "vs": 300, "alt": 10000})
 
@@ -349,6 +351,8 @@ class Drawn(unittest.TestCase):
             self.show(RECOVERY, TURNED, replayed(RECOVERY, TURNED), range=range_nm)
             self.assertAlmostEqual(self.radius(*self.places["v:"]), 300 * seconds / 3600 / range_nm * self.g["radius"], delta=1)
             self.assertIn(f"north up · {seconds} s ahead", [text for text, *_ in self.texts("head")])
+        keys = " ".join(text_of(os.path.join(Page.folder, "index.html")).split())
+        self.assertIn("where each will be after 60 seconds; 30 at a range below 6 NM, 15 below 3 NM", keys)
 
     def test_an_aircraft_out_of_range_stands_at_the_rim(self):
         """In its direction, 141.4 NM away, small and without a velocity; one just within the range is as all others."""
@@ -381,11 +385,14 @@ class Drawn(unittest.TestCase):
         self.assertTrue(all(has for is_away, has in led if is_away) and any(is_away for is_away, _ in led), led)
 
     def test_a_levels_colour_and_pattern_are_its_own(self):
-        """Yellow with dots, orange with stripes, red with a lattice, purple with bars, as the page and docs/PAGE.md say."""
+        """Yellow with dots, orange with stripes, red with a lattice, purple with bars, as the page and docs/PAGE.md say: fills, marks and edges
+        on both grounds. What is open is green, a recovery blue, and nothing open red."""
         sheet = text_of(os.path.join(Page.folder, "style.css"))
-        hues = [colorsys.rgb_to_hsv(*(int(part, 16) / 255 for part in re.search(rf"--l{level}-fill: #(..)(..)(..);", sheet).groups()))[0] * 360 for level in (1, 2, 3, 4)]
-        for hue, (low, high) in zip(hues, ((45, 65), (25, 40), (0, 15), (290, 320))):
-            self.assertTrue(low <= hue <= high, hues)
+        wanted = {f"l{level}-{part}": hues for level, hues in enumerate(((45, 65), (25, 40), (0, 15), (290, 320)), 1) for part in ("fill", "mark", "edge")}
+        for name, (low, high) in {**wanted, "open": (140, 160), "recover": (210, 230), "bad": (0, 15)}.items():
+            colours = re.findall("#(..)(..)(..)", re.search(rf"--{name}: ([^;]+);", sheet)[1])
+            hues = [colorsys.rgb_to_hsv(*(int(part, 16) / 255 for part in colour))[0] * 360 for colour in colours]
+            self.assertTrue(hues and all(low <= hue <= high for hue in hues), (name, hues))
         for level in (1, 2, 3, 4):
             self.assertIn(f".l{level} {{ background: var(--l{level}-fill); color: var(--l{level}-ink); }}", sheet)
         patterns = list(xml_of(on_page("return daa.patterns();")).iter("pattern"))
@@ -549,6 +556,7 @@ class Used(unittest.TestCase):
         rows = [["".join(cell.itertext()) for cell in row] for row in xml_of(first[0])]
         self.assertEqual(rows, [["ownship", "0° · 360 kt · 10000 ft"], ["AMBER", "2 43\u00a0s", "8.54", "021", "0"], ["BRAVO", "0", "1.24", "256", "+600"]])
         self.assertEqual(["".join(row[1].itertext()) for row in xml_of(fifth[0])][1:], ["3 now", "0"])
+        self.assertEqual([it.get("aria-pressed") for it in xml_of(first[0]).iter("button")], ["true", "false", "false"])
         self.assertEqual((first[2:], fifth[2:]), (["0 s · 1 of 19", "0 seconds, moment 1 of 19"], ["50 s · 6 of 19", "50 seconds, moment 6 of 19"]))
         level = re.compile(r"(?:now \S+|alert \S+|(?:track|gs|vs|alt) \S+ \S+) ([1-4])\b")
         for place, (_, report, *_) in ((0, first), (5, fifth)):
@@ -578,6 +586,17 @@ class Used(unittest.TestCase):
             "recover track 11 35": "recover", "resolve gs down none up none": "none", "recover gs none": "none",
             "resolve track left keep right keep": "", "resolve gs down keep up keep": ""})
 
+    def test_the_table_tells_a_level_that_is_violated_now_beside_a_greater_one(self):
+        report = moments_of(replayed(THREE_LEVELS, bytes_of(ENCOUNTER)))[0].replace("now AMBER 0", "now AMBER 1")
+        table = on_page("""
+            page.views[0].desk.ask = async () => ({ text: given[0] });
+            page.views[0].edition += 1;
+            await fire(screen, "resize");
+            await settle();
+            return $("aircraft").tBodies[0].innerHTML;""", report)
+        cell = xml_of(table)[1][1]
+        self.assertEqual(("".join(cell.itertext()), [it.get("class") for it in cell]), ("2 43\u00a0s, 1\u00a0now", ["chip l2", "chip l1"]))
+
     def test_the_table_flies_an_old_report_on(self):
         """15 seconds old, B is 2.5 NM west and 2.325 NM north of the ownship, and 1175 feet below: 3.414 NM at 312.9 degrees."""
         rows = on_page("""
@@ -598,6 +617,10 @@ class Used(unittest.TestCase):
         self.assertEqual(told, "Alerts: AMBER level 3 now. Clear again: track 35° after 11 s; vertical speed 4600 ft/min after 11 s; "
                          "altitude 10500 ft after 14 s. Nothing open: ground speed.")
 
+    def test_the_sentence_of_a_flight_that_may_be_kept(self):
+        told = on_page('$("slider").value = "18"; await fire($("slider"), "input"); await settle(); return $("summary").textContent;')
+        self.assertEqual(told, "No alert. The present flight may be kept.")
+
     def test_the_sentence_names_each_side(self):
         """Of the encounter's first moment, and of the same in a mirror."""
         text = moments_in(bytes_of(ENCOUNTER))[0][0]
@@ -613,13 +636,17 @@ class Used(unittest.TestCase):
                              "or up to 700 ft/min; altitude down to 9500 ft or up to 10500 ft.")
 
     def test_the_sentence_of_many_alerts_counts_the_rest(self):
-        """Four are told, those of the greatest levels, the first of them first; how a display is named has the greatest level of all."""
+        """Four are told, those of the greatest levels, the first of them first, as in the table; how a display is named has the greatest level
+        of all."""
         rows = "".join(f"traffic A{i} {60 * i} {3000 + 600 * i} 10000 0 -1500 0\n" for i in range(7)) + "traffic LAST 9000 0 30000 0 0 0\n"
         states = f"moment 0\nown 0 0 10000 0 1500 0\n{rows}end\n"
-        told, label = on_page(OPEN + """await open(["many.states", given[0]]); return [$("summary").textContent, display().getAttribute("aria-label")];""", states)
+        told, label, table = on_page(OPEN + """
+            await open(["many.states", given[0]]);
+            return [$("summary").textContent, display().getAttribute("aria-label"), $("aircraft").tBodies[0].innerHTML];""", states)
         alerts = re.findall(r"(?m)^alert (\S+) ([1-4]) (\d+)$", replayed(THREE_LEVELS, states.encode()))
         alerts.sort(key=lambda it: (-int(it[1]), int(it[2])))
         self.assertGreaterEqual(len(alerts), 6)
+        self.assertEqual(["".join(row[0].itertext()) for row in xml_of(table)][1:], [name for name, *_ in alerts] + ["LAST"])
         words = [f"{name} level {level} {'now' if first == '0' else f'in {first} s'}" for name, level, first in alerts[:4]]
         self.assertTrue(told.startswith(f"Alerts: {', '.join(words)}, {len(alerts) - 4} more. "), told)
         self.assertEqual(label, f"Display under three_levels: 8 aircraft, the greatest alert level is {alerts[0][1]}")
@@ -710,9 +737,29 @@ class Used(unittest.TestCase):
             return [own, typed, fault, shown(), await type({{ x: "2.5", y: "7.75", vx: "-120.5", vy: "10", vs: "200", age: "3" }})];""")
         self.assertEqual(own, {"x": "0", "y": "0", "alt": "10000", "trk": "0", "gs": "360", "vs": "0"})
         self.assertIn("own 1500 -2250 10000 7 3615 -300\n", typed)
-        self.assertEqual(fault, "alt of the ownship is not within -2000 and 60000")
+        self.assertEqual(fault, "altitude of the ownship is not within -2000 and 60000 ft")
         self.assertEqual(other, {"id": "AMBER", "x": "3", "y": "8", "alt": "10000", "vx": "-135", "vy": "0", "vs": "0", "age": "0"})
         self.assertIn("traffic AMBER 2500 7750 10000 -1205 100 200 3\n", last)
+
+    def test_a_fault_has_the_name_and_the_unit_of_the_form(self):
+        """And its range in that unit, of each number."""
+        found = on_page("""
+            const found = [], form = /<label>(\\S+) (\\S+?)<input[^>]* data-field="(\\w+)"[^>]* min="(\\S+)" max="(\\S+)"/g;
+            for (const choose of ["", "AMBER"]) {
+              await fire($("aircraft"), "click", { target: { dataset: { choose } } });
+              await settle();
+              for (const [, name, unit, field, least, most] of [...$("state").innerHTML.matchAll(form)]) {
+                const { dataset } = $("state").querySelectorAll("input").find((it) => it.dataset.field === field);
+                await fire($("state"), "input", { target: { dataset, value: String(Number(most) + 1) } });
+                await settle();
+                found.push([`${name} of ${choose || "the ownship"} is not within ${least} and ${most} ${unit}`, $("fault").textContent]);
+                await fire($("restore"), "click");
+              }
+            }
+            return found;""")
+        self.assertEqual(len(found), 13)
+        for wanted, told in found:
+            self.assertEqual(told, wanted.replace(" °", "°"))
 
     def test_each_number_has_its_name_and_unit(self):
         own, other = on_page("""
@@ -732,7 +779,7 @@ class Used(unittest.TestCase):
                 await fire($("state"), "input", { target: { dataset: { field: given[0], scale: given[1] }, value: given[2] } });
                 await settle();
                 return $("fault").textContent;""", "x", "1000", value)
-            self.assertEqual(told, "x of the ownship is not within -200000 and 200000")
+            self.assertEqual(told, "east of the ownship is not within -200 and 200 NM")
 
     def test_escape_takes_back_what_is_being_typed(self):
         typed, after = on_page("""
@@ -784,6 +831,57 @@ class Used(unittest.TestCase):
         for (*_, line), states in zip(steps, found, strict=True):
             self.assertIn(line + "\n", states)
 
+    def test_page_up_and_down_change_altitudes_alone(self):
+        found = on_page("""
+            const found = [];
+            for (const key of given) {
+              await press(key, "PageUp");
+              found.push([page.current.own.alt, page.current.traffic[0].alt, page.edited]);
+            }
+            return found;""", "track", "gs", "vs", "alt", "v:AMBER")
+        self.assertEqual(found, [[10000, 10000, False]] * 3 + [[10100, 10000, True], [10100, 10100, True]])
+
+    def test_keys_count_but_where_they_are_typed_or_pressed(self):
+        """At a button and in the report all but the space bar; with Ctrl, Alt or Meta they are the browser's."""
+        places = "button", "summary", "[role=group][tabindex='0']", "input", "textarea", "select", "none"
+        found, browsers = on_page("""
+            const found = [], at = (place) => ({ closest: (some) => some.split(", ").includes(place) || null });
+            const told = () => [page.index, page.views[0].look.range, Boolean(page.playing)];
+            for (const place of given) {
+              for (const key of [".", "-", " "]) await fire(document, "keydown", { target: at(place), key });
+              found.push(told());
+              daa.ui.goTo(0);
+              page.views[0].look.range = 12;
+            }
+            for (const more of ["ctrlKey", "altKey", "metaKey"]) {
+              for (const key of [".", "-", "+", "0", " "]) await fire(document, "keydown", { target: at("none"), key, [more]: true, preventDefault() { found.push(key); } });
+            }
+            return [found, told()];""", *places)
+        self.assertEqual(found, [[1, 18, False]] * 3 + [[0, 12, False]] * 3 + [[1, 18, True]])
+        self.assertEqual(browsers, [0, 12, False])
+
+    def test_a_step_past_the_ends_keeps_what_was_changed_by_hand(self):
+        """By keys and by buttons, and by the space bar where there is one moment."""
+        found = on_page(OPEN + """
+            const found = [], key = (key) => () => fire(document, "keydown", { target: { closest: () => null }, key });
+            const change = async (...steps) => {
+              await press("p:AMBER", "ArrowUp");
+              for (const step of steps) {
+                await step();
+                await settle();
+                found.push(page.edited);
+              }
+            };
+            await change(key(","), () => fire($("back"), "click"));
+            $("slider").value = "18";
+            await fire($("slider"), "input");
+            await settle();
+            await change(key("."), () => fire($("forward"), "click"));
+            await open(["one.states", given[0]]);
+            await change(key(" "));
+            return [...found, Boolean(page.playing)];""", moments_in(bytes_of(ENCOUNTER))[0][0])
+        self.assertEqual(found, [True] * 5 + [False])
+
     def test_keys_with_the_track_up(self):
         """An arrow goes where it points on the display: ahead and to the right of a track of 40 degrees."""
         places = on_page(OPEN + """
@@ -825,12 +923,14 @@ class Used(unittest.TestCase):
 
     def test_an_aircraft_without_a_name_stays_chosen(self):
         """What is typed then is its number and not the ownship's, and both have a symbol."""
-        places, states = self.named(f"""
+        places, names, states = self.named(f"""
             await type("id", "");
             await type("alt", "9000");
             const symbols = [...display().daa.handles].filter(([key]) => key.startsWith("p:"));
-            return [symbols.map(([, it]) => it.getAttribute("transform")), {STATES}];""")
+            const names = ["p:", "v:"].map((what) => handle(`${{what}}aircraft 1`).getAttribute("aria-label"));
+            return [symbols.map(([, it]) => it.getAttribute("transform")), names, {STATES}];""")
         self.assertEqual(len(set(places)), 3)
+        self.assertEqual(names, ["an aircraft without a name", "velocity of an aircraft without a name"])
         self.assertIn("own 0 0 10000 0 3600 0\n", states)
         self.assertIn("traffic  -1200 -300 9000 0 3600 -600\n", states)
 
@@ -927,15 +1027,31 @@ class Used(unittest.TestCase):
         self.assertEqual(len({*places[1:6]}), 1)
         self.assertEqual(len({places[0], places[1], places[6]}), 3)
 
+    def test_escape_lets_go_of_what_is_held(self):
+        before, held, *after = on_page(f"""
+            const before = {STATES}, [x, y] = handle("p:AMBER").getAttribute("transform").match(/[-.0-9]+/g).map(Number);
+            const move = (right) => fire(display(), "pointermove", {{ clientX: x + right, clientY: y, pointerId: 1, buttons: 1 }});
+            fire(display(), "pointerdown", {{ target: handle("p:AMBER"), clientX: x, clientY: y, pointerId: 1, button: 0, isPrimary: true }});
+            await move(30);
+            const held = {STATES};
+            await fire(document, "keydown", {{ target: {{ closest: () => null }}, key: "Escape" }});
+            await move(60);
+            await settle();
+            return [before, held, {STATES}, page.edited];""")
+        self.assertNotEqual(held, before)
+        self.assertEqual(after, [before, False])
+
     def test_a_wheel_that_turns_sideways_keeps_the_range(self):
+        """And one with Ctrl, which is the browser's."""
         found = on_page("""
-            const ranges = [];
-            for (const deltaY of [0, 1, -1]) {
-              await fire(display(), "wheel", { deltaY });
-              ranges.push(page.views[0].look.range);
+            const found = [];
+            for (const [deltaY, ctrlKey] of [[0, false], [1, false], [-1, false], [1, true]]) {
+              let taken = false;
+              await fire(display(), "wheel", { deltaY, ctrlKey, preventDefault() { taken = true; } });
+              found.push([page.views[0].look.range, taken]);
             }
-            return ranges;""")
-        self.assertEqual(found, [12, 18, 12])
+            return found;""")
+        self.assertEqual(found, [[12, True], [18, True], [12, True], [12, False]])
 
     def test_a_late_answer_to_an_older_moment_is_not_shown(self):
         """The answers to two changes come one after the other, and nothing is shown before the second: no band, no mark, no level in a symbol
@@ -959,30 +1075,46 @@ class Used(unittest.TestCase):
             return found;""")
         self.assertEqual(found, [2, [False] * 8, [False] * 8, [True] * 8])
 
+    def test_an_answer_to_a_moment_that_was_changed_meanwhile_is_left(self):
+        """It tells a fault of an aircraft that was removed in the same frame."""
+        found = on_page("""
+            const { desk } = page.views[0], answers = [];
+            desk.ask = () => new Promise((answer) => answers.push(answer));
+            fire(display(), "keydown", { target: handle("p:BRAVO"), key: "ArrowUp" });
+            while (!answers.length) await frame();
+            delete desk.ask;
+            fire(display(), "keydown", { target: handle("p:BRAVO"), key: "Delete" });
+            answers[0]({ code: 17, fault: { code: 17, place: 1, field: "alt", least: -2000, greatest: 60000 } });
+            await settle();
+            return [$("fault").textContent, $("summary").textContent.startsWith("Alerts: AMBER")];""")
+        self.assertEqual(found, ["", True])
+
     def test_nothing_of_a_refused_moment_looks_clear(self):
         """Ring and tapes are grey, and each aircraft has a ? in place of a level; nothing of the moment before is left, and nothing
         of it after it."""
         layers, symbols, table, summary, label, fault = on_page("""
             await fire($("state"), "input", { target: { dataset: { field: "alt", scale: "1" }, value: "70000" } });
             await settle();
-            const layers = ["ring", "tapes", "answers"].map((name) => display().querySelector(`[data-layer=${name}]`).innerHTML);
+            const layers = ["ring", "tapes", "answers", "head"].map((name) => display().querySelector(`[data-layer=${name}]`).innerHTML);
             const symbols = [...display().daa.handles.values()].filter((it) => /^p:./.test(it.dataset.key)).map((it) => [it.innerHTML, it.getAttribute("aria-valuetext")]);
             const answer = [layers, symbols, $("aircraft").tBodies[0].innerHTML, $("summary").textContent, display().getAttribute("aria-label")];
             await fire($("restore"), "click");
             await settle();
             return [...answer, $("fault").textContent];""")
         self.assertEqual(fault, "")
-        ring, tapes, answers = map(xml_of, layers)
+        ring, tapes, answers, head = map(xml_of, layers)
         self.assertEqual([it.get("fill") for it in ring.iter("path") if it.get("fill")], ["var(--unknown)"])
         self.assertEqual([it.get("fill") for it in tapes.iter("rect")], ["var(--unknown)"] * 3)
         self.assertEqual(list(answers), [])
+        words = [it.text for it in head]
+        self.assertEqual(" ".join(words[words.index("no answer") + 1:]), summary)
         self.assertEqual(len(symbols), 2)
         for inside, told in symbols:
             words = [it.text for it in xml_of(inside).iter("text")]
             self.assertTrue(words[0] == "?" and told.endswith(", no answer"), (words, told))
         self.assertEqual(["".join(row[1].itertext()) for row in xml_of(table)][1:], ["–"] * 2)
-        self.assertEqual((summary, label), ("alt of the ownship is not within -2000 and 60000",
-                                            "Display under three_levels: alt of the ownship is not within -2000 and 60000"))
+        self.assertEqual((summary, label), ("altitude of the ownship is not within -2000 and 60000 ft",
+                                            "Display under three_levels: altitude of the ownship is not within -2000 and 60000 ft"))
 
     def test_aircraft_without_an_answer_are_not_called_those_without_an_alert(self):
         """Where they are many and folded: of a moment, and of it with an altitude that is refused."""
@@ -1083,12 +1215,24 @@ class Used(unittest.TestCase):
             const found = [];
             for (const time of [1, 2]) {
               await fire($("play"), "click");
-              found.push($("play").textContent, page.index);
+              found.push($("play").textContent, $("play").getAttribute("aria-label"), page.index);
               for (let frames = 0; frames < 2000 && page.playing; frames++) await frame();
-              found.push($("play").textContent, page.index);
+              found.push($("play").textContent, $("play").getAttribute("aria-label"), page.index);
             }
             return found;""")
-        self.assertEqual(found, ["❚❚", 0, "▶", 18] * 2)
+        self.assertEqual(found, ["❚❚", "Pause", 0, "▶", "Play", 18] * 2)
+
+    def test_another_speed_counts_from_when_it_is_chosen(self):
+        """5 seconds after the first moment is shown, which is then shown for two more."""
+        found = on_page("""
+            $("speed").value = "1";
+            await fire($("play"), "click");
+            page.playing.since -= 5000;
+            $("speed").value = "5";
+            await fire($("speed"), "change");
+            await settle();
+            return [page.index, Boolean(page.playing)];""")
+        self.assertEqual(found, [0, True])
 
     def test_what_alerts_is_drawn_over_the_rest(self):
         """Also where it alerts later, with the focus anywhere: in the first moment nothing alerts, in the second LOUD, in the third QUIET."""
@@ -1120,6 +1264,63 @@ class Used(unittest.TestCase):
             }
             return found;""")
         self.assertEqual(found, [3, 2, 0, 18])
+        named = re.findall(r'<button id="(back|play|forward)" title="([^"]*)" aria-label="([^"]*)"', text_of(os.path.join(Page.folder, "index.html")))
+        self.assertEqual(named, [("back", "Moment before (,)", "Moment before"), ("play", "Play or pause (space)", "Play"),
+                                 ("forward", "Moment after (.)", "Moment after")])
+
+    def test_a_click_on_the_strip_goes_to_its_moment(self):
+        """And a finger that begins to scroll there does not."""
+        found = on_page("""
+            const found = [];
+            for (const event of ["pointerdown", "click"]) {
+              await fire($("strip"), event, { clientX: $("strip").daaG.x(75) });
+              found.push(page.index);
+            }
+            return found;""")
+        self.assertEqual(found, [0, 7])
+
+    def test_the_strip_ends_at_a_moment_that_stopped_the_engine(self):
+        times = on_page("""
+            const { survey } = page, ask = survey.ask.bind(survey);
+            survey.ask = (question) => (question.moment.time === 30 ? Promise.resolve({ stopped: "The engine stopped." }) : ask(question));
+            await daa.ui.survey();
+            return page.notes.map(({ time }) => time);""")
+        self.assertEqual(times, [0, 10, 20])
+
+    def test_as_recorded_can_be_pressed_where_something_was_changed(self):
+        found = on_page("""
+            const found = [$("restore").disabled];
+            await press("p:AMBER", "ArrowUp");
+            found.push($("restore").disabled);
+            await fire($("restore"), "click");
+            await settle();
+            return [...found, $("restore").disabled];""")
+        self.assertEqual(found, [True, False, True])
+
+    def test_how_long_a_moment_took(self):
+        told = on_page("""
+            const told = [];
+            for (const took of given) {
+              page.times = new Array(200).fill(took);
+              await press("p:AMBER", "ArrowUp");
+              told.push($("engine").textContent.split(" · ")[1]);
+            }
+            return told;""", 0.25, 2.5)
+        self.assertEqual(told, ["250 µs a moment", "2.5 ms a moment"])
+
+    def test_the_buttons_under_a_display(self):
+        buttons, found = on_page("""
+            const found = [], tell = () => found.push([caption.querySelector("[data-is=range]").textContent, caption.querySelector("[data-do=up]").getAttribute("aria-pressed")]);
+            tell();
+            for (const what of ["wide", "near", "near", "up"]) {
+              await fire(caption, "click", { target: { dataset: { do: what } } });
+              await settle();
+              tell();
+            }
+            return [[...caption.innerHTML.matchAll(/<button data-do="(\\w+)" aria-label="([^"]*)"[^>]*>([^<]*)</g)].map((it) => it.slice(1)), found];""")
+        self.assertEqual(buttons, [["near", "Smaller range", "−"], ["wide", "Greater range", "+"], ["low", "Fewer altitudes", "−"], ["high", "More altitudes", "+"],
+                                   ["svg", "Picture of lines (SVG)", "SVG"], ["png", "Picture of points (PNG)", "PNG"]])
+        self.assertEqual(found, [["12 NM", "false"], ["18 NM", "false"], ["12 NM", "false"], ["9 NM", "false"], ["9 NM", "true"]])
 
     def test_each_speed_is_what_it_says(self):
         options = re.findall(r'<option\s+value="(\d+)"[^>]*>×(\d+)</option>', text_of(os.path.join(Page.folder, "index.html")))
@@ -1191,6 +1392,22 @@ class Used(unittest.TestCase):
             return [location.hash.startsWith("#m="), page.moments.length];""")
         self.assertEqual(found, [True, 19])
 
+    def test_a_link_is_taken_where_the_browser_goes_back_and_forward(self):
+        """Also where something else is shown since it was made."""
+        names = on_page("""
+            await fire($("link"), "click");
+            const link = location.hash, names = [];
+            $("example").value = "all closed, with recoveries";
+            await fire($("example"), "change");
+            for (const hash of ["", link]) {
+              location.hash = hash;
+              await fire(screen, "hashchange");
+              await settle();
+              names.push(page.name);
+            }
+            return names;""")
+        self.assertEqual(names, ["closed.states", "encounter.states"])
+
     def test_a_link_of_a_changed_moment_has_no_name_of_a_recording(self):
         head = on_page("""
             await press("p:AMBER", "ArrowUp");
@@ -1203,14 +1420,17 @@ class Used(unittest.TestCase):
 
     def test_a_refused_configuration_gives_no_name(self):
         """What is shown is named as the one that it is shown under."""
-        head, label, fault = on_page(OPEN + """
+        head, label, fault, *invalid = on_page(OPEN + """
+            const before = $("toml").getAttribute("aria-invalid");
             await open(["strict.toml", given[0]]);
             await press("p:AMBER", "ArrowUp");
-            return [display().querySelector("[data-layer=head]").innerHTML, display().getAttribute("aria-label"), $("config-fault").textContent];""",
+            return [display().querySelector("[data-layer=head]").innerHTML, display().getAttribute("aria-label"), $("config-fault").textContent, before,
+              $("toml").getAttribute("aria-invalid")];""",
             text_of(THREE_LEVELS).replace("track_step = 5\n", "track_step = 7\n"))
         self.assertEqual([text.text for text in xml_of(head)][2], "three_levels")
         self.assertRegex(label, "^Display under three_levels: ")
         self.assertIn("track_step = 7 does not divide 360", fault)
+        self.assertEqual(invalid, ["false", "true"])
 
     def test_a_refused_configuration_is_told_beside_what_is_shown(self):
         """Where it was opened, edited, or came by a link; until one is taken."""
@@ -1313,7 +1533,7 @@ class Used(unittest.TestCase):
             await settle();
             await fire($("link"), "click");
             return [$("link").textContent, location.hash];""")
-        self.assertEqual((told, hash), ("No link: alt of the ownship is not within -2000 and 60000", ""))
+        self.assertEqual((told, hash), ("No link: altitude of the ownship is not within -2000 and 60000 ft", ""))
 
     def test_a_link_that_holds_no_moment_is_left(self):
         """And told: links of another form, and one whose state lines are refused; but the one to the panel is none."""
@@ -1478,6 +1698,15 @@ class Used(unittest.TestCase):
             return [$("fault").textContent, page.name];""", ["none.states", "nothing\n"], ["a.states", text_of(ENCOUNTER)], ["other.states", ""])
         self.assertEqual(told, "none.states has no whole moment; line 1 was refused with code 2; folder cannot be read; other.states has no whole moment")
         self.assertEqual(name, "a.states")
+
+    def test_a_drop_without_a_file_changes_nothing(self):
+        """As one of a piece of text."""
+        found = on_page(OPEN + """
+            await open(["none.states", "nothing"]);
+            $("example").value = "any";
+            await open();
+            return [$("fault").textContent, $("example").value];""")
+        self.assertEqual(found, ["none.states has no whole moment; line 1 was refused with code 2", "any"])
 
     def test_many_refused_lines_are_counted(self):
         """And leave room for the aircraft."""
@@ -1664,8 +1893,30 @@ class Readers(unittest.TestCase):
         self.assertEqual(in_node([["read", text]])[0], [[4, "gs.rate is missing", line]])
 
     def test_a_configuration_that_is_too_long(self):
-        text = self.CONFIGS[0] + b"#" * 65536
-        self.assertEqual(in_node([["faults", text]])[0][0], 1)
+        """By a byte; one of 65536 bytes is not."""
+        texts = [self.CONFIGS[0].ljust(size, b"#") for size in (65536, 65537)]
+        self.assertEqual([fault and fault[0] for fault in in_node([["faults", text] for text in texts])], [None, 1])
+        self.assertEqual(self.compare([(text, self.STATES[2]) for text in texts]), {"config 1"})
+
+    def test_sentences_of_codes_have_the_numbers_of_the_limits(self):
+        causes = on_page("return daa.CAUSES;")
+        numbers = {int(code): [int(number) for number in re.findall("[0-9]+", words)] for code, words in causes.items()}
+        self.assertEqual({code: some for code, some in numbers.items() if some}, {1: [65536], 7: [1, 4], 8: [512], 18: [64], 21: [1, 8]})
+
+    def test_a_number_of_each_of_many_levels_counts(self):
+        """Of nine; out of its range it comes before their count."""
+        many = self.CONFIGS[0] + 5 * LEVEL
+        self.assertEqual(many.count(b"[[level]]"), 8)
+        texts = [many + last for last in (LEVEL, LEVEL.replace(b"660", b"0"))]
+        self.assertEqual([fault[0] for fault in in_node([["faults", text] for text in texts])], [7, 6])
+        self.assertEqual(self.compare([(text, b"") for text in texts]), {"config 6", "config 7"})
+
+    def test_the_texts_of_toml_are_those_that_the_program_takes(self):
+        """Those by hand of the tools' reader: code 2 where it is no TOML, and another one where it is."""
+        texts = [text.encode() for some in (test_toml.ONLY_1_1, test_toml.BOTH, test_toml.REFUSED, test_toml.LONGEST, test_toml.ONLY_TOMLLIB) for text in some]
+        self.assertLessEqual({"config 2", "config 3"}, self.compare([(text, b"") for text in texts]))
+        escaped = self.CONFIGS[0].replace(b"resolve = 2", b'"resolv\\u0065" = 2')
+        self.assertEqual((escaped != self.CONFIGS[0], self.compare([(escaped, self.STATES[2])])), (True, set()))
 
     def test_the_key_of_last_times(self):
         """It may be left out, and is 0 or 1; the codes are the program's."""
