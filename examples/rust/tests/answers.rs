@@ -1,0 +1,103 @@
+//! What the calls that the example does not make answer: a configuration from numbers, recoveries, last times, and levels.
+//! The answers are those that docs/GUIDE.md shows.
+use daidalus::{Config, Grid, Kind, Level, Moment, Own, Recovery, Refused, Traffic};
+
+const CLOSED: &str = include_str!("../../closed.states");
+const ENCOUNTER: &str = include_str!("../../encounter.states");
+const KINDS: [Kind; 4] = [Kind::Track, Kind::Speed, Kind::Climb, Kind::Height];
+const WORDS: [&str; 4] = ["track", "gs", "vs", "alt"];
+const GRIDS: [Grid; 3] = [
+    Grid { min: 500, max: 7000, step: 100, rate: 20 },
+    Grid { min: -5000, max: 5000, step: 100, rate: 500 },
+    Grid { min: 0, max: 50000, step: 500, rate: 2000 },
+];
+const LEVEL: Level =
+    Level { dthr: 660, zthr: 450, tthr: 35, tcoa: 0, lookahead: 75, alert: 55, tcpa: 0, tau: 0, tep: 0 };
+const LEVELS: [Level; 3] = [Level { zthr: 700, ..LEVEL }, LEVEL, Level { lookahead: 55, alert: 25, ..LEVEL }];
+
+/// The moment of this time in state lines of format 1, decided.
+fn decided(config: &Config, states: &str, time: u32) -> Moment {
+    let lines = states.lines().skip_while(|line| *line != format!("moment {time}")).take_while(|line| *line != "end");
+    let (mut owns, mut traffic) = (Vec::new(), Vec::new());
+    for line in lines {
+        let (word, rest) = line.split_once(' ').unwrap();
+        let numbers: Vec<i32> = rest.split(' ').filter_map(|it| it.parse().ok()).collect();
+        match (word, &numbers[..]) {
+            ("own", &[x, y, alt, trk, gs, vs]) => owns.push(Own { x, y, alt, trk, gs, vs }),
+            ("traffic", &[x, y, alt, vx, vy, vs]) => {
+                traffic.push(Traffic { id: rest.split(' ').next().unwrap().into(), x, y, alt, vx, vy, vs, age: 0 })
+            }
+            _ => assert_eq!(word, "moment"),
+        }
+    }
+    assert_eq!((owns.len(), traffic.len()), (1, 2));
+    Moment::decide(config, &owns[0], &traffic).unwrap()
+}
+
+fn from_numbers() -> Config {
+    Config::of(2, 3, 5, GRIDS, &LEVELS).unwrap()
+}
+
+/// Each candidate's level is that of the one band of its kind that has its value.
+fn assert_levels_are_those_of_the_bands(moment: &Moment) {
+    let tracks = Grid { min: 0, max: 355, step: 5, rate: 3 };
+    let (levels, mut index) = (moment.levels().unwrap(), 1);
+    for (kind, grid) in KINDS.into_iter().zip([tracks, GRIDS[0], GRIDS[1], GRIDS[2]]) {
+        let bands = moment.bands(kind).unwrap();
+        for value in (grid.min..=grid.max).step_by(grid.step as usize) {
+            let shown = bands.iter().filter(|it| (it.from as i64..=it.upto as i64).contains(&value));
+            assert_eq!(shown.map(|it| it.level).collect::<Vec<_>>(), [levels[index] as u32], "{kind:?} {value}");
+            index += 1;
+        }
+    }
+    assert_eq!(levels.len(), index);
+}
+
+#[test]
+fn numbers_are_the_configuration_of_their_text() {
+    let (text, mut found) = (include_str!("../../recovery.toml"), Vec::new());
+    for (text, nearest) in [(text.to_string(), true), (text.replace("nearest = 1", "nearest = 0"), false)] {
+        let read = Config::read(text.as_bytes()).unwrap();
+        let built = from_numbers().with_recovery(82, 100, nearest).unwrap();
+        for (states, time) in [(CLOSED, 0), (ENCOUNTER, 50)] {
+            let [wanted, report] = [read, built].map(|config| decided(&config, states, time).report(time).unwrap());
+            assert_eq!(report, wanted);
+        }
+        found.push(decided(&built, ENCOUNTER, 50).recovery(Kind::Height).unwrap().map(|it| it.value));
+    }
+    assert_eq!(found, [Some(10500), Some(0)]);
+    let code = |config: Result<Config, Refused>| config.err().map(|it| it.code);
+    assert_eq!(code(from_numbers().with_recovery(1, 0, true)), None);
+    assert_eq!(code(from_numbers().with_recovery(0, 1, true)), Some(6));
+    assert_eq!(code(Config::of(4, 3, 5, GRIDS, &LEVELS)), Some(7));
+    assert_eq!(code(Config::of(1, 3, 5, GRIDS, &[LEVEL; 5])), Some(7));
+}
+
+#[test]
+fn recoveries_are_those_of_the_report() {
+    let moment = decided(&from_numbers().with_recovery(82, 100, true).unwrap(), CLOSED, 0);
+    let report = moment.report(0).unwrap();
+    let wanted = [Some((18, 140)), None, Some((11, 4600)), Some((14, 9500))];
+    for ((kind, word), wanted) in KINDS.into_iter().zip(WORDS).zip(wanted) {
+        let found = moment.recovery(kind).unwrap();
+        assert_eq!(found, wanted.map(|(after, value)| Recovery { after, value }));
+        let told = found.map_or("none".into(), |it| format!("{} {}", it.after, it.value));
+        assert!(report.contains(&format!("\nrecover {word} {told}\n")), "{report}");
+    }
+    assert_levels_are_those_of_the_bands(&moment);
+}
+
+#[test]
+fn last_times_are_those_of_the_report() {
+    let config = Config::read(include_bytes!("../../three_levels.toml")).unwrap();
+    let [without, moment] = [config, config.with_last_times().unwrap()].map(|it| decided(&it, ENCOUNTER, 30));
+    let report = moment.report(30).unwrap();
+    for ((kind, word), wanted) in KINDS.into_iter().zip(WORDS).zip([Some(8), None, Some(3), Some(0)]) {
+        assert_eq!(moment.last(kind), Ok(wanted));
+        let told = wanted.map_or("none".into(), |it| it.to_string());
+        assert!(report.contains(&format!("\nlast {word} {told}\n")), "{report}");
+        assert_eq!(without.last(kind).map_err(|it| it.code), Err(26));
+        assert_eq!(moment.recovery(kind).map_err(|it| it.code), Err(26));
+    }
+    assert_levels_are_those_of_the_bands(&moment);
+}
