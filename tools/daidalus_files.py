@@ -529,8 +529,8 @@ class Report:
 
 NUMBER, ANSWER = r"(-?[0-9]{1,10})", r"(keep|none|-?[0-9]{1,10})"
 REPORT_FORMS = {word: re.compile(form) for word, form in {
-    "refused": r"refused ([0-9]{1,19}) ([0-9]{1,2})", "moment": r"moment ([0-9]{1,10})", "now": r"now (\S+) ([0-4])",
-    "alert": r"alert (\S+) ([0-4]) (-|[0-9]{1,10})", "steady": r"steady (\S+) ([0-4])",
+    "refused": r"refused ([0-9]{1,19}) ([0-9]{1,2})", "moment": r"moment ([0-9]{1,10})", "now": r"now ([A-Za-z0-9_-]{1,8}) ([0-4])",
+    "alert": r"alert ([A-Za-z0-9_-]{1,8}) ([0-4]) (-|[0-9]{1,10})", "steady": r"steady ([A-Za-z0-9_-]{1,8}) ([0-4])",
     **{kind: rf"{kind} {NUMBER} {NUMBER} ([0-4])" for kind in KINDS},
     "resolve": rf"resolve (track|gs|vs|alt) (?:left|down) {ANSWER} (?:right|up) {ANSWER}",
     "last": r"last (track|gs|vs|alt) (none|[0-9]{1,10})",
@@ -742,16 +742,14 @@ def read_words(parser, *files):
 def add_pause(parser):
     """The option that tells where encounters begin."""
     parser.add_argument("--pause", metavar="SECONDS", type=at_least_one,
-                        help="an encounter begins also after so many seconds without a moment, not only where times fall")
+                        help="an encounter begins also after so many seconds without a moment, not only where times do not rise")
 
 
-def whole_from(least, most=None):
-    """The type of a word of the command line: a whole number in a range."""
-    said = f"of at least {least}" if most is None else f"from {least} to {most}"
-
+def whole_from(least, most=9999999999):
+    """The type of a word of the command line: a whole number in a range, of at most 10 digits."""
     def taken(word):
-        if not re.fullmatch("[0-9]{1,10}", word) or not least <= int(word) <= (int(word) if most is None else most):
-            raise argparse.ArgumentTypeError(f"{word} is no whole number {said}")
+        if not re.fullmatch("[0-9]{1,10}", word) or not least <= int(word) <= most:
+            raise argparse.ArgumentTypeError(f"{word} is no whole number from {least} to {most}")
         return int(word)
     return taken
 

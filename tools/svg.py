@@ -1,4 +1,5 @@
 """Shapes of an SVG, as text, and scales from values to places on a picture."""
+import sys
 from html import escape
 
 INK, FAINT = "#222222", "#888888"
@@ -46,6 +47,11 @@ def picture(width, height, parts, title=None):
     head += f'viewBox="0 0 {number(width)} {number(height)}" font-family="DejaVu Sans, Verdana, sans-serif" font-size="11" fill="{INK}">'
     named = [shape("title", escape(title))] if title else []
     return "\n".join([head, *named, rectangle(0, 0, width, height, "white"), *parts, "</svg>"]) + "\n"
+
+
+def write(text):
+    """Writes a picture in UTF-8, whatever standard output has."""
+    sys.stdout.buffer.write(text.encode())
 
 
 def ticks(low, high, most=6):

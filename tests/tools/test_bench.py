@@ -15,7 +15,7 @@ NOT_TAKEN = (("worst", ["--calls"], "--calls goes with --measure"),
              *(("worst", ["--measure", WORST, *words], "--measure searches nothing, so --recovery, --last-times and --write have no place beside it")
                for words in (["--recovery"], ["--last-times"], ["--write", "x"])),
              ("worst", [], "there is no valgrind, which counts the instructions (apt-get install valgrind); --by time needs none"),
-             *((script, [f"--{name}", "0"], f"argument --{name}: 0 is no whole number of at least 1")
+             *((script, [f"--{name}", "0"], f"argument --{name}: 0 is no whole number from 1 to 9999999999")
                for script, names in (("run", ("moments", "megabytes", "runs")), ("reading", ("megabytes", "runs")), ("worst", ("tries",)),
                                      ("refuse_memory", ("from", "past", "jobs")), ("soak", ("inputs",))) for name in names))
 # the words that make each script do little, and the end of what it then says

@@ -137,6 +137,12 @@ class States(ToolTest):
             "in.states: moment 10 keeps the first line of each aircraft that stands in it twice",
             "in.states: moment 20 is not reported: no line `end` of it is taken"])
 
+    def test_tells_of_several_moments_in_one(self):
+        own = "own 0 0 10000 0 3600 0\n"
+        status, out, _ = self.tool("check", CONFIG, "-", given=f"moment 4\n{own}moment 5\n{own}moment 6\n{own}end\n")
+        self.assertEqual(status, 1)
+        self.assertIn(": moment 4 mixes lines 1 to 7; moments 5, 6 are not reported by themselves\n", out)
+
     def test_a_refused_end_alone_means_nothing_more(self):
         status, out, _ = self.tool("check", CONFIG, f"{TOP}/examples/lines.states")
         self.assertEqual((status, out.count("\n")), (1, 1))

@@ -1,6 +1,8 @@
 """tools/draw, on reports written by hand and on the example's."""
 import os
 import re
+import subprocess
+import sys
 import unittest
 from xml.etree import ElementTree
 
@@ -214,9 +216,18 @@ class Pictures(ToolTest):
         """0.04 to 1.06 and on to 2.08: rounded 0, 1.1 and 2.1, so the widths are 1.1 and 1, and no gap is between them."""
         self.assertIn("M0 0h1.1v5h-1.1zM1.1 0h1v5h-1z", boxes([(0.04, 0, 1.06, 5), (1.06, 0, 2.08, 5)], "red"))
 
-    def test_names_are_escaped(self):
-        _, out = self.picture(REPORT.replace("now A", "now <&>").replace("alert A", "alert <&>"))
-        self.assertIn("&lt;&amp;&gt;: alert, now", out)
+    def test_a_title_is_escaped(self):
+        _, out = self.picture(REPORT, "--title", "<&>")
+        self.assertIn("&lt;&amp;&gt;", out)
+
+    def test_a_picture_is_in_utf_8(self):
+        """Whatever standard output has."""
+        words = [os.path.join(TOP, "tools", "draw"), "--title", "\u00e9 \U0001f6e9".encode(), self.write("a.report", REPORT)]
+        for encoding in ("latin-1", "ascii", "utf-8"):
+            run = subprocess.run([sys.executable, "-B", "-X", "utf8", *words], env={**os.environ, "PYTHONIOENCODING": encoding},
+                                 capture_output=True, timeout=120)
+            self.assertEqual((run.returncode, run.stderr), (0, b""))
+            self.assertIn("\u00e9 \U0001f6e9", self.words(ElementTree.fromstring(run.stdout)))
 
     def test_the_picture_of_the_documents(self):
         """docs/encounter.svg is what is drawn of the example's report today."""

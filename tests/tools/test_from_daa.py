@@ -63,12 +63,22 @@ class FromDaa(ToolTest):
         """Where the header has one, a comma is no mark; a row with more fields than the header is refused."""
         text = "name;time;sx;sy;alt;vx;vy;vs\nown;0;0.5;0;1000;0;100;0\n"
         for given, part in ((text.replace("0.5", "0,5"), "line 2: no number for sx: 'own;0;0,5;0;1000;0;100;0': a decimal comma? Write a point\n"),
-                            (text.replace(";", ",").replace("0.5", "0,5"), "line 2 has 9 fields, the header 8: a decimal comma? Write a point\n"),
+                            (text.replace(";", ",").replace("0.5", "0,5"), "line 2 has 9 fields, the header 8: a decimal comma (write a point), or a comma in a name?\n"),
                             (PLANE + "Own Ship 0 0 0 0 100 0 0\n", "line 3 has 9 fields, the header 8")):
             status, out, said = self.tool("from_daa", self.write("in.csv", given))
             self.assertEqual((status, out), (3, ""))
             self.assert_one_line(said, part)
         self.assertEqual(self.made(text.replace("own", "a, b"))[0][0].own, Own(0, 0, 1000, 0, 1000, 0))
+
+    def test_says_where_times_fall(self):
+        """Of the ownship alone: past midnight, where a recording begins the hours anew; each aircraft by itself may rise."""
+        rows = "".join(f"own 0 0 0 0 100 0 {time}\n" for time in ("23:59:58", "23:59:59", "00:00:00", "00:00:01"))
+        moments, said = self.made(PLANE + rows)
+        self.assertEqual([moment.time for moment in moments], [0, 1, 86398, 86399])
+        self.assertIn("from_daa: the ownship's times fall, from 86399 to 0 s: the reports are taken in the order of their times; past midnight "
+                      "write 24:00:01 and so on\n", said)
+        for text in (rows.replace("00:00:0", "24:00:0"), "own 0 0 0 0 100 0 3\nown 0 0 0 0 100 0 4\nA 1 0 0 0 100 0 3\nA 1 0 0 0 100 0 4\n"):
+            self.assertNotIn("fall", self.made(PLANE + text)[1])
 
     def test_a_byte_order_mark_is_skipped(self):
         self.assertEqual(len(self.made("\ufeff" + PLANE + "own 0 0 0 0 100 0 0\n")[0]), 1)
@@ -231,6 +241,7 @@ class FromDaa(ToolTest):
         moments, said = self.made(text)
         self.assertIn("from_daa: not used: the columns heading, vx, vy\n", said)
         self.assertEqual((moments[0].own.trk, moments[0].own.gs), (90, 1000))
+        self.assertIn("not used: the column without a name\n", self.made("name,time,sx,sy,alt,vx,vy,vs,\nown,0,0,0,0,1,2,0,\n")[1])
         self.assertNotIn("not used", self.made(text.replace("heading,", "").replace(",7,", ",").replace("vx,vy,", "").replace(",1,2,", ","))[1])
 
     def test_reports_that_no_moment_has_are_told(self):
@@ -251,13 +262,15 @@ class FromDaa(ToolTest):
         plain = text.replace("time,", "time [hh:mm:ss],").replace("01:02:03", "7").replace("1:02:03.5", "7.5")
         self.assertEqual(self.made(plain)[0][0].time, 7)
         self.assertEqual(self.made(text.replace("1:02:03", "24:00:00"))[0][0].time, 86400)
-        status, _, said = self.tool("from_daa", self.write("in.csv", text.replace("1:02:03.5", "1:62:03")))
-        self.assertEqual(status, 3)
+        for time in ("1:62:03", "12:30"):
+            status, _, said = self.tool("from_daa", self.write("in.csv", text.replace("1:02:03.5", time)))
+            self.assertEqual(status, 3)
+            self.assert_one_line(said, f"line 2: {time} is no time (hh:mm:ss or a number) and no unit of time that is known")
 
     def test_says_what_is_no_recording(self):
         for text, part in (("", "no header line"), ("NAME time\n", "the header has no column for alt, vs, a place"),
                            (HEAD, "no report of an aircraft"), (HEAD + "own 60 10 x 90 150 0 3\n", "line 3: no number for alt"),
-                           (HEAD.replace("[ft]", "[furlong]") + "own 60 10 1 90 150 0 3\n", "furlong is no unit of alt"),
+                           (HEAD.replace("[ft]", "[furlong]") + "own 60 10 1 90 150 0 3\n", "line 2: furlong is no unit of alt"),
                            (HEAD + "own 60 10\n", "line 3: no number for trk"), (HEAD + "own 60 10 1 90 nan 0 3\n", "line 3: no number for gs"),
                            (HEAD.replace("NAME lat", "NAME lat lat"), "the header names lat twice"),
                            ("name,time,sx,sy,alt,vx,vy,vs\n,0,0,0,0,0,100,0\n", "line 2: no name")):

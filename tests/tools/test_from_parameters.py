@@ -207,7 +207,10 @@ class FromParameters(ToolTest):
     def test_what_is_refused(self):
         text = TOP + LEVELS
         self.refused(text.replace("turn_rate = 3", "turn_rate = 1.5"), "nasa.conf: line 17: turn_rate = 1.5 [deg/s]: that is 1.5 of turn_rate",
-                     "write 1 or 2 [deg/s] in its place")
+                     "write 1 or 2 [deg/s] in its place; the slower one closes more tracks")
+        for rate, advice in (("2.6", "write 2 or 3 [deg/s] in its place"), ("45", "1 to 30: write 30 [deg/s] in its place"),
+                             ("0", "write 1 [deg/s] in its place"), ("-4.5", "write 1 [deg/s] in its place"), ("30.5", "write 30 [deg/s] in")):
+            self.refused(text.replace("turn_rate = 3", f"turn_rate = {rate}"), advice)
         self.refused(text.replace("step_alt = 500", "step_alt = 50"),
                      "that gives 999 candidates of alt, and 512 are the most: write a step of 98 [ft] or more, or narrow min and max")
         self.refused(text.replace("step_hs = 10", "step_hs = 1"), "write a step of 1.4 [knot] or more")
@@ -227,7 +230,7 @@ class FromParameters(ToolTest):
         self.assertEqual(self.made("\ufeff" + text)[0], WANTED)
         self.assertTrue(any("left_hdir = 1.2.3 is left out" in line for line in self.made(text.replace("left_hdir = 180 [deg]", "left_hdir = 1.2.3"))[1]))
         self.refused(text.replace("step_vs = 100 [fpm]\n", ""), "the parameter step_vs is missing")
-        self.refused(text.replace("min_vs = -6000", "min_vs = 7000"), "vs.min = 7000 is above vs.max = 6000")
+        self.refused(text.replace("min_vs = -6000", "min_vs = 7000"), "line 8: min_vs = 7000 [fpm]: that is above max_vs = 6000 [fpm]")
         self.refused(TOP, "no alert level in it")
         self.refused("", "no parameter in it")
         self.refused("hello\n", "line 1 is no `key = value`: 'hello'")

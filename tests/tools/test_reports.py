@@ -3,12 +3,13 @@ import os
 import re
 import signal
 import subprocess
+import sys
 import tempfile
 import time
 import unittest
 
 from common import TOP, ToolTest, module, program
-from daidalus_files import Band, encounters_of, read_report
+from daidalus_files import Band, encounters_of, parsed, read_report
 
 compare = module("tools/compare")
 
@@ -50,6 +51,23 @@ NO_REPORTS = (("", "it is empty"), ("hello\n", "line 1 is no line of a report th
               ("x" * 99, "line 1 is no line of a report there: 'xxx"), (f"# {'x' * 99}\n", "a report has no comments"))
 
 
+class Makers(ToolTest):
+    def test_what_page_module_writes_has_a_folder(self):
+        """That is looked at before anything is built: here is no toolchain."""
+        words = [sys.executable, "-B", os.path.join(TOP, "tools", "page_module"), "--to", os.path.join(self.folder, "none", "x")]
+        run = subprocess.run(words, env={"PATH": self.folder}, capture_output=True, text=True, timeout=120)
+        self.assertEqual((run.returncode, run.stdout), (1, ""))
+        self.assert_one_line(run.stderr, f"page_module: there is no folder {self.folder}/none\n")
+
+    def test_an_interrupt_leaves_no_trace(self):
+        """Here it comes while `rt doc` runs."""
+        os.chmod(self.write("rt", "#!/bin/sh\nkill -INT $PPID\nexec /bin/sleep 9\n"), 0o755)
+        words = [sys.executable, "-B", os.path.join(TOP, "tools", "page_module"), "--to", os.path.join(self.folder, "x")]
+        run = subprocess.run(words, env={"PATH": self.folder}, capture_output=True, text=True, timeout=120,
+                             preexec_fn=lambda: signal.signal(signal.SIGINT, signal.SIG_DFL))
+        self.assertEqual((run.returncode, run.stdout, run.stderr), (130, "", ""))
+
+
 class Reports(ToolTest):
     def setUp(self):
         super().setUp()
@@ -64,12 +82,14 @@ class Reports(ToolTest):
                 self.assert_one_line(said, part)
         self.assertEqual([self.tool(*words)[0] for words in (["summary", "x"], ["draw", "x"], ["compare", "x", "y"])], [7, 7, 7])
 
-    def test_a_line_may_have_64_bytes(self):
-        """With its end 65; the next name is one byte longer."""
-        for name, status in (("A" * 58, 0), ("A" * 59, 4)):
-            report = REPORT.replace("now A", f"now {name}").replace("alert A 2 43", "").replace("alert A 2 0", "").replace("\n\n", "\n")
-            self.assertEqual(len(f"now {name} 0"), 64 + status // 4)
-            self.assertEqual(self.tool("summary", self.write("b.report", report))[0], status)
+    def test_a_name_is_an_identifier(self):
+        """Else what is no character of a text would go into pictures and tables."""
+        for line in ("now {} 1", "alert {} 2 43", "steady {} 1"):
+            for name, is_taken in (("Az_-0189", True), ("A" * 9, False), ("A\x01B", False), ("\u00e9", False), ("\udce9", False), ("A&B", False)):
+                self.assertEqual(parsed(line.format(name)) is not None, is_taken, (line, name))
+        status, out, said = self.tool("draw", self.write("b.report", REPORT.encode().replace(b"now A 0", b"now A\xe9 0")))
+        self.assertEqual((status, out), (4, ""))
+        self.assert_one_line(said, "line 2 is no line of a report there")
 
     def test_a_name_that_is_empty_is_of_no_file(self):
         """As a variable of a shell that has no value gives one: it is not as if the word were left out."""
@@ -86,7 +106,9 @@ class Reports(ToolTest):
         self.assertEqual((status, out.splitlines()[0]), (0, "1 moment, 0 s; refused lines: 1"))
         self.assert_one_line(said, "the report ends within a moment")
         self.assertEqual(self.tool("compare", path, path)[0], 0)
-        self.assertEqual(self.tool("compare", self.report, path)[0], 1)
+        status, _, said = self.tool("compare", self.report, path)
+        self.assertEqual(status, 1)
+        self.assert_one_line(said, f"compare: {path}: the report ends within a moment, which is left out\n")
         status, out, said = self.tool("compare", self.report, self.write("c.report", REPORT + "moment 20\n"))
         self.assertEqual((status, "moment 20" in out), (1, False))
         self.assert_one_line(said, "the report ends within a moment")
@@ -97,7 +119,13 @@ class Reports(ToolTest):
         self.assertEqual(out.splitlines(), [
             "2 moments, 0 to 10 s; refused lines: 1", "A: level 2 alerted at 2 moments, 0 to 10 s", "A: level 1 violated at 1 moment, 10 s",
             "track: answer none at 1 moment, 10 s", "track: answer upper at 1 moment, 0 s", "track: recovery found at 1 moment, 10 s",
-            *[f"{kind}: answer keep at 2 moments, 0 to 10 s" for kind in ("gs", "vs", "alt")], "refused 6: 1 line, 9"])
+            *[f"{kind}: answer keep at 2 moments, 0 to 10 s" for kind in ("gs", "vs", "alt")], "refused with code 6: 1 line, line 9"])
+
+    def test_a_moment_counts_for_its_greatest_level_alone(self):
+        """And the help says so."""
+        out = self.tool("summary", self.write("b.report", REPORT.replace("now A 0", "now A 3")))[1]
+        self.assertLessEqual({"A: level 1 violated at 1 moment, 10 s", "A: level 3 violated at 1 moment, 0 s"}, set(out.splitlines()))
+        self.assertIn("`now`, the greatest level that it violates", self.tool("summary", "--help")[1])
 
     def test_summary_as_a_table(self):
         status, out, _ = self.tool("summary", "--csv", self.report)
@@ -111,7 +139,7 @@ class Reports(ToolTest):
         report = self.write("b.report", REPORT + "refused 12 6\n" + REPORT.split("refused")[0])
         out = self.tool("summary", "--csv", report)[1].splitlines()
         self.assertLessEqual({"A,alert,2,3,0,10,2", "gs,answer,keep,3,0,10,2", "input,refused,6,2,9,12,"}, set(out))
-        self.assertEqual(self.tool("summary", report)[1].splitlines()[-1], "refused 6: 2 lines, 9 to 12")
+        self.assertEqual(self.tool("summary", report)[1].splitlines()[-1], "refused with code 6: 2 lines, from line 9 to line 12")
 
     def test_summary_by_encounter(self):
         """Two reports end to end: in the first A alerts twice, in the second once; the second begins at time 0 again."""
@@ -139,7 +167,7 @@ class Reports(ToolTest):
         self.assertEqual([[at.time for at in each] for each in encounters_of(moments, 4)], [[0], [10], [0], [0, 1], [5], [5]])
         status, out, said = self.tool("summary", "--pause", "0", self.report)
         self.assertEqual((status, out), (2, ""))
-        self.assertIn("0 is no whole number of at least 1", said)
+        self.assertIn("0 is no whole number from 1 to 9999999999", said)
 
     def test_last_times_are_read(self):
         text = REPORT.replace("recover track", "last track 3\nlast gs none\nrecover track")

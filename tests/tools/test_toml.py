@@ -35,8 +35,8 @@ REFUSED = (
     "[]", "[ [a]]", 'a = "x', 'a = "x\ny"', "a = 'x\x01'", "a = 1 # \x7f", "a = 1\r", "\r", "a = 1\rb = 2", r'a = "\q"', r'a = "\ud800"',
     r'a = "\x4"', r'a = "\u004"', r'a = "\U0001F60"', r'a = "\U00110000"', 'a = """a""""""', "a = 2021-02-29", "a = 1900-02-29", "a = 2021-13-01", "a = 24:00", "a = 23:60", "a = 07:32.5", "a = 1979-05-27T07:32+24:00",
     "a = 1\0", "a\n= 1", "a = \n1", "a b = 1", "a..b = 1", ".a = 1", "a. = 1", "{}", "a = 1, b = 2")
-# The longest key and the deepest array.
-LONGEST = (".".join("a" * 80) + " = 1", "a = " + "[" * 80 + "]" * 80, "a = 2000-02-29")
+# The longest key, the deepest array, and days of leap years.
+LONGEST = (".".join("a" * 80) + " = 1", "a = " + "[" * 80 + "]" * 80, "a = 2000-02-29", "a = 2024-02-29")
 # What tomllib takes and the program's reader refuses.
 ONLY_TOMLLIB = ("a = 9223372036854775808", "a = -9223372036854775809", "a = 1e999", "a = " + "[" * 81 + "]" * 81, ".".join("a" * 81) + " = 1")
 
