@@ -190,6 +190,12 @@ class Layout(unittest.TestCase):
                 if not re.match("(pub )?use ", line):
                     self.assertLessEqual(len(line), 200, f"{path}:{number}")
 
+    def test_no_clause_and_no_comment_of_code_is_long(self):
+        for path in glob.glob("crates/*/src/**/*.rt", root_dir=TOP, recursive=True):
+            for number, line in enumerate(read(path).splitlines(), 1):
+                if not re.match(r' *(ghost use |#\[tactic|.*")', line):
+                    self.assertLessEqual(len(line), 100, f"{path}:{number}")
+
 
 class WrongBodies(unittest.TestCase):
     def setUp(self):

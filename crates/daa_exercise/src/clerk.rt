@@ -144,7 +144,8 @@ impl Clerk {
     /// Gives its last part away, if it ends at a time.
     pub(crate) fn part_upto(&mut self, time: u32) -> Option<Part>
         ensures part { (settings : Settings) (seed : ℕ)
-            → All (IsPart settings seed) self.old.parts.items → IfSome result (IsPart settings seed) }
+            → All (IsPart settings seed) self.old.parts.items
+            → IfSome result (IsPart settings seed) }
         ensures kept { (settings : Settings) (seed : ℕ)
             → All (IsPart settings seed) self.old.parts.items
             → All (IsPart settings seed) self.new.parts.items }

@@ -57,7 +57,8 @@ pub fn counts_add_up()
         ≡ sum_by (λ (picture : Picture). length (aircraft_of picture)) pictures }
     ensures shown { (settings : Settings) (kind : Kind) (pictures : List Picture) (levels : List ℕ)
         → SplitsByEach (λ (picture : Picture).
-        AreShown (CoveredAt settings picture) (length settings.levels) settings kind) pictures levels
+        AreShown (CoveredAt settings picture) (length settings.levels) settings kind)
+        pictures levels
         → sum (counts_of (length settings.levels) levels)
         ≡ length pictures * length (values_of kind settings) }
 {}

@@ -94,7 +94,8 @@ impl Sheet {
 }
 
 impl Sink for Sheet {
-    ghost use Rattle.std.specs.Prelude.{◌≡◌, ◌≤◌, ◌<◌, ◌↔◌, Some, length, take, IfOk, IsErr, OnOk, OnErr};
+    ghost use Rattle.std.specs.Prelude.{◌≡◌, ◌≤◌, ◌<◌, ◌↔◌, Some, length, take};
+    ghost use Rattle.std.specs.Prelude.{IfOk, IsErr, OnOk, OnErr};
     ghost use Rattle.std.specs.Io.KnownBytes.{Appends, Keeps};
     ghost use Rattle.daa_outside.specs.Faults.{HasRisen, one_more};
 

@@ -41,7 +41,8 @@ fn write_front<R: Threads + Sync, K: Sink, G: Gate>(
 ) -> Result<usize, SinkFault>
     requires { CanReport (course engine.old.settings progress.old (K.taken sink.old)
         (K.faults sink.old)) (length piece.now) }
-    ensures ok { IfOk result (λ done. (last : Bool) → Reaches (course engine.old.settings progress.old
+    ensures ok { IfOk result (λ done. (last : Bool)
+        → Reaches (course engine.old.settings progress.old
         (K.taken sink.old) (K.faults sink.old)) piece.now done last
         (course engine.new.settings progress.new (K.taken sink.new) (K.faults sink.new))) }
     ensures err { OnErr result ((last : Bool) → Breaks (course engine.old.settings progress.old

@@ -284,8 +284,8 @@ fn begun(seconds: Seconds, clear: u32, lookahead: u32) -> Trail
     trail
 }
 
-/// The mask of the candidate at an index of the whole list, one of a kind that has this branch, with
-/// the level.
+/// The mask of the candidate at an index of the whole list, one of a kind that has this branch,
+/// with the level.
 #[inline(always)]
 fn next_mask(
     round: &Round,

@@ -17,8 +17,8 @@ use daa_detect::is_hit;
 use daa_fixed::Solid;
 use daa_legs::{Branch, OwnLeg, OwnRun, Trunk, end_of, relative_from, relative_run_from};
 
-/// So many legs of a trunk are walked at least, once a leg is, or all before the lookahead: one call
-/// for many candidates.
+/// So many legs of a trunk are walked at least, once a leg is, or all before the lookahead: one
+/// call for many candidates.
 const STRIDE: u32 = 16;
 
 /// Walks the trail on to leg `upto` or to a hit, where it was not walked so far. It may be walked
