@@ -8,11 +8,12 @@ mod room;
 mod workers;
 
 use daa_config::examples::{FOUR_LEVELS, LARGEST_VALUES, ONE_LEVEL, THREE_LEVELS};
-use daa_config::{Config, read};
+use daa_config::{Config, Kind, read};
 use daa_detect::is_hit;
 use daa_engine::{Engine, Room};
 use daa_legs::{Flight, relative};
 use daa_outside::{MemSink, Open};
+use daa_recovery::Recovery;
 use daa_state::examples::{ABEAM, CLIMBING, NORTH};
 use daa_state::{Moments, Picture, read_line};
 use std::alloc::Global;
@@ -449,12 +450,31 @@ done 0
     Row {
         shows: "no recovery is told where a side has an answer",
         text: ONE_LEVEL,
-        edits: &[(
-            "turn_rate",
-            "recovery = { hdist = 300, vdist = 100 }\nturn_rate",
-        )],
-        lines: &[NORTH],
-        report: CLEAR,
+        edits: &[
+            ("tthr = 35", "tthr = 0"),
+            (
+                "turn_rate",
+                "recovery = { hdist = 300, vdist = 100 }\nturn_rate",
+            ),
+        ],
+        lines: &[NORTH, ABEAM],
+        report: "moment 0
+now A 0
+alert A 1 9
+track 0 180 1
+track 270 270 0
+gs 3600 3600 1
+vs 0 0 1
+alt 1000 1000 1
+resolve track left 270 right none
+resolve gs down none up none
+resolve vs down none up none
+resolve alt down none up none
+recover gs none
+recover vs none
+recover alt none
+done 0
+",
     },
 ];
 
@@ -690,6 +710,46 @@ fn the_alert_of_an_aircraft(rt: HostRuntime) -> Result<(), Fail> {
     Ok(())
 }
 
+/// The aircraft is where the ownship is.
+#[test]
+fn the_level_of_a_candidate(rt: HostRuntime) -> Result<(), Fail> {
+    let mut engine = engine_of(&rt, ONE_LEVEL, &[])?;
+    let picture = picture_in(&[NORTH, "traffic A 0 0 1000 0 3600 0 0"]).ok_or("a moment")?;
+    engine.decide(&rt, rt.alloc(), &picture, &Open);
+    for index in 0..engine.config().total() {
+        assert!(rt; engine.level_of(index) == 1, "at {index}");
+    }
+    Ok(())
+}
+
+/// Those of the rows "a turn may wait for 3 seconds" and "a recovery where neither side has an
+/// answer".
+#[test]
+fn the_last_time_and_the_recovery_of_a_kind(rt: HostRuntime) -> Result<(), Fail> {
+    let row = &LAST_TIMES[0];
+    let engine = engine_of(&rt, row.text, row.edits)?;
+    let picture = picture_in(row.lines).ok_or("a moment")?;
+    assert!(rt; engine.last_time(&picture, Kind::Track) == Some(3));
+    assert!(rt; engine.last_time(&picture, Kind::Speed) == None);
+    let edits = [
+        ("tthr = 35", "tthr = 0"),
+        (
+            "turn_rate",
+            "recovery = { hdist = 300, vdist = 100 }\nturn_rate",
+        ),
+    ];
+    let engine = engine_of(&rt, ONE_LEVEL, &edits)?;
+    let picture = picture_in(&[NORTH, BESIDE]).ok_or("a moment")?;
+    if engine.config().recovery().is_none() {
+        return Err("a recovery".into());
+    }
+    for (kind, after, value) in [(Kind::Track, 6, 270), (Kind::Speed, 7, 3600)] {
+        let wanted = Some(Recovery { after, value });
+        assert!(rt; engine.recovery(&picture, kind) == wanted);
+    }
+    Ok(())
+}
+
 /// What one moment left is not there in the next.
 #[test]
 fn moments_one_after_the_other(rt: HostRuntime) -> Result<(), Fail> {
@@ -700,20 +760,30 @@ fn moments_one_after_the_other(rt: HostRuntime) -> Result<(), Fail> {
     expect_report(&rt, &mut engine, "third", &together, TOGETHER)
 }
 
-/// Places, speeds and thresholds at the ends of their ranges.
+/// Places, speeds and thresholds at the ends of their ranges, at one place.
 static FARTHEST: [&str; 2] = [
-    "own -200000 -200000 -2000 45 10000 10000",
+    "own 200000 200000 60000 45 10000 10000",
     "traffic A 200000 200000 60000 -10000 -10000 -10000 0",
 ];
+
+const FARTHEST_TEXT: &str = "moment 0
+now A 1
+alert A 1 0
+track 0 359 1
+gs 0 10000 1
+vs -10000 10000 1
+alt -2000 60000 1
+resolve track left none right none
+resolve gs down none up none
+resolve vs down none up none
+resolve alt down none up none
+done 0
+";
 
 #[test]
 fn largest_values(rt: HostRuntime) -> Result<(), Fail> {
     let mut engine = engine_of(&rt, LARGEST_VALUES, &[])?;
-    let (all, text) = said_by(&rt, &mut engine, &FARTHEST, 100000, &[])?;
-    assert!(rt; all);
-    assert!(rt; text.starts_with(b"moment 0\nnow A 0\nalert A 0 -\ntrack 0 ".as_slice()));
-    assert!(rt; text.ends_with(b"\ndone 0\n".as_slice()));
-    Ok(())
+    expect_report(&rt, &mut engine, "all levels", &FARTHEST, FARTHEST_TEXT)
 }
 
 /// The room of a sink, the calls at which it fails, whether all is said, and how many bytes are.

@@ -139,18 +139,6 @@ fn the_first_moment_of_a_seed(rt: HostRuntime) {
     }
 }
 
-/// A gate that counts who passes.
-#[derive(Drop)]
-struct Counter {
-    passes: AtomicU64,
-}
-
-impl Gate for Counter {
-    fn pass(&self, _worker: u32, _unit: u32) {
-        self.passes.fetch_add(1, SeqCst);
-    }
-}
-
 /// The first moment has two aircraft, both in reach, each of which is one unit of work. One thread
 /// passes no gate; of moments that are decided beside one another each is one unit.
 #[test]
@@ -160,13 +148,11 @@ fn the_gate_is_passed_once_for_each_unit(rt: HostRuntime) -> Result<(), Fail> {
         let config = read(rt.alloc(), ONE_LEVEL.as_bytes())?;
         let mut engine = Engine::new(rt.alloc(), config, workers)?;
         let mut out = sink(rt.alloc(), 512, &[], &[])?;
-        let gate = Counter {
-            passes: AtomicU64::new(0),
-        };
-        let said = exercise(&mut engine, &rt, rt.alloc(), 1, moments, &mut out, &gate);
+        let tally = Tally::new();
+        let said = exercise(&mut engine, &rt, rt.alloc(), 1, moments, &mut out, &tally);
         assert_eq!(rt; said, Ok(()));
         assert!(rt; moments < 3 || out.taken() == THREE.as_bytes());
-        assert_eq!(rt; gate.passes.load(SeqCst), passes);
+        assert!(rt; tally.has_passed_first(passes), "with {workers}");
     }
     Ok(())
 }
@@ -206,9 +192,13 @@ impl Tally {
         }
     }
 
-    /// Each moment was passed for once, and no other unit.
-    fn has_passed_each_once(&self) -> bool {
-        self.passes.iter().all(|count| count.load(SeqCst) == 1) && self.beyond.load(SeqCst) == 0
+    /// Each of the first so many units was passed for once, and no other unit.
+    fn has_passed_first(&self, units: usize) -> bool {
+        let mut all = self.beyond.load(SeqCst) == 0;
+        for (unit, count) in self.passes.iter().enumerate() {
+            all = all && count.load(SeqCst) == (unit < units) as u64;
+        }
+        all
     }
 }
 
@@ -228,7 +218,7 @@ fn the_gate_is_passed_once_for_each_moment_of_a_batch(rt: HostRuntime) -> Result
         assert!(rt; 0 < workers && workers <= 16);
         let tally = Tally::new();
         exercise_many(&rt, workers, &tally)?;
-        assert!(rt; tally.has_passed_each_once(), "with {workers}");
+        assert!(rt; tally.has_passed_first(MANY as usize), "with {workers}");
     }
     Ok(())
 }

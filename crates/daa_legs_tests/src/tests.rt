@@ -1,5 +1,5 @@
-//! Worked flights. The rates are 3 degrees, 1 knot, 100 ft/min and 1000 ft/min a second; 3600 units
-//! a second are 360 knots.
+//! Worked flights. The rates are 3 degrees, 1 knot and 100 ft/min a second, and 1000 ft/min; 3600
+//! units a second are 360 knots.
 
 ghost use Rattle.std.specs.Prelude.{◌≡◌, ◌+◌, ◌<◌};
 ghost use Rattle.daa_config.specs.Settings.{IsCandidateInRange};

@@ -365,6 +365,9 @@ fn a_shelf_of_files_gives_a_files_bytes(rt: HostRuntime) -> Result<(), Fail> {
         write_letters(&rt, PATH, *count)?;
         expect_fetches(&rt, &mut shelf, &[(PATH, *answer)]);
     }
+    fs::write(&rt, PATH, b"a\n\0\xff".to_vec(rt.alloc())?)?;
+    let text = shelf.fetch(rt.alloc(), PATH).map_err(|_| "a text")?;
+    assert!(rt; text.as_slice() == b"a\n\0\xff".as_slice());
     fs::remove_file(&rt, PATH)?;
     expect_fetches(&rt, &mut shelf, &NO_FILES);
     Ok(())

@@ -111,9 +111,10 @@ impl Answers for Watch {
 
 impl Gate for Watch {
     fn pass(&self, _worker: u32, unit: u32) {
-        if let Some(count) = self.passes.get(unit as usize) {
-            count.fetch_add(1, SeqCst);
-        }
+        self.passes
+            .get(unit as usize)
+            .unwrap_or(&self.early)
+            .fetch_add(1, SeqCst);
     }
 }
 

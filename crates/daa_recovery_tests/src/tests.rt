@@ -61,7 +61,7 @@ struct Known {
     answers: [(u32, i32); 4],
 }
 
-static KNOWN: [Known; 8] = [
+static KNOWN: [Known; 10] = [
     Known {
         shows: "the first second after the last that violates",
         recovery: "{ hdist = 300, vdist = 100 }",
@@ -110,6 +110,20 @@ static KNOWN: [Known; 8] = [
         speeds: "min = 3590, max = 3610, step = 10",
         lines: &["moment 0", NORTH, "traffic A 400 100 1000 0 0 0 0", "end"],
         answers: [(6, 270), (7, 3590), (7, 0), (7, 1000)],
+    },
+    Known {
+        shows: "the nearest of the three to the present one",
+        recovery: "{ hdist = 300, vdist = 100, nearest = 1 }",
+        speeds: "min = 3590, max = 3610, step = 10",
+        lines: &["moment 0", NORTH, "traffic A 400 100 1000 0 0 0 0", "end"],
+        answers: [(6, 270), (7, 3600), (7, 0), (7, 1000)],
+    },
+    Known {
+        shows: "the greater of two that are equally near",
+        recovery: "{ hdist = 300, vdist = 100, nearest = 1 }",
+        speeds: "min = 3590, max = 3610, step = 20",
+        lines: &["moment 0", NORTH, "traffic A 400 100 1000 0 0 0 0", "end"],
+        answers: [(6, 270), (7, 3610), (7, 0), (7, 1000)],
     },
     Known {
         shows: "a cylinder round an aircraft that no level reaches",
@@ -278,7 +292,7 @@ fn least_plainly(
     None
 }
 
-/// Ownships and aircraft, all of which some candidate meets.
+/// Ownships and aircraft; some candidate meets each aircraft but the last.
 static MOMENTS: [[&str; 4]; 6] = [
     BESIDE,
     [

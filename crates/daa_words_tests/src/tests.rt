@@ -14,49 +14,67 @@ fn words_of(alloc: Global, words: &[&str]) -> Result<Vec<String>, AllocError> {
     Ok(list)
 }
 
-/// Words, the name of the configuration in them, and the number of workers.
-static REPLAYS: [(&[&str], &str, u32); 12] = [
-    (&["daidalus", "replay", "--config", "f"], "f", 4),
-    (&["daidalus", "replay", "--config=f"], "f", 4),
-    (&["daidalus", "replay", "--config", "f", "--"], "f", 4),
-    (&["daidalus", "replay", "--config", ""], "", 4),
-    (&["daidalus", "replay", "--config="], "", 4),
-    (&["daidalus", "replay", "--config=a=b"], "a=b", 4),
-    (&["/bin/other", "replay", "--config", "a b"], "a b", 4),
+/// Words, the name of the configuration in them, the number of workers, and how many pieces are
+/// read ahead.
+static REPLAYS: [(&[&str], &str, u32, u32); 14] = [
+    (&["daidalus", "replay", "--config", "f"], "f", 4, 0),
+    (&["daidalus", "replay", "--config=f"], "f", 4, 0),
+    (&["daidalus", "replay", "--config", "f", "--"], "f", 4, 0),
+    (&["daidalus", "replay", "--config", ""], "", 4, 0),
+    (&["daidalus", "replay", "--config="], "", 4, 0),
+    (&["daidalus", "replay", "--config=a=b"], "a=b", 4, 0),
+    (&["/bin/other", "replay", "--config", "a b"], "a b", 4, 0),
     (
         &["daidalus", "replay", "--config", "f", "--workers", "1"],
         "f",
         1,
+        0,
     ),
     (
         &["daidalus", "replay", "--workers", "16", "--config", "f"],
         "f",
         16,
+        0,
     ),
     (
         &["daidalus", "replay", "--config=f", "--workers=+4"],
         "f",
         4,
+        0,
     ),
     (
         &["daidalus", "replay", "--config=f", "--workers=007"],
         "f",
         7,
+        0,
     ),
     (
         &["daidalus", "replay", "--config=f", "--workers=2", "--"],
         "f",
         2,
+        0,
+    ),
+    (
+        &["daidalus", "replay", "--config=f", "--ahead", "1024"],
+        "f",
+        4,
+        1024,
+    ),
+    (
+        &["daidalus", "replay", "--ahead=1", "--config=f"],
+        "f",
+        4,
+        1,
     ),
 ];
 
 #[test]
 fn words_that_ask_for_a_replay(rt: HostRuntime) -> Result<(), Fail> {
-    for (words, config, workers) in &REPLAYS {
+    for (words, config, workers, ahead) in &REPLAYS {
         let words = words_of(rt.alloc(), words)?;
         let order = read_words(rt.alloc(), words.as_slice()).map_err(|_| "not taken")?;
         assert!(rt; order.config == *config, "{config}");
-        assert_eq!(rt; order.task, Task::Replay { ahead: 0 });
+        assert_eq!(rt; order.task, Task::Replay { ahead: *ahead });
         assert_eq!(rt; order.workers, *workers);
     }
     Ok(())
@@ -153,7 +171,7 @@ fn words_that_are_not_taken(rt: HostRuntime) -> Result<(), Fail> {
 }
 
 /// Words that are not taken after `replay --config f`.
-static NO_REPLAY: [&[&str]; 14] = [
+static NO_REPLAY: [&[&str]; 16] = [
     &["g"],
     &["--", "g"],
     &["--workers"],
@@ -166,6 +184,8 @@ static NO_REPLAY: [&[&str]; 14] = [
     &["--workers=4.0"],
     &["--workers=4", "--workers=4"],
     &["--worker=4"],
+    &["--ahead=1025"],
+    &["--ahead"],
     &["--seed", "1"],
     &["--moments", "1"],
 ];

@@ -8,7 +8,7 @@ use std::process::Abort;
 use std::sync::atomic::AtomicU64;
 use std::sync::atomic::Ordering::SeqCst;
 use std::test::Fail;
-use std::thread::Threads;
+use std::thread::{Threads, join};
 use std::time::Clock;
 
 /// A gate that counts who passes, for each of the first four units and for all others.
@@ -181,5 +181,20 @@ fn tickets_are_drawn_in_turn(rt: HostRuntime) -> Result<(), Fail> {
     let tickets = Tickets::new();
     assert!(rt; draws_in_turn(&tickets, 100));
     assert!(rt; tickets.draw() == 100);
+    Ok(())
+}
+
+fn draw_many(tickets: &Tickets) {
+    for _ in 0..1_000_000 {
+        let _number = tickets.draw();
+    }
+}
+
+/// None is lost or drawn twice: so the next number is how many both have drawn.
+#[test]
+fn two_threads_draw_each_number_once(rt: HostRuntime) -> Result<(), Fail> {
+    let tickets = Tickets::new();
+    join(&rt, || draw_many(&tickets), || draw_many(&tickets));
+    assert!(rt; tickets.draw() == 2_000_000);
     Ok(())
 }

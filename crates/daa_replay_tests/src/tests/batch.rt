@@ -1,8 +1,8 @@
 //! Moments of one piece, which the workers decide side by side.
 
 use super::{
-    ONE_LEVEL, Outside, PLAIN, expect_meeting, gives, gives_front, replay_by, replayed_at,
-    shelf_with, status_and_text,
+    COVERED, ONE_LEVEL, Outside, PLAIN, asking, expect_meeting, gives, gives_front, replay_by,
+    replayed_at, shelf_with, status_and_text,
 };
 use daa_outside::Gate;
 use std::alloc::AllocError;
@@ -34,6 +34,34 @@ pub(super) fn moments_of<R: AllocGlobal>(rt: &R, count: u32) -> Result<String, A
         input.push_str("traffic A 0 0 1000 0 3600 0\nx\nend\n")?;
     }
     Ok(input)
+}
+
+/// The alerts in the report of a moment that `moments_of` makes, whose aircraft is where the
+/// ownship is.
+pub(super) const ALERT: &str = "alert A 1 0\n";
+
+/// Adds the report of a moment that `moments_of` makes, with these alerts: the fourth of its five
+/// lines is refused.
+pub(super) fn add_report<R: AllocGlobal>(
+    rt: &R,
+    report: &mut String,
+    time: u32,
+    alerts: &str,
+) -> Result<(), AllocError> {
+    let refused = time.saturating_mul(5).saturating_add(4);
+    let text = format!(in rt.alloc();
+        "refused {refused} 2\nmoment {time}\nnow A 1\n{alerts}{COVERED}done {time}\n"
+    )?;
+    report.push_str(text.as_str())
+}
+
+/// The report of so many moments that `moments_of` makes.
+fn report_of<R: AllocGlobal>(rt: &R, count: u32) -> Result<String, AllocError> {
+    let mut report = String::new(rt.alloc());
+    for time in 0..count {
+        add_report(rt, &mut report, time, ALERT)?;
+    }
+    Ok(report)
 }
 
 /// A replay by so many workers over this input ends with this status and this text.
@@ -100,15 +128,13 @@ static OF_200: [&[usize]; 2] = [&[], &[20000; 9]];
 
 #[test]
 fn moments_of_a_piece_are_shared_out(rt: HostRuntime) -> Result<(), Fail> {
-    let input = moments_of(&rt, 1100)?;
-    let text = alone(&rt, input.as_bytes(), 300_000)?;
-    assert!(rt; text.len() > 240_000);
+    let (input, text) = (moments_of(&rt, 1100)?, report_of(&rt, 1100)?);
     all_write(
         &rt,
         &ONE_AND_SOME,
         &OF_200,
         input.as_bytes(),
-        text.as_slice(),
+        text.as_bytes(),
     )
 }
 
@@ -245,42 +271,37 @@ static OF_A_MOMENT: [&[usize]; 4] = [&[60; 60], &[97; 60], &[131; 60], &[200; 60
 
 #[test]
 fn pieces_of_a_moment_or_two_are_written(rt: HostRuntime) -> Result<(), Fail> {
-    let input = moments_of(&rt, 40)?;
-    let text = alone(&rt, input.as_bytes(), 20_000)?;
-    all_write(&rt, &["2"], &OF_A_MOMENT, input.as_bytes(), text.as_slice())
+    let (input, text) = (moments_of(&rt, 40)?, report_of(&rt, 40)?);
+    all_write(&rt, &["2"], &OF_A_MOMENT, input.as_bytes(), text.as_bytes())
 }
 
 /// The pieces that are read ahead are shared out as they come.
 #[test]
 fn moments_of_joined_pieces_are_shared_out(rt: HostRuntime) -> Result<(), Fail> {
-    let room = 100_000;
-    let input = moments_of(&rt, 300)?;
-    let text = alone(&rt, input.as_bytes(), room)?;
-    let outside = Outside {
-        words: &TWO_AHEAD,
-        room,
-        ..PLAIN
-    };
-    gives(&rt, input.as_bytes(), outside, 1, text.as_slice())
+    let (input, text) = (moments_of(&rt, 300)?, report_of(&rt, 300)?);
+    gives(
+        &rt,
+        input.as_bytes(),
+        asking(&TWO_AHEAD),
+        1,
+        text.as_bytes(),
+    )
 }
 
-/// They write what one writes.
 #[test]
 fn two_lanes_run_at_once(rt: HostRuntime) -> Result<(), Fail> {
-    let input = moments_of(&rt, 300)?;
-    let text = alone(&rt, input.as_bytes(), 100_000)?;
+    let (input, text) = (moments_of(&rt, 300)?, report_of(&rt, 300)?);
     let mut shelf = shelf_with(&rt, ONE_LEVEL, &[])?;
-    let (input, text) = (input.as_bytes(), text.as_slice());
+    let (input, text) = (input.as_bytes(), text.as_bytes());
     expect_meeting(&rt, &rt, &replay_by("2"), &mut shelf, input, 1, text)
 }
 
 /// A sink that fails within the texts of moments that were decided side by side took a beginning.
 #[test]
 fn a_sink_fails_within_a_batch(rt: HostRuntime) -> Result<(), Fail> {
-    let input = moments_of(&rt, 300)?;
-    let text = alone(&rt, input.as_bytes(), 100_000)?;
+    let (input, text) = (moments_of(&rt, 300)?, report_of(&rt, 300)?);
     for room in [0, 1, 226, 1000, 20_000, 50_000] {
-        gives_front(&rt, input.as_bytes(), PLAIN, text.as_slice(), room)?;
+        gives_front(&rt, input.as_bytes(), PLAIN, text.as_bytes(), room)?;
     }
     Ok(())
 }
@@ -308,11 +329,10 @@ fn writes_until<R: Abort + Threads + Sync + AllocGlobal>(
 /// A write that fails is not tried again, though the sink would take further bytes.
 #[test]
 fn a_write_fails_within_a_batch(rt: HostRuntime) -> Result<(), Fail> {
-    let input = moments_of(&rt, 300)?;
-    let text = alone(&rt, input.as_bytes(), 100_000)?;
+    let (input, text) = (moments_of(&rt, 300)?, report_of(&rt, 300)?);
     for workers in &ONE_AND_SOME {
         for fails in [0, 1, 226, 20_000, 50_000] {
-            writes_until(&rt, workers, input.as_bytes(), text.as_slice(), fails)?;
+            writes_until(&rt, workers, input.as_bytes(), text.as_bytes(), fails)?;
         }
     }
     Ok(())
@@ -355,10 +375,9 @@ fn reads_one<R: Abort + Threads + Sync + AllocGlobal>(
 /// moments. What was read before is reported.
 #[test]
 fn a_read_fails_behind_a_batch(rt: HostRuntime) -> Result<(), Fail> {
-    let front = moments_of(&rt, 100)?;
-    let text = alone(&rt, front.as_bytes(), 100_000)?;
+    let (front, text) = (moments_of(&rt, 100)?, report_of(&rt, 100)?);
     let input = moments_of(&rt, 300)?;
-    reads_one(&rt, input.as_bytes(), front.len(), text.as_slice())
+    reads_one(&rt, input.as_bytes(), front.len(), text.as_bytes())
 }
 
 /// One more than the number of the last line of 300 moments.

@@ -1,8 +1,10 @@
 //! Moments of states, which the workers of a comparison decide side by side.
 
-use super::batch::{Tally, alone, moments_of, moments_of_a_full_sheet, odd_moments};
+use super::batch::{
+    ALERT, Tally, add_report, alone, moments_of, moments_of_a_full_sheet, odd_moments,
+};
 use super::judge::{JUDGE, judges, shelf_of_both};
-use super::{COVERED, Outside, expect, expect_meeting, status_at, whole};
+use super::{Outside, expect, expect_meeting, status_at, whole};
 use daa_outside::MemShelf;
 use std::alloc::AllocError;
 use std::process::Abort;
@@ -34,27 +36,8 @@ fn line_behind(moments: u32, lines: u32) -> usize {
         .saturating_add(lines as usize)
 }
 
-/// The alerts in the report of a moment that `moments_of` makes, whose aircraft is where the
-/// ownship is.
-const ALERT: &str = "alert A 1 0\n";
-
-/// That of an aircraft which gets to the level later.
+/// The alert of an aircraft which gets to the level later.
 const LATER: &str = "alert A 1 1\n";
-
-/// Adds the report of a moment that `moments_of` makes, with these alerts: the fourth of its five
-/// lines is refused.
-fn add_report<R: AllocGlobal>(
-    rt: &R,
-    report: &mut String,
-    time: u32,
-    alerts: &str,
-) -> Result<(), AllocError> {
-    let refused = time.saturating_mul(5).saturating_add(4);
-    let text = format!(in rt.alloc();
-        "refused {refused} 2\nmoment {time}\nnow A 1\n{alerts}{COVERED}done {time}\n"
-    )?;
-    report.push_str(text.as_str())
-}
 
 /// States and a report that is compared with theirs.
 #[derive(Drop)]

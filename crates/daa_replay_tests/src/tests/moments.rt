@@ -1,7 +1,6 @@
 //! Moments that are not among the worked moments of daa_engine_tests.
 
-use super::{status_and_text, under};
-use daa_config::examples::LARGEST_VALUES;
+use super::{PLAIN, gives, status_and_text, under, whole};
 use std::test::Fail;
 
 /// An aircraft that is touched at exactly ten seconds.
@@ -54,12 +53,8 @@ fn levels_need_not_nest(rt: HostRuntime) -> Result<(), Fail> {
 }
 
 #[test]
-fn the_largest_values_are_decided(rt: HostRuntime) -> Result<(), Fail> {
-    let input =
-        b"moment 4294967295\nown -200000 -200000 -2000 45 10000 10000\ntraffic A 200000 200000 60000 -10000 -10000 -10000\nend\n";
-    let (status, text) = status_and_text(&rt, input, under(LARGEST_VALUES))?;
-    assert!(rt; status == 0);
-    assert!(rt; text.starts_with(b"moment 4294967295\nnow A 0\nalert A 0 -\ntrack 0 "));
-    assert!(rt; text.ends_with(b"done 4294967295\n"));
-    Ok(())
+fn the_latest_time_is_written(rt: HostRuntime) -> Result<(), Fail> {
+    let input = b"moment 4294967295\nown 0 0 1000 0 3600 0\nend\n";
+    let text = whole(&rt, "moment 4294967295\nclear\ndone 4294967295\n")?;
+    gives(&rt, input, PLAIN, 0, text.as_bytes())
 }

@@ -12,7 +12,7 @@ use rand_pcg::Lcg64Xsh32;
 use std::process::Abort;
 use std::test::Fail;
 
-/// Of one level to four; that lie within one another, and that don't by a threshold, by the
+/// Of one level, three and four; that lie within one another, and that don't by a threshold, by the
 /// lookahead and by the model; one second and 180 of lookahead; one value of a kind and many; rates
 /// that reach each value at once, and slow ones.
 static KINDS: [Settings; 13] = [
