@@ -136,12 +136,13 @@
     }
   }
 
-  /** Takes a text of states or of a recording. */
+  /** Takes a text of states or of a recording; whether it has a moment. */
   function load(bytes, name) {
     const text = new TextDecoder().decode(bytes);
     const isRecording = daa.isRecording(text);
     const isTaken = isRecording ? loadRecording(text, name) : loadStates(bytes, name);
     if (isTaken) $("own-label").hidden = !isRecording;
+    return isTaken;
   }
 
   function loadConfig(bytes, name) {
@@ -149,10 +150,14 @@
     $("which").value = "0";
     showConfig();
     if (!taken) $("configuration").open = true;
+    return taken;
   }
+
+  let opened = 0; // how often something was opened: what is read late gives way to what was opened after it
 
   function takeExample(name) {
     const { config, states } = daa.examples.encounters[name];
+    opened += 1;
     configure(0, daa.examples.configs[config], config);
     load(bytesOf(daa.examples.files[states]), states);
     showConfig();
@@ -160,18 +165,20 @@
 
   async function takeFiles(files) {
     if (!files.length) return; // as where a piece of text was dropped
-    const isConfig = (file) => file.name.endsWith(".toml");
+    const mine = ++opened;
+    const isConfig = (file) => /\.toml$/i.test(file.name);
     const untaken = [];
+    let isSomeTaken = false;
     for (const file of [...files].sort((a, b) => isConfig(b) - isConfig(a))) {
       tell("");
       const bytes = await file.arrayBuffer().then((buffer) => new Uint8Array(buffer), () => null);
+      if (mine !== opened) return;
       if (!bytes) tell(`${file.name} cannot be read`); // as a folder
-      else if (isConfig(file)) loadConfig(bytes, file.name);
-      else load(bytes, file.name);
+      else if (isConfig(file) ? loadConfig(bytes, file.name) : load(bytes, file.name)) isSomeTaken = true;
       if (state.untaken) untaken.push(state.untaken);
     }
     tell(untaken.join("; ")); // also where another file was taken after it
-    $("example").value = "";
+    if (isSomeTaken) $("example").value = "";
   }
 
   $("example").addEventListener("change", ({ target }) => takeExample(target.value));
@@ -184,8 +191,10 @@
     await takeFiles(target.files);
     target.value = "";
   });
-  addEventListener("dragover", (event) => event.preventDefault());
+  const isForText = ({ target, dataTransfer }) => !dataTransfer.types.includes("Files") && target.closest("input, textarea");
+  addEventListener("dragover", (event) => { if (!isForText(event)) event.preventDefault(); });
   addEventListener("drop", (event) => {
+    if (isForText(event)) return;
     event.preventDefault();
     takeFiles(event.dataTransfer.files);
   });
@@ -216,6 +225,7 @@
       return false;
     }
     const told = Array.isArray(held.told) ? held.told.map(String) : [];
+    opened += 1;
     if (!loadStates(bytesOf(String(held.states)), String(held.name), told, [String(held.lacks ?? "")])) return false;
     state.hash = hash;
     held.configs.forEach(({ name, toml }, place) => configure(place, String(toml), String(name)));
@@ -229,10 +239,11 @@
     return true;
   }
 
-  /** Makes the link, and says what became of it. A moment that is refused has none: it could not be read from there. */
+  /** Makes the link, and says what became of it. A moment that is refused has none: it is not what would be read from there. */
   async function copyLink() {
     const held = linked();
-    if (state.engine.readStates(bytesOf(held.states)).some((event) => event.refused)) return `No link: ${faultOf(state.views[0])}`;
+    const [{ moment }] = state.engine.readStates(bytesOf(held.states));
+    if (JSON.stringify(moment) !== JSON.stringify(state.current)) return `No link: ${faultOf(state.views[0])}`;
     state.hash = `#${await daa.pack(held)}`;
     location.hash = state.hash;
     try {
@@ -248,6 +259,10 @@
     setTimeout(() => { target.textContent = "Copy link"; }, 2500);
   });
   addEventListener("hashchange", takeLink);
+  document.querySelector(".skip").addEventListener("click", (event) => { // the address keeps its link
+    event.preventDefault();
+    $("panel").focus();
+  });
 
   // ---- pictures
 

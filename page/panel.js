@@ -66,7 +66,11 @@
     setText($("rest"), state.unfolded ? `Fold those ${without}` : `${traffic.length - shown.length} more ${without}`);
   }
 
-  $("aircraft").addEventListener("click", ({ target }) => { if (target.dataset.choose !== undefined) choose(`p:${target.dataset.choose}`); });
+  const pick = ({ target }) => { if (target.dataset.choose !== undefined) choose(`p:${target.dataset.choose}`); };
+  $("aircraft").addEventListener("click", pick);
+  $("aircraft").addEventListener("pointerdown", (event) => { // while it plays, another row stands there when the button is let go
+    if (event.pointerType === "mouse" && event.button === 0) pick(event);
+  });
   $("rest").addEventListener("click", () => {
     state.unfolded = !state.unfolded;
     changed();
@@ -177,7 +181,8 @@
       const said = saidOf(view);
       return `<div data-report="${place}">${title}${said ? reportHtml(said) : `<div class="faint">${escape(faultOf(view))}</div>`}</div>`;
     });
-    setHtml($("report"), parts.join(""));
+    const focused = [...$("report").querySelectorAll("summary")].indexOf(document.activeElement);
+    if (setHtml($("report"), parts.join("")) && focused >= 0) $("report").querySelectorAll("summary")[focused]?.focus();
   }
 
   $("report").addEventListener("toggle", ({ target }) => { state.linesOpen = target.open; }, true);
@@ -186,11 +191,11 @@
 
   const NAMES = { track: "track", gs: "ground speed", vs: "vertical speed", alt: "altitude" };
 
-  /** It is never older than the display; while something is held, a screen reader waits with it. */
+  /** It is never older than the display; while something is held, or a recording plays, a screen reader waits with it. */
   function paintSummary() {
     const said = saidOf(state.views[0]);
     const under = state.compare ? `Under ${state.views[0].name}: ` : ""; // as the table and the strip, it is the first display's alone
-    $("summary").setAttribute("aria-busy", String(Boolean(state.held)));
+    $("summary").setAttribute("aria-busy", String(Boolean(state.held || state.playing)));
     setText($("summary"), under + (said ? summaryOf(said) : faultOf(state.views[0])));
   }
 

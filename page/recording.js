@@ -37,6 +37,7 @@ function daaRecording(root) {
   const LAST_SECOND = 4294967295;
   const MOST_LATITUDE = 90;
   const FARTHEST_OWN = 100; // NM: an ownship that is farther from where it began is put at 0 0
+  const MOST_NAMES = 5; // so many names that are changed are told one by one
   const ROUNDING = 1e-6; // s: what the rounding of a time's unit may cost
   const LINE_ENDS = /\r\n|[\n\v\f\r\x1c-\x1e\x85\u2028\u2029]/;
 
@@ -65,8 +66,10 @@ function daaRecording(root) {
   const TOO_OLD = `whose report is older than ${OLDEST} s`;
   const FAR_OR_MANY = "out of range, or more than there may be";
   const COMMA = ": a decimal comma? Write a point";
+  const UNSEEN = ": between blanks no empty field is seen (write commas)";
   const SWAPPED = ": are lat and lon in each other's place?";
   const shortened = (line) => line.trim().slice(0, 60);
+  const shownTime = (time) => String(Number(time.toPrecision(10)));
   const many = (count, what) => `${count} ${what}${count === 1 || what === "aircraft" ? "" : "s"}`;
   const trimmed = (cell) => cell.replace(/^[ \t"]+|(?<![ \t"])[ \t"]+$/g, ""); // which looks at each run of blanks once
 
@@ -100,7 +103,7 @@ function daaRecording(root) {
 
   /** Which column is where, and what a number in it is worth. */
   class Header {
-    constructor(line, below) {
+    constructor(line, number, below) {
       this.marks = marksOf(line);
       const named = cellsOf(line, this.marks).map(splitUnit);
       this.count = named.length;
@@ -113,11 +116,12 @@ function daaRecording(root) {
       }
       this.check();
       const used = this.usedPlaces();
-      this.unused = named.flatMap(([name], place) => (used.has(place) ? [] : [name]));
+      this.unused = named.flatMap(([name], place) => (used.has(place) ? [] : [name || "without a name"]));
       this.hasUnitLine = Boolean(below) && this.isUnitLine(below);
       const units = this.hasUnitLine ? unitCellsOf(below, this.marks).map((cell) => splitUnit(cell)[1] || cell) : [];
       for (const [column, at] of Object.entries(this.places)) {
-        this.worth[column] = this.worthOf(column, at < units.length ? units[at] : named[at][1]);
+        if (!used.has(at)) continue;
+        this.worth[column] = at < units.length ? this.worthOf(column, units[at], `line ${number}: `) : this.worthOf(column, named[at][1], "");
       }
     }
 
@@ -142,11 +146,12 @@ function daaRecording(root) {
       return at < cells.length && timeOf(cells[at]) === null;
     }
 
-    worthOf(column, unit) {
+    worthOf(column, unit, where) {
       const units = COLUMNS[column][1];
       if (units === null || unit === null || ["", "none", "-"].includes(unit.toLowerCase())) return 1;
       const known = Object.keys(units).join(", ");
-      if (!Object.hasOwn(units, unit.toLowerCase())) fail(`${unit} is no unit of ${column} that is known; known are ${known}`);
+      const also = column === "time" && where ? "no time (hh:mm:ss or a number) and " : "";
+      if (!Object.hasOwn(units, unit.toLowerCase())) fail(`${where}${unit} is ${also}no unit of ${column} that is known; known are ${known}`);
       return units[unit.toLowerCase()];
     }
 
@@ -160,20 +165,22 @@ function daaRecording(root) {
       return Math.abs(scaled) <= most ? scaled : fail(`${where}: ${shortened(cell)} is too large a number for ${column}${asked}`);
     }
 
-    /** A report of an aircraft: s, degrees or NM, ft, knots eastward and northward, ft/min. */
+    /** A report of an aircraft: s, degrees or NM, ft, knots eastward and northward, ft/min, and the track, for where it stands. */
     row(line, number) {
       const cells = cellsOf(line, this.marks);
       const hint = line.includes(",") ? COMMA : "";
       if (cells.length > this.count) fail(`line ${number} has ${cells.length} fields, the header ${this.count}${hint}`);
       if (!cells[this.places.name]) fail(`line ${number}: no name: ${shortened(line)}`);
       const value = (column) => this.valueOf(column, cells[this.places[column]] ?? "", `line ${number}`, line);
-      let speed;
+      let [track, speed] = [0, null];
       if (this.has(["trk", "gs"])) {
-        const angle = value("trk") * EARTH;
-        speed = [value("gs") * Math.sin(angle), value("gs") * Math.cos(angle)];
+        track = value("trk");
+        speed = [value("gs") * Math.sin(track * EARTH), value("gs") * Math.cos(track * EARTH)];
       } else speed = [value("vx"), value("vy")];
       const place = this.has(["lat", "lon"]) ? [value("lat"), value("lon")] : [value("sx"), value("sy")];
-      return { name: cells[this.places.name], time: value("time"), place, alt: value("alt"), east: speed[0], north: speed[1], vs: value("vs") };
+      const [name, time, alt, vs] = [cells[this.places.name], value("time"), value("alt"), value("vs")];
+      if (cells.length < this.count && !this.marks.test(line)) fail(`line ${number} has ${cells.length} fields, the header ${this.count}${UNSEEN}`);
+      return { name, time, place, alt, east: speed[0], north: speed[1], vs, track };
     }
   }
 
@@ -183,7 +190,7 @@ function daaRecording(root) {
     const settings = all.findIndex(([, line]) => !line.includes("="));
     if (settings < 0) fail("no header line");
     const lines = all.slice(settings);
-    const header = new Header(lines[0][1], lines.length > 1 ? lines[1][1] : "");
+    const header = new Header(lines[0][1], ...(lines[1] || [0, ""]));
     const rows = lines.slice(header.hasUnitLine ? 2 : 1).map(([number, line]) => header.row(line, number));
     if (!rows.length) fail("no report of an aircraft");
     const notes = settings ? [`left out: ${many(settings, "line")} KEY = VALUE; a configuration says what they say`] : [];
@@ -236,7 +243,8 @@ function daaRecording(root) {
 
     /** The ownship's numbers, and the angle by which the plane is turned, so that rounding its track costs nothing. */
     ownOf(row, start) {
-      const track = modulo(Math.atan2(row.east, row.north) * (180 / Math.PI), 360);
+      const moving = row.east || row.north;
+      const track = modulo(moving ? Math.atan2(row.east, row.north) * (180 / Math.PI) : row.track, 360);
       const whole = round(track);
       const [east, north] = offset(start, row, this.onEarth);
       const isNear = Math.max(Math.abs(east), Math.abs(north)) <= FARTHEST_OWN;
@@ -328,8 +336,18 @@ function daaRecording(root) {
     const { rows, onEarth, notes } = readRows(text);
     const names = [...new Set(rows.map((row) => row.name))];
     const maker = new Maker(rows, onEarth);
-    const moments = maker.moments(names.includes(ownName) ? ownName : names[0]);
-    for (const [name, short] of maker.ids) if (name !== short) notes.push(`${name} is written ${short}`);
+    const own = names.includes(ownName) ? ownName : names[0];
+    const times = rows.filter((row) => row.name === own).map((row) => row.time);
+    const fall = times.findIndex((time, place) => time < times[place - 1]);
+    if (fall > 0) {
+      notes.push(`the ownship's times fall, from ${shownTime(times[fall - 1])} to ${shownTime(times[fall])} s: the reports are taken in the order `
+        + "of their times; past midnight write 24:00:01 and so on");
+    }
+    const moments = maker.moments(own);
+    const renamed = [...maker.ids].filter(([name, short]) => ![short, own].includes(name)).map(([name, short]) => `${name} is written ${short}`);
+    const shown = renamed.length > MOST_NAMES + 1 ? MOST_NAMES : renamed.length;
+    notes.push(...renamed.slice(0, shown));
+    if (shown < renamed.length) notes.push(`${renamed.length - shown} more names are written otherwise`);
     for (const [count, what, why] of maker.leftOut.values()) notes.push(`left out: ${many(count, what)} ${why}`);
     if (maker.far) notes.push(`${many(maker.far, "moment")} with the ownship at 0 0, more than ${FARTHEST_OWN} NM from where it began`);
     if (!moments.length) fail(`no moment is left; ${notes.join("; ")}`);

@@ -223,8 +223,8 @@
       if (answer.text === undefined) break;
       notes.push(daa.noteOf(moment, daa.readReport(answer.text)));
       if (performance.now() - painted < 250) continue;
-      painted = performance.now();
       paintStrip();
+      painted = performance.now(); // after it: a long drawing leaves as much time to decide
     }
     paintStrip();
     document.body.dataset.surveyed = String(notes.length);
@@ -310,6 +310,7 @@
   function tellPlaying() {
     $("play").textContent = state.playing ? "❚❚" : "▶";
     $("play").setAttribute("aria-label", state.playing ? "Pause" : "Play");
+    changed();
   }
 
   /** Goes to another moment by hand; where there is none on that side, what was changed by hand stays. */

@@ -34,7 +34,8 @@ LONG = 60  # seconds that nothing here takes
 # Waits until what is shown is the answer to the states that are shown, and two frames more.
 SETTLE = """
 const done = arguments[0], frames = (n) => (n ? requestAnimationFrame(() => frames(n - 1)) : done());
-const look = () => (document.body.dataset.settled === "yes" && daa.page.views[0].asked !== undefined ? frames(2) : setTimeout(look, 5));
+const isAnswered = ({ views, compare, version }) => views.every((it, place) => (place && !compare) || it.answered === `${version}/${it.edition}`);
+const look = () => (document.body.dataset.settled === "yes" && isAnswered(daa.page) ? frames(2) : setTimeout(look, 5));
 requestAnimationFrame(() => requestAnimationFrame(look));
 """
 
@@ -131,7 +132,7 @@ class Browser:
 
     def open_files(self, *paths):
         self.one("#file").send_keys("\n".join(map(os.path.realpath, paths)))
-        self.js("return new Promise((done) => setTimeout(done, 150))")
+        self.wait("document.querySelector('#file').value === ''", "all files are read")
         self.settle()
 
     def file(self, name, content):

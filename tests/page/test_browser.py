@@ -352,6 +352,19 @@ class Configured(PageTest):
         self.assertEqual(self.page.js("const { value, selectionStart, selectionEnd } = document.querySelector('#toml'); return value.slice(selectionStart, selectionEnd)"), "resolve = 2 2")
         self.assertEqual(self.page.one("#toml").get_attribute("aria-invalid"), "true")
 
+    def test_the_line_of_a_fault_is_in_sight(self):
+        """Also behind lines that are longer than the field is wide."""
+        self.edit("resolve = 2\n", ("# " + "a long comment " * 8 + "\n") * 40 + "resolve = 2 2\n")
+        self.page.click("#show-fault")
+        top, bottom, at = self.page.js("""
+            const area = document.querySelector("#toml"), twin = area.parentNode.insertBefore(area.cloneNode(), area);
+            twin.value = area.value.slice(0, area.selectionStart);
+            twin.style.height = "0";
+            const at = twin.scrollHeight;
+            twin.remove();
+            return [area.scrollTop, area.scrollTop + area.clientHeight, at];""")
+        self.assertTrue(top < at < bottom, (top, at, bottom))
+
     def test_an_edited_configuration_counts_at_once(self):
         self.edit("track_step = 5\n", "track_step = 10\n")
         self.assertEqual(self.page.text("#config-fault"), "")
@@ -508,7 +521,7 @@ def in_three_tries(test):
 class Timed(PageTest):
     @in_three_tries
     def test_playing_keeps_the_recordings_own_times(self):
-        """At thirty times the speed, each moment comes a third of a second after the one before, give or take a frame or two."""
+        """At thirty times the speed, each moment comes a third of a second after the one before, and not sooner."""
         self.page.select("#speed", "×30")
         came = self.page.driver.execute_async_script("""
             const done = arguments[0], came = [], { page } = daa, start = performance.now();
@@ -520,7 +533,7 @@ class Timed(PageTest):
             look();""")
         self.assertEqual([time for time, _ in came], list(range(0, 101, 10)))
         for second, after in came:
-            self.assertLess(abs(after - second * 1000 / 30), 150, came)
+            self.assertTrue(-50 < after - second * 1000 / 30 < 1000, came)
 
     @in_three_tries
     def test_an_uneven_recording_keeps_its_times(self):
@@ -639,10 +652,10 @@ class Layout(PageTest):
         self.assertLessEqual(wide, inner_wide)
         self.assertLessEqual(tall, inner_tall)
         for selector in ("header", "#displays", "#time", "#slider", "#strip", "#restore", "figcaption [data-do=png]", "#panel", "#summary", "#aircraft tbody tr:nth-child(2)"):
-            for it in self.page.driver.find_elements(By.CSS_SELECTOR, selector):
-                if it.is_displayed():
-                    box = it.rect
-                    self.assertTrue(box["x"] >= 0 and box["y"] >= 0 and box["x"] + box["width"] <= inner_wide + 1 and box["y"] + box["height"] <= inner_tall + 1, (selector, box))
+            shown = [it for it in self.page.driver.find_elements(By.CSS_SELECTOR, selector) if it.is_displayed()]
+            self.assertTrue(shown, selector)
+            for box in (it.rect for it in shown):
+                self.assertTrue(box["x"] >= 0 and box["y"] >= 0 and box["x"] + box["width"] <= inner_wide + 1 and box["y"] + box["height"] <= inner_tall + 1, (selector, box))
 
     def check_display(self, view=0):
         """No text is cut by the display's edge; labels stand on no other text, on no symbol and not on the ring."""
@@ -709,6 +722,11 @@ class Layout(PageTest):
             words = self.page.js("return [...document.querySelectorAll('[data-layer=head] text')].map((it) => it.textContent)")
             self.assertEqual(sum(it.startswith("a_long_") for it in words), 3 if compare else 2, words)
             self.page.click("#compare")
+        self.page.open_files(self.page.file(f"{name}.states", "nothing\n" + text_of(ENCOUNTER)))
+        for width, height in SMALL:
+            self.page.size(width, height)
+            self.page.settle()
+            self.assertLessEqual(self.page.js("return document.documentElement.scrollWidth"), self.page.js("return innerWidth"), (width, height))
 
     def test_all_closed_with_recoveries(self):
         self.page.select("#example", "encounter, with recoveries")
@@ -794,12 +812,12 @@ def pages_of(paper):
 
 class Everyone(PageTest):
     def test_contrast_on_each_ground(self):
-        """Each text has a contrast of 4.5 on its ground, light, dark and of paper; a level's number 3.5 on its colour, and it is bold and large;
+        """Each text has a contrast of 4.5 on its ground, light, dark and of paper; a level's number too;
         what has no answer 3 to what is clear."""
         for media, scheme in (("", "light"), ("", "dark"), ("print", "dark")):
             self.page.media(media, scheme)
             for ink, ground, contrast in self.page.js(CONTRAST):
-                self.assertGreaterEqual(contrast, 3.5 if ink.endswith("-ink") else 3 if ink == "unknown" else 4.5, (media, scheme, ink, ground))
+                self.assertGreaterEqual(contrast, 3 if ink == "unknown" else 4.5, (media, scheme, ink, ground))
             self.page.shot(f"ground_{media}{scheme}")
 
     def test_letters_grow_with_those_that_the_browser_is_set_to(self):
@@ -864,6 +882,19 @@ class Everyone(PageTest):
         self.assertEqual(self.page.one("#summary").get_attribute("aria-live"), "polite")
         self.assertIn("AMBER level 2 in 43 s", self.page.text("#summary"))
         self.assertIn("track right to 10°", self.page.text("#summary"))
+
+    def test_the_skip_link_keeps_the_pages_link(self):
+        self.page.click("#link")
+        self.page.wait("location.hash.startsWith('#m=')")
+        held = self.page.js("document.querySelector('.skip').focus(); return location.hash")
+        self.page.press(Keys.ENTER)
+        self.assertEqual((self.page.focused()["id"], self.page.js("return location.hash")), ("panel", held))
+
+    def test_aircraft_that_are_folded_are_counted_on_paper(self):
+        self.page.open_files(self.page.file("four.toml", FOUR_LEVELS), self.page.file("crowd.states", crowd()))
+        self.page.media("print", "light")
+        self.assertTrue(self.page.one("#rest").is_displayed())
+        self.assertRegex(self.page.text("#rest"), "^[0-9]+ more without an alert$")
 
     def test_on_paper(self):
         """On paper the ground is white, whatever the screen's, patterns stay, controls are gone, and all stands on one sheet."""

@@ -525,7 +525,7 @@ class Drawn(unittest.TestCase):
 
 STATES = "daa.stateLines([page.current])"
 OPEN = """const open = async (...files) => {
-  await fire(screen, "drop", { dataTransfer: { files: files.map(([name, text]) => ({ name, arrayBuffer: async () => daa.bytesOf(text).buffer })) } });
+  await fire(screen, "drop", { dataTransfer: { types: ["Files"], files: files.map(([name, text]) => ({ name, arrayBuffer: async () => daa.bytesOf(text).buffer })) } });
   await settle();
 };"""
 EDIT = """const edit = async (text) => {
@@ -600,7 +600,7 @@ class Used(unittest.TestCase):
     def test_the_table_flies_an_old_report_on(self):
         """15 seconds old, B is 2.5 NM west and 2.325 NM north of the ownship, and 1175 feet below: 3.414 NM at 312.9 degrees."""
         rows = on_page("""
-            await fire(screen, "drop", { dataTransfer: { files: [{ name: "turned.states", arrayBuffer: async () => daa.bytesOf(given[0]).buffer }] } });
+            await fire(screen, "drop", { dataTransfer: { types: ["Files"], files: [{ name: "turned.states", arrayBuffer: async () => daa.bytesOf(given[0]).buffer }] } });
             await settle();
             return $("aircraft").tBodies[0].innerHTML;""", TURNED.decode())
         row, = [["".join(cell.itertext()) for cell in row] for row in xml_of(rows) if "".join(row[0].itertext()) == "B"]
@@ -954,7 +954,7 @@ class Used(unittest.TestCase):
         moves = (("p:A", -30, 25), ("v:A", 20, -15), ("p:B", 25, -30), ("v:B", -15, -20), ("p:", 15, -25), ("v:", 25, 30), ("track", 60, 40), ("gs", 0, 40), ("vs", 0, -50), ("alt", 0, 40))
         centre, *found = on_page("""
             const file = { name: "turned.states", arrayBuffer: async () => daa.bytesOf(given[0]).buffer };
-            await fire(screen, "drop", { dataTransfer: { files: [file] } });
+            await fire(screen, "drop", { dataTransfer: { types: ["Files"], files: [file] } });
             await settle();
             const found = [page.views[0].drawn.g.centre];
             for (const up of [false, true]) {
@@ -1693,11 +1693,106 @@ class Used(unittest.TestCase):
         told, name = on_page("""
             const files = given.map(([name, text]) => ({ name, arrayBuffer: async () => daa.bytesOf(text).buffer }));
             files.splice(1, 0, { name: "folder", arrayBuffer: async () => { throw new Error("none"); } });
-            await fire(screen, "drop", { dataTransfer: { files } });
+            await fire(screen, "drop", { dataTransfer: { types: ["Files"], files } });
             await settle();
             return [$("fault").textContent, page.name];""", ["none.states", "nothing\n"], ["a.states", text_of(ENCOUNTER)], ["other.states", ""])
         self.assertEqual(told, "none.states has no whole moment; line 1 was refused with code 2; folder cannot be read; other.states has no whole moment")
         self.assertEqual(name, "a.states")
+
+    def test_an_aircraft_is_chosen_as_the_mouse_goes_down(self):
+        """While it plays another row stands there when it is let go. A finger that begins to scroll chooses nothing, nor does another button."""
+        found = on_page("""
+            const found = [];
+            for (const [pointerType, button] of [["touch", 0], ["mouse", 2], ["mouse", 0]]) {
+              await fire($("aircraft"), "pointerdown", { target: { dataset: { choose: "BRAVO" } }, pointerType, button });
+              found.push(page.chosen);
+            }
+            return found;""")
+        self.assertEqual(found, ["p:", "p:", "p:BRAVO"])
+
+    def test_a_slow_strip_leaves_time_to_decide(self):
+        """Where drawing it takes longer than it waits between two drawings: it is drawn after the first moment, now and then, and at the end."""
+        drawn = on_page("""
+            const { survey } = page, ask = survey.ask.bind(survey), { drawStrip } = daa;
+            let drawn = 0;
+            const busy = () => { for (const end = performance.now() + 260; performance.now() < end;); };
+            await settle();
+            daa.drawStrip = (...words) => { drawn += 1; busy(); return drawStrip(...words); };
+            survey.ask = (question) => { if (question.moment.time === 0) busy(); return ask(question); };
+            await daa.ui.survey();
+            return drawn;""")
+        self.assertIn(drawn, range(2, 6))  # (where the drawing's own time counts, after each of 19)
+
+    def test_a_screen_reader_waits_while_it_plays(self):
+        found = on_page("""
+            const found = [];
+            for (let time = 0; time < 2; time++) {
+              await fire($("play"), "click");
+              await settle();
+              found.push($("summary").getAttribute("aria-busy"));
+            }
+            return found;""")
+        self.assertEqual(found, ["true", "false"])
+
+    def test_what_would_be_read_otherwise_has_no_link(self):
+        """A name that ends with a blank is refused, and read from state lines without it."""
+        found = self.named('await type("id", "BRAVO "); await fire($("link"), "click"); return [$("link").textContent, location.hash];')
+        self.assertEqual(found, ["No link: an identifier is not 1 to 8 letters, digits, _ or -: BRAVO ", ""])
+
+    def test_of_two_files_the_one_that_was_opened_later_is_shown(self):
+        """Though the first one is read later; so it is with an example."""
+        names = on_page("""
+            const late = (name, ms) => ({ name, arrayBuffer: () => new Promise((done) => setTimeout(() => done(daa.bytesOf(given[0]).buffer), ms)) });
+            const drop = (file) => fire(screen, "drop", { dataTransfer: { types: ["Files"], files: [file] } });
+            const name = async () => {
+              await new Promise((done) => setTimeout(done, 300));
+              await settle();
+              return page.name;
+            };
+            drop(late("first.states", 100));
+            drop(late("second.states", 10));
+            const names = [await name()];
+            drop(late("third.states", 100));
+            $("example").value = "all closed, with recoveries";
+            await fire($("example"), "change");
+            return [...names, await name()];""", text_of(ENCOUNTER))
+        self.assertEqual(names, ["second.states", "closed.states"])
+
+    def test_a_text_is_dropped_where_text_is_typed(self):
+        """There the browser puts it in; elsewhere nothing comes of it."""
+        found = on_page("""
+            const found = [];
+            for (const event of ["dragover", "drop"]) for (const [types, isField] of [[["text/plain"], true], [["text/plain"], false], [["Files"], true]]) {
+              let kept = 0;
+              await fire(screen, event, { target: { closest: () => isField || null }, dataTransfer: { types, files: [] }, preventDefault: () => { kept += 1; } });
+              found.push(kept);
+            }
+            return found;""")
+        self.assertEqual(found, [0, 1, 1] * 2)
+
+    def test_a_configuration_is_known_by_its_ending_whatever_its_letters(self):
+        found = on_page(OPEN + "await open(['C.TOML', given[0]]); return page.views[0].name;", text_of(RECOVERY))
+        self.assertEqual(found, "C.TOML")
+
+    def test_the_example_stays_named_where_nothing_else_is_taken(self):
+        found = on_page(OPEN + """
+            const found = [];
+            for (const [name, text] of given) {
+              $("example").value = "any";
+              await open([name, text]);
+              found.push($("example").value);
+            }
+            return found;""", ["none.states", "nothing"], ["x.toml", "x = 1"], ["a.states", text_of(ENCOUNTER)], ["r.toml", text_of(RECOVERY)])
+        self.assertEqual(found, ["any", "any", "", ""])
+
+    def test_many_names_that_are_changed_are_counted(self):
+        """And leave room for the aircraft; the ownship's name is written nowhere."""
+        text = "name time sx sy sz trk gs vs\nThe_Ownship 0 0 0 1000 0 100 0\n{}The_Ownship 1 0 0 1000 0 100 0\n"
+        rows = [f"INTRUDER{number:02} 0 {number} 1 1000 0 100 0\n" for number in range(40)]
+        told = on_page(OPEN + "const told = []; for (const it of given) { await open(['a.daa', it]); told.push($('notes').textContent); } return told;",
+                       text.format("".join(rows)), text.format("".join(rows[:6])))
+        names = [f"INTRUDER{number:02} is written INTRUD{number:02}" for number in range(6)]
+        self.assertEqual(told, ["; ".join([*names[:5], "35 more names are written otherwise"]), "; ".join(names)])
 
     def test_a_drop_without_a_file_changes_nothing(self):
         """As one of a piece of text."""
@@ -1753,7 +1848,7 @@ class Used(unittest.TestCase):
         edited = "# edited\n" + text_of(RECOVERY)
         report, saved = on_page("""
             const files = given.slice(0, 2).map(([name, text]) => ({ name, arrayBuffer: async () => daa.bytesOf(text).buffer }));
-            await fire(screen, "drop", { dataTransfer: { files } });
+            await fire(screen, "drop", { dataTransfer: { types: ["Files"], files } });
             await settle();
             const report = page.views[0].said.text;
             $("toml").value = given[2];
@@ -2137,6 +2232,37 @@ class Recordings(unittest.TestCase):
             "left out: 1 line KEY = VALUE; a configuration says what they say", "@@ is written A1", "B=1 is written B1",
             "left out: 1 moment whose ownship is out of range", "1 moment with the ownship at 0 0, more than 100 NM from where it began"],
             "missing": [[], []]})
+
+    def test_times_that_fall_are_told(self):
+        """Of the ownship alone, as the tool does."""
+        head, own = "name time sx sy sz trk gs vs\n", "own {} 0 0 1000 0 100 0\n"
+        told = "the ownship's times fall, from 86399 to 1.5 s: the reports are taken in the order of their times; past midnight write 24:00:01 and so on"
+        for text, notes in ((own.format("23:59:59") + own.format("00:00:01.5"), [told]), (own.format("23:59:59") + own.format("24:00:01.5"), []),
+                            (own.format(4) + "A 3 1 0 1000 0 100 0\n" + own.format(5) + "A 2 1 0 1000 0 100 0\n", [])):
+            found = in_node([["recording", (head + text).encode(), None]])[0]["notes"]
+            self.assertEqual([note for note in found if "fall" in note], notes)
+            with tempfile.NamedTemporaryFile("w", suffix=".daa", encoding="utf-8") as file:
+                file.write(head + text)
+                file.flush()
+                said = subprocess.run([os.path.join(os.path.dirname(EXAMPLES), "tools", "from_daa"), file.name], capture_output=True, text=True).stderr
+            self.assertEqual([f"from_daa: {note}" for note in notes], [line for line in said.splitlines() if "fall" in line])
+
+    def test_a_column_without_a_name_and_a_time_that_is_none(self):
+        self.assertEqual(in_node([["recording", b"name,time,sx,sy,sz,trk,gs,vs,\nown,0,0,0,1000,0,100,0,\n", None]])[0]["notes"], ["not used: the column without a name"])
+        self.assertTrue(self.refusal("name,time,sx,sy,sz,trk,gs,vs\nown,n/a,0,0,1000,0,100,0\n").startswith(
+            "line 2: n/a is no time (hh:mm:ss or a number) and no unit of time that is known; known are s, "))
+        self.assertTrue(self.refusal("name,time [x],sx,sy,sz,trk,gs,vs\nown,0,0,0,1000,0,100,0\n").startswith("x is no unit of time that is known; "))
+
+    def test_where_the_ownship_stands_and_where_a_field_is_empty(self):
+        """Its track is the one of the recording; between blanks no empty field is seen; of a speed that is not used the unit is not read."""
+        head, short = "name time sx sy sz trk gs vs vx\n", "line 3 has 8 fields, the header 9: between blanks no empty field is seen (write commas)"
+        for text in (head + "Ownship12 0 0 0 1000 170.4 0 0 1\nA 0 5 5 1000 7 0 0 1\n", "name time sx sy sz vx vy vs\nown 0 0 0 1000 0 -0 0\n",
+                     head.replace("vx", "vx [mm/s]") + "own 0 0 0 1000 90 0 0 1\n"):
+            states = self.from_daa(text, None)
+            self.assertEqual(in_node([["recording", text.encode(), None]])[0]["states"], states)
+            self.assertRegex(states, r"(?m)^own 0 0 1000 (170|0|90) 0 0$")
+        self.assertEqual(in_node([["recording", (head + "Ownship12 0 0 0 1000 170.4 0 0 1\n").encode(), None]])[0]["notes"], ["not used: the column vx"])
+        self.assertEqual(self.refusal(head + "own 0 0 0 1000 90 0 0 1\nA 0 5 5 1000 7 100 0\n"), short)
 
     def test_many_aircraft_two_at_one_place_and_times_before_the_first_second(self):
         head, own = "name time sx sy sz trk gs vs\n", "own {} 0 0 1000 0 100 0\n"
