@@ -64,9 +64,11 @@ def measure(command, source, sink, ahead):
 
     watcher = threading.Thread(target=look)
     watcher.start()
-    _, status, used = os.wait4(run.pid, 0)
-    seconds = time.monotonic() - began
-    ended.set()
-    watcher.join()
+    try:
+        _, status, used = os.wait4(run.pid, 0)
+        seconds = time.monotonic() - began
+    finally:
+        ended.set()
+        watcher.join()
     run.returncode = os.waitstatus_to_exitcode(status)
     return seconds, used.ru_utime + used.ru_stime, peak, run.returncode

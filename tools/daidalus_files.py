@@ -59,10 +59,10 @@ def status_of(name, main):
 
 
 def tell(words):
-    """A line on standard error, where there is one."""
+    """A line on standard error, where there is one, also where a name in it has a line feed."""
     if sys.stderr is not None:
         with contextlib.suppress(OSError):
-            print(words, file=sys.stderr)
+            print(re.sub(r"[\x00-\x1f\x7f]", lambda it: ascii(it[0])[1:-1], words), file=sys.stderr)
 
 
 def standard_input():
@@ -253,9 +253,9 @@ def faults_of_steps(document):
 
 
 def faults_of_levels(document):
-    levels, resolve = document.get("level", ()), document.get("resolve")
-    if isinstance(levels, tuple):
+    if "level" not in document:
         return
+    levels, resolve = document["level"], document.get("resolve")
     if not isinstance(levels, list):
         yield Fault(5, f"level is {shown(levels)} and no list of tables")
         return

@@ -1,7 +1,9 @@
 """bench/: each script ends well on little, and tells where the program does not."""
 import os
+import signal
 import subprocess
 import sys
+import time
 import unittest
 
 from common import CONFIG, ENCOUNTER, TOP, ToolTest, module, program
@@ -102,6 +104,21 @@ class Bench(ToolTest):
                     ran = self.ran(script, named)
                     self.assertEqual((ran.returncode, ran.stdout), (1, ""), ran.stderr)
                     self.assert_one_line(ran.stderr, f": {named} is no program that can be run\n")
+
+    def test_an_interrupt_ends_it(self):
+        """Here it comes while the program runs."""
+        named = self.write("sleeper", '#!/bin/sh\n: >"$0.began"\nexec sleep 60\n')
+        os.chmod(named, 0o755)
+        words = [sys.executable, "-B", os.path.join(TOP, "bench", "run"), *SCRIPTS["run"][0], "--program", named]
+        run = subprocess.Popen(words, stdout=subprocess.PIPE, stderr=subprocess.PIPE, start_new_session=True,
+                               preexec_fn=lambda: signal.signal(signal.SIGINT, signal.SIG_DFL))
+        self.addCleanup(run.kill)
+        while not os.path.exists(f"{named}.began"):
+            self.assertIsNone(run.poll())
+            time.sleep(0.05)
+        os.killpg(run.pid, signal.SIGINT)
+        run.communicate(timeout=30)
+        self.assertNotEqual(run.returncode, 0)
 
     def test_words_that_are_not_taken(self):
         for script, words, said in NOT_TAKEN:

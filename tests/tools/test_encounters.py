@@ -83,11 +83,12 @@ class WholeEncounters(ToolTest):
         flight.kind, flight.target = "track", 20
         self.assertEqual(flight.state_at(60)[0], 10)
 
-    def test_most_encounters_have_a_manoeuvre_in_it(self):
-        """Of 40 encounters some are straight throughout, and some aircraft turn, climb and change their speed."""
+    def test_most_flights_have_a_manoeuvre(self):
+        """Of 200 some are straight throughout, and some turn, climb and change their speed."""
         kinds = [encounters.Flight(encounters.Generator.of_seed(seed), 60).kind for seed in range(200)]
         counts = {kind: kinds.count(kind) for kind in set(kinds)}
         self.assertEqual(set(counts), {"straight", "track", "gs", "vs"})
+        self.assertGreater(200 - counts["straight"], 100)
         self.assertTrue(all(math.isclose(counts[kind], 40, abs_tol=25) for kind in ("track", "gs", "vs")), counts)
 
     def test_speeds_are_60_to_400_knots_and_climbs_up_to_1500_feet_a_minute(self):

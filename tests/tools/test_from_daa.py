@@ -132,6 +132,24 @@ class FromDaa(ToolTest):
         self.assertEqual(moments[0].traffic, [Traffic("A", 0, 5000, 0, 0, -900, 0)])
         self.assertIn("at most: place 0.0000 NM", said)
 
+    def test_an_ownship_that_stands_keeps_its_track(self):
+        """Where there is one: the ground speeds that it may take are flown along it. At 170.4 the plane turns by 0.4: sin 0.4 is 0.00698."""
+        row = "own 60 10 5000 {} 0 0 3\nA 60.1 10 5000 0 100 0 3\n"
+        for track, whole, x in ((90, 90, 0), (170.4, 170, -42), (-10, 350, 0)):
+            moment, = self.made(HEAD + row.format(track))[0]
+            self.assertEqual((moment.own, moment.traffic[0].x), (Own(0, 0, 5000, whole, 0, 0), x))
+        for speed in ("0 0", "0 -0", "-0 -0"):
+            self.assertEqual(self.made(PLANE + f"own 0 0 0 {speed} 0 0\n")[0][0].own, Own(0, 0, 0, 0, 0, 0))
+
+    def test_between_blanks_no_empty_field_is_seen(self):
+        """A has no squawk: what follows it would be taken as another column's. With commas it is seen."""
+        text = "name\ttime\tsquawk\tsx\tsy\tvx\tvy\tvs\talt\tn\nown\t0\t1200\t0\t0\t0\t100\t0\t5000\t1\nA\t0\t\t1\t2\t0\t-100\t0\t5000\t7\n"
+        status, out, said = self.tool("from_daa", self.write("in.daa", text))
+        self.assertEqual((status, out), (3, ""))
+        self.assert_one_line(said, "line 3 has 9 fields, the header 10: between blanks no empty field is seen (write commas)\n")
+        for shown in (text.replace("\t", ","), text.replace("A\t0\t\t", "A\t0\t-\t")):
+            self.assertEqual(self.made(shown)[0][0].traffic, [Traffic("A", 1000, 2000, 5000, 0, -1000, 0)])
+
     def test_late_reports_have_an_age(self):
         """A report 2.5 s old flies half a second on, and is then 2 s old: 360 knots are 0.1 NM a second."""
         moments, _ = self.made(PLANE + "own 0 0 0 0 100 0 0\nA 1 0 1000 0 360 -600 7.5\nown 0 0 0 0 100 0 10\n")
@@ -193,6 +211,7 @@ class FromDaa(ToolTest):
         moments, said = self.made(PLANE + "own 0 0 0 0 100 0 0\nIntruder1 1 0 0 0 0 0 0\nIntruder2 2 0 0 0 0 0 0\nüü 3 0 0 0 0 0 0\n")
         self.assertEqual([aircraft.id for aircraft in moments[0].traffic], ["Intrude1", "Intrude2", "A0"])
         self.assertIn("Intruder1 is written Intrude1", said)
+        self.assertNotIn("is written", self.made(PLANE + "UAS_ownship 0 0 0 0 100 0 0\n")[1])
         moments, _ = self.made(PLANE + "own 0 0 0 0 100 0 0\nA123456789 1 0 0 0 0 0 0\n")
         self.assertEqual(moments[0].traffic[0].id, "A3456789")
 
@@ -241,6 +260,7 @@ class FromDaa(ToolTest):
         moments, said = self.made(text)
         self.assertIn("from_daa: not used: the columns heading, vx, vy\n", said)
         self.assertEqual((moments[0].own.trk, moments[0].own.gs), (90, 1000))
+        self.assertEqual(self.made(text.replace("vx,vy", "vx [mm/s],vy [mm/s]"))[1], said)
         self.assertIn("not used: the column without a name\n", self.made("name,time,sx,sy,alt,vx,vy,vs,\nown,0,0,0,0,1,2,0,\n")[1])
         self.assertNotIn("not used", self.made(text.replace("heading,", "").replace(",7,", ",").replace("vx,vy,", "").replace(",1,2,", ","))[1])
 

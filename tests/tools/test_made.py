@@ -141,11 +141,12 @@ class Callers(unittest.TestCase):
         for path in made.readmes():
             text = made.text_of_page(path)
             for file, name in re.findall(r"<!-- caller: (\S+) (\S+) -->", text):
-                self.assertIsNotNone(made.function_in(f"crates/{file}", name), f"{name} in {path}")
-                self.assertIn(f"fn {name}", text)
+                quoted = made.function_in(f"crates/{file}", name)
+                self.assertIn(f"fn {name}", quoted)
+                self.assertIn(f"<!-- caller: {file} {name} -->\n```rust\n{quoted}\n```\n", made.trust.text_of(path))
                 found += 1
             self.assertIsNone(made.wrong_in(path, text))
-            self.assertIsNotNone(made.wrong_in(path, text.replace("```rust\n", "```rust\n\n") + "x"))
+            self.assertEqual(made.with_callers(made.trust.text_of(path).replace(" -->\n```rust\n", " -->\n```rust\n// stale\n")), text)
         self.assertGreater(found, 25)
 
 

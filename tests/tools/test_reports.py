@@ -58,6 +58,9 @@ class Makers(ToolTest):
         run = subprocess.run(words, env={"PATH": self.folder}, capture_output=True, text=True, timeout=120)
         self.assertEqual((run.returncode, run.stdout), (1, ""))
         self.assert_one_line(run.stderr, f"page_module: there is no folder {self.folder}/none\n")
+        run = subprocess.run([*words[:-1], self.folder], env={"PATH": self.folder}, capture_output=True, text=True, timeout=120)
+        self.assertEqual((run.returncode, run.stdout), (1, ""))
+        self.assert_one_line(run.stderr, f"page_module: {self.folder} is a folder\n")
 
     def test_an_interrupt_leaves_no_trace(self):
         """Here it comes while `rt doc` runs."""
@@ -99,6 +102,10 @@ class Reports(ToolTest):
             status, out, said = self.tool(*words)
             self.assertEqual((status, out), (7, ""), words)
             self.assert_one_line(said, f"{words[0]}: a file without a name: No such file or directory\n")
+
+    def test_a_file_is_told_in_one_line_whatever_its_name(self):
+        for words in (["summary"], ["draw"], ["check"], ["from_daa"]):
+            self.assertEqual(self.tool(*words, "a\nb\x1b[1m"), (7, "", f"{words[0]}: a\\nb\\x1b[1m: No such file or directory\n"))
 
     def test_a_report_that_was_cut(self):
         path = self.write("b.report", REPORT[:-20])
@@ -297,18 +304,20 @@ class Reports(ToolTest):
                                                 "2 by +6, 2 by +7, 6 by 8 or more, 1 by a value/nothing)"])
 
     def test_comparing_takes_at_most_three_times_what_reading_takes(self):
-        """Of two reports of 1200 moments, of which each third differs; the processor's time, with a little more for the start."""
+        """Of two reports of 1200 moments, of which each third differs; the processor's time, the least of five, with a little more for the start."""
         one = "".join(REPORT.split("refused")[0].replace("moment 0", f"moment {time}").replace("done 0", f"done {time}").replace("43", str(time % 50))
                       for time in range(1200))
         other = re.sub(r"(moment \d*[036]\n(?:.*\n){2}track 0) 5 3\ntrack 10 180 0", r"\1 15 3\ntrack 20 180 0", one)
         paths = [self.write("b.report", one), self.write("c.report", other)]
-        began = time.process_time()
-        reports = [read_report(path) for path in paths]
-        read = time.process_time() - began
-        totals = compare.Totals()
-        found = list(compare.differences(reports, compare.paired_encounters(paths, reports), totals))
-        self.assertGreater(len(found), 300)
-        self.assertLessEqual(time.process_time() - began, 3 * read + 0.1)
+        reading, comparing = [], []
+        for _ in range(5):
+            began = time.process_time()
+            reports = [read_report(path) for path in paths]
+            reading.append(time.process_time() - began)
+            found = list(compare.differences(reports, compare.paired_encounters(paths, reports), compare.Totals()))
+            self.assertGreater(len(found), 300)
+            comparing.append(time.process_time() - began)
+        self.assertLessEqual(min(comparing), 3 * min(reading) + 0.1)
 
     def test_an_answer_beyond_north_differs_by_the_turn(self):
         one, other = REPORT.replace("right 10", "right 355"), REPORT.replace("right 10", "right 5")
@@ -392,7 +401,7 @@ class Pipes(unittest.TestCase):
 
     def test_help_tells_the_statuses(self):
         for tool in TOOLS:
-            out = subprocess.run([os.path.join(TOP, "tools", tool), "--help"], capture_output=True, text=True)
+            out = subprocess.run([os.path.join(TOP, "tools", tool), "--help"], env={**os.environ, "COLUMNS": "80"}, capture_output=True, text=True)
             self.assertEqual((out.returncode, out.stderr), (0, ""))
             self.assertRegex(out.stdout, r"\nStatus: 0(.|\n)*\b5 nobody\s+reads", tool)
             self.assertRegex(out.stdout, rf"\n  (\./daidalus .*\| )?tools/{tool} ", tool)
