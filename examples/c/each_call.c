@@ -125,6 +125,10 @@ static struct daa_config config_in(const char *name) {
         exit(1);
     }
     size_t size = fread(text, 1, sizeof text, file);
+    if (ferror(file)) {
+        perror(name);
+        exit(1);
+    }
     fclose(file);
     must(daa_read(text, size, &config), "daa_read");
     return config;
@@ -154,5 +158,9 @@ int main(int words, char **word) {
     printf("done %u\n", (unsigned)moment.time);
     must(daa_report(&config, moment.time, &moment.own, moment.traffic, moment.count, text, sizeof text, &length), "daa_report");
     fwrite(text, 1, length, stdout);
+    if (fflush(stdout) || ferror(stdout)) {
+        perror("standard output");
+        return 1;
+    }
     return 0;
 }

@@ -188,6 +188,7 @@ static int take_line(const struct daa_config *config, struct table *table, const
     if (count < 2 || !read_number(words[1], &time) || time < 0 || time > UINT32_MAX) return 0;
     if (strcmp(words[0], "own") == 0 && count == 8 && read_state(words + 2, state)) {
         if (is_ahead(table, "the ownship", time)) return 1;
+        if (table->own.known && table->own.time > time) return 1;
         table->own = (struct own_report){time, 1, {state[0], state[1], state[2], state[3], state[4], state[5]}};
         return 1;
     }

@@ -99,4 +99,8 @@ int main(int words, char **word) {
     }
     struct daa_config config = config_in(word[1]);
     words == 2 ? print_answers(&config) : print_report(&config);
+    if (fflush(stdout) || ferror(stdout)) {
+        perror("standard output");
+        return 1;
+    }
 }

@@ -102,6 +102,10 @@ int main(int words, char **word) try {
     check("daa_read", daa_read(reinterpret_cast<const uint8_t *>(text.data()), text.size(), &config));
     if (words == 2) print_answers(config);
     else std::cout << report_of(config);
+    if (!std::cout.flush()) {
+        std::cerr << "standard output cannot be written\n";
+        return 1;
+    }
 } catch (const Fault &fault) {
     std::cerr << fault.call << " answers " << fault.answer << "\n";
     return fault.answer;
