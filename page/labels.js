@@ -25,6 +25,8 @@
 
   /** How long the part of a line is that runs through a box. */
   function crossing(box, { x1, y1, x2, y2 }) {
+    if (Math.max(x1, x2) < box.x || Math.min(x1, x2) > box.x + box.wide) return 0;
+    if (Math.max(y1, y2) < box.y || Math.min(y1, y2) > box.y + box.tall) return 0;
     let [first, last] = [0, 1];
     for (const [from, to, low, high] of [[x1, x2, box.x, box.x + box.wide], [y1, y2, box.y, box.y + box.tall]]) {
       if (from === to) {
@@ -59,7 +61,8 @@
       let best = null;
       REACHES.forEach((reach, far) => SIDES.forEach(([right, down], side) => {
         const box = this.boxAt(symbol, right, down, reach * half + 4, wide, tall);
-        const cost = this.cost(box) + far * FARTHER + side * LATER_SIDE;
+        const more = far * FARTHER + side * LATER_SIDE;
+        const cost = this.cost(box, best ? best.cost - more : Infinity) + more;
         if (!best || cost < best.cost) best = { box, cost, right, far };
       }));
       return best;
@@ -69,14 +72,16 @@
     anywhere(symbol, wide, tall) {
       const { x: cx, y: cy, radius } = this.disc;
       let best = null;
-      for (let y = cy - radius; y < cy + radius - tall; y += GRID) {
-        for (let x = cx - radius; x < cx + radius - wide; x += GRID) {
-          const box = { x, y, wide, tall };
-          const end = nearest(symbol, box);
-          const away = AWAY * Math.hypot(end.x - symbol.x, end.y - symbol.y);
-          if ((best && away >= best.cost) || this.cornersOff(box)) continue;
-          const cost = away + this.cost(box);
-          if (!best || cost < best.cost) best = { box, cost, right: Math.sign(end.x - symbol.x), far: 1 };
+      for (const step of [4 * GRID, GRID]) { // a coarse look first, after which most places are too far away
+        for (let y = cy - radius; y < cy + radius - tall; y += step) {
+          for (let x = cx - radius; x < cx + radius - wide; x += step) {
+            const box = { x, y, wide, tall };
+            const end = nearest(symbol, box);
+            const away = AWAY * Math.hypot(end.x - symbol.x, end.y - symbol.y);
+            if ((best && away >= best.cost) || this.cornersOff(box)) continue;
+            const cost = away + this.cost(box, best ? best.cost - away : Infinity);
+            if (!best || cost < best.cost) best = { box, cost, right: Math.sign(end.x - symbol.x), far: 1 };
+          }
         }
       }
       return best;
@@ -88,9 +93,18 @@
       return { x: left, y: top, wide, tall };
     }
 
-    cost(box) {
-      const crossed = this.lines.reduce((sum, line) => sum + crossing(box, line), 0);
-      return OVER_TEXT * this.covered(box) + OVER_LINE * crossed + OFF_DISC * this.cornersOff(box);
+    /** What a place costs; where that is `most` or more, only that it is. */
+    cost(box, most = Infinity) {
+      let sum = OFF_DISC * this.cornersOff(box);
+      for (const other of this.boxes) {
+        if (sum >= most) return sum;
+        sum += OVER_TEXT * overlap(box, other);
+      }
+      for (const line of this.lines) {
+        if (sum >= most) return sum;
+        sum += OVER_LINE * crossing(box, line);
+      }
+      return sum;
     }
 
     /** How much of a box is on what is there already. */
@@ -100,8 +114,8 @@
 
     /** How many corners of a box lie outside of the disc. */
     cornersOff({ x, y, wide, tall }) {
-      return [[x, y], [x + wide, y], [x, y + tall], [x + wide, y + tall]]
-        .filter(([cx, cy]) => Math.hypot(cx - this.disc.x, cy - this.disc.y) > this.disc.radius).length;
+      const off = (cx, cy) => Number(Math.hypot(cx - this.disc.x, cy - this.disc.y) > this.disc.radius);
+      return off(x, y) + off(x + wide, y) + off(x, y + tall) + off(x + wide, y + tall);
     }
 
     /** What stands at a place keeps others away: its box, and its leader where it has one. */

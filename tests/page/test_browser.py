@@ -547,7 +547,7 @@ class Timed(PageTest):
 
     @in_three_tries
     def test_a_long_moment_leaves_the_page_alive(self):
-        """Frames go on while the longest moment is decided: no two are as far apart as the decision takes."""
+        """Frames go on while the longest moment is decided, and while it is drawn: no two are half as far apart as the decision takes."""
         self.page.js("""
             let last = performance.now();
             daa.longest = 0;
@@ -555,7 +555,7 @@ class Timed(PageTest):
             requestAnimationFrame(look);""")
         self.page.open_files(*LONGEST)
         longest, took = self.page.js("return [daa.longest, Math.max(...daa.page.times)]")
-        self.assertLess(longest, took)
+        self.assertLess(longest, took / 2)
 
     def test_no_old_band_is_shown_while_a_moment_is_decided(self):
         """On a page whose worker never answers: nothing of the moment before stays, and another moment is answered by a new worker."""
@@ -723,10 +723,10 @@ class Layout(PageTest):
             self.assertEqual(sum(it.startswith("a_long_") for it in words), 3 if compare else 2, words)
             self.page.click("#compare")
         self.page.open_files(self.page.file(f"{name}.states", "nothing\n" + text_of(ENCOUNTER)))
-        for width, height in SMALL:
+        for width, height in SMALL[:3] if IN_FIREFOX else SMALL:
             self.page.size(width, height)
             self.page.settle()
-            self.assertLessEqual(self.page.js("return document.documentElement.scrollWidth"), self.page.js("return innerWidth"), (width, height))
+            self.assertLessEqual(self.page.js("return document.documentElement.scrollWidth"), width)
 
     def test_all_closed_with_recoveries(self):
         self.page.select("#example", "encounter, with recoveries")

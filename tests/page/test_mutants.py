@@ -86,7 +86,7 @@ MUTANTS = [
      "test_browser.Broken.test_after_a_trap_the_instance_is_made_anew"),
     ("labels keep out of nothing's way", "labels.js", "return this.boxes.reduce((sum, other) => sum + overlap(box, other), 0);", "return 0;",
      "test_browser.Layout.test_twenty_aircraft"),
-    ("labels stand on the ring", "labels.js", "> this.disc.radius).length", "> this.disc.radius + 60).length",
+    ("labels stand on the ring", "labels.js", "> this.disc.radius);", "> this.disc.radius + 60);",
      "test_browser.Layout.test_twenty_aircraft"),
     ("two displays push the panel out of the window", "style.css", '"displays displays" minmax(0, 1fr)', '"displays displays" 80vh',
      "test_browser.Layout.test_two_displays"),
