@@ -12,6 +12,8 @@ const run = (name) => vm.runInThisContext(fs.readFileSync(path.join(page, `${nam
 ["engine.wasm", "core", "toml", "recording"].forEach(run);
 const bytesOf = (text) => new Uint8Array(Buffer.from(text, "base64"));
 
+const DRAWING = ["labels", "art", "places", "compass", "tapes", "words", "aircraft", "handles", "draw", "strip"];
+
 /** Runs the scripts that draw, over what they need of a document: elements that keep what is put into them, and letters of one width. */
 function runDrawing() {
   const element = () => {
@@ -22,7 +24,7 @@ function runDrawing() {
   const made = [];
   globalThis.document = { createElement: () => ({ getContext: () => ({ measureText: (words) => ({ width: 60 * words.length }) }) }),
     createElementNS: () => made[made.push(element()) - 1] };
-  ["labels", "draw", "strip"].forEach(run);
+  DRAWING.forEach(run);
   return { svg: element(), made };
 }
 

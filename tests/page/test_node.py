@@ -2159,7 +2159,8 @@ class Recordings(unittest.TestCase):
             file.flush()
             words = [os.path.join(os.path.dirname(EXAMPLES), "tools", "from_daa"), file.name, *(["--own", own] if own else [])]
             done = subprocess.run(words, capture_output=True, text=True)
-            return done.stdout if done.returncode == 0 else None
+            lines = done.stdout.splitlines(keepends=True)
+            return "".join(line for line in lines if not line.startswith("#")) if done.returncode == 0 else None
 
     def test_the_example(self):
         text = text_of(os.path.join(EXAMPLES, "recording.daa"))

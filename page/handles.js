@@ -1,0 +1,84 @@
+/* What can be taken hold of on a display: each with its key, where it is, what it shows and how it is told. */
+"use strict";
+(function (root) {
+  const { n, text, fitted, edge, at, plan, flown, vectorSeconds, within, wordsOfHeight, nameOf, symbol, OWN_SHAPE, sighted,
+    labelled, drawLabel, scaleOf, TAPES, TAPE_KINDS, shownValue } = daa.art;
+
+  const grip = (r) => `<circle class="grip" r="${r}"/>`;
+  const focusRing = (r) => `<circle class="focus" r="${r}"/>`;
+
+  function handles(view, model) {
+    const all = model.traffic.map((one, place) => sighted(view, model, one, place));
+    labelled(view, model, all);
+    const quiet = [...all].sort((a, b) => a.alert.level - b.alert.level); // what alerts is drawn over the rest
+    const made = quiet.flatMap((it) => [velocityHandle(view, it), aircraftHandle(view, it)].filter(Boolean));
+    return [...made, ...ownHandles(view, model), trackHandle(view, model), ...TAPE_KINDS.map((kind) => tapeHandle(view, model, kind))];
+  }
+
+  const knob = (stroke) => `${focusRing(10)}<circle r="4.5" fill="var(--ground)" stroke="${stroke}" stroke-width="2"/>${grip(12)}`;
+  const strokeOf = (level) => (level ? edge(level) : "var(--ink)");
+
+  function velocityHandle(view, { one, off, tip, end, alert, called }) {
+    if (off || end !== tip) return null;
+    const speed = n(Math.hypot(one.vx, one.vy) / 10);
+    return { key: `v:${called}`, x: tip.x, y: tip.y, label: `velocity of ${nameOf(one)}`, number: speed,
+      value: `east ${n(one.vx / 10)}, north ${n(one.vy / 10)} knots`, inside: knob(strokeOf(alert.level)) };
+  }
+
+  function aircraftHandle(view, it) {
+    const { one, alert, off, shown, end, miles, tag, called } = it;
+    const line = off ? "" : `<path d="M0 0L${n(end.x - shown.x)} ${n(end.y - shown.y)}" stroke="${strokeOf(alert.level)}" stroke-width="2"/>`;
+    const mark = symbol(alert);
+    const told = alert.unknown ? "no answer" : alert.level ? `alert level ${alert.level} in ${alert.first} seconds` : "no alert";
+    const value = `${n(miles)} NM away, ${wordsOfHeight(tag)}, ${told}${alert.now ? `, level ${alert.now} now` : ""}`;
+    return { key: `p:${called}`, x: shown.x, y: shown.y, label: nameOf(one), number: n(miles), value, level: alert.level,
+      inside: `${focusRing(20)}${line}${off ? `<g opacity=".7" transform="scale(.8)">${mark}</g>` : mark}${drawLabel(view.g, it)}${grip(15)}` };
+  }
+
+  function ownHandles(view, { own }) {
+    const p = plan(view, own.x, own.y);
+    const ahead = flown(own, vectorSeconds(view));
+    const tip = plan(view, ahead.x, ahead.y);
+    const end = within(view.g, p, tip);
+    const made = [];
+    if (end === tip) {
+      const speed = n(own.gs / 10);
+      made.push({ key: "v:", x: tip.x, y: tip.y, label: "velocity of the ownship", number: speed,
+        value: `track ${own.trk}, ${speed} knots`, inside: knob("var(--own)") });
+    }
+    made.push({ key: "p:", x: p.x, y: p.y, label: "ownship", number: 0, value: `east ${n(own.x / 1000)}, north ${n(own.y / 1000)} NM`,
+      inside: `${focusRing(23)}<path d="M0 0L${n(end.x - p.x)} ${n(end.y - p.y)}" stroke="var(--own)" stroke-width="2"/>`
+        + `<g transform="rotate(${n(own.trk - view.up)})">${OWN_SHAPE}</g>${grip(17)}` });
+    return made;
+  }
+
+  function trackHandle(view, { own }) {
+    const { g } = view;
+    const p = at(view, own.trk, g.radius + g.ringWidth / 2);
+    const half = g.ringWidth / 2;
+    const line = (stroke, width) => `<path d="M0 ${n(-half)}v${n(g.ringWidth + 4)}" stroke="${stroke}" stroke-width="${width}"/>`;
+    return { key: "track", x: p.x, y: p.y, label: "track of the ownship", number: own.trk, least: 0, most: 359, value: `${own.trk} degrees`,
+      inside: `<g transform="rotate(${n(own.trk - view.up)})">${line("var(--ground)", 5)}${line("var(--own)", 2.5)}`
+        + `<path d="M-8 ${n(-half - 7)}h16v7l-8 9l-8 -9z" fill="var(--own)" stroke="var(--ground)"/></g>`
+        + focusRing(n(half + 5)) + grip(n(half + 4)) };
+  }
+
+  function tapeHandle(view, model, kind) {
+    const { g } = view;
+    const { x, band, left } = g.tapes[kind];
+    const scale = scaleOf(view, model, kind);
+    const shown = shownValue(kind, model.own[kind]);
+    const f = g.font;
+    const wide = Math.min(x - left - 2, f * 4.5);
+    const line = (stroke, width) => `<path d="M0 0h${band}" stroke="${stroke}" stroke-width="${width}"/>`;
+    const box = `M2 0L${n(-f * 0.7)} ${n(-f * 0.85)}H${n(-wide)}V${n(f * 0.85)}H${n(-f * 0.7)}Z`;
+    return { key: kind, x, y: scale.y(model.own[kind]), label: `${TAPES[kind].name} of the ownship`, number: shown,
+      least: shownValue(kind, scale.low), most: shownValue(kind, scale.high), value: `${shown} ${TAPES[kind].unit}`,
+      inside: `<path d="${box}" fill="var(--ground)" stroke="var(--own)" stroke-width="2"/>`
+        + text(-f * 0.75, f * 0.37, shown, `class="value end" font-size="${n(fitted(shown, f, wide - f * 0.75 - 3))}" style="fill:var(--own)"`)
+        + line("var(--ground)", 5) + line("var(--own)", 2.5)
+        + `<rect class="focus" x="${n(-wide - 4)}" y="${n(-f * 1.15)}" width="${n(wide + 8)}" height="${n(f * 2.3)}"/>` };
+  }
+
+  Object.assign(daa.art, { handles });
+})(globalThis);

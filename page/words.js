@@ -1,0 +1,118 @@
+/* What a display says in words: the answers under compass and tapes, its head, and its legend. */
+"use strict";
+(function (root) {
+  const { n, text, widthOf, fitted, cut, paint, edge, diamond, TAPE_KINDS, shownValue, shownWords, vectorSeconds } = daa.art;
+
+  const styleOf = (to) => (typeof to === "number" ? "open" : to === "none" ? "none" : "small");
+
+  function answers(view, model) {
+    if (!model.said) return "";
+    return answersOfTrack(view, model) + TAPE_KINDS.map((kind) => answersOfTape(view, model, kind)).join("");
+  }
+
+  /** A line of answers: what it is of is told by data, so that it can be read back. */
+  function answerLine(g, x, y, kind, what, words, style, anchor = "", room = g.width) {
+    return text(x, y, words, `class="${style} ${anchor}" font-size="${n(fitted(words, g.font, room))}" data-kind="${kind}" data-what="${what}"`);
+  }
+
+  function answersOfTrack(view, { said }) {
+    const { g } = view;
+    const { lower, upper } = said.resolve.track;
+    const shown = (to) => (typeof to === "number" ? `${to}°` : to);
+    const [x, y, gap] = [g.centre.x, g.answers + g.line, g.font * 0.8];
+    let out = answerLine(g, x - gap, y, "track", "lower", `◄ left ${shown(lower)}`, styleOf(lower), "end")
+      + answerLine(g, x + gap, y, "track", "upper", `► right ${shown(upper)}`, styleOf(upper));
+    const more = [];
+    const back = said.recover.track;
+    if (back) more.push(["recover", back === "none" ? "◆ no recovery" : `◆ turn to ${back.value}°, clear after ${back.after} s`, "recover"]);
+    const last = said.last.track;
+    if (last === "none") more.push(["last", "a turn comes too late", "none"]);
+    else if (last !== undefined) more.push(["last", `a turn may wait ${last} s`, "last"]);
+    more.forEach(([what, words, style], row) => { out += answerLine(g, x, y + g.line * (row + 1), "track", what, words, style, "mid"); });
+    return out;
+  }
+
+  function answersOfTape(view, { said }, kind) {
+    const { g } = view;
+    const t = g.tapes[kind];
+    const { lower, upper } = said.resolve[kind];
+    const shown = (to) => (typeof to === "number" ? shownWords(kind, to) : to);
+    const lines = [["upper", `▲ ${shown(upper)}`, styleOf(upper)], ["lower", `▼ ${shown(lower)}`, styleOf(lower)]];
+    const back = said.recover[kind];
+    if (back) lines.push(["recover", back === "none" ? "◆ none" : `◆ ${shownValue(kind, back.value)}, ${back.after} s`, "recover"]);
+    const last = said.last[kind];
+    if (last === "none") lines.push(["last", "too late", "none"]);
+    else if (last !== undefined) lines.push(["last", `may wait ${last} s`, "last"]);
+    const top = g.answers + (g.stacked ? g.line * (g.rows - 1) : 0);
+    const line = ([what, words, style], row) => answerLine(g, t.left + 6, top + g.line * (row + 1), kind, what, words, style, "", t.width - 12);
+    return lines.map(line).join("");
+  }
+
+  // ---- head and legend
+
+  function head(view, model) {
+    const { g } = view;
+    const size = `font-size="${g.font}"`;
+    const ahead = `${view.trackUp ? "track up" : "north up"} · ${vectorSeconds(view)} s ahead`;
+    const isWide = g.width > 560;
+    const half = (g.width - (isWide ? widthOf(ahead, g.font) : 0)) / 2 - 8; // left and right of what stands in the middle
+    const note = 16 + widthOf(`${model.time} s`, g.font + 4);
+    const [style, words] = model.lacks ? ["none", `incomplete · ${model.note}`] : ["small", model.note];
+    let out = text(10, g.line * 1.05, `${model.time} s`, `class="value" font-size="${g.font + 3}"`)
+      + text(note, g.line * 1.05, cut(words, g.font, half - note), `class="${style}" ${size}`)
+      + text(g.width - 10, g.line * 1.05, cut(model.name, g.font, half - 10), `class="end" ${size}`);
+    if (isWide) out += text(g.width / 2, g.line * 1.05, ahead, `class="small mid" ${size}`);
+    return out + (model.fault ? noAnswer(g, model.fault) : "");
+  }
+
+  /** Why there is no answer, in the upper half of the compass. */
+  function noAnswer(g, fault) {
+    const rows = [""];
+    for (const word of fault.split(" ")) {
+      if (widthOf(rows[rows.length - 1] + word, g.font) > g.radius * 1.5) rows.push("");
+      rows[rows.length - 1] += `${word} `;
+    }
+    const y = g.centre.y - g.radius * 0.42;
+    const line = (row, i) => text(g.centre.x, y + g.line * (i + 1.2), row.trim(), `class="mid halo" font-size="${g.font}"`);
+    return text(g.centre.x, y, "no answer", `class="none mid halo" font-size="${g.font * 1.6}"`) + rows.map(line).join("");
+  }
+
+  /** The legend's rows, each a list of items with their widths. */
+  function legendOf(config, font, width) {
+    const items = [{ level: 0, words: "clear" }];
+    config.levels.forEach((_, l) => items.push({ level: l + 1, words: `level ${l + 1}${l + 1 === config.resolve ? ", corrective" : ""}` }));
+    items.push({ open: true, words: "nearest open" });
+    if (config.recovery) items.push({ recover: true, words: "recovery" });
+    const rows = [[]];
+    let left = 0;
+    for (const item of items) {
+      item.wide = 36 + widthOf(item.words, font - 1);
+      if (left + item.wide > width - 16 && rows[rows.length - 1].length) {
+        rows.push([]);
+        left = 0;
+      }
+      rows[rows.length - 1].push(item);
+      left += item.wide;
+    }
+    return rows;
+  }
+
+  function legend(view, { config }) {
+    const { g } = view;
+    let out = "";
+    legendOf(config, g.font, g.width).forEach((row, i) => {
+      let x = (g.width - row.reduce((sum, item) => sum + item.wide, 0)) / 2;
+      const y = g.foot + g.line * (i + 0.75);
+      for (const item of row) {
+        if (item.open) out += `<path d="M${n(x + 8)} ${n(y - 4.5)}l12 -6.5v13z" fill="var(--open)"/>`;
+        else if (item.recover) out += diamond(x + 14, y - 4.5);
+        else out += `<rect x="${n(x)}" y="${n(y - 11)}" width="24" height="13" fill="${paint(item.level)}" stroke="${edge(item.level)}"/>`;
+        out += text(x + 29, y, item.words, `class="small" font-size="${g.font - 1}"`);
+        x += item.wide;
+      }
+    });
+    return out;
+  }
+
+  Object.assign(daa.art, { answers, head, legend, legendOf });
+})(globalThis);
