@@ -10,7 +10,7 @@ import unittest
 
 TOP = os.path.dirname(os.path.dirname(os.path.dirname(os.path.realpath(__file__))))
 sys.dont_write_bytecode = True
-sys.path.insert(0, os.path.join(TOP, "tools"))
+sys.path[:0] = [os.path.join(TOP, "tools"), os.path.join(TOP, "tests")]
 
 CONFIG = os.path.join(TOP, "examples", "three_levels.toml")
 ENCOUNTER = os.path.join(TOP, "examples", "encounter.states")

@@ -4,6 +4,7 @@ import subprocess
 import sys
 import unittest
 
+import counting
 from common import CONFIG, ENCOUNTER, TOP, ToolTest, module, program
 
 refuse_memory = module("bench/refuse_memory")
@@ -16,6 +17,7 @@ def example(name):
 class Requests(ToolTest):
     def setUp(self):
         super().setUp()
+        counting.need("cc")
         self.library = refuse_memory.compiled(self.folder)
 
     def run_program(self, words, given=b"", **environment):

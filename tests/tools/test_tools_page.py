@@ -2,30 +2,21 @@
 
 An indented block is a command, unless the paragraph before it ends in `prints`: then it is what the command before writes,
 its first lines where that paragraph speaks of first lines, and else the whole. The status is 0, or N where the paragraph
-after the command says `status N`. A command that calls a program which is not installed is left out, with a word on how to
-install it.
+after the command says `status N`. A command that calls a program which is not installed is left out, and the last lines say what
+has to be installed.
 """
 import os
 import re
-import shutil
 import subprocess
-import sys
 import unittest
 
+import counting
 from common import TOP, ToolTest, program
 from test_reports import tools_for_users
 
 PAGE = os.path.join(TOP, "docs", "TOOLS.md")
 INSTALLED = ("parallel", "jq")  # not part of every system
 LINKED = ("tools", "examples")
-
-
-def is_there(name):
-    """Whether it is installed; another program is named parallel, too."""
-    if not shutil.which(name):
-        return False
-    told = subprocess.run([name, "--version"], stdin=subprocess.DEVNULL, capture_output=True, text=True).stdout
-    return name != "parallel" or told.startswith("GNU parallel")
 
 
 def blocks_of(text):
@@ -76,11 +67,8 @@ class Page(ToolTest):
             commands = commands_of(file.read())
         shown = 0
         for block, status, output, is_beginning in commands:
-            missing = [name for name in INSTALLED if re.search(rf"(^|\| *){name} ", block, re.M) and not is_there(name)]
-            if missing:
-                print(f"left out, since there is no {missing[0]} (apt-get install {missing[0]}): {block}", file=sys.stderr)
-                continue
             with self.subTest(block):
+                counting.need(*(name for name in INSTALLED if re.search(rf"(^|\| *){name} ", block, re.M)))
                 ended, wrote, said = self.run_block(block)
                 self.assertEqual(ended, status, said)
                 if output is not None:

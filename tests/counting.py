@@ -1,0 +1,70 @@
+"""How the tests are run, and what is said of them in the last lines.
+
+A line `left out: N tests: WHY` for each cause why tests were left out, WHY naming what has to be installed; and then, as the
+very last, `N passed, M failed`. Where the environment has CI=true, as in the gate, what is left out counts as failed: a gate
+must not pass on what it did not try.
+"""
+import collections
+import os
+import shutil
+import subprocess
+import sys
+import unittest
+
+# Debian's package of each command that some tests call.
+PACKAGES = {"cc": "gcc", "c++": "g++", "cargo": "cargo", "node": "nodejs", "aarch64-linux-gnu-gcc": "gcc-aarch64-linux-gnu",
+            "qemu-aarch64": "qemu-user", "parallel": "parallel", "jq": "jq"}
+
+
+def is_there(command):
+    """Whether a command is there and runs: a stand-in of rustup may have none behind it, and another program is named parallel, too."""
+    if not shutil.which(command):
+        return False
+    asked = subprocess.run([command, "--version"], stdin=subprocess.DEVNULL, capture_output=True)
+    return asked.returncode == 0 and (command != "parallel" or asked.stdout.startswith(b"GNU parallel"))
+
+
+def need(*commands):
+    """Leaves the test out where one of these commands is not there, and says which package has it."""
+    for command in commands:
+        if not is_there(command):
+            raise unittest.SkipTest(f"there is no {command} (Debian: {PACKAGES[command]})")
+
+
+class Result(unittest.TextTestResult):
+    """Counts what passed: a test of which a part failed, or was left out, has not."""
+
+    passed = 0
+
+    def addSuccess(self, test):
+        super().addSuccess(test)
+        self.passed += 1
+
+
+def left_out_fails():
+    return os.environ.get("CI") == "true"
+
+
+def tell(passed, failed, left_out):
+    """Writes the last lines, and returns the status: 0 where some passed and none failed. `left_out` counts tests by their cause."""
+    for why, count in sorted(left_out.items()):
+        print(f"left out: {count} test{'s' * (count != 1)}: {why}")
+    if left_out and left_out_fails():
+        print("FAILED: where CI is true, what is left out counts as failed")
+        failed += sum(left_out.values())
+    print(f"{passed} passed, {failed} failed", flush=True)
+    return int(failed > 0 or passed == 0)
+
+
+def run(suite, verbosity=2):
+    """Runs tests, writes the last lines, and returns the status."""
+    ran = unittest.TextTestRunner(stream=sys.stdout, verbosity=verbosity, resultclass=Result).run(suite)
+    failed = {str(getattr(test, "test_case", test)) for test, _ in ran.failures + ran.errors}
+    return tell(ran.passed, len(failed) + len(ran.unexpectedSuccesses), collections.Counter(why for _, why in ran.skipped))
+
+
+def run_named(names, verbosity=2):
+    """The same with the tests of the script that is run: those whose names have one of these words, or all."""
+    loader = unittest.TestLoader()
+    loader.testNamePatterns = [f"*{it}*" for it in names] or None
+    return run(loader.loadTestsFromModule(sys.modules["__main__"]), verbosity)
