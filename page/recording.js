@@ -37,6 +37,10 @@ function daaRecording(root) {
   const LAST_SECOND = 4294967295;
   const MOST_LATITUDE = 90;
   const FARTHEST_OWN = 100; // NM: an ownship that is farther from where it began is put at 0 0
+  const NEAR = 40; // NM: an aircraft that is left out and was nearer, flown straight on, is told in its moment
+  const FORGOTTEN = 300; // s: after so long an old report says nothing any more about where an aircraft is
+  const MOST_LACKS = 20; // aircraft that a moment lacks and that are named one by one
+  const MOST_NAME = 50; // characters of a name in a comment
   const MOST_NAMES = 5; // so many names that are changed are told one by one
   const ROUNDING = 1e-6; // s: what the rounding of a time's unit may cost
   const LINE_ENDS = /\r\n|[\n\v\f\r\x1c-\x1e\x85\u2028\u2029]/;
@@ -57,6 +61,9 @@ function daaRecording(root) {
     const rest = number % by;
     return rest < 0 ? rest + by : rest;
   }
+
+  /** A number with so many digits after its point, never -0. */
+  const fixed = (number, digits) => (round(number * 10 ** digits) / 10 ** digits + 0).toFixed(digits);
 
   /** The second that a time lies in. */
   const wholeSecond = (time) => Math.floor(time + ROUNDING);
@@ -272,7 +279,8 @@ function daaRecording(root) {
     moments(ownName) {
       const latest = new Map();
       const made = [];
-      let start = null;
+      const steps = [];
+      let [start, silence] = [null, ""];
       const isOwn = (row) => Number(row.name === ownName);
       for (const row of [...this.rows].sort((a, b) => a.time - b.time || isOwn(a) - isOwn(b))) {
         if (row.name !== ownName) {
@@ -285,11 +293,24 @@ function daaRecording(root) {
         if (time < least || time > LAST_SECOND) this.leaveOut("moment", "in a second that has one already, or out of range");
         else {
           const { own, angle } = this.ownOf(row, start);
-          if (own) made.push({ time, own, ...this.trafficAt(row, own, angle, latest) });
-          else this.leaveOut("moment", "whose ownship is out of range");
+          if (own) {
+            silence = silence || (made.length ? silenceOf(steps, made[made.length - 1].time, time) : "");
+            const comments = this.onEarth ? [`# origin ${fixed(row.place[0], 7)} ${fixed(row.place[1], 7)} ${fixed(angle / EARTH, 4)}`] : [];
+            const { traffic, missing, lacks } = this.trafficAt(row, own, angle, latest);
+            made.push({ time, own, traffic, missing, silence, comments: [...lacks, ...comments] });
+            silence = "";
+          } else {
+            this.leaveOut("moment", "whose ownship is out of range");
+            silence = "the ownship is out of range";
+          }
         }
       }
       return made;
+    }
+
+    /** The aircraft that are named in comments: a list of names and whole names, each once. */
+    wholeNames(ownName) {
+      return new Map([...this.ids].filter(([name, short]) => ![short, ownName].includes(name)).map(([name, short]) => [short, name]));
     }
 
     /** How far an aircraft is from the ownship once it has flown straight on until then: NM. */
@@ -302,31 +323,55 @@ function daaRecording(root) {
     /** The nearest aircraft, as many as there may be, in the order in which the recording first has them; and in words those that are
      *  missing, the nearest one first. */
     trafficAt(ownRow, own, angle, latest) {
-      const [found, missing] = [new Map(), []];
+      const [found, missing, lacking] = [new Map(), [], []];
       const near = [...latest.values()].map((row) => [this.distance(row, ownRow), row]).sort(([one], [other]) => one - other);
-      for (const [, row] of near) {
-        const isOld = ownRow.time - row.time > OLDEST + ROUNDING;
+      for (const [far, row] of near) {
+        const late = ownRow.time - row.time;
+        const isOld = late > OLDEST + ROUNDING;
         const made = isOld || found.size === daa.MOST_AIRCRAFT ? null : this.trafficOf(row, ownRow, own, angle);
         if (made) {
           found.set(row.name, made);
           continue;
         }
-        const why = isOld ? TOO_OLD : FAR_OR_MANY;
-        this.leaveOut("aircraft", `${why}, in a moment`);
+        this.leaveOut("aircraft", `${isOld ? TOO_OLD : FAR_OR_MANY}, in a moment`);
+        const many64 = found.size === daa.MOST_AIRCRAFT ? `more than ${daa.MOST_AIRCRAFT} aircraft` : "out of range";
+        const why = `${isOld ? `no report for ${wholeSecond(late)} s` : many64}, ${fixed(far, 1)} NM away`;
+        if (far > NEAR || late > FORGOTTEN + ROUNDING) continue;
         missing.push(`left out: ${this.ids.get(row.name)}, ${why}`);
+        lacking.push(`# lacks ${this.ids.get(row.name)} ${why}`);
       }
-      return { traffic: [...latest.keys()].filter((name) => found.has(name)).map((name) => found.get(name)), missing };
+      const lacks = lacking.length > MOST_LACKS ? [...lacking.slice(0, MOST_LACKS), `# lacks * ${lacking.length - MOST_LACKS} more`] : lacking;
+      return { traffic: [...latest.keys()].filter((name) => found.has(name)).map((name) => found.get(name)), missing, lacks };
     }
+  }
+
+  /** Why there is no moment between two seconds, or nothing: where more than two of the recording's steps lie between them. The median of
+   *  the steps so far, which are rising, is the recording's. */
+  function silenceOf(steps, last, time) {
+    const step = time - last;
+    const usual = steps.length ? steps[Math.floor(steps.length / 2)] : step;
+    const place = steps.findIndex((other) => other > step);
+    steps.splice(place < 0 ? steps.length : place, 0, step);
+    return step > 2 * usual ? `no report of the ownship between ${last} and ${time} s` : "";
   }
 
   const ownLine = (own) => `own ${own.x} ${own.y} ${own.alt} ${own.trk} ${own.gs} ${own.vs}`;
   const trafficLine = (one, form) => `traffic ${one.id} ${one.x} ${one.y} ${one.alt} ${one.vx} ${one.vy} ${one.vs}${form === 2 ? ` ${one.age}` : ""}`;
 
-  /** The state lines of moments: in format 2 where some report has an age. */
-  function stateLines(moments) {
+  /** The state lines of moments, in format 2 where some report has an age; with the comments of each moment, where it has some, and the
+   *  whole names of aircraft. */
+  function stateLines(moments, wholeNames = new Map()) {
     const form = moments.some(({ traffic }) => traffic.some((one) => one.age)) ? 2 : 1;
     const lines = form === 2 ? ["format 2"] : [];
-    for (const { time, own, traffic } of moments) lines.push(`moment ${time}`, ownLine(own), ...traffic.map((one) => trafficLine(one, form)), "end");
+    const untold = new Map(wholeNames);
+    for (const { time, own, traffic, silence, comments = [] } of moments) {
+      for (const { id } of traffic) {
+        if (untold.has(id)) lines.push(`# name ${id} ${[...untold.get(id)].slice(0, MOST_NAME).join("")}`);
+        untold.delete(id);
+      }
+      if (silence) lines.push(`# no moment: ${silence}`);
+      lines.push(`moment ${time}`, ...comments, ownLine(own), ...traffic.map((one) => trafficLine(one, form)), "end");
+    }
     return lines.map((line) => line + "\n").join("");
   }
 
@@ -351,7 +396,7 @@ function daaRecording(root) {
     for (const [count, what, why] of maker.leftOut.values()) notes.push(`left out: ${many(count, what)} ${why}`);
     if (maker.far) notes.push(`${many(maker.far, "moment")} with the ownship at 0 0, more than ${FARTHEST_OWN} NM from where it began`);
     if (!moments.length) fail(`no moment is left; ${notes.join("; ")}`);
-    return { states: stateLines(moments), names, notes, missing: moments.map((moment) => moment.missing) };
+    return { states: stateLines(moments, maker.wholeNames(own)), names, notes, missing: moments.map((moment) => moment.missing) };
   }
 
   /** Whether a text looks like a recording: its first line with fields names columns. */

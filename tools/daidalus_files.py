@@ -350,20 +350,39 @@ class Refusal(NamedTuple):
     named: str = ""
 
 
+class Origin(NamedTuple):
+    """Where a moment's ownship is on the globe, in degrees, and what a direction of the plane lacks to one from true north."""
+
+    lat: float
+    lon: float
+    turn: float
+
+
 class Moment:
-    """A moment of the input: its ownship, its aircraft, the lines it stands on and those that were refused in it."""
+    """A moment of the input: its ownship, its aircraft, the lines it stands on and those that were refused in it; and what comments
+    tell: `lacks` has the identifier and the cause of each aircraft that it lacks, `origin` where it is or None, and `silence` why
+    there is no moment between it and the one before, or ''."""
 
     def __init__(self, time, line):
         self.time, self.first_line, self.last_line = time, line, line
         self.own, self.traffic, self.refused = None, [], []
+        self.lacks, self.origin, self.silence = [], None, ""
+
+
+LACKS, NO_MOMENT = re.compile(r"#\s+lacks\s+(\S+)\s*(.*)"), re.compile(r"#\s+no\s+moment:\s*(.*)")
+DEGREES_FORM = r"(-?[0-9]{1,3}(?:\.[0-9]{1,9})?)"
+ORIGIN = re.compile(rf"#\s+origin\s+{DEGREES_FORM}\s+{DEGREES_FORM}\s+{DEGREES_FORM}\s*")
+CLOCK, NAME = re.compile(r"#\s+clock\s+(utc|day)\s*"), re.compile(r"#\s+name\s+([A-Za-z0-9_-]{1,8})\s+(\S.*)")
 
 
 class Reader:
-    """Takes state lines; `events` are the refusals and the ended moments, in their order."""
+    """Takes state lines; `events` are the refusals and the ended moments, in their order. Of what comments tell, `clock` is utc, day
+    or None, `names` the whole names of aircraft by their identifiers, and `silence` why there is no moment after the last one, or ''."""
 
     def __init__(self):
         self.events, self.lines, self.form = [], 0, 1
         self.open, self.last = None, None
+        self.clock, self.names, self.silence = None, {}, ""
 
     def read(self, text):
         """All lines of a text of bytes, and its end."""
@@ -386,13 +405,30 @@ class Reader:
             self.refuse(1, f"more than {MOST_LINE_BYTES} bytes")
             return
         fields = [field for field in re.split(rb"[ \t]+", line.removesuffix(b"\r")) if field]
-        if not fields or fields[0].startswith(b"#"):
+        if not fields:
+            return
+        if fields[0].startswith(b"#"):
+            self.read_comment(line.decode("utf-8", "replace").strip())
             return
         word, *values = (field.decode("latin-1") for field in fields)
         named = values[0] if values and word in ("traffic", "moment") else ""
         fault = self.fault_of_form(word, values) or self.step(word, values)
         if fault:
             self.refuse(*fault, word, named)
+
+    def read_comment(self, text):
+        """Takes what a comment tells that has one of the forms; every other one means nothing."""
+        if self.open:
+            if found := LACKS.fullmatch(text):
+                self.open.lacks.append(found.groups())
+            elif (found := ORIGIN.fullmatch(text)) and self.open.origin is None:
+                self.open.origin = Origin(*map(float, found.groups()))
+        elif found := NO_MOMENT.fullmatch(text):
+            self.silence = self.silence or found[1] or "no cause is told"
+        elif (found := CLOCK.fullmatch(text)) and self.last is None:
+            self.clock = found[1]
+        if found := NAME.fullmatch(text):
+            self.names.setdefault(*found.groups())
 
     def fault_of_form(self, word, values):
         """The code and the cause, where the line is wrong by itself."""
@@ -432,6 +468,7 @@ class Reader:
             return 9, f"moment {number} is not later than moment {self.last}"
         else:
             self.open = Moment(number, self.lines)
+            self.open.silence, self.silence = self.silence, ""
         return None
 
     def add(self, values):
@@ -476,9 +513,37 @@ def traffic_line(traffic, form):
     return ("traffic {} {} {} {} {} {} {}" + " {}" * (form == 2)).format(*traffic)
 
 
-def moment_lines(time, own, traffic, form):
-    """The lines of a moment in format 1 or 2."""
-    return [f"moment {time}", own_line(own), *(traffic_line(aircraft, form) for aircraft in traffic), "end"]
+def moment_lines(time, own, traffic, form, comments=()):
+    """The lines of a moment in format 1 or 2, with comments after its first one."""
+    return [f"moment {time}", *comments, own_line(own), *(traffic_line(aircraft, form) for aircraft in traffic), "end"]
+
+
+MOST_CAUSE, MOST_NAME = 200, 50  # characters of a cause and of a name in a comment, so that its line is never long
+
+
+def lacks_line(name, why):
+    """The comment of a moment that lacks an aircraft."""
+    return f"# lacks {name} {why[:MOST_CAUSE]}"
+
+
+def no_moment_line(why):
+    """The comment that there is no moment."""
+    return f"# no moment: {why[:MOST_CAUSE]}"
+
+
+def name_line(name, whole):
+    """The comment that tells the whole name of an aircraft."""
+    return f"# name {name} {whole[:MOST_NAME]}"
+
+
+def origin_line(lat, lon, turn):
+    """The comment of a moment that tells where its ownship is."""
+    return f"# origin {fixed(lat, 7)} {fixed(lon, 7)} {fixed(turn, 4)}"
+
+
+def fixed(number, digits):
+    """A number with so many digits after its point, never -0."""
+    return f"{round(number * 10 ** digits) / 10 ** digits:.{digits}f}"
 
 
 # A report.

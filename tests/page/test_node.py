@@ -2210,9 +2210,9 @@ class Recordings(unittest.TestCase):
         """By its name in state lines; of moments alone that are made."""
         text = ("name,time,sx,sy,sz,trk,gs,vs\nHIGH,0,0,0,70000,0,100,0\nIntruder12,0,0,0,1000,0,100,0\nown,0,0,0,0,0,100,0\nown,5,0,0,99999,0,100,0\n"
                 "own,9,0,0,0,0,100,0\nHIGH,20,0,0,1000,0,100,0\nown,20,0,0,0,0,100,0\n")
-        far, old = "left out: HIGH, out of range, or more than there may be", "left out: Intrud12, whose report is older than 10 s"
+        far, old = "left out: HIGH, out of range, {} NM away", "left out: Intrud12, no report for 20 s, 0.6 NM away"
         found = in_node([["recording", text.encode(), "own"]])[0]
-        self.assertEqual(found["missing"], [[far], [far], [old]])
+        self.assertEqual(found["missing"], [[far.format("0.0")], [far.format("0.2")], [old]])
         self.assertEqual([moment.time for _, moment in moments_in(found["states"].encode())], [0, 9, 20])
 
     def test_latitudes_past_the_pole(self):
