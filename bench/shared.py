@@ -8,22 +8,23 @@ import time
 
 TOP = os.path.dirname(os.path.dirname(os.path.realpath(__file__)))
 sys.path.insert(0, os.path.join(TOP, "tools"))
-from daidalus_files import at_least_one  # noqa: E402, F401 (tools/ is no package; the scripts take it from here)
+import builds  # noqa: E402 (tools/ is no package)
+from daidalus_files import at_least_one  # noqa: E402, F401 (the scripts take it from here)
 
 CONFIG = os.path.join(TOP, "examples", "three_levels.toml")
 TICK = 0.005  # seconds between two looks at the memory
 
 
 def built_program(named=None):
-    """The path of the program that is named, or of the repository's own, which ./daidalus proves and builds where that is due."""
+    """The path of the program that is named, or of the one that ./daidalus runs."""
     if named:
         if not shutil.which(os.path.realpath(named)):
             sys.exit(f"{sys.argv[0]}: {named} is no program that can be run")
         return os.path.realpath(named)
-    words = [os.path.join(TOP, "daidalus"), "replay", "--config", CONFIG]
-    if subprocess.run(words, stdin=subprocess.DEVNULL, stdout=subprocess.DEVNULL).returncode != 0:
+    found = builds.program()
+    if not found:
         sys.exit(f"{sys.argv[0]}: the program does not run")
-    return os.path.join(TOP, "crates", "daa_program", "out", "daa_program")
+    return found
 
 
 def write_moments(out, size, near):

@@ -11,7 +11,8 @@ TOP = os.path.dirname(os.path.dirname(HERE))
 sys.dont_write_bytecode = True
 sys.path.insert(0, os.path.join(TOP, "tools"))
 
-from daidalus_files import Moment, Reader, own_line, traffic_line  # noqa: E402 (tools/ is no package)
+import builds  # noqa: E402 (tools/ is no package)
+from daidalus_files import Moment, Reader, own_line, traffic_line  # noqa: E402
 
 DISPLAYED_SECONDS = 60  # how far velocities are drawn on a range of 6 NM or more
 EXAMPLES = os.path.join(TOP, "examples")
@@ -40,13 +41,12 @@ def bytes_of(path):
 
 @functools.cache
 def program():
-    """The built program: the one that is named, or the repository's own, which ./daidalus builds where that is due."""
+    """The program: the one that DAIDALUS_PROGRAM names, or that which ./daidalus runs."""
     named = os.environ.get("DAIDALUS_PROGRAM")
-    if named:
-        return os.path.realpath(named)
-    words = [os.path.join(TOP, "daidalus"), "replay", "--config", THREE_LEVELS]
-    subprocess.run(words, stdin=subprocess.DEVNULL, stdout=subprocess.DEVNULL, check=True)
-    return os.path.join(TOP, "crates", "daa_program", "out", "daa_program")
+    found = os.path.realpath(named) if named else builds.program()
+    if not found:
+        raise RuntimeError("there is no program to test")
+    return found
 
 
 def replayed(config, states):

@@ -11,6 +11,7 @@ import unittest
 TOP = os.path.dirname(os.path.dirname(os.path.dirname(os.path.realpath(__file__))))
 sys.dont_write_bytecode = True
 sys.path[:0] = [os.path.join(TOP, "tools"), os.path.join(TOP, "tests")]
+import builds  # noqa: E402 (the folder is no package)
 
 CONFIG = os.path.join(TOP, "examples", "three_levels.toml")
 ENCOUNTER = os.path.join(TOP, "examples", "encounter.states")
@@ -28,13 +29,12 @@ def module(path):
 
 @functools.cache
 def program():
-    """The built program: the one that is named, or the repository's own, which ./daidalus builds where that is due."""
+    """The program: the one that DAIDALUS_PROGRAM names, or that which ./daidalus runs."""
     named = os.environ.get("DAIDALUS_PROGRAM")
-    if named:
-        return os.path.realpath(named)
-    words = [os.path.join(TOP, "daidalus"), "replay", "--config", CONFIG]
-    subprocess.run(words, stdin=subprocess.DEVNULL, stdout=subprocess.DEVNULL, check=True)
-    return os.path.join(TOP, "crates", "daa_program", "out", "daa_program")
+    found = os.path.realpath(named) if named else builds.program()
+    if not found:
+        raise RuntimeError("there is no program to test")
+    return found
 
 
 def replayed(config, states):

@@ -4,8 +4,8 @@ import subprocess
 import sys
 import unittest
 
-import counting
 from common import CONFIG, ENCOUNTER, TOP, ToolTest, module, program
+import counting  # (in a folder that common names)
 
 refuse_memory = module("bench/refuse_memory")
 

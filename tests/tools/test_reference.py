@@ -1,11 +1,15 @@
 """tools/reference: worked moments, and the program on aimed moments in every kind of configuration."""
 import itertools
+import os
+import pty
 import random
+import subprocess
+import sys
 import unittest
 from fractions import Fraction
 from unittest import mock
 
-from common import CONFIG, ENCOUNTER, ToolTest, module, replayed
+from common import CONFIG, ENCOUNTER, TOP, ToolTest, module, replayed
 from daidalus_files import MODEL_KEYS, MODELS, Config, Level, Moment, Own, Reader, Traffic, config_of, examine_config, own_line, traffic_line
 from headings import SINES, sine, velocity
 
@@ -414,6 +418,18 @@ class AgainstTheProgram(ToolTest):
         status, out, said = self.tool("reference", CONFIG, self.write("in.states", states))
         self.assertEqual((status, said, out.count("done")), (0, "", 2))
         self.assertEqual(replayed(CONFIG, states)[1].decode(), out)
+
+    def test_a_terminal_shows_the_moment_at_hand(self):
+        """And is left as it was; the report is the same. (Here it is two refused lines, which take no time.)"""
+        states = self.write("in.states", b"end\nend\n")
+        ours, theirs = pty.openpty()
+        run = subprocess.run([sys.executable, "-B", os.path.join(TOP, "tools", "reference"), CONFIG, states], stdout=subprocess.PIPE, stderr=theirs, timeout=120)
+        os.close(theirs)
+        shown = os.read(ours, 4096)
+        os.close(ours)
+        erase = b"\r\x1b[K"
+        self.assertEqual(shown, erase + b"reference: moment 1 of 2" + erase + erase + b"reference: moment 2 of 2" + erase)
+        self.assertEqual((run.returncode, run.stdout.decode()), self.tool("reference", CONFIG, states)[:2])
 
     def test_refused_lines_and_errors(self):
         states = b"moment 0\nown 1 2\nown 0 0 1000 0 3600 0\nend\nend\n"

@@ -14,7 +14,8 @@ from daidalus_files import Band, encounters_of, parsed, read_report
 compare = module("tools/compare")
 
 # What is in tools/ and makes a part of the repository: no page for users names it.
-MAKERS = {"page_module", "prove"}
+MAKERS = {"build", "install", "package", "page_module", "prove"}
+IN_NODE = {"replay"}
 
 
 def tools_for_users():
@@ -408,7 +409,7 @@ class Pipes(unittest.TestCase):
             self.assertLessEqual(max(map(len, out.stdout.splitlines())), 128, tool)
 
     def test_the_list_of_tools_is_whole(self):
-        self.assertEqual(tools_for_users(), set(TOOLS))
+        self.assertEqual(tools_for_users(), {*TOOLS, *IN_NODE})
 
     def test_the_program_is_there(self):
         self.assertTrue(os.access(program(), os.X_OK))

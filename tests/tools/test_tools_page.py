@@ -10,8 +10,8 @@ import re
 import subprocess
 import unittest
 
-import counting
 from common import TOP, ToolTest, program
+import counting  # (in a folder that common names)
 from test_reports import tools_for_users
 
 PAGE = os.path.join(TOP, "docs", "TOOLS.md")
@@ -52,8 +52,8 @@ class Page(ToolTest):
         super().setUp()
         for name in LINKED:
             os.symlink(os.path.join(TOP, name), os.path.join(self.folder, name))
-        os.makedirs(os.path.join(self.folder, "crates", "daa_program", "out"))
-        os.symlink(program(), os.path.join(self.folder, "crates", "daa_program", "out", "daa_program"))
+        os.makedirs(os.path.join(self.folder, "built", "x86-64"))
+        os.symlink(program(), os.path.join(self.folder, "built", "x86-64", "daidalus"))
         script = self.write("daidalus", f'#!/bin/sh\nexec "{program()}" "$@"\n')
         os.chmod(script, 0o755)
 
