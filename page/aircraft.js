@@ -1,11 +1,12 @@
 /* Aircraft on the plan: their symbols and labels. */
 "use strict";
 (function (root) {
-  const { n, text, widthOf, edge, ink, plan, flown, vectorSeconds, within, heightTag, calledIn, isNow, UNKNOWN, rangeWords,
+  const { n, text, widthOf, edge, ink, plan, flown, vectorSeconds, within, heightTag, calledIn, isNow, isOld, UNKNOWN, rangeWords,
     answerBoxes } = daa.art;
 
-  /** The symbol of a level: an open diamond, a full diamond, a disc, a square, a square with a cross; without an answer a ring with ?. */
-  function symbol({ level, now, unknown }) {
+  /** The symbol of a level: an open diamond, a full diamond, a disc, a square, a square with a cross; without an answer a ring with ?.
+   *  That of an old report is paler, and its edge is dashed. */
+  function symbol({ level, now, unknown }, old) {
     if (unknown) return UNKNOWN_SHAPE;
     const fill = `var(--l${level}-fill)`;
     const square = `<rect x="-10" y="-10" width="20" height="20" fill="${fill}" stroke="var(--rim)" stroke-width="1.5"/>`;
@@ -14,8 +15,9 @@
       `<circle r="10" fill="${fill}" stroke="var(--rim)"/>`,
       square,
       `${square}<path d="M-10 -10l20 20M10 -10l-20 20" stroke="var(--rim)" stroke-width="2"/>`][level];
-    const ringNow = now ? `<circle r="16" fill="none" stroke="${edge(now)}" stroke-width="2" stroke-dasharray="5 3"/>` : "";
-    return ringNow + shape + (level ? text(0, 5, level, `class="level mid" font-size="14" style="fill:${ink(level)}"`) : "");
+    const ringNow = now ? `<circle r="16" fill="none" stroke="${edge(now)}" stroke-width="3"/>` : "";
+    const number = level ? text(0, 5, level, `class="level mid" font-size="14" style="fill:${ink(level)}"`) : "";
+    return ringNow + (old ? `<g class="old">${shape}</g>` : shape) + number;
   }
 
   const UNKNOWN_SHAPE = `<circle r="9" fill="var(--ground)" stroke="var(--faint)" stroke-width="2"/>`
@@ -62,13 +64,15 @@
     const matters = alert.level > 0 || isChosen;
     const first = isNow(alert) ? "now" : `${alert.first} s`;
     const words = matters || !off ? [one.id, `${tag}${off ? ` ${n(miles)} NM` : ""}`] : [one.id];
+    const told = words.length; // the row of the alert
     if (alert.level) words.push(`L${alert.level} ${first}`);
+    if (isOld(one)) words.push(`${one.age} s old`);
     const line = Math.round(f * 1.15);
     const wide = Math.max(...words.map((it) => widthOf(it, f))) + 2;
     const spot = labels.place(shown, wide, line * words.length, alert.now ? 17 : 11, matters);
     if (!matters && !spot.free) return null;
     labels.take(shown, spot);
-    return { ...spot, words, line };
+    return { ...spot, words, told, line };
   }
 
   function drawLabel(g, { label, shown, alert }) {
@@ -82,7 +86,7 @@
       out += `<path d="M0 0L${n(to.x - shown.x)} ${n(to.y - shown.y)}" stroke="${stroke}" stroke-dasharray="${alert.level ? "3 2" : "1 2"}"/>`;
     }
     label.words.forEach((words, row) => {
-      const style = row === 2 ? `style="fill:${edge(alert.level)};font-weight:bold"` : row === 0 ? 'font-weight="bold"' : "";
+      const style = row === label.told && alert.level ? `style="fill:${edge(alert.level)};font-weight:bold"` : row === 0 ? 'font-weight="bold"' : "";
       out += text(x, label.y - shown.y + label.line * (row + 0.8), words, `class="halo ${anchor}" font-size="${g.font}" ${style}`);
     });
     return out;

@@ -65,8 +65,9 @@
 .small{fill:var(--faint)}.mid{text-anchor:middle}.end{text-anchor:end}.bold{font-weight:bold}
 .value{font-weight:bold}.open{fill:var(--open);font-weight:bold}.none{fill:var(--bad);font-weight:bold}
 .recover{fill:var(--recover);font-weight:bold}.last{fill:var(--ink)}
-.halo{paint-order:stroke;stroke:var(--ground);stroke-width:4px;stroke-linejoin:round}.level{font-weight:bold}
-.handle{cursor:grab}.handle:focus{outline:none}.focus{fill:none;stroke:var(--focus);stroke-width:2;stroke-dasharray:2 2;opacity:0}
+.halo{paint-order:stroke;stroke:var(--ground);stroke-width:4px;stroke-linejoin:round}.level{font-weight:bold}.old{opacity:.5;stroke-dasharray:3 2}
+.handle{cursor:grab}.handle:focus{outline:none}.focus{fill:none;stroke:var(--focus);stroke-width:2;opacity:0}
+circle.focus{stroke-dasharray:50 50;stroke-dashoffset:25}
 .handle:focus-visible .focus,.chosen .focus{opacity:1}.grip{fill:transparent}`;
 
   function badge(g, x, y, level) {

@@ -27,12 +27,24 @@
     return all;
   }
 
+  const OWN_RADIUS = 19; // of the ownship's symbol, with room round it
+  const LEAST_OWN = 0.6; // so small it may become
+
+  /** How wide the horizontal threshold of the corrective level is, in points. */
+  const threshold = ({ g, range }, { resolve, levels }) => (levels[resolve - 1].dthr / 1000 / range) * g.radius;
+
+  /** How large the ownship's symbol is drawn: where the threshold's circle is small, so that it stands within it. */
+  const ownSize = (view, config) => {
+    const share = threshold(view, config) / OWN_RADIUS;
+    return share < LEAST_OWN ? 1 : Math.min(share, 1);
+  };
+
   function rose(view) {
     const { g } = view;
     const { x, y } = g.centre;
     let out = `<circle cx="${n(x)}" cy="${n(y)}" r="${n(g.outer)}" fill="var(--disc)" stroke="var(--line)"/>`;
     for (const share of [1 / 3, 2 / 3]) {
-      out += `<circle cx="${n(x)}" cy="${n(y)}" r="${n(g.radius * share)}" fill="none" stroke="var(--line)" stroke-dasharray="3 5"/>`;
+      out += `<circle cx="${n(x)}" cy="${n(y)}" r="${n(g.radius * share)}" fill="none" stroke="var(--line)"/>`;
     }
     return out;
   }
@@ -126,11 +138,10 @@
       out += `<circle cx="${n(p.x)}" cy="${n(p.y)}" r="2.2" fill="var(--${own ? "own" : "ink"})" opacity="${n(share)}"/>`;
     }
     const own = plan(view, model.own.x, model.own.y);
-    const { resolve, levels } = model.config;
-    const r = (levels[resolve - 1].dthr / 1000 / view.range) * g.radius;
-    if (r > 4 && r < g.radius) {
-      out += `<circle cx="${n(own.x)}" cy="${n(own.y)}" r="${n(r)}" fill="none" stroke="var(--own)" stroke-dasharray="2 4">`
-        + `<title>dthr of level ${resolve}</title></circle>`;
+    const r = threshold(view, model.config);
+    if (r > OWN_RADIUS * LEAST_OWN && r < g.radius) {
+      out += `<circle cx="${n(own.x)}" cy="${n(own.y)}" r="${n(r)}" fill="none" stroke="var(--own)" stroke-width="1.5" stroke-dasharray="5 4">`
+        + `<title>dthr of level ${model.config.resolve}</title></circle>`;
     }
     const shown = ({ words, p }) => text(p.x, p.y + g.font * 0.36, words, `class="small mid halo" font-size="${g.font - 1}"`);
     return out + rangeWords(view, model).map(shown).join("");
@@ -152,5 +163,5 @@
     });
   }
 
-  Object.assign(daa.art, { rose, ring, trails, rangeWords, answerBoxes });
+  Object.assign(daa.art, { rose, ring, trails, rangeWords, answerBoxes, ownSize });
 })(globalThis);

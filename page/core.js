@@ -39,6 +39,7 @@ function daaCore(root) {
 
   const ENDED = -1; // what daa_line returns where the line ended the moment
   const LINE_FEED = 10;
+  const [BLANK, TABULATOR, NUMBER_SIGN] = [32, 9, 35];
   const OPEN_AT_THE_END = 14;
 
   const CAUSES = {
@@ -68,10 +69,25 @@ function daaCore(root) {
   /** The engine stopped in a call, as no call should; it has been made anew since. */
   class Stopped extends Error {}
 
+  /** A line that is a comment of a moment, as docs/FORMATS.md has them: whom it lacks, or where it is. */
+  function commentIn(line) {
+    if (line[line.findIndex((byte) => byte !== BLANK && byte !== TABULATOR)] !== NUMBER_SIGN) return [];
+    const text = new TextDecoder().decode(line).trim();
+    return /^#[ \t]+(lacks|origin)[ \t]/.test(text) ? [text] : [];
+  }
+
+  /** Whom a moment lacks, and why, by its comments `# lacks ID WHY`. */
+  function lacksOf({ comments = [] }) {
+    return comments.map((text) => /^#[ \t]+lacks[ \t]+(\S+)[ \t]*(.*)$/.exec(text)).filter(Boolean).map(([, id, why]) => ({ id, why }));
+  }
+
+  const compiled = new WeakMap(); // by the bytes of a module, which several engines of a page have in common
+
   class Engine {
     /** An engine over the bytes of a module. */
     static async open(bytes) {
-      return new Engine(await WebAssembly.compile(bytes), bytes.length);
+      if (!compiled.has(bytes)) compiled.set(bytes, WebAssembly.compile(bytes));
+      return new Engine(await compiled.get(bytes), bytes.length);
     }
 
     constructor(module, size) {
@@ -158,17 +174,22 @@ function daaCore(root) {
     // ---- state lines
 
     /** The ended moments and the refused lines of state lines, of bytes, in their order. What a line says, or why it is
-     *  refused, is the engine's answer; here the text is only cut at its line feeds. */
+     *  refused, is the engine's answer; here the text is only cut at its line feeds, and comments are read. */
     readStates(bytes) {
       const events = [];
       let number = 0;
+      let comments = []; // those of the open moment that mean something
       this.bytes.fill(0, this.places.lines, this.places.lines + SIZES.lines);
       for (let start = 0; start < bytes.length; number++) {
         const feed = bytes.indexOf(LINE_FEED, start);
         const end = feed < 0 ? bytes.length : feed;
-        const code = this.takeLine(bytes.subarray(start, Math.min(end, start + LONGEST_LINE)));
-        if (code === ENDED) events.push({ moment: this.takenMoment() });
+        const line = bytes.subarray(start, Math.min(end, start + LONGEST_LINE));
+        const wasOpen = this.lineNumber("opened");
+        const code = this.takeLine(line);
+        if (code === ENDED) events.push({ moment: { ...this.takenMoment(), comments } });
         else if (code) events.push({ refused: number + 1, code });
+        if (!wasOpen || code === ENDED) comments = [];
+        else comments.push(...commentIn(line));
         start = end + 1;
       }
       if (this.lineNumber("opened")) events.push({ refused: number + 1, code: OPEN_AT_THE_END });
@@ -281,6 +302,6 @@ function daaCore(root) {
   const bytesOf = (text) => new TextEncoder().encode(text);
 
   root.daa = Object.assign(root.daa || {}, { Engine, Config, Refused, Stopped, TOP, GRID, LEVEL, RECOVERY, OPTIONAL, KINDS, CAUSES,
-    MOST_AIRCRAFT, readReport, bytesOf });
+    MOST_AIRCRAFT, readReport, bytesOf, lacksOf });
 }
 daaCore(globalThis);

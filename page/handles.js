@@ -1,11 +1,11 @@
 /* What can be taken hold of on a display: each with its key, where it is, what it shows and how it is told. */
 "use strict";
 (function (root) {
-  const { n, text, fitted, edge, at, plan, flown, vectorSeconds, within, wordsOfHeight, nameOf, symbol, OWN_SHAPE, sighted,
+  const { n, text, fitted, edge, at, plan, flown, vectorSeconds, within, wordsOfHeight, nameOf, symbol, OWN_SHAPE, ownSize, isOld, sighted,
     labelled, drawLabel, scaleOf, TAPES, TAPE_KINDS, shownValue } = daa.art;
 
   const grip = (r) => `<circle class="grip" r="${r}"/>`;
-  const focusRing = (r) => `<circle class="focus" r="${r}"/>`;
+  const focusRing = (r) => `<circle class="focus" r="${r}" pathLength="400"/>`; // four arcs, so that it is no other circle
 
   function handles(view, model) {
     const all = model.traffic.map((one, place) => sighted(view, model, one, place));
@@ -28,14 +28,24 @@
   function aircraftHandle(view, it) {
     const { one, alert, off, shown, end, miles, tag, called } = it;
     const line = off ? "" : `<path d="M0 0L${n(end.x - shown.x)} ${n(end.y - shown.y)}" stroke="${strokeOf(alert.level)}" stroke-width="2"/>`;
-    const mark = symbol(alert);
+    const mark = symbol(alert, isOld(one));
+    const back = off || !isOld(one) ? "" : wayBack(view, it);
     const told = alert.unknown ? "no answer" : alert.level ? `alert level ${alert.level} in ${alert.first} seconds` : "no alert";
-    const value = `${n(miles)} NM away, ${wordsOfHeight(tag)}, ${told}${alert.now ? `, level ${alert.now} now` : ""}`;
+    const old = isOld(one) ? `, its report is ${one.age} seconds old` : "";
+    const value = `${n(miles)} NM away, ${wordsOfHeight(tag)}, ${told}${alert.now ? `, level ${alert.now} now` : ""}${old}`;
+    const shape = off ? `<g opacity=".7" transform="scale(.8)">${mark}</g>` : mark;
     return { key: `p:${called}`, x: shown.x, y: shown.y, label: nameOf(one), number: n(miles), value, level: alert.level,
-      inside: `${focusRing(20)}${line}${off ? `<g opacity=".7" transform="scale(.8)">${mark}</g>` : mark}${drawLabel(view.g, it)}${grip(15)}` };
+      inside: focusRing(20) + back + line + shape + drawLabel(view.g, it) + grip(15) };
   }
 
-  function ownHandles(view, { own }) {
+  /** The dotted way from where an old report was made to where the aircraft is taken to be. */
+  function wayBack(view, { one, p, shown, alert }) {
+    const end = within(view.g, p, plan(view, one.x, one.y));
+    return `<path class="way-back" d="M${n(end.x - shown.x)} ${n(end.y - shown.y)}L0 0" stroke="${strokeOf(alert.level)}" stroke-dasharray="1 4"`
+      + ' stroke-linecap="round" stroke-width="2"/>';
+  }
+
+  function ownHandles(view, { own, config }) {
     const p = plan(view, own.x, own.y);
     const ahead = flown(own, vectorSeconds(view));
     const tip = plan(view, ahead.x, ahead.y);
@@ -48,7 +58,7 @@
     }
     made.push({ key: "p:", x: p.x, y: p.y, label: "ownship", number: 0, value: `east ${n(own.x / 1000)}, north ${n(own.y / 1000)} NM`,
       inside: `${focusRing(23)}<path d="M0 0L${n(end.x - p.x)} ${n(end.y - p.y)}" stroke="var(--own)" stroke-width="2"/>`
-        + `<g transform="rotate(${n(own.trk - view.up)})">${OWN_SHAPE}</g>${grip(17)}` });
+        + `<g transform="rotate(${n(own.trk - view.up)}) scale(${n(ownSize(view, config))})">${OWN_SHAPE}</g>${grip(17)}` });
     return made;
   }
 

@@ -2,10 +2,11 @@
 "use strict";
 (function () {
   const { ui } = daa;
-  const { Engine, Refused, Desk, MODELS, VIEW_HEIGHTS, draw, bytesOf } = daa;
+  const { Engine, Refused, Desk, MODELS, VIEW_HEIGHTS, clamp, draw, bytesOf } = daa;
   const { $, RANGES_NM, state, setText, setHtml, fill, download, changed, faultOf, lookOf, modelOf, survey, go, pause,
     fitting, chip } = ui;
   const PICTURE = { width: 1240, height: 760 };
+  const FROM_A_LINK = "opened from a link, which holds this one moment";
   const MOST_NOTES = 5; // so many of the things that a moment lacks are told one by one
   const MISSING = "This page needs a browser with 64-bit WebAssembly memory: Chrome, Edge or Chromium from version 133 on, or "
     + "Firefox from 134 on. The engine is compiled for it, and this browser cannot run it, so nothing is shown.";
@@ -95,8 +96,11 @@
     return `${things.slice(0, MOST_NOTES).join("; ")}; ${things.length - MOST_NOTES} more ${rest}`;
   }
 
-  /** Takes a text of states, what is told of it and what its moments lack; whether it has a moment. */
-  function loadStates(bytes, name, told = [], lacks = []) {
+  /** What a moment's comments say that it lacks, in words. */
+  const wordsOfLacks = (moment) => daa.lacksOf(moment).map(({ id, why }) => `without ${id === "*" ? "" : `${id}: `}${why}`);
+
+  /** Takes a text of states, what is told of it and what else its moments lack; whether it has a moment. */
+  function loadStates(bytes, name, told = [], more = "") {
     const events = state.engine.readStates(bytes);
     const moments = events.filter((it) => it.moment).map((it) => it.moment);
     if (!moments.length) {
@@ -111,9 +115,10 @@
     }
     const count = events.length - moments.length;
     if (count) told = [...told, `${name}: ${count} ${count === 1 ? "line was" : "lines were"} refused`];
-    lacks = refused.map((lines, index) => [wordsOfLack(lines, "were refused before this moment"), lacks[index]].filter(Boolean).join("; "));
+    const faults = moments.map((_, index) => [wordsOfLack(refused[index], "were refused before this moment"), more].filter(Boolean).join("; "));
+    const lacks = moments.map((moment, index) => [faults[index], wordsOfLack(wordsOfLacks(moment), "are missing")].filter(Boolean).join("; "));
     pause();
-    Object.assign(state, { moments, name, told, lacks, index: 0, chosen: "p:", unfolded: false, untaken: "" });
+    Object.assign(state, { moments, name, told, lacks, faults, index: 0, chosen: "p:", unfolded: false, untaken: "" });
     $("slider").max = moments.length - 1;
     for (const view of state.views) view.look.range = fitting(moments);
     survey();
@@ -121,14 +126,21 @@
     return true;
   }
 
-  /** Takes a recording, seen from one of its aircraft; whether it has a moment. */
-  function loadRecording(text, name, own = null) {
+  const oldest = () => {
+    const typed = $("oldest").value;
+    return typed === "" ? daa.OLDEST : clamp(Math.round(Number(typed)) || 0, 0, daa.MOST_AGE);
+  };
+
+  /** Takes a recording of some files, seen from one of its aircraft; whether it has a moment. */
+  function loadRecording(files, own = null) {
+    const name = files.map((file) => file.name).join(", ");
     try {
-      const { states, names, notes, missing } = daa.fromRecording(text, own);
-      state.recording = { text, name, own: names.includes(own) ? own : names[0] };
-      fill($("own"), names);
-      $("own").value = state.recording.own;
-      return loadStates(bytesOf(states), name, notes, missing.map((some) => wordsOfLack(some, "are left out of this moment")));
+      const made = daa.fromRecording(files, { own, oldest: oldest() });
+      const seen = made.names.length > 1 ? [`seen from ${made.own}${made.own === own ? "" : ", which is taken as the ownship"}`] : [];
+      state.recording = { files, own: made.own };
+      fill($("own"), made.names);
+      $("own").value = made.own;
+      return loadStates(bytesOf(made.states), name, [made.alone, ...seen, ...made.notes].filter(Boolean), made.alone);
     } catch (problem) {
       if (!(problem instanceof daa.NoRecording)) throw problem;
       tell(`${name}: ${problem.message}`);
@@ -136,12 +148,23 @@
     }
   }
 
-  /** Takes a text of states or of a recording; whether it has a moment. */
-  function load(bytes, name) {
-    const text = new TextDecoder().decode(bytes);
-    const isRecording = daa.isRecording(text);
-    const isTaken = isRecording ? loadRecording(text, name) : loadStates(bytes, name);
-    if (isTaken) $("own-label").hidden = !isRecording;
+  /** Takes texts of states or of recordings; whether there is a moment. All recordings are one; of several files of states the first that
+   *  has a moment is taken, and of both kinds the recordings. The others are told. */
+  function load(files) {
+    const read = files.map(({ name, bytes }) => ({ name, bytes, text: new TextDecoder().decode(bytes) }));
+    const recordings = read.filter(({ text }) => daa.isRecording(text));
+    const untaken = [];
+    const left = recordings.length ? read.filter((file) => !recordings.includes(file)) : [...read];
+    let isTaken = recordings.length > 0 && loadRecording(recordings);
+    if (recordings.length && !isTaken) untaken.push(state.untaken);
+    while (!recordings.length && !isTaken && left.length) {
+      const { bytes, name } = left.shift();
+      isTaken = loadStates(bytes, name);
+      if (!isTaken) untaken.push(state.untaken);
+    }
+    if (isTaken) $("own-label").hidden = $("oldest-label").hidden = !recordings.length;
+    if (left.length) untaken.push(`not shown: ${left.map(({ name }) => name).join(", ")} (one file of state lines, or recordings, at a time)`);
+    tell(untaken.join("; "));
     return isTaken;
   }
 
@@ -159,7 +182,7 @@
     const { config, states } = daa.examples.encounters[name];
     opened += 1;
     configure(0, daa.examples.configs[config], config);
-    load(bytesOf(daa.examples.files[states]), states);
+    load([{ name: states, bytes: bytesOf(daa.examples.files[states]) }]);
     showConfig();
   }
 
@@ -167,25 +190,27 @@
     if (!files.length) return; // as where a piece of text was dropped
     const mine = ++opened;
     const isConfig = (file) => /\.toml$/i.test(file.name);
-    const untaken = [];
-    let isSomeTaken = false;
-    for (const file of [...files].sort((a, b) => isConfig(b) - isConfig(a))) {
-      tell("");
-      const bytes = await file.arrayBuffer().then((buffer) => new Uint8Array(buffer), () => null);
-      if (mine !== opened) return;
-      if (!bytes) tell(`${file.name} cannot be read`); // as a folder
-      else if (isConfig(file) ? loadConfig(bytes, file.name) : load(bytes, file.name)) isSomeTaken = true;
-      if (state.untaken) untaken.push(state.untaken);
-    }
-    tell(untaken.join("; ")); // also where another file was taken after it
-    if (isSomeTaken) $("example").value = "";
+    const read = await Promise.all([...files].map(async (file) => ({ name: file.name, isConfig: isConfig(file),
+      bytes: await file.arrayBuffer().then((buffer) => new Uint8Array(buffer), () => null) })));
+    if (mine !== opened) return;
+    const unread = read.filter(({ bytes }) => !bytes).map(({ name }) => `${name} cannot be read`); // as a folder
+    const whole = read.filter(({ bytes }) => bytes);
+    tell("");
+    const taken = whole.filter((it) => it.isConfig).map(({ bytes, name }) => loadConfig(bytes, name));
+    const flights = whole.filter((it) => !it.isConfig);
+    if (flights.length) taken.push(load(flights));
+    tell([...unread, state.untaken].filter(Boolean).join("; "));
+    if (taken.some(Boolean)) $("example").value = "";
   }
 
   $("example").addEventListener("change", ({ target }) => takeExample(target.value));
   $("own").addEventListener("change", ({ target }) => {
-    const { text, name } = state.recording;
-    loadRecording(text, name, target.value);
+    loadRecording(state.recording.files, target.value);
     $("own").value = state.recording.own; // the one before, where none can be seen from this one
+  });
+  $("oldest").addEventListener("change", ({ target }) => {
+    target.value = oldest();
+    if (state.recording) loadRecording(state.recording.files, state.recording.own);
   });
   $("file").addEventListener("change", async ({ target }) => {
     await takeFiles(target.files);
@@ -204,8 +229,8 @@
   function linked() {
     const configs = state.views.map(({ name, taken }) => ({ name, toml: taken }));
     const { note: name } = modelOf(state.views[0]); // of a moment that was changed by hand no name of a recording
-    const { told, lacks, index, compare } = state;
-    return { states: daa.stateLines([state.current]), name, told, lacks: lacks[index], configs, look: state.views.map(({ look }) => look), compare };
+    const { told, faults, index, compare } = state; // what comments say stands in the state lines
+    return { states: daa.stateLines([state.current]), name, told, lacks: faults[index], configs, look: state.views.map(({ look }) => look), compare };
   }
 
   /** Whether a link's value has the form of what `linked` makes. */
@@ -226,7 +251,8 @@
     }
     const told = Array.isArray(held.told) ? held.told.map(String) : [];
     opened += 1;
-    if (!loadStates(bytesOf(String(held.states)), String(held.name), told, [String(held.lacks ?? "")])) return false;
+    if (!loadStates(bytesOf(String(held.states)), String(held.name), told, String(held.lacks ?? ""))) return false;
+    if (!told.includes(FROM_A_LINK)) state.told = [FROM_A_LINK, ...told];
     state.hash = hash;
     held.configs.forEach(({ name, toml }, place) => configure(place, String(toml), String(name)));
     held.look.forEach(({ trackUp, range, heights }, place) => Object.assign(state.views[place].look, { trackUp: Boolean(trackUp),
@@ -234,7 +260,7 @@
     state.compare = Boolean(held.compare);
     $("compare").checked = state.compare;
     $("example").value = "";
-    $("own-label").hidden = true;
+    $("own-label").hidden = $("oldest-label").hidden = true;
     showConfig();
     return true;
   }
@@ -244,12 +270,14 @@
     const held = linked();
     const [{ moment }] = state.engine.readStates(bytesOf(held.states));
     if (JSON.stringify(moment) !== JSON.stringify(state.current)) return `No link: ${faultOf(state.views[0])}`;
-    state.hash = `#${await daa.pack(held)}`;
-    location.hash = state.hash;
+    const packed = await daa.pack(held);
+    if (!packed) return "No link: it would be too long";
     try {
-      await navigator.clipboard.writeText(location.href);
-      return "Copied";
+      await navigator.clipboard.writeText(`${location.href.replace(/#.*$/s, "")}#${packed}`);
+      return "Copied"; // the address stays: what is loaded anew from there would be this one moment, and no recording
     } catch {
+      state.hash = `#${packed}`;
+      history.replaceState(null, "", state.hash); // no step of the browser's history
       return "In the address line";
     }
   }

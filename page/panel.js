@@ -2,9 +2,9 @@
 "use strict";
 (function () {
   const { ui } = daa;
-  const { KINDS, SIDES, clamp, wrap, flown, escape, shownWords, calledIn, isNow } = daa;
+  const { KINDS, SIDES, clamp, wrap, flown, escape, shownWords, calledIn, isNow, isOld } = daa;
   const { $, LIMITS, OWN_FIELDS, FIELDS, state, within, shownViews, setText, setHtml, download, changed, saidOf, faultOf, edited, choose,
-    aircraftOf } = ui;
+    aircraftOf, lackOf } = ui;
   const MOST_QUIET = 5; // so many aircraft without an alert are listed before they are folded
   const MOST_TYPED = 1e6; // out of the range of each number, and within the engine's
 
@@ -40,9 +40,12 @@
     return `<td><button type="button" data-choose="${escape(called)}" aria-pressed="${isChosen}">${escape(words)}</button></td>`;
   }
 
+  const wordsOfAge = (one) => (isOld(one) ? ` <small>report ${one.age}\u00a0s old</small>` : "");
+
   function rowHtml({ one, alert, miles, bearing, above }, chosen) {
     const sign = above > 0 ? "+" : above < 0 ? "−" : "";
-    return `<tr class="${one === chosen ? "chosen" : ""}">${choiceHtml(one.id || "(no name)", one === chosen, one)}<td>${wordsOfAlert(alert)}</td>`
+    const button = choiceHtml(one.id || "(no name)", one === chosen, one);
+    return `<tr class="${one === chosen ? "chosen" : ""}">${button}<td>${wordsOfAlert(alert)}${wordsOfAge(one)}</td>`
       + `<td>${miles.toFixed(2)}</td><td>${String(bearing).padStart(3, "0")}</td><td>${sign}${Math.abs(above)}</td></tr>`;
   }
 
@@ -196,18 +199,22 @@
     const said = saidOf(state.views[0]);
     const under = state.compare ? `Under ${state.views[0].name}: ` : ""; // as the table and the strip, it is the first display's alone
     $("summary").setAttribute("aria-busy", String(Boolean(state.held || state.playing)));
-    setText($("summary"), under + (said ? summaryOf(said) : faultOf(state.views[0])));
+    setText($("summary"), under + (said ? summaryOf(said, lackOf(state.index)) : faultOf(state.views[0])));
   }
 
-  function summaryOf(said) {
+  /** A report in a sentence. Where the moment lacks something, that comes first; and that the flight may be kept is said only of a
+   *  moment that lacks nothing and has an aircraft: of what is not known nothing is clear. */
+  function summaryOf(said, lack) {
     const loud = said.aircraft.filter((one) => one.level).sort((a, b) => b.level - a.level || a.first - b.first);
     const alerts = loud.slice(0, 4).map((one) => `${one.id} level ${one.level} ${isNow(one) ? "now" : `in ${one.first} s`}`);
     if (loud.length > 4) alerts.push(`${loud.length - 4} more`);
     const [open, back, none, last] = [[], [], [], []];
     for (const kind of KINDS) sortAnswers(said, kind, open, back, none, last);
     const list = (front, parts, mark = "; ") => (parts.length ? `${front}${parts.join(mark)}. ` : "");
-    const kept = open.length + back.length + none.length === 0 ? "The present flight may be kept. " : "";
-    const front = alerts.length ? list("Alerts: ", alerts, ", ") : "No alert. ";
+    const isKept = open.length + back.length + none.length === 0 && !lack && said.aircraft.length > 0;
+    const quiet = !said.aircraft.length ? "No other aircraft is known. " : lack ? "No alert of those that are known. " : "No alert. ";
+    const front = (lack ? `Incomplete: ${lack}. ` : "") + (alerts.length ? list("Alerts: ", alerts, ", ") : quiet);
+    const kept = isKept ? "The present flight may be kept. " : "";
     return (front + kept + list("Open: ", open) + list("Clear again: ", back) + list("Nothing open: ", none, ", ")
       + list("May wait: ", last)).trim();
   }

@@ -131,10 +131,14 @@
   /** Whether an alert's level is violated as the moment begins, and not only within its first second. */
   const isNow = ({ level, now, first }) => first === 0 && now >= level;
 
+  /** From how many seconds on a report is old: it is drawn so, and its label tells its age. */
+  const OLD = 5;
+  const isOld = ({ age }) => age >= OLD;
+
   /** What is said of an aircraft while there is no answer. */
   const UNKNOWN = { level: 0, now: 0, first: null, unknown: true };
 
   Object.assign(daa.art, { geometryOf, at, plan, velocity, flown, vectorSeconds, within, heightTag, wordsOfHeight, nameOf,
-    calledIn, isNow, UNKNOWN });
-  Object.assign(root.daa, { unplan, flown, vectorSeconds, heightTag, calledIn, nameOf, isNow });
+    calledIn, isNow, isOld, UNKNOWN });
+  Object.assign(root.daa, { unplan, flown, vectorSeconds, heightTag, calledIn, nameOf, isNow, isOld });
 })(globalThis);

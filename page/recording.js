@@ -33,7 +33,8 @@ function daaRecording(root) {
   const FASTEST = 10000;
   const GREATEST = 1e15; // of a recording's numbers: what is farther from 0 is refused
   const OLDEST = 10; // s: as tools/from_daa has it where nothing else is asked
-  const MOST_AGE = 60;
+  const MOST_AGE = 60; // s: more cannot be asked for
+  const HOUR = 3600; // s
   const LAST_SECOND = 4294967295;
   const MOST_LATITUDE = 90;
   const FARTHEST_OWN = 100; // NM: an ownship that is farther from where it began is put at 0 0
@@ -70,7 +71,6 @@ function daaRecording(root) {
 
   // ---- reading
 
-  const TOO_OLD = `whose report is older than ${OLDEST} s`;
   const FAR_OR_MANY = "out of range, or more than there may be";
   const COMMA = ": a decimal comma? Write a point";
   const UNSEEN = ": between blanks no empty field is seen (write commas)";
@@ -238,8 +238,8 @@ function daaRecording(root) {
 
   /** Makes moments of rows. */
   class Maker {
-    constructor(rows, onEarth) {
-      Object.assign(this, { rows, onEarth, ids: identifiers([...new Set(rows.map((row) => row.name))]), leftOut: new Map(), far: 0 });
+    constructor(rows, onEarth, oldest) {
+      Object.assign(this, { rows, onEarth, oldest, ids: identifiers([...new Set(rows.map((row) => row.name))]), leftOut: new Map(), far: 0 });
     }
 
     /** Counts what is left out: a thing by its name, and why. */
@@ -296,8 +296,8 @@ function daaRecording(root) {
           if (own) {
             silence = silence || (made.length ? silenceOf(steps, made[made.length - 1].time, time) : "");
             const comments = this.onEarth ? [`# origin ${fixed(row.place[0], 7)} ${fixed(row.place[1], 7)} ${fixed(angle / EARTH, 4)}`] : [];
-            const { traffic, missing, lacks } = this.trafficAt(row, own, angle, latest);
-            made.push({ time, own, traffic, missing, silence, comments: [...lacks, ...comments] });
+            const { traffic, lacks } = this.trafficAt(row, own, angle, latest);
+            made.push({ time, own, traffic, silence, comments: [...lacks, ...comments] });
             silence = "";
           } else {
             this.leaveOut("moment", "whose ownship is out of range");
@@ -323,25 +323,24 @@ function daaRecording(root) {
     /** The nearest aircraft, as many as there may be, in the order in which the recording first has them; and in words those that are
      *  missing, the nearest one first. */
     trafficAt(ownRow, own, angle, latest) {
-      const [found, missing, lacking] = [new Map(), [], []];
+      const [found, lacking] = [new Map(), []];
       const near = [...latest.values()].map((row) => [this.distance(row, ownRow), row]).sort(([one], [other]) => one - other);
       for (const [far, row] of near) {
         const late = ownRow.time - row.time;
-        const isOld = late > OLDEST + ROUNDING;
+        const isOld = late > this.oldest + ROUNDING;
         const made = isOld || found.size === daa.MOST_AIRCRAFT ? null : this.trafficOf(row, ownRow, own, angle);
         if (made) {
           found.set(row.name, made);
           continue;
         }
-        this.leaveOut("aircraft", `${isOld ? TOO_OLD : FAR_OR_MANY}, in a moment`);
+        this.leaveOut("aircraft", `${isOld ? `whose report is older than ${this.oldest} s` : FAR_OR_MANY}, in a moment`);
         const many64 = found.size === daa.MOST_AIRCRAFT ? `more than ${daa.MOST_AIRCRAFT} aircraft` : "out of range";
         const why = `${isOld ? `no report for ${wholeSecond(late)} s` : many64}, ${fixed(far, 1)} NM away`;
         if (far > NEAR || late > FORGOTTEN + ROUNDING) continue;
-        missing.push(`left out: ${this.ids.get(row.name)}, ${why}`);
         lacking.push(`# lacks ${this.ids.get(row.name)} ${why}`);
       }
       const lacks = lacking.length > MOST_LACKS ? [...lacking.slice(0, MOST_LACKS), `# lacks * ${lacking.length - MOST_LACKS} more`] : lacking;
-      return { traffic: [...latest.keys()].filter((name) => found.has(name)).map((name) => found.get(name)), missing, lacks };
+      return { traffic: [...latest.keys()].filter((name) => found.has(name)).map((name) => found.get(name)), lacks };
     }
   }
 
@@ -376,12 +375,14 @@ function daaRecording(root) {
   }
 
   /** The state lines of a recording, seen from an aircraft of it (the first where none is named), its names, what is to be told, and
-   *  who is missing in each moment. */
-  function fromRecording(text, ownName = null) {
-    const { rows, onEarth, notes } = readRows(text);
+   *  why no traffic is known in any moment, or nothing. Several files are one recording, of which each may have a header of its own.
+   *  No report is older than `oldest` seconds. */
+  function fromRecording(files, { own: ownName = null, oldest = OLDEST } = {}) {
+    const { rows, onEarth, notes } = readFiles(files);
     const names = [...new Set(rows.map((row) => row.name))];
-    const maker = new Maker(rows, onEarth);
-    const own = names.includes(ownName) ? ownName : names[0];
+    const maker = new Maker(rows, onEarth, oldest);
+    const own = names.includes(ownName) ? ownName : ownOf(names, files.length);
+    if (files.length > 1) notes.unshift(`${files.length} files are one recording: ${files.map(({ name }) => name).join(", ")}`);
     const times = rows.filter((row) => row.name === own).map((row) => row.time);
     const fall = times.findIndex((time, place) => time < times[place - 1]);
     if (fall > 0) {
@@ -396,7 +397,43 @@ function daaRecording(root) {
     for (const [count, what, why] of maker.leftOut.values()) notes.push(`left out: ${many(count, what)} ${why}`);
     if (maker.far) notes.push(`${many(maker.far, "moment")} with the ownship at 0 0, more than ${FARTHEST_OWN} NM from where it began`);
     if (!moments.length) fail(`no moment is left; ${notes.join("; ")}`);
-    return { states: stateLines(moments, maker.wholeNames(own)), names, notes, missing: moments.map((moment) => moment.missing) };
+    const isAlone = moments.every(({ traffic, comments }) => !traffic.length && !comments.some((text) => text.startsWith("# lacks")));
+    return { states: stateLines(moments, maker.wholeNames(own)), names, own, notes, alone: isAlone ? whyAlone(rows, own) : "" };
+  }
+
+  /** The rows of all files; each tells of itself, by its name where there are several. */
+  function readFiles(files) {
+    const read = files.map(({ name, text }) => {
+      const front = files.length > 1 ? `${name}: ` : "";
+      try {
+        const { rows, onEarth, notes } = readRows(text);
+        return { name, rows, onEarth, notes: notes.map((note) => front + note) };
+      } catch (problem) {
+        if (problem instanceof NoRecording) fail(front + problem.message);
+        throw problem;
+      }
+    });
+    const [{ name, onEarth }] = read;
+    const other = read.find((it) => it.onEarth !== onEarth);
+    if (other) fail(`${other.name} and ${name} are no one recording: one has latitudes and longitudes, the other places on a plane`);
+    return { rows: read.flatMap((it) => it.rows), onEarth, notes: read.flatMap((it) => it.notes) };
+  }
+
+  /** The ownship where none is named: the first aircraft; of several files, whose order means nothing, the first that is called own.. */
+  const ownOf = (names, files) => (files > 1 && names.find((name) => /^own/i.test(name))) || names[0];
+
+  /** Why no report of traffic falls into the time of the ownship, and by what shift it would: whole hours, where some do, since clocks
+   *  often differ by a time zone. */
+  function whyAlone(rows, own) {
+    const span = (some) => some.reduce(([first, last], { time }) => [Math.min(first, time), Math.max(last, time)], [Infinity, -Infinity]);
+    const others = rows.filter((row) => row.name !== own);
+    if (!others.length) return "no other aircraft: the recording has reports of the ownship alone";
+    const [[first, last], [from, upto]] = [span(rows.filter((row) => row.name === own)), span(others)];
+    if (from <= last && upto >= first) return "no other aircraft was near enough at any time of the ownship's";
+    const hours = HOUR * (from > last ? Math.floor((last - from) / HOUR) : Math.ceil((first - upto) / HOUR));
+    const shift = from + hours <= last && upto + hours >= first ? hours : first - from;
+    return `no report of another aircraft falls into the ownship's time, ${shownTime(first)} to ${shownTime(last)} s: theirs are from `
+      + `${shownTime(from)} to ${shownTime(upto)} s, and ${shownTime(Math.abs(shift))} s ${shift < 0 ? "less" : "more"} would bring them there`;
   }
 
   /** Whether a text looks like a recording: its first line with fields names columns. */
@@ -406,6 +443,6 @@ function daaRecording(root) {
     return ["name", "time"].every((column) => COLUMNS[column][0].some((name) => there.includes(name)));
   }
 
-  Object.assign(root.daa, { fromRecording, isRecording, stateLines, NoRecording, COLUMNS });
+  Object.assign(root.daa, { fromRecording, isRecording, stateLines, NoRecording, COLUMNS, OLDEST, MOST_AGE });
 }
 daaRecording(globalThis);

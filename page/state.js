@@ -19,13 +19,14 @@
   const PAPER = { display: { width: 1100, height: 680 }, strip: { width: 1100, height: 150 } };
   const SOON = 60; // ms: an answer that takes longer is waited for with the bands hidden
 
-  const state = { engine: null, survey: null, views: [], name: "", moments: [], lacks: [], index: 0, current: null, version: 0,
+  const state = { engine: null, survey: null, views: [], name: "", moments: [], lacks: [], faults: [], index: 0, current: null, version: 0,
     edited: false, chosen: "p:", held: null, playing: null, compare: false, paper: false, notes: [], ids: [], job: 0, unfolded: false,
     linesOpen: false, recording: null, untaken: "", told: [], times: [] };
   daa.page = state;
 
   const within = (value, field) => clamp(Math.round(value), ...LIMITS[field]);
-  const copy = (moment) => ({ time: moment.time, own: { ...moment.own }, traffic: moment.traffic.map((one) => ({ ...one })) });
+  const copy = (moment) => ({ time: moment.time, own: { ...moment.own }, traffic: moment.traffic.map((one) => ({ ...one })),
+    comments: [...moment.comments] });
   const shownViews = () => state.views.filter((_, place) => place === 0 || state.compare);
   const setText = (element, words) => { if (element.textContent !== words) element.textContent = words; };
   const setHtml = (element, html) => {
@@ -244,6 +245,9 @@
 
   // ---- moments
 
+  /** What a moment lacks in words, or nothing. */
+  const lackOf = (index) => state.lacks[index] ?? "";
+
   function go(index) {
     state.index = index;
     restore();
@@ -349,5 +353,5 @@
   }
 
   Object.assign(ui, { $, LIMITS, OWN_FIELDS, FIELDS, state, within, shownViews, setText, setHtml, download, changed, saidOf, faultOf, edited,
-    choose, partsOf, aircraftOf, lookOf, restore, play, goTo, act, RANGES_NM, fill, modelOf, survey, go, pause, fitting });
+    choose, partsOf, aircraftOf, lookOf, restore, play, goTo, act, RANGES_NM, fill, modelOf, survey, go, pause, fitting, lackOf });
 })();

@@ -29,7 +29,7 @@ else:
     HOW = "chromium, chromedriver or selenium is missing (Debian: apt-get install chromium chromium-driver python3-selenium)"
     HAS_BROWSER = bool(webdriver and shutil.which("chromium") and shutil.which("chromedriver"))
 FIGURE = "figure[data-view='{}'] "
-LONG = 60  # seconds that nothing here takes
+LONG = 300  # seconds that nothing here takes, whatever else the machine does
 
 # Waits until what is shown is the answer to the states that are shown, and two frames more.
 SETTLE = """
@@ -134,6 +134,15 @@ class Browser:
         self.one("#file").send_keys("\n".join(map(os.path.realpath, paths)))
         self.wait("document.querySelector('#file').value === ''", "all files are read")
         self.settle()
+
+    def link(self, is_refused=False):
+        """Presses `Copy link`: what follows # in the link that is copied, or that stands in the address where copying is refused."""
+        self.js("""daa.copied = "";
+            const writeText = arguments[0] ? () => Promise.reject() : async (text) => { daa.copied = text; };
+            Object.defineProperty(navigator, "clipboard", { configurable: true, value: { writeText } });""", is_refused)
+        self.click("#link")
+        self.wait("location.hash.startsWith('#m=')" if is_refused else "daa.copied")
+        return self.js("return new URL(daa.copied || location.href).hash")
 
     def file(self, name, content):
         path = os.path.join(self.folder, name)

@@ -65,9 +65,10 @@ const TASKS = {
     return new daa.Config(bytesOf(struct));
   },
 
-  recording(engine, text, own) {
+  recording(engine, text, own, oldest) {
+    const files = [text].flat().map((bytes, place) => ({ name: `file${place + 1}`, text: new TextDecoder().decode(bytesOf(bytes)) }));
     try {
-      return daa.fromRecording(new TextDecoder().decode(bytesOf(text)), own);
+      return daa.fromRecording(files, { own, oldest });
     } catch (problem) {
       if (!(problem instanceof daa.NoRecording)) throw problem;
       return { refused: problem.message };

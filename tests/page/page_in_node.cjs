@@ -72,7 +72,8 @@ globalThis.document = { body: new Element("body"), activeElement: new Element("n
   createElement: () => ({ getContext: () => ({ measureText: (words) => ({ width: 60 * words.length }) }), click() { saved.push([this.download, blobs.at(-1)]); } }),
   createElementNS: () => new Element("handle") };
 URL.createObjectURL = (blob) => `blob:${blobs.push(blob)}`;
-Object.assign(globalThis, { location: { hash: "" }, CSS: { escape: String }, requestAnimationFrame: (frame) => setTimeout(() => frame(performance.now()), 0),
+Object.assign(globalThis, { location: { hash: "", href: "file:///page/index.html" },
+  history: { replaceState: (_, __, hash) => { location.hash = hash; } }, CSS: { escape: String }, requestAnimationFrame: (frame) => setTimeout(() => frame(performance.now()), 0),
   cancelAnimationFrame: clearTimeout, ResizeObserver: class { observe() {} }, addEventListener: Element.prototype.addEventListener.bind(parts),
   DOMPoint: class { constructor(x, y) { Object.assign(this, { x, y }); } matrixTransform() { return this; } } });
 delete globalThis.Worker; // so that the page itself answers

@@ -49,7 +49,7 @@ class Counting(ToolTest):
         self.assertEqual(self.ended("lacks")[0], 1)
 
     def test_the_page_without_node_and_browser_fails_in_the_gate(self):
-        run = [sys.executable, "-B", os.path.join(TOP, "tests", "page", "run"), "test_node.Module", "test_files"]
+        run = [sys.executable, "-B", os.path.join(TOP, "tests", "page", "run"), "test_module", "test_files"]
         for environment, status in (({}, 0), ({"CI": "true"}, 1)):
             ran = subprocess.run(run, env={"PATH": self.folder, **environment}, stdout=subprocess.PIPE, stderr=subprocess.STDOUT, text=True)
             self.assertRegex(ran.stdout, r"(?m)^left out: \d+ tests: a node ")
