@@ -1,13 +1,15 @@
 """What the tools share: a configuration, state lines and a report, each read once, as docs/FORMATS.md tells them."""
 import argparse
 import contextlib
-import functools
+import io
+import operator
 import os
 import re
 import signal
 import sys
 from typing import NamedTuple
 
+import progress
 from toml_1_1 import Scalar, TomlFault, read_toml
 
 KINDS = ("track", "gs", "vs", "alt")
@@ -32,9 +34,11 @@ def run_tool(name, main):
     if sys.stdout is None:
         tell(f"{name}: standard output is closed")
         sys.exit(5)
-    sys.stdout.reconfigure(errors="surrogateescape")  # a file's name goes out as the bytes that it is
+    sys.stdout = whole_writer(sys.stdout)
+    progress.begin(name)
     try:
         status = status_of(name, main)
+        progress.clear()
         sys.stdout.flush()
     except OSError as fault:  # of writing; what can't be read is a problem
         if not isinstance(fault, BrokenPipeError):
@@ -42,6 +46,13 @@ def run_tool(name, main):
         os.dup2(os.open(os.devnull, os.O_WRONLY), sys.stdout.fileno())
         status = 5
     sys.exit(status)
+
+
+def whole_writer(output):
+    """A text output in place of this one that writes all or fails. Python's own, where PYTHONUNBUFFERED is set, drops the rest
+    of a write that a full disk has cut short. A file's name goes out as the bytes that it is."""
+    bytes_out = io.BufferedWriter(io.FileIO(output.fileno(), "w", closefd=False))
+    return io.TextIOWrapper(bytes_out, encoding=output.encoding, errors="surrogateescape")
 
 
 def status_of(name, main):
@@ -60,6 +71,7 @@ def status_of(name, main):
 
 def tell(words):
     """A line on standard error, where there is one, also where a name in it has a line feed."""
+    progress.clear()
     if sys.stderr is not None:
         with contextlib.suppress(OSError):
             print(re.sub(r"[\x00-\x1f\x7f]", lambda it: ascii(it[0])[1:-1], words), file=sys.stderr)
@@ -318,6 +330,7 @@ ID, AGE = Field("ID", 0, 0, ""), Field("AGE", 0, 60, "s")
 FIELDS = {"moment": [Field("T", 0, 2**32 - 1, "s")], "own": [X, Y, ALT, TRK, GS, VS],
           "traffic": [ID, X, Y, ALT, VX, VY, VS], "end": [], "format": [Field("N", 1, 2, "")]}
 MOST_LINE_BYTES, MOST_AIRCRAFT = 255, 64
+LINES_BETWEEN = 4096  # lines between two looks at how far the reading has come
 
 
 class Own(NamedTuple):
@@ -338,6 +351,12 @@ class Traffic(NamedTuple):
     vy: int
     vs: int
     age: int = 0
+
+
+# A line `traffic` that is right by itself but for the ranges of its numbers, in each format.
+USUAL_TRAFFIC = {form: re.compile(rb"[ \t]*traffic[ \t]+([A-Za-z0-9_-]{1,8})" + rb"[ \t]+([+-]?[0-9]{1,10})" * (5 + form) + rb"[ \t]*\r?")
+                 for form in (1, 2)}
+LEAST_OF_TRAFFIC, GREATEST_OF_TRAFFIC = zip(*((field.low, field.high) for field in (X, Y, ALT, VX, VY, VS, AGE)))
 
 
 class Refusal(NamedTuple):
@@ -365,7 +384,7 @@ class Moment:
 
     def __init__(self, time, line):
         self.time, self.first_line, self.last_line = time, line, line
-        self.own, self.traffic, self.refused = None, [], []
+        self.own, self.traffic, self.ids, self.refused = None, [], set(), []
         self.lacks, self.origin, self.silence = [], None, ""
 
 
@@ -387,9 +406,13 @@ class Reader:
     def read(self, text):
         """All lines of a text of bytes, and its end."""
         lines = text.split(b"\n")
-        for line in lines[:-1] + ([lines[-1]] if lines[-1] else []):
+        if not lines[-1]:
+            lines.pop()
+        for line in lines:
             self.lines += 1
             self.take(line)
+            if not self.lines % LINES_BETWEEN:
+                progress.show("state lines", self.lines, len(lines))
         if self.open:
             self.refuse(14, f"the input ends while moment {self.open.time} is open", line=self.lines + 1)
         return self.events
@@ -403,6 +426,8 @@ class Reader:
     def take(self, line):
         if len(line) > MOST_LINE_BYTES:
             self.refuse(1, f"more than {MOST_LINE_BYTES} bytes")
+            return
+        if self.open and self.take_usual_traffic(line):
             return
         fields = [field for field in re.split(rb"[ \t]+", line.removesuffix(b"\r")) if field]
         if not fields:
@@ -429,6 +454,19 @@ class Reader:
             self.clock = found[1]
         if found := NAME.fullmatch(text):
             self.names.setdefault(*found.groups())
+    def take_usual_traffic(self, line):
+        """Takes a line `traffic` that is not refused; whether it was one. Most lines are, so this way is the short one."""
+        found = USUAL_TRAFFIC[self.form].fullmatch(line)
+        if not found:
+            return False
+        name, *values = found.groups()
+        name, numbers = name.decode(), [*map(int, values)]
+        if name in self.open.ids or len(self.open.ids) == MOST_AIRCRAFT or not (
+                all(map(operator.le, LEAST_OF_TRAFFIC, numbers)) and all(map(operator.ge, GREATEST_OF_TRAFFIC, numbers))):
+            return False
+        self.open.ids.add(name)
+        self.open.traffic.append(Traffic(name, *numbers))
+        return True
 
     def fault_of_form(self, word, values):
         """The code and the cause, where the line is wrong by itself."""
@@ -472,13 +510,10 @@ class Reader:
         return None
 
     def add(self, values):
-        traffic = Traffic(values[0], *map(int, values[1:]))
-        if any(other.id == traffic.id for other in self.open.traffic):
-            return 11, f"moment {self.open.time} has an aircraft {traffic.id} already"
-        if len(self.open.traffic) == MOST_AIRCRAFT:
-            return 12, f"moment {self.open.time} has {MOST_AIRCRAFT} aircraft already"
-        self.open.traffic.append(traffic)
-        return None
+        """A further aircraft that is refused; what is taken, `take_usual_traffic` takes."""
+        if values[0] in self.open.ids:
+            return 11, f"moment {self.open.time} has an aircraft {values[0]} already"
+        return 12, f"moment {self.open.time} has {MOST_AIRCRAFT} aircraft already"
 
     def end(self):
         if not self.open.own:
@@ -571,15 +606,16 @@ class RefusedLine(NamedTuple):
 
 
 class MomentReport:
-    """The report of a moment, which begins on a line of it. `recover` has (seconds, value) or None by kind, and `last` seconds
-    or None, where there is such a line; `steady` the levels by aircraft that tools/steady adds."""
+    """The report of a moment, which begins on a line of it; `refused` are the refused lines between it and the moment before.
+    `recover` has (seconds, value) or None by kind, and `last` seconds or None, where there is such a line; `steady` the levels by
+    aircraft that tools/steady adds, and `absent` those of aircraft that the moment has not."""
 
-    __slots__ = ("time", "line", "alerts", "bands", "answers", "last", "recover", "steady")
+    __slots__ = ("time", "line", "alerts", "bands", "answers", "last", "recover", "steady", "absent", "refused")
 
-    def __init__(self, time, line=0):
-        self.time, self.line, self.alerts, self.answers = time, line, {}, {}
+    def __init__(self, time, line=0, refused=()):
+        self.time, self.line, self.alerts, self.answers, self.refused = time, line, {}, {}, refused
         self.bands = {kind: [] for kind in KINDS}
-        self.last, self.recover, self.steady = {}, {}, {}
+        self.last, self.recover, self.steady, self.absent = {}, {}, {}, {}
 
     def level_at(self, kind, value):
         return next((band.level for band in self.bands[kind] if band.first <= value <= band.last), None)
@@ -595,34 +631,37 @@ class Report:
 NUMBER, ANSWER = r"(-?[0-9]{1,10})", r"(keep|none|-?[0-9]{1,10})"
 REPORT_FORMS = {word: re.compile(form) for word, form in {
     "refused": r"refused ([0-9]{1,19}) ([0-9]{1,2})", "moment": r"moment ([0-9]{1,10})", "now": r"now ([A-Za-z0-9_-]{1,8}) ([0-4])",
-    "alert": r"alert ([A-Za-z0-9_-]{1,8}) ([0-4]) (-|[0-9]{1,10})", "steady": r"steady ([A-Za-z0-9_-]{1,8}) ([0-4])",
+    "alert": r"alert ([A-Za-z0-9_-]{1,8}) ([0-4]) (-|[0-9]{1,10})", "steady": r"steady ([A-Za-z0-9_-]{1,8}) ([0-4])( absent)?",
     **{kind: rf"{kind} {NUMBER} {NUMBER} ([0-4])" for kind in KINDS},
     "resolve": rf"resolve (track|gs|vs|alt) (?:left|down) {ANSWER} (?:right|up) {ANSWER}",
     "last": r"last (track|gs|vs|alt) (none|[0-9]{1,10})",
     "recover": rf"recover (track|gs|vs|alt) (?:(none)|([0-9]{{1,10}}) {NUMBER})", "done": r"done ([0-9]{1,10})"}.items()}
 
 
-@functools.lru_cache(maxsize=1 << 16)
 def parsed(line):
-    """The word of a line of a report and what it says, or None where it is no such line."""
+    """What a line of a report says, or None where it is no such line: its word (`band` for one of candidates), whom it is of (an
+    aircraft, a kind, or None), and a value; of `alert` the value has an Alert for each level that it may have now."""
     word = line.split(" ", 1)[0]
     found = REPORT_FORMS[word].fullmatch(line) if word in REPORT_FORMS else None
     if not found:
         return None
     values = found.groups()
     if word in KINDS:
-        return word, Band(*map(int, values))
+        return "band", word, Band(*map(int, values))
     if word == "alert":
-        return word, (values[0], int(values[1]), None if values[2] == "-" else int(values[2]))
-    if word in ("now", "steady"):
-        return word, (values[0], int(values[1]))
+        first = None if values[2] == "-" else int(values[2])
+        return word, values[0], tuple(Alert(now, int(values[1]), first) for now in range(MOST_LEVELS + 1))
+    if word == "now":
+        return word, values[0], int(values[1])
+    if word == "steady":
+        return "absent" if values[2] else word, values[0], int(values[1])
     if word == "resolve":
-        return word, (values[0], (answer_of(values[1]), answer_of(values[2])))
+        return word, values[0], (answer_of(values[1]), answer_of(values[2]))
     if word == "last":
-        return word, (values[0], None if values[1] == "none" else int(values[1]))
+        return word, values[0], None if values[1] == "none" else int(values[1])
     if word == "recover":
-        return word, (values[0], None if values[1] else (int(values[2]), int(values[3])))
-    return word, tuple(map(int, values))
+        return word, values[0], None if values[1] else (int(values[2]), int(values[3]))
+    return word, None, tuple(map(int, values))
 
 
 def answer_of(word):
@@ -640,60 +679,104 @@ def answer_word(answers):
 MOST_REPORT_BYTES = 64  # of a line, without its end
 
 
+MOST_KNOWN = 1 << 16  # lines whose meaning is kept
+
+
 class ReportReader:
     """Takes the lines of a report, one by one; `name` is what it is called in messages."""
 
     def __init__(self, name):
-        self.name, self.line, self.moments, self.open, self.told = name, 0, 0, None, set()
+        self.name, self.line, self.moments, self.open, self.refused, self.refusals, self.known = name, 0, 0, None, [], 0, {}
+
+    def events_of(self, lines):
+        """Takes lines, in bytes and without their ends: the moments that they end, and the refused lines that they tell of. Most lines
+        are of aircraft and candidates, and right; they are taken here, and all others by `take`."""
+        known, quick = self.known.get, 0
+        alerts = self.open.alerts if self.open else None
+        for line in lines:
+            found = known(line)
+            if found is not None and alerts is not None:
+                word, name, said = found
+                if word == "now" and name not in alerts:
+                    alerts[name] = said
+                    quick += 1
+                    continue
+                if word == "alert" and type(now := alerts.get(name)) is int:
+                    alerts[name] = said[now]
+                    quick += 1
+                    continue
+            self.line, quick = self.line + quick, 0
+            event = self.take(line)
+            if event is not None:
+                yield event
+            alerts = self.open.alerts if self.open else None
+        self.line += quick
 
     def take(self, line):
-        """Takes a line without its end; gives the moment that it ends, or the refused line that it tells of, or None."""
+        """Takes a line, in bytes and without its end; gives the moment that it ends, or the refused line that it tells of, or None."""
         self.line += 1
-        found = parsed(line) if len(line) <= MOST_REPORT_BYTES else None
-        if found is None or (self.open is None) != (found[0] in ("refused", "moment")):
+        found = self.known.get(line) or self.meaning_of(line)
+        at = self.open
+        if found is None or (at is None) != (found[0] in ("refused", "moment")):
+            line = line.decode("latin-1")
             raise self.problem(f"is no line of a report there: {line[:60]!a}{hint_on(line)}")
-        word, said = found
-        if word == "refused":
-            return RefusedLine(*said, self.moments)
-        if word == "moment":
-            self.open, self.told = MomentReport(said[0], self.line), set()
-        elif word == "done":
+        word, name, said = found
+        if at is None:
+            return self.begin(word, said)
+        if word == "done":
             return self.end(said[0], line)
-        else:
-            self.fill(self.open, word, said)
+        self.fill(at, word, name, said)
         return None
 
-    def problem(self, what):
-        return Problem(f"{self.name}: line {self.line} {what}", 4)
+    def meaning_of(self, line):
+        """What a line says, or None where it is none of a report; it is kept, but for times, of which each stands once."""
+        found = parsed(line.decode("latin-1")) if len(line) <= MOST_REPORT_BYTES else None
+        if found and found[1] is not None:
+            if len(self.known) == MOST_KNOWN:
+                self.known.clear()
+            self.known[line] = found
+        return found
+
+    def begin(self, word, said):
+        """Takes a line between two moments."""
+        if word == "refused":
+            self.refused.append(RefusedLine(*said, self.moments))
+            self.refusals += 1
+            return self.refused[-1]
+        self.open, self.refused = MomentReport(said[0], self.line, tuple(self.refused)), []
+        return None
+
+    def fill(self, at, word, name, said):
+        """Puts what a line says into the report of its moment."""
+        if word == "band":
+            bands = at.bands[name]
+            if said.first > said.last or bands and said.first <= bands[-1].last:
+                raise self.problem(f"does not rise: {said.first} {said.last}")
+            bands.append(said)
+            return
+        if word in ("alert", "steady") and name not in at.alerts:
+            raise self.problem(f"is of {name}, of which no line `now` stands before it")
+        if word == "absent" and name in at.alerts:
+            raise self.problem(f"calls {name} absent, of which a line `now` stands before it")
+        place = {"now": at.alerts, "alert": at.alerts, "resolve": at.answers, "last": at.last, "recover": at.recover, "steady": at.steady,
+                 "absent": at.absent}[word]
+        if name in place and (word != "alert" or type(place[name]) is not int):
+            raise self.problem(f"stands twice in its moment: {'steady' if word == 'absent' else word} {name}")
+        place[name] = said[place[name]] if word == "alert" else said
 
     def end(self, time, line):
         ended = self.open
         if time != ended.time or len(ended.answers) != len(KINDS):
-            raise self.problem(f"ends a moment that is not whole: {line!a}")
+            raise self.problem(f"ends a moment that is not whole: {line.decode('latin-1')!a}")
+        for name, alert in ended.alerts.items():
+            if type(alert) is int:
+                ended.alerts[name] = Alert(alert, 0, None)
         self.open = None
         self.moments += 1
         return ended
 
-    def fill(self, at, word, said):
-        """Puts what a line says into the report of its moment."""
-        if word in KINDS:
-            before = at.bands[word]
-            if said.first > said.last or before and said.first <= before[-1].last:
-                raise self.problem(f"does not rise: {said.first} {said.last}")
-            before.append(said)
-            return
-        if (word, said[0]) in self.told:
-            raise self.problem(f"stands twice in its moment: {word} {said[0]}")
-        self.told.add((word, said[0]))
-        if word == "now":
-            at.alerts[said[0]] = Alert(said[1], 0, None)
-        elif word in ("alert", "steady") and said[0] not in at.alerts:
-            raise self.problem(f"is of {said[0]}, of which no line `now` stands before it")
-        elif word == "alert":
-            at.alerts[said[0]] = Alert(at.alerts[said[0]].now, said[1], said[2])
-        else:
-            place = {"resolve": at.answers, "last": at.last, "recover": at.recover, "steady": at.steady}[word]
-            place[said[0]] = said[1]
+    def problem(self, what):
+        return Problem(f"{self.name}: line {self.line} {what}", 4)
 
 
 def hint_on(line):
@@ -715,33 +798,50 @@ CUT = "cut"  # what report_events gives last, of a report that ends within a lin
 
 def report_events(path):
     """The moments and the refused lines of a report in a file (`-`: standard input), one by one as they are read."""
-    reader = ReportReader("standard input" if path == "-" else path)
-    rest = b""
-    for line in lines_of(path):
-        if not line.endswith(b"\n"):
-            rest = line
-            break
-        event = reader.take(line[:-1].decode("latin-1"))
-        if event is not None:
-            yield event
-    check_begun(reader, rest)
-    if rest or reader.open:
+    reader, lines = report_reader(path), Lines(path)
+    for block in lines.blocks():
+        yield from reader.events_of(block)
+    if is_cut(reader, lines):
         yield CUT
 
 
-def check_begun(reader, rest):
-    """It is a problem if a reader of a report has taken no line, and only this rest is there."""
+def report_reader(path):
+    """A reader of the report in a file, which has a name in messages."""
+    return ReportReader("standard input" if path == "-" else path)
+
+
+def is_cut(reader, lines):
+    """Whether a report that was read to its end has ended too early. It is a problem if it has no whole line."""
     if not reader.line:
-        raise Problem(f"{reader.name}: no report: {'it has no whole line' if rest.strip() else 'it is empty'}", 4)
+        raise Problem(f"{reader.name}: no report: {'it has no whole line' if lines.rest.strip() else 'it is empty'}", 4)
+    return bool(lines.rest or reader.open)
 
 
-def lines_of(path):
-    """The lines of a report in bytes, each with its end; of one that is too long the beginning, with an end too."""
-    most = MOST_REPORT_BYTES + 2
+class Lines:
+    """The lines of a report in a file, in bytes and without their ends, as soon as they are there; `rest` is what stands after
+    the last end. Of a line that is longer than any of a report the beginning is given, before its end is read."""
+
+    def __init__(self, path):
+        self.path, self.rest = path, b""
+
+    def blocks(self):
+        """Lists of lines, one for each read."""
+        for block in blocks_of(self.path):
+            *lines, self.rest = (self.rest + block).split(b"\n")
+            yield lines
+            if len(self.rest) > MOST_REPORT_BYTES + 1:
+                yield [self.rest[:MOST_REPORT_BYTES + 1]]
+
+
+def blocks_of(path):
+    """The bytes of a file, or of standard input, in blocks as they come."""
     try:
         with contextlib.nullcontext(standard_input()) if path == "-" else open(path, "rb") as file:
-            for line in iter(functools.partial(file.readline, most), b""):
-                yield line if len(line) < most else line + b"\n"
+            size, done = os.fstat(file.fileno()).st_size, 0
+            for block in iter(lambda: file.read1(1 << 16), b""):
+                yield block
+                done += len(block)
+                progress.show("bytes of the report", done, size)
     except OSError as fault:
         raise unreadable(path, fault) from None
 
@@ -763,6 +863,27 @@ def tell_if_cut(name, report):
     """Says on standard error that a report ends too early, as one does whose run was ended by a fault."""
     if not report.whole:
         say_cut(name)
+
+
+def why_incomplete(moment, state=None):
+    """What a moment lacks, in words, or nothing if it is complete: the refused lines that stand before its report, and the
+    aircraft that a comment of its states names."""
+    words = [f"refused {line} {code}" for line, code, _ in moment.refused]
+    return "; ".join(words + [f"lacks {name} {why}" for name, why in (state.lacks if state else ())])
+
+
+def say_incomplete(name, moment):
+    """Says on standard error if refused lines stand before the report of a moment; whether they do."""
+    if moment.refused:
+        first = moment.refused[0].line
+        lines = f"line {first} was refused" if len(moment.refused) == 1 else f"{len(moment.refused)} lines from line {first} on were refused"
+        tell(f"{name}: moment {moment.time} is incomplete, since {lines}: what it lacks is not known")
+    return bool(moment.refused)
+
+
+def status_of_refused(reader):
+    """The status of a tool that has read a report to its end: 1 if it tells of a refused line."""
+    return int(reader.refusals > 0)
 
 
 def say_cut(name):

@@ -67,6 +67,11 @@ class Scale:
     def __init__(self, low, high, begin, end, least=1):
         self.low, self.high, self.begin, self.end = low, max(high, low + least), begin, end
 
+    def all(self, values):
+        """The places of values that all lie on the scale."""
+        begin, low, rate = self.begin, self.low, (self.end - self.begin) / (self.high - self.low)
+        return [begin + (value - low) * rate for value in values]
+
     def __call__(self, value):
         within = min(max(value, self.low), self.high)
         return self.begin + (self.end - self.begin) * (within - self.low) / (self.high - self.low)

@@ -7,7 +7,7 @@ import time
 import unittest
 
 from common import CONFIG, ENCOUNTER, TOP, ToolTest, module, program
-from daidalus_files import MODELS, config_of, examine_config, read_config, read_moments
+from daidalus_files import MODELS, Moment, Own, config_of, examine_config, read_config, read_moments
 
 soak = module("bench/soak")
 
@@ -62,6 +62,51 @@ class LastTimes(ToolTest):
         self.check(text, moment, config)
         with self.assertRaises(soak.Wrong):
             self.check(text.replace("done", "last track 8\nlast gs 8\nlast vs 8\nlast alt 8\ndone"), moment, config)
+
+
+class Checker(ToolTest):
+    """What bench/soak says of lines that a hurried program might write."""
+
+    def check(self, text, moment, config, horizon):
+        settings = {kind.encode(): values for kind, values in config.values.items()}
+        settings.update(levels=len(config.levels), resolve=config.resolve, horizon=horizon, recovery=config.recovery is not None, last_times=0)
+        soak.Report(text.encode(), settings).check([moment])
+
+    def refuse(self, text, *more):
+        with self.assertRaises(soak.Wrong, msg=text):
+            self.check(text, *more)
+
+    def test_seconds_of_recoveries(self):
+        """From 1 to one less than the greatest lookahead of levels 2 and 3, which is 75."""
+        config = read_config(os.path.join(TOP, "examples", "recovery.toml"))
+        moment = read_moments(os.path.join(TOP, "examples", "closed.states"))[0]
+        text = "\n".join(module("tools/reference").report_of(config, moment)) + "\n"
+        self.assertIn("recover track 18 140\n", text)
+        for second in (1, 18, 74):
+            self.check(text.replace("recover track 18 ", f"recover track {second} "), moment, config, 75)
+        for second in (0, 75, 76):
+            self.refuse(text.replace("recover track 18 ", f"recover track {second} "), moment, config, 75)
+        self.refuse(text.replace("recover track 18 140", "recover track 18 141"), moment, config, 75)
+
+    def test_runs_and_the_answer_half_a_turn_away(self):
+        """The only open track of an ownship that flies north is 180, which is half a turn to the right and none to the left."""
+        config, moment = read_config(CONFIG), Moment(0, 1)
+        moment.own, moment.traffic = Own(0, 0, 10000, 0, 3600, 0), []
+        text = ("moment 0\ntrack 0 175 3\ntrack 180 180 0\ntrack 185 355 3\ngs 500 7000 3\nvs -5000 5000 3\nalt 0 50000 3\n"
+                "resolve track left none right 180\nresolve gs down none up none\nresolve vs down none up none\nresolve alt down none up none\ndone 0\n")
+        self.check(text, moment, config, 75)
+        for old, new in (("left none right 180", "left none right none"), ("left none right 180", "left 180 right none"),
+                         ("left none right 180", "left 180 right 180"), ("track 0 175 3\n", "track 0 90 3\ntrack 95 175 3\n"),
+                         ("track 0 175 3\n", "track 0 90 3\ntrack 95 175 4\n"), ("track 0 175 3\n", "track 0 170 3\n")):
+            self.assertIn(old, text)
+            self.refuse(text.replace(old, new), moment, config, 75)
+
+    def test_how_a_run_may_end_where_memory_is_refused(self):
+        """With status 6 and nothing, or with 0 and the whole text: another text at 0 is wrong, and so is any at 6."""
+        ends = module("bench/refuse_memory").Ends("replay", b"whole")
+        for status, written, bad in ((6, b"", 0), (0, b"whole", 0), (0, b"whol", 1), (0, b"", 2), (0, b"wholesome", 3), (6, b"whole", 4), (5, b"", 5)):
+            ends.add(1, status, written)
+            self.assertEqual(ends.bad, bad, (status, written))
 
 
 class Drawn(unittest.TestCase):

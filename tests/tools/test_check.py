@@ -360,5 +360,15 @@ class Advice(ToolTest):
                          "accepted: 3 levels, 341 candidates; 1 moment of up to 2 aircraft\n")
 
 
+class Borders(ToolTest):
+    def test_from_which_distance_on_feet_are_asked_for(self):
+        """1500 feet are 247 thousandths of a nautical mile of 6076 feet; 1499 thousandths are taken as they are, and so are 11."""
+        for dthr, said in ((11, ""), (1499, ""), (10, "10 is 0.01 nautical miles; if miles are meant, write 10000"),
+                           (1500, "1500 is 1.5 nautical miles; if 1500 feet are meant, write 247")):
+            status, out, _ = self.tool("check", "--advice", self.write("c.toml", PLAIN.replace("dthr = 660", f"dthr = {dthr}")))
+            advice = [line for line in out.splitlines() if "dthr" in line]
+            self.assertEqual((status, [line.split("dthr = ")[1] for line in advice]), (0, [said] * bool(said)), dthr)
+
+
 if __name__ == "__main__":
     unittest.main()

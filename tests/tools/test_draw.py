@@ -17,9 +17,10 @@ STATES = ("moment 0\nown 0 0 10000 0 3600 0\ntraffic A 3000 8000 10000 -1350 0 0
 
 
 class Pictures(ToolTest):
-    def picture(self, report, *words):
+    def picture(self, report, *words, is_refused=None):
+        """A picture; the status says whether lines were refused."""
         status, out, said = self.tool("draw", *words, self.write("a.report", report))
-        self.assertEqual((status, said), (0, ""))
+        self.assertEqual((status, said), (int("refused" in report if is_refused is None else is_refused), ""))
         return ElementTree.fromstring(out), out
 
     @staticmethod
@@ -88,14 +89,15 @@ class Pictures(ToolTest):
         self.assertEqual(len(set(draw.COLOURS)), 5)
         root, _ = self.picture(REPORT.replace("alert A 2 0", "alert A 4 0"))
         legend = [box.get("fill") for box in root.iter("{http://www.w3.org/2000/svg}rect") if (box.get("width"), box.get("height")) == ("14", "12")]
-        self.assertEqual(legend, list(draw.COLOURS))
+        self.assertEqual(legend, [*draw.COLOURS, "url(#incomplete)"])
 
     def test_an_old_report_is_flown_on(self):
         """36 s at -135 knots are 1.35 NM, and at 100 ft/min 60 ft."""
         text = "format 2\n" + STATES.replace("10000 -1350 0 0", "10000 -1350 0 100 36").replace("11000 -1350 0 0", "11000 -1350 0 0 0")
         report = read_report(self.write("a.report", REPORT))
         traces = draw.Picture(report.moments, report.refused, read_moments(self.write("in.states", text))).traces()
-        self.assertEqual([place[1:4] for place in dict(traces)["A"]], [(1.65, 8, 10060), (2.625, 8, 11000)])
+        trace = next(trace for trace in traces if trace.name == "A")
+        self.assertEqual([*zip(trace.east, trace.north, trace.alt)], [(1.65, 8, 10060), (2.625, 8, 11000)])
 
     def test_an_aircraft_may_be_named_ownship(self):
         """Its traces are drawn by themselves, as those of an aircraft of another name."""
@@ -112,7 +114,7 @@ class Pictures(ToolTest):
             status, out, said = self.tool("draw", "--states", self.write("in.states", states), report)
             self.assertEqual((status, out), (4, ""), states)
             self.assert_one_line(said, part)
-        self.assertEqual(self.tool("draw", "--states", self.write("in.states", more), self.write("b.report", REPORT + "moment 20\n"))[0], 0)
+        self.assertEqual(self.tool("draw", "--states", self.write("in.states", more), self.write("b.report", REPORT + "moment 20\n"))[0], 1)
 
     def test_a_picture_has_one_encounter(self):
         """The second is of one moment, at which AMBER's level now is 0."""
@@ -121,14 +123,14 @@ class Pictures(ToolTest):
         self.assertEqual((status, out), (4, ""))
         self.assert_one_line(said, f"has 2 encounters, the second from line {REPORT.count(chr(10)) + 1} on")
         for number, name, refused in (("1", "A", 1), ("2", "B", 0)):
-            root, _ = self.picture(report, "--encounter", number)
+            root, _ = self.picture(report, "--encounter", number, is_refused=refused)
             self.assertEqual([word for word in self.words(root) if word.endswith(": alert, now")], [f"{name}: alert, now"])
             self.assertEqual(self.words(root).count("lines refused"), refused)
         one, other = (self.picture(REPORT + REPORT, "--encounter", number)[1] for number in ("1", "2"))
         self.assertEqual(one, other)
         self.assertEqual(self.tool("draw", "--encounter", "3", self.write("a.report", report))[0], 4)
         self.assert_one_line(self.tool("draw", "--encounter", "2", self.write("a.report", REPORT))[2], "has 1 encounter and no number 2")
-        self.assertEqual(len(self.words(self.picture(REPORT, "--encounter", "2", "--pause", "5")[0])) > 10, True)
+        self.assertEqual(len(self.words(self.picture(REPORT, "--encounter", "2", "--pause", "5", is_refused=True)[0])) > 10, True)
 
     def test_a_title(self):
         root, out = self.picture(REPORT, "--title", "a < b")
@@ -208,9 +210,9 @@ class Pictures(ToolTest):
 
     def test_a_line_leaves_out_points_that_are_close(self):
         """Of points 0.4 apart each third is taken, since it is 1.2 from the one taken before, and the last."""
-        self.assertEqual(draw.through([(0.4 * place, 0) for place in range(9)]), "M0 0L1.2 0L2.4 0L3.2 0")
-        self.assertEqual(draw.through([(0, 0), (0, 1), (5, 1)]), "M0 0L0 1L5 1")
-        self.assertEqual(draw.through([(7, 7)]), "M7 7")
+        self.assertEqual(draw.through([0.4 * place for place in range(9)], [0] * 9), "M0 0L1.2 0L2.4 0L3.2 0")
+        self.assertEqual(draw.through([0, 0, 5], [0, 1, 1]), "M0 0L0 1L5 1")
+        self.assertEqual(draw.through([7], [7]), "M7 7")
 
     def test_widths_come_of_rounded_ends(self):
         """0.04 to 1.06 and on to 2.08: rounded 0, 1.1 and 2.1, so the widths are 1.1 and 1, and no gap is between them."""
@@ -226,7 +228,7 @@ class Pictures(ToolTest):
         for encoding in ("latin-1", "ascii", "utf-8"):
             run = subprocess.run([sys.executable, "-B", "-X", "utf8", *words], env={**os.environ, "PYTHONIOENCODING": encoding},
                                  capture_output=True, timeout=120)
-            self.assertEqual((run.returncode, run.stderr), (0, b""))
+            self.assertEqual((run.returncode, run.stderr), (1, b""))
             self.assertIn("\u00e9 \U0001f6e9", self.words(ElementTree.fromstring(run.stdout)))
 
     def test_the_picture_of_the_documents(self):

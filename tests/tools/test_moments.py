@@ -65,6 +65,7 @@ class Lines(ToolTest):
                         for here, way, there, rate, size in zip(own[:3], speed, it[1:4], it[4:7], (36, 36, 60))] for second in range(71)]
                 self.assertTrue(any(max(each) <= 602 for each in off), (own, it))
                 ages.append(it.age)
+        self.assertEqual((min(ages), max(ages)), (0, 20))
         self.assertGreater(sum(age > 10 for age in ages), 20)
 
     def test_the_same_seed_gives_the_same_lines(self):

@@ -1,4 +1,5 @@
 """Reports and their readers: tools/summary and tools/compare, on reports written by hand."""
+import io
 import os
 import re
 import signal
@@ -7,9 +8,12 @@ import sys
 import tempfile
 import time
 import unittest
+import unittest.mock
 
 from common import TOP, ToolTest, module, program
 from daidalus_files import Band, encounters_of, parsed, read_report
+
+import progress
 
 compare = module("tools/compare")
 
@@ -24,7 +28,7 @@ def tools_for_users():
 
 
 KEEP = "resolve gs down keep up keep\nresolve vs down keep up keep\nresolve alt down keep up keep\n"
-TOOLS = ("check", "compare", "draw", "encounters", "from_daa", "from_parameters", "moments", "reference", "steady", "summary", "table",
+TOOLS = ("check", "compare", "draw", "encounters", "from_daa", "from_parameters", "geojson", "moments", "reference", "steady", "summary", "table",
          "volume")
 # A line, and one that may not follow it, since its moment has such a line already.
 TWICE = (("alert A 2 43", "now A 1"), ("alert A 2 43", "alert A 2 43"), ("recover track 12 40", "resolve gs down keep up keep"),
@@ -77,6 +81,12 @@ class Reports(ToolTest):
         super().setUp()
         self.report = self.write("a.report", REPORT)
 
+    def tool(self, name, *words, given=""):
+        """What a tool says. That a moment is incomplete, which test_incomplete looks at, is left out of a comparison."""
+        status, out, said = super().tool(name, *words, given=given)
+        lines = [line for line in out.splitlines(True) if name != "compare" or " incomplete, " not in line]
+        return status, "".join(lines), said
+
     def test_says_what_is_no_report(self):
         for text, part in NO_REPORTS:
             path = self.write("b.report", text)
@@ -111,7 +121,7 @@ class Reports(ToolTest):
     def test_a_report_that_was_cut(self):
         path = self.write("b.report", REPORT[:-20])
         status, out, said = self.tool("summary", path)
-        self.assertEqual((status, out.splitlines()[0]), (0, "1 moment, 0 s; refused lines: 1"))
+        self.assertEqual((status, out.splitlines()[0]), (1, "1 moment, 0 s; refused lines: 1"))
         self.assert_one_line(said, "the report ends within a moment")
         self.assertEqual(self.tool("compare", path, path)[0], 0)
         status, _, said = self.tool("compare", self.report, path)
@@ -123,11 +133,12 @@ class Reports(ToolTest):
 
     def test_summary(self):
         status, out, said = self.tool("summary", self.report)
-        self.assertEqual((status, said), (0, ""))
+        self.assertEqual((status, said), (1, ""))
         self.assertEqual(out.splitlines(), [
+            "incomplete: 1 moment, 10 s: what they lack is not known, so no answer of theirs counts that is open",
             "2 moments, 0 to 10 s; refused lines: 1", "A: level 2 alerted at 2 moments, 0 to 10 s", "A: level 1 violated at 1 moment, 10 s",
             "track: answer none at 1 moment, 10 s", "track: answer upper at 1 moment, 0 s", "track: recovery found at 1 moment, 10 s",
-            *[f"{kind}: answer keep at 2 moments, 0 to 10 s" for kind in ("gs", "vs", "alt")], "refused with code 6: 1 line, line 9"])
+            *[f"{kind}: answer {answer}" for kind in ("gs", "vs", "alt") for answer in ("incomplete at 1 moment, 10 s", "keep at 1 moment, 0 s")], "refused with code 6: 1 line, line 9"])
 
     def test_a_moment_counts_for_its_greatest_level_alone(self):
         """And the help says so."""
@@ -137,8 +148,8 @@ class Reports(ToolTest):
 
     def test_summary_as_a_table(self):
         status, out, _ = self.tool("summary", "--csv", self.report)
-        self.assertEqual(status, 0)
-        self.assertEqual(out.splitlines()[:4], ["of,what,value,moments,first,last,encounters", "A,alert,2,2,0,10,1", "A,now,1,1,10,10,1",
+        self.assertEqual(status, 1)
+        self.assertEqual(out.splitlines()[:5], ["of,what,value,moments,first,last,encounters", "moment,incomplete,refused,1,10,10,1", "A,alert,2,2,0,10,1", "A,now,1,1,10,10,1",
                                                 "track,answer,none,1,10,10,1"])
         self.assertEqual(out.splitlines()[-1], "input,refused,6,1,9,9,")
 
@@ -146,20 +157,21 @@ class Reports(ToolTest):
         """Of the times, also where the last moment has not the greatest, and of the numbers of refused lines."""
         report = self.write("b.report", REPORT + "refused 12 6\n" + REPORT.split("refused")[0])
         out = self.tool("summary", "--csv", report)[1].splitlines()
-        self.assertLessEqual({"A,alert,2,3,0,10,2", "gs,answer,keep,3,0,10,2", "input,refused,6,2,9,12,"}, set(out))
+        self.assertLessEqual({"A,alert,2,3,0,10,2", "gs,answer,keep,1,0,0,1", "gs,answer,incomplete,2,0,10,2", "input,refused,6,2,9,12,"}, set(out))
         self.assertEqual(self.tool("summary", report)[1].splitlines()[-1], "refused with code 6: 2 lines, from line 9 to line 12")
 
     def test_summary_by_encounter(self):
         """Two reports end to end: in the first A alerts twice, in the second once; the second begins at time 0 again."""
         report = self.write("b.report", REPORT + REPORT.split("refused")[0])
         status, out, said = self.tool("summary", report)
-        self.assertEqual((status, said), (0, ""))
-        self.assertEqual(out.splitlines()[:3], [
+        self.assertEqual((status, said), (1, ""))
+        self.assertEqual(out.splitlines()[1:4], [
             "3 moments in 2 encounters; refused lines: 1", "A: level 2 alerted at 3 moments of 2 encounters",
             "A: level 1 violated at 1 moment of 1 encounter"])
         out = self.tool("summary", "--encounters", report)[1].splitlines()
         at = out.index("encounter 1: 2 moments, 0 to 10 s")
-        self.assertEqual(out[at + 1:at + 3], ["  A: level 2 alerted at 2 moments, 0 to 10 s", "  A: level 1 violated at 1 moment, 10 s"])
+        self.assertEqual(out[at + 1].split(":")[0], "  incomplete")
+        self.assertEqual(out[at + 2:at + 4], ["  A: level 2 alerted at 2 moments, 0 to 10 s", "  A: level 1 violated at 1 moment, 10 s"])
         at = out.index("encounter 2: 1 moment, 0 s")
         self.assertEqual(out[at + 1:], ["  A: level 2 alerted at 1 moment, 0 s", "  track: answer upper at 1 moment, 0 s",
                                         *[f"  {kind}: answer keep at 1 moment, 0 s" for kind in ("gs", "vs", "alt")]])
@@ -342,7 +354,7 @@ class Reports(ToolTest):
             status, out, said = self.tool(*words, given=REPORT)
             self.assertEqual((status, out), (2, ""), words)
             self.assertIn("standard input is one file and not two\n", said)
-        self.assertEqual(self.tool("draw", "--title", "-", given=REPORT)[0], 0)
+        self.assertEqual(self.tool("draw", "--title", "-", given=REPORT)[0], 1)
 
     def test_compare_finds_no_difference_in_one_report(self):
         status, out, _ = self.tool("compare", self.report, self.report)
@@ -370,6 +382,55 @@ class Pipes(unittest.TestCase):
                                     ("tools/summary nothing 2>&-", 7, ""), ("tools/summary nothing 2>/dev/full", 7, "")):
             run = subprocess.run(["sh", "-c", words], cwd=TOP, capture_output=True, text=True)
             self.assertEqual((run.returncode, run.stdout, run.stderr), (status, "", said), words)
+
+    def test_an_output_that_is_cut_short_is_an_error(self):
+        """A file may have 1024 bytes here, and Python does not hold back what is written, as in many containers; then a write takes a
+        part and says so, and what was left was lost without a word."""
+        encounter, config = "examples/encounter.states", "examples/three_levels.toml"
+        tools = (("draw REPORT", "table bands REPORT", "steady REPORT", f"volume {config}", "moments --seed 1 --moments 99",
+                  "encounters --seed 1 --count 1", f"reference {config} {encounter}", "from_daa examples/recording.daa"))
+        with tempfile.TemporaryDirectory() as folder:
+            report, cut = os.path.join(folder, "a.report"), os.path.join(folder, "cut")
+            with open(report, "w", encoding="utf-8") as file:
+                file.write("".join(REPORT.replace("moment 0", f"moment {time}").replace("done 0", f"done {time}").split("refused")[0] for time in range(9)))
+            for words in tools:
+                run = subprocess.run(["bash", "-c", f"ulimit -f 1; exec tools/{words.replace('REPORT', report)} >{cut}"], cwd=TOP, capture_output=True, text=True,
+                                     env={**os.environ, "PYTHONUNBUFFERED": "1"})
+                self.assertEqual((run.returncode, os.path.getsize(cut)), (5, 1024), words)
+                self.assertTrue(run.stderr.endswith(f"{words.split()[0]}: the output: File too large\n"), run.stderr)
+
+    def test_progress_is_shown_on_a_terminal_alone(self):
+        """Here after no second at all: the line is erased before the tool ends, and nothing of it is written to a pipe."""
+        begin = f"import progress, runpy, sys; progress.AFTER = 0; sys.argv = ['summary', '{{}}']; runpy.run_path('{TOP}/tools/summary', run_name='__main__')"
+        with tempfile.TemporaryDirectory() as folder:
+            report = os.path.join(folder, "a.report")
+            with open(report, "w", encoding="utf-8") as file:
+                file.write(REPORT)
+            words = [sys.executable, "-B", "-c", begin.format(report)]
+            environment = {**os.environ, "PYTHONPATH": os.path.join(TOP, "tools")}
+            above, below = os.openpty()
+            run = subprocess.run(words, env=environment, stdin=subprocess.DEVNULL, stdout=subprocess.PIPE, stderr=below)
+            os.close(below)
+            said = os.read(above, 1 << 16).decode()
+            os.close(above)
+            self.assertEqual(run.returncode, 1)
+            self.assertEqual(said, "\r\x1b[Ksummary: bytes of the report: 100 %\r\x1b[K")
+            run = subprocess.run(words, env=environment, stdin=subprocess.DEVNULL, capture_output=True)
+            self.assertEqual((run.returncode, run.stderr), (1, b""))
+
+    def test_progress_waits_for_two_seconds_and_is_not_written_all_the_time(self):
+        """By a clock that is set here: nothing at 1.9 s, a line at 2, none at 2.1, and the next at 2.3."""
+        now, terminal = [0.0], io.StringIO()
+        terminal.isatty = lambda: True
+        self.addCleanup(setattr, progress.Shown, "due", None)
+        with unittest.mock.patch.multiple(progress.time, monotonic=lambda: now[0]), unittest.mock.patch.object(sys, "stderr", terminal):
+            progress.begin("draw")
+            for second, part in ((1.9, 1), (2, 2), (2.1, 3), (2.3, 4)):
+                now[0] = second
+                progress.show("work", part, 10)
+            progress.clear()
+            progress.clear()
+        self.assertEqual(terminal.getvalue(), "\r\x1b[Kdraw: work: 20 %\r\x1b[Kdraw: work: 40 %\r\x1b[K")
 
     def test_a_line_without_an_end_is_not_read_whole(self):
         """With little memory; the whole line would take all of it."""

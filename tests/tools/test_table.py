@@ -11,8 +11,9 @@ from common import TOP, ToolTest
 from test_reports import KEEP, REPORT
 
 # What the two moments of REPORT say of its aircraft and of track, as rows.
-AIRCRAFT = ["encounter,time,aircraft,now,alert,first,steady,changed", "1,0,A,0,2,43,,new", "1,10,A,1,2,0,,now"]
-TRACK = ["1,0,track,0 5 3;10 180 0;185 355 3,upper,,10,,,,,,new", "1,10,track,0 355 3,none,,,found,12,40,,,bands answer upper recovery value"]
+AIRCRAFT = ["encounter,time,aircraft,now,alert,first,steady,changed,incomplete", "1,0,A,0,2,43,,new,", "1,10,A,1,2,0,,now,refused 9 6"]
+TRACK = ["1,0,track,0 5 3;10 180 0;185 355 3,upper,,10,,,,,,new,",
+         "1,10,track,0 355 3,none,,,found,12,40,,,bands answer upper recovery value,refused 9 6"]
 
 
 def moment(time, *levels):
@@ -25,7 +26,7 @@ def moment(time, *levels):
 class Tables(ToolTest):
     def table(self, text, *words):
         status, out, said = self.tool("table", *words, self.write("a.report", text))
-        self.assertEqual(status, 0, said)
+        self.assertEqual(status, int("refused" in text), said)
         return out.splitlines(), said
 
     def test_a_row_for_each_moment_and_aircraft(self):
@@ -37,21 +38,21 @@ class Tables(ToolTest):
     def test_a_row_for_each_moment_and_kind(self):
         rows, _ = self.table(REPORT, "kinds")
         self.assertEqual([row for row in rows if ",track," in row], TRACK)
-        self.assertEqual([row for row in rows if ",alt," in row], ["1,0,alt,0 9000 0;9500 10500 1;11000 50000 0,keep,,,,,,,,new",
-                                                                  "1,10,alt,0 50000 0,keep,,,,,,,,bands"])
+        self.assertEqual([row for row in rows if ",alt," in row], ["1,0,alt,0 9000 0;9500 10500 1;11000 50000 0,keep,,,,,,,,new,",
+                                                                  "1,10,alt,0 50000 0,incomplete,,,,,,,,bands answer,refused 9 6"])
         self.assertEqual(len(rows), 1 + 2 * 4)
 
     def test_on_which_sides_a_candidate_is_open(self):
         for left, right, wanted in (("350", "10", "both,350,10"), ("350", "none", "lower,350,"), ("none", "10", "upper,,10"), ("none", "none", "none,,"),
                                     ("keep", "keep", "keep,,")):
             text = moment(0, 1).replace("resolve track left keep right keep", f"resolve track left {left} right {right}")
-            self.assertEqual(self.table(text, "kinds")[0][1], f"1,0,track,0 355 0,{wanted},,,,,,new")
+            self.assertEqual(self.table(text, "kinds")[0][1], f"1,0,track,0 355 0,{wanted},,,,,,new,")
             out = self.tool("summary", self.write("a.report", text))[1].splitlines()
             self.assertIn(f"track: answer {wanted.split(',')[0]} at 1 moment, 0 s", out)
 
     def test_a_row_for_each_band(self):
         rows, _ = self.table(REPORT, "bands")
-        self.assertEqual(rows[:4], ["encounter,time,kind,from,upto,level", "1,0,track,0,5,3", "1,0,track,10,180,0", "1,0,track,185,355,3"])
+        self.assertEqual(rows[:4], ["encounter,time,kind,from,upto,level,incomplete", "1,0,track,0,5,3,", "1,0,track,10,180,0,", "1,0,track,185,355,3,"])
         self.assertEqual(len(rows), 1 + 3 + 1 + 1 + 3 + 4 * 1)
 
     def test_what_is_no_report_has_no_header(self):
@@ -84,9 +85,9 @@ class Tables(ToolTest):
         one = moment(0, 1).replace("done", "last track 3\nlast gs 0\nlast vs none\ndone")
         two = moment(1, 1).replace("done", "last track 2\nlast gs none\nlast vs none\ndone")
         rows, _ = self.table(one + two, "kinds")
-        self.assertEqual(rows[0], "encounter,time,kind,bands,answer,lower,upper,recovery,after,value,last_time,last,changed")
-        self.assertEqual([row.split(",keep,")[1] for row in rows[1:]], [",,,,,found,3,new", ",,,,,found,0,new", ",,,,,none,,new", ",,,,,,,new",
-                                                                       ",,,,,found,2,", ",,,,,none,,last_time", ",,,,,none,,", ",,,,,,,"])
+        self.assertEqual(rows[0], "encounter,time,kind,bands,answer,lower,upper,recovery,after,value,last_time,last,changed,incomplete")
+        self.assertEqual([row.split(",keep,")[1] for row in rows[1:]], [",,,,,found,3,new,", ",,,,,found,0,new,", ",,,,,none,,new,", ",,,,,,,new,",
+                                                                       ",,,,,found,2,,", ",,,,,none,,last_time,", ",,,,,none,,,", ",,,,,,,,"])
 
     def test_encounters_and_what_is_new_in_them(self):
         """The times 0 1 | 0 | 100 with a pause of 50: an encounter's first rows are new, and B's at time 1."""
@@ -95,7 +96,7 @@ class Tables(ToolTest):
         self.assertEqual([",".join((row["encounter"], row["aircraft"], row["changed"])) for row in csv.DictReader(rows)],
                          ["1,A,new", "1,A,", "1,B,new", "2,A,new", "2,B,new", "2,A,alert", "2,B,"])
         rows, _ = self.table(moment(0, 1, 0) + moment(1, 1, None) + moment(2, 1, 0), "aircraft")
-        self.assertEqual(rows[-1], "1,2,B,0,0,,,new")
+        self.assertEqual(rows[-1], "1,2,B,0,0,,,new,")
         rows, _ = self.table(text, "aircraft", "--pause", "50")
         self.assertEqual([row["encounter"] for row in csv.DictReader(rows)], ["1", "1", "1", "2", "2", "3", "3"])
 
@@ -164,7 +165,7 @@ class SteadyAlerts(ToolTest):
         text = moment(0, 3, 0) + "refused 7 3\n" + moment(1, 3, 0)
         out = self.tool("steady", "--hold", "0", self.write("a.report", text))[1]
         rows = self.tool("table", "aircraft", self.write("b.report", out))[1].splitlines()
-        self.assertEqual(rows[1:], ["1,0,A,0,3,5,0,new", "1,0,B,0,0,,0,new", "1,1,A,0,3,5,3,steady", "1,1,B,0,0,,0,"])
+        self.assertEqual(rows[1:], ["1,0,A,0,3,5,0,new,", "1,0,B,0,0,,0,new,", "1,1,A,0,3,5,3,steady,refused 7 3", "1,1,B,0,0,,0,,refused 7 3"])
         self.assertEqual(self.tool("compare", "a.report", "b.report")[0], 7)
         self.assertEqual(self.tool("compare", f"{self.folder}/a.report", f"{self.folder}/b.report")[0], 0)
 
