@@ -71,7 +71,7 @@ class WrongBodies(unittest.TestCase):
                 self.assertNotIn((crate, said), found, path)
                 self.assertFalse(said.endswith("."), path)
                 found.add((crate, said))
-        self.assertGreater(len(found), 150)
+        self.assertGreater(len(found), 60)
 
     def test_each_edit_can_be_applied(self):
         """What it replaces stands once in its file, after its replacements before."""
