@@ -1,5 +1,0 @@
-//! Tests of daa_alert.
-#![tactic(auto)]
-
-#[cfg(test)]
-mod tests;

@@ -1,5 +1,0 @@
-//! Tests of daa_last.
-#![tactic(auto)]
-
-#[cfg(test)]
-mod tests;

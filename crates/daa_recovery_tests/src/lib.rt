@@ -1,5 +1,0 @@
-//! Tests of daa_recovery.
-#![tactic(auto)]
-
-#[cfg(test)]
-mod tests;
