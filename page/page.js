@@ -140,7 +140,7 @@
       state.recording = { files, own: made.own };
       fill($("own"), made.names);
       $("own").value = made.own;
-      return loadStates(bytesOf(made.states), name, [made.alone, ...seen, ...made.notes].filter(Boolean), made.alone);
+      return loadStates(bytesOf(made.states), name, [made.alone, ...made.faults, ...seen, ...made.notes].filter(Boolean), made.alone);
     } catch (problem) {
       if (!(problem instanceof daa.NoRecording)) throw problem;
       tell(`${name}: ${problem.message}`);

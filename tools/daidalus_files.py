@@ -391,17 +391,18 @@ class Moment:
 LACKS, NO_MOMENT = re.compile(r"#\s+lacks\s+(\S+)\s*(.*)"), re.compile(r"#\s+no\s+moment:\s*(.*)")
 DEGREES_FORM = r"(-?[0-9]{1,3}(?:\.[0-9]{1,9})?)"
 ORIGIN = re.compile(rf"#\s+origin\s+{DEGREES_FORM}\s+{DEGREES_FORM}\s+{DEGREES_FORM}\s*")
+OWNSHIP = re.compile(r"#\s+ownship\s+(\S.*)")
 CLOCK, NAME = re.compile(r"#\s+clock\s+(utc|day)\s*"), re.compile(r"#\s+name\s+([A-Za-z0-9_-]{1,8})\s+(\S.*)")
 
 
 class Reader:
     """Takes state lines; `events` are the refusals and the ended moments, in their order. Of what comments tell, `clock` is utc, day
-    or None, `names` the whole names of aircraft by their identifiers, and `silence` why there is no moment after the last one, or ''."""
+    or None, `ownship` the recording's name of the ownship or None, `names` the whole names of aircraft by their identifiers, and `silence` why there is no moment after the last one, or ''."""
 
     def __init__(self):
         self.events, self.lines, self.form = [], 0, 1
         self.open, self.last = None, None
-        self.clock, self.names, self.silence = None, {}, ""
+        self.clock, self.ownship, self.names, self.silence = None, None, {}, ""
 
     def read(self, text):
         """All lines of a text of bytes, and its end."""
@@ -450,8 +451,10 @@ class Reader:
                 self.open.origin = Origin(*map(float, found.groups()))
         elif found := NO_MOMENT.fullmatch(text):
             self.silence = self.silence or found[1] or "no cause is told"
-        elif (found := CLOCK.fullmatch(text)) and self.last is None:
+        elif self.last is None and (found := CLOCK.fullmatch(text)):
             self.clock = found[1]
+        elif self.last is None and (found := OWNSHIP.fullmatch(text)):
+            self.ownship = self.ownship or found[1]
         if found := NAME.fullmatch(text):
             self.names.setdefault(*found.groups())
     def take_usual_traffic(self, line):
@@ -569,6 +572,11 @@ def no_moment_line(why):
 def name_line(name, whole):
     """The comment that tells the whole name of an aircraft."""
     return f"# name {name} {whole[:MOST_NAME]}"
+
+
+def ownship_line(name):
+    """The comment that tells which aircraft of a recording is the ownship."""
+    return f"# ownship {name[:MOST_NAME]}"
 
 
 def origin_line(lat, lon, turn):

@@ -1,6 +1,6 @@
 /* node in_node.cjs PAGE < JSON [[word, ..], ..]: runs the page's scripts that need no browser on each task, and writes the JSON
  * list of the answers. Tasks: [replay, TOML, states], [faults, TOML], [read, TOML], [report, text], [config, struct],
- * [recording, text, ownship], [columns], [room, TOML, states], [named, TOML, states], [strip, levels, times], [trap, TOML, states],
+ * [recording, text, ownship, oldest, name of its file], [room, TOML, states], [named, TOML, states], [strip, levels, times], [trap, TOML, states],
  * [display, TOML, states, report, look], [over_time, TOML, states]; texts are bytes in base64. */
 "use strict";
 const fs = require("fs");
@@ -9,7 +9,7 @@ const vm = require("vm");
 
 const page = process.argv[2];
 const run = (name) => vm.runInThisContext(fs.readFileSync(path.join(page, `${name}.js`), "utf8"));
-["engine.wasm", "core", "toml", "recording"].forEach(run);
+["engine.wasm", "core", "toml", "columns", "reading", "plausible", "recording"].forEach(run);
 const bytesOf = (text) => new Uint8Array(Buffer.from(text, "base64"));
 
 const DRAWING = ["labels", "art", "places", "compass", "tapes", "words", "aircraft", "handles", "draw", "strip"];
@@ -65,8 +65,8 @@ const TASKS = {
     return new daa.Config(bytesOf(struct));
   },
 
-  recording(engine, text, own, oldest) {
-    const files = [text].flat().map((bytes, place) => ({ name: `file${place + 1}`, text: new TextDecoder().decode(bytesOf(bytes)) }));
+  recording(engine, text, own, oldest, name) {
+    const files = [text].flat().map((bytes, place) => ({ name: name ?? `file${place + 1}`, text: new TextDecoder().decode(bytesOf(bytes)) }));
     try {
       return daa.fromRecording(files, { own, oldest });
     } catch (problem) {
@@ -74,8 +74,6 @@ const TASKS = {
       return { refused: problem.message };
     }
   },
-
-  columns: () => daa.COLUMNS,
 
   /** How many bytes a report may have. */
   room(engine, toml, states) {

@@ -15,7 +15,8 @@ ENCOUNTERS = {"encounter, three levels": ("three_levels", "encounter.states"),
 NAMESPACE = "http://www.w3.org/2000/svg"  # a name of the SVG standard, which is never asked for
 ANY_ADDRESS = re.compile(r"(?:https?|wss?|ftp)://[^\s\"'`)<>]+|(?<![:\w])//[a-z0-9-]+\.[a-z]{2,}")
 ASKS = re.compile(r"\bfetch\(|XMLHttpRequest|WebSocket|EventSource|sendBeacon|importScripts|\bimport\b[ (]|@import|navigator\.serviceWorker")
-MADE = ("engine.wasm.js", "examples.js")
+MADE = ("engine.wasm.js", "examples.js", "columns.js")
+COLUMNS = os.path.join(TOP, "tools", "recordings", "columns.json")
 
 
 def examples_text():
@@ -28,9 +29,16 @@ def examples_text():
             f"daa.examples = {json.dumps(words, indent=1)};\n")
 
 
-def write_examples():
-    with open(os.path.join(Page.folder, "examples.js"), "w", encoding="utf-8") as file:
-        file.write(examples_text())
+def columns_text():
+    """What page/columns.js must be: names of columns and units as tools/from_daa has them."""
+    return ('"use strict";\n// Made by tests/page/run --write of tools/recordings/columns.json.\nglobalThis.daa = globalThis.daa || {};\n'
+            f"daa.columns = {json.dumps(json.loads(text_of(COLUMNS)), separators=(',', ':'))};\n")
+
+
+def write_made():
+    for name, text in (("examples.js", examples_text()), ("columns.js", columns_text())):
+        with open(os.path.join(Page.folder, name), "w", encoding="utf-8") as file:
+            file.write(text)
     return 0
 
 
@@ -71,6 +79,9 @@ class Files(unittest.TestCase):
     def test_the_examples_are_those_of_the_repository(self):
         self.assertEqual(files()["examples.js"], examples_text(), "tests/page/run --write writes page/examples.js anew")
 
+    def test_the_columns_of_recordings_are_those_of_the_tool(self):
+        self.assertEqual(files()["columns.js"], columns_text(), "tests/page/run --write writes page/columns.js anew")
+
     def test_each_label_of_a_field_is_there(self):
         """Each input, select, textarea of the markup stands in a label or has a name for screen readers."""
         text = files()["index.html"]
@@ -99,8 +110,8 @@ class Files(unittest.TestCase):
                 self.assertLessEqual(len(longest), 150, f"{name}: {longest[:80]}")
 
     def test_the_folder_is_small(self):
-        """The page is mailed and kept whole: all files together are below 300 KB."""
-        self.assertLess(sum(len(text.encode()) for text in files().values()), 300000)
+        """The page is mailed and kept whole: all files together are below 400 KB."""
+        self.assertLess(sum(len(text.encode()) for text in files().values()), 400000)
 
 
 class Readme(unittest.TestCase):

@@ -344,7 +344,8 @@ class Loaded(unittest.TestCase):
             }
             return told;""", ["none.states", "nothing\n"], ["none.daa", "name time\n"], ["a.states", text_of(ENCOUNTER)])
         self.assertEqual(told, ["none.states has no whole moment; line 1 was refused with code 2",
-                                "none.daa: the header has no column for alt, vs, a place (lat lon, or sx sy), a speed (trk gs, or vx vy)", ""])
+                                "none.daa: the header has no column for alt (an altitude), a place (lat lon, or sx sy), a speed (trk gs, or vx vy); it has name, time; "
+                         "if one of these is it, tell tools/from_daa so: --columns alt=NAME", ""])
 
     def test_each_file_that_is_not_taken_is_told(self):
         """Of several that are opened at once, before and after one that is taken; a folder, which cannot be read, is one too."""

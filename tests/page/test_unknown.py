@@ -81,6 +81,7 @@ class Incomplete(unittest.TestCase):
             file.flush()
             for (oldest, states, style, own), asked in zip(found, (10, 15, 0, 60), strict=True):
                 wanted = subprocess.run([os.path.join(TOP, "tools", "from_daa"), "--oldest", str(asked), file.name], capture_output=True, text=True).stdout
+                wanted = wanted.replace("# ownship own\n", "")  # which belongs to no moment
                 self.assertEqual((str(oldest), states, style, own), (str(asked), wanted, "problem" if asked < 12 else "quiet", "own"))
 
     def test_a_recording_whose_traffic_has_other_times_says_so_first(self):
@@ -125,9 +126,9 @@ class Several(unittest.TestCase):
         self.assertEqual(notes, "seen from A, which is taken as the ownship")
 
     def test_files_that_are_no_one_recording_are_refused_by_name(self):
-        globe = HEAD.replace("sx,sy", "lat,lon") + rows("B", (0, 1))
+        globe = HEAD.replace("sx,sy", "lat,lon") + rows("B", (0, 1), 7)
         for files, told in ((([["own.csv", self.OWN], ["b.csv", globe]]), "b.csv and own.csv are no one recording: one has latitudes and longitudes, the other places on a plane"),
-                            (([["own.csv", self.OWN], ["x.csv", HEAD + "A,0,0\n"]]), "x.csv: line 2: no number for trk: A,0,0")):
+                            (([["own.csv", self.OWN], ["x.csv", HEAD + "A,0,0\n"]]), "x.csv: no report of an aircraft can be read; line 2: no number for sy: 'A,0,0'")):
             fault, name = on_page(OPEN + 'await open(...given); return [$("fault").textContent, page.name];', *files)
             self.assertEqual((fault, name), (f"{files[0][0]}, {files[1][0]}: {told}", "encounter.states"))
 

@@ -34,9 +34,9 @@ class FromDaa(ToolTest):
         """As one has where latitude and longitude are in each other's place; at the pole itself nothing is refused."""
         text = HEAD + "own 35.60 139.70 0 0 100 0 0\nA {} 139.70 0 0 100 0 0\n"
         for lat in ("139.70", "-90.5"):
-            status, out, said = self.tool("from_daa", self.write("in.daa", text.format(lat)))
+            status, out, said = self.tool("from_daa", "--strict", self.write("in.daa", text.format(lat)))
             self.assertEqual((status, out), (3, ""))
-            self.assert_one_line(said, f"line 4: {lat} is too large a number for lat: are lat and lon in each other's place?\n")
+            self.assert_one_line(said, "line 4: too large a number for lat: are lat and lon in each other's place, or in another unit?: 'A ")
         radians = HEAD.replace("[deg] [deg] [ft]", "[rad] [deg] [ft]")
         for recording in (HEAD + "own 90 0 0 0 100 0 0\n", radians + f"own -{math.pi / 2} 0 0 0 100 0 0\n"):
             self.assertEqual(len(self.made(recording)[0]), 1)
@@ -62,23 +62,34 @@ class FromDaa(ToolTest):
     def test_semicolons_stand_between_columns_alone(self):
         """Where the header has one, a comma is no mark; a row with more fields than the header is refused."""
         text = "name;time;sx;sy;alt;vx;vy;vs\nown;0;0.5;0;1000;0;100;0\n"
-        for given, part in ((text.replace("0.5", "0,5"), "line 2: no number for sx: 'own;0;0,5;0;1000;0;100;0': a decimal comma? Write a point\n"),
-                            (text.replace(";", ",").replace("0.5", "0,5"), "line 2 has 9 fields, the header 8: a decimal comma (write a point), or a comma in a name?\n"),
-                            (PLANE + "Own Ship 0 0 0 0 100 0 0\n", "line 3 has 9 fields, the header 8")):
+        for given, part in ((text.replace("0.5", "0,5"), "line 2: no number for sx: a decimal comma, or a mark of thousands? Write a point, and no mark: "
+                             "'own;0;0,5;0;1000;0;100;0'\n"),
+                            (text.replace(";", ",").replace("0.5", "0,5"), "line 2: 9 fields, and the header has 8: a decimal comma (write a point), or a comma in a name?: "),
+                            (PLANE + "Own Ship 0 0 0 0 100 0 0\n", "line 3: 9 fields, and the header has 8: 'Own Ship")):
             status, out, said = self.tool("from_daa", self.write("in.csv", given))
             self.assertEqual((status, out), (3, ""))
             self.assert_one_line(said, part)
         self.assertEqual(self.made(text.replace("own", "a, b"))[0][0].own, Own(0, 0, 1000, 0, 1000, 0))
 
     def test_says_where_times_fall(self):
-        """Of the ownship alone: past midnight, where a recording begins the hours anew; each aircraft by itself may rise."""
-        rows = "".join(f"own 0 0 0 0 100 0 {time}\n" for time in ("23:59:58", "23:59:59", "00:00:00", "00:00:01"))
-        moments, said = self.made(PLANE + rows)
+        """Of the ownship alone; each aircraft by itself may rise."""
+        moments, said = self.made(PLANE + "".join(f"own 0 0 0 0 100 0 {time}\n" for time in (86398, 86399, 0, 1)))
         self.assertEqual([moment.time for moment in moments], [0, 1, 86398, 86399])
-        self.assertIn("from_daa: the ownship's times fall, from 86399 to 0 s: the reports are taken in the order of their times; past midnight "
-                      "write 24:00:01 and so on\n", said)
-        for text in (rows.replace("00:00:0", "24:00:0"), "own 0 0 0 0 100 0 3\nown 0 0 0 0 100 0 4\nA 1 0 0 0 100 0 3\nA 1 0 0 0 100 0 4\n"):
-            self.assertNotIn("fall", self.made(PLANE + text)[1])
+        self.assertIn("from_daa: the ownship's times fall, from 86399 to 0 s: the reports are taken in the order of their times\n", said)
+        text = "own 0 0 0 0 100 0 3\nown 0 0 0 0 100 0 4\nA 1 0 0 0 100 0 3\nA 1 0 0 0 100 0 4\n"
+        self.assertNotIn("fall", self.made(PLANE + text)[1])
+
+    def test_times_of_day_go_over_midnight(self):
+        """Each aircraft's by itself; also where the hours go on past 24, and where the recording is sorted by aircraft."""
+        rows = "".join(f"{name} {east} 0 0 0 100 0 {time}\n" for name, east in (("own", 0), ("A", 1))
+                       for time in ("23:59:58", "23:59:59", "00:00:00", "00:00:01"))
+        moments, said = self.made(PLANE + rows)
+        self.assertEqual([(moment.time, len(moment.traffic)) for moment in moments], [(time, 1) for time in range(86398, 86402)])
+        self.assertIn("from_daa: times of day go over midnight: from there on they count past 24:00:00\n", said)
+        self.assertNotIn("fall", said)
+        again, said = self.made(PLANE + rows.replace("00:00:0", "24:00:0"))
+        self.assertEqual([moment.time for moment in again], [moment.time for moment in moments])
+        self.assertNotIn("midnight", said)
 
     def test_a_byte_order_mark_is_skipped(self):
         self.assertEqual(len(self.made("\ufeff" + PLANE + "own 0 0 0 0 100 0 0\n")[0]), 1)
@@ -88,17 +99,18 @@ class FromDaa(ToolTest):
         row = "own 0 0 0 0 100 0 0\nA {} 1 0 {} 0 0 0\n"
         for text in (PLANE + row.format("1e308", 0), PLANE + row.format(0, "1e308"), PLANE.replace("[ft]", "[km]") + "own 0 0 1e308 0 100 0 0\n",
                      PLANE.replace("[s]", "[h]") + "own 0 0 0 0 100 0 1e308\n"):
-            status, out, said = self.tool("from_daa", self.write("in.daa", text))
+            status, out, said = self.tool("from_daa", "--strict", self.write("in.daa", text))
             self.assertEqual((status, out), (3, ""))
-            self.assert_one_line(said, "1e308 is too large a number for ")
+            self.assert_one_line(said, "too large a number for ")
         text = PLANE + f"own 0 0 0 0 100 0 {'9' * 5000}:00:00\n"
         self.assertEqual(self.tool("from_daa", self.write("in.daa", text))[0], 3)
 
-    def test_the_plane_against_the_globe(self):
-        """At 60 degrees north, 4 degrees of longitude: in the plane 240 cos 60 = 120 NM, on the globe
-        2 asin(cos 60 sin 2) = 2 asin(0.0174497) = 1.999695 degrees, 119.9817 NM."""
-        _, said = self.made(HEAD + "own 60 10 0 0 100 0 0\nA 60 14 0 0 100 0 0\n")
-        self.assertIn("distances differ by at most 0.0183 NM", said)
+    def test_the_plane_against_the_ellipsoid(self):
+        """At 60 degrees north, 4 degrees of longitude: in the plane 240 cos 60 = 120 NM, by Vincenty's formula for WGS 84 120.5000 NM;
+        a degree of latitude from the equator on is 59.7054 NM by it, and 60 in the plane."""
+        for there, off in (("60 10", "60 14"), "0.5000"), (("0 10", "1 10"), "0.2946"):
+            _, said = self.made(HEAD + f"own {there[0]} 0 0 100 0 0\nA {there[1]} 0 0 100 0 0\n")
+            self.assertIn(f"the plane against the ellipsoid WGS 84: distances differ by at most {off} NM", said)
 
     def test_what_rounding_costs_of_a_climb(self):
         """100.4 and 200.6 become 100 and 201: their difference 101 is off by 0.8."""
@@ -144,9 +156,9 @@ class FromDaa(ToolTest):
     def test_between_blanks_no_empty_field_is_seen(self):
         """A has no squawk: what follows it would be taken as another column's. With commas it is seen."""
         text = "name\ttime\tsquawk\tsx\tsy\tvx\tvy\tvs\talt\tn\nown\t0\t1200\t0\t0\t0\t100\t0\t5000\t1\nA\t0\t\t1\t2\t0\t-100\t0\t5000\t7\n"
-        status, out, said = self.tool("from_daa", self.write("in.daa", text))
+        status, out, said = self.tool("from_daa", "--strict", self.write("in.daa", text))
         self.assertEqual((status, out), (3, ""))
-        self.assert_one_line(said, "line 3 has 9 fields, the header 10: between blanks no empty field is seen (write commas)\n")
+        self.assert_one_line(said, "line 3: 9 fields, and the header has 10: between blanks no empty field is seen (write commas): 'A")
         for shown in (text.replace("\t", ","), text.replace("A\t0\t\t", "A\t0\t-\t")):
             self.assertEqual(self.made(shown)[0][0].traffic, [Traffic("A", 1000, 2000, 5000, 0, -1000, 0)])
 
@@ -186,9 +198,9 @@ class FromDaa(ToolTest):
         moments, said = self.made(text.replace("A,", "B=1,"))
         self.assertEqual([aircraft.id for aircraft in moments[0].traffic], ["B1"])
         self.assertIn("left out: 2 lines `KEY = VALUE`", said)
-        status, out, said = self.tool("from_daa", self.write("in.csv", text + "c = 3\n"))
+        status, out, said = self.tool("from_daa", "--strict", self.write("in.csv", text + "c = 3\n"))
         self.assertEqual((status, out), (3, ""))
-        self.assertIn("line 7: no number for ", said)
+        self.assertIn("line 7: 3 fields, and the header has 8: ", said)
 
     def test_one_moment_a_second(self):
         moments, said = self.made(PLANE + "".join(f"own 0 0 0 0 100 0 {tenth / 10}\n" for tenth in range(25)))
@@ -282,16 +294,17 @@ class FromDaa(ToolTest):
         plain = text.replace("time,", "time [hh:mm:ss],").replace("01:02:03", "7").replace("1:02:03.5", "7.5")
         self.assertEqual(self.made(plain)[0][0].time, 7)
         self.assertEqual(self.made(text.replace("1:02:03", "24:00:00"))[0][0].time, 86400)
-        for time in ("1:62:03", "12:30"):
-            status, _, said = self.tool("from_daa", self.write("in.csv", text.replace("1:02:03.5", time)))
+        for time, why in (("1:62:03", "no time"), ("12:30", "no time: seconds are missing")):
+            status, _, said = self.tool("from_daa", "--strict", self.write("in.csv", text.replace("1:02:03.5", time)))
             self.assertEqual(status, 3)
-            self.assert_one_line(said, f"line 2: {time} is no time (hh:mm:ss or a number) and no unit of time that is known")
+            self.assert_one_line(said, f"line 2: {why}: 'own,{time}")
 
     def test_says_what_is_no_recording(self):
-        for text, part in (("", "no header line"), ("NAME time\n", "the header has no column for alt, vs, a place"),
+        for text, part in (("", "no header line"), ("NAME time\n", "the header has no column for alt (an altitude), a place (lat lon, or sx sy), a speed (trk gs, or vx vy); it has NAME, time; if one of "
+                            "these is it, tell tools/from_daa so: --columns alt=NAME\n"),
                            (HEAD, "no report of an aircraft"), (HEAD + "own 60 10 x 90 150 0 3\n", "line 3: no number for alt"),
                            (HEAD.replace("[ft]", "[furlong]") + "own 60 10 1 90 150 0 3\n", "line 2: furlong is no unit of alt"),
-                           (HEAD + "own 60 10\n", "line 3: no number for trk"), (HEAD + "own 60 10 1 90 nan 0 3\n", "line 3: no number for gs"),
+                           (HEAD + "own 60 10\n", "line 3: 3 fields, and the header has 8: between blanks no empty field is seen (write commas): 'own 60 10'\n"), (HEAD + "own 60 10 1 90 nan 0 3\n", "line 3: no number for gs"),
                            (HEAD.replace("NAME lat", "NAME lat lat"), "the header names lat twice"),
                            ("name,time,sx,sy,alt,vx,vy,vs\n,0,0,0,0,0,100,0\n", "line 2: no name")):
             status, out, said = self.tool("from_daa", self.write("in.daa", text))

@@ -20,10 +20,10 @@ LIMITS = {
 
 class FromDaa(ToolTest):
     def made(self, recording, wanted=0):
-        """The lines that are made of a recording, and what is said."""
+        """The lines that are made of a recording, without comments, and what is said."""
         status, out, said = self.tool("from_daa", self.write("in.daa", recording))
         self.assertEqual(status, wanted, said)
-        return out.splitlines(), said
+        return [line for line in out.splitlines() if not line.startswith("#")], said
 
     def test_the_cosine_is_that_of_the_middle_latitude(self):
         """60 NM times the cosine of 60.5 degrees are 29.545 NM; of 60 degrees they would be 30, of 61 degrees 29.089."""

@@ -1,0 +1,293 @@
+"""Makes moments of reports: each report of the ownship is one, at its whole second, with the latest report of every other aircraft until
+then. Reports are taken in the order of their times, one by one, so that a recording can be read while it is written."""
+import bisect
+import math
+import re
+
+from daidalus_files import (AGE, ALT, FIELDS, GS, MOST_AIRCRAFT, VS, VX, Own, Traffic, X, fixed, lacks_line, origin_line)
+from headings import velocity
+
+from .plane import closest, offset, on_ellipsoid, rotated
+
+LAST_SECOND = FIELDS["moment"][0].high
+FARTHEST_OWN = 100  # NM: an ownship that is farther from where it began is put at 0 0
+ROUNDING = 1e-6  # s: what the rounding of a time's unit may cost
+NEAR = 40  # NM: an aircraft that is left out and was nearer, flown straight on, is told in its moment
+FORGOTTEN = 300  # s: after so long an old report says nothing any more about where an aircraft is
+MOST_LACKS = 20  # aircraft that a moment lacks and that are named one by one
+
+
+def whole_second(time):
+    """The second that a time lies in."""
+    return math.floor(time + ROUNDING)
+
+
+def fits(value, field):
+    return field.low <= value <= field.high
+
+
+class Identifiers(dict):
+    """An identifier of at most 8 letters for each name: the name itself, or one that keeps the digits at its end."""
+
+    def __init__(self, names=()):
+        super().__init__()
+        self.taken, self.spare = set(), 0
+        for is_sound in (True, False):  # so that a name that is an identifier stays one
+            for name in names:
+                if self.is_sound(name) == is_sound:
+                    self[name]
+
+    @staticmethod
+    def is_sound(name):
+        return bool(re.fullmatch("[A-Za-z0-9_-]{1,8}", name))
+
+    def __missing__(self, name):
+        clean = re.sub(r"[^A-Za-z0-9_-]", "", name)
+        digits = re.search(r"[0-9]{0,7}$", clean).group()
+        short = clean if len(clean) <= 8 else clean[:8 - len(digits)] + digits
+        while not short or short in self.taken:
+            short = f"A{self.spare}"
+            self.spare += 1
+        self.taken.add(short)
+        self[name] = short
+        return short
+
+
+class Losses:
+    """The greatest of each thing that rounding costs between the ownship and an aircraft: NM, ft, knots, ft/min, NM; and how far the
+    plane's distances are off from those on the ellipsoid, in NM."""
+
+    def __init__(self):
+        self.place = self.height = self.speed = self.climb = self.closest = self.plane = 0.0
+        self.count = 0
+
+    def note(self, place, seen_place, speed, seen_speed, height, climb):
+        """Notes what the program sees of an aircraft, from its ownship, against what was recorded."""
+        self.count += 1
+        self.place = max(self.place, math.dist(seen_place, place))
+        self.speed = max(self.speed, math.dist(seen_speed, speed))
+        self.height = max(self.height, abs(height))
+        self.climb = max(self.climb, abs(climb))
+        self.closest = max(self.closest, abs(closest(*seen_place, *seen_speed) - closest(*place, *speed)))
+
+    def told(self):
+        if self.count:
+            yield (f"lost in rounding, at most: place {self.place:.4f} NM, height {self.height:.1f} ft, speed {self.speed:.2f} knots, "
+                   f"vertical speed {self.climb:.1f} ft/min, distance at the closest approach {self.closest:.4f} NM")
+
+
+class OwnFrame:
+    """A moment's ownship: its report, its numbers, and how the plane is turned round it."""
+
+    def __init__(self, row, own, angle):
+        self.row, self.own, self.angle = row, own, angle
+        self.cos, self.sin = math.cos(angle), math.sin(angle)
+        self.speed = self.turned(row.east, row.north)
+        self.seen_speed = [part / 10 for part in velocity(own.gs, own.trk)]
+
+    def turned(self, east, north):
+        """What rotated gives for the plane's angle."""
+        return east * self.cos - north * self.sin, east * self.sin + north * self.cos
+
+
+class Maker:
+    """Makes moments of the reports that it takes."""
+
+    def __init__(self, own_name, on_earth, oldest, names=()):
+        self.own_name, self.on_earth, self.oldest = own_name, on_earth, oldest
+        self.ids, self.losses, self.left_out = Identifiers(names), Losses(), {}
+        self.latest, self.incomplete, self.used, self.unused = {}, {}, set(), {}
+        self.pending, self.start, self.last, self.silence = None, None, -1, ""
+        self.steps, self.lacking, self.far, self.count, self.most = [], {}, 0, 0, 0
+
+    def leave_out(self, what, why, count=1):
+        self.left_out[what, why] = self.left_out.get((what, why), 0) + count
+
+    # Reports.
+
+    def take(self, row):
+        """Takes a report; the moment that is whole by it, or None. A moment waits for what is reported at the same time."""
+        made = self.flush() if self.pending and row.time > self.pending.time else None
+        if row.name != self.own_name:
+            self.take_traffic(row)
+        elif self.pending:
+            self.leave_out("moment", "in a second that has one already, or out of range")
+        else:
+            self.pending = row
+        return made
+
+    def take_traffic(self, row):
+        held = self.latest.get(row.name)
+        if row.lack:
+            self.incomplete[row.name] = row
+        elif held and row.time < held.time:
+            self.unused[row.name] = self.unused.get(row.name, 0) + 1
+        else:
+            if held:
+                self.forget(row.name)
+            self.latest[row.name] = row
+            self.incomplete.pop(row.name, None)
+
+    def forget(self, name):
+        """The report of an aircraft is not the latest any more: notes whether no moment had it."""
+        if name in self.used:
+            self.used.discard(name)
+        else:
+            self.unused[name] = self.unused.get(name, 0) + 1
+
+    def flush(self):
+        """The moment of the ownship's last report, or None."""
+        row, self.pending = self.pending, None
+        return self.moment(row) if row else None
+
+    def moment(self, row):
+        """The time, the ownship, the aircraft, the comments, and why there is no moment before it; or None."""
+        self.start = self.start or row
+        second = whole_second(row.time)
+        if not max(self.last + 1, 0) <= second <= LAST_SECOND:
+            self.leave_out("moment", "in a second that has one already, or out of range")
+            return None
+        frame = None if row.lack else self.frame_of(row)
+        if frame is None:
+            self.leave_out("moment", f"whose ownship has {row.lack}" if row.lack else "whose ownship is out of range")
+            self.silence = f"of the ownship {row.lack}" if row.lack else "the ownship is out of range"
+            return None
+        silence = self.silence or self.silence_between(self.last, second)
+        traffic, comments = self.traffic_at(frame, second)
+        if self.on_earth:
+            comments.append(origin_line(*row.place, math.degrees(frame.angle)))
+        self.last, self.silence, self.count, self.most = second, "", self.count + 1, max(self.most, len(traffic))
+        return second, frame.own, traffic, comments, silence
+
+    def silence_between(self, last, second):
+        """Why there is no moment between two seconds, or nothing: where more than two of the recording's steps lie between them. The
+        median of the steps so far is the recording's."""
+        if last < 0:
+            return ""
+        step = second - last
+        usual = self.steps[len(self.steps) // 2] if self.steps else step
+        bisect.insort(self.steps, step)
+        return f"no report of the ownship between {last} and {second} s" if step > 2 * usual else ""
+
+    # Numbers.
+
+    def frame_of(self, row):
+        """The ownship's numbers and the plane round it, or None where they are out of range."""
+        track = (math.degrees(math.atan2(row.east, row.north)) if row.east or row.north else row.track) % 360
+        whole = round(track)
+        east, north = offset(self.start.place, row.place, self.on_earth)
+        is_far = max(abs(east), abs(north)) > FARTHEST_OWN
+        x, y = (0, 0) if is_far else (round(1000 * east), round(1000 * north))
+        own = Own(x, y, round(row.alt), whole % 360, round(10 * math.hypot(row.east, row.north)), round(row.vs))
+        if not (fits(own.alt, ALT) and fits(own.gs, GS) and fits(own.vs, VS)):
+            return None
+        self.far += is_far
+        return OwnFrame(row, own, math.radians(track - whole))
+
+    def traffic_of(self, row, frame, east, north):
+        """An aircraft's numbers, or None where they are out of range; notes what is lost."""
+        own, own_row = frame.own, frame.row
+        late = own_row.time - row.time
+        age = min(max(whole_second(late), 0), AGE.high)
+        part = late - age
+        place = frame.turned(east + row.east * part / 3600, north + row.north * part / 3600)
+        speed = frame.turned(row.east, row.north)
+        alt = row.alt + row.vs * part / 60
+        x, y, vx, vy = round(1000 * place[0]), round(1000 * place[1]), round(10 * speed[0]), round(10 * speed[1])
+        made = Traffic(self.ids[row.name], own.x + x, own.y + y, round(alt), vx, vy, round(row.vs), age)
+        if not (fits(made.x, X) and fits(made.y, X) and fits(made.alt, ALT) and fits(vx, VX) and fits(vy, VX) and fits(made.vs, VS)):
+            return None
+        seen_own = frame.seen_speed
+        self.losses.note(place, (x / 1000, y / 1000), (speed[0] - frame.speed[0], speed[1] - frame.speed[1]),
+                         (vx / 10 - seen_own[0], vy / 10 - seen_own[1]), made.alt - own.alt - alt + own_row.alt, made.vs - own.vs - row.vs + own_row.vs)
+        if self.on_earth:
+            self.losses.plane = max(self.losses.plane, abs(math.hypot(east, north) - on_ellipsoid(own_row.place, row.place)))
+        return made
+
+    def traffic_at(self, frame, second):
+        """The nearest aircraft, as many as there may be, in the order in which the recording first has them; and the comments that
+        name those that the moment lacks, the nearest one first."""
+        own_row, there, lacking = frame.row, [], []
+        for row in list(self.latest.values()):
+            late = own_row.time - row.time
+            if late > FORGOTTEN + ROUNDING:
+                self.forget(row.name)
+                del self.latest[row.name]
+                continue
+            east, north = offset(own_row.place, row.place, self.on_earth)
+            far = math.hypot(east + row.east * late / 3600, north + row.north * late / 3600)
+            if late > self.oldest + ROUNDING:
+                self.leave_out("aircraft", f"whose report is older than {self.oldest:g} s, in a moment")
+                lacking.append((far, row.name, self.lack_of(row, own_row.time)))
+            else:
+                there.append((far, row, east, north))
+        if len(there) > MOST_AIRCRAFT:
+            there.sort(key=lambda one: one[0])
+        found = self.found_of(there, frame, lacking)
+        lacking += self.incomplete_at(own_row)
+        return [found[name] for name in self.latest if name in found] if len(there) > MOST_AIRCRAFT else list(found.values()), self.comments(lacking, second)
+
+    def found_of(self, there, frame, lacking):
+        """The aircraft of a moment by their names; adds those that it lacks."""
+        found = {}
+        for far, row, east, north in there:
+            made = self.traffic_of(row, frame, east, north) if len(found) < MOST_AIRCRAFT else None
+            if made:
+                found[row.name] = made
+                self.used.add(row.name)
+                continue
+            self.leave_out("aircraft", "out of range, or more than there may be, in a moment")
+            lacking.append((far, row.name, f"more than {MOST_AIRCRAFT} aircraft" if len(found) == MOST_AIRCRAFT else "out of range"))
+        return found
+
+    def lack_of(self, row, now):
+        """Why a moment lacks an aircraft whose last whole report is old."""
+        newer = self.incomplete.get(row.name)
+        if newer and now - newer.time <= self.oldest + ROUNDING:
+            return newer.lack
+        return f"no report for {whole_second(now - row.time)} s"
+
+    def incomplete_at(self, own_row):
+        """The aircraft of which only reports came that lack something, with their distance and what they lack."""
+        for name, row in list(self.incomplete.items()):
+            late = own_row.time - row.time
+            if late > FORGOTTEN + ROUNDING:
+                del self.incomplete[name]
+            elif name not in self.latest:
+                far = math.hypot(*offset(own_row.place, row.place, self.on_earth))
+                yield far, name, row.lack if late <= self.oldest + ROUNDING else f"no report for {whole_second(late)} s"
+
+    def comments(self, lacking, second):
+        """The comments on those that a moment lacks and that were near, the nearest one first."""
+        near = sorted((one for one in lacking if one[0] <= NEAR), key=lambda one: one[0])
+        for _, name, _ in near:
+            first, _, count = self.lacking.get(name, (second, second, 0))
+            self.lacking[name] = first, second, count + 1
+        lines = [lacks_line(self.ids[name], f"{why}, {fixed(far, 1)} NM away") for far, name, why in near[:MOST_LACKS]]
+        return lines + [lacks_line("*", f"{len(near) - MOST_LACKS} more")] * (len(near) > MOST_LACKS)
+
+    # What is told.
+
+    def end(self):
+        """Notes the reports that no moment had."""
+        for name in list(self.latest):
+            self.forget(name)
+        self.latest = {}
+
+    def told_lacking(self):
+        """Whom moments lack, and when."""
+        for name, (first, last, count) in self.lacking.items():
+            yield (f"{self.ids[name]} is lacking in {count} moment{'s' * (count != 1)}, from {first} to {last} s: what is not known there is not clear")
+
+    def told(self):
+        """What was changed and left out."""
+        for (what, why), count in self.left_out.items():
+            yield f"left out: {count} {what}{'s' * (count != 1 and what != 'aircraft')} {why}"
+        for name, count in self.unused.items():
+            yield (f"left out: {count} report{'s' * (count != 1)} of {name} that no moment has: a newer one came first, it was too old or out of range, "
+                   "or no moment came after it")
+        if self.far:
+            yield f"{self.far} moment{'s' * (self.far != 1)} with the ownship at 0 0, more than {FARTHEST_OWN} NM from where it began"
+        yield from self.losses.told()
+        if self.losses.plane:
+            yield f"the plane against the ellipsoid WGS 84: distances differ by at most {self.losses.plane:.4f} NM"
