@@ -1,0 +1,4 @@
+pub mod Roots
+pub mod Sums
+pub mod Truth
+pub mod Growth

@@ -1,0 +1,3 @@
+pub mod ErrorBounds
+pub mod MayViolate
+pub mod Examples

@@ -1,0 +1,32 @@
+//! Laws of the volume where errors have bounds.
+
+ghost use Rattle.std.specs.Prelude.{ℤ, pos, ◌≤ℤ◌};
+ghost use Rattle.daa_fixed.specs.declared.Leg.{Leg};
+ghost use Rattle.daa_taumod.specs.declared.Volume.{Volume};
+ghost use Rattle.daa_taumod.specs.Volume.{Violates};
+ghost use Rattle.daa_margin.specs.declared.ErrorBounds.{ErrorBounds};
+ghost use Rattle.daa_margin.specs.ErrorBounds.{AreNoWider, IsWithinErrors};
+ghost use Rattle.daa_margin.specs.MayViolate.{IsVolumeWithin, MayViolate};
+
+/// No true violation is missed: where the truth violates the volume, by any of the four models, and
+/// is within the bounds of what is reported at that time, what is reported may violate it.
+pub fn no_true_violation_is_missed()
+    ensures { (truth reported : Leg) (volume : Volume) (bounds : ErrorBounds) (n d : ℤ) →
+        pos 0 ≤ℤ n → pos 1 ≤ℤ d → IsWithinErrors bounds truth reported n d →
+        Violates truth volume n d → MayViolate reported volume bounds n d }
+{}
+
+/// With wider bounds no less may be violated.
+pub fn may_violate_grows_with_the_bounds()
+    ensures { (leg : Leg) (volume : Volume) (narrow wide : ErrorBounds) (n d : ℤ) →
+        pos 0 ≤ℤ n → pos 1 ≤ℤ d → AreNoWider narrow wide →
+        MayViolate leg volume narrow n d → MayViolate leg volume wide n d }
+{}
+
+/// With greater thresholds, or a later model in the order in which the models lie one within the
+/// next, no less may be violated.
+pub fn may_violate_grows_with_the_volume()
+    ensures { (leg : Leg) (inner outer : Volume) (bounds : ErrorBounds) (n d : ℤ) →
+        pos 0 ≤ℤ n → pos 1 ≤ℤ d → IsVolumeWithin inner outer →
+        MayViolate leg inner bounds n d → MayViolate leg outer bounds n d }
+{}
