@@ -63,10 +63,10 @@
     const f = view.g.font;
     const matters = alert.level > 0 || isChosen;
     const first = isNow(alert) ? "now" : `${alert.first} s`;
-    const words = matters || !off ? [one.id, `${tag}${off ? ` ${n(miles)} NM` : ""}`] : [one.id];
+    const age = isOld(one) ? ` · ${one.age} s` : "";
+    const words = matters || !off ? [one.id, `${tag}${off ? ` ${n(miles)} NM` : ""}${age}`] : [one.id];
     const told = words.length; // the row of the alert
     if (alert.level) words.push(`L${alert.level} ${first}`);
-    if (isOld(one)) words.push(`${one.age} s old`);
     const line = Math.round(f * 1.15);
     const wide = Math.max(...words.map((it) => widthOf(it, f))) + 2;
     const spot = labels.place(shown, wide, line * words.length, alert.now ? 17 : 11, matters);

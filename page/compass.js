@@ -154,12 +154,14 @@
     return [lower, upper, said.recover.track && said.recover.track.value].filter((it) => typeof it === "number");
   }
 
+  const ANSWER = 20; // how much more it costs to cover an answer than another text
+
   /** The ring's own answers, which no label may cover. */
   function answerBoxes(view, model) {
     const f = view.g.font;
     return answerBearings(model).map((bearing) => {
       const p = at(view, bearing, view.g.radius - f * 1.7);
-      return { x: p.x - f * 1.6, y: p.y - f * 1.4, wide: f * 3.2, tall: f * 2.8 };
+      return { x: p.x - f * 1.6, y: p.y - f * 1.4, wide: f * 3.2, tall: f * 2.8, weight: ANSWER };
     });
   }
 

@@ -54,16 +54,17 @@
     }
   }
 
-  function putHandle(group, kept, { key, x, y, inside, label, value, level, number, least, most }, chosen) {
+  function putHandle(group, kept, { key, x, y, inside, label, value, level, number, least, most, isReached = true }, chosen) {
     let it = kept.get(key);
     if (!it) {
       it = document.createElementNS("http://www.w3.org/2000/svg", "g");
-      Object.entries({ "data-key": key, tabindex: "0", role: "slider" }).forEach((pair) => it.setAttribute(...pair));
+      Object.entries({ "data-key": key, role: "slider" }).forEach((pair) => it.setAttribute(...pair));
       kept.set(key, it);
       group.append(it);
     }
     const set = (name, words) => { if (words !== undefined && it.getAttribute(name) !== String(words)) it.setAttribute(name, words); };
     set("transform", `translate(${n(x)} ${n(y)})`);
+    set("tabindex", isReached ? "0" : "-1");
     set("aria-label", label);
     set("aria-valuenow", number);
     set("aria-valuemin", least);

@@ -4,29 +4,46 @@
   const { n, text, fitted, edge, at, plan, flown, vectorSeconds, within, wordsOfHeight, nameOf, symbol, OWN_SHAPE, ownSize, isOld, sighted,
     labelled, drawLabel, scaleOf, TAPES, TAPE_KINDS, shownValue } = daa.art;
 
+  // Between which values a screen reader is told a number to lie: those of state lines.
+  const LIMITS = { gs: [0, 10000], vs: [-10000, 10000], alt: [-2000, 60000] };
+  const FROM_0 = { speed: { least: 0, most: 1415 }, miles: { least: 0, most: 566 } }; // of 1000 kt and 200 NM on both sides, each way
+
   const grip = (r) => `<circle class="grip" r="${r}"/>`;
   const focusRing = (r) => `<circle class="focus" r="${r}" pathLength="400"/>`; // four arcs, so that it is no other circle
 
   function handles(view, model) {
     const all = model.traffic.map((one, place) => sighted(view, model, one, place));
     labelled(view, model, all);
-    const quiet = [...all].sort((a, b) => a.alert.level - b.alert.level); // what alerts is drawn over the rest
-    const made = quiet.flatMap((it) => [velocityHandle(view, it), aircraftHandle(view, it)].filter(Boolean));
-    return [...made, ...ownHandles(view, model), trackHandle(view, model), ...TAPE_KINDS.map((kind) => tapeHandle(view, model, kind))];
+    const made = (some) => some.flatMap((it) => [velocityHandle(view, it), aircraftHandle(view, it)].filter(Boolean));
+    const order = byUrgency(all);
+    const reached = order.find(({ called }) => called === calledOf(view.chosen)) || order[0];
+    for (const it of all) it.isReached = it === reached; // one of all takes the tabulator's focus
+    const isLoud = ({ alert }) => Math.max(alert.level, alert.now) > 0;
+    const rest = [...order].reverse(); // what alerts is drawn over the rest, and over the ownship
+    const tapes = TAPE_KINDS.map((kind) => tapeHandle(view, model, kind));
+    return [...made(rest.filter((it) => !isLoud(it))), ...ownHandles(view, model), ...made(rest.filter(isLoud)), trackHandle(view, model), ...tapes];
   }
+
+  /** Aircraft, those that alert most and first before the others, and of those the nearest. */
+  function byUrgency(all) {
+    const urgency = ({ alert }) => 1000 * Math.max(alert.level, alert.now) - (alert.first ?? 0);
+    return [...all].sort((a, b) => urgency(b) - urgency(a) || a.miles - b.miles);
+  }
+
+  const calledOf = (key) => (key ?? "").replace(/^[pv]:/, "");
 
   const knob = (stroke) => `${focusRing(10)}<circle r="4.5" fill="var(--ground)" stroke="${stroke}" stroke-width="2"/>${grip(12)}`;
   const strokeOf = (level) => (level ? edge(level) : "var(--ink)");
 
-  function velocityHandle(view, { one, off, tip, end, alert, called }) {
+  function velocityHandle(view, { one, off, tip, end, alert, called, isReached }) {
     if (off || end !== tip) return null;
     const speed = n(Math.hypot(one.vx, one.vy) / 10);
-    return { key: `v:${called}`, x: tip.x, y: tip.y, label: `velocity of ${nameOf(one)}`, number: speed,
+    return { key: `v:${called}`, x: tip.x, y: tip.y, label: `velocity of ${nameOf(one)}`, number: speed, ...FROM_0.speed, isReached,
       value: `east ${n(one.vx / 10)}, north ${n(one.vy / 10)} knots`, inside: knob(strokeOf(alert.level)) };
   }
 
   function aircraftHandle(view, it) {
-    const { one, alert, off, shown, end, miles, tag, called } = it;
+    const { one, alert, off, shown, end, miles, tag, called, isReached } = it;
     const line = off ? "" : `<path d="M0 0L${n(end.x - shown.x)} ${n(end.y - shown.y)}" stroke="${strokeOf(alert.level)}" stroke-width="2"/>`;
     const mark = symbol(alert, isOld(one));
     const back = off || !isOld(one) ? "" : wayBack(view, it);
@@ -34,7 +51,7 @@
     const old = isOld(one) ? `, its report is ${one.age} seconds old` : "";
     const value = `${n(miles)} NM away, ${wordsOfHeight(tag)}, ${told}${alert.now ? `, level ${alert.now} now` : ""}${old}`;
     const shape = off ? `<g opacity=".7" transform="scale(.8)">${mark}</g>` : mark;
-    return { key: `p:${called}`, x: shown.x, y: shown.y, label: nameOf(one), number: n(miles), value, level: alert.level,
+    return { key: `p:${called}`, x: shown.x, y: shown.y, label: nameOf(one), number: n(miles), ...FROM_0.miles, value, level: alert.level, isReached,
       inside: focusRing(20) + back + line + shape + drawLabel(view.g, it) + grip(15) };
   }
 
@@ -53,10 +70,11 @@
     const made = [];
     if (end === tip) {
       const speed = n(own.gs / 10);
-      made.push({ key: "v:", x: tip.x, y: tip.y, label: "velocity of the ownship", number: speed,
+      made.push({ key: "v:", x: tip.x, y: tip.y, label: "velocity of the ownship", number: speed, ...FROM_0.speed,
         value: `track ${own.trk}, ${speed} knots`, inside: knob("var(--own)") });
     }
-    made.push({ key: "p:", x: p.x, y: p.y, label: "ownship", number: 0, value: `east ${n(own.x / 1000)}, north ${n(own.y / 1000)} NM`,
+    const place = `east ${n(own.x / 1000)}, north ${n(own.y / 1000)} NM`;
+    made.push({ key: "p:", x: p.x, y: p.y, label: "ownship", number: 0, ...FROM_0.miles, value: place,
       inside: `${focusRing(23)}<path d="M0 0L${n(end.x - p.x)} ${n(end.y - p.y)}" stroke="var(--own)" stroke-width="2"/>`
         + `<g transform="rotate(${n(own.trk - view.up)}) scale(${n(ownSize(view, config))})">${OWN_SHAPE}</g>${grip(17)}` });
     return made;
@@ -83,7 +101,7 @@
     const line = (stroke, width) => `<path d="M0 0h${band}" stroke="${stroke}" stroke-width="${width}"/>`;
     const box = `M2 0L${n(-f * 0.7)} ${n(-f * 0.85)}H${n(-wide)}V${n(f * 0.85)}H${n(-f * 0.7)}Z`;
     return { key: kind, x, y: scale.y(model.own[kind]), label: `${TAPES[kind].name} of the ownship`, number: shown,
-      least: shownValue(kind, scale.low), most: shownValue(kind, scale.high), value: `${shown} ${TAPES[kind].unit}`,
+      least: shownValue(kind, LIMITS[kind][0]), most: shownValue(kind, LIMITS[kind][1]), value: `${shown} ${TAPES[kind].unit}`,
       inside: `<path d="${box}" fill="var(--ground)" stroke="var(--own)" stroke-width="2"/>`
         + text(-f * 0.75, f * 0.37, shown, `class="value end" font-size="${n(fitted(shown, f, wide - f * 0.75 - 3))}" style="fill:var(--own)"`)
         + line("var(--ground)", 5) + line("var(--own)", 2.5)

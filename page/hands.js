@@ -78,6 +78,26 @@
     restore();
   }
 
+  const NOTCH = 80; // points: so far a wheel turns for the next range
+  const LINE = 40; // points of a line, where a wheel tells of lines
+  let rolled = 0;
+
+  /** Takes by how much a wheel was turned, which a touchpad tells in many small parts; how many ranges farther that is. */
+  function rangesRolled({ deltaY, deltaMode }) {
+    const by = deltaMode ? LINE * deltaY : deltaY;
+    if (by * rolled < 0) rolled = 0; // the other way
+    rolled += by;
+    const ranges = Math.trunc(rolled / NOTCH);
+    rolled -= ranges * NOTCH;
+    return ranges;
+  }
+
+  /** Where the page is higher than the window a wheel scrolls it. */
+  const scrolls = () => {
+    const { scrollHeight, clientHeight } = document.documentElement;
+    return scrollHeight > clientHeight;
+  };
+
   for (const figure of document.querySelectorAll("figure")) {
     const svg = figure.querySelector("svg");
     const view = () => state.views[Number(figure.dataset.view)];
@@ -102,21 +122,37 @@
     });
     for (const end of ["pointerup", "pointercancel"]) svg.addEventListener(end, (event) => { if (isHolding(event)) drop(); });
     svg.addEventListener("wheel", (event) => {
-      if (event.ctrlKey) return; // the browser's own: the page grows or shrinks
+      if (event.ctrlKey || scrolls()) return; // the browser's own: the page grows or shrinks, or scrolls
       event.preventDefault();
-      if (event.deltaY) act(event.deltaY > 0 ? "wide" : "near", view(), figure);
+      const ranges = rangesRolled(event);
+      for (let step = 0; step < Math.abs(ranges); step++) act(ranges > 0 ? "wide" : "near", view(), figure);
     }, { passive: false });
     svg.addEventListener("keydown", (event) => {
       const handle = event.target.closest(".handle");
       if (!handle || event.ctrlKey || event.metaKey || event.altKey) return;
+      if (event.key === "Enter") {
+        event.preventDefault();
+        nextAircraft(figure, event.shiftKey ? -1 : 1);
+        return;
+      }
       if (!press(handle.dataset.key, event.key, event.shiftKey, view())) return;
       event.preventDefault();
       edited();
+      if (event.key === "Delete") focusOn(figure, "p:"); // what had the focus is no more
     });
     svg.addEventListener("focusin", ({ target }) => { if (target.matches(".handle")) choose(target.dataset.key); });
   }
 
   // ---- and by the keys
+
+  const focusOn = (figure, key) => figure.querySelector(`.handle[data-key="${CSS.escape(key)}"]`)?.focus({ preventScroll: true });
+
+  /** The focus goes from aircraft to aircraft, in the order of the table, those that alert first. */
+  function nextAircraft(figure, by) {
+    const keys = ui.aircraftInOrder().map((called) => `p:${called}`);
+    const at = keys.indexOf(`p:${partsOf(state.chosen)[1]}`);
+    if (keys.length) focusOn(figure, keys[at < 0 ? (by > 0 ? 0 : keys.length - 1) : (at + by + keys.length) % keys.length]);
+  }
 
   /** A key pressed at what can be moved; whether it means something there. */
   function press(key, pressed, more, view) {
@@ -156,8 +192,8 @@
     setVelocity(one, speed * Math.sin(bearing), speed * Math.cos(bearing));
   }
 
-  const TYPES = "input, textarea, select"; // where letters are typed, or choose
-  const PRESSED = `${TYPES}, button, summary, [role=group][tabindex='0']`; // what the space bar presses or scrolls
+  const TYPES = "textarea, input:not([type=checkbox], [type=range], [type=file])"; // where letters are typed
+  const PRESSED = "textarea, select, input:not([type=range]), button, summary, [role=group][tabindex='0']"; // what the space bar presses or scrolls
 
   document.addEventListener("keydown", (event) => {
     if (event.ctrlKey || event.metaKey || event.altKey) return;

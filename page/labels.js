@@ -98,7 +98,7 @@
       let sum = OFF_DISC * this.cornersOff(box);
       for (const other of this.boxes) {
         if (sum >= most) return sum;
-        sum += OVER_TEXT * overlap(box, other);
+        sum += (other.weight ?? 1) * OVER_TEXT * overlap(box, other);
       }
       for (const line of this.lines) {
         if (sum >= most) return sum;

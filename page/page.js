@@ -255,8 +255,9 @@
     if (!told.includes(FROM_A_LINK)) state.told = [FROM_A_LINK, ...told];
     state.hash = hash;
     held.configs.forEach(({ name, toml }, place) => configure(place, String(toml), String(name)));
-    held.look.forEach(({ trackUp, range, heights }, place) => Object.assign(state.views[place].look, { trackUp: Boolean(trackUp),
-      range: RANGES_NM.includes(range) ? range : 12, heights: VIEW_HEIGHTS.includes(heights) ? heights : 3000 }));
+    held.look.forEach(({ auto, trackUp, range, heights }, place) => Object.assign(state.views[place].look, {
+      auto: Boolean(auto), trackUp: Boolean(trackUp), range: RANGES_NM.includes(range) ? range : 12,
+      heights: VIEW_HEIGHTS.includes(heights) ? heights : 3000 }));
     state.compare = Boolean(held.compare);
     $("compare").checked = state.compare;
     $("example").value = "";
@@ -287,9 +288,10 @@
     setTimeout(() => { target.textContent = "Copy link"; }, 2500);
   });
   addEventListener("hashchange", takeLink);
-  document.querySelector(".skip").addEventListener("click", (event) => { // the address keeps its link
+  document.body.addEventListener("click", (event) => { // the address keeps its link
+    if (!event.target.matches(".skip")) return;
     event.preventDefault();
-    $("panel").focus();
+    document.querySelector(event.target.getAttribute("href")).focus();
   });
 
   // ---- pictures
@@ -362,7 +364,7 @@
     }
     const shared = `<style>${daa.STYLE}</style><defs>${daa.patterns()}</defs>`;
     document.body.insertAdjacentHTML("beforeend", `<svg width="0" height="0" aria-hidden="true" style="position:absolute">${shared}</svg>`);
-    const look = () => ({ trackUp: false, range: 12, heights: 3000 });
+    const look = () => ({ auto: true, trackUp: false, range: 12, heights: 3000 });
     const [configs, encounters] = [Object.keys(daa.examples.configs), Object.keys(daa.examples.encounters)];
     state.views = [0, 1].map(() => ({ look: look(), desk: new Desk(module), edition: 0 }));
     state.survey = new Desk(module);

@@ -112,7 +112,9 @@
   });
   $("state").addEventListener("change", changed); // what was typed and is left is shown as it was taken
   $("state").addEventListener("click", ({ target }) => {
-    if (target.matches("[data-remove]")) remove(state.current.traffic.indexOf(chosenAircraft()));
+    if (!target.matches("[data-remove]")) return;
+    remove(state.current.traffic.indexOf(chosenAircraft()));
+    document.querySelector('#aircraft [data-choose=""]')?.focus(); // what had the focus is no more
   });
 
   function remove(place) {
@@ -230,5 +232,8 @@
     if (typeof said.last[kind] === "number") last.push(`${NAMES[kind]} ${said.last[kind]} s`);
   }
 
-  Object.assign(ui, { remove, chip, paintTable, paintForm, paintReport, paintSummary });
+  /** What keys call the aircraft, in the order of the table. */
+  const aircraftInOrder = () => rowsOf(saidOf(state.views[0])).map(({ one }) => calledIn(state.current.traffic, one));
+
+  Object.assign(ui, { remove, aircraftInOrder, chip, paintTable, paintForm, paintReport, paintSummary });
 })();

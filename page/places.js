@@ -4,12 +4,13 @@
 (function (root) {
   const { radians, clamp } = daa.art;
 
-  /** Where things are in a display of some size: letters, compass, tapes, answers and legend. */
-  function geometryOf(width, height, { config }) {
+  /** Where things are in a display of some size: letters, compass, tapes, answers and legend; with room for those of all configurations. */
+  function geometryOf(width, height, { config, configs = [config] }) {
     const font = clamp(Math.round(Math.min(width / 60, height / 38)), 11, 16);
     const line = Math.round(font * 1.35);
-    const rows = 2 + (config.recovery ? 1 : 0) + (config.lastTimes ? 1 : 0);
-    const legendRows = daa.art.legendOf(config, font, width).length;
+    const most = (count) => Math.max(...configs.map(count)); // so that the compasses of two displays are alike
+    const rows = most((it) => 2 + (it.recovery ? 1 : 0) + (it.lastTimes ? 1 : 0));
+    const legendRows = most((it) => daa.art.legendOf(it, font, width).length);
     const g = { width, height, font, line, rows, top: line * 1.5, foot: height - legendRows * line - 4 };
     const beside = besideCompass({ ...g });
     const below = belowCompass({ ...g });
@@ -97,7 +98,7 @@
   }
 
   /** How far ahead the velocities are drawn: less on a small range. */
-  const vectorSeconds = (view) => (view.range >= 6 ? 60 : view.range >= 3 ? 30 : 15);
+  const vectorSeconds = ({ range }) => (range >= 6 ? 60 : range >= 3 ? 30 : range >= 1.5 ? 15 : 5);
 
   /** The end of a line from a point of the rose to another, cut at the rim. */
   function within(g, from, to) {

@@ -8,7 +8,7 @@
   const { VIEW_HEIGHTS, clamp, flown, escape, draw, calledIn, nameOf } = daa;
   const ui = (daa.ui = {}); // what the page's scripts share
   const $ = (id) => document.getElementById(id);
-  const RANGES_NM = [1.5, 3, 6, 9, 12, 18, 24, 36, 48, 96, 192]; // so that their thirds are short numbers
+  const RANGES_NM = [0.3, 0.6, 0.9, 1.5, 3, 6, 9, 12, 18, 24, 36, 48, 96, 192]; // so that their thirds are short numbers
   const LIMITS = { x: [-200000, 200000], y: [-200000, 200000], alt: [-2000, 60000], trk: [0, 359], gs: [0, 10000],
     vx: [-10000, 10000], vy: [-10000, 10000], vs: [-10000, 10000], age: [0, 60] };
   // The numbers of the ownship and of an aircraft: each one's name and unit on the page, and how many of the engine's that is.
@@ -17,6 +17,8 @@
   const FIELDS = [["x", "east", "NM", 1000], ["y", "north", "NM", 1000], ["alt", "altitude", "ft", 1], ["vx", "east", "kt", 10],
     ["vy", "north", "kt", 10], ["vs", "vertical", "ft/min", 1], ["age", "age", "s", 1]];
   const PAPER = { display: { width: 1100, height: 680 }, strip: { width: 1100, height: 150 } };
+  const ROOM = 1.15; // so much farther the range is than the farthest aircraft that alerts
+  const CHANGED = 2000; // ms: so long a range that changed is marked
   const SOON = 60; // ms: an answer that takes longer is waited for with the bands hidden
 
   const state = { engine: null, survey: null, views: [], name: "", moments: [], lacks: [], faults: [], index: 0, current: null, version: 0,
@@ -45,6 +47,22 @@
     link.click();
     setTimeout(() => URL.revokeObjectURL(link.href), 10000);
   }
+
+  /** Makes an element a toolbar: the tabulator reaches one of its buttons, and the arrow keys go from one to the next. */
+  ui.makeToolbar = (element) => {
+    const buttons = [...element.querySelectorAll("button")];
+    const reach = (button) => buttons.forEach((other) => { other.tabIndex = other === button ? 0 : -1; });
+    element.setAttribute("role", "toolbar");
+    element.setAttribute("aria-label", "View");
+    reach(buttons[0]);
+    element.addEventListener("focusin", ({ target }) => { if (buttons.includes(target)) reach(target); });
+    element.addEventListener("keydown", (event) => {
+      const by = { ArrowRight: 1, ArrowLeft: -1 }[event.key];
+      if (!by || !buttons.includes(event.target)) return;
+      event.preventDefault();
+      buttons[(buttons.indexOf(event.target) + by + buttons.length) % buttons.length].focus();
+    });
+  };
 
   // ---- asking
 
@@ -123,6 +141,7 @@
     document.querySelector("main").classList.toggle("compare", state.compare);
     const figures = document.querySelectorAll("figure");
     figures[1].hidden = !state.compare; // before any is measured
+    follow();
     shownViews().forEach((view, place) => paintView(figures[place], view));
     paintBar();
     ui.paintTable();
@@ -139,6 +158,22 @@
     const { width, height } = svg.getBoundingClientRect();
     return { width: Math.round(width), height: Math.round(height) };
   }
+
+  /** A range that is not fixed follows what alerts under a shown configuration: it grows where an aircraft that alerts would be out of it, and
+   *  shrinks where half of it would do, so that it changes rarely. Where nothing alerts it stays. */
+  function follow() {
+    if (state.held || !shownViews().every(saidOf)) return;
+    const { own, traffic } = state.current;
+    const isLoud = (_, place) => shownViews().some((view) => Math.max(saidOf(view).aircraft[place].level, saidOf(view).aircraft[place].now));
+    const far = traffic.filter(isLoud).map((one) => distance(own, flown(one, one.age)));
+    if (!far.length) return;
+    const least = leastRange(Math.max(...far) * ROOM);
+    for (const { look } of shownViews()) if (look.auto && (least > look.range || least <= look.range / 2)) look.range = least;
+  }
+
+  const distance = (one, other) => Math.hypot(other.x - one.x, other.y - one.y) / 1000;
+  const farthest = ({ own, traffic }) => Math.max(0, ...traffic.map((one) => distance(own, flown(one, one.age)))) || 5;
+  const leastRange = (most) => RANGES_NM.find((range) => range > most) || RANGES_NM[RANGES_NM.length - 1];
 
   function paintView(figure, view) {
     paintCaption(figure, view);
@@ -164,7 +199,8 @@
 
   function modelOf(view) {
     const { time, own, traffic } = state.current;
-    return { time, own, traffic, config: view.config, said: saidOf(view), fault: saidOf(view) ? "" : faultOf(view), name: view.name, trail: trail(),
+    return { time, own, traffic, config: view.config, configs: shownViews().map((it) => it.config), said: saidOf(view),
+      fault: saidOf(view) ? "" : faultOf(view), name: view.name, trail: trail(),
       note: state.edited ? "changed by hand" : state.name, lacks: Boolean(state.lacks[state.index]) };
   }
 
@@ -182,12 +218,19 @@
     if (!caption.children.length) {
       const button = (what, words, name) => `<button data-do="${what}" aria-label="${name}" title="${name}">${words}</button>`;
       caption.innerHTML = `<button data-do="up" aria-pressed="false">Track up</button>
-        ${button("near", "−", "Smaller range")}<span data-is="range"></span>${button("wide", "+", "Greater range")}
-        ${button("low", "−", "Fewer altitudes")}<span data-is="heights"></span>${button("high", "+", "More altitudes")}
+        <button data-do="auto" aria-pressed="true" title="The range follows what alerts">Auto</button>
+        ${button("wide", "−", "Greater range")}<span data-is="range"></span>${button("near", "+", "Smaller range")}
+        ${button("fit", "Fit", "The range that all aircraft fit in (0)")}
+        ${button("high", "−", "More altitudes")}<span data-is="heights"></span>${button("low", "+", "Fewer altitudes")}
         <span class="gap"></span>${button("svg", "SVG", "Picture of lines (SVG)")}${button("png", "PNG", "Picture of points (PNG)")}`;
+      ui.makeToolbar(caption);
     }
     caption.querySelector("[data-do=up]").setAttribute("aria-pressed", String(view.look.trackUp));
-    setText(caption.querySelector("[data-is=range]"), `${view.look.range} NM`);
+    caption.querySelector("[data-do=auto]").setAttribute("aria-pressed", String(view.look.auto));
+    const range = caption.querySelector("[data-is=range]");
+    const isOther = range.textContent !== "" && range.textContent !== `${view.look.range} NM`;
+    if (isOther) range.animate?.([{ background: "var(--own)", color: "var(--ground)" }, {}], CHANGED); // it is seen to change
+    setText(range, `${view.look.range} NM`);
     setText(caption.querySelector("[data-is=heights]"), `± ${view.look.heights} ft`);
   }
 
@@ -337,8 +380,10 @@
     const step = (list, value, by) => list[clamp(list.indexOf(value) + by, 0, list.length - 1)];
     const { look } = view;
     if (what === "up") look.trackUp = !look.trackUp;
+    if (what === "auto") look.auto = !look.auto;
+    if (["near", "wide", "fit"].includes(what)) look.auto = false; // a range that is chosen is fixed
     if (what === "near" || what === "wide") look.range = step(RANGES_NM, look.range, what === "wide" ? 1 : -1);
-    if (what === "fit") look.range = fitting([state.current]);
+    if (what === "fit") look.range = leastRange(farthest(state.current) * ROOM);
     if (what === "low" || what === "high") look.heights = step(VIEW_HEIGHTS, look.heights, what === "high" ? 1 : -1);
     if (what === "svg" || what === "png") ui.save(view, what);
     if (figure && what) changed();
@@ -346,10 +391,10 @@
 
   /** The least range of the list in which most of the traffic lies, at the first moment and in all. */
   function fitting(moments) {
-    const farOf = ({ own, traffic }) => traffic.map((one) => Math.hypot(one.x - own.x, one.y - own.y) / 1000);
+    const farOf = ({ own, traffic }) => traffic.map((one) => distance(own, one));
     const mostOf = (far) => (far.length ? far.sort((a, b) => a - b)[Math.ceil(far.length * 0.85) - 1] : 0);
     const most = Math.max(mostOf(moments.flatMap(farOf)), mostOf(farOf(moments[0]))) || 6;
-    return RANGES_NM.find((range) => range > most * 1.12) || RANGES_NM[RANGES_NM.length - 1];
+    return leastRange(most * 1.12);
   }
 
   Object.assign(ui, { $, LIMITS, OWN_FIELDS, FIELDS, state, within, shownViews, setText, setHtml, download, changed, saidOf, faultOf, edited,

@@ -53,7 +53,7 @@
   function head(view, model) {
     const { g } = view;
     const size = `font-size="${g.font}"`;
-    const ahead = `${view.trackUp ? "track up" : "north up"} · ${vectorSeconds(view)} s ahead`;
+    const ahead = `${view.range} NM · ${view.trackUp ? "track up" : "north up"} · ${vectorSeconds(view)} s ahead`;
     const isWide = g.width > 560;
     const half = (g.width - (isWide ? widthOf(ahead, g.font) : 0)) / 2 - 8; // left and right of what stands in the middle
     const note = 16 + widthOf(`${model.time} s`, g.font + 4);

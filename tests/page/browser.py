@@ -14,12 +14,13 @@ try:
     from selenium.webdriver.common.action_chains import ActionChains
     from selenium.webdriver.common.by import By
     from selenium.webdriver.common.keys import Keys
+    from selenium.webdriver.common.actions.wheel_input import ScrollOrigin
     from selenium.webdriver.common.print_page_options import PrintOptions
     from selenium.webdriver.support.ui import Select
 
     import firefox
 except ImportError:
-    webdriver = ActionChains = By = Keys = PrintOptions = Select = firefox = None
+    webdriver = ActionChains = By = Keys = PrintOptions = ScrollOrigin = Select = firefox = None
 
 IN_FIREFOX = os.environ.get("PAGE_BROWSER") == "firefox"
 if IN_FIREFOX:

@@ -195,8 +195,8 @@ class Drawn(Display):
             words = [it.text for it in inside.iter("text")]
             found.append((marks, words))
             self.assertEqual(self.handles[f"p:A{level}"]["data-level"], str(level))
-        self.assertEqual(found, [(["open diamond"], ["A0", "+00"]), (["diamond"], ["1", "A1", "+03↑", "L1 7 s", "30 s old"]),
-                                 (["disc", "var(--l1-edge)"], ["2", "A2", "−12↓", "L2 14 s", "30 s old"]), (["square"], ["3", "A3", "+01", "L3 21 s"]),
+        self.assertEqual(found, [(["open diamond"], ["A0", "+00"]), (["diamond"], ["1", "A1", "+03↑ · 30 s", "L1 7 s"]),
+                                 (["disc", "var(--l1-edge)"], ["2", "A2", "−12↓ · 30 s", "L2 14 s"]), (["square"], ["3", "A3", "+01", "L3 21 s"]),
                                  (["cross", "square", "var(--l4-edge)"], ["4", "A4", "+00↓", "L4 now"])])
 
     def test_what_a_screen_reader_is_told_of_places_and_velocities(self):
@@ -212,12 +212,12 @@ class Drawn(Display):
 
     def test_how_far_ahead_velocities_are_drawn(self):
         """300 knots are 1.25 NM in 15 seconds; the head tells for how many."""
-        for range_nm, seconds in ((1.5, 15), (3, 30), (6, 60), (12, 60)):
+        for range_nm, seconds in ((0.9, 5), (1.5, 15), (3, 30), (6, 60), (12, 60)):
             self.show(RECOVERY, TURNED, replayed(RECOVERY, TURNED), range=range_nm)
             self.assertAlmostEqual(self.radius(*self.places["v:"]), 300 * seconds / 3600 / range_nm * self.g["radius"], delta=1)
-            self.assertIn(f"north up · {seconds} s ahead", [text for text, *_ in self.texts("head")])
+            self.assertIn(f"{range_nm} NM · north up · {seconds} s ahead", [text for text, *_ in self.texts("head")])
         keys = " ".join(text_of(os.path.join(Page.folder, "index.html")).split())
-        self.assertIn("where each will be after 60 seconds; 30 at a range below 6 NM, 15 below 3 NM", keys)
+        self.assertIn("where each will be after 60 seconds; 30 at a range below 6 NM, 15 below 3 NM, 5 below 1.5 NM", keys)
 
     def test_an_aircraft_out_of_range_stands_at_the_rim(self):
         """In its direction, 141.4 NM away, small and without a velocity; one just within the range is as all others."""
@@ -312,7 +312,7 @@ class Drawn(Display):
 
     def test_head_and_legend(self):
         self.show(RECOVERY, TURNED, replayed(RECOVERY, TURNED))
-        self.assertEqual([text for text, *_ in self.texts("head")], ["0 s", "NOTE", "NAME", "north up · 60 s ahead"])
+        self.assertEqual([text for text, *_ in self.texts("head")], ["0 s", "NOTE", "NAME", "12 NM · north up · 60 s ahead"])
         self.assertEqual([text for text, *_ in self.texts("legend")], ["clear", "level 1", "level 2, corrective", "level 3", "nearest open", "recovery"])
         self.assertEqual([it.get("fill") for it in self.layers["legend"].iter("rect")], ["var(--l0-fill)", "url(#level1)", "url(#level2)", "url(#level3)"])
 
@@ -448,7 +448,7 @@ class Ends(Display):
             inside = xml_of(self.handles[f"p:A{age}"]["inside"])
             isold = age >= 5
             self.assertEqual(sum(it.get("class") == "old" for it in inside.iter("g")), int(isold))
-            self.assertEqual([it.text for it in inside.iter("text") if it.text.endswith("old")], [f"{age} s old"] * isold)
+            self.assertEqual([it.text for it in inside.iter("text") if it.text.startswith("+")], ["+100" + f" · {age} s" * isold])
             ways = [numbers_in(it.get("d"))[0] for it in inside.iter("path") if it.get("class") == "way-back"]
             self.assertEqual([round(way) for way in ways], [round(-age * 0.01 / 12 * self.g["radius"])] * isold)
             self.assertEqual(f"its report is {age} seconds old" in self.handles[f"p:A{age}"]["aria-valuetext"], isold)

@@ -171,6 +171,7 @@ class Used(unittest.TestCase):
         """Of each handle it is what a screen reader is told, also where nothing else of the handle has changed: of the ownship's place in
         other moments, and of an aircraft's velocity that was turned."""
         found = on_page("""
+            page.views[0].look.auto = false; // so that each velocity ends within the range
             const told = () => [...display().daa.handles.values()].map((it) => [it.innerHTML, `${it.getAttribute("aria-label")}: ${it.getAttribute("aria-valuetext")}`]);
             const found = [told()];
             for (const value of ["1", "7"]) {
@@ -312,25 +313,6 @@ class Used(unittest.TestCase):
             }
             return found;""", "track", "gs", "vs", "alt", "v:AMBER")
         self.assertEqual(found, [[10000, 10000, False]] * 3 + [[10100, 10000, True], [10100, 10100, True]])
-
-    def test_keys_count_but_where_they_are_typed_or_pressed(self):
-        """At a button and in the report all but the space bar; with Ctrl, Alt or Meta they are the browser's."""
-        places = "button", "summary", "[role=group][tabindex='0']", "input", "textarea", "select", "none"
-        found, browsers = on_page("""
-            const found = [], at = (place) => ({ closest: (some) => some.split(", ").includes(place) || null });
-            const told = () => [page.index, page.views[0].look.range, Boolean(page.playing)];
-            for (const place of given) {
-              for (const key of [".", "-", " "]) await fire(document, "keydown", { target: at(place), key });
-              found.push(told());
-              daa.ui.goTo(0);
-              page.views[0].look.range = 12;
-            }
-            for (const more of ["ctrlKey", "altKey", "metaKey"]) {
-              for (const key of [".", "-", "+", "0", " "]) await fire(document, "keydown", { target: at("none"), key, [more]: true, preventDefault() { found.push(key); } });
-            }
-            return [found, told()];""", *places)
-        self.assertEqual(found, [[1, 18, False]] * 3 + [[0, 12, False]] * 3 + [[1, 18, True]])
-        self.assertEqual(browsers, [0, 12, False])
 
     def test_a_step_past_the_ends_keeps_what_was_changed_by_hand(self):
         """By keys and by buttons, and by the space bar where there is one moment."""
@@ -512,16 +494,16 @@ class Used(unittest.TestCase):
         self.assertEqual(after, [before, False])
 
     def test_a_wheel_that_turns_sideways_keeps_the_range(self):
-        """And one with Ctrl, which is the browser's."""
+        """And one with Ctrl, which is the browser's. It counts by how much it is turned, in points or in lines, and not by how often that is told."""
         found = on_page("""
             const found = [];
-            for (const [deltaY, ctrlKey] of [[0, false], [1, false], [-1, false], [1, true]]) {
+            for (const [deltaY, ctrlKey, deltaMode] of given) {
               let taken = false;
-              await fire(display(), "wheel", { deltaY, ctrlKey, preventDefault() { taken = true; } });
+              await fire(display(), "wheel", { deltaY, ctrlKey, deltaMode, preventDefault() { taken = true; } });
               found.push([page.views[0].look.range, taken]);
             }
-            return found;""")
-        self.assertEqual(found, [[12, True], [18, True], [12, True], [12, False]])
+            return found;""", [0, False, 0], *[[30, False, 0]] * 3, [-60, False, 0], [-60, False, 0], [200, True, 0], [4, False, 1], [-200, False, 0])
+        self.assertEqual(found, [[12, True], [12, True], [12, True], [18, True], [18, True], [12, True], [12, False], [24, True], [12, True]])
 
     def test_playing_goes_to_the_last_moment(self):
         """And begins anew from there."""
@@ -625,7 +607,8 @@ class Used(unittest.TestCase):
               tell();
             }
             return [[...caption.innerHTML.matchAll(/<button data-do="(\\w+)" aria-label="([^"]*)"[^>]*>([^<]*)</g)].map((it) => it.slice(1)), found];""")
-        self.assertEqual(buttons, [["near", "Smaller range", "−"], ["wide", "Greater range", "+"], ["low", "Fewer altitudes", "−"], ["high", "More altitudes", "+"],
+        self.assertEqual(buttons, [["wide", "Greater range", "−"], ["near", "Smaller range", "+"], ["fit", "The range that all aircraft fit in (0)", "Fit"],
+                                   ["high", "More altitudes", "−"], ["low", "Fewer altitudes", "+"],
                                    ["svg", "Picture of lines (SVG)", "SVG"], ["png", "Picture of points (PNG)", "PNG"]])
         self.assertEqual(found, [["12 NM", "false"], ["18 NM", "false"], ["12 NM", "false"], ["9 NM", "false"], ["9 NM", "true"]])
 
@@ -658,10 +641,10 @@ class Used(unittest.TestCase):
             for (const what of given) {
               await fire(caption, "click", { target: { dataset: { do: what } } });
               await settle();
-              found.push([caption.querySelector("[data-is=heights]").textContent, ...["min", "max"].map((end) => handle("alt").getAttribute(`aria-value${end}`))]);
+              found.push([caption.querySelector("[data-is=heights]").textContent, page.views[0].drawn.heights]);
             }
             return found;""", *(what for what, _ in steps))
-        self.assertEqual(found, [[f"± {heights} ft", str(10000 - heights), str(10000 + heights)] for _, heights in steps])
+        self.assertEqual(found, [[f"± {heights} ft", heights] for _, heights in steps])
 
     def test_an_aircraft_is_chosen_as_the_mouse_goes_down(self):
         """While it plays another row stands there when it is let go. A finger that begins to scroll chooses nothing, nor does another button."""
