@@ -1,5 +1,4 @@
-//! Texts and what they are read as: the code of each fault, and what the readers return of the
-//! examples.
+//! The number and the sentence of each fault, and what the readers return of the examples.
 
 mod codes;
 mod readers;

@@ -1,6 +1,5 @@
-//! Lines and their words or codes, and moments of lines.
-
-ghost use Rattle.daa_state.specs.InRange.{IsFormat};
+//! Identifiers, moments of lines, and the sentences of faults. Lines and their codes are among the
+//! cases of `tests/cases`.
 
 use daa_state::*;
 use std::alloc::{AllocError, Global};
@@ -16,183 +15,6 @@ const OWN: Own = Own {
     gs: 3600,
     vs: 0,
 };
-
-/// An aircraft that flies north from x 0, at 1000 feet.
-fn aircraft(id: &[u8], y: i32, age: u32) -> Option<Word> {
-    Some(Word::Traffic(Traffic {
-        id: Id::of(id)?,
-        x: 0,
-        y,
-        alt: 1000,
-        vx: 0,
-        vy: 3600,
-        vs: -1,
-        age,
-    }))
-}
-
-/// Whether the line is read as this word.
-fn is_read_as(line: &[u8], format: u32, word: &Word) -> bool
-    requires { IsFormat format }
-{
-    match read_line(line, format) {
-        Ok(read) => read == *word,
-        Err(_) => false,
-    }
-}
-
-/// The code of the line's fault, or 0.
-fn code_of(line: &[u8], format: u32) -> u8
-    requires { IsFormat format }
-{
-    match read_line(line, format) {
-        Ok(_) => 0,
-        Err(fault) => fault.code(),
-    }
-}
-
-/// A word without an aircraft; the ownship is `OWN`.
-#[derive(Clone, Copy)]
-enum Said {
-    Moment(u32),
-    Own,
-    Format(u32),
-    End,
-    Skip,
-}
-
-fn word_of(said: Said) -> Word {
-    match said {
-        Said::Moment(time) => Word::Moment(time),
-        Said::Own => Word::Own(OWN),
-        Said::Format(format) => Word::Format(format),
-        Said::End => Word::End,
-        Said::Skip => Word::Skip,
-    }
-}
-
-static WORDS: [(&[u8], Said); 13] = [
-    (b"", Said::Skip),
-    (b" \t \r", Said::Skip),
-    (b"#own 1 2", Said::Skip),
-    (b"\t # moment x", Said::Skip),
-    (b"\r", Said::Skip),
-    (b"moment -0", Said::Moment(0)),
-    (b"moment 4294967295", Said::Moment(4_294_967_295)),
-    (b"own +5 -0 0000001000 0 3600 0", Said::Own),
-    (b"  own\t5  0 1000\t\t0 3600 0 \t\r", Said::Own),
-    (b"format 1", Said::Format(1)),
-    (b"format +02", Said::Format(2)),
-    (b"end", Said::End),
-    (b"end\r", Said::End),
-];
-
-#[test]
-fn lines_of_format_1(rt: HostRuntime) -> Result<(), Fail> {
-    for (line, said) in &WORDS {
-        assert!(rt; is_read_as(line, 1, &word_of(*said)), "at {line:?}");
-    }
-    let word = aircraft(b"A_b-1234", -7, 0).ok_or("no identifier")?;
-    assert!(rt; is_read_as(b"traffic A_b-1234 0 -7 1000 0 3600 -1", 1, &word));
-    Ok(())
-}
-
-static FAULTS: [(&[u8], u8); 31] = [
-    (b"\0", 2),
-    (b"\xff", 2),
-    (b"\r\r", 2),
-    (b"Own", 2),
-    (b"end\r\r", 2),
-    (b"end\x0c", 2),
-    (b"moment\x0b1", 2),
-    (b"own 1 2", 3),
-    (b"moment + 1", 3),
-    (b"end #", 3),
-    (b"format", 3),
-    (b"traffic A 0 0 0 0 0 0 0", 3),
-    (b"own x 0 1000 360 0 0 0 0 0 0 0", 3),
-    // 4 to 6, field by field from the left
-    (b"own 0 0 1000 x 360 0", 4),
-    (b"own 0 0 00000001000 0 3600 0", 4),
-    (b"moment 99999999999", 4),
-    (b"moment +-1", 4),
-    (b"moment 1\r2", 4),
-    (b"moment -", 4),
-    (b"format x", 4),
-    (b"traffic A_B-12345 0 0 0 0 0 0", 5),
-    (b"traffic A.B x 0 0 0 0 0", 5),
-    (b"own 0 0 1000 360 x 0", 6),
-    (b"own 0 -200001 1000 0 0 0", 6),
-    (b"own 0 0 60001 0 0 0", 6),
-    (b"own 0 0 0 0 -1 0", 6),
-    (b"traffic A 0 0 0 0 0 10001", 6),
-    (b"moment 4294967296", 6),
-    (b"moment -1", 6),
-    (b"format 3", 6),
-    (b"format 0", 6),
-];
-
-#[test]
-fn faults_of_format_1(rt: HostRuntime) {
-    for (line, code) in &FAULTS {
-        assert!(rt; code_of(line, 1) == *code, "at {line:?}");
-    }
-}
-
-/// A line of `size` times this byte, and an end.
-fn line_of(alloc: Global, byte: u8, size: usize, end: &[u8]) -> Result<Vec<u8>, AllocError> {
-    let mut line = vec![in alloc; byte; size]?;
-    line.extend_from_slice(end)?;
-    Ok(line)
-}
-
-/// The parts of long lines, and their codes: a carriage return counts as a byte.
-static SIZES: [(u8, usize, &[u8], u8); 5] = [
-    (b'#', 256, b"", 1),
-    (b'a', 300, b"", 1),
-    (b'a', 255, b"\r", 1),
-    (b'a', 255, b"", 2),
-    (b'a', 254, b"\r", 2),
-];
-
-#[test]
-fn lines_have_at_most_255_bytes(rt: HostRuntime) -> Result<(), Fail> {
-    for (byte, size, end, code) in &SIZES {
-        let line = line_of(rt.alloc(), *byte, *size, end)?;
-        assert!(rt; code_of(line.as_slice(), 1) == *code, "at {size}");
-    }
-    let comment = line_of(rt.alloc(), b'#', 255, b"")?;
-    assert!(rt; is_read_as(comment.as_slice(), 1, &Word::Skip));
-    Ok(())
-}
-
-/// Lines of aircraft named A, their places north and their ages.
-static AGED: [(&[u8], i32, u32); 2] = [
-    (b"traffic A 0 -1000 1000 0 3600 -1 10", -1000, 10),
-    (b"traffic A 0 1 1000 0 3600 -1 60", 1, 60),
-];
-
-static FAULTS_OF_FORMAT_2: [(&[u8], u8); 5] = [
-    (b"traffic A 0 1 1000 0 3600 -1 61", 6),
-    (b"traffic A 0 1 1000 0 3600 -1 -1", 6),
-    (b"traffic A 0 1 1000 0 3600 10001 x", 6),
-    (b"traffic A 0 1 1000 0 3600 -1 x", 4),
-    (b"traffic A 0 1 1000 0 3600 -1", 3),
-];
-
-#[test]
-fn lines_of_format_2(rt: HostRuntime) -> Result<(), Fail> {
-    for (line, y, age) in &AGED {
-        let word = aircraft(b"A", *y, *age).ok_or("no identifier")?;
-        assert!(rt; is_read_as(line, 2, &word), "at {line:?}");
-    }
-    assert!(rt; is_read_as(b"own 5 0 1000 0 3600 0", 2, &Word::Own(OWN)));
-    assert!(rt; is_read_as(b"format 1", 2, &Word::Format(1)));
-    for (line, code) in &FAULTS_OF_FORMAT_2 {
-        assert!(rt; code_of(line, 2) == *code, "at {line:?}");
-    }
-    Ok(())
-}
 
 static NO_IDENTIFIERS: [&[u8]; 5] = [b"", b"A_b-12345", b"A.B", b"A B", b"\xc3\xa4"];
 
@@ -264,14 +86,6 @@ static OF_A_MOMENT: [(&[u8], u8); 14] = [
     (b"own 1 2", 3),
 ];
 
-/// Lines after it: a moment is later than the last, and 8 comes before 9.
-static AFTER_IT: [(&[u8], u8); 4] = [
-    (b"moment 7", 9),
-    (b"moment 0", 9),
-    (b"moment 8", 0),
-    (b"moment 3", 8),
-];
-
 /// The picture has the time 7, the ownship `OWN` and the aircraft a and A.
 fn expect_picture(rt: &impl Abort, picture: &Picture) -> Result<(), Fail> {
     assert!(rt; picture.time == 7);
@@ -294,7 +108,6 @@ fn lines_of_moments(rt: HostRuntime) -> Result<(), Fail> {
     let picture = picture_at_end(&mut moments)?;
     expect_picture(&rt, &picture)?;
     assert!(rt; code_at_finish(&moments) == 0);
-    expect_codes(&rt, &mut moments, &AFTER_IT);
     Ok(())
 }
 
@@ -313,48 +126,6 @@ fn a_moment_that_is_not_later_is_told_the_last(rt: HostRuntime) -> Result<(), Fa
     picture_at_end(&mut moments)?;
     assert!(rt; last_by(&mut moments, b"moment 7") == Some(7));
     assert!(rt; last_by(&mut moments, b"moment 0") == Some(7));
-    Ok(())
-}
-
-/// Lines that change the format, and their codes.
-static OF_FORMATS: [(&[u8], u8); 7] = [
-    (b"format 3", 6),
-    (b"format 2", 0),
-    (b"moment 0", 0),
-    (b"traffic A 0 0 0 0 0 0 61", 6),
-    (b"traffic A 0 0 0 0 0 0", 3),
-    (b"format 1", 8),
-    (b"traffic A 0 0 0 0 0 0 60", 0),
-];
-
-#[test]
-fn format_of_moments(rt: HostRuntime) {
-    let mut moments = Moments::new();
-    assert!(rt; moments.format() == 1);
-    expect_codes(&rt, &mut moments, &OF_FORMATS);
-    assert!(rt; moments.format() == 2);
-}
-
-/// The lines before the aircraft of a moment.
-static BEGUN: [(&[u8], u8); 2] = [(b"moment 0", 0), (b"own 5 0 1000 0 3600 0", 0)];
-
-/// Lines after 64 aircraft: 11 comes before 12.
-static BEYOND: [(&[u8], u8); 2] = [
-    (b"traffic A64 0 0 0 0 0 0", 12),
-    (b"traffic A0 0 0 0 0 0 0", 11),
-];
-
-#[test]
-fn sixty_four_aircraft(rt: HostRuntime) -> Result<(), Fail> {
-    let mut moments = Moments::new();
-    expect_codes(&rt, &mut moments, &BEGUN);
-    for i in 0..64u32 {
-        let line = format!(in rt.alloc(); "traffic A{i} 0 0 0 0 0 0")?;
-        assert!(rt; code(&mut moments, line.as_bytes()) == 0, "at {i}");
-    }
-    expect_codes(&rt, &mut moments, &BEYOND);
-    let picture = picture_at_end(&mut moments)?;
-    assert!(rt; picture.traffic.len() == 64);
     Ok(())
 }
 
