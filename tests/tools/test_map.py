@@ -158,29 +158,21 @@ class Map(unittest.TestCase):
                 self.assertIn(path.split(os.sep)[-3], ("daa_screen", "daa_cockpit"), path)
 
 
-class Sizes(unittest.TestCase):
-    """Text that somebody has to write and read: without the made pages and the callers that a script quotes."""
+class OnOnePage(unittest.TestCase):
+    """What is said on one page alone, the made pages apart."""
 
     MADE = {"docs/TRUST.md", "docs/DEFINITIONS.md", "docs/CALLS.md", "docs/WRONG_BODIES.md"}
 
-    def sizes(self):
+    def pages(self):
         pages = ["README.md", "examples/README.md", *glob.glob("docs/*.md", root_dir=TOP), *readmes()]
-        quoted = r"<!-- caller: .* -->\n```rust\n(?:.*\n)*?```\n"
-        return {name: len(re.sub(quoted, "", read(name)).encode()) for name in pages if name not in self.MADE}
-
-    def test_no_page_is_long(self):
-        for name, size in self.sizes().items():
-            self.assertLessEqual(size, 20 * 1024, name)
-
-    def test_all_pages_together_are_short(self):
-        self.assertLessEqual(sum(self.sizes().values()), 260 * 1024)
+        return [name for name in pages if name not in self.MADE]
 
     def test_a_number_of_the_formats_is_said_on_one_page(self):
         for number in ("130176", "1897"):
-            self.assertEqual([name for name in self.sizes() if number in read(name)], ["docs/FORMATS.md"])
+            self.assertEqual([name for name in self.pages() if number in read(name)], ["docs/FORMATS.md"])
 
     def test_the_order_of_a_pictures_faults_is_said_on_one_page(self):
-        self.assertEqual([name for name in self.sizes() if "too many aircraft" in read(name)], ["docs/LIBRARY.md"])
+        self.assertEqual([name for name in self.pages() if "too many aircraft" in read(name)], ["docs/LIBRARY.md"])
 
 
 class Layout(unittest.TestCase):
