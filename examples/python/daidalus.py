@@ -11,16 +11,26 @@ It calls the archive of crates/daa_c, made into a shared library as examples/REA
     moment.bands(Kind.TRACK)               # [Band(low=0, high=5, level=3), ..]
     moment.resolution(Kind.TRACK, Side.UPPER)
 
+A loop over many moments keeps one moment, whose structs are filled anew each time:
+
+    moment = engine.loop(config)
+    for own, traffic in pictures:
+        moment.decide(own, traffic)
+        print(moment.alerts())
+
 Units and ranges are those of crates/daa_c/include/daidalus.h. What the engine refuses raises Refused, whose text says why.
 """
 import ctypes
 from ctypes import byref, c_char, c_int32, c_int64, c_size_t, c_uint8, c_uint32, c_uint64
-from dataclasses import astuple, dataclass
+from dataclasses import dataclass
 from enum import IntEnum
-from typing import List, Optional
+from functools import lru_cache
+from struct import Struct as Packing
+from struct import error as DoesNotFit
+from typing import List, NamedTuple, Optional
 
 VERSION = 20000  # of daidalus.h: the structs of a library of another version may be others
-MOST_LEVELS, MOST_VALUES, MOST_CANDIDATES, MOST_TEXT = 4, 512, 1897, 130176
+MOST_AIRCRAFT, MOST_LEVELS, MOST_VALUES, MOST_CANDIDATES, MOST_TEXT = 64, 4, 512, 1897, 130176
 
 
 class Kind(IntEnum):
@@ -111,30 +121,27 @@ class Traffic:
 
 # --- what the engine answers
 
-@dataclass(frozen=True)
-class Alert:
+class Alert(NamedTuple):
     """now: the level violated now. level: the one that alerts, 0 if none; first: its first second, None if none."""
     now: int
     level: int
     first: Optional[int]
 
 
-@dataclass(frozen=True)
-class Band:
+class Band(NamedTuple):
+    """A stretch of a kind's rising values, from low up to high, that all show one level."""
     low: int
     high: int
     level: int
 
 
-@dataclass(frozen=True)
-class Resolution:
+class Resolution(NamedTuple):
     """keep: the present flight is open. Else value is the nearest open one, or None if there is none."""
     keep: bool
     value: Optional[int]
 
 
-@dataclass(frozen=True)
-class Recovery:
+class Recovery(NamedTuple):
     """From second `after` on the value is clear."""
     after: int
     value: int
@@ -182,6 +189,11 @@ def held(number, kind):
     return number if kind(number).value == number else 2 ** (8 * ctypes.sizeof(kind) - 1) - 1
 
 
+def number(word):
+    """The number, or if C's int cannot hold it, one that the engine refuses everywhere."""
+    return word if -2**31 <= word < 2**31 else 2**31 - 1
+
+
 class Struct(ctypes.Structure):
     """A struct of C that holds its numbers, in place of cutting them as ctypes does."""
 
@@ -217,8 +229,9 @@ def c_config(config):
     if len(config.levels) > MOST_LEVELS:
         raise Refused(7)
     cylinder = config.recovery or Cylinder(0, 0)
-    levels = (C.Level * MOST_LEVELS)(*(astuple(level) for level in config.levels))
-    return C.Config(config.resolve, config.turn_rate, config.track_step, *(C.Grid(*astuple(grid)) for grid in
+    levels = (C.Level * MOST_LEVELS)(*((it.dthr, it.zthr, it.tthr, it.tcoa, it.lookahead, it.alert, it.tcpa, it.tau, it.tep)
+                                       for it in config.levels))
+    return C.Config(config.resolve, config.turn_rate, config.track_step, *(C.Grid(it.min, it.max, it.step, it.rate) for it in
                     (config.gs, config.vs, config.alt)), int(config.recovery is not None), cylinder.hdist, cylinder.vdist, cylinder.nearest,
                     config.last_times, len(config.levels), levels)
 
@@ -230,13 +243,45 @@ def config_of(numbers):
     return Config(numbers.resolve, numbers.turn_rate, numbers.track_step, *grids, levels, cylinder, numbers.last_times)
 
 
-def c_traffic(traffic):
-    """An aircraft for C. An identifier that C cannot hold is handed on as none, which the engine refuses."""
-    name = traffic.id.encode("utf-8", "replace")
-    return (name if len(name) <= 8 and b"\0" not in name else b"", *astuple(traffic)[1:])
+# states as C lays them out, packed at once
+OWN, TRAFFIC, BAND = Packing("=6i"), Packing("=8s6iI"), Packing("=2iI")
+MOST_BANDS = c_size_t(MOST_VALUES)
+
+
+@lru_cache(maxsize=4096)
+def c_name(name):
+    """An identifier for C. One that C cannot hold is handed on as none, which the engine refuses."""
+    name = name.encode("utf-8", "replace")
+    return name if len(name) <= 8 and b"\0" not in name else b""
+
+
+def pack_own(room, own):
+    """Packs an ownship. Numbers that C cannot hold become such as the engine refuses."""
+    numbers = own.x, own.y, own.alt, own.trk, own.gs, own.vs
+    try:
+        OWN.pack_into(room, 0, *numbers)
+    except DoesNotFit:
+        OWN.pack_into(room, 0, *(held(it, c_int32) for it in numbers))
+
+
+def pack_traffic(room, traffic):
+    """Packs aircraft. Numbers that C cannot hold become such as the engine refuses."""
+    pack, size = TRAFFIC.pack_into, TRAFFIC.size
+    for place, it in enumerate(traffic):
+        try:
+            pack(room, place * size, c_name(it.id), it.x, it.y, it.alt, it.vx, it.vy, it.vs, it.age)
+        except DoesNotFit:
+            numbers = (held(number, c_int32) for number in (it.x, it.y, it.alt, it.vx, it.vy, it.vs))
+            pack(room, place * size, c_name(it.id), *numbers, held(it.age, c_uint32))
 
 
 # --- the engine
+
+def done(code):
+    """Raises Refused where a call does not answer 0."""
+    if code:
+        raise Refused(code)
+
 
 class Engine:
     """The archive's calls. It has no state: calls may run in threads of the caller. OSError says why there is none."""
@@ -249,9 +294,7 @@ class Engine:
 
     def ask(self, name, *words):
         """Makes a call, and raises Refused where it does not answer 0."""
-        code = getattr(self.calls, name)(*(held(word, c_int32) if isinstance(word, int) else word for word in words))
-        if code:
-            raise Refused(code)
+        done(getattr(self.calls, name)(*(number(word) if isinstance(word, int) else word for word in words)))
 
     def read(self, text: bytes) -> Config:
         """The numbers of a configuration's text of TOML."""
@@ -263,21 +306,54 @@ class Engine:
         """Raises Refused unless the numbers are a configuration."""
         self.ask("daa_check", byref(c_config(config)))
 
+    def loop(self, config: Config) -> "Moment":
+        """A moment for a loop: decide it again and again. Its structs are made once."""
+        return Moment(self, config)
+
     def decide(self, config: Config, own: Own, traffic: List[Traffic]) -> "Moment":
         """Decides a moment. Refused names the aircraft and the number that is out of range."""
-        return Moment(self, config, own, traffic)
+        moment = Moment(self, config)
+        moment.decide(own, traffic)
+        return moment
+
+
+def time_of(time):
+    if not 0 <= time < 2**32:
+        raise ValueError(f"the time {time} is not in 0..{2**32 - 1}")
+    return time
 
 
 class Moment:
-    """A decided moment, and what may be asked of it."""
+    """A moment, and what may be asked of it once it is decided. Its structs are kept, and filled anew by each call: so one thread
+    at a time uses it. Before the first moment that is decided, and after one that is refused, each answer raises Refused."""
 
-    def __init__(self, engine, config, own, traffic):
-        self.engine, self.board = engine, C.Board()
-        self.config, self.own = c_config(config), C.Own(*astuple(own))
-        self.traffic = (C.Traffic * len(traffic))(*map(c_traffic, traffic))
-        self.picture = byref(self.own), self.traffic, c_size_t(len(traffic))
-        self.refuse(traffic)
-        engine.ask("daa_decide", byref(self.config), *self.picture, byref(self.board))
+    def __init__(self, engine, config):
+        self.engine, self.board, self.own, self.length = engine, C.Board(), C.Own(gs=-1), 0
+        self.found, self.to, self.count = C.Alert(), C.Resolution(), c_size_t()
+        self.config, self.at_board, self.at_own = byref(c_config(config)), byref(self.board), byref(self.own)
+        self.at_found, self.at_to, self.at_count = byref(self.found), byref(self.to), byref(self.count)
+        self.calls, self.bands_room, self.levels_room, self.text_room = engine.calls, (C.Band * MOST_VALUES)(), None, None
+        self.bands_bytes = memoryview(self.bands_room).cast("B")
+        self.make_room(MOST_AIRCRAFT)
+        self.picture = self.at_own, self.traffic, c_size_t(0)  # (an ownship that is out of range, until there is one)
+
+    def make_room(self, length):
+        self.traffic = (C.Traffic * length)()
+        self.each = [byref(it) for it in self.traffic]
+
+    def decide(self, own: Own, traffic: List[Traffic]) -> None:
+        """Decides a moment in place of the last one. Refused names the aircraft and the number that is out of range."""
+        self.length = self.board.mark[0] = 0  # (a moment that is refused leaves no board of an earlier one)
+        if len(traffic) > len(self.traffic):
+            self.make_room(len(traffic))
+        pack_own(self.own, own)
+        pack_traffic(self.traffic, traffic)
+        self.picture = self.at_own, self.traffic, c_size_t(len(traffic))
+        code = self.calls.daa_decide(self.config, *self.picture, self.at_board)
+        if code:
+            self.refuse(traffic)
+            raise Refused(code)
+        self.length = len(traffic)
 
     def refuse(self, traffic):
         fault = C.Fault()
@@ -291,32 +367,35 @@ class Moment:
 
     def alert(self, place: int) -> Alert:
         """The alert of the aircraft at this place of the list."""
-        found = C.Alert()
-        self.engine.ask("daa_alert", byref(self.config), byref(self.own), byref(self.traffic[place]), byref(found))
+        done(self.calls.daa_alert(self.config, self.at_own, self.each[range(self.length)[place]], self.at_found))
+        found = self.found
         return Alert(found.now, found.level, found.first if found.level else None)
+
+    def alerts(self) -> List[Alert]:
+        """The alert of each aircraft, in the order of the list."""
+        return [self.alert(place) for place in range(self.length)]
 
     def bands(self, kind: Kind) -> List[Band]:
         """The stretches of the kind's values that show one level each, rising."""
-        bands, count = (C.Band * MOST_VALUES)(), c_size_t()
-        self.engine.ask("daa_bands", byref(self.config), byref(self.board), kind, bands, c_size_t(MOST_VALUES), byref(count))
-        return [Band(it.least, it.most, it.level) for it in bands[:count.value]]
+        done(self.calls.daa_bands(self.config, self.at_board, number(kind), self.bands_room, MOST_BANDS, self.at_count))
+        return [*map(Band._make, BAND.iter_unpack(self.bands_bytes[:self.count.value * BAND.size]))]
 
     def levels(self) -> List[int]:
         """The level of each candidate, in the order of the configuration's whole list."""
-        levels, count = (c_uint8 * MOST_CANDIDATES)(), c_size_t()
-        self.engine.ask("daa_levels", byref(self.config), byref(self.board), levels, c_size_t(MOST_CANDIDATES), byref(count))
-        return list(levels[:count.value])
+        self.levels_room = self.levels_room or (c_uint8 * MOST_CANDIDATES)()
+        self.engine.ask("daa_levels", self.config, self.at_board, self.levels_room, c_size_t(MOST_CANDIDATES), self.at_count)
+        return self.levels_room[:self.count.value]
 
     def resolution(self, kind: Kind, side: Side) -> Resolution:
         """The nearest open value on a side."""
-        to = C.Resolution()
-        self.engine.ask("daa_resolution", byref(self.config), byref(self.own), byref(self.board), kind, side, byref(to))
+        done(self.calls.daa_resolution(self.config, self.at_own, self.at_board, number(kind), number(side), self.at_to))
+        to = self.to
         return Resolution(to.what == 0, to.value if to.what == 1 else None)
 
     def recovery(self, kind: Kind) -> Optional[Recovery]:
         """The soonest recovery of a kind, under a configuration that asks for recoveries."""
         to = C.Recovery()
-        self.engine.ask("daa_recovery", byref(self.config), *self.picture, kind, byref(to))
+        self.engine.ask("daa_recovery", self.config, *self.picture, kind, byref(to))
         return Recovery(to.after, to.value) if to.found else None
 
     def last(self, kind: Kind) -> Optional[int]:
@@ -324,14 +403,11 @@ class Moment:
         may be kept so that some candidate of the kind that begins then is open, or None, under a configuration that asks for
         last times."""
         to = C.Last()
-        self.engine.ask("daa_last", byref(self.config), *self.picture, kind, byref(to))
+        self.engine.ask("daa_last", self.config, *self.picture, kind, byref(to))
         return to.after if to.found else None
 
     def report(self, time: int) -> bytes:
         """The moment's text, as the program writes it. The time is in seconds, 0 to 4294967295."""
-        if not 0 <= time < 2**32:
-            raise ValueError(f"the time {time} is not in 0..{2**32 - 1}")
-        text, length = ctypes.create_string_buffer(MOST_TEXT), c_size_t()
-        self.engine.ask("daa_report", byref(self.config), c_uint32(time), *self.picture, text, c_size_t(MOST_TEXT),
-                        byref(length))
-        return text.raw[:length.value]
+        time, self.text_room = c_uint32(time_of(time)), self.text_room or ctypes.create_string_buffer(MOST_TEXT)
+        self.engine.ask("daa_report", self.config, time, *self.picture, self.text_room, c_size_t(MOST_TEXT), self.at_count)
+        return ctypes.string_at(self.text_room, self.count.value)

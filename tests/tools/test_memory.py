@@ -57,6 +57,20 @@ class Requests(ToolTest):
         for words in (["replay"], ["judge", "--states", ENCOUNTER], ["exercise", "--seed", "7", "--moments", "1"]):
             self.assertEqual(self.run_program([*words, "--config", CONFIG], given, REFUSE_NTH="1")[:2], (6, b""), words)
 
+    def test_whichever_request_for_the_words_is_refused_it_ends_with_6(self):
+        """And not as if fewer words had been given: the list of the words grows as they come."""
+        words = ["replay", "--config", CONFIG, *(["--workers", "1"] * 40)]  # (too often: that is a faulty command line, which reads nothing)
+        status, usage, asked = self.run_program(words)
+        self.assertEqual(status, 2)
+        ended = [self.run_program(words, REFUSE_NTH=str(nth))[:2] for nth in range(1, asked + 1)]
+        self.assertEqual({it for it in ended if it != (2, usage)}, {(6, b"")})
+        self.assertGreater(ended.count((6, b"")), 3)
+
+    def test_a_word_that_is_not_utf_8_is_no_want_of_memory(self):
+        for words in ([b"\xff"], [b"replay", b"--config", b"\xff"], [b"replay", b"--config", os.fsencode(CONFIG), b"\xe2\x82"]):
+            ran = subprocess.run([program(), *words], stdin=subprocess.DEVNULL, capture_output=True, timeout=120)
+            self.assertEqual((ran.returncode, ran.stdout[:24]), (2, b"usage: daidalus replay -"), words)
+
 
 if __name__ == "__main__":
     unittest.main()
