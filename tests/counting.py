@@ -12,8 +12,10 @@ import sys
 import unittest
 
 # Debian's package of each command that some tests call.
-PACKAGES = {"cc": "gcc", "c++": "g++", "cargo": "cargo", "node": "nodejs", "aarch64-linux-gnu-gcc": "gcc-aarch64-linux-gnu",
-            "qemu-aarch64": "qemu-user", "parallel": "parallel", "jq": "jq"}
+PACKAGES = {"cc": "gcc", "c++": "g++", "cargo": "cargo", "node": "nodejs", "chromium": "chromium", "chromedriver": "chromium-driver",
+            "aarch64-linux-gnu-gcc": "gcc-aarch64-linux-gnu", "qemu-aarch64": "qemu-user", "parallel": "parallel", "jq": "jq",
+            "pkg-config": "pkg-config", "cmake": "cmake", "make": "make", "dpkg-deb": "dpkg", "man": "man-db"}
+DEBIAN_PYTHON = "/usr/bin/python3"  # the one for which Debian's packages of Python are
 
 
 def is_there(command):
@@ -29,6 +31,16 @@ def need(*commands):
     for command in commands:
         if not is_there(command):
             raise unittest.SkipTest(f"there is no {command} (Debian: {PACKAGES[command]})")
+
+
+def missing_packages():
+    """Debian's packages that tests call and that are not here."""
+    missing = [package for command, package in PACKAGES.items() if not is_there(command)]
+    return missing if has_selenium() else [*missing, "python3-selenium"]
+
+
+def has_selenium():
+    return os.access(DEBIAN_PYTHON, os.X_OK) and subprocess.run([DEBIAN_PYTHON, "-c", "import selenium"], capture_output=True).returncode == 0
 
 
 class Result(unittest.TextTestResult):

@@ -30,6 +30,13 @@ def version(top=TOP):
     return f"{number // 10000}.{number // 100 % 100}.{number % 100}"
 
 
+def date(top=TOP):
+    """The date of the version, as CHANGES.md has it."""
+    with open(f"{top}/CHANGES.md", encoding="utf-8") as file:
+        found = re.search(rf"^## {re.escape(version(top))}, (\d{{4}}-\d\d-\d\d)$", file.read(), re.M)
+    return found[1] if found else sys.exit(f"CHANGES.md has no line `## {version(top)}, YEAR-MONTH-DAY`")
+
+
 def sums_of_sources(top=TOP):
     """The sum of the sources that each kept file is made of now, as ./daidalus has it."""
     rows = list(dict.fromkeys(MADE_OF.values()))
@@ -92,7 +99,7 @@ def folder(top=TOP):
     why = older(top=top)
     if not why:
         return f"{top}/built"
-    beside = f"{top}/crates/out"
+    beside = f"{top}/out"
     if older(beside, top):
         if not has_toolchain():
             path = next(iter(why))

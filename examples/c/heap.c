@@ -1,7 +1,8 @@
-/* Memory for the archive where the toolchain's own liblibc_c.a does not fit: another processor, or another heap.
+/* The functions by which libdaa_toml.a takes memory, from the C library: write them anew where it is to come from another heap.
  *
- * Only daa_read takes memory. A system without a heap links an archive without it, or answers "none" here. Each call gets
- * the size and the alignment (at most 16) that are wanted; it answers whether there is memory, and where. */
+ * Only daa_read takes memory. What is linked before the archive stands in place of what the archive has. A system without a
+ * heap links no libdaa_toml.a, or answers "none" here. Each call gets the size and the alignment (at most 16) that are wanted;
+ * it answers whether there is memory, and where. */
 #include <stdbool.h>
 #include <stddef.h>
 #include <stdlib.h>

@@ -2,7 +2,7 @@
 
 It calls the archive of crates/daa_c, made into a shared library as examples/README.md shows:
 
-    engine = Engine("./libdaa_c.so")
+    engine = Engine("built/x86-64/libdaidalus.so")
     config = engine.read(open("examples/three_levels.toml", "rb").read())
     own = Own(x=0, y=0, alt=10000, trk=0, gs=3600, vs=0)
     amber = Traffic("AMBER", x=3000, y=8000, alt=10000, vx=-1350, vy=0, vs=0)

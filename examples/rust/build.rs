@@ -1,33 +1,27 @@
-//! Links the archives, and the toolchain's allocator over malloc.
+//! Links the archives.
 //!
-//! DAIDALUS_ARCHIVES may name a folder that has libdaa_c.a, libdaa_toml.a and liblibc_c.a; without it the repository's own
-//! archives are taken, which `examples/archive` makes, and the toolchain's, beside the page that `rt doc` names.
+//! DAIDALUS_ARCHIVES may name a folder that has libdaa_c.a and libdaa_toml.a; without it those that the repository keeps for
+//! the processor are taken.
 use std::path::PathBuf;
-use std::process::Command;
 
-fn kit() -> PathBuf {
-    let told = Command::new("rt").arg("doc").output().expect("rt: is the toolchain on the PATH?");
-    let page = PathBuf::from(String::from_utf8_lossy(&told.stdout).trim());
-    page.parent().expect("rt doc names a page").join("c")
+fn variable(name: &str) -> String {
+    std::env::var(name).unwrap_or_else(|_| panic!("cargo sets {name}"))
 }
 
 fn main() {
-    let folders = match std::env::var("DAIDALUS_ARCHIVES") {
-        Ok(folder) => vec![PathBuf::from(folder)],
+    let folder = match std::env::var("DAIDALUS_ARCHIVES") {
+        Ok(folder) => PathBuf::from(folder),
         Err(_) => {
-            let here = PathBuf::from(std::env::var("CARGO_MANIFEST_DIR").expect("cargo sets it"));
-            vec![here.join("../../crates/daa_c/out/x86-64"), kit()]
+            let processor = variable("CARGO_CFG_TARGET_ARCH").replace("x86_64", "x86-64");
+            PathBuf::from(variable("CARGO_MANIFEST_DIR")).join("../../built").join(processor)
         }
     };
-    let libraries = ["daa_c", "daa_toml", "libc_c"];
+    let libraries = ["daa_c", "daa_toml"];
     for file in libraries.map(|library| format!("lib{library}.a")) {
-        let is_there = folders.iter().any(|folder| folder.join(&file).exists());
-        assert!(is_there, "there is no {file} in {folders:?}: examples/archive makes those of the repository");
+        assert!(folder.join(&file).exists(), "there is no {file} in {folder:?}: the repository keeps those of built/");
     }
-    for folder in folders {
-        println!("cargo:rustc-link-search=native={}", folder.display());
-        println!("cargo:rerun-if-changed={}", folder.display());
-    }
+    println!("cargo:rustc-link-search=native={}", folder.display());
+    println!("cargo:rerun-if-changed={}", folder.display());
     for library in libraries {
         println!("cargo:rustc-link-lib=static={library}");
     }

@@ -2,7 +2,6 @@
 import glob
 import os
 import re
-import subprocess
 import unittest
 
 from common import CONFIG, ENCOUNTER, TOP, module
@@ -82,14 +81,6 @@ class Guide(unittest.TestCase):
         found = module("tools/reference").report_of(read_config(CONFIG)._replace(last_times=1), moment)
         self.assertEqual(found[-1 - len(lines):-1], lines)
         self.assertEqual(len(lines), 8)
-
-
-class Proved(unittest.TestCase):
-    def test_names_the_logic_that_checks_the_proofs(self):
-        """A kit of another name may have the same logic."""
-        logic = subprocess.run(["rt", "version"], stdout=subprocess.PIPE, text=True, check=True).stdout.split(" ", 1)[1].strip()
-        self.assertRegex(logic, "^logic [0-9a-f]{16}$")
-        self.assertIn(f" {logic}` (`rt version`)", read("docs/PROVED.md"))
 
 
 class Measurements(unittest.TestCase):

@@ -135,16 +135,16 @@ class Calls(unittest.TestCase):
             for path in paths:
                 with self.assertRaises(SystemExit) as ended:
                     worst.archives_in(folder)
-                self.assertEqual(str(ended.exception), f"bench/worst: there is no {path}: examples/archive makes it")
+                self.assertEqual(str(ended.exception), f"bench/worst: there is no {path}: tools/build makes it")
                 with open(path, "wb"):
                     pass
             self.assertEqual(worst.archives_in(folder), paths)
 
     def test_without_archives_nothing_is_measured(self):
-        with mock.patch.object(worst, "CRATE", "/nowhere"), mock.patch("sys.argv", ["worst", "--measure", "nothing", "--calls", "--program", "/bin/true"]):
+        with mock.patch.dict("os.environ", {"DAIDALUS_BUILT": "/nowhere"}), mock.patch("sys.argv", ["worst", "--measure", "nothing", "--calls", "--program", "/bin/true"]):
             with self.assertRaises(SystemExit) as ended:
                 worst.main()
-        self.assertEqual(str(ended.exception), "bench/worst: there is no /nowhere/out/x86-64/libdaa_c.a: examples/archive makes it")
+        self.assertEqual(str(ended.exception), "bench/worst: there is no /nowhere/x86-64/libdaa_c.a: tools/build makes it")
 
 
 if __name__ == "__main__":
