@@ -24,7 +24,7 @@ IN_NODE = {"replay"}
 
 def tools_for_users():
     """The names of the scripts in tools/ that are for users."""
-    return {name for name in os.listdir(os.path.join(TOP, "tools")) if not name.endswith(".py")} - {"__pycache__"} - MAKERS
+    return {it.name for it in os.scandir(os.path.join(TOP, "tools")) if it.is_file() and not it.name.endswith(".py")} - MAKERS
 
 
 KEEP = "resolve gs down keep up keep\nresolve vs down keep up keep\nresolve alt down keep up keep\n"
