@@ -6,9 +6,7 @@ ghost use Rattle.daa_config.specs.Candidates.{candidates_of};
 ghost use Rattle.daa_state.specs.InRange.{IsPictureInRange};
 ghost use Rattle.daa_state.specs.Picture.{aircraft_of};
 
-mod drawn;
 mod reaching;
-mod rows;
 mod words;
 
 use daa_config::{Config, read};
