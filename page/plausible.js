@@ -5,7 +5,7 @@ function daaPlausible(root) {
   const { round } = root.daa.reading;
   const EARTH = Math.PI / 180;
   const APART = 30; // s: two reports that are farther apart say nothing about a speed
-  const [LEAST_STEPS, MOST_STEPS] = [5, 2000];
+  const [LEAST_STEPS, MOST_STEPS] = [5, 600];
   const [STANDS, MOVES] = [5, 20]; // knots
   const TURNED = 20; // degrees
   const LEAST_CLIMB = 100; // ft

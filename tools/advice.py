@@ -4,8 +4,14 @@ import re
 
 from daidalus_files import MODELS
 from headings import velocity
+from recordings.basestation import IS_LINE as IS_BASE_STATION
+from recordings.headers import COLUMNS
+from recordings.plane import rotated
+from recordings.plausible import implausible
+from recordings.rows import Row
 
 FEET_PER_MIL = 6.076  # feet in 0.001 nautical miles
+RECORDING_WORDS = {name for column in ("time", "lat", "lon", "alt", "trk", "gs", "vs") for name in COLUMNS[column]["names"]}
 SMALL_SPEED, SMALL_PLACE = 600, 50  # 60 knots and 0.05 nautical miles, in the units of state lines
 
 
@@ -70,19 +76,72 @@ def on_recovery(config):
                    "83, which is 504 feet, is just outside a near mid-air collision")
 
 
-def advice_on_states(moments, refused, text):
-    """Advice on state lines: their ended moments, their refused lines, and their text."""
+def another_file(refused, text):
+    """What a text is that is no state lines, in words; or nothing."""
     words = first_words(text)
-    if {"time", "name"} <= {re.split(r"[\[(,;]", word.lower())[0] for part in words for word in re.split("[,;]", part)}:
-        return ["this looks like a recording with named columns: tools/from_daa makes state lines of it"]
+    names = {re.split(r"[\[(]", word.lower())[0] for part in words for word in re.split("[,;]", part)}
+    if {"time", "name"} <= names or len(names & RECORDING_WORDS) > 2 or IS_BASE_STATION.match(words[0] if words else "") or words and words[0].startswith("{"):
+        return "this looks like a recording: tools/from_daa makes state lines of it"
     if words and ("=" in words or words[0].startswith("[")):
-        return ["this looks like a configuration: it comes first, tools/check CONFIG STATES"]
+        return "this looks like a configuration: it comes first, tools/check CONFIG STATES"
     if any(refusal.code == 2 and refusal.why.startswith("'now'") for refusal in refused):
-        return ["this looks like a report: the states are what it was made of"]
+        return "this looks like a report: the states are what it was made of"
+    return ""
+
+
+def advice_on_states(reader, moments, refused, config):
+    """Advice on state lines: what their reader found, their ended moments, their refused lines, and the configuration or None."""
     found = [] if moments or refused else ["there is no moment in it"]
     if any(refusal.code == 3 and "traffic has 8 fields" in refusal.why for refusal in refused):
         found.append("aircraft with an age, the eighth number, are of format 2: write the line `format 2` before the first moment")
-    return [*found, *on_speeds(moments), *on_places(moments)]
+    units = [*on_speeds(moments), *on_places(moments)]
+    unlikely = [] if units else implausible(rows_of(moments, reader.ownship), OWN, False)
+    return [*found, *units, *unlikely, *on_what_is_known(moments, refused), *on_candidates(moments, config)]
+
+
+OWN = "the ownship"
+
+
+def rows_of(moments, made_of):
+    """The reports of state lines as rows of a recording. Where the states are made of a recording, the plane of each moment is turned by
+    another angle: places of traffic are taken where a comment tells it."""
+    rows = []
+    for moment in moments:
+        own = moment.own
+        east, north = velocity(own.gs, own.trk)
+        rows.append(Row(OWN, moment.time, (own.x / 1000, own.y / 1000), own.alt, east / 10, north / 10, own.vs, own.trk))
+        if made_of and moment.origin is None:
+            continue
+        angle = -math.radians(moment.origin.turn) if moment.origin else 0
+        for it in moment.traffic:
+            x, y = rotated((it.x - own.x) / 1000, (it.y - own.y) / 1000, angle)
+            place = own.x / 1000 + x, own.y / 1000 + y
+            rows.append(Row(it.id, moment.time - it.age, place, it.alt, *rotated(it.vx / 10, it.vy / 10, angle), it.vs, 0))
+    return rows
+
+
+def on_what_is_known(moments, refused):
+    """Moments in which nothing is known of an aircraft, or of any."""
+    lacking = [moment.time for moment in moments if moment.lacks]
+    if lacking:
+        yield (f"{len(lacking)} of {len(moments)} moments, from {lacking[0]} to {lacking[-1]} s, lack an aircraft that was heard (comments `# lacks`): "
+               "what is not known there is not clear")
+    is_refused = any(refusal.word == "traffic" for refusal in refused)
+    if moments and not (lacking or is_refused or any(moment.traffic for moment in moments)):
+        yield "no moment has another aircraft: each report will say `keep`, because nothing is known and not because the way is clear"
+
+
+def on_candidates(moments, config):
+    """An ownship that flies as no candidate does."""
+    if config is None:
+        return
+    for kind, unit, scale in (("gs", "knots", 10), ("vs", "ft/min", 1), ("alt", "ft", 1)):
+        low, high = config.values[kind][0], config.values[kind][-1]
+        flown = [getattr(moment.own, kind) for moment in moments]
+        outside = [value for value in flown if not low <= value <= high]
+        if outside:
+            yield (f"in {len(outside)} of {len(flown)} moments the ownship's {kind} is outside the candidates of {kind}, {low / scale:g} to {high / scale:g} {unit}: it is "
+                   f"{min(outside) / scale:g} to {max(outside) / scale:g}, so each candidate is a change")
 
 
 def on_speeds(moments):

@@ -1,4 +1,6 @@
 """tools/check: its words on worked inputs, and its codes against the program's on random and hostile ones."""
+import math
+import os
 import re
 import unittest
 
@@ -272,25 +274,30 @@ ADVICE = (
     (("tthr = 35", "tthr = 30"), ["level 2 reaches farther than level 1 (tthr 30 and 35)"]),
     (("tcoa = 0\nlookahead = 55", "tcoa = 5\nlookahead = 55"), ["level 3 reaches farther than level 2 (tcoa 0 and 5)"]),
 )
+SLOW = "the ownship's gs is outside the candidates of gs, 50 to 700 knots: it is 36 to 36, so each candidate is a change"
+ALONE = "no moment has another aircraft: each report will say `keep`, because nothing is known and not because the way is clear"
 FAR, NEAR = "traffic A 3000 8000 10000 -1350 0 0\n", "traffic A 3 8 10000 -1350 0 0\n"
 # State lines, and their advice.
 STATES_ADVICE = (
     ("moment 0\nown 0 0 10000 0 360 0\n" + FAR + "end\nmoment 10\nown 0 1000 10000 0 360 0\n" + FAR + "end\n",
-     ["the ownship flies 10.0 times as far as its ground speed says"]),
-    ("moment 0\nown 0 0 10000 0 360 0\ntraffic A 3000 8000 10000 -135 0 0\nend\n", ["no speed is above 36 knots"]),
-    ("moment 0\nown 0 0 10000 0 360 0\ntraffic A 3000 8000 0 0 0 0\nend\nmoment 10\nown 0 100 10000 0 360 0\nend\n", []),
-    ("moment 0\nown 0 0 10000 0 1 0\nend\n", ["so 1 knot would be 10"]),
+     ["the ownship flies 10.0 times as far as its ground speed says", SLOW]),
+    ("moment 0\nown 0 0 10000 0 360 0\ntraffic A 3000 8000 10000 -135 0 0\nend\n", ["no speed is above 36 knots", f"in 1 of 1 moments {SLOW}"]),
+    ("moment 0\nown 0 0 10000 0 360 0\ntraffic A 3000 8000 0 0 0 0\nend\nmoment 10\nown 0 100 10000 0 360 0\nend\n", [SLOW]),
+    ("moment 0\nown 0 0 10000 0 1 0\nend\n", ["so 1 knot would be 10", ALONE, "it is 0.1 to 0.1, so each"]),
     ("moment 0\nown 0 0 10000 0 3600 0\n" + NEAR + "end\n", ["no aircraft is farther than 0.008 nautical miles from the ownship"]),
     ("moment 0\nown 0 0 10000 0 3600 0\n" + NEAR.replace("3 8", "0 1") + "end\n", ["so 1 mile would be 1000"]),
     ("moment 0\nown 0 0 10000 0 3600 0\n" + NEAR + FAR.replace("A", "B") + "end\n", []),
     ("moment 0\nown 0 0 10000 0 3600 0\ntraffic A 0 0 10000 -1350 0 0\nend\n", []),
     ("moment 0\nown 0 0 10000 0 3600 0\n" + FAR.replace("0 0\n", "0 0 2\n") + "end\n", ["write the line `format 2` before the first moment"]),
-    ("NAME lat lon alt trk gs vs time\n[none] [deg] [deg] [ft] [deg] [knot] [fpm] [s]\n", ["this looks like a recording with named columns: tools/from_daa"]),
-    ("moment 0\nnow A 0\nalert A 0 -\n", ["this looks like a report"]),
-    ("time [s],name,sx,sy,alt\n", ["this looks like a recording"]),
-    ("resolve = 1\n", ["this looks like a configuration"]),
     ("", ["there is no moment in it"]), ("# a comment\nformat 2\n", ["there is no moment in it"]),
 )
+
+
+# Files of another sort in the place of states, and what is said of them, in one line.
+OTHER_FILES = (("NAME lat lon alt trk gs vs time\n[none] [deg] [deg] [ft] [deg] [knot] [fpm] [s]\n", "a recording: tools/from_daa"),
+               ("time [s],name,sx,sy,alt\n1,2,3\n", "a recording"), ("timestamp,icao24,latitude,longitude,baro_altitude\n1,a,2,3,4\n", "a recording"),
+               ("MSG,3,1,1,4B0001,1,2024/05/14,09:31:22.000,2024/05/14,09:31:22.000,,3000,,,47.4,8.6,,,0,0,0,0\n" * 9, "a recording"),
+               ('{"now": 1, "aircraft": []}\n', "a recording"), ("resolve = 1\nturn_rate = 3\n", "a configuration"), ("moment 0\nnow A 0\nalert A 0 -\n", "a report"))
 
 
 class Advice(ToolTest):
@@ -325,6 +332,44 @@ class Advice(ToolTest):
             self.assertEqual((status, plain), self.tool("check", CONFIG, path)[:2])
             self.assertEqual("accepted" in out, not parts)
 
+    def test_another_file_is_told_in_one_line(self):
+        for text, part in OTHER_FILES:
+            status, found, out = self.advised(CONFIG, self.write("in.states", text))
+            self.assertEqual((status, len(out.splitlines())), (1, 1), out)
+            self.assert_advice(found, [f"this looks like {part}"])
+
+    def test_what_cannot_be_right_in_state_lines(self):
+        """At 360 knots north 0.1 NM a second: here half of it. Two miles north of it B flies as fast, and flies eastward by its velocity.
+        C is where the ownship is. Where the states were made of a recording, the turn of each moment's plane is taken back."""
+        def states(own_step, comment="", turn=0.0):
+            angle = math.radians(turn)
+            x, y = round(-2000 * math.sin(angle)), round(2000 * math.cos(angle))
+            return "".join(f"{comment}moment {time}\n" + (f"# origin 47 8 {turn * (time % 2)}\n" if turn else "") + f"own 0 {own_step * time} 10000 0 3600 0\n"
+                           f"traffic B {x * (time % 2) if turn else 0} {own_step * time + (y if turn and time % 2 else 2000)} 10000 {0 if turn else 3600} "
+                           f"{3600 if turn else 0} 0\ntraffic C 0 {own_step * time} 10000 0 3600 0\nend\n" for time in range(12))
+        _, found, _ = self.advised(CONFIG, self.write("in.states", states(50)))
+        self.assert_advice(found, ["the ownship, B and C: places move 0.50 times as fast as the speeds say", "B: places move 90 degrees off the tracks",
+                                   "C: all along where the ownship is: its own transponder?"])
+        self.assertEqual(self.advised(CONFIG, self.write("in.states", states(100).replace("traffic C", "# C").replace("3600 0 0\n", "0 3600 0\n")))[1], [])
+        self.assertEqual(self.advised(CONFIG, self.write("in.states", "# ownship X\n" + states(100, turn=0.5).replace("traffic C", "# C")))[1], [])
+
+    def test_moments_that_lack_an_aircraft(self):
+        moment = "moment {}\n{}own 0 0 10000 0 3600 0\n" + FAR + "end\n"
+        text = moment.format(0, "") + moment.format(10, "# lacks B no report for 12 s, 3.2 NM away\n") + moment.format(20, "# lacks B x\n") + moment.format(30, "")
+        _, found, _ = self.advised(CONFIG, self.write("in.states", text))
+        self.assert_advice(found, ["2 of 4 moments, from 10 to 20 s, lack an aircraft that was heard (comments `# lacks`): what is not known there is not clear"])
+
+    def test_the_configurations_to_begin_from(self):
+        """They are taken, and nothing of them is seldom meant; each tells where its numbers come from."""
+        for name in ("do_365_phase_one", "non_cooperative", "small_aircraft"):
+            path = os.path.join(TOP, "examples", f"{name}.toml")
+            status, found, out = self.advised(path)
+            self.assertEqual((status, found), (0, []), out)
+            with open(path, encoding="utf-8") as file:
+                text = file.read()
+            self.assertRegex(text, "nobody's standard\\s+#?\\s*here")
+            self.assertIn("# Where the numbers come from:", text)
+
     def test_the_least_distance_counts(self):
         """Of the levels from the corrective one on, level 3 has 300, and recoveries are at 400."""
         text = PLAIN.replace("level = [ ", "level = [ LEVEL, LEVEL, ").replace("LEVEL", "{ dthr = 660, zthr = 450, tthr = 35, tcoa = 0, lookahead = 10, alert = 10 }")
@@ -347,9 +392,10 @@ class Advice(ToolTest):
         self.assert_advice(self.advised(self.write("c.toml", PLAIN + "x = [ 1 ]\ny = 3\n[z]\n"))[1], [])
 
     def test_advice_stands_before_refused_lines(self):
-        out = self.advised(CONFIG, self.write("in.states", "time [s],name,sx,sy,alt\n" + "0,A,0,0,0\n" * 9))[2].splitlines()
-        self.assertIn("advice: this looks like a recording", out[0])
-        self.assertEqual(sum("refused 2" in line for line in out[1:]), 10)
+        text = "moment 0\nown 0 0 10000 0 3600 0\n" + "".join(f"traffic A{number} 3000 8000 10000 0 0 0 3\n" for number in range(9)) + "end\n"
+        out = self.advised(CONFIG, self.write("in.states", text))[2].splitlines()
+        self.assertIn("advice: aircraft with an age, the eighth number, are of format 2", out[0])
+        self.assertEqual(sum("refused 3" in line for line in out[1:]), 9)
 
     def test_what_was_accepted(self):
         """72 tracks, 66 ground speeds, 101 vertical speeds, 101 altitudes and the present flight are 341."""

@@ -76,9 +76,9 @@ class FromParameters(ToolTest):
         self.assertEqual(made, WANTED)
         self.assertEqual(said, [
             "from_parameters: the alerter two is left out: there is one list of levels here, that of one",
+            "from_parameters: no recovery is asked for (recovery_hdir and its kin), so there is no table [recovery]",
             "from_parameters: horizontal_accel = 2 [m/s^2] is rounded: 38.8769 to gs.rate = 39 (0.1 kt per second)",
             "from_parameters: vertical_accel = 0.25 [G] is rounded: 482.611 to vs.rate = 483 (ft/min per second)",
-            "from_parameters: no recovery is asked for (recovery_hdir and its kin), so there is no table [recovery]",
             "from_parameters: left out, and at a value at which nothing is missed: left_hdir, bank_angle, one_alert_1_spread_hdir, "
             "one_alert_2_spread_hdir, one_alert_3_spread_hdir"])
 
@@ -144,6 +144,30 @@ class FromParameters(ToolTest):
         made, said = self.made(TOP + RECOVERY.replace("recovery_vs = true", "recovery_vs = false") + LEVELS)
         self.assertIn("recovery", made)
         self.assertTrue(any("of some kinds alone" in line for line in said), said)
+
+    def test_a_turn_rate_of_the_bank(self):
+        """30 degrees at 80 knots: 9.80665 * 0.57735 / 41.1556 m/s are 0.13757 rad, 7.882 degrees a second; at 300 knots 2.102."""
+        bank = TOP.replace("bank_angle = 0 [deg]", "bank_angle = 30 [deg]")
+        for text in (bank.replace("turn_rate = 3 [deg/s]", "turn_rate = 0 [deg/s]"), bank.replace("turn_rate = 3 [deg/s]\n", "")):
+            self.assertNotEqual(text, TOP)
+            for speed, rate, shown in (("80", 7, "7.88"), ("300", 2, "2.1")):
+                made, said = self.made(text + LEVELS, "--speed", speed)
+                self.assertEqual(made, {**WANTED, "turn_rate": rate})
+                self.assertEqual(said[1], f"from_parameters: bank_angle = 30 [deg] at {speed} knots is {shown} degrees a second: turn_rate = {rate}, the whole "
+                                          "number below; a faster ownship turns slower than that")
+            self.refused(text + LEVELS, "bank_angle = 30 [deg]: there is no turn_rate, so NASA turns by the bank", "as in --speed 80 (knots)")
+            self.refused(text + LEVELS, "at 900 knots that is 0.701 degrees a second, and the least turn rate here is 1: name a lower speed", words=("--speed", "900"))
+            self.refused(text.replace("30 [deg]", "90 [deg]") + LEVELS, "this is no bank between 0 and 90 degrees", words=("--speed", "80"))
+            self.assertEqual(self.made(text.replace("30 [deg]", "89 [deg]") + LEVELS, "--speed", "10")[0]["turn_rate"], 30)
+        self.refused(TOP + LEVELS, "the file has a turn_rate or no bank_angle, so --speed has no place", words=("--speed", "80"))
+        self.refused(TOP.replace("turn_rate = 3 [deg/s]\n", "").replace("bank_angle = 0 [deg]\n", "") + LEVELS, "the parameter turn_rate is missing")
+
+    def test_what_is_lost_is_told_first(self):
+        _, said = self.made(TOP.replace("step_hs = 10 [knot]", "step_hs = 5 [m/s]") + "h_pos_z_score = 0.5\n" + LEVELS)
+        weights = [("left out: " in line and "at a value" not in line or "no recovery" in line, "is rounded" in line) for line in said]
+        self.assertEqual(weights, sorted(weights, reverse=True))
+        self.assertTrue(any("h_pos_z_score = 0.5 is left out" in line for line in said[:3]), said)
+        self.assertIn("at a value at which nothing is missed", said[-1])
 
     def test_regions_give_the_corrective_level(self):
         for regions, corrective, wanted in ((("FAR", "MID", "NEAR"), "FAR", 1), (("NONE", "MID", "NEAR"), "FAR", 2),

@@ -61,7 +61,7 @@ class Header:
     """The columns of a table by its header line, and by the line under it, which has that number, where it has units."""
 
     def __init__(self, line, under, number, wishes):
-        self.marks, self.wishes, self.under_number = marks_of(line), wishes, number
+        self.line, self.marks, self.wishes, self.under_number = line, marks_of(line), wishes, number
         self.cells = cells_of(line, self.marks)
         self.named = [split_unit(cell) for cell in self.cells]
         self.names = [plain(name).removeprefix(PREFIX) for name, _ in self.named]

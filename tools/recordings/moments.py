@@ -15,6 +15,9 @@ ROUNDING = 1e-6  # s: what the rounding of a time's unit may cost
 NEAR = 40  # NM: an aircraft that is left out and was nearer, flown straight on, is told in its moment
 FORGOTTEN = 300  # s: after so long an old report says nothing any more about where an aircraft is
 MOST_LACKS = 20  # aircraft that a moment lacks and that are named one by one
+# By how much of itself a distance in the plane may be off below this latitude: since a minute is no mile everywhere, and with the
+# distance's square since meridians run together.
+MOST_OFF, MOST_BENT, HIGH = 0.01, 1e-6, 80
 
 
 def whole_second(time):
@@ -61,14 +64,25 @@ class Losses:
         self.place = self.height = self.speed = self.climb = self.closest = self.plane = 0.0
         self.count = 0
 
-    def note(self, place, seen_place, speed, seen_speed, height, climb):
-        """Notes what the program sees of an aircraft, from its ownship, against what was recorded."""
+    def note(self, east, north, seen_east, seen_north, v_east, v_north, seen_v_east, seen_v_north):
+        """Notes what the program sees of an aircraft's place and speed, from its ownship, against what was recorded."""
         self.count += 1
-        self.place = max(self.place, math.dist(seen_place, place))
-        self.speed = max(self.speed, math.dist(seen_speed, speed))
+        if (place := math.hypot(seen_east - east, seen_north - north)) > self.place:
+            self.place = place
+        if (speed := math.hypot(seen_v_east - v_east, seen_v_north - v_north)) > self.speed:
+            self.speed = speed
+        off = abs(closest(seen_east, seen_north, seen_v_east, seen_v_north) - closest(east, north, v_east, v_north))
+        if off > self.closest:
+            self.closest = off
+
+    def note_vertical(self, height, climb):
         self.height = max(self.height, abs(height))
         self.climb = max(self.climb, abs(climb))
-        self.closest = max(self.closest, abs(closest(*seen_place, *seen_speed) - closest(*place, *speed)))
+
+    def note_plane(self, far, own_place, place):
+        """Notes how far a distance in the plane is off, unless it can't be the greatest."""
+        if far * (MOST_OFF + far * far * MOST_BENT) > self.plane or abs(own_place[0]) > HIGH:
+            self.plane = max(self.plane, abs(far - on_ellipsoid(own_place, place)))
 
     def told(self):
         if self.count:
@@ -186,23 +200,24 @@ class Maker:
 
     def traffic_of(self, row, frame, east, north):
         """An aircraft's numbers, or None where they are out of range; notes what is lost."""
-        own, own_row = frame.own, frame.row
+        own, own_row, cosine, sine = frame.own, frame.row, frame.cos, frame.sin
         late = own_row.time - row.time
         age = min(max(whole_second(late), 0), AGE.high)
-        part = late - age
-        place = frame.turned(east + row.east * part / 3600, north + row.north * part / 3600)
-        speed = frame.turned(row.east, row.north)
-        alt = row.alt + row.vs * part / 60
-        x, y, vx, vy = round(1000 * place[0]), round(1000 * place[1]), round(10 * speed[0]), round(10 * speed[1])
-        made = Traffic(self.ids[row.name], own.x + x, own.y + y, round(alt), vx, vy, round(row.vs), age)
-        if not (fits(made.x, X) and fits(made.y, X) and fits(made.alt, ALT) and fits(vx, VX) and fits(vy, VX) and fits(made.vs, VS)):
+        hours = (late - age) / 3600
+        far_east, far_north = east + row.east * hours, north + row.north * hours
+        place_x, place_y = far_east * cosine - far_north * sine, far_east * sine + far_north * cosine
+        speed_x, speed_y = row.east * cosine - row.north * sine, row.east * sine + row.north * cosine
+        height = row.alt + row.vs * hours * 60
+        x, y, alt, vx, vy, vs = round(1000 * place_x), round(1000 * place_y), round(height), round(10 * speed_x), round(10 * speed_y), round(row.vs)
+        if not (X.low <= own.x + x <= X.high and X.low <= own.y + y <= X.high and ALT.low <= alt <= ALT.high and VX.low <= vx <= VX.high
+                and VX.low <= vy <= VX.high and VS.low <= vs <= VS.high):
             return None
-        seen_own = frame.seen_speed
-        self.losses.note(place, (x / 1000, y / 1000), (speed[0] - frame.speed[0], speed[1] - frame.speed[1]),
-                         (vx / 10 - seen_own[0], vy / 10 - seen_own[1]), made.alt - own.alt - alt + own_row.alt, made.vs - own.vs - row.vs + own_row.vs)
+        losses, seen_own = self.losses, frame.seen_speed
+        losses.note(place_x, place_y, x / 1000, y / 1000, speed_x - frame.speed[0], speed_y - frame.speed[1], vx / 10 - seen_own[0], vy / 10 - seen_own[1])
+        losses.note_vertical(alt - own.alt - height + own_row.alt, vs - own.vs - row.vs + own_row.vs)
         if self.on_earth:
-            self.losses.plane = max(self.losses.plane, abs(math.hypot(east, north) - on_ellipsoid(own_row.place, row.place)))
-        return made
+            losses.note_plane(math.hypot(east, north), own_row.place, row.place)
+        return Traffic(self.ids[row.name], own.x + x, own.y + y, alt, vx, vy, vs, age)
 
     def traffic_at(self, frame, second):
         """The nearest aircraft, as many as there may be, in the order in which the recording first has them; and the comments that

@@ -37,5 +37,6 @@ def on_ellipsoid(one, other):
 def closest(east, north, v_east, v_north):
     """The distance at the closest approach within an hour, in NM, of a place in NM and a speed in knots."""
     square = v_east * v_east + v_north * v_north
-    hours = min(max(-(east * v_east + north * v_north) / square, 0), 1) if square else 0
+    hours = -(east * v_east + north * v_north) / square if square else 0
+    hours = 0 if hours < 0 else 1 if hours > 1 else hours
     return math.hypot(east + hours * v_east, north + hours * v_north)

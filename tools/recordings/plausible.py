@@ -7,7 +7,7 @@ from .plane import offset
 
 APART = 30  # s: two reports that are farther apart say nothing about a speed
 LEAST_STEPS = 5
-MOST_STEPS = 2000
+MOST_STEPS = 600
 STANDS, MOVES = 5, 20  # knots
 TURNED = 20  # degrees
 LEAST_CLIMB = 100  # ft

@@ -68,6 +68,7 @@ class Table:
         self.columns = len(header.cells)
         self.labels, self.grounded, self.first_name = {}, 0, None
         self.is_polar = header.form("speed") == ("trk", "gs")
+        self.usual = UsualRows(self) if UsualRows.fit(self) else None
 
     @property
     def is_barometric(self):
@@ -76,6 +77,10 @@ class Table:
 
     def row(self, line):
         """The report of a row; None for one that is told otherwise, of an aircraft on the ground."""
+        return self.usual and self.usual.row(line) or self.any_row(line)
+
+    def any_row(self, line):
+        """The same, whatever stands in it."""
         cells = cells_of(line, self.header.marks)
         if len(cells) != self.columns:
             self.check_length(cells, line)
@@ -164,6 +169,45 @@ class Table:
             hint = ": are lat and lon in each other's place, or in another unit?" * (column == "lat")
             raise BadRow(f"too large a number for {column}{hint}")
         return found
+
+
+class UsualRows:
+    """Reads rows of a table as most are, with plain numbers, in a quarter of the time; every other row is left to the table."""
+
+    def __init__(self, table):
+        self.table, at = table, table.at
+        self.mark = ";" if table.header.marks == ";" else ","
+        self.others = '";' if self.mark == "," else '"'
+        self.name, self.time, self.label, self.ground = at["name"], at["time"], at.get("label"), at.get("ground")
+        self.numbers = [(at[column], table.worth[column]) for column in (*table.header.form("place"), table.header.altitude, "trk", "gs", "vs")]
+
+    @staticmethod
+    def fit(table):
+        """Whether a table has rows that can be read so."""
+        return (table.is_polar and table.header.form("place") != ("position",) and "date" not in table.at and {"name", "vs"} <= table.at.keys()
+                and mark_of(table.header.line, table.header.marks) is not None)
+
+    def row(self, line):
+        """The report of a row, or None where it may be another one than it looks."""
+        table, cells = self.table, line.split(self.mark)
+        if len(cells) != table.columns or self.others[0] in line or self.others[-1] in line:
+            return None
+        try:
+            north, east, alt, track, speed, vs = [float(cells[at]) * worth for at, worth in self.numbers]
+            time = table.times.scaled(float(cells[self.time]), cells[self.time])
+        except ValueError:
+            return None
+        name = cells[self.name].strip()
+        is_usual = time is not None and abs(north) + abs(east) + abs(alt) + abs(track) + abs(speed) + abs(vs) + abs(time) < GREATEST
+        if not (name and is_usual) or table.on_earth and not (abs(north) <= MOST_LATITUDE and (north or east)):
+            return None
+        if self.ground is not None and cells[self.ground].strip().lower() in ON_GROUND:
+            return None
+        if self.label is not None and cells[self.label].strip():
+            table.labels[name] = cells[self.label].strip()
+        table.first_name = table.first_name or name
+        angle = math.radians(track)
+        return Row(name, time, (north, east), alt, speed * math.sin(angle), speed * math.cos(angle), vs, track)
 
 
 def number_otherwise(column, cell):
