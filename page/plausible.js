@@ -5,7 +5,8 @@ function daaPlausible(root) {
   const { round } = root.daa.reading;
   const EARTH = Math.PI / 180;
   const APART = 30; // s: two reports that are farther apart say nothing about a speed
-  const [LEAST_STEPS, MOST_STEPS] = [5, 600];
+  const LEAST_STEPS = 5;
+  const MOST_STEPS = 200; // of an aircraft, evenly over its reports
   const [STANDS, MOVES] = [5, 20]; // knots
   const TURNED = 20; // degrees
   const LEAST_CLIMB = 100; // ft
@@ -35,10 +36,14 @@ function daaPlausible(root) {
 
   const modulo = (number, by) => ((number % by) + by) % by;
 
+  /** Each so-manieth of some reports is looked at. */
+  const eachOf = (rows) => Math.ceil(rows.length / MOST_STEPS);
+  const sampleOf = (rows) => rows.filter((_, at) => at % eachOf(rows) === 0);
+
   /** What an aircraft did from report to report: speeds by places and by its own word in knots, the angle between them, climbs. */
   function stepsOf(rows, offset) {
     const steps = { moved: [], ratios: [], turns: [], stated: [], climbed: 0, saidClimb: 0 };
-    for (let i = 1; i < rows.length && i <= MOST_STEPS; i++) {
+    for (let i = 1; i < rows.length; i += eachOf(rows)) {
       const [before, after] = [rows[i - 1], rows[i]];
       const apart = after.time - before.time;
       if (!(apart > 0 && apart <= APART)) continue;
@@ -95,7 +100,7 @@ function daaPlausible(root) {
   function between(rows, own, offset) {
     const near = [];
     let nearest = Infinity;
-    for (const row of rows.slice(0, MOST_STEPS)) {
+    for (const row of sampleOf(rows)) {
       const there = own.get(round(row.time));
       if (!there) continue;
       const far = Math.hypot(...offset(there.place, row.place));
@@ -174,9 +179,9 @@ function daaPlausible(root) {
 
   /** Heights that are so low that they are likely in another unit. */
   function onHeights(aircraft) {
-    const rows = [...aircraft.values()].flatMap((some) => some.slice(0, MOST_STEPS));
+    const rows = [...aircraft.values()].flatMap(sampleOf);
     const highest = rows.reduce((most, row) => Math.max(most, Math.abs(row.alt)), 0);
-    const isFast = (some) => median(some.slice(0, MOST_STEPS).map((row) => Math.hypot(row.east, row.north))) > LOW_SPEED;
+    const isFast = (some) => median(sampleOf(some).map((row) => Math.hypot(row.east, row.north))) > LOW_SPEED;
     return highest > 0 && highest < LOW && [...aircraft.values()].every(isFast)
       ? [`no height is above ${fixed(highest, 0)} ft: heights in flight levels, taken as ft?`] : [];
   }

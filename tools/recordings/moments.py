@@ -1,6 +1,7 @@
 """Makes moments of reports: each report of the ownship is one, at its whole second, with the latest report of every other aircraft until
 then. Reports are taken in the order of their times, one by one, so that a recording can be read while it is written."""
 import bisect
+import heapq
 import math
 import re
 
@@ -15,6 +16,7 @@ ROUNDING = 1e-6  # s: what the rounding of a time's unit may cost
 NEAR = 40  # NM: an aircraft that is left out and was nearer, flown straight on, is told in its moment
 FORGOTTEN = 300  # s: after so long an old report says nothing any more about where an aircraft is
 MOST_LACKS = 20  # aircraft that a moment lacks and that are named one by one
+MEASURED = 8  # aircraft of a moment, the nearest ones, of which it is measured what rounding costs
 # By how much of itself a distance in the plane may be off below this latitude: since a minute is no mile everywhere, and with the
 # distance's square since meridians run together.
 MOST_OFF, MOST_BENT, HIGH = 0.01, 1e-6, 80
@@ -62,7 +64,7 @@ class Losses:
 
     def __init__(self):
         self.place = self.height = self.speed = self.climb = self.closest = self.plane = 0.0
-        self.count = 0
+        self.count, self.is_in_part = 0, False
 
     def note(self, east, north, seen_east, seen_north, v_east, v_north, seen_v_east, seen_v_north):
         """Notes what the program sees of an aircraft's place and speed, from its ownship, against what was recorded."""
@@ -86,7 +88,8 @@ class Losses:
 
     def told(self):
         if self.count:
-            yield (f"lost in rounding, at most: place {self.place:.4f} NM, height {self.height:.1f} ft, speed {self.speed:.2f} knots, "
+            of_whom = f", of the {MEASURED} nearest aircraft of each moment" if self.is_in_part else ""
+            yield (f"lost in rounding, at most{of_whom}: place {self.place:.4f} NM, height {self.height:.1f} ft, speed {self.speed:.2f} knots, "
                    f"vertical speed {self.climb:.1f} ft/min, distance at the closest approach {self.closest:.4f} NM")
 
 
@@ -198,8 +201,8 @@ class Maker:
         self.far += is_far
         return OwnFrame(row, own, math.radians(track - whole))
 
-    def traffic_of(self, row, frame, east, north):
-        """An aircraft's numbers, or None where they are out of range; notes what is lost."""
+    def traffic_of(self, row, frame, east, north, is_measured):
+        """An aircraft's numbers, or None where they are out of range; notes what is lost where that is measured."""
         own, own_row, cosine, sine = frame.own, frame.row, frame.cos, frame.sin
         late = own_row.time - row.time
         age = min(max(whole_second(late), 0), AGE.high)
@@ -212,25 +215,33 @@ class Maker:
         if not (X.low <= own.x + x <= X.high and X.low <= own.y + y <= X.high and ALT.low <= alt <= ALT.high and VX.low <= vx <= VX.high
                 and VX.low <= vy <= VX.high and VS.low <= vs <= VS.high):
             return None
-        losses, seen_own = self.losses, frame.seen_speed
-        losses.note(place_x, place_y, x / 1000, y / 1000, speed_x - frame.speed[0], speed_y - frame.speed[1], vx / 10 - seen_own[0], vy / 10 - seen_own[1])
-        losses.note_vertical(alt - own.alt - height + own_row.alt, vs - own.vs - row.vs + own_row.vs)
-        if self.on_earth:
-            losses.note_plane(math.hypot(east, north), own_row.place, row.place)
+        if is_measured:
+            self.measure(row, frame, (east, north), (place_x, place_y), (x, y), (speed_x, speed_y), (vx, vy), alt - height, vs)
         return Traffic(self.ids[row.name], own.x + x, own.y + y, alt, vx, vy, vs, age)
+
+    def measure(self, row, frame, way, place, seen_place, speed, seen_speed, rounded_up, vs):
+        """Notes what rounding costs between the ownship and an aircraft."""
+        losses, own, own_row, own_speed, seen_own = self.losses, frame.own, frame.row, frame.speed, frame.seen_speed
+        losses.note(*place, seen_place[0] / 1000, seen_place[1] / 1000, speed[0] - own_speed[0], speed[1] - own_speed[1],
+                    seen_speed[0] / 10 - seen_own[0], seen_speed[1] / 10 - seen_own[1])
+        losses.note_vertical(rounded_up - own.alt + own_row.alt, vs - own.vs - row.vs + own_row.vs)
+        if self.on_earth:
+            losses.note_plane(math.hypot(*way), own_row.place, row.place)
 
     def traffic_at(self, frame, second):
         """The nearest aircraft, as many as there may be, in the order in which the recording first has them; and the comments that
         name those that the moment lacks, the nearest one first."""
         own_row, there, lacking = frame.row, [], []
+        now, own_place, on_earth = own_row.time, own_row.place, self.on_earth
         for row in list(self.latest.values()):
-            late = own_row.time - row.time
+            late = now - row.time
             if late > FORGOTTEN + ROUNDING:
                 self.forget(row.name)
                 del self.latest[row.name]
                 continue
-            east, north = offset(own_row.place, row.place, self.on_earth)
-            far = math.hypot(east + row.east * late / 3600, north + row.north * late / 3600)
+            east, north = offset(own_place, row.place, on_earth)
+            hours = late / 3600
+            far = math.hypot(east + row.east * hours, north + row.north * hours)
             if late > self.oldest + ROUNDING:
                 self.leave_out("aircraft", f"whose report is older than {self.oldest:g} s, in a moment")
                 lacking.append((far, row.name, self.lack_of(row, own_row.time)))
@@ -244,9 +255,12 @@ class Maker:
 
     def found_of(self, there, frame, lacking):
         """The aircraft of a moment by their names; adds those that it lacks."""
-        found = {}
+        found, farthest = {}, math.inf
+        if len(there) > MEASURED:
+            farthest = heapq.nsmallest(MEASURED, (one[0] for one in there))[-1]
+            self.losses.is_in_part = True
         for far, row, east, north in there:
-            made = self.traffic_of(row, frame, east, north) if len(found) < MOST_AIRCRAFT else None
+            made = self.traffic_of(row, frame, east, north, far <= farthest) if len(found) < MOST_AIRCRAFT else None
             if made:
                 found[row.name] = made
                 self.used.add(row.name)

@@ -7,7 +7,7 @@ from .plane import offset
 
 APART = 30  # s: two reports that are farther apart say nothing about a speed
 LEAST_STEPS = 5
-MOST_STEPS = 600
+MOST_STEPS = 200  # of an aircraft, evenly over its reports
 STANDS, MOVES = 5, 20  # knots
 TURNED = 20  # degrees
 LEAST_CLIMB = 100  # ft
@@ -29,13 +29,19 @@ def likely(ratio, causes):
     return f": {found[1]}?" if abs(ratio / found[0] - 1) < 0.04 else ""
 
 
+def each_of(rows):
+    """Each so-manieth of some reports is looked at."""
+    return -(-len(rows) // MOST_STEPS)
+
+
 class Steps:
     """What an aircraft did from report to report: speeds by places and by its own word in knots, the angle between them, climbs."""
 
     def __init__(self, rows, on_earth):
         self.moved, self.ratios, self.turns, self.stated = [], [], [], []
         self.climbed = self.said_climb = 0.0
-        for before, after in list(zip(rows, rows[1:]))[:MOST_STEPS]:
+        for at in range(1, len(rows), each_of(rows)):
+            before, after = rows[at - 1], rows[at]
             apart = after.time - before.time
             if 0 < apart <= APART:
                 self.add(before, after, apart, offset(before.place, after.place, on_earth))
@@ -87,7 +93,7 @@ WORDS = {"stands": "places stand still, and speeds are {:.0f} knots: are positio
 def between(name, rows, own, on_earth):
     """What the places of an aircraft against the ownship's show."""
     near, nearest = [], math.inf
-    for row in rows[:MOST_STEPS]:
+    for row in rows[::each_of(rows)]:
         there = own.get(round(row.time))
         if there:
             far = math.hypot(*offset(there.place, row.place, on_earth))
@@ -164,7 +170,7 @@ def on_names(aircraft):
 
 def on_heights(aircraft):
     """Heights that are so low that they are likely in another unit."""
-    rows = [row for some in aircraft.values() for row in some[:MOST_STEPS]]
+    rows = [row for some in aircraft.values() for row in some[::each_of(some)]]
     highest = max((abs(row.alt) for row in rows), default=0)
-    if rows and 0 < highest < LOW and all(statistics.median([math.hypot(row.east, row.north) for row in some[:MOST_STEPS]]) > LOW_SPEED for some in aircraft.values()):
+    if rows and 0 < highest < LOW and all(statistics.median([math.hypot(row.east, row.north) for row in some[::each_of(some)]]) > LOW_SPEED for some in aircraft.values()):
         yield f"no height is above {highest:.0f} ft: heights in flight levels, taken as ft?"

@@ -207,7 +207,7 @@ class UsualRows:
             table.labels[name] = cells[self.label].strip()
         table.first_name = table.first_name or name
         angle = math.radians(track)
-        return Row(name, time, (north, east), alt, speed * math.sin(angle), speed * math.cos(angle), vs, track)
+        return Row._make((name, time, (north, east), alt, speed * math.sin(angle), speed * math.cos(angle), vs, track, ""))
 
 
 def number_otherwise(column, cell):

@@ -54,7 +54,7 @@ class Source:
         self.path, self.wishes = path, wishes
         self.owner = owner or os.path.splitext(os.path.basename(path))[0]
         self.number, self.settings, self.header_lines, self.repeated = 0, 0, [], 0
-        self.form, self.text, self.faults, self.count = None, None, Faults(), 0
+        self.form, self.usual, self.text, self.faults, self.count = None, None, None, Faults(), 0
 
     def take(self, line):
         """The reports of one more line."""
@@ -68,6 +68,15 @@ class Source:
         if self.form is None:
             return self.begin(line, stripped)
         return self.rows(line)
+
+    def usual_row(self, line):
+        """The report of a line of a table that is as most are: what take gives of it, sooner. None of any other line."""
+        usual = self.usual
+        row = usual.row(line) if usual and "#" not in line else None
+        if row:
+            self.number += 1
+            self.count += 1
+        return row
 
     def begin(self, line, stripped):
         """Finds the form by the first lines."""
@@ -87,6 +96,7 @@ class Source:
     def begin_table(self, under):
         """Makes the table by the header and the line under it, or by the header alone."""
         self.form = self.at_path(lambda: Table(self.header_lines[0], under, self.number, self.wishes, self.owner))
+        self.usual = self.form.usual
         return [] if self.form.header.has_unit_line or not under else self.rows(under)
 
     def begin_json(self, line):
@@ -214,7 +224,11 @@ def read_file(path, wishes, shift=0, owner=None):
     source = Source(path, wishes, owner)
     lines, rows = lines_of_text(path), []
     for number, line in enumerate(lines):
-        rows += source.take(line)
+        row = source.usual_row(line)
+        if row:
+            rows.append(row)
+        else:
+            rows += source.take(line)
         if not number & 0xFFF:
             progress.show("read", number, len(lines))
     rows += source.end()
