@@ -8,6 +8,7 @@
 
 #include <stdio.h>
 #include <stdlib.h>
+#include <string.h>
 
 static const char *const kinds[] = {"", "track", "gs", "vs", "alt"};
 
@@ -39,12 +40,12 @@ static void read_moment(struct daa_lines *lines) {
     must(14, "daa_line");
 }
 
-static void print_candidates(const struct daa_config *config, const struct daa_board *board) {
+static void print_candidates(const struct daa_config *config, uint32_t time, const struct daa_board *board) {
     static uint8_t levels[1897];
     size_t count;
-    must(daa_levels(config, board, levels, sizeof levels, &count), "daa_levels");
+    must(daa_levels(config, time, board, levels, sizeof levels, &count), "daa_levels");
     for (uint32_t i = 0; i < count; i++) {
-        struct daa_candidate to;
+        struct daa_candidate_answer to;
         must(daa_candidate(config, i, &to), "daa_candidate");
         printf("candidate %d %d %d\n", (int)to.kind, (int)to.value, (int)levels[i]);
     }
@@ -52,7 +53,7 @@ static void print_candidates(const struct daa_config *config, const struct daa_b
 
 static void print_alerts(const struct daa_config *config, const struct daa_lines *moment) {
     for (size_t i = 0; i < moment->count; i++) {
-        struct daa_alert alert;
+        struct daa_alert_answer alert;
         must(daa_alert(config, &moment->own, &moment->traffic[i], &alert), "daa_alert");
         printf("now %.8s %u\nalert %.8s %u ", moment->traffic[i].id, (unsigned)alert.now, moment->traffic[i].id, (unsigned)alert.level);
         if (alert.level) printf("%d\n", (int)alert.first);
@@ -60,27 +61,27 @@ static void print_alerts(const struct daa_config *config, const struct daa_lines
     }
 }
 
-static void print_bands(const struct daa_config *config, const struct daa_board *board) {
+static void print_bands(const struct daa_config *config, uint32_t time, const struct daa_board *board) {
     for (int32_t kind = DAA_TRACK; kind <= DAA_HEIGHT; kind++) {
         struct daa_band bands[512];
         size_t count;
-        must(daa_bands(config, board, kind, bands, 512, &count), "daa_bands");
+        must(daa_bands(config, time, board, kind, bands, 512, &count), "daa_bands");
         for (size_t i = 0; i < count; i++)
             printf("%s %d %d %u\n", kinds[kind], (int)bands[i].from, (int)bands[i].upto, (unsigned)bands[i].level);
     }
 }
 
-static void print_side(const char *word, struct daa_resolution to) {
+static void print_side(const char *word, struct daa_resolution_answer to) {
     if (to.what == 0) printf(" %s keep", word);
     else if (to.what == 1) printf(" %s %d", word, (int)to.value);
     else printf(" %s none", word);
 }
 
-static void print_resolutions(const struct daa_config *config, const struct daa_own *own, const struct daa_board *board) {
+static void print_resolutions(const struct daa_config *config, const struct daa_lines *moment, const struct daa_board *board) {
     for (int32_t kind = DAA_TRACK; kind <= DAA_HEIGHT; kind++) {
-        struct daa_resolution lower, upper;
-        must(daa_resolution(config, own, board, kind, DAA_LOWER, &lower), "daa_resolution");
-        must(daa_resolution(config, own, board, kind, DAA_UPPER, &upper), "daa_resolution");
+        struct daa_resolution_answer lower, upper;
+        must(daa_resolution(config, moment->time, &moment->own, board, kind, DAA_LOWER, &lower), "daa_resolution");
+        must(daa_resolution(config, moment->time, &moment->own, board, kind, DAA_UPPER, &upper), "daa_resolution");
         printf("resolve %s", kinds[kind]);
         print_side(kind == DAA_TRACK ? "left" : "down", lower);
         print_side(kind == DAA_TRACK ? "right" : "up", upper);
@@ -92,9 +93,9 @@ static void print_resolutions(const struct daa_config *config, const struct daa_
  * present flight is not open. */
 static void print_last_times(const struct daa_config *config, const struct daa_lines *moment, const struct daa_board *board) {
     for (int32_t kind = DAA_TRACK; kind <= DAA_HEIGHT; kind++) {
-        struct daa_resolution to;
-        struct daa_last last;
-        must(daa_resolution(config, &moment->own, board, kind, DAA_LOWER, &to), "daa_resolution");
+        struct daa_resolution_answer to;
+        struct daa_last_answer last;
+        must(daa_resolution(config, moment->time, &moment->own, board, kind, DAA_LOWER, &to), "daa_resolution");
         if (!config->last_times || to.what == 0) continue;
         must(daa_last(config, &moment->own, moment->traffic, moment->count, kind, &last), "daa_last");
         if (last.found) printf("last %s %u\n", kinds[kind], (unsigned)last.after);
@@ -105,10 +106,10 @@ static void print_last_times(const struct daa_config *config, const struct daa_l
 /* The recoveries of the kinds that have no open value on either side, where the configuration asks for them. */
 static void print_recoveries(const struct daa_config *config, const struct daa_lines *moment, const struct daa_board *board) {
     for (int32_t kind = DAA_TRACK; kind <= DAA_HEIGHT; kind++) {
-        struct daa_resolution lower, upper;
-        struct daa_recovery to;
-        must(daa_resolution(config, &moment->own, board, kind, DAA_LOWER, &lower), "daa_resolution");
-        must(daa_resolution(config, &moment->own, board, kind, DAA_UPPER, &upper), "daa_resolution");
+        struct daa_resolution_answer lower, upper;
+        struct daa_recovery_answer to;
+        must(daa_resolution(config, moment->time, &moment->own, board, kind, DAA_LOWER, &lower), "daa_resolution");
+        must(daa_resolution(config, moment->time, &moment->own, board, kind, DAA_UPPER, &upper), "daa_resolution");
         if (!config->recovery || lower.what != 2 || upper.what != 2) continue;
         must(daa_recovery(config, &moment->own, moment->traffic, moment->count, kind, &to), "daa_recovery");
         if (to.found) printf("recover %s %u %d\n", kinds[kind], (unsigned)to.after, (int)to.value);
@@ -134,11 +135,29 @@ static struct daa_config config_in(const char *name) {
     return config;
 }
 
+/* A state that is flown for no time stays as it is. */
+static void fly_nowhere(const struct daa_lines *moment) {
+    struct daa_traffic traffic;
+    struct daa_own own;
+    must(daa_fly_own(&moment->own, 1000, 1000, 0, &own), "daa_fly_own");
+    must(daa_fly(&moment->traffic[0], 1000, 1000, 0, &traffic), "daa_fly");
+    if (memcmp(&own, &moment->own, sizeof own) || memcmp(&traffic, &moment->traffic[0], sizeof traffic)) exit(1);
+}
+
+/* The board of half the aircraft, to which that of the others is joined. */
+static void decide_in_halves(const struct daa_config *config, const struct daa_lines *moment, struct daa_board *board) {
+    static struct daa_board more;
+    size_t half = moment->count / 2;
+    must(daa_decide(config, moment->time, &moment->own, moment->traffic, half, board), "daa_decide");
+    must(daa_decide(config, moment->time, &moment->own, &moment->traffic[half], moment->count - half, &more), "daa_decide");
+    must(daa_join(config, &more, board), "daa_join");
+}
+
 int main(int words, char **word) {
     static struct daa_lines moment;
     static struct daa_board board;
     static uint8_t text[130176];
-    struct daa_fault fault;
+    struct daa_fault_answer fault;
     size_t length;
     if (words != 2) return 2;
     if (daa_version() != DAA_VERSION) return 1;
@@ -147,12 +166,13 @@ int main(int words, char **word) {
     read_moment(&moment);
     must(daa_fault(&moment.own, moment.traffic, moment.count, &fault), "daa_fault");
     printf("fault %d %d %d %d %d\n", (int)fault.code, (int)fault.field, (int)fault.least, (int)fault.greatest, (int)fault.place);
-    must(daa_decide(&config, &moment.own, moment.traffic, moment.count, &board), "daa_decide");
-    print_candidates(&config, &board);
+    fly_nowhere(&moment);
+    decide_in_halves(&config, &moment, &board);
+    print_candidates(&config, moment.time, &board);
     printf("moment %u\n", (unsigned)moment.time);
     print_alerts(&config, &moment);
-    print_bands(&config, &board);
-    print_resolutions(&config, &moment.own, &board);
+    print_bands(&config, moment.time, &board);
+    print_resolutions(&config, &moment, &board);
     print_last_times(&config, &moment, &board);
     print_recoveries(&config, &moment, &board);
     printf("done %u\n", (unsigned)moment.time);

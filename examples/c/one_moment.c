@@ -21,7 +21,7 @@ enum { AIRCRAFT = sizeof traffic / sizeof *traffic };
 
 static void check(const char *call, int32_t answer) {
     if (answer == DAA_OK) return;
-    fprintf(stderr, "%s answers %d\n", call, (int)answer);
+    fprintf(stderr, "%s answers %d: %s\n", call, (int)answer, daa_text(answer));
     exit(answer);
 }
 
@@ -40,7 +40,7 @@ static struct daa_config config_in(const char *name) {
 }
 
 static void print_alert(const struct daa_config *config, const struct daa_traffic *aircraft) {
-    struct daa_alert alert;
+    struct daa_alert_answer alert;
     check("daa_alert", daa_alert(config, &own, aircraft, &alert));
     printf("now %.8s %u\n", aircraft->id, (unsigned)alert.now);
     printf("alert %.8s %u ", aircraft->id, (unsigned)alert.level);
@@ -51,14 +51,14 @@ static void print_alert(const struct daa_config *config, const struct daa_traffi
 static void print_bands(const struct daa_config *config, const struct daa_board *board, int32_t kind, const char *name) {
     struct daa_band bands[512];
     size_t count;
-    check("daa_bands", daa_bands(config, board, kind, bands, 512, &count));
+    check("daa_bands", daa_bands(config, 0, board, kind, bands, 512, &count));
     for (size_t i = 0; i < count; i++)
         printf("%s %d %d %u\n", name, (int)bands[i].from, (int)bands[i].upto, (unsigned)bands[i].level);
 }
 
 static void print_side(const struct daa_config *config, const struct daa_board *board, int32_t kind, int32_t side) {
-    struct daa_resolution to;
-    check("daa_resolution", daa_resolution(config, &own, board, kind, side, &to));
+    struct daa_resolution_answer to;
+    check("daa_resolution", daa_resolution(config, 0, &own, board, kind, side, &to));
     if (to.what == 0) printf("keep");
     else if (to.what == 1) printf("%d", (int)to.value);
     else printf("none");
@@ -67,7 +67,7 @@ static void print_side(const struct daa_config *config, const struct daa_board *
 static void print_answers(const struct daa_config *config) {
     static const char *const names[] = {[DAA_TRACK] = "track", [DAA_SPEED] = "gs", [DAA_CLIMB] = "vs", [DAA_HEIGHT] = "alt"};
     struct daa_board board;
-    check("daa_decide", daa_decide(config, &own, traffic, AIRCRAFT, &board));
+    check("daa_decide", daa_decide(config, 0, &own, traffic, AIRCRAFT, &board));
     printf("moment 0\n");
     for (int i = 0; i < AIRCRAFT; i++) print_alert(config, &traffic[i]);
     for (int kind = DAA_TRACK; kind <= DAA_HEIGHT; kind++) print_bands(config, &board, kind, names[kind]);

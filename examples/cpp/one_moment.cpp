@@ -33,9 +33,8 @@ void check(const char *call, int32_t answer) {
     if (answer != DAA_OK) throw Fault{call, answer};
 }
 
-// (The word `struct` tells a type from the call of the same name.)
-struct daa_alert alert_of(const daa_config &config, const daa_traffic &aircraft) {
-    struct daa_alert alert;
+daa_alert_answer alert_of(const daa_config &config, const daa_traffic &aircraft) {
+    daa_alert_answer alert;
     check("daa_alert", daa_alert(&config, &own, &aircraft, &alert));
     return alert;
 }
@@ -43,14 +42,14 @@ struct daa_alert alert_of(const daa_config &config, const daa_traffic &aircraft)
 std::vector<daa_band> bands_of(const daa_config &config, const daa_board &board, daa_kind kind) {
     std::vector<daa_band> bands(512);
     size_t count;
-    check("daa_bands", daa_bands(&config, &board, kind, bands.data(), bands.size(), &count));
+    check("daa_bands", daa_bands(&config, 0, &board, kind, bands.data(), bands.size(), &count));
     bands.resize(count);
     return bands;
 }
 
 std::string resolution_of(const daa_config &config, const daa_board &board, daa_kind kind, daa_side side) {
-    struct daa_resolution to;
-    check("daa_resolution", daa_resolution(&config, &own, &board, kind, side, &to));
+    daa_resolution_answer to;
+    check("daa_resolution", daa_resolution(&config, 0, &own, &board, kind, side, &to));
     return to.what == 0 ? "keep" : to.what == 1 ? std::to_string(to.value) : "none";
 }
 
@@ -64,7 +63,7 @@ std::string report_of(const daa_config &config) {
 
 void print_answers(const daa_config &config) {
     daa_board board;
-    check("daa_decide", daa_decide(&config, &own, traffic.data(), traffic.size(), &board));
+    check("daa_decide", daa_decide(&config, 0, &own, traffic.data(), traffic.size(), &board));
     std::cout << "moment 0\n";
     for (const auto &aircraft : traffic) {
         const std::string id(aircraft.id, strnlen(aircraft.id, sizeof aircraft.id));
@@ -107,6 +106,6 @@ int main(int words, char **word) try {
         return 1;
     }
 } catch (const Fault &fault) {
-    std::cerr << fault.call << " answers " << fault.answer << "\n";
+    std::cerr << fault.call << " answers " << fault.answer << ": " << daa_text(fault.answer) << "\n";
     return fault.answer;
 }

@@ -14,9 +14,9 @@ It calls the archive of crates/daa_c, made into a shared library as examples/REA
 A loop over many moments keeps one moment, whose structs are filled anew each time:
 
     moment = engine.loop(config)
-    for own, traffic in pictures:
-        moment.decide(own, traffic)
-        print(moment.alerts())
+    for time, own, traffic in moments:
+        moment.decide(time, own, traffic)
+        print(time, moment.alerts())
 
 Units and ranges are those of crates/daa_c/include/daidalus.h. What the engine refuses raises Refused, whose text says why.
 """
@@ -29,7 +29,7 @@ from struct import Struct as Packing
 from struct import error as DoesNotFit
 from typing import List, NamedTuple, Optional
 
-VERSION = 20000  # of daidalus.h: the structs of a library of another version may be others
+VERSION = 30000  # of daidalus.h: the structs of a library of another version may be others
 MOST_AIRCRAFT, MOST_LEVELS, MOST_VALUES, MOST_CANDIDATES, MOST_TEXT = 64, 4, 512, 1897, 130176
 
 
@@ -170,6 +170,11 @@ SENTENCES = {
     25: "the configuration has no candidate at the index",
     26: "the configuration does not ask for it",
     27: "the board was not decided under this configuration",
+    28: "the board is of another ownship",
+    29: "the board is of another time",
+    30: "the board was changed, or copied while it was filled in",
+    31: "the report is too old",
+    32: "the report is of a time more than a second ahead",
 }
 FIELDS = ("", "x", "y", "alt", "trk", "gs", "vs", "vx", "vy", "age")
 
@@ -217,7 +222,7 @@ class C:
     Traffic = struct(("id", c_char * 8), ("x y alt vx vy vs", c_int32), ("age", c_uint32))
     Alert = struct(("now level", c_uint32), ("first", c_int64))
     Fault = struct(("code field least greatest", c_int32), ("place", c_uint64))
-    Board = struct(("mask", c_uint8 * 2048), ("mark", c_int64 * 55))
+    Board = struct(("mask", c_uint8 * 2048), ("mark", c_int64 * 55), ("own", Own), ("time sum", c_uint32))
     Candidate = struct(("kind value", c_int32))
     Band = struct(("least most", c_int32), ("level", c_uint32))  # from is a word of Python
     Resolution = struct(("what value", c_int32))
@@ -306,14 +311,30 @@ class Engine:
         """Raises Refused unless the numbers are a configuration."""
         self.ask("daa_check", byref(c_config(config)))
 
+    def fly(self, traffic: Traffic, at: int, now: int, most: int = 60999) -> Traffic:
+        """An aircraft as it is now, from its report of another time, both in milliseconds: its age, and its numbers flown over what
+        is left of a second. A report of up to a second ahead is flown back. Refused where it is older than `most` milliseconds."""
+        reported, flown = C.Traffic(), C.Traffic()
+        pack_traffic(reported, [traffic])
+        self.ask("daa_fly", byref(reported), c_uint64(at), c_uint64(now), c_uint32(held(most, c_uint32)), byref(flown))
+        return Traffic(traffic.id, flown.x, flown.y, flown.alt, flown.vx, flown.vy, flown.vs, flown.age)
+
+    def fly_own(self, own: Own, at: int, now: int, most: int = 60999) -> Own:
+        """The ownship as it is now, from its report of another time, both in milliseconds: flown over all of its age."""
+        reported, flown = C.Own(), C.Own()
+        pack_own(reported, own)
+        self.ask("daa_fly_own", byref(reported), c_uint64(at), c_uint64(now), c_uint32(held(most, c_uint32)), byref(flown))
+        return Own(*OWN.unpack_from(flown))
+
     def loop(self, config: Config) -> "Moment":
         """A moment for a loop: decide it again and again. Its structs are made once."""
         return Moment(self, config)
 
-    def decide(self, config: Config, own: Own, traffic: List[Traffic]) -> "Moment":
-        """Decides a moment. Refused names the aircraft and the number that is out of range."""
+    def decide(self, config: Config, own: Own, traffic: List[Traffic], time: int = 0) -> "Moment":
+        """Decides a moment. Refused names the aircraft and the number that is out of range. The time is the caller's number of the
+        moment, 0 to 4294967295."""
         moment = Moment(self, config)
-        moment.decide(own, traffic)
+        moment.decide(time, own, traffic)
         return moment
 
 
@@ -328,7 +349,7 @@ class Moment:
     at a time uses it. Before the first moment that is decided, and after one that is refused, each answer raises Refused."""
 
     def __init__(self, engine, config):
-        self.engine, self.board, self.own, self.length = engine, C.Board(), C.Own(gs=-1), 0
+        self.engine, self.board, self.own, self.time, self.length = engine, C.Board(), C.Own(gs=-1), c_uint32(), 0
         self.found, self.to, self.count = C.Alert(), C.Resolution(), c_size_t()
         self.config, self.at_board, self.at_own = byref(c_config(config)), byref(self.board), byref(self.own)
         self.at_found, self.at_to, self.at_count = byref(self.found), byref(self.to), byref(self.count)
@@ -341,15 +362,17 @@ class Moment:
         self.traffic = (C.Traffic * length)()
         self.each = [byref(it) for it in self.traffic]
 
-    def decide(self, own: Own, traffic: List[Traffic]) -> None:
-        """Decides a moment in place of the last one. Refused names the aircraft and the number that is out of range."""
-        self.length = self.board.mark[0] = 0  # (a moment that is refused leaves no board of an earlier one)
+    def decide(self, time: int, own: Own, traffic: List[Traffic]) -> None:
+        """Decides a moment in place of the last one. Refused names the aircraft and the number that is out of range. The time is
+        the caller's number of the moment."""
+        self.length, self.time = 0, c_uint32(time_of(time))
+        self.board.sum = self.board.mark[0] = 0  # a moment that is refused leaves no board of an earlier one
         if len(traffic) > len(self.traffic):
             self.make_room(len(traffic))
         pack_own(self.own, own)
         pack_traffic(self.traffic, traffic)
         self.picture = self.at_own, self.traffic, c_size_t(len(traffic))
-        code = self.calls.daa_decide(self.config, *self.picture, self.at_board)
+        code = self.calls.daa_decide(self.config, self.time, *self.picture, self.at_board)
         if code:
             self.refuse(traffic)
             raise Refused(code)
@@ -365,6 +388,11 @@ class Moment:
         detail += f": {FIELDS[fault.field]} is not in {fault.least}..{fault.greatest}" if fault.field else ""
         raise Refused(fault.code, fault.place if of_aircraft else None, detail)
 
+    def join(self, more: "Moment") -> None:
+        """Adds the levels of another moment of the same configuration, time and ownship: bands, levels and resolutions are then those
+        of the aircraft of both together, however many these are. The other answers stay those of this one's aircraft."""
+        self.engine.ask("daa_join", self.config, more.at_board, self.at_board)
+
     def alert(self, place: int) -> Alert:
         """The alert of the aircraft at this place of the list."""
         done(self.calls.daa_alert(self.config, self.at_own, self.each[range(self.length)[place]], self.at_found))
@@ -377,18 +405,18 @@ class Moment:
 
     def bands(self, kind: Kind) -> List[Band]:
         """The stretches of the kind's values that show one level each, rising."""
-        done(self.calls.daa_bands(self.config, self.at_board, number(kind), self.bands_room, MOST_BANDS, self.at_count))
+        done(self.calls.daa_bands(self.config, self.time, self.at_board, number(kind), self.bands_room, MOST_BANDS, self.at_count))
         return [*map(Band._make, BAND.iter_unpack(self.bands_bytes[:self.count.value * BAND.size]))]
 
     def levels(self) -> List[int]:
         """The level of each candidate, in the order of the configuration's whole list."""
         self.levels_room = self.levels_room or (c_uint8 * MOST_CANDIDATES)()
-        self.engine.ask("daa_levels", self.config, self.at_board, self.levels_room, c_size_t(MOST_CANDIDATES), self.at_count)
+        self.engine.ask("daa_levels", self.config, self.time, self.at_board, self.levels_room, c_size_t(MOST_CANDIDATES), self.at_count)
         return self.levels_room[:self.count.value]
 
     def resolution(self, kind: Kind, side: Side) -> Resolution:
         """The nearest open value on a side."""
-        done(self.calls.daa_resolution(self.config, self.at_own, self.at_board, number(kind), number(side), self.at_to))
+        done(self.calls.daa_resolution(self.config, self.time, self.at_own, self.at_board, number(kind), number(side), self.at_to))
         to = self.to
         return Resolution(to.what == 0, to.value if to.what == 1 else None)
 

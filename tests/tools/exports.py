@@ -12,7 +12,8 @@ SIZES = {"uint8_t": 1, "int32_t": 4, "uint32_t": 4, "int64_t": 8, "uint64_t": 8}
 # fields that C has in place of a struct of Rust, and those that it names otherwise
 FLAT = {("DaaConfig", "numbers"), ("DaaConfig", "cylinder"), ("DaaBoard", "masks")}
 RENAMED = {("DaaConfig", "levels"): "level", ("Board", "masks"): "mask"}
-STRUCTS = {"Grid": "daa_grid", "LevelNumbers": "daa_level", "Own": "daa_own"}
+STRUCTS = {"Grid": "daa_grid", "LevelNumbers": "daa_level", "Own": "daa_own",
+           **{f"Daa{name.capitalize()}": f"daa_{name}_answer" for name in ("alert", "fault", "candidate", "resolution", "recovery", "last")}}
 
 
 def text_of(crate):

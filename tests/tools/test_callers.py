@@ -94,7 +94,8 @@ class Sentences(unittest.TestCase):
              "CONFIG_NOT_NUMBER": "whole number", "CONFIG_OUT_OF_RANGE": "divide 360", "CONFIG_LEVELS": "resolve", "CONFIG_TOO_MANY": "512 candidates",
              "BAD_OWN": "the ownship", "BAD_TRAFFIC": "an aircraft is out", "TOO_MANY": "64 aircraft", "SHORT": "too short", "NO_MEMORY": "memory",
              "BAD_ID": "an identifier is not", "SAME_ID": "two aircraft", "BAD_KIND": "the kind", "BAD_SIDE": "side", "BAD_INDEX": "index",
-             "NOT_ASKED": "ask", "BAD_BOARD": "board"}
+             "NOT_ASKED": "ask", "BAD_BOARD": "not decided", "OTHER_OWN": "another ownship", "OTHER_TIME": "another time",
+             "DAMAGED_BOARD": "was changed", "TOO_OLD": "too old", "AHEAD": "second ahead"}
 
     def test_in_python_and_in_rust(self):
         text = pathlib.Path(TOP, "crates/daa_c/include/daidalus.h").read_text(encoding="utf-8")

@@ -14,7 +14,8 @@
  * Each call but daa_line and daa_version returns DAA_OK, or another number of the list below; then it has filled in
  * nothing. Every number is checked, also those of a configuration, so no number passed in makes a call undefined; but not
  * those of struct daa_lines, which daa_line alone fills in, from zeros on. Where several numbers apply, a call answers the
- * first in the order: the configuration's, the states', DAA_BAD_KIND, DAA_BAD_SIDE, DAA_BAD_BOARD, and then the others.
+ * first in the order: the configuration's, the states', DAA_BAD_KIND, DAA_BAD_SIDE, DAA_BAD_BOARD, DAA_DAMAGED_BOARD,
+ * DAA_OTHER_TIME, DAA_OTHER_OWN, and then the others. daa_text tells what a number means.
  *
  * The caller must ensure, since nothing checks it: each pointer is valid for what it points to, or for the length that
  * follows it, also of length 0, and is not null; what a call fills in overlaps no other argument of the call, and
@@ -29,8 +30,15 @@
 extern "C" {
 #endif
 
+/* Who drops an answer takes what was not filled in for guidance: a compiler that can warn of it does. */
+#if defined(__GNUC__) || defined(__clang__)
+#define DAA_MUST_USE __attribute__((warn_unused_result))
+#else
+#define DAA_MUST_USE
+#endif
+
 /* The version of this header: major * 10000 + minor * 100 + patch; daa_version() tells that of the archive. */
-#define DAA_VERSION 20000
+#define DAA_VERSION 30000
 
 /* Limits. */
 #define DAA_MOST_AIRCRAFT 64     /* of a moment */
@@ -63,7 +71,12 @@ enum {
     DAA_BAD_SIDE = 24,           /* the side is none of daa_side */
     DAA_BAD_INDEX = 25,          /* the configuration has no candidate at the index */
     DAA_NOT_ASKED = 26,          /* the configuration does not ask for it */
-    DAA_BAD_BOARD = 27           /* the board is none that daa_decide filled in under the configuration */
+    DAA_BAD_BOARD = 27,          /* the board is none that daa_decide filled in under the configuration */
+    DAA_OTHER_OWN = 28,          /* the board is of another ownship */
+    DAA_OTHER_TIME = 29,         /* the board is of another time */
+    DAA_DAMAGED_BOARD = 30,      /* the board has not the sum of its masks: it was changed, or copied while it was filled in */
+    DAA_TOO_OLD = 31,            /* the report is older than the caller allows, or 61 seconds old */
+    DAA_AHEAD = 32               /* the report is of a time more than a second ahead */
 };
 
 /* What a candidate changes. DAA_HOLD is the present flight, which is of no kind. */
@@ -134,12 +147,12 @@ struct daa_traffic {
 /* now: the greatest level whose volume is violated now, or 0. level: the greatest level that alerts, or 0; both are at most
  * the configuration's count of levels (1 to 4). first: the first second of the present flight, counted from 0 (so 0 to 179),
  * in which it violates that level's volume, or -1 if level is 0. */
-struct daa_alert {
+struct daa_alert_answer {
     uint32_t now, level;
     int64_t first;
 };
 
-/* Numbers of a state, as struct daa_fault names them. */
+/* Numbers of a state, as struct daa_fault_answer names them. */
 enum daa_field {
     DAA_EAST = 1,           /* x */
     DAA_NORTH = 2,          /* y */
@@ -156,24 +169,29 @@ enum daa_field {
  * DAA_SAME_ID. place: which aircraft it is, counted from 0 (after DAA_SAME_ID the later of the two), or 0 if it is none.
  * field: which number (enum daa_field) is out of its range from least to greatest, after DAA_BAD_OWN and DAA_BAD_TRAFFIC; all
  * three are 0 after the others. */
-struct daa_fault {
+struct daa_fault_answer {
     int32_t code, field, least, greatest;
     uint64_t place;
 };
 
 /* The levels at which each candidate is covered in a moment: bit l - 1 of mask[i] means level l of the candidate at
  * index i of the whole list; all other bits are 0. mark: the numbers of the configuration under which daa_decide made the
- * board, in the order of its struct without recovery and count, and 0 in the place of each that does not count. The calls that
- * take a board answer DAA_BAD_BOARD where its mark is not that of the configuration that they are given, or where another bit
- * of a mask is 1: so a board of zeros is never answered. Nothing marks the picture: use a board only with the one from which
- * daa_decide made it. */
+ * board, in the order of its struct without recovery and count, and 0 in the place of each that does not count. own, time: the
+ * ownship and the time that daa_decide was given. sum: that of the candidates' masks: from 1 on, each in turn is added to
+ * 16777619 times the sum so far, modulo 2^32, so that another number in the place of one mask makes another sum.
+ * The calls that take a board answer DAA_BAD_BOARD where its mark is not that of the configuration that they are given, or
+ * where another bit of a mask is 1, so a board of zeros is never answered; DAA_DAMAGED_BOARD where its sum is another;
+ * DAA_OTHER_TIME where the caller asks for another time; and daa_resolution DAA_OTHER_OWN where the caller's ownship is
+ * another. Nothing marks the aircraft. */
 struct daa_board {
     uint8_t mask[2048];
     int64_t mark[55];
+    struct daa_own own;
+    uint32_t time, sum;
 };
 
 /* A candidate: its kind, and the value that it goes to, in the kind's unit; 0 if the kind is DAA_HOLD. */
-struct daa_candidate {
+struct daa_candidate_answer {
     int32_t kind, value;
 };
 
@@ -186,14 +204,14 @@ struct daa_band {
 
 /* The answer on a side of a kind. what: 0 if the present flight may be kept, 1 if value is the nearest open one, 2 if
  * there is none; value is 0 unless what is 1. */
-struct daa_resolution {
+struct daa_resolution_answer {
     int32_t what, value;
 };
 
 /* The recovery of a kind. found: 1, and then after (seconds, 1 to 179) is the least time from which on some value violates
  * no level from resolve up, while it stays out of the cylinder from now on, and value the least that does so, or with
  * nearest the one nearest to the present value, in the kind's unit; or 0 if there is none, and after and value are 0. */
-struct daa_recovery {
+struct daa_recovery_answer {
     int32_t found;
     uint32_t after;
     int32_t value;
@@ -204,7 +222,7 @@ struct daa_recovery {
  * that begins then is open; or 0 if there is none, and after is 0. Read it where the present flight is not open: then after
  * 0 stands for a manoeuvre that must begin now. Where it is open, a small number or none does not say that one is due. An
  * earlier start need not be open. */
-struct daa_last {
+struct daa_last_answer {
     int32_t found;
     uint32_t after;
 };
@@ -227,21 +245,60 @@ enum { DAA_MOMENT_ENDED = -1 };
 /* The version of the archive: DAA_VERSION of the header that it was made with. */
 int32_t daa_version(void);
 
+/* What an answer means, as a sentence without a full stop. */
+static inline const char *daa_text(int32_t answer) {
+    switch (answer) {
+    case DAA_MOMENT_ENDED: return "the line ended the moment";
+    case DAA_OK: return "nothing is wrong";
+    case DAA_CONFIG_TOO_LONG: return "the configuration has more than 65536 bytes";
+    case DAA_CONFIG_NOT_TOML: return "the configuration is no document of TOML";
+    case DAA_CONFIG_UNKNOWN_KEY: return "the configuration has a key that is not known";
+    case DAA_CONFIG_MISSING_KEY: return "the configuration lacks a key";
+    case DAA_CONFIG_NOT_NUMBER: return "a value of the configuration is no whole number, or no table";
+    case DAA_CONFIG_OUT_OF_RANGE:
+        return "a number of the configuration is out of its range, min is above max, track_step does not divide 360, or a "
+               "level has two models";
+    case DAA_CONFIG_LEVELS: return "the configuration has no level or more than four, or resolve is above their number";
+    case DAA_CONFIG_TOO_MANY: return "a kind has more than 512 candidates";
+    case DAA_BAD_OWN: return "the ownship is out of range";
+    case DAA_BAD_TRAFFIC: return "an aircraft is out of range";
+    case DAA_TOO_MANY: return "there are more than 64 aircraft";
+    case DAA_SHORT: return "the buffer is too short";
+    case DAA_NO_MEMORY: return "there is no memory";
+    case DAA_BAD_ID: return "an identifier is not 1 to 8 letters, digits, _ and -";
+    case DAA_SAME_ID: return "two aircraft have one identifier";
+    case DAA_BAD_KIND: return "the kind is none of track, gs, vs and alt";
+    case DAA_BAD_SIDE: return "there is no such side";
+    case DAA_BAD_INDEX: return "the configuration has no candidate at the index";
+    case DAA_NOT_ASKED: return "the configuration does not ask for it";
+    case DAA_BAD_BOARD: return "the board was not decided under this configuration";
+    case DAA_OTHER_OWN: return "the board is of another ownship";
+    case DAA_OTHER_TIME: return "the board is of another time";
+    case DAA_DAMAGED_BOARD: return "the board was changed, or copied while it was filled in";
+    case DAA_TOO_OLD: return "the report is too old";
+    case DAA_AHEAD: return "the report is of a time more than a second ahead";
+    default: return "the answer is none of daidalus.h";
+    }
+}
+
 /* ---- a configuration */
 
 /* Fills in the numbers of a configuration's text of TOML, of size bytes. The numbers are then in their ranges. Elements of
  * level from count on are unchanged, and so are hdist, vdist and nearest if no recovery is asked for. last_times is 0 if the
  * text does not have it. */
+DAA_MUST_USE
 int32_t daa_read(const uint8_t *text, size_t size, struct daa_config *config);
 
 /* Whether a configuration is accepted: DAA_OK; DAA_CONFIG_LEVELS if count is above 4; or else the first that applies of
  * DAA_CONFIG_OUT_OF_RANGE, DAA_CONFIG_LEVELS and DAA_CONFIG_TOO_MANY. Every call below that takes a configuration returns
  * these too. */
+DAA_MUST_USE
 int32_t daa_check(const struct daa_config *config);
 
 /* The candidate at an index of the configuration's whole list: the present flight at 0, then the tracks, ground speeds,
  * vertical speeds and altitudes, each rising. Else DAA_BAD_INDEX. A list has at most 1897. */
-int32_t daa_candidate(const struct daa_config *config, uint32_t index, struct daa_candidate *out);
+DAA_MUST_USE
+int32_t daa_candidate(const struct daa_config *config, uint32_t index, struct daa_candidate_answer *out);
 
 /* ---- states */
 
@@ -249,52 +306,84 @@ int32_t daa_candidate(const struct daa_config *config, uint32_t index, struct da
  * the first that is wrong in the order: DAA_TOO_MANY; DAA_BAD_ID of the first aircraft of which it is so; DAA_BAD_OWN; then
  * the aircraft by their places, of each DAA_BAD_TRAFFIC before DAA_SAME_ID. Of several numbers of a state it is the first in
  * the order of the struct. Every call below that takes a picture returns these codes in this order. */
-int32_t daa_fault(const struct daa_own *own, const struct daa_traffic *traffic, size_t count, struct daa_fault *out);
+DAA_MUST_USE
+int32_t daa_fault(const struct daa_own *own, const struct daa_traffic *traffic, size_t count, struct daa_fault_answer *out);
 
 /* Takes the next state line, of size bytes and without its line feed. DAA_OK where it was taken, DAA_MOMENT_ENDED where it
  * also ended the moment; or, and then lines is unchanged, the number of its fault as `refused` lines of a report have it, 1
  * to 13 (docs/FORMATS.md). A moment that is still open at the end of the input has the fault 14. */
+DAA_MUST_USE
 int32_t daa_line(const uint8_t *line, size_t size, struct daa_lines *lines);
+
+/* Fills in an aircraft as it is at the time now, from a report that was true at another time, both in milliseconds of one
+ * clock: its age in whole seconds, over which the engine flies it straight on, and its numbers flown straight on over what is
+ * left, less than a second, each to the nearest whole number. A report of a time ahead, by a second at most, is flown back, and
+ * its age is 0. The age in the report itself is not read. DAA_TOO_OLD if the report is older than `most` milliseconds, or 61
+ * seconds old; DAA_AHEAD if it is of a time more than a second ahead; before these DAA_BAD_ID and DAA_BAD_TRAFFIC. What is
+ * filled in may be out of range where the aircraft flies out of it: daa_fault tells. */
+DAA_MUST_USE
+int32_t daa_fly(const struct daa_traffic *traffic, uint64_t at, uint64_t now, uint32_t most, struct daa_traffic *out);
+
+/* Fills in the ownship as it is at the time now, from a report of another time: flown straight on along its track over all of
+ * its age, since the engine takes an ownship as it is. The answers are those of daa_fly, with DAA_BAD_OWN. */
+DAA_MUST_USE
+int32_t daa_fly_own(const struct daa_own *own, uint64_t at, uint64_t now, uint32_t most, struct daa_own *out);
 
 /* ---- a moment */
 
 /* Fills in the alert of one aircraft. Of the states' codes it answers the first of DAA_BAD_OWN, DAA_BAD_ID and
  * DAA_BAD_TRAFFIC. */
+DAA_MUST_USE
 int32_t daa_alert(const struct daa_config *config, const struct daa_own *own, const struct daa_traffic *traffic,
-                  struct daa_alert *out);
+                  struct daa_alert_answer *out);
 
-/* Fills in the board of a moment: at which levels each candidate flight meets some aircraft. */
-int32_t daa_decide(const struct daa_config *config, const struct daa_own *own, const struct daa_traffic *traffic, size_t count,
-                   struct daa_board *board);
+/* Fills in the board of a moment: at which levels each candidate flight meets some aircraft. time is the caller's number of the
+ * moment, its second or a sequence: the calls that take the board ask for it again, so that no board of an earlier moment is
+ * answered. */
+DAA_MUST_USE
+int32_t daa_decide(const struct daa_config *config, uint32_t time, const struct daa_own *own, const struct daa_traffic *traffic,
+                   size_t count, struct daa_board *board);
+
+/* Adds to a board the levels of another one of the same configuration, time and ownship: then it is the board of the aircraft
+ * of both together, however many these are. So a moment may have more than 64 aircraft: decide 64 at a time, and join the
+ * boards. DAA_BAD_BOARD and DAA_DAMAGED_BOARD are of either board. */
+DAA_MUST_USE
+int32_t daa_join(const struct daa_config *config, const struct daa_board *more, struct daa_board *board);
 
 /* Fills in the level of each candidate on a board, 0 to the configuration's count of levels (so at most 4), in the
- * order of the whole list, and how many there are. DAA_BAD_BOARD if it is none of the configuration. DAA_SHORT if room is
- * less, and only there; 1897 elements are always enough. Elements from count on are unchanged. */
-int32_t daa_levels(const struct daa_config *config, const struct daa_board *board, uint8_t *levels, size_t room, size_t *count);
+ * order of the whole list, and how many there are. DAA_SHORT if room is less, and only there; 1897 elements are always enough.
+ * Elements from count on are unchanged. */
+DAA_MUST_USE
+int32_t daa_levels(const struct daa_config *config, uint32_t time, const struct daa_board *board, uint8_t *levels, size_t room,
+                   size_t *count);
 
 /* Fills in the bands of a kind on a board, in the rising order of the values, those of level 0 too, and how many there are.
- * DAA_BAD_BOARD if the board is none of the configuration. DAA_SHORT if room is less than the values of the kind, and only
- * there; 512 elements are always enough. Elements past the bands are unchanged. */
-int32_t daa_bands(const struct daa_config *config, const struct daa_board *board, int32_t kind, struct daa_band *bands,
-                  size_t room, size_t *count);
+ * DAA_SHORT if room is less than the values of the kind, and only there; 512 elements are always enough. Elements past the
+ * bands are unchanged. */
+DAA_MUST_USE
+int32_t daa_bands(const struct daa_config *config, uint32_t time, const struct daa_board *board, int32_t kind,
+                  struct daa_band *bands, size_t room, size_t *count);
 
 /* Fills in the answer on a side of a kind: keep, the nearest open value, or that there is none. The ownship is that of
- * the board's moment; of the states' codes the call answers DAA_BAD_OWN alone. DAA_BAD_BOARD if the board is none of the
- * configuration. */
-int32_t daa_resolution(const struct daa_config *config, const struct daa_own *own, const struct daa_board *board, int32_t kind,
-                       int32_t side, struct daa_resolution *out);
+ * the board's moment; of the states' codes the call answers DAA_BAD_OWN alone. */
+DAA_MUST_USE
+int32_t daa_resolution(const struct daa_config *config, uint32_t time, const struct daa_own *own, const struct daa_board *board,
+                       int32_t kind, int32_t side, struct daa_resolution_answer *out);
 
 /* Fills in the recovery of a kind in a moment, under a configuration that asks for one; else DAA_NOT_ASKED. */
+DAA_MUST_USE
 int32_t daa_recovery(const struct daa_config *config, const struct daa_own *own, const struct daa_traffic *traffic,
-                     size_t count, int32_t kind, struct daa_recovery *out);
+                     size_t count, int32_t kind, struct daa_recovery_answer *out);
 
 /* Fills in the last time of a kind in a moment, under a configuration that asks for last times; else DAA_NOT_ASKED. It answers
  * whether or not the present flight is open; a report has the last times only where it is not. */
+DAA_MUST_USE
 int32_t daa_last(const struct daa_config *config, const struct daa_own *own, const struct daa_traffic *traffic, size_t count,
-                 int32_t kind, struct daa_last *out);
+                 int32_t kind, struct daa_last_answer *out);
 
 /* Fills in the text of a moment as the program's report has it, and how many bytes it has; time is in seconds. DAA_SHORT if
  * room is less, and only then; 130176 bytes are always enough. Bytes past the text are unchanged: none ends it. */
+DAA_MUST_USE
 int32_t daa_report(const struct daa_config *config, uint32_t time, const struct daa_own *own, const struct daa_traffic *traffic,
                    size_t count, uint8_t *text, size_t room, size_t *length);
 

@@ -1,12 +1,13 @@
 //! Calls on a moment.
 
-ghost use Rattle.std.specs.Prelude.{◌≡◌, ◌≢◌, pos, ◌≤◌, drop, length, take};
+ghost use Rattle.std.specs.Prelude.{◌≡◌, ◌≢◌, ◌⊎◌, pos, ◌≤◌, drop, length, take};
 ghost use Rattle.daa_numbers.specs.Asked.{IsAlertUnder, IsDecided, AreLevelsUnder};
-ghost use Rattle.daa_numbers.specs.Asked.{HasMoreCandidates, AreBandsUnder, HasKindButNoBoard};
+ghost use Rattle.daa_numbers.specs.Asked.{HasMoreCandidates, AreBandsUnder, HasKindBut};
 ghost use Rattle.daa_numbers.specs.Asked.{HasMoreValues, HasNoKind, IsResolutionUnder, HasNoSide};
-ghost use Rattle.daa_numbers.specs.Asked.{HasSideButNoBoard, AsksForNone, AsksForNoLast};
+ghost use Rattle.daa_numbers.specs.Asked.{HasSideBut, AsksForNone, AsksForNoLast};
 ghost use Rattle.daa_numbers.specs.Asked.{IsLastUnder, IsRecoveryUnder, IsReported, HasLongerText};
-ghost use Rattle.daa_numbers.specs.Boards.{IsNoBoard};
+ghost use Rattle.daa_numbers.specs.Boards.{IsNoBoard, IsDamaged, IsOfOtherTime, IsOfOtherOwn};
+ghost use Rattle.daa_numbers.specs.Boards.{IsJoinedTo};
 ghost use Rattle.daa_numbers.specs.Codes.{answer_of};
 ghost use Rattle.daa_numbers.specs.Numbers.{settings_by};
 ghost use Rattle.daa_numbers.specs.Refusal.{refusal_of_two, IsCodeOf, refusal_of};
@@ -35,22 +36,44 @@ pub extern "C" fn daa_alert(
     daa_numbers::alert(config, own, traffic, out)
 }
 
-/// Fills in the board of a moment: the levels at which each candidate is covered, and the mark of
-/// the configuration. Returns 0, or the code of why nothing was filled in.
+/// Fills in the board of a moment: the levels at which each candidate is covered, the mark of the
+/// configuration, the ownship, the time, and the sum of the masks. The time is the caller's number
+/// of the moment, its second or a sequence. Returns 0, or the code of why nothing was filled in.
 #[unsafe(no_mangle)]
 pub extern "C" fn daa_decide(
     config: &DaaConfig,
+    time: u32,
     own: &Own,
     traffic: &[DaaTraffic],
     board: &mut DaaBoard,
 ) -> i32
     ensures decided { result ≡ pos 0
-        → IsDecided config.now (picture_of 0 own.now traffic.now) board.new }
+        → IsDecided config.now (picture_of time own.now traffic.now) board.new }
     ensures kept { result ≢ pos 0 → board.new ≡ board.old }
     ensures refused { result ≢ pos 0
         → IsCodeOf (refusal_of config.now own.now traffic.now) result }
 {
-    daa_numbers::decide(config, own, traffic, board)
+    daa_numbers::decide(config, time, own, traffic, board)
+}
+
+/// Adds to a board the levels of another one of the same configuration, time and ownship. Then it
+/// is the board of the aircraft of both together. Returns 0, or the code of why nothing was added:
+/// of the board that is added before the other one.
+#[unsafe(no_mangle)]
+pub extern "C" fn daa_join(config: &DaaConfig, more: &DaaBoard, board: &mut DaaBoard) -> i32
+    ensures joined { result ≡ pos 0 → IsJoinedTo config.now more.now board.old board.new }
+    ensures kept { result ≢ pos 0 → board.new ≡ board.old }
+    ensures bad_board { result ≡ pos 27
+        → IsNoBoard config.now more.now ⊎ IsNoBoard config.now board.old }
+    ensures damaged { result ≡ pos 30
+        → IsDamaged config.now more.now ⊎ IsDamaged config.now board.old }
+    ensures other_time { result ≡ pos 29 → IsOfOtherTime config.now board.old.time more.now }
+    ensures other_own { result ≡ pos 28
+        → IsOfOtherOwn config.now board.old.time board.old.own more.now }
+    ensures refused { result ≢ pos 0 → result ≢ pos 27 → result ≢ pos 28 → result ≢ pos 29
+        → result ≢ pos 30 → answer_of (settings_by config.now) ≡ result }
+{
+    daa_numbers::join(config, more, board)
 }
 
 /// Fills in the level that each candidate shows, 0 to the number of levels, in the order of the
@@ -59,21 +82,25 @@ pub extern "C" fn daa_decide(
 #[unsafe(no_mangle)]
 pub extern "C" fn daa_levels(
     config: &DaaConfig,
+    time: u32,
     board: &DaaBoard,
     levels: &mut [u8],
     count: &mut usize,
 ) -> i32
     ensures shown { result ≡ pos 0
-        → AreLevelsUnder config.now board.now levels.new count.new }
+        → AreLevelsUnder config.now time board.now levels.new count.new }
     ensures past_kept { result ≡ pos 0
         → drop count.new levels.new ≡ drop count.new levels.old }
     ensures kept { result ≢ pos 0 → (levels.new ≡ levels.old) × (count.new ≡ count.old) }
     ensures bad_board { result ≡ pos 27 → IsNoBoard config.now board.now }
-    ensures short { result ≡ pos 19 → HasMoreCandidates config.now board.now (length levels.old) }
-    ensures refused { result ≢ pos 0 → result ≢ pos 19 → result ≢ pos 27
-        → answer_of (settings_by config.now) ≡ result }
+    ensures damaged { result ≡ pos 30 → IsDamaged config.now board.now }
+    ensures other_time { result ≡ pos 29 → IsOfOtherTime config.now time board.now }
+    ensures short { result ≡ pos 19
+        → HasMoreCandidates config.now time board.now (length levels.old) }
+    ensures refused { result ≢ pos 0 → result ≢ pos 19 → result ≢ pos 27 → result ≢ pos 29
+        → result ≢ pos 30 → answer_of (settings_by config.now) ≡ result }
 {
-    daa_numbers::levels(config, board, levels, count)
+    daa_numbers::levels(config, time, board, levels, count)
 }
 
 /// Fills in the bands of a kind, in the rising order of their values, and how many bands there are.
@@ -81,25 +108,30 @@ pub extern "C" fn daa_levels(
 #[unsafe(no_mangle)]
 pub extern "C" fn daa_bands(
     config: &DaaConfig,
+    time: u32,
     board: &DaaBoard,
     kind: i32,
     bands: &mut [DaaBand],
     count: &mut usize,
 ) -> i32
     ensures filled { result ≡ pos 0
-        → AreBandsUnder config.now board.now kind bands.new count.new }
+        → AreBandsUnder config.now time board.now kind bands.new count.new }
     ensures past_kept { result ≡ pos 0 → drop count.new bands.new ≡ drop count.new bands.old }
     ensures kept { result ≢ pos 0 → (bands.new ≡ bands.old) × (count.new ≡ count.old) }
     ensures no_kind { result ≡ pos 23
         → HasNoKind (config_refusal (settings_by config.now)) kind }
-    ensures bad_board { result ≡ pos 27 → HasKindButNoBoard
-        config.now (config_refusal (settings_by config.now)) kind board.now }
+    ensures bad_board { result ≡ pos 27 → HasKindBut
+        (config_refusal (settings_by config.now)) kind (IsNoBoard config.now board.now) }
+    ensures damaged { result ≡ pos 30 → HasKindBut
+        (config_refusal (settings_by config.now)) kind (IsDamaged config.now board.now) }
+    ensures other_time { result ≡ pos 29 → HasKindBut
+        (config_refusal (settings_by config.now)) kind (IsOfOtherTime config.now time board.now) }
     ensures short { result ≡ pos 19
-        → HasMoreValues config.now board.now kind (length bands.old) }
+        → HasMoreValues config.now time board.now kind (length bands.old) }
     ensures refused { result ≢ pos 0 → result ≢ pos 19 → result ≢ pos 23 → result ≢ pos 27
-        → answer_of (settings_by config.now) ≡ result }
+        → result ≢ pos 29 → result ≢ pos 30 → answer_of (settings_by config.now) ≡ result }
 {
-    daa_numbers::bands(config, board, kind, bands, count)
+    daa_numbers::bands(config, time, board, kind, bands, count)
 }
 
 /// Fills in the answer on a side of a kind: the nearest open candidate, that there is none, or that
@@ -107,6 +139,7 @@ pub extern "C" fn daa_bands(
 #[unsafe(no_mangle)]
 pub extern "C" fn daa_resolution(
     config: &DaaConfig,
+    time: u32,
     own: &Own,
     board: &DaaBoard,
     kind: i32,
@@ -114,16 +147,23 @@ pub extern "C" fn daa_resolution(
     out: &mut DaaResolution,
 ) -> i32
     ensures filled { result ≡ pos 0
-        → IsResolutionUnder config.now own.now board.now kind side out.new }
+        → IsResolutionUnder config.now time own.now board.now kind side out.new }
     ensures kept { result ≢ pos 0 → out.new ≡ out.old }
     ensures no_kind { result ≡ pos 23 → HasNoKind (refusal_of_own config.now own.now) kind }
     ensures no_side { result ≡ pos 24 → HasNoSide (refusal_of_own config.now own.now) kind side }
-    ensures bad_board { result ≡ pos 27 → HasSideButNoBoard
-        config.now (refusal_of_own config.now own.now) kind side board.now }
+    ensures bad_board { result ≡ pos 27 → HasSideBut
+        (refusal_of_own config.now own.now) kind side (IsNoBoard config.now board.now) }
+    ensures damaged { result ≡ pos 30 → HasSideBut
+        (refusal_of_own config.now own.now) kind side (IsDamaged config.now board.now) }
+    ensures other_time { result ≡ pos 29 → HasSideBut
+        (refusal_of_own config.now own.now) kind side (IsOfOtherTime config.now time board.now) }
+    ensures other_own { result ≡ pos 28 → HasSideBut (refusal_of_own config.now own.now)
+        kind side (IsOfOtherOwn config.now time own.now board.now) }
     ensures refused { result ≢ pos 0 → result ≢ pos 23 → result ≢ pos 24 → result ≢ pos 27
+        → result ≢ pos 28 → result ≢ pos 29 → result ≢ pos 30
         → IsCodeOf (refusal_of_own config.now own.now) result }
 {
-    daa_numbers::resolution(config, own, board, kind, side, out)
+    daa_numbers::resolution(config, time, own, board, kind, side, out)
 }
 
 /// Fills in the recovery of a kind in a moment. Returns 0, or the code of why nothing was filled

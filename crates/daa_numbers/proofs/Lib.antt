@@ -1,6 +1,9 @@
 pub mod BandLemmas
 pub mod BoardLemmas
+pub mod FlownLemmas
+pub mod JoinLemmas
 pub mod LineLemmas
+pub mod OwnLemmas
 pub mod PlaceLemmas
 pub mod RefusalLemmas
 pub mod SheetLemmas

@@ -29,7 +29,7 @@ use Rattle.daa_numbers.specs.declared.recovering.DaaRecovery.{DaaRecovery}
 use Rattle.daa_numbers.specs.declared.refusal.Refusal.{Refusal}
 use Rattle.daa_numbers.specs.declared.resolving.DaaResolution.{DaaResolution}
 use Rattle.daa_numbers.specs.declared.setting.DaaConfig.{DaaConfig}
-use Rattle.daa_numbers.specs.Boards.{IsMarked, IsNoBoard, mark_of}
+use Rattle.daa_numbers.specs.Boards.{IsWhole, board_sum, mark_of}
 use Rattle.daa_numbers.specs.Codes.{candidate_by, IsNoKind, IsNoSide, kind_number, side_number}
 use Rattle.daa_numbers.specs.Filled.{IsFilledAlert, AreLevelsOn, band_of, resolution_by, recovery_by, last_by}
 use Rattle.daa_numbers.specs.Numbers.{settings_by}
@@ -50,6 +50,22 @@ pub record HasNoSide (refusal : Option Refusal) (kind_given side_given : ℤ) : 
   pub kind : Kind
   pub kind_is : kind_number kind ≡ kind_given
   pub none : IsNoSide side_given
+
+-- nothing else is refused, and the number stands for a kind, but something is wrong with the board
+pub record HasKindBut (refusal : Option Refusal) (number : ℤ) (Wrong : Type 0) : Type 0 where
+  pub sound : refusal ≡ None
+  pub kind : Kind
+  pub kind_is : kind_number kind ≡ number
+  pub wrong : Wrong
+
+-- nothing else is refused, and the numbers stand for a kind and a side, but something is wrong with the board
+pub record HasSideBut (refusal : Option Refusal) (kind_given side_given : ℤ) (Wrong : Type 0) : Type 0 where
+  pub sound : refusal ≡ None
+  pub kind : Kind
+  pub kind_is : kind_number kind ≡ kind_given
+  pub side : Side
+  pub side_is : side_number side ≡ side_given
+  pub wrong : Wrong
 
 module _ (config : DaaConfig) where
   -- the candidate at an index of the whole list
@@ -74,62 +90,64 @@ module _ (config : DaaConfig) where
     pub traffic_range : IsTrafficInRange aircraft
     pub filled : IsFilledAlert settings own aircraft out
 
-  -- the board of a picture, with the mark of the configuration
+  -- the board of a picture, with the mark of the configuration, the ownship and the time of the picture, and the sum of the masks
   pub record IsDecided (picture : Picture) (board : DaaBoard) : Type 0 where
     pub settings : Settings
     pub accepted : settings_by config ≡ Ok settings
     pub taken : IsTaken picture
     pub covers : IsBoardOf (CoveredAt settings picture) settings board.masks
     pub mark : board.mark ≡ mark_of config
+    pub own : board.own ≡ picture.own
+    pub time : board.time ≡ picture.time
+    pub sum : board.sum ≡ board_sum settings board.masks
 
-  -- the levels that a board shows of all candidates, and how many they are
-  pub record AreLevelsUnder (board : DaaBoard) (levels : List ℕ) (count : ℕ) : Type 0 where
+  -- the levels that a board of the time shows of all candidates, and how many they are
+  pub record AreLevelsUnder (time : ℕ) (board : DaaBoard) (levels : List ℕ) (count : ℕ) : Type 0 where
     pub settings : Settings
     pub accepted : settings_by config ≡ Ok settings
-    pub marked : IsMarked config settings board
+    pub whole : IsWhole config settings board
+    pub time_is : board.time ≡ time
     pub all : count ≡ length (candidates_of settings)
     pub fits : count ≤ length levels
     pub shown : AreLevelsOn board.masks (length settings.levels) count levels
 
-  -- the board is marked, and there are more candidates than there is room for
-  pub record HasMoreCandidates (board : DaaBoard) (room : ℕ) : Type 0 where
+  -- the board is whole and of the time, and there are more candidates than there is room for
+  pub record HasMoreCandidates (time : ℕ) (board : DaaBoard) (room : ℕ) : Type 0 where
     pub settings : Settings
     pub accepted : settings_by config ≡ Ok settings
-    pub marked : IsMarked config settings board
+    pub whole : IsWhole config settings board
+    pub time_is : board.time ≡ time
     pub more : room < length (candidates_of settings)
 
-  -- the bands of the kind with this number, and how many they are
-  pub record AreBandsUnder (board : DaaBoard) (number : ℤ) (bands : List DaaBand) (count : ℕ) : Type 0 where
+  -- the bands of the kind with this number on a board of the time, and how many they are
+  pub record AreBandsUnder (time : ℕ) (board : DaaBoard) (number : ℤ) (bands : List DaaBand) (count : ℕ) : Type 0 where
     pub settings : Settings
     pub accepted : settings_by config ≡ Ok settings
-    pub marked : IsMarked config settings board
+    pub whole : IsWhole config settings board
+    pub time_is : board.time ≡ time
     pub kind : Kind
     pub kind_is : kind_number kind ≡ number
     pub fits : length (values_of kind settings) ≤ length bands
     pub within : count ≤ length bands
     pub are : AreKindBands (HasLevelOn board.masks) (length settings.levels) settings kind (map band_of (take count bands))
 
-  -- nothing else is refused, and the number stands for a kind, but the board is none of the configuration
-  pub record HasKindButNoBoard (refusal : Option Refusal) (number : ℤ) (board : DaaBoard) : Type 0 where
-    pub sound : refusal ≡ None
-    pub kind : Kind
-    pub kind_is : kind_number kind ≡ number
-    pub no_board : IsNoBoard config board
-
-  -- the board is marked, and the kind with this number has more values than there is room for
-  pub record HasMoreValues (board : DaaBoard) (number : ℤ) (room : ℕ) : Type 0 where
+  -- the board is whole and of the time, and the kind with this number has more values than there is room for
+  pub record HasMoreValues (time : ℕ) (board : DaaBoard) (number : ℤ) (room : ℕ) : Type 0 where
     pub settings : Settings
     pub accepted : settings_by config ≡ Ok settings
-    pub marked : IsMarked config settings board
+    pub whole : IsWhole config settings board
+    pub time_is : board.time ≡ time
     pub kind : Kind
     pub kind_is : kind_number kind ≡ number
     pub more : room < length (values_of kind settings)
 
-  -- the answer on the side of the kind with these numbers
-  pub record IsResolutionUnder (own : Own) (board : DaaBoard) (kind_given side_given : ℤ) (out : DaaResolution) : Type 0 where
+  -- the answer on the side of the kind with these numbers, on a board of the time and the ownship
+  pub record IsResolutionUnder (time : ℕ) (own : Own) (board : DaaBoard) (kind_given side_given : ℤ) (out : DaaResolution) : Type 0 where
     pub settings : Settings
     pub accepted : settings_by config ≡ Ok settings
-    pub marked : IsMarked config settings board
+    pub whole : IsWhole config settings board
+    pub time_is : board.time ≡ time
+    pub own_is : board.own ≡ own
     pub own_range : IsOwnInRange own
     pub kind : Kind
     pub kind_is : kind_number kind ≡ kind_given
@@ -138,15 +156,6 @@ module _ (config : DaaConfig) where
     pub answer : Resolution
     pub is : IsResolution (HasLevelOn board.masks) settings own kind side answer
     pub filled : out ≡ resolution_by answer
-
-  -- nothing else is refused, and the numbers stand for a kind and a side, but the board is none of the configuration
-  pub record HasSideButNoBoard (refusal : Option Refusal) (kind_given side_given : ℤ) (board : DaaBoard) : Type 0 where
-    pub sound : refusal ≡ None
-    pub kind : Kind
-    pub kind_is : kind_number kind ≡ kind_given
-    pub side : Side
-    pub side_is : side_number side ≡ side_given
-    pub no_board : IsNoBoard config board
 
   -- the recovery of the kind with this number
   pub record IsRecoveryUnder (picture : Picture) (number : ℤ) (out : DaaRecovery) : Type 0 where

@@ -1,10 +1,12 @@
--- Boards that are marked with the configuration that they were decided under.
-use Rattle.std.specs.Prelude.{◌≡◌, ◌≤◌, ◌-◌, ◌^◌, ◌∷◌, ◌++◌, [], ℕ, ℤ, zero, suc, pos, nat_lt, List, length, slice_index, slice_get, Option, Some, None, Ok, if◌then◌else◌}
+-- Boards that are marked with the configuration and the moment that they were decided of.
+use Rattle.std.specs.Prelude.{◌≡◌, ◌≢◌, ◌≤◌, ◌+◌, ◌-◌, ◌*◌, ◌%◌, ◌^◌, ◌∷◌, ◌++◌, [], ℕ, ℤ, zero, suc, pos, nat_lt, List, length, slice_index, slice_get, take, bit_or, Option, Some, None, Ok, if◌then◌else◌}
+use Rattle.std.specs.List.{fold}
 use Rattle.daa_config.specs.Candidates.{candidates_of}
 use Rattle.daa_config.specs.Settings.{Settings}
 use Rattle.daa_config.specs.declared.numbers.Grid.{Grid}
 use Rattle.daa_config.specs.declared.numbers.LevelNumbers.{LevelNumbers}
 use Rattle.daa_config.specs.declared.numbers.RecoveryNumbers.{RecoveryNumbers}
+use Rattle.daa_state.specs.declared.word.Own.{Own}
 use Rattle.daa_numbers.specs.Numbers.{settings_by}
 use Rattle.daa_numbers.specs.declared.boards.DaaBoard.{DaaBoard}
 use Rattle.daa_numbers.specs.declared.setting.DaaConfig.{DaaConfig}
@@ -68,3 +70,62 @@ pub record IsNoBoard (config : DaaConfig) (board : DaaBoard) : Type 0 where
   pub settings : Settings
   pub accepted : settings_by config ≡ Ok settings
   pub other : IsMarked config settings board → ⊥
+
+-- ---- sums
+
+-- the sum with one mask more
+abbrev pub sum_with : (sum mask : ℕ) → ℕ
+sum_with sum mask = (sum * 16777619 + mask) % 4294967296
+
+-- the sum of masks: from 1 on, each in turn is added to 16777619 times the sum so far, below 2 ^ 32
+abbrev pub sum_of : List ℕ → ℕ
+sum_of masks = fold sum_with 1 masks
+
+-- the sum of the masks of a configuration's candidates
+abbrev pub board_sum : Settings → List ℕ → ℕ
+board_sum settings masks = sum_of (take (length (candidates_of settings)) masks)
+
+-- the board is marked, and has the sum of its masks
+pub record IsWhole (config : DaaConfig) (settings : Settings) (board : DaaBoard) : Type 0 where
+  pub marked : IsMarked config settings board
+  pub sum : board.sum ≡ board_sum settings board.masks
+
+-- the configuration is accepted, and the board is marked with it, but has not the sum of its masks
+pub record IsDamaged (config : DaaConfig) (board : DaaBoard) : Type 0 where
+  pub settings : Settings
+  pub accepted : settings_by config ≡ Ok settings
+  pub marked : IsMarked config settings board
+  pub other : board.sum ≢ board_sum settings board.masks
+
+-- the configuration is accepted, and the board is whole, but of another time
+pub record IsOfOtherTime (config : DaaConfig) (time : ℕ) (board : DaaBoard) : Type 0 where
+  pub settings : Settings
+  pub accepted : settings_by config ≡ Ok settings
+  pub whole : IsWhole config settings board
+  pub other : board.time ≢ time
+
+-- the configuration is accepted, and the board is whole and of the time, but of another ownship
+pub record IsOfOtherOwn (config : DaaConfig) (time : ℕ) (own : Own) (board : DaaBoard) : Type 0 where
+  pub settings : Settings
+  pub accepted : settings_by config ≡ Ok settings
+  pub whole : IsWhole config settings board
+  pub time_is : board.time ≡ time
+  pub other : board.own ≢ own
+
+-- ---- boards joined
+
+-- each joined mask has the bits of both
+abbrev pub AreJoined : (one other joined : List ℕ) → Type 0
+AreJoined one other joined = (index : ℕ) → slice_index joined index ≡ bit_or (slice_index one index) (slice_index other index)
+
+-- a board to which the levels of another one were added: both are whole, of one time and one ownship, and so is what they make
+pub record IsJoinedTo (config : DaaConfig) (more old new : DaaBoard) : Type 0 where
+  pub settings : Settings
+  pub accepted : settings_by config ≡ Ok settings
+  pub whole_more : IsWhole config settings more
+  pub whole_old : IsWhole config settings old
+  pub whole : IsWhole config settings new
+  pub one_time : more.time ≡ old.time
+  pub one_own : more.own ≡ old.own
+  pub joined : AreJoined old.masks more.masks new.masks
+  pub rest : new ≡ record old { masks = new.masks; sum = new.sum }

@@ -1,4 +1,5 @@
 -- Cited by private functions, tests and proofs alone; believe only what docs/PROVED.md names here.
 pub mod Asked
 pub mod Codes
+pub mod Flown
 pub mod Lines

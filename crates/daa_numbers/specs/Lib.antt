@@ -8,3 +8,5 @@ pub mod States
 pub mod Faults
 pub mod Lines
 pub mod Boards
+pub mod Both
+pub mod Flown

@@ -1,24 +1,31 @@
-//! Boards, marked with the configuration that they were decided under.
+//! Boards, marked with the configuration and the moment that they were decided of.
 
 ghost use Rattle.std.specs.Prelude.{◌≡◌, ◌<◌, ◌≤◌, ◌-◌, ◌^◌, true, false, length};
+ghost use Rattle.daa_config.specs.Settings.{IsAccepted};
 ghost use Rattle.std.specs.Bool.{Decides};
 ghost use Rattle.daa_numbers.specs.Boards.{mark_of, level_at, cylinder_at};
 ghost use Rattle.daa_numbers.specs.Boards.{AreMasksWithin, IsMarked};
+ghost use Rattle.daa_numbers.specs.Boards.{sum_with, sum_of, board_sum};
 
 use crate::setting::DaaConfig;
 use daa_bands::{BOARD_MASKS, Board};
 use daa_config::{Config, LevelNumbers, RecoveryNumbers};
+use daa_state::Own;
 
 /// How many numbers a mark has.
 const MARK: usize = 55;
 
-/// The levels at which each candidate is covered, bit l - 1 of a mask means level l, and the mark
-/// of the configuration: its numbers, and 0 in the place of each that does not count.
+/// The levels at which each candidate is covered, bit l - 1 of a mask means level l; the mark of
+/// the configuration: its numbers, and 0 in the place of each that does not count; the ownship and
+/// the time of the moment; and the sum of the candidates' masks.
 #[repr(C)]
 #[derive(Drop)]
 pub struct DaaBoard {
     pub masks: Board,
     pub mark: [i64; MARK],
+    pub own: Own,
+    pub time: u32,
+    pub sum: u32,
 }
 
 /// In the place of a level that does not count.
@@ -176,4 +183,46 @@ pub(crate) fn is_decided(asked: &DaaConfig, config: &Config, board: &DaaBoard) -
 {
     let bits = level_bits(config.levels());
     is_mark(board, asked) && are_within(board.masks.masks(), config.total(), bits)
+}
+
+/// A sum with one mask more. The factor is odd, so that another sum so far, or another mask, makes
+/// another sum.
+fn sum_with(sum: u32, mask: u8) -> u32
+    ensures { result ≡ sum_with sum mask }
+{
+    ((u64::from(sum) * 16_777_619 + u64::from(mask)) % 4_294_967_296) as u32
+}
+
+/// The sum of masks.
+fn sum_of(masks: &[u8]) -> u32
+    ensures { result ≡ sum_of masks.now }
+{
+    let mut sum = 1;
+    for mask in masks {
+        sum = sum_with(sum, *mask);
+    }
+    sum
+}
+
+/// The sum of the masks of a configuration's candidates.
+pub(crate) fn board_sum(config: &Config, board: &Board) -> u32
+    ensures { result ≡ board_sum config.now board.now }
+{
+    sum_of(&board.masks()[..config.total() as usize])
+}
+
+/// Whether a board is of this ownship.
+pub(crate) fn is_of_own(board: &DaaBoard, own: &Own) -> bool
+    ensures yes { result ≡ true → board.now.own ≡ own.now }
+    ensures no { result ≡ false → board.now.own ≡ own.now → ⊥ }
+{
+    board.own == *own
+}
+
+/// Whether a board has the sum of its masks.
+pub(crate) fn has_its_sum(config: &Config, board: &DaaBoard) -> bool
+    ensures yes { result ≡ true → board.now.sum ≡ board_sum config.now board.now.masks }
+    ensures no { result ≡ false → board.now.sum ≡ board_sum config.now board.now.masks → ⊥ }
+{
+    board.sum == board_sum(config, &board.masks)
 }

@@ -23,6 +23,16 @@ pub(crate) const BAD_INDEX: i32 = 25;
 pub(crate) const NOT_ASKED: i32 = 26;
 /// The board is none that was decided under the configuration.
 pub(crate) const BAD_BOARD: i32 = 27;
+/// The board is of another ownship.
+pub(crate) const OTHER_OWN: i32 = 28;
+/// The board is of another time.
+pub(crate) const OTHER_TIME: i32 = 29;
+/// The board has not the sum of its masks.
+pub(crate) const DAMAGED_BOARD: i32 = 30;
+/// The report is older than may be.
+pub(crate) const TOO_OLD: i32 = 31;
+/// The report is of a time more than a second ahead.
+pub(crate) const AHEAD: i32 = 32;
 
 /// The code of a configuration's fault: 1 to 8, or that there is no memory.
 pub(crate) fn fault_code(fault: ConfigFault) -> i32

@@ -7,7 +7,7 @@ ghost use Rattle.daa_config.specs.Settings.{IsAccepted};
 ghost use Rattle.daa_engine.specs.Covered.{CoveredAt};
 ghost use Rattle.daa_state.specs.InRange.{IsPictureInRange};
 ghost use Rattle.daa_numbers.specs.Asked.{IsDecided, AreLevelsUnder, HasMoreCandidates};
-ghost use Rattle.daa_numbers.specs.Boards.{IsNoBoard};
+ghost use Rattle.daa_numbers.specs.Boards.{IsNoBoard, IsDamaged, IsOfOtherTime};
 ghost use Rattle.daa_numbers.specs.Refusal.{refusal_of, IsCodeOf};
 ghost use Rattle.daa_numbers.specs.Codes.{answer_of};
 ghost use Rattle.daa_numbers.specs.Numbers.{settings_by};
@@ -15,8 +15,8 @@ ghost use Rattle.daa_numbers.specs.Filled.{AreLevelsOn};
 ghost use Rattle.daa_numbers.specs.States.{picture_of};
 
 use crate::asking::config_and_picture;
-use crate::boards::{DaaBoard, is_decided, mark};
-use crate::codes::{BAD_BOARD, SHORT, fault_code};
+use crate::boards::{DaaBoard, board_sum, has_its_sum, is_decided, mark};
+use crate::codes::{BAD_BOARD, DAMAGED_BOARD, OTHER_TIME, SHORT, fault_code};
 use crate::setting::{DaaConfig, accept};
 use crate::states::DaaTraffic;
 use daa_bands::Board;
@@ -36,21 +36,31 @@ pub(crate) fn fill_board(config: &Config, picture: &Picture, board: &mut Board)
     decide_in(config, picture, &mut trunks, &mut branches, board);
 }
 
-/// Fills in the board of a moment: the levels at which each candidate is covered, and the mark of
-/// the configuration. Returns 0, or the code of why nothing was filled in.
-pub fn decide(config: &DaaConfig, own: &Own, traffic: &[DaaTraffic], board: &mut DaaBoard) -> i32
+/// Fills in the board of a moment: the levels at which each candidate is covered, the mark of the
+/// configuration, the ownship, the time, and the sum of the masks. The time is the caller's number
+/// of the moment, its second or a sequence. Returns 0, or the code of why nothing was filled in.
+pub fn decide(
+    config: &DaaConfig,
+    time: u32,
+    own: &Own,
+    traffic: &[DaaTraffic],
+    board: &mut DaaBoard,
+) -> i32
     ensures decided { result ≡ pos 0
-        → IsDecided config.now (picture_of 0 own.now traffic.now) board.new }
+        → IsDecided config.now (picture_of time own.now traffic.now) board.new }
     ensures kept { result ≢ pos 0 → board.new ≡ board.old }
     ensures refused { result ≢ pos 0
         → IsCodeOf (refusal_of config.now own.now traffic.now) result }
 {
-    let (accepted, picture) = match config_and_picture(config, 0, own, traffic) {
+    let (accepted, picture) = match config_and_picture(config, time, own, traffic) {
         Ok(found) => found,
         Err(code) => return code,
     };
     fill_board(&accepted, &picture, &mut board.masks);
     board.mark = mark(config);
+    board.own = *own;
+    board.time = time;
+    board.sum = board_sum(&accepted, &board.masks);
     0
 }
 
@@ -71,16 +81,25 @@ fn show(config: &Config, board: &Board, levels: &mut [u8])
 /// Fills in the level that each candidate shows, 0 to the number of levels, in the order of the
 /// whole list, and how many candidates there are. Returns 0, or the code of why nothing was filled
 /// in.
-pub fn levels(config: &DaaConfig, board: &DaaBoard, levels: &mut [u8], count: &mut usize) -> i32
+pub fn levels(
+    config: &DaaConfig,
+    time: u32,
+    board: &DaaBoard,
+    levels: &mut [u8],
+    count: &mut usize,
+) -> i32
     ensures shown { result ≡ pos 0
-        → AreLevelsUnder config.now board.now levels.new count.new }
+        → AreLevelsUnder config.now time board.now levels.new count.new }
     ensures past_kept { result ≡ pos 0
         → drop count.new levels.new ≡ drop count.new levels.old }
     ensures kept { result ≢ pos 0 → (levels.new ≡ levels.old) × (count.new ≡ count.old) }
     ensures bad_board { result ≡ pos 27 → IsNoBoard config.now board.now }
-    ensures short { result ≡ pos 19 → HasMoreCandidates config.now board.now (length levels.old) }
-    ensures refused { result ≢ pos 0 → result ≢ pos 19 → result ≢ pos 27
-        → answer_of (settings_by config.now) ≡ result }
+    ensures damaged { result ≡ pos 30 → IsDamaged config.now board.now }
+    ensures other_time { result ≡ pos 29 → IsOfOtherTime config.now time board.now }
+    ensures short { result ≡ pos 19
+        → HasMoreCandidates config.now time board.now (length levels.old) }
+    ensures refused { result ≢ pos 0 → result ≢ pos 19 → result ≢ pos 27 → result ≢ pos 29
+        → result ≢ pos 30 → answer_of (settings_by config.now) ≡ result }
 {
     let accepted = match accept(config) {
         Ok(accepted) => accepted,
@@ -88,6 +107,12 @@ pub fn levels(config: &DaaConfig, board: &DaaBoard, levels: &mut [u8], count: &m
     };
     if !is_decided(config, &accepted, board) {
         return BAD_BOARD;
+    }
+    if !has_its_sum(&accepted, board) {
+        return DAMAGED_BOARD;
+    }
+    if board.time != time {
+        return OTHER_TIME;
     }
     let total = accepted.total() as usize;
     if levels.len() < total {

@@ -2,13 +2,16 @@
 
 ghost use Rattle.std.specs.Prelude.{◌≡◌, ◌≢◌, pos};
 ghost use Rattle.daa_numbers.specs.Asked.{IsResolutionUnder, HasNoKind};
-ghost use Rattle.daa_numbers.specs.Asked.{HasNoSide, HasSideButNoBoard};
+ghost use Rattle.daa_numbers.specs.Asked.{HasNoSide, HasSideBut};
+ghost use Rattle.daa_numbers.specs.Boards.{IsNoBoard, IsDamaged, IsOfOtherTime, IsOfOtherOwn};
 ghost use Rattle.daa_numbers.specs.Refusal.{refusal_of_own, IsCodeOf};
 ghost use Rattle.daa_numbers.specs.Filled.{resolution_by};
 
 use crate::asking::config_for;
-use crate::boards::{DaaBoard, is_decided};
-use crate::codes::{BAD_BOARD, BAD_KIND, BAD_SIDE, kind_in, side_in};
+use crate::boards::{DaaBoard, has_its_sum, is_decided, is_of_own};
+use crate::codes::{
+    BAD_BOARD, BAD_KIND, BAD_SIDE, DAMAGED_BOARD, OTHER_OWN, OTHER_TIME, kind_in, side_in,
+};
 use crate::setting::DaaConfig;
 use daa_config::Resolution;
 use daa_resolve::nearest;
@@ -38,6 +41,7 @@ fn resolution_numbers(resolution: Resolution) -> DaaResolution
 /// the present flight may be kept. Returns 0, or the code of why nothing was filled in.
 pub fn resolution(
     config: &DaaConfig,
+    time: u32,
     own: &Own,
     board: &DaaBoard,
     kind: i32,
@@ -45,13 +49,20 @@ pub fn resolution(
     out: &mut DaaResolution,
 ) -> i32
     ensures filled { result ≡ pos 0
-        → IsResolutionUnder config.now own.now board.now kind side out.new }
+        → IsResolutionUnder config.now time own.now board.now kind side out.new }
     ensures kept { result ≢ pos 0 → out.new ≡ out.old }
     ensures no_kind { result ≡ pos 23 → HasNoKind (refusal_of_own config.now own.now) kind }
     ensures no_side { result ≡ pos 24 → HasNoSide (refusal_of_own config.now own.now) kind side }
-    ensures bad_board { result ≡ pos 27 → HasSideButNoBoard
-        config.now (refusal_of_own config.now own.now) kind side board.now }
+    ensures bad_board { result ≡ pos 27 → HasSideBut
+        (refusal_of_own config.now own.now) kind side (IsNoBoard config.now board.now) }
+    ensures damaged { result ≡ pos 30 → HasSideBut
+        (refusal_of_own config.now own.now) kind side (IsDamaged config.now board.now) }
+    ensures other_time { result ≡ pos 29 → HasSideBut
+        (refusal_of_own config.now own.now) kind side (IsOfOtherTime config.now time board.now) }
+    ensures other_own { result ≡ pos 28 → HasSideBut (refusal_of_own config.now own.now)
+        kind side (IsOfOtherOwn config.now time own.now board.now) }
     ensures refused { result ≢ pos 0 → result ≢ pos 23 → result ≢ pos 24 → result ≢ pos 27
+        → result ≢ pos 28 → result ≢ pos 29 → result ≢ pos 30
         → IsCodeOf (refusal_of_own config.now own.now) result }
 {
     let accepted = match config_for(config, own) {
@@ -66,6 +77,15 @@ pub fn resolution(
     };
     if !is_decided(config, &accepted, board) {
         return BAD_BOARD;
+    }
+    if !has_its_sum(&accepted, board) {
+        return DAMAGED_BOARD;
+    }
+    if board.time != time {
+        return OTHER_TIME;
+    }
+    if !is_of_own(board, own) {
+        return OTHER_OWN;
     }
     *out = resolution_numbers(nearest(&board.masks, &accepted, own, kind, side));
     0

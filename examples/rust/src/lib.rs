@@ -162,6 +162,11 @@ fn sentence(code: i32) -> &'static str {
         22 => "two aircraft have one identifier",
         26 => "the configuration does not ask for it",
         27 => "the board was not decided under this configuration",
+        28 => "the board is of another ownship",
+        29 => "the board is of another time",
+        30 => "the board was changed, or copied while it was filled in",
+        31 => "the report is too old",
+        32 => "the report is of a time more than a second ahead",
         _ => "the engine refused the call",
     }
 }
@@ -238,9 +243,34 @@ fn c_traffic(it: &Traffic) -> raw::Traffic {
     raw::Traffic { id, x: it.x, y: it.y, alt: it.alt, vx: it.vx, vy: it.vy, vs: it.vs, age: it.age }
 }
 
+impl Traffic {
+    /// The aircraft as it is now, from this report of another time, both in milliseconds of one clock: its age, and its numbers
+    /// flown straight on over what is left of a second. A report of up to a second ahead is flown back. Refused where the report
+    /// is older than `most` milliseconds, or 61 seconds old.
+    pub fn fly(&self, at: u64, now: u64, most: u32) -> Result<Traffic, Refused> {
+        let reported = c_traffic(self);
+        let mut out = reported;
+        // SAFETY: the states are valid, and they do not overlap.
+        done(unsafe { raw::daa_fly(&reported, at, now, most, &mut out) })?;
+        Ok(Traffic { id: self.id.clone(), x: out.x, y: out.y, alt: out.alt, vx: out.vx, vy: out.vy, vs: out.vs, age: out.age })
+    }
+}
+
+impl Own {
+    /// The ownship as it is now, from this report of another time, both in milliseconds of one clock: flown straight on over all
+    /// of its age. A report of up to a second ahead is flown back.
+    pub fn fly(&self, at: u64, now: u64, most: u32) -> Result<Own, Refused> {
+        let mut out = *self;
+        // SAFETY: as above.
+        done(unsafe { raw::daa_fly_own(self, at, now, most, &mut out) })?;
+        Ok(out)
+    }
+}
+
 /// A decided moment, and what may be asked of it.
 pub struct Moment {
     config: raw::Config,
+    time: u32,
     own: Own,
     traffic: Vec<raw::Traffic>,
     board: Box<raw::Board>,
@@ -249,16 +279,22 @@ pub struct Moment {
 impl Moment {
     /// Decides a moment. [`Refused`] names the aircraft and the number that is out of range.
     pub fn decide(config: &Config, own: &Own, traffic: &[Traffic]) -> Result<Moment, Refused> {
+        Moment::decide_at(config, 0, own, traffic)
+    }
+
+    /// Decides a moment of a time, which is the caller's number of it: its second, or a sequence.
+    pub fn decide_at(config: &Config, time: u32, own: &Own, traffic: &[Traffic]) -> Result<Moment, Refused> {
         let mut moment = Moment {
             config: config.0,
+            time,
             own: *own,
             traffic: traffic.iter().map(c_traffic).collect(),
-            board: Box::new(raw::Board { mask: [0; 2048], mark: [0; 55] }),
+            board: Box::new(raw::Board { mask: [0; 2048], mark: [0; 55], own: *own, time, sum: 0 }),
         };
         moment.refuse(traffic)?;
-        let Moment { config, own, traffic, board } = &mut moment;
+        let Moment { config, time, own, traffic, board } = &mut moment;
         // SAFETY: the aircraft are valid for their number, and nothing else borrows the board.
-        done(unsafe { raw::daa_decide(config, own, traffic.as_ptr(), traffic.len(), &mut **board) })?;
+        done(unsafe { raw::daa_decide(config, *time, own, traffic.as_ptr(), traffic.len(), &mut **board) })?;
         Ok(moment)
     }
 
@@ -278,6 +314,13 @@ impl Moment {
         Err(Refused { code: fault.code, place, detail })
     }
 
+    /// Adds the levels of another moment of the same configuration, time and ownship: bands, levels and resolutions are then those
+    /// of the aircraft of both together, however many these are. The other answers stay those of this one's aircraft.
+    pub fn join(&mut self, more: &Moment) -> Result<(), Refused> {
+        // SAFETY: the boards are valid, and they do not overlap.
+        done(unsafe { raw::daa_join(&self.config, &*more.board, &mut *self.board) })
+    }
+
     /// The alert of the aircraft at this place of the list. Panics where there is none.
     pub fn alert(&self, place: usize) -> Result<Alert, Refused> {
         let mut found = raw::Alert::default();
@@ -292,7 +335,7 @@ impl Moment {
         let (mut bands, mut count) = (vec![Band::default(); MOST_VALUES], 0);
         // SAFETY: the bands are valid for their number.
         done(unsafe {
-            raw::daa_bands(&self.config, &*self.board, kind as i32, bands.as_mut_ptr(), bands.len(), &mut count)
+            raw::daa_bands(&self.config, self.time, &*self.board, kind as i32, bands.as_mut_ptr(), bands.len(), &mut count)
         })?;
         bands.truncate(count);
         Ok(bands)
@@ -302,7 +345,7 @@ impl Moment {
     pub fn levels(&self) -> Result<Vec<u8>, Refused> {
         let (mut levels, mut count) = (vec![0; MOST_CANDIDATES], 0);
         // SAFETY: the levels are valid for their number.
-        done(unsafe { raw::daa_levels(&self.config, &*self.board, levels.as_mut_ptr(), levels.len(), &mut count) })?;
+        done(unsafe { raw::daa_levels(&self.config, self.time, &*self.board, levels.as_mut_ptr(), levels.len(), &mut count) })?;
         levels.truncate(count);
         Ok(levels)
     }
@@ -311,7 +354,7 @@ impl Moment {
     pub fn resolution(&self, kind: Kind, side: Side) -> Result<Resolution, Refused> {
         let mut to = raw::Resolution::default();
         // SAFETY: as above.
-        done(unsafe { raw::daa_resolution(&self.config, &self.own, &*self.board, kind as i32, side as i32, &mut to) })?;
+        done(unsafe { raw::daa_resolution(&self.config, self.time, &self.own, &*self.board, kind as i32, side as i32, &mut to) })?;
         Ok(match to.what {
             0 => Resolution::Keep,
             1 => Resolution::To(to.value),

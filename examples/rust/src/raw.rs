@@ -2,7 +2,7 @@
 use crate::{Grid, Level, Own};
 
 /// The version of that header: the structs of an archive of another version may be others.
-pub const VERSION: i32 = 20000;
+pub const VERSION: i32 = 30000;
 
 #[repr(C)]
 #[derive(Clone, Copy, Default)]
@@ -57,6 +57,9 @@ pub struct Fault {
 pub struct Board {
     pub mask: [u8; 2048],
     pub mark: [i64; 55],
+    pub own: Own,
+    pub time: u32,
+    pub sum: u32,
 }
 
 #[repr(C)]
@@ -87,11 +90,14 @@ extern "C" {
     pub fn daa_read(text: *const u8, size: usize, config: *mut Config) -> i32;
     pub fn daa_check(config: *const Config) -> i32;
     pub fn daa_fault(own: *const Own, traffic: *const Traffic, count: usize, out: *mut Fault) -> i32;
+    pub fn daa_fly(traffic: *const Traffic, at: u64, now: u64, most: u32, out: *mut Traffic) -> i32;
+    pub fn daa_fly_own(own: *const Own, at: u64, now: u64, most: u32, out: *mut Own) -> i32;
     pub fn daa_alert(config: *const Config, own: *const Own, traffic: *const Traffic, out: *mut Alert) -> i32;
-    pub fn daa_decide(config: *const Config, own: *const Own, traffic: *const Traffic, count: usize, board: *mut Board) -> i32;
-    pub fn daa_levels(config: *const Config, board: *const Board, levels: *mut u8, room: usize, count: *mut usize) -> i32;
-    pub fn daa_bands(config: *const Config, board: *const Board, kind: i32, bands: *mut crate::Band, room: usize, count: *mut usize) -> i32;
-    pub fn daa_resolution(config: *const Config, own: *const Own, board: *const Board, kind: i32, side: i32, out: *mut Resolution) -> i32;
+    pub fn daa_decide(config: *const Config, time: u32, own: *const Own, traffic: *const Traffic, count: usize, board: *mut Board) -> i32;
+    pub fn daa_join(config: *const Config, more: *const Board, board: *mut Board) -> i32;
+    pub fn daa_levels(config: *const Config, time: u32, board: *const Board, levels: *mut u8, room: usize, count: *mut usize) -> i32;
+    pub fn daa_bands(config: *const Config, time: u32, board: *const Board, kind: i32, bands: *mut crate::Band, room: usize, count: *mut usize) -> i32;
+    pub fn daa_resolution(config: *const Config, time: u32, own: *const Own, board: *const Board, kind: i32, side: i32, out: *mut Resolution) -> i32;
     pub fn daa_recovery(config: *const Config, own: *const Own, traffic: *const Traffic, count: usize, kind: i32, out: *mut Recovery) -> i32;
     pub fn daa_last(config: *const Config, own: *const Own, traffic: *const Traffic, count: usize, kind: i32, out: *mut Last) -> i32;
     pub fn daa_report(config: *const Config, time: u32, own: *const Own, traffic: *const Traffic, count: usize, text: *mut u8, room: usize, length: *mut usize) -> i32;

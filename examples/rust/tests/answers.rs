@@ -101,3 +101,32 @@ fn last_times_are_those_of_the_report() {
     }
     assert_levels_are_those_of_the_bands(&moment);
 }
+
+#[test]
+fn joined_moments_are_of_all_aircraft() {
+    let (config, own) = (from_numbers(), Own { x: 0, y: 0, alt: 10000, trk: 0, gs: 3600, vs: 0 });
+    let traffic = [
+        Traffic { id: "AMBER".into(), x: 3000, y: 8000, alt: 10000, vx: -1350, vy: 0, vs: 0, age: 0 },
+        Traffic { id: "BRAVO".into(), x: -1200, y: -300, alt: 10600, vx: 0, vy: 3600, vs: -600, age: 0 },
+    ];
+    let at = |time, traffic: &[Traffic]| Moment::decide_at(&config, time, &own, traffic).unwrap();
+    let (whole, mut half, other) = (at(7, &traffic), at(7, &traffic[..1]), at(7, &traffic[1..]));
+    assert_ne!(half.levels().unwrap(), whole.levels().unwrap());
+    assert_ne!(other.levels().unwrap(), whole.levels().unwrap());
+    half.join(&other).unwrap();
+    assert_eq!(half.levels().unwrap(), whole.levels().unwrap());
+    assert_eq!(half.join(&at(8, &traffic[1..])).unwrap_err().code, 29);
+    let turned = Moment::decide_at(&config, 7, &Own { trk: 1, ..own }, &traffic).unwrap();
+    assert_eq!(half.join(&turned).unwrap_err().code, 28);
+}
+
+#[test]
+fn states_are_flown_to_one_instant() {
+    let own = Own { x: 0, y: 0, alt: 10000, trk: 90, gs: 3600, vs: 600 };
+    assert_eq!(own.fly(1000, 3500, 3000).unwrap(), Own { x: 250, alt: 10025, ..own });
+    assert_eq!(own.fly(0, 3001, 3000).unwrap_err().code, 31);
+    let amber = Traffic { id: "AMBER".into(), x: 0, y: 0, alt: 10000, vx: 3600, vy: -3600, vs: 600, age: 9 };
+    assert_eq!(amber.fly(1000, 3500, 60999).unwrap(), Traffic { x: 50, y: -50, alt: 10005, age: 2, ..amber.clone() });
+    assert_eq!(amber.fly(1000, 500, 60999).unwrap(), Traffic { x: -50, y: 50, alt: 9995, age: 0, ..amber.clone() });
+    assert_eq!(amber.fly(1001, 0, 60999).unwrap_err().code, 32);
+}

@@ -11,6 +11,11 @@ pub record IsOfStates (code : ℤ) : Type 0 where
   pub side : code ≢ pos 24
   pub asked : code ≢ pos 26
   pub board : code ≢ pos 27
+  pub own : code ≢ pos 28
+  pub time : code ≢ pos 29
+  pub damage : code ≢ pos 30
+  pub old : code ≢ pos 31
+  pub ahead : code ≢ pos 32
 
 -- the code is that of a refusal, which is there, and no other code
 pub record IsRefused (refusal : Option Refusal) (code : ℤ) : Type 0 where

@@ -14,7 +14,8 @@ returns-clause-shown c = λ (_ : pos 0 ≡ pos 0).
     record {
       settings = s;
       accepted = c.in-Ok.ensures.accepted;
-      marked = marked;
+      whole = record { marked = marked; sum = search rules };
+      time_is = search rules;
       all = total;
       fits = omega (arith, c.show.ensures.fits, total);
       shown = λ index less.

@@ -14,7 +14,9 @@ returns-clause-filled c = λ (_ : pos 0 ≡ pos 0).
       kind_is = c.in-Some.ensures.some ∙ to_z-of_z w32 _ fits;
       side = side;
       side_is = c.in-Some-side_in.ensures.some ∙ to_z-of_z w32 _ side_fits;
-      marked = search rules;
+      whole = record { marked = search rules; sum = search rules };
+      time_is = search rules;
+      own_is = search rules;
       answer = answer;
       is = c.nearest.ensures;
       filled = c.resolution_numbers.ensures;
@@ -49,5 +51,55 @@ returns-then-not-is_decided-clause-bad_board c = λ _.
       kind_is = c.in-Some.ensures.some ∙ to_z-of_z w32 _ fits;
       side = c.in-Some-side_in.side;
       side_is = c.in-Some-side_in.ensures.some ∙ to_z-of_z w32 _ side_fits;
-      no_board = record { settings = c.in-Ok.accepted; accepted = c.in-Ok.ensures.asked.accepted; other = search rules };
+      wrong = record { settings = c.in-Ok.accepted; accepted = c.in-Ok.ensures.asked.accepted; other = search rules };
+    }
+
+pub returns-then-not-has_its_sum-clause-damaged : goal.returns-then-not-has_its_sum-clause-damaged
+returns-then-not-has_its_sum-clause-damaged c = λ _.
+    let fits : FitsSigned w32 c.args.kind = search rules in
+    let side_fits : FitsSigned w32 c.args.side = search rules in
+    record {
+      sound = c.in-Ok.ensures.asked.sound;
+      kind = c.in-Some.kind;
+      kind_is = c.in-Some.ensures.some ∙ to_z-of_z w32 _ fits;
+      side = c.in-Some-side_in.side;
+      side_is = c.in-Some-side_in.ensures.some ∙ to_z-of_z w32 _ side_fits;
+      wrong = record { settings = c.in-Ok.accepted; accepted = c.in-Ok.ensures.asked.accepted; marked = search rules; other = search rules };
+    }
+
+pub returns-then-board-time-clause-other_time : goal.returns-then-board-time-clause-other_time
+returns-then-board-time-clause-other_time c = λ _.
+    let fits : FitsSigned w32 c.args.kind = search rules in
+    let side_fits : FitsSigned w32 c.args.side = search rules in
+    record {
+      sound = c.in-Ok.ensures.asked.sound;
+      kind = c.in-Some.kind;
+      kind_is = c.in-Some.ensures.some ∙ to_z-of_z w32 _ fits;
+      side = c.in-Some-side_in.side;
+      side_is = c.in-Some-side_in.ensures.some ∙ to_z-of_z w32 _ side_fits;
+      wrong = record {
+        settings = c.in-Ok.accepted;
+        accepted = c.in-Ok.ensures.asked.accepted;
+        whole = record { marked = search rules; sum = search rules };
+        other = search rules;
+      };
+    }
+
+pub returns-then-not-is_of_own-clause-other_own : goal.returns-then-not-is_of_own-clause-other_own
+returns-then-not-is_of_own-clause-other_own c = λ _.
+    let fits : FitsSigned w32 c.args.kind = search rules in
+    let side_fits : FitsSigned w32 c.args.side = search rules in
+    record {
+      sound = c.in-Ok.ensures.asked.sound;
+      kind = c.in-Some.kind;
+      kind_is = c.in-Some.ensures.some ∙ to_z-of_z w32 _ fits;
+      side = c.in-Some-side_in.side;
+      side_is = c.in-Some-side_in.ensures.some ∙ to_z-of_z w32 _ side_fits;
+      wrong = record {
+        settings = c.in-Ok.accepted;
+        accepted = c.in-Ok.ensures.asked.accepted;
+        whole = record { marked = search rules; sum = search rules };
+        time_is = search rules;
+        other = search rules;
+      };
     }
