@@ -164,7 +164,6 @@ static void say_left_out(long long now, const char id[8], const struct daa_fault
 static int make_own(const struct table *table, struct daa_own *own) {
     static const char *const fields[] = {"", "x", "y", "alt", "trk", "gs", "vs"};
     struct daa_fault_answer fault = {0, 0, 0, 0, 0};
-    const struct daa_traffic none = {{0}, 0, 0, 0, 0, 0, 0, 0};
     const struct own_report *report = &table->own;
     if (!report->known) {
         fprintf(stderr, "second %lld: no guidance: there is no report of the ownship\n", table->now);
@@ -173,7 +172,7 @@ static int make_own(const struct table *table, struct daa_own *own) {
     int32_t answer = daa_fly_own(&report->own, (uint64_t)report->time, (uint64_t)table->now * 1000, MOST_OWN_AGE, own);
     if (answer == DAA_TOO_OLD)
         fprintf(stderr, "second %lld: no guidance: the ownship was silent for %lld seconds\n", table->now, (table->now * 1000 - report->time) / 1000);
-    if (answer == DAA_BAD_OWN && daa_fault(&report->own, &none, 0, &fault) == DAA_OK)
+    if (answer == DAA_BAD_OWN && daa_fault(&report->own, daa_no_traffic(), 0, &fault) == DAA_OK)
         fprintf(stderr, "second %lld: no guidance: the ownship's %s is not in %d..%d\n", table->now, fields[fault.field],
                 (int)fault.least, (int)fault.greatest);
     return answer == DAA_OK;

@@ -17,9 +17,21 @@
  * first in the order: the configuration's, the states', DAA_BAD_KIND, DAA_BAD_SIDE, DAA_BAD_BOARD, DAA_DAMAGED_BOARD,
  * DAA_OTHER_TIME, DAA_OTHER_OWN, and then the others. daa_text tells what a number means.
  *
+ * Places, velocities and times, which nothing can check: x and y are in one plane for ownship and traffic, with one origin that
+ * the caller chooses near them, x to the east and y to true north. Tracks and velocities are over ground, in that plane, and
+ * not headings or airspeeds. Altitudes are all of one kind. All states are of one instant (daa_fly), but for the ages of
+ * aircraft. A candidate flight begins at once: a turn or a change of speed after the first second, a change of altitude within
+ * it. What a crew or an autopilot waits comes on top. A level's alert time and its lookahead may differ: then a level may alert
+ * that does not cover the present flight on a board, or the other way round.
+ *
+ * Time, measured and not proved, with one thread of a processor of 2.5 GHz: daa_decide takes 10 microseconds where some
+ * aircraft are near by, and 8 to 20 milliseconds in the longest moments that a search found; daa_recovery of all kinds up to
+ * 0.2 seconds, and daa_last 0.9; the others less than 0.2 milliseconds. Nothing ends a call early.
+ *
  * The caller must ensure, since nothing checks it: each pointer is valid for what it points to, or for the length that
- * follows it, also of length 0, and is not null; what a call fills in overlaps no other argument of the call, and
- * no other thread reads or writes it at the time; and no other thread writes what a call reads while the call runs. */
+ * follows it, also of length 0, and is not null (daa_no_traffic gives one for no aircraft); what a call fills in overlaps no
+ * other argument of the call, and no other thread reads or writes it at the time; and no other thread writes what a call reads
+ * while the call runs. */
 #ifndef DAIDALUS_H
 #define DAIDALUS_H
 
@@ -143,6 +155,12 @@ struct daa_traffic {
     int32_t x, y, alt, vx, vy, vs;
     uint32_t age;
 };
+
+/* A pointer to pass, with the length 0, where there are no aircraft: a pointer may not be null. */
+static inline const struct daa_traffic *daa_no_traffic(void) {
+    static const struct daa_traffic none = {{0}, 0, 0, 0, 0, 0, 0, 0};
+    return &none;
+}
 
 /* now: the greatest level whose volume is violated now, or 0. level: the greatest level that alerts, or 0; both are at most
  * the configuration's count of levels (1 to 4). first: the first second of the present flight, counted from 0 (so 0 to 179),
