@@ -37,8 +37,8 @@ class BaseStation:
     def __init__(self):
         self.heard, self.labels, self.grounded, self.first_name = {}, {}, 0, None
 
-    def row(self, line):
-        """The report that a line with a position makes; None for other lines."""
+    def row(self, line, now=None):
+        """The report that a line with a position makes, at the line's own time or at that of a clock; None for other lines."""
         cells = [cell.strip() for cell in line.split(",")]
         if cells[0] != "MSG" and IS_LINE.match(line):
             return None
@@ -46,10 +46,12 @@ class BaseStation:
             raise BadRow(f"no BaseStation line of {FIELDS} fields")
         if not ADDRESS.fullmatch(cells[4]):
             raise BadRow("no address of six hexadecimal digits")
-        time = iso_time(f"{cells[6]} {cells[7]}")
-        if time is None:
-            raise BadRow("no date and time in the fields 7 and 8")
-        address, now = cells[4].upper(), time[0]
+        if now is None:
+            time = iso_time(f"{cells[6]} {cells[7]}")
+            if time is None:
+                raise BadRow("no date and time in the fields 7 and 8")
+            now = time[0]
+        address = cells[4].upper()
         self.first_name = self.first_name or address
         if cells[21] in ("1", "-1"):
             self.grounded += bool(cells[14])
