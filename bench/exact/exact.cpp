@@ -1,6 +1,6 @@
 // An exact program without proofs, written for speed: the bound that the proved one is compared with.
 //
-//   c++ -std=c++17 -O2 -march=x86-64-v2 -o exact bench/exact/exact.cpp
+//   c++ -std=c++17 -O2 -o exact bench/exact/exact.cpp
 //   ./exact replay --config examples/three_levels.toml < examples/encounter.states
 //   ./exact exercise --config examples/three_levels.toml --seed 7 --moments 1000 [--times N]
 //
@@ -15,6 +15,7 @@
 
 #include <algorithm>
 #include <cmath>
+#include <tuple>
 
 using namespace formats;
 
@@ -79,6 +80,13 @@ class Across {
         : volume_(volume), ss_(x * x + y * y), sv_(x * vx + y * vy), vv_(vx * vx + vy * vy), cross_(x * vy - y * vx), square_(volume.dthr * volume.dthr) {
         margin_ = Wide(square_) * vv_ - Wide(cross_) * cross_;
     }
+    // Whole seconds, rounded outward, outside of which the horizontal part does not hold.
+    std::pair<int64_t, int64_t> seconds_near(int64_t upto) const {
+        if (vv_ == 0) return {0, upto};
+        const double closest = -static_cast<double>(sv_) / static_cast<double>(vv_), half = std::sqrt(static_cast<double>(margin_)) / static_cast<double>(vv_);
+        const double first = closest - half - static_cast<double>(volume_.tthr) - 1, last = closest + half + 1;
+        return {std::max<int64_t>(0, static_cast<int64_t>(std::max(first, -1.0))), static_cast<int64_t>(std::min(std::max(last, -1.0), static_cast<double>(upto)))};
+    }
     bool comes_near() const { return vv_ == 0 ? ss_ <= square_ : margin_ >= 0; }
     bool holds_within(const Window &w) const {
         if (!comes_near()) return false;
@@ -135,16 +143,33 @@ bool hits_across(const Place &place, const Velocity &by, int64_t seconds, const 
     return !is_far_across(place, by, seconds, volume) && Across(place.east, place.north, by.east, by.north, volume).holds_within({0, seconds, 1});
 }
 
+// Division of a number that is not negative by one that stays, by its inverse: exact below 2^50.
+class Divisor {
+  public:
+    explicit Divisor(int64_t by) : by_(by), inverse_(1.0 / static_cast<double>(by)) {}
+    int64_t of(int64_t number) const {
+        const auto near = static_cast<int64_t>(static_cast<double>(number) * inverse_);
+        return near + ((near + 1) * by_ <= number) - (near * by_ > number);
+    }
+
+  private:
+    int64_t by_;
+    double inverse_;
+};
+
 // A side of a kind: the legs that its candidates fly together, each from a place with a velocity.
 struct Side {
     std::vector<Place> places;  // at the beginning of each second
     std::vector<Velocity> velocities;
 };
 
-// A candidate: the side whose first legs it flies, how many, and how it flies on: `partial` for a second, and then `rest`.
+// A candidate: the side whose first legs it flies, and how many. How it flies on is found where it is asked for.
 struct Candidate {
-    int side;
-    int64_t legs;
+    int32_t legs, side;
+};
+
+// How a candidate flies on: `partial` for a second, of altitudes that are no whole number of legs away, and then `rest`.
+struct Rest {
     bool has_partial;
     Velocity partial, rest;
 };
@@ -220,78 +245,136 @@ class Engine {
         return low - 1;
     }
 
-    // Raises the levels of a kind's candidates by one aircraft.
+    // Raises the levels of a kind's candidates by one aircraft. Tracks and ground speeds share the times at which heights are near,
+    // vertical speeds and altitudes the way across.
     void fly(int kind, const Place &place, const Velocity &by, std::vector<uint8_t> &shown) {
         const bool keeps_height = kind == Track || kind == GroundSpeed;
+        met_.assign(shown.size(), 0);
         for (size_t l = 1; l <= volumes_.size(); l++) {
             const Volume &volume = volumes_[l - 1];
-            Window window;
-            const bool can = keeps_height ? window_of(place.up, by.up, volume.lookahead, volume, window) : hits_across(place, by, volume.lookahead, volume);
+            const bool is_nested = l > 1 && nested_[l - 2];
+            Window window{0, volume.lookahead, 1};
             bool any = false;
-            if (can) {
+            if (keeps_height ? window_of(place.up, by.up, volume.lookahead, volume, window) && can_reach(kind, place, volume, window.last / window.d + 1)
+                             : hits_across(place, by, volume.lookahead, volume)) {
                 if (!is_flown_[kind]) make_flights(kind);
-                any = keeps_height ? fly_level(kind, l, volume, window, shown) : fly_level(kind, l, volume, {0, volume.lookahead, 1}, shown);
+                const auto at_height = [&](int64_t second, int64_t seconds, const Place &from, const Velocity &speed) {
+                    const Window now{std::max<int64_t>(window.first - second * window.d, 0), std::min(window.last - second * window.d, seconds * window.d), window.d};
+                    return now.first <= now.last && !is_far_across(from, speed, seconds, volume) && Across(from.east, from.north, speed.east, speed.north, volume).holds_within(now);
+                };
+                const Across across(place.east, place.north, by.east, by.north, volume);
+                const auto on_line = [&](int64_t second, int64_t seconds, const Place &from, const Velocity &speed) {
+                    Window now;
+                    if (!window_of(from.up, speed.up, seconds, volume, now)) return false;
+                    now.first += second * now.d, now.last += second * now.d;
+                    return across.holds_within(now);
+                };
+                if (!keeps_height) std::tie(window.first, window.last) = across.seconds_near(volume.lookahead);
+                any = keeps_height ? fly_level(kind, l, is_nested, volume, window, shown, at_height) : fly_level(kind, l, is_nested, volume, window, shown, on_line);
             }
             while (!any && l < volumes_.size() && nested_[l - 1]) l++;
         }
     }
 
-    // The same at one level; whether any candidate meets the aircraft. Only seconds of the window count.
-    bool fly_level(int kind, size_t l, const Volume &volume, const Window &window, std::vector<uint8_t> &shown) {
+    // Whether any track or ground speed may bring the ownship within the thresholds across, by the second `upto` of heights that are near.
+    bool can_reach(int kind, const Place &place, const Volume &volume, int64_t upto) const {
+        const int64_t seconds = upto + volume.tthr;
+        const Own &own = moment_->own;
+        std::array<int64_t, 2> least{}, most{};
+        if (kind == Track) {
+            least = {-own.gs * seconds, -own.gs * seconds}, most = {own.gs * seconds, own.gs * seconds};
+        } else {
+            const Velocity top = along(own.trk, std::max(own.gs, std::min(config_.values[kind].back(), own.gs + config_.rate[kind] * seconds)), 0);
+            least = {std::min<int64_t>(0, top.east * seconds), std::min<int64_t>(0, top.north * seconds)};
+            most = {std::max<int64_t>(0, top.east * seconds), std::max<int64_t>(0, top.north * seconds)};
+        }
+        const auto can = [&](int64_t at, int64_t their, int64_t low, int64_t high) {
+            return at + low - std::max<int64_t>(0, their * seconds) <= volume.dthr && at + high - std::min<int64_t>(0, their * seconds) >= -volume.dthr;
+        };
+        return can(place.east, their_.east, least[0], most[0]) && can(place.north, their_.north, least[1], most[1]);
+    }
+
+    // The same at one level, by a test of legs (second, seconds, place, velocity). Whether a candidate may meet the aircraft.
+    template <typename Test>
+    bool fly_level(int kind, size_t l, bool is_nested, const Volume &volume, const Window &window, std::vector<uint8_t> &shown, Test test) {
         bool any = false;
-        const int64_t last_leg = std::min(volume.lookahead, window.last / window.d + 1), first_leg = window.first / window.d;
+        // (a leg that ends as the window begins counts: at that instant it still has its own velocity)
+        const int64_t last_leg = std::min(volume.lookahead, window.last / window.d + 1), first_leg = std::max<int64_t>(window.first - 1, 0) / window.d;
         std::array<int64_t, 2> first_hit{};  // the first leg of each side that meets the aircraft
-        for (int side = 0; side < 2; side++) first_hit[side] = first_leg_hit(sides_[kind][side], first_leg, last_leg, volume);
+        for (int side = 0; side < 2; side++) {
+            const Side &flown = sides_[kind][side];
+            const int64_t end = std::min<int64_t>(last_leg, static_cast<int64_t>(flown.velocities.size()));
+            int64_t k = first_leg;
+            if (kind == Altitude && k < end && !test(k, end - k, relative(flown.places[k], moved(there_, their_, k)), relative(flown.velocities[k], their_))) k = end;
+            while (k < end && !test(k, 1, relative(flown.places[k], moved(there_, their_, k)), relative(flown.velocities[k], their_))) k++;
+            first_hit[side] = k < end ? k : INT64_MAX;
+        }
         const auto &all = candidates_[kind];
+        const bool is_last = l == volumes_.size();
         for (size_t c = 0; c < all.size(); c++) {
-            if (shown[c] == volumes_.size()) continue;
-            const Candidate &it = all[c];
-            int64_t from = std::min(it.legs, volume.lookahead);
-            bool is_hit = first_hit[it.side] < from;
-            if (!is_hit && from < last_leg) {
-                Place at = relative(sides_[kind][it.side].places[from], moved(there_, their_, from));
-                if (it.has_partial) {
-                    is_hit = hits(at, relative(it.partial, their_), 1, volume);
-                    at = moved(at, relative(it.partial, their_), 1), from++;
-                }
-                is_hit = is_hit || (from < volume.lookahead && hits(at, relative(it.rest, their_), volume.lookahead - from, volume));
+            if (is_nested && met_[c] + size_t{1} < l) continue;  // it misses the volume round this one
+            if (shown[c] >= l) {  // by another aircraft: whether by this one too is not asked
+                met_[c] = static_cast<uint8_t>(l), any |= !is_last;
+                continue;
             }
-            if (is_hit) shown[c] = static_cast<uint8_t>(std::max<size_t>(shown[c], l)), any = true;
+            const Candidate &it = all[c];
+            if (first_hit[it.side] < std::min<int64_t>(it.legs, volume.lookahead) || meets_rest(kind, c, last_leg, volume, test)) {
+                met_[c] = shown[c] = static_cast<uint8_t>(l);
+                any |= !is_last;
+            }
         }
         return any;
     }
 
-    int64_t first_leg_hit(const Side &side, int64_t first, int64_t last, const Volume &volume) const {
-        const int64_t end = std::min<int64_t>(last, static_cast<int64_t>(side.velocities.size()));
-        for (int64_t k = first; k < end; k++)
-            if (hits(relative(side.places[k], moved(there_, their_, k)), relative(side.velocities[k], their_), 1, volume)) return k;
-        return INT64_MAX;
+    // Whether a candidate meets the aircraft after the legs that it shares.
+    template <typename Test> bool meets_rest(int kind, size_t c, int64_t last_leg, const Volume &volume, Test test) const {
+        const Candidate &it = candidates_[kind][c];
+        int64_t from = it.legs;
+        if (from >= last_leg || from >= volume.lookahead) return false;
+        const Rest on = rest_of(kind, c);
+        Place at = relative(sides_[kind][it.side].places[from], moved(there_, their_, from));
+        if (on.has_partial) {
+            const Velocity by = relative(on.partial, their_);
+            if (test(from, 1, at, by)) return true;
+            at = moved(at, by, 1), from++;
+        }
+        return from < volume.lookahead && test(from, volume.lookahead - from, at, relative(on.rest, their_));
+    }
+
+    Rest rest_of(int kind, size_t c) const {
+        const Own &own = moment_->own;
+        const int64_t value = config_.values[kind][c];
+        switch (kind) {
+            case Track: return {false, {}, along(value, own.gs, own.vs)};
+            case GroundSpeed: return {false, {}, along(own.trk, value, own.vs)};
+            case VerticalSpeed: return {false, {}, {present_.east, present_.north, value}};
+            default: {
+                const Candidate &it = candidates_[kind][c];
+                const int64_t left = FOOT * value - height_ - it.legs * config_.rate[Altitude] * (it.side ? 1 : -1);
+                return {left != 0, {present_.east, present_.north, left}, {present_.east, present_.north, 0}};
+            }
+        }
     }
 
     // The flights of a kind that begin at second `wait`, where the present flight is then.
     void make_flights(int kind, int64_t wait = 0) {
         is_flown_[kind] = wait == 0;
         const Own &own = moment_->own;
-        const int64_t rate = config_.rate[kind], height = FOOT * own.alt + wait * own.vs;
+        const Divisor by_rate(config_.rate[kind]);
+        height_ = FOOT * own.alt + wait * own.vs;
+        const int64_t scale = kind == Altitude ? FOOT : 1, now = kind == Altitude ? height_ : moment_->present(kind);
+        const int64_t up = kind == Altitude ? 0 : config_.rate[kind] - 1;  // a last part of a leg counts as one, but of an altitude
+        const auto &values = config_.values[kind];
         auto &all = candidates_[kind];
-        all.clear();
-        std::array<int64_t, 2> most{};
-        for (const int64_t value : config_.values[kind]) {
-            const int64_t right = (value - own.trk + 360) % 360, target = kind == Altitude ? FOOT * value : value;
-            const int64_t now = kind == Altitude ? height : moment_->present(kind);
-            const bool upper = kind == Track ? right <= 180 : target > now;
-            const int64_t way = kind == Track ? std::min(right, 360 - right) : std::abs(target - now);
-            Candidate it{upper, (way + rate - 1) / rate, false, present_, present_};
-            if (kind == Track) it.rest = along(value, own.gs, own.vs);
-            if (kind == GroundSpeed) it.rest = along(own.trk, value, own.vs);
-            if (kind == VerticalSpeed) it.rest.up = value;
-            if (kind == Altitude) {
-                it.legs = way / rate, it.has_partial = way % rate != 0;
-                it.partial.up = upper ? way % rate : -(way % rate), it.rest.up = 0;
-            }
-            it.legs = std::min(it.legs, seconds_);
-            most[upper] = std::max(most[upper], it.legs);
-            all.push_back(it);
+        all.resize(values.size());
+        std::array<int32_t, 2> most{};
+        for (size_t c = 0; c < values.size(); c++) {
+            int64_t way = scale * values[c] - now;
+            if (kind == Track) way += way <= -180 ? 360 : way > 180 ? -360 : 0;  // to the right where it is 180 at most
+            const bool side = kind == Track ? way >= 0 : way > 0;
+            const auto legs = static_cast<int32_t>(std::min(by_rate.of(std::abs(way) + up), seconds_));
+            all[c] = {legs, side};
+            most[side] = std::max(most[side], legs);
         }
         for (int side = 0; side < 2; side++) make_side(kind, side, most[side], moved(begin_, present_, wait));
     }
@@ -313,33 +396,36 @@ class Engine {
     }
 
     // The legs of a candidate's flight that was made, after `wait` seconds of the present one: (second, seconds, place, velocity).
-    template <typename Take> bool each_leg(int kind, const Candidate &it, int64_t wait, int64_t upto, Take take) const {
+    template <typename Take> bool each_leg(int kind, size_t c, int64_t wait, int64_t upto, Take take) const {
+        const Candidate &it = candidates_[kind][c];
         if (wait > 0 && !take(int64_t{0}, std::min(wait, upto), begin_, present_)) return false;
         const Side &side = sides_[kind][it.side];
         int64_t k = 0;
         for (; k < it.legs && wait + k < upto; k++)
             if (!take(wait + k, int64_t{1}, side.places[k], side.velocities[k])) return false;
+        if (wait + k >= upto) return true;
+        const Rest on = rest_of(kind, c);
         Place at = side.places[k];
-        if (it.has_partial && wait + k < upto) {
-            if (!take(wait + k, int64_t{1}, at, it.partial)) return false;
-            at = moved(at, it.partial, 1), k++;
+        if (on.has_partial) {
+            if (!take(wait + k, int64_t{1}, at, on.partial)) return false;
+            at = moved(at, on.partial, 1), k++;
         }
-        return wait + k >= upto || take(wait + k, upto - wait - k, at, it.rest);
+        return wait + k >= upto || take(wait + k, upto - wait - k, at, on.rest);
     }
 
     // Whether no aircraft violates a level from `resolve` up within its lookahead, on the flight's legs from second `from` on.
-    bool is_open(int kind, const Candidate &it, int64_t wait, int64_t from) {
+    bool is_open(int kind, size_t c, int64_t wait, int64_t from) {
         for (const Traffic &other : moment_->traffic) {
             their_ = {other.vx, other.vy, other.vs};
             there_ = moved({MIL * other.x, MIL * other.y, FOOT * other.alt}, their_, other.age);
             for (size_t l = config_.resolve - 1; l < volumes_.size(); l++)
-                if (!stays_out(kind, it, wait, from, volumes_[l])) return false;
+                if (!stays_out(kind, c, wait, from, volumes_[l])) return false;
         }
         return true;
     }
 
-    bool stays_out(int kind, const Candidate &it, int64_t wait, int64_t from, const Volume &volume) const {
-        return each_leg(kind, it, wait, volume.lookahead, [&](int64_t second, int64_t seconds, Place place, const Velocity &by) {
+    bool stays_out(int kind, size_t c, int64_t wait, int64_t from, const Volume &volume) const {
+        return each_leg(kind, c, wait, volume.lookahead, [&](int64_t second, int64_t seconds, Place place, const Velocity &by) {
             const int64_t skipped = std::min(std::max<int64_t>(from - second, 0), seconds);
             if (skipped == seconds) return true;
             place = relative(moved(place, by, skipped), moved(there_, their_, second + skipped));
@@ -351,11 +437,8 @@ class Engine {
         std::optional<int64_t> found;
         for (int64_t wait = config_.horizon() - 1; wait >= 0 && !found; wait--) {
             make_flights(kind, wait);
-            for (const Candidate &it : candidates_[kind])
-                if (is_open(kind, it, wait, 0)) {
-                    found = wait;
-                    break;
-                }
+            for (size_t c = 0; c < candidates_[kind].size() && !found; c++)
+                if (is_open(kind, c, wait, 0)) found = wait;
         }
         make_flights(kind);
         return found;
@@ -366,32 +449,31 @@ class Engine {
         if (!is_flown_[kind]) make_flights(kind);
         std::optional<Recovery> best;
         for (size_t c = 0; c < candidates_[kind].size(); c++) {
-            const Candidate &it = candidates_[kind][c];
             const int64_t value = config_.values[kind][c], now = moment_->present(kind);
-            if (!is_clear_of_cylinders(kind, it)) continue;
-            const int64_t after = clear_from(kind, it, best ? best->after : config_.horizon() - 1);
+            if (!is_clear_of_cylinders(kind, c)) continue;
+            const int64_t after = clear_from(kind, c, best ? best->after : config_.horizon() - 1);
             const bool is_better = !best || after < best->after || (after == best->after && place_of(config_, kind, now, value) < place_of(config_, kind, now, best->value));
             if (after && is_better) best = Recovery{after, value};
         }
         return best;
     }
 
-    bool is_clear_of_cylinders(int kind, const Candidate &it) {
+    bool is_clear_of_cylinders(int kind, size_t c) {
         for (const Traffic &other : moment_->traffic) {
             their_ = {other.vx, other.vy, other.vs};
             there_ = moved({MIL * other.x, MIL * other.y, FOOT * other.alt}, their_, other.age);
-            if (!stays_out(kind, it, 0, 0, cylinder_)) return false;
+            if (!stays_out(kind, c, 0, 0, cylinder_)) return false;
         }
         return true;
     }
 
     // The least second from 1 to `most` from which on the flight is open, or 0. What is open from one second on is so from each later one.
-    int64_t clear_from(int kind, const Candidate &it, int64_t most) {
-        if (most < 1 || !is_open(kind, it, 0, most)) return 0;
+    int64_t clear_from(int kind, size_t c, int64_t most) {
+        if (most < 1 || !is_open(kind, c, 0, most)) return 0;
         int64_t low = 1, high = most;
         while (low < high) {
             const int64_t middle = (low + high) / 2;
-            if (is_open(kind, it, 0, middle)) high = middle;
+            if (is_open(kind, c, 0, middle)) high = middle;
             else low = middle + 1;
         }
         return low;
@@ -401,11 +483,12 @@ class Engine {
     std::vector<Volume> volumes_;
     std::vector<bool> nested_;  // whether each level's volume but the first lies within the one before
     Volume cylinder_{};
-    int64_t seconds_ = 0;
+    int64_t seconds_ = 0, height_ = 0;  // how far ahead anything is flown; the height at which changes of altitude begin
     const Moment *moment_ = nullptr;
     Velocity present_{}, their_{};
     Place begin_{}, there_{};
     std::array<bool, KINDS> is_flown_{};
+    std::vector<uint8_t> met_;  // the greatest level, of those looked at, at which each candidate of a kind may meet the aircraft
     std::array<std::array<Side, 2>, KINDS> sides_;
     std::array<std::vector<Candidate>, KINDS> candidates_;
 };

@@ -1,0 +1,144 @@
+"""bench/exact, bench/float and tools/agree: both programs are built, and compared with the program on some hundred moments."""
+import os
+import re
+import subprocess
+import sys
+import tempfile
+import unittest
+
+from common import CONFIG, ENCOUNTER, TOP, ToolTest, module, program, replayed
+from daidalus_files import read_config
+
+compare = module("bench/compare")
+moments = module("tools/moments")
+agree = module("tools/agree")
+CONFIGS = (CONFIG, *(os.path.join(TOP, *names) for names in (("examples", "recovery.toml"), ("bench", "small.toml"), ("bench", "slow.toml"))))
+
+
+def aimed(seed, count):
+    """State lines of drawn moments in which most aircraft alert."""
+    draw, lines = moments.Generator.of_seed(seed), ["format 2"]
+    for time in range(count):
+        lines += moments.moment_lines(time, *moments.aimed_moment(draw), 2)
+    return ("\n".join(lines) + "\n").encode()
+
+
+def setUpModule():
+    global folder, exact, floating
+    folder = tempfile.TemporaryDirectory()
+    exact, floating = (compare.built(folder.name, name) for name in ("exact", "float"))
+
+
+def tearDownModule():
+    folder.cleanup()
+
+
+def written(command, states):
+    run = subprocess.run(command, input=states, capture_output=True, timeout=120, check=True)
+    return run.stdout
+
+
+class Exact(unittest.TestCase):
+    def test_writes_the_programs_bytes(self):
+        """Of aimed moments under configurations with recoveries, last times, WCV_TEP and none of them; and of an exercise."""
+        for seed, config in enumerate(CONFIGS):
+            states = aimed(seed, 100)
+            status, report = replayed(config, states)
+            self.assertEqual(status, 0)
+            self.assertEqual(written([exact, "replay", "--config", config], states), report, config)
+        words = ["exercise", "--config", CONFIG, "--seed", "7", "--moments", "100"]
+        self.assertEqual(written([exact, *words], b""), subprocess.run([program(), *words], stdin=subprocess.DEVNULL, stdout=subprocess.PIPE, check=True).stdout)
+
+    def test_a_leg_that_ends_as_heights_come_near(self):
+        """After 55 s, the whole lookahead of level 3, the heights are 450 feet apart for the first time, on a turn's last leg."""
+        states = b"format 2\nmoment 0\nown -2206 -353 4233 118 745 0\ntraffic A1 -2539 -4238 3060 578 2206 723 5\nend\n"
+        report = replayed(CONFIG, states)[1]
+        self.assertIn(b"\ntrack 300 355 3\n", report)
+        self.assertEqual(written([exact, "replay", "--config", CONFIG], states), report)
+
+    def test_each_model_of_the_volume(self):
+        """A level by each of the four, on moments drawn anew."""
+        with open(CONFIG, encoding="utf-8") as file:
+            text = file.read()
+        for seed, key in enumerate(("tau", "tcpa", "tep")):
+            path = os.path.join(folder.name, f"{key}.toml")
+            with open(path, "w", encoding="utf-8") as file:
+                file.write(re.sub(r"(?m)^(tcoa = .*)$", rf"\1\n{key} = 1", text))
+            self.assertEqual({level.model for level in read_config(path).levels}, {key})
+            states = aimed(40 + seed, 100)
+            self.assertEqual(written([exact, "replay", "--config", path], states), replayed(path, states)[1], key)
+
+
+class Floating(ToolTest):
+    def agreed(self, config, states, *words):
+        report = self.write("a.report", replayed(config, states)[1])
+        return self.tool("agree", "--float", floating, *words, config, self.write("in.states", states), report)
+
+    def test_as_the_formats_say_it_writes_nearly_the_same(self):
+        """Only what touches a threshold may be otherwise in floating point: of 400 moments, at most two."""
+        for seed, config in enumerate(CONFIGS):
+            states = aimed(10 + seed, 100)
+            one, other = (agree.chunks_of(report, "") for report in (replayed(config, states)[1], written([floating, "replay", "--config", config, "--formats"], states)))
+            self.assertEqual(list(one), list(other))
+            differ = [time for time in one if one[time] != other[time]]
+            self.assertLessEqual(len(differ), 2, (config, differ))
+
+    def test_each_difference_has_a_cause(self):
+        """The example differs in nothing but 4 of its 19 moments: in a ground speed, vertical speeds and altitudes."""
+        with open(ENCOUNTER, "rb") as file:
+            states = file.read()
+        status, out, said = self.agreed(CONFIG, states, "--worst", os.path.join(self.folder, "worst"))
+        self.assertEqual((status, said), (0, ""))
+        self.assertLessEqual({"19 moments", "a band differs in 4 moments, 21.1 %", "track: 0 of 1368 differ", "alt: 100 of 1919 differ, 5.2 %: no ramps 100"},
+                             set(out.splitlines()))
+        self.assertIn("\nfirst second: moment 20 vs -1200: 3 and 1\n", out)
+        with open(os.path.join(self.folder, "worst"), encoding="utf-8") as file:
+            worst = file.read()
+        self.assertIn("# no ramps: moment 30 alt 0: 1 and 3 (the report, and floating point)\nmoment 30\n", worst)
+
+    def test_a_difference_without_a_cause_is_a_finding(self):
+        """Here the report has a level that no flight has."""
+        with open(ENCOUNTER, "rb") as file:
+            states = file.read()
+        report = replayed(CONFIG, states)[1].replace(b"track 0 5 3\ntrack 10 180 0\n", b"track 0 10 3\ntrack 15 180 0\n", 1)
+        status, out, _ = self.tool("agree", "--float", floating, CONFIG, self.write("in.states", states), self.write("a.report", report))
+        self.assertEqual(status, 1)
+        self.assertIn("\nnone: moment 0 track 10: 3 and 0\n", out)
+
+    def test_what_is_not_of_these_states(self):
+        with open(ENCOUNTER, "rb") as file:
+            states = file.read()
+        report = replayed(CONFIG, states)[1]
+        for text, part in ((report.replace(b"moment 10\n", b"moment 11\n").replace(b"done 10\n", b"done 11\n"), "has not the moments of"),
+                           (b"refused 1 2\n" + report, "a line was refused")):
+            status, out, said = self.tool("agree", "--float", floating, CONFIG, self.write("in.states", states), self.write("a.report", text))
+            self.assertEqual((status, out), (4, ""))
+            self.assert_one_line(said, part)
+
+    def test_the_tables_of_the_documents(self):
+        """The moments of examples/differences.states are otherwise in floating point, as their comments tell."""
+        path = os.path.join(TOP, "examples", "differences.states")
+        with open(path, "rb") as file:
+            states = file.read()
+        one, other = (agree.chunks_of(report, "") for report in (replayed(CONFIG, states)[1], written([floating, "replay", "--config", CONFIG], states)))
+        told = re.findall(r"^# ([a-z ]+): moment (\d+) (\w+) (\S+): (\d) and (\d) ", states.decode(), re.M)
+        self.assertGreaterEqual(len(told), 5)
+        for _, time, kind, value, level, other_level in told:
+            for chunk, wanted in ((one, level), (other, other_level)):
+                key = (kind, value if kind == "alert" else int(value))
+                self.assertEqual(agree.value_of(agree.moment_of(chunk[int(time)]), key), int(wanted), (time, kind, value))
+
+
+class Compared(ToolTest):
+    def test_compare_ends_well_on_little(self):
+        words = [sys.executable, "-B", os.path.join(TOP, "bench", "compare"), "--moments", "20", "--runs", "1", "--config", CONFIG, "--program"]
+        ran = subprocess.run([*words, program()], capture_output=True, text=True, timeout=120)
+        self.assertEqual((ran.returncode, ran.stderr), (0, ""), ran.stdout)
+        self.assertTrue(ran.stdout.endswith("the exact program writes the program's text\n"), ran.stdout)
+        ran = subprocess.run([*words, "/bin/false"], capture_output=True, text=True, timeout=120)
+        self.assertEqual(ran.returncode, 1)
+        self.assertIn("FAILED", ran.stdout + ran.stderr)
+
+
+if __name__ == "__main__":
+    unittest.main()
