@@ -144,6 +144,7 @@ struct Volume {
 struct Piece {
     double begin, seconds;
     Vector place, velocity;
+    bool is_waiting = false;  // the present flight before a manoeuvre: it is straight, so that it is tested at every instant
 };
 
 // How a candidate is flown: the first `shared` pieces of its side, pieces of its own, and from `end` on straight.
@@ -240,7 +241,7 @@ class Engine {
     bool meets(const Piece &piece, size_t other, const Volume &volume, double from) const {
         if (piece.begin >= volume.lookahead || piece.begin + piece.seconds <= from) return false;
         const Vector s = piece.place - (there_[other] + piece.begin * their_[other]), v = piece.velocity - their_[other];
-        if (!style_.all_fractions) return piece.begin >= from && volume.is_violated(s, v);
+        if (!style_.all_fractions && !piece.is_waiting) return piece.begin >= from && volume.is_violated(s, v);
         return volume.first_violation(s, v, std::max(from - piece.begin, 0.0), std::min(piece.seconds, volume.lookahead - piece.begin)) != NEVER;
     }
 
@@ -273,7 +274,7 @@ class Engine {
         for (auto &side : sides_) side.clear();
         const Vector begin = begin_ + wait * present_;
         if (wait > 0)
-            for (auto &side : sides_) side.push_back({0, wait, begin_, present_});
+            for (auto &side : sides_) side.push_back({0, wait, begin_, present_, true});
         std::array<double, 2> most{};
         for (const int64_t value : config_.values[kind]) {
             const double right = static_cast<double>((value - moment_->own.trk + 360) % 360);

@@ -8,6 +8,7 @@ import unittest
 
 from common import CONFIG, ENCOUNTER, TOP, ToolTest, module, program, replayed
 from daidalus_files import read_config
+import counting  # (in a folder that common names)
 
 compare = module("bench/compare")
 moments = module("tools/moments")
@@ -24,6 +25,7 @@ def aimed(seed, count):
 
 
 def setUpModule():
+    counting.need("c++")
     global folder, exact, floating
     folder = tempfile.TemporaryDirectory()
     exact, floating = (compare.built(folder.name, name) for name in ("exact", "float"))
@@ -59,7 +61,7 @@ class Exact(unittest.TestCase):
     def test_each_model_of_the_volume(self):
         """A level by each of the four, on moments drawn anew."""
         with open(CONFIG, encoding="utf-8") as file:
-            text = file.read()
+            text = re.sub(r"(?m)^(tau|tcpa|tep) = 0.*\n", "", file.read())
         for seed, key in enumerate(("tau", "tcpa", "tep")):
             path = os.path.join(folder.name, f"{key}.toml")
             with open(path, "w", encoding="utf-8") as file:
@@ -94,7 +96,8 @@ class Floating(ToolTest):
         self.assertIn("\nfirst second: moment 20 vs -1200: 3 and 1\n", out)
         with open(os.path.join(self.folder, "worst"), encoding="utf-8") as file:
             worst = file.read()
-        self.assertIn("# no ramps: moment 30 alt 0: 1 and 3 (the report, and floating point)\nmoment 30\n", worst)
+        self.assertIn("# no ramps: moment 30 alt 0: 1 and 3 (the report, and floating point)\n", worst)
+        self.assertIn("\nmoment 30\nown 0 3000 10000 0 3600 0\n", worst)
 
     def test_a_difference_without_a_cause_is_a_finding(self):
         """Here the report has a level that no flight has."""
