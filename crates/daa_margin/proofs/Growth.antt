@@ -391,8 +391,11 @@ module _ (leg : Leg) (inner outer : Volume) (bounds : ErrorBounds) (w : IsVolume
         way0 : pos 0 ≤ℤ (pos inner.tthr *ℤ d)
         way0 = mul_nonneg (pos inner.tthr) d (natural0 inner.tthr) d0
 
+        two0 : pos 0 ≤ℤ (pos 2 *ℤ h.speed)
+        two0 = mul_nonneg (pos 2) h.speed (natural0 2) h.speed_is.from
+
         q0 : pos 0 ≤ℤ speed_squared h.speed
-        q0 = sum_nonneg _ _ (sum_nonneg _ _ (len_nonneg v.east v.north) (mul_nonneg _ _ (mul_nonneg (pos 2) h.speed (natural0 2) h.speed_is.from) (natural0 bounds.speed))) (square_nonneg (pos bounds.speed))
+        q0 = sum_nonneg _ _ (sum_nonneg _ _ (len_nonneg v.east v.north) (mul_nonneg _ _ two0 (natural0 bounds.speed))) (square_nonneg (pos bounds.speed))
 
         self : (z : ℤ) → z ≤ℤ z
         self z = omega (arith, ints)
