@@ -11,7 +11,7 @@ from shared import HERE, Page
 
 
 PROBE = "process.exit(WebAssembly.validate(new Uint8Array([0, 97, 115, 109, 1, 0, 0, 0, 5, 3, 1, 4, 1])) ? 0 : 1)"
-HOW = "a node with 64-bit WebAssembly memory is missing (node 20 or later: nodejs.org, or the package nodejs where it is that new)"
+HOW = "a node with 64-bit WebAssembly memory is missing (node 18 or later; Debian: nodejs)"
 
 
 def node_words():

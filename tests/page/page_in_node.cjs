@@ -6,7 +6,9 @@
 "use strict";
 const fs = require("fs");
 const path = require("path");
+const { Duplex } = require("stream");
 const vm = require("vm");
+const zlib = require("zlib");
 
 const folder = process.argv[2];
 const textOf = (name) => fs.readFileSync(path.join(folder, name), "utf8");
@@ -77,6 +79,12 @@ Object.assign(globalThis, { location: { hash: "", href: "file:///page/index.html
   cancelAnimationFrame: clearTimeout, ResizeObserver: class { observe() {} }, addEventListener: Element.prototype.addEventListener.bind(parts),
   DOMPoint: class { constructor(x, y) { Object.assign(this, { x, y }); } matrixTransform() { return this; } } });
 delete globalThis.Worker; // so that the page itself answers
+try {
+  new CompressionStream("deflate-raw");
+} catch { // (node before 20.12 has no such streams of its own: zlib's stand in)
+  globalThis.CompressionStream = class { constructor() { return Duplex.toWeb(zlib.createDeflateRaw()); } };
+  globalThis.DecompressionStream = class { constructor() { return Duplex.toWeb(zlib.createInflateRaw()); } };
+}
 
 for (const [, name] of textOf("index.html").matchAll(/<script src="([^"]+)">/g)) vm.runInThisContext(textOf(name), name);
 
