@@ -1,4 +1,5 @@
-//! Two boards of one moment joined, each of some of its aircraft: so a moment may have more than 64.
+//! Two boards of one moment joined, each of some of its aircraft, so that a moment may have more
+//! than 64.
 
 ghost use Rattle.std.specs.Prelude.{◌≡◌, ◌≢◌, ◌⊎◌, pos};
 ghost use Rattle.daa_numbers.specs.Boards.{AreJoined, IsJoinedTo};
