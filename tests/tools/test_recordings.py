@@ -192,6 +192,15 @@ class Options(RecordingTest):
         self.assertIn("heights are mixed: ", said)
         self.assertNotIn("heights are mixed", self.from_daa(first, second, "--leave-out", "4B0001", "--altitude", "geom")[2])
 
+    def test_how_old_a_position_is(self):
+        """By seen_pos in aircraft.json; a time in milliseconds and the list `ac`, as some of its kin write them, are the same."""
+        one = '{{"hex":"{}","alt_baro":3000,"gs":100,"track":0,"baro_rate":0,"lat":{},"lon":8,"seen_pos":{}}}'
+        held = f"[{one.format('4b0001', 47, 0)},{one.format('4b0002', 47.1, 3)}]"
+        for text in (f'{{"now":1700000003,"aircraft":{held}}}', f'{{"now":1700000003000,"ac":{held}}}'):
+            reader, said = self.made(text, name="aircraft.json")
+            self.assertEqual([(moment.time, [(aircraft.id, aircraft.age) for aircraft in moment.traffic]) for moment in reader.events],
+                             [(1700000003, [("4B0002", 3)])], said)
+
     def test_quiet(self):
         """Tells what is wrong or lacking, and nothing else."""
         said = self.made(IN_PART["no_number.csv"][0], "--quiet")[1]
