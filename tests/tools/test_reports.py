@@ -20,6 +20,8 @@ compare = module("tools/compare")
 # What is in tools/ and makes a part of the repository: no page for users names it.
 MAKERS = {"build", "install", "package", "page_module", "prove"}
 IN_NODE = {"replay"}
+# For makers of flight software: it reads an archive, and has statuses of its own.
+OF_ARCHIVES = {"stack"}
 
 
 def tools_for_users():
@@ -28,8 +30,8 @@ def tools_for_users():
 
 
 KEEP = "resolve gs down keep up keep\nresolve vs down keep up keep\nresolve alt down keep up keep\n"
-TOOLS = ("agree", "check", "compare", "draw", "encounters", "from_daa", "from_parameters", "geojson", "moments", "reference", "steady", "summary", "table",
-         "volume")
+TOOLS = ("agree", "check", "compare", "draw", "encounters", "from_daa", "from_parameters", "from_sbs", "geojson", "moments", "reference", "steady", "summary",
+         "table", "volume")
 # A line, and one that may not follow it, since its moment has such a line already.
 TWICE = (("alert A 2 43", "now A 1"), ("alert A 2 43", "alert A 2 43"), ("recover track 12 40", "resolve gs down keep up keep"),
          ("recover track 12 40", "recover track none"), ("alert A 2 0", "steady A 1\nsteady A 2"), ("recover track 12 40", "last gs 1\nlast gs none"))
@@ -470,7 +472,7 @@ class Pipes(unittest.TestCase):
             self.assertLessEqual(max(map(len, out.stdout.splitlines())), 128, tool)
 
     def test_the_list_of_tools_is_whole(self):
-        self.assertEqual(tools_for_users(), {*TOOLS, *IN_NODE})
+        self.assertEqual(tools_for_users(), {*TOOLS, *IN_NODE, *OF_ARCHIVES})
 
     def test_the_program_is_there(self):
         self.assertTrue(os.access(program(), os.X_OK))
