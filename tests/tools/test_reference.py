@@ -3,6 +3,7 @@ import itertools
 import os
 import pty
 import random
+import select
 import subprocess
 import sys
 import unittest
@@ -419,16 +420,21 @@ class AgainstTheProgram(ToolTest):
         self.assertEqual((status, said, out.count("done")), (0, "", 2))
         self.assertEqual(replayed(CONFIG, states)[1].decode(), out)
 
-    def test_a_terminal_shows_the_moment_at_hand(self):
-        """And is left as it was; the report is the same. (Here it is two refused lines, which take no time.)"""
+    def test_a_terminal_shows_how_many_moments_are_done(self):
+        """Here after no second at all, of two refused lines. The terminal is left as it was, and the report is the same."""
         states = self.write("in.states", b"end\nend\n")
+        begin = "import progress, runpy, sys; progress.AFTER = progress.EVERY = 0; sys.argv = ['reference', *sys.argv[1:]]; runpy.run_path({!r}, run_name='__main__')"
+        words = [sys.executable, "-B", "-c", begin.format(os.path.join(TOP, "tools", "reference")), CONFIG, states]
         ours, theirs = pty.openpty()
-        run = subprocess.run([sys.executable, "-B", os.path.join(TOP, "tools", "reference"), CONFIG, states], stdout=subprocess.PIPE, stderr=theirs, timeout=120)
-        os.close(theirs)
-        shown = os.read(ours, 4096)
-        os.close(ours)
+        run = subprocess.run(words, env={**os.environ, "PYTHONPATH": os.path.join(TOP, "tools")}, stdout=subprocess.PIPE, stderr=theirs, timeout=120)
         erase = b"\r\x1b[K"
-        self.assertEqual(shown, erase + b"reference: moment 1 of 2" + erase + erase + b"reference: moment 2 of 2" + erase)
+        wanted = erase + b"reference: moments: 0 %" + erase + erase + b"reference: moments: 50 %" + erase
+        said = b""
+        while len(said) < len(wanted) and select.select([ours], [], [], 10)[0]:
+            said += os.read(ours, 4096)
+        os.close(theirs)
+        os.close(ours)
+        self.assertEqual(said, wanted)
         self.assertEqual((run.returncode, run.stdout.decode()), self.tool("reference", CONFIG, states)[:2])
 
     def test_refused_lines_and_errors(self):
