@@ -73,8 +73,10 @@ def tell(words):
     """A line on standard error, where there is one, also where a name in it has a line feed."""
     progress.clear()
     if sys.stderr is not None:
-        with contextlib.suppress(OSError):
-            print(re.sub(r"[\x00-\x1f\x7f]", lambda it: ascii(it[0])[1:-1], words), file=sys.stderr)
+        try:
+            print(re.sub(r"[\x00-\x1f\x7f]", lambda it: ascii(it[0])[1:-1], words), file=sys.stderr, flush=True)
+        except OSError:  # what is held back would fail once more at the end, and change the status
+            os.dup2(os.open(os.devnull, os.O_WRONLY), sys.stderr.fileno())
 
 
 def standard_input():

@@ -397,7 +397,7 @@ class Pipes(unittest.TestCase):
                 file.write("".join(REPORT.replace("moment 0", f"moment {time}").replace("done 0", f"done {time}").split("refused")[0] for time in range(9)))
             for words in tools:
                 run = subprocess.run(["bash", "-c", f"ulimit -f 1; exec tools/{words.replace('REPORT', report)} >{cut}"], cwd=TOP, capture_output=True, text=True,
-                                     env={**os.environ, "PYTHONUNBUFFERED": "1"})
+                                     env={**os.environ, "PYTHONUNBUFFERED": "1", "PYTHONDONTWRITEBYTECODE": "1"})  # a cached module would be cut too
                 self.assertEqual((run.returncode, os.path.getsize(cut)), (5, 1024), words)
                 self.assertTrue(run.stderr.endswith(f"{words.split()[0]}: the output: File too large\n"), run.stderr)
 
