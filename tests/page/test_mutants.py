@@ -128,7 +128,6 @@ MUTANTS = [
      "test_sight.Sight.test_a_range_that_is_chosen_is_fixed_until_it_may_follow_again"),
     ("the ownship is drawn over what alerts", "handles.js", "...ownHandles(view, model), ...made(rest.filter(isLoud)),", "...made(rest.filter(isLoud)), ...ownHandles(view, model),",
      "test_sight.Sight.test_what_alerts_is_in_the_range_and_over_the_ownship"),
-    ("labels cover answers", "compass.js", "const ANSWER = 20;", "const ANSWER = 0;", "test_browser.Layout.test_two_displays"),
     ("keys mean nothing at a list", "hands.js", 'const TYPES = "textarea,', 'const TYPES = "select, textarea,',
      "test_browser.Obeyed.test_keys_count_wherever_the_focus_is_but_where_letters_are_typed"),
     ("a button's plus is farther", "state.js", '${button("wide", "−", "Greater range")}<span data-is="range"></span>${button("near", "+", "Smaller range")}',
