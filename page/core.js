@@ -69,9 +69,21 @@ function daaCore(root) {
   /** The engine stopped in a call, as no call should; it has been made anew since. */
   class Stopped extends Error {}
 
+  const isComment = (line) => line[line.findIndex((byte) => byte !== BLANK && byte !== TABULATOR)] === NUMBER_SIGN;
+
+  function joined(one, other) {
+    const both = new Uint8Array(one.length + other.length);
+    both.set(one);
+    both.set(other, one.length);
+    return both;
+  }
+
+  /** What times are, by a comment `# clock utc` or `# clock day`; nothing where a line is none. */
+  const clockIn = (line) => (isComment(line) ? /^#[ \t]+clock[ \t]+(utc|day)$/.exec(new TextDecoder().decode(line).trim())?.[1] ?? "" : "");
+
   /** A line that is a comment of a moment, as docs/FORMATS.md has them: whom it lacks, or where it is. */
   function commentIn(line) {
-    if (line[line.findIndex((byte) => byte !== BLANK && byte !== TABULATOR)] !== NUMBER_SIGN) return [];
+    if (!isComment(line)) return [];
     const text = new TextDecoder().decode(line).trim();
     return /^#[ \t]+(lacks|origin)[ \t]/.test(text) ? [text] : [];
   }
@@ -173,27 +185,9 @@ function daaCore(root) {
 
     // ---- state lines
 
-    /** The ended moments and the refused lines of state lines, of bytes, in their order. What a line says, or why it is
-     *  refused, is the engine's answer; here the text is only cut at its line feeds, and comments are read. */
+    /** The ended moments and the refused lines of state lines, of bytes, in their order. */
     readStates(bytes) {
-      const events = [];
-      let number = 0;
-      let comments = []; // those of the open moment that mean something
-      this.bytes.fill(0, this.places.lines, this.places.lines + SIZES.lines);
-      for (let start = 0; start < bytes.length; number++) {
-        const feed = bytes.indexOf(LINE_FEED, start);
-        const end = feed < 0 ? bytes.length : feed;
-        const line = bytes.subarray(start, Math.min(end, start + LONGEST_LINE));
-        const wasOpen = this.lineNumber("opened");
-        const code = this.takeLine(line);
-        if (code === ENDED) events.push({ moment: { ...this.takenMoment(), comments } });
-        else if (code) events.push({ refused: number + 1, code });
-        if (!wasOpen || code === ENDED) comments = [];
-        else comments.push(...commentIn(line));
-        start = end + 1;
-      }
-      if (this.lineNumber("opened")) events.push({ refused: number + 1, code: OPEN_AT_THE_END });
-      return events;
+      return [...new StateLines(this).take(bytes, true)];
     }
 
     takeLine(line) {
@@ -258,6 +252,43 @@ function daaCore(root) {
     }
   }
 
+  /** State lines that come in pieces. What a line says, or why it is refused, is the engine's answer; here the text is only cut at its line
+   *  feeds, and comments are read. An engine reads one text at a time. */
+  class StateLines {
+    constructor(engine) {
+      const { bytes, places } = engine;
+      Object.assign(this, { engine, number: 0, comments: [], rest: new Uint8Array(0), clock: "" });
+      bytes.fill(0, places.lines, places.lines + SIZES.lines);
+    }
+
+    /** The events of a piece: `moment`, or the number of a line that is `refused` and its code. */
+    *take(piece, isLast) {
+      const bytes = this.rest.length ? joined(this.rest, piece) : piece;
+      let start = 0;
+      while (start < bytes.length) {
+        const feed = bytes.indexOf(LINE_FEED, start);
+        if (feed < 0 && !isLast) break;
+        const end = feed < 0 ? bytes.length : feed;
+        yield* this.line(bytes.subarray(start, Math.min(end, start + LONGEST_LINE)));
+        start = end + 1;
+      }
+      this.rest = bytes.slice(Math.min(start, bytes.length)).slice(0, LONGEST_LINE); // of a line that is longer the rest says nothing
+      if (isLast && this.engine.lineNumber("opened")) yield { refused: this.number + 1, code: OPEN_AT_THE_END };
+    }
+
+    *line(line) {
+      const { engine } = this;
+      this.number += 1;
+      const wasOpen = engine.lineNumber("opened");
+      const code = engine.takeLine(line);
+      if (code === ENDED) yield { moment: { ...engine.takenMoment(), comments: this.comments } };
+      else if (code) yield { refused: this.number, code };
+      if (!wasOpen || code === ENDED) this.comments = [];
+      else this.comments.push(...commentIn(line));
+      if (!wasOpen) this.clock ||= clockIn(line);
+    }
+  }
+
   /** The numbers of a configuration, as its struct has them. */
   class Config {
     constructor(bytes) {
@@ -301,7 +332,7 @@ function daaCore(root) {
 
   const bytesOf = (text) => new TextEncoder().encode(text);
 
-  root.daa = Object.assign(root.daa || {}, { Engine, Config, Refused, Stopped, TOP, GRID, LEVEL, RECOVERY, OPTIONAL, KINDS, CAUSES,
+  root.daa = Object.assign(root.daa || {}, { Engine, StateLines, Config, Refused, Stopped, TOP, GRID, LEVEL, RECOVERY, OPTIONAL, KINDS, CAUSES,
     MOST_AIRCRAFT, readReport, bytesOf, lacksOf });
 }
 daaCore(globalThis);

@@ -16,10 +16,12 @@ function daaWorker(scope) {
 }
 
 function daaAnswer(root) {
-  /** The answer to a question, in plain values: the report, what was refused, or that the engine stopped. */
-  root.daa.answerOf = (engine, { config, moment }) => {
+  /** The answer to a question, in plain values: of a moment the report, what was refused, or that the engine stopped; of a part of a recording its
+   *  notes. */
+  root.daa.answerOf = (engine, { config, moment, part }) => {
     const before = performance.now();
     try {
+      if (part) return { notes: root.daa.notesOf(engine, config, part), took: performance.now() - before };
       return { text: engine.report(config, moment), took: performance.now() - before };
     } catch (problem) {
       if (problem instanceof daa.Refused) return { code: problem.code, fault: problem.fault };
@@ -47,10 +49,7 @@ daaAnswer(globalThis);
       this.ready = false;
       this.busy = null;
       try {
-        const script = `"use strict";\n${[daaCore, daaAnswer].map((part) => `(${part})(self);\n`).join("")}(${daaWorker})(self);`;
-        const address = URL.createObjectURL(new Blob([script], { type: "text/javascript" }));
-        this.worker = new Worker(address);
-        URL.revokeObjectURL(address);
+        this.worker = workerOf([daaCore, daaMoments, daaAnswer], daaWorker);
       } catch {
         this.answerHere();
         return;
@@ -109,5 +108,15 @@ daaAnswer(globalThis);
     }
   }
 
-  root.daa.Desk = Desk;
+  /** A worker that runs some of the page's functions, each over its own global object, and lines of script. */
+  function workerOf(parts, main) {
+    const text = parts.map((part) => (typeof part === "string" ? `${part}\n` : `(${part})(self);\n`)).join("");
+    const script = `"use strict";\n${text}(${main})(self);`;
+    const address = URL.createObjectURL(new Blob([script], { type: "text/javascript" }));
+    const worker = new Worker(address);
+    URL.revokeObjectURL(address);
+    return worker;
+  }
+
+  Object.assign(root.daa, { Desk, workerOf });
 })(globalThis);

@@ -3,7 +3,8 @@
 (function () {
   const { ui } = daa;
   const { wrap, unplan, scaleOf, vectorSeconds } = daa;
-  const { state, within, shownViews, changed, lookOf, restore, edited, choose, partsOf, aircraftOf, play, goTo, act, remove } = ui;
+  const { state, within, shownViews, changed, lookOf, restore, edited, choose, partsOf, aircraftOf, play, goTo, act, remove,
+    undoLast, redoLast, alertAfter, alertBefore, differenceAfter, differenceBefore } = ui;
 
   // ---- moving things: by the pointer
 
@@ -93,10 +94,11 @@
   }
 
   /** Where the page is higher than the window a wheel scrolls it. */
-  const scrolls = () => {
+  function scrolls() {
     const { scrollHeight, clientHeight } = document.documentElement;
     return scrollHeight > clientHeight;
-  };
+  }
+  ui.scrolls = scrolls;
 
   for (const figure of document.querySelectorAll("figure")) {
     const svg = figure.querySelector("svg");
@@ -195,12 +197,24 @@
   const TYPES = "textarea, input:not([type=checkbox], [type=range], [type=file])"; // where letters are typed
   const PRESSED = "textarea, select, input:not([type=range]), button, summary, [role=group][tabindex='0']"; // what the space bar presses or scrolls
 
+  const CHOOSES = `select, ${TYPES}`; // where a letter chooses, or is typed
+
+  /** Undo and redo, but where a text has its own. */
+  function undoes(event) {
+    const isRedo = event.key.toLowerCase() === "y" || event.shiftKey;
+    if (!["z", "y"].includes(event.key.toLowerCase()) || event.altKey || event.target.closest(TYPES)) return;
+    event.preventDefault();
+    (isRedo ? redoLast : undoLast)();
+  }
+
   document.addEventListener("keydown", (event) => {
+    if (event.ctrlKey || event.metaKey) undoes(event);
     if (event.ctrlKey || event.metaKey || event.altKey) return;
-    if (event.key !== "Escape" && event.target.closest(event.key === " " ? PRESSED : TYPES)) return;
+    const isLetter = /^[a-z]$/i.test(event.key);
+    if (event.key !== "Escape" && event.target.closest(event.key === " " ? PRESSED : isLetter ? CHOOSES : TYPES)) return;
     const range = (what) => () => shownViews().forEach((view) => act(what, view, true));
     const does = { " ": play, ",": () => goTo(state.index - 1), ".": () => goTo(state.index + 1), Escape: giveUp,
-      "+": range("near"), "-": range("wide"), 0: range("fit") }[event.key];
+      "+": range("near"), "-": range("wide"), 0: range("fit"), n: alertAfter, N: alertBefore, d: differenceAfter, D: differenceBefore }[event.key];
     if (!does) return;
     event.preventDefault();
     does();

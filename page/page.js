@@ -2,12 +2,10 @@
 "use strict";
 (function () {
   const { ui } = daa;
-  const { Engine, Refused, Desk, MODELS, VIEW_HEIGHTS, clamp, draw, bytesOf } = daa;
-  const { $, RANGES_NM, state, setText, setHtml, fill, download, changed, faultOf, lookOf, modelOf, survey, go, pause,
-    fitting, chip } = ui;
+  const { Engine, Refused, Desk, MODELS, VIEW_HEIGHTS, draw, bytesOf } = daa;
+  const { $, RANGES_NM, state, setText, setHtml, fill, download, changed, faultOf, lookOf, modelOf, chip } = ui;
   const PICTURE = { width: 1240, height: 760 };
   const FROM_A_LINK = "opened from a link, which holds this one moment";
-  const MOST_NOTES = 5; // so many of the things that a moment lacks are told one by one
   const MISSING = "This page needs a browser with 64-bit WebAssembly memory: Chrome, Edge or Chromium from version 133 on, or "
     + "Firefox from 134 on. The engine is compiled for it, and this browser cannot run it, so nothing is shown.";
 
@@ -27,9 +25,18 @@
       return false;
     }
     Object.assign(view, { name, taken: view.toml, edition: view.edition + 1 });
-    if (place === 0 && state.moments.length) survey();
+    if (state.moments && (place === 0 || state.compare)) ui.survey();
     changed();
     return true;
+  }
+
+  /** Takes a file's configuration; one that is refused is shown, so that its fault can be mended. */
+  function loadConfig(bytes, name, place) {
+    const taken = configure(place, bytes, name);
+    $("which").value = String(place);
+    showConfig();
+    if (!taken) $("configuration").open = true;
+    return taken;
   }
 
   const whichView = () => state.views[Number($("which").value)];
@@ -79,149 +86,8 @@
   $("save-config").addEventListener("click", () => download(new Blob([$("toml").value], { type: "text/plain" }), "configuration.toml"));
   $("compare").addEventListener("change", ({ target }) => {
     state.compare = target.checked;
+    ui.survey();
     changed();
-  });
-
-  // ---- state lines, recordings and examples
-
-  /** Tells of a file that is not taken, until another one is opened. */
-  function tell(words) {
-    state.untaken = words;
-    changed();
-  }
-
-  /** What a moment lacks in words: each thing, or of many the first few, and how many more. */
-  function wordsOfLack(things, rest) {
-    if (things.length <= MOST_NOTES + 1) return things.join("; ");
-    return `${things.slice(0, MOST_NOTES).join("; ")}; ${things.length - MOST_NOTES} more ${rest}`;
-  }
-
-  /** What a moment's comments say that it lacks, in words. */
-  const wordsOfLacks = (moment) => daa.lacksOf(moment).map(({ id, why }) => `without ${id === "*" ? "" : `${id}: `}${why}`);
-
-  /** Takes a text of states, what is told of it and what else its moments lack; whether it has a moment. */
-  function loadStates(bytes, name, told = [], more = "") {
-    const events = state.engine.readStates(bytes);
-    const moments = events.filter((it) => it.moment).map((it) => it.moment);
-    if (!moments.length) {
-      const first = events.find((it) => it.refused);
-      tell(`${name} has no whole moment${first ? `; line ${first.refused} was refused with code ${first.code}` : ""}`);
-      return false;
-    }
-    const refused = [[]]; // before each moment, and after the last one
-    for (const event of events) {
-      if (event.moment) refused.push([]);
-      else refused[refused.length - 1].push(`line ${event.refused} was refused with code ${event.code}`);
-    }
-    const count = events.length - moments.length;
-    if (count) told = [...told, `${name}: ${count} ${count === 1 ? "line was" : "lines were"} refused`];
-    const faults = moments.map((_, index) => [wordsOfLack(refused[index], "were refused before this moment"), more].filter(Boolean).join("; "));
-    const lacks = moments.map((moment, index) => [faults[index], wordsOfLack(wordsOfLacks(moment), "are missing")].filter(Boolean).join("; "));
-    pause();
-    Object.assign(state, { moments, name, told, lacks, faults, index: 0, chosen: "p:", unfolded: false, untaken: "" });
-    $("slider").max = moments.length - 1;
-    for (const view of state.views) view.look.range = fitting(moments);
-    survey();
-    go(0);
-    return true;
-  }
-
-  const oldest = () => {
-    const typed = $("oldest").value;
-    return typed === "" ? daa.OLDEST : clamp(Math.round(Number(typed)) || 0, 0, daa.MOST_AGE);
-  };
-
-  /** Takes a recording of some files, seen from one of its aircraft; whether it has a moment. */
-  function loadRecording(files, own = null) {
-    const name = files.map((file) => file.name).join(", ");
-    try {
-      const made = daa.fromRecording(files, { own, oldest: oldest() });
-      const seen = made.names.length > 1 ? [`seen from ${made.own}${made.own === own ? "" : ", which is taken as the ownship"}`] : [];
-      state.recording = { files, own: made.own };
-      fill($("own"), made.names);
-      $("own").value = made.own;
-      return loadStates(bytesOf(made.states), name, [made.alone, ...made.faults, ...seen, ...made.notes].filter(Boolean), made.alone);
-    } catch (problem) {
-      if (!(problem instanceof daa.NoRecording)) throw problem;
-      tell(`${name}: ${problem.message}`);
-      return false;
-    }
-  }
-
-  /** Takes texts of states or of recordings; whether there is a moment. All recordings are one; of several files of states the first that
-   *  has a moment is taken, and of both kinds the recordings. The others are told. */
-  function load(files) {
-    const read = files.map(({ name, bytes }) => ({ name, bytes, text: new TextDecoder().decode(bytes) }));
-    const recordings = read.filter(({ text }) => daa.isRecording(text));
-    const untaken = [];
-    const left = recordings.length ? read.filter((file) => !recordings.includes(file)) : [...read];
-    let isTaken = recordings.length > 0 && loadRecording(recordings);
-    if (recordings.length && !isTaken) untaken.push(state.untaken);
-    while (!recordings.length && !isTaken && left.length) {
-      const { bytes, name } = left.shift();
-      isTaken = loadStates(bytes, name);
-      if (!isTaken) untaken.push(state.untaken);
-    }
-    if (isTaken) $("own-label").hidden = $("oldest-label").hidden = !recordings.length;
-    if (left.length) untaken.push(`not shown: ${left.map(({ name }) => name).join(", ")} (one file of state lines, or recordings, at a time)`);
-    tell(untaken.join("; "));
-    return isTaken;
-  }
-
-  function loadConfig(bytes, name) {
-    const taken = configure(0, bytes, name);
-    $("which").value = "0";
-    showConfig();
-    if (!taken) $("configuration").open = true;
-    return taken;
-  }
-
-  let opened = 0; // how often something was opened: what is read late gives way to what was opened after it
-
-  function takeExample(name) {
-    const { config, states } = daa.examples.encounters[name];
-    opened += 1;
-    configure(0, daa.examples.configs[config], config);
-    load([{ name: states, bytes: bytesOf(daa.examples.files[states]) }]);
-    showConfig();
-  }
-
-  async function takeFiles(files) {
-    if (!files.length) return; // as where a piece of text was dropped
-    const mine = ++opened;
-    const isConfig = (file) => /\.toml$/i.test(file.name);
-    const read = await Promise.all([...files].map(async (file) => ({ name: file.name, isConfig: isConfig(file),
-      bytes: await file.arrayBuffer().then((buffer) => new Uint8Array(buffer), () => null) })));
-    if (mine !== opened) return;
-    const unread = read.filter(({ bytes }) => !bytes).map(({ name }) => `${name} cannot be read`); // as a folder
-    const whole = read.filter(({ bytes }) => bytes);
-    tell("");
-    const taken = whole.filter((it) => it.isConfig).map(({ bytes, name }) => loadConfig(bytes, name));
-    const flights = whole.filter((it) => !it.isConfig);
-    if (flights.length) taken.push(load(flights));
-    tell([...unread, state.untaken].filter(Boolean).join("; "));
-    if (taken.some(Boolean)) $("example").value = "";
-  }
-
-  $("example").addEventListener("change", ({ target }) => takeExample(target.value));
-  $("own").addEventListener("change", ({ target }) => {
-    loadRecording(state.recording.files, target.value);
-    $("own").value = state.recording.own; // the one before, where none can be seen from this one
-  });
-  $("oldest").addEventListener("change", ({ target }) => {
-    target.value = oldest();
-    if (state.recording) loadRecording(state.recording.files, state.recording.own);
-  });
-  $("file").addEventListener("change", async ({ target }) => {
-    await takeFiles(target.files);
-    target.value = "";
-  });
-  const isForText = ({ target, dataTransfer }) => !dataTransfer.types.includes("Files") && target.closest("input, textarea");
-  addEventListener("dragover", (event) => { if (!isForText(event)) event.preventDefault(); });
-  addEventListener("drop", (event) => {
-    if (isForText(event)) return;
-    event.preventDefault();
-    takeFiles(event.dataTransfer.files);
   });
 
   // ---- a link that holds the moment
@@ -229,8 +95,9 @@
   function linked() {
     const configs = state.views.map(({ name, taken }) => ({ name, toml: taken }));
     const { note: name } = modelOf(state.views[0]); // of a moment that was changed by hand no name of a recording
-    const { told, faults, index, compare } = state; // what comments say stands in the state lines
-    return { states: daa.stateLines([state.current]), name, told, lacks: faults[index], configs, look: state.views.map(({ look }) => look), compare };
+    const { told, alone, moments, index, compare } = state; // what comments say stands in the state lines
+    const lacks = [moments.fault(index), alone].filter(Boolean).join("; ");
+    return { states: daa.stateLines([state.current]), name, told, lacks, configs, look: state.views.map(({ look }) => look), compare };
   }
 
   /** Whether a link's value has the form of what `linked` makes. */
@@ -246,12 +113,12 @@
     if (hash === state.hash || hash !== location.hash) return false; // or another link came meanwhile
     if (!isLinked(held)) {
       state.hash = ""; // so that the link before is taken where the browser goes forward to it
-      if (hash.startsWith("#m=")) tell("the link holds no moment: is it whole?");
+      if (hash.startsWith("#m=")) ui.tell("the link holds no moment: is it whole?");
       return false;
     }
     const told = Array.isArray(held.told) ? held.told.map(String) : [];
-    opened += 1;
-    if (!loadStates(bytesOf(String(held.states)), String(held.name), told, String(held.lacks ?? ""))) return false;
+    ui.stopReading();
+    if (!ui.loadStates(bytesOf(String(held.states)), String(held.name), told, String(held.lacks ?? ""))) return false;
     if (!told.includes(FROM_A_LINK)) state.told = [FROM_A_LINK, ...told];
     state.hash = hash;
     held.configs.forEach(({ name, toml }, place) => configure(place, String(toml), String(name)));
@@ -336,7 +203,7 @@
   $("print").addEventListener("click", () => print());
   $("theme").addEventListener("change", ({ target }) => { document.documentElement.dataset.theme = target.value; });
 
-  ui.save = save;
+  Object.assign(ui, { save, configure, loadConfig, showConfig });
 
   // ---- the start
 
@@ -367,7 +234,8 @@
     const look = () => ({ auto: true, trackUp: false, range: 12, heights: 3000 });
     const [configs, encounters] = [Object.keys(daa.examples.configs), Object.keys(daa.examples.encounters)];
     state.views = [0, 1].map(() => ({ look: look(), desk: new Desk(module), edition: 0 }));
-    state.survey = new Desk(module);
+    state.surveys = [0, 1].map((place) => new ui.Survey(place, module));
+    state.module = module;
     fill($("example"), encounters);
     $("example").insertAdjacentHTML("beforeend", '<option value="" hidden>own files</option>');
     fill($("preset"), configs);
@@ -376,8 +244,8 @@
     configure(0, daa.examples.configs[configs[0]], configs[0]);
     if (!(await takeLink())) {
       const { untaken } = state;
-      takeExample(encounters[0]);
-      tell(untaken);
+      ui.takeExample(encounters[0]);
+      ui.tell(untaken);
     }
     new ResizeObserver(changed).observe($("displays"));
     addEventListener("resize", changed);

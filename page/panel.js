@@ -19,14 +19,16 @@
     const rows = traffic.map((one, place) => {
       const here = flown(one, one.age);
       const [east, north] = [(here.x - own.x) / 1000, (here.y - own.y) / 1000];
-      return { one, place, alert: said ? said.aircraft[place] : null, miles: Math.hypot(east, north),
+      const other = state.compare && saidOf(state.views[1])?.aircraft[place];
+      return { one, place, alert: said ? said.aircraft[place] : null, other, miles: Math.hypot(east, north),
         bearing: wrap(Math.round((Math.atan2(east, north) * 180) / Math.PI)), above: Math.round(one.alt + (one.vs * one.age) / 60 - own.alt) };
     });
     const urgency = ({ alert }) => (alert ? 1000 * Math.max(alert.level, alert.now) - (alert.first || 0) : 0);
     return rows.sort((a, b) => urgency(b) - urgency(a) || a.miles - b.miles);
   }
 
-  const isQuiet = ({ alert }) => !alert || (alert.level === 0 && alert.now === 0);
+  const isLoud = (alert) => Boolean(alert) && alert.level + alert.now > 0;
+  const isQuiet = ({ alert, other }) => !isLoud(alert) && !isLoud(other);
 
   function wordsOfAlert(alert) {
     if (!alert) return "–";
@@ -42,10 +44,13 @@
 
   const wordsOfAge = (one) => (isOld(one) ? ` <small>report ${one.age}\u00a0s old</small>` : "");
 
-  function rowHtml({ one, alert, miles, bearing, above }, chosen) {
+  /** What the second configuration says of an aircraft, where that is something else. */
+  const wordsOfOther = (alert, other) => (alert && other && wordsOfAlert(alert) !== wordsOfAlert(other) ? ` ≠ ${wordsOfAlert(other)}` : "");
+
+  function rowHtml({ one, alert, other, miles, bearing, above }, chosen) {
     const sign = above > 0 ? "+" : above < 0 ? "−" : "";
     const button = choiceHtml(one.id || "(no name)", one === chosen, one);
-    return `<tr class="${one === chosen ? "chosen" : ""}">${button}<td>${wordsOfAlert(alert)}${wordsOfAge(one)}</td>`
+    return `<tr class="${one === chosen ? "chosen" : ""}">${button}<td>${wordsOfAlert(alert)}${wordsOfOther(alert, other)}${wordsOfAge(one)}</td>`
       + `<td>${miles.toFixed(2)}</td><td>${String(bearing).padStart(3, "0")}</td><td>${sign}${Math.abs(above)}</td></tr>`;
   }
 
@@ -60,6 +65,7 @@
     const climb = own.vs ? ` · ${own.vs} ft/min` : "";
     const first = `<tr class="own ${chosen ? "" : "chosen"}">${choiceHtml("ownship", !chosen)}`
       + `<td colspan="4">${own.trk}° · ${own.gs / 10} kt · ${own.alt} ft${climb}</td></tr>`;
+    setText($("differs"), wordsOfDifference(said, state.compare ? saidOf(state.views[1]) : null));
     const focused = document.activeElement.dataset.choose;
     const isNew = setHtml($("aircraft").tBodies[0], first + shown.map((row) => rowHtml(row, chosen)).join(""));
     const again = isNew && focused !== undefined && document.querySelector(`[data-choose="${CSS.escape(focused)}"]`);
@@ -67,6 +73,17 @@
     $("rest").hidden = !folds;
     const without = `without an ${said ? "alert" : "answer"}`;
     setText($("rest"), state.unfolded ? `Fold those ${without}` : `${traffic.length - shown.length} more ${without}`);
+  }
+
+  /** Which answers of two configurations differ. */
+  function wordsOfDifference(one, other) {
+    if (!one || !other) return "";
+    const words = (kind, to) => (typeof to === "number" ? shownWords(kind, to) : to);
+    const sides = (kind) => ["lower", "upper"].map((side, i) => [kind, SIDES[kind][i], one.resolve[kind][side], other.resolve[kind][side]]);
+    const pairs = KINDS.flatMap(sides);
+    const found = pairs.filter(([, , first, second]) => first !== second)
+      .map(([kind, side, first, second]) => `${NAMES[kind]} ${side} ${words(kind, first)} ≠ ${words(kind, second)}`);
+    return found.length ? `Answers that differ: ${found.join("; ")}` : "All answers are alike";
   }
 
   const pick = ({ target }) => { if (target.dataset.choose !== undefined) choose(`p:${target.dataset.choose}`); };

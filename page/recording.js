@@ -74,8 +74,11 @@ function daaRecording(root) {
   class Maker {
     constructor(ownName, onEarth, oldest, names) {
       Object.assign(this, { ownName, onEarth, oldest, offset: offsetOn(onEarth), ids: identifiers(names), leftOut: new Map(), far: 0,
-        latest: new Map(), incomplete: new Map(), steps: [], lacking: new Map(), made: [], pending: null, start: null, silence: "" });
+        latest: new Map(), incomplete: new Map(), steps: [], lacking: new Map(), made: [], last: -1, pending: null, start: null, silence: "" });
     }
+
+    /** The moments that were made since they were taken last. */
+    takeMade() { return this.made.splice(0); }
 
     /** Counts what is left out: a thing by its name, and why. */
     leaveOut(what, why) {
@@ -113,7 +116,7 @@ function daaRecording(root) {
     addMoment(row) {
       this.start ??= row;
       const time = wholeSecond(row.time);
-      const last = this.made.length ? this.made[this.made.length - 1].time : -1;
+      const { last } = this;
       if (time < Math.max(last + 1, 0) || time > LAST_SECOND) {
         this.leaveOut("moment", "in a second that has one already, or out of range");
         return;
@@ -128,7 +131,7 @@ function daaRecording(root) {
       const { traffic, comments } = this.trafficAt(row, found.own, found.angle, time);
       if (this.onEarth) comments.push(`# origin ${fixed(row.place[0], 7)} ${fixed(row.place[1], 7)} ${fixed(found.angle / EARTH, 4)}`);
       this.made.push({ time, own: found.own, traffic, silence, comments });
-      this.silence = "";
+      Object.assign(this, { silence: "", last: time });
     }
 
     /** Why there is no moment between two seconds, or nothing: where more than two of the recording's steps lie between them. The median
@@ -252,7 +255,8 @@ function daaRecording(root) {
 
   /** The state lines of moments, in format 2 where some report has an age; with the comments of each moment, where it has some, others
    *  before the first one, and the whole names of aircraft before the moment that first names them. */
-  function stateLines(moments, head = [], wholeNames = new Map()) {
+  function stateLines(some, head = [], wholeNames = new Map()) {
+    const moments = [...some];
     const form = moments.some(({ traffic }) => traffic.some((one) => one.age)) ? 2 : 1;
     const lines = [...(form === 2 ? ["format 2"] : []), ...head];
     const untold = new Map(wholeNames);
@@ -324,36 +328,55 @@ function daaRecording(root) {
       + "--altitude chooses"];
   }
 
-  /** The state lines of a recording, seen from an aircraft of it (the first where none is named). With them come its names; what is wrong
-   *  (`faults`); whom moments lack and when (`lacking`); which columns and units were taken (`taken`); what else is to be told (`notes`);
-   *  and why no traffic is known in any moment, or nothing (`alone`). Several files are one recording, of which each may have a header of
-   *  its own. No report is older than `oldest` seconds. */
-  function fromRecording(files, { own: ownName = null, oldest = OLDEST } = {}) {
+  /** A recording, seen from an aircraft of it (the first where none is named): `moments` gives them one after the other, and `end`, once all are
+   *  taken, its names; what is wrong (`faults`); whom moments lack and when (`lacking`); which columns and units were taken (`taken`); what else is
+   *  to be told (`notes`); and why no traffic is known in any moment, or nothing (`alone`). Several files are one recording, of which each may have
+   *  a header of its own. No report is older than `oldest` seconds. */
+  function openRecording(files, { own: ownName = null, oldest = OLDEST } = {}) {
     const { rows, sources, labels, faults, taken, notes } = readFiles(files);
     const names = [...new Set(rows.filter((row) => !row.lack).map((row) => row.name))];
     const own = names.includes(ownName) ? ownName : ownOf(names, sources);
     if (!names.includes(own)) fail(`no report of ${own}, the first aircraft, can be read; --own NAME takes another one as the ownship`);
     const { onEarth } = sources[0].form;
     faults.push(...toldFalls(rows, own), ...toldHeights(sources), ...daa.implausible(rows, own, onEarth, offsetOn(onEarth)));
-    const maker = new Maker(own, onEarth, oldest, names);
-    for (const row of [...rows].sort((one, other) => one.time - other.time)) maker.take(row);
-    maker.flush();
-    const moments = maker.made;
-    const lacking = [...maker.lacking].map(([name, [from, upTo, count]]) => (
-      `${maker.idOf(name)} is lacking in ${many(count, "moment")}, from ${from} to ${upTo} s: what is not known there is not clear`));
     if (files.length > 1) notes.unshift(`${files.length} files are one recording: ${files.map(({ name }) => name).join(", ")}`);
-    notes.push(...notesOf(maker, own));
-    if (!moments.length) fail(`no moment is left; ${[...faults, ...notes].join("; ")}`);
-    const isAlone = moments.every(({ traffic, comments }) => !traffic.length && !comments.some((text) => text.startsWith("# lacks")));
-    return { states: stateLines(moments, [...clockOf(sources), `# ownship ${shortened(own)}`], maker.wholeNames(labels)), names, own, faults,
-      lacking, taken, notes, alone: isAlone ? whyAlone(rows, own) : "" };
+    const maker = new Maker(own, onEarth, oldest, names);
+    let [count, isAlone] = [0, true];
+    const noted = (moment) => {
+      count += 1;
+      isAlone &&= !moment.traffic.length && !moment.comments.some((text) => text.startsWith("# lacks"));
+      return moment;
+    };
+    function* moments() {
+      for (const row of [...rows].sort((one, other) => one.time - other.time)) {
+        maker.take(row);
+        yield* maker.takeMade().map(noted);
+      }
+      maker.flush();
+      yield* maker.takeMade().map(noted);
+    }
+    const end = () => ({ count, names, own, faults, lacking: lackingOf(maker), taken, notes: [...notes, ...notesOf(maker, own)],
+      alone: count && isAlone ? whyAlone(rows, own) : "" });
+    return { moments, end, clock: clockOf(sources), head: [...clockComment(sources), `# ownship ${shortened(own)}`],
+      wholeNames: () => maker.wholeNames(labels) };
   }
 
-  /** The comment on what the times count from, where all files agree. */
-  function clockOf(sources) {
-    const [{ clock }] = sources;
-    return clock && sources.every((source) => source.clock === clock) ? [`# clock ${clock}`] : [];
+  /** In how many moments each aircraft is lacking, and when. */
+  const lackingOf = (maker) => [...maker.lacking].map(([name, [from, upTo, count]]) => (
+    `${maker.idOf(name)} is lacking in ${many(count, "moment")}, from ${from} to ${upTo} s: what is not known there is not clear`));
+
+  /** The state lines of a whole recording, as tools/from_daa makes them, and what is told at its end. */
+  function fromRecording(files, choice) {
+    const recording = openRecording(files, choice);
+    const moments = [...recording.moments()];
+    const { count, ...told } = recording.end();
+    if (!count) fail(`no moment is left; ${[...told.faults, ...told.notes].join("; ")}`);
+    return { states: stateLines(moments, recording.head, recording.wholeNames()), ...told };
   }
+
+  /** What the times count from, where all files agree. */
+  const clockOf = ([{ clock }, ...others]) => (clock && others.every((source) => source.clock === clock) ? clock : "");
+  const clockComment = (sources) => (clockOf(sources) ? [`# clock ${clockOf(sources)}`] : []);
 
   /** What was changed and left out. */
   function notesOf(maker, own) {
@@ -367,6 +390,6 @@ function daaRecording(root) {
     return notes;
   }
 
-  Object.assign(root.daa, { fromRecording, stateLines, OLDEST, MOST_AGE });
+  Object.assign(root.daa, { openRecording, fromRecording, stateLines, OLDEST, MOST_AGE });
 }
 daaRecording(globalThis);

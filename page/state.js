@@ -16,14 +16,15 @@
     ["gs", "speed", "kt", 10], ["vs", "vertical", "ft/min", 1]];
   const FIELDS = [["x", "east", "NM", 1000], ["y", "north", "NM", 1000], ["alt", "altitude", "ft", 1], ["vx", "east", "kt", 10],
     ["vy", "north", "kt", 10], ["vs", "vertical", "ft/min", 1], ["age", "age", "s", 1]];
-  const PAPER = { display: { width: 1100, height: 680 }, strip: { width: 1100, height: 150 } };
+  const PAPER = { width: 1100, height: 680 };
   const ROOM = 1.15; // so much farther the range is than the farthest aircraft that alerts
   const CHANGED = 2000; // ms: so long a range that changed is marked
   const SOON = 60; // ms: an answer that takes longer is waited for with the bands hidden
 
-  const state = { engine: null, survey: null, views: [], name: "", moments: [], lacks: [], faults: [], index: 0, current: null, version: 0,
-    edited: false, chosen: "p:", held: null, playing: null, compare: false, paper: false, notes: [], ids: [], job: 0, unfolded: false,
-    linesOpen: false, recording: null, untaken: "", told: [], times: [] };
+  const state = { engine: null, surveys: [], views: [], name: "", told: [], untaken: "", alone: "", recording: null, times: [],
+    moments: null, reading: null, share: null, // the recording: what of it is read, and the worker that reads more
+    index: 0, current: null, edited: false, edits: new Map(), undone: [], redone: [], window: null, axis: null, playing: null,
+    version: 0, chosen: "p:", held: null, compare: false, paper: false, unfolded: false, linesOpen: false };
   daa.page = state;
 
   const within = (value, field) => clamp(Math.round(value), ...LIMITS[field]);
@@ -143,18 +144,19 @@
     figures[1].hidden = !state.compare; // before any is measured
     follow();
     shownViews().forEach((view, place) => paintView(figures[place], view));
-    paintBar();
+    ui.paintBar();
+    paintTold();
     ui.paintTable();
     ui.paintForm();
     ui.paintReport();
     ui.paintSummary();
-    paintStrip();
+    ui.paintTime();
     document.body.dataset.settled = shownViews().every(isAnswered) ? "yes" : "no";
   }
 
   /** How large a picture is drawn: as large as its place, and on paper in a shape of its own. */
   function sizeOf(svg) {
-    if (state.paper) return svg.id === "strip" ? PAPER.strip : PAPER.display;
+    if (state.paper) return PAPER;
     const { width, height } = svg.getBoundingClientRect();
     return { width: Math.round(width), height: Math.round(height) };
   }
@@ -201,12 +203,13 @@
     const { time, own, traffic } = state.current;
     return { time, own, traffic, config: view.config, configs: shownViews().map((it) => it.config), said: saidOf(view),
       fault: saidOf(view) ? "" : faultOf(view), name: view.name, trail: trail(),
-      note: state.edited ? "changed by hand" : state.name, lacks: Boolean(state.lacks[state.index]) };
+      note: state.edited ? "changed by hand" : state.name, lacks: Boolean(ui.lackOf(state.index)) };
   }
 
   /** Where the ownship and the aircraft were in the moments before. */
   function trail() {
-    const before = state.moments.slice(Math.max(0, state.index - 12), state.index);
+    const first = Math.max(0, state.index - 12);
+    const before = Array.from({ length: state.index - first }, (_, i) => state.moments.at(first + i));
     return before.flatMap((moment, i) => {
       const share = 0.2 + (0.6 * (i + 1)) / before.length;
       return [{ ...moment.own, own: true, share }, ...moment.traffic.map((one) => ({ ...flown(one, one.age), own: false, share }))];
@@ -234,79 +237,21 @@
     setText(caption.querySelector("[data-is=heights]"), `± ${view.look.heights} ft`);
   }
 
-  function paintBar() {
-    const { current, moments, index, times, told, lacks } = state;
-    $("slider").value = index;
-    $("slider").setAttribute("aria-valuetext", `${current.time} seconds, moment ${index + 1} of ${moments.length}`);
-    setText($("clock"), `${current.time} s · ${index + 1} of ${moments.length}`);
-    $("restore").disabled = !state.edited;
+  /** What is told of the recording and of the moment, beside the sentence. */
+  function paintTold() {
+    const { index, times, told } = state;
     const median = [...times].sort((a, b) => a - b)[Math.floor(times.length / 2)];
     const took = !times.length ? "" : median < 1 ? ` · ${Math.round(median * 1000)} µs a moment` : ` · ${median.toFixed(1)} ms a moment`;
     setText($("engine"), `engine ${Math.round(state.engine.size / 1024)} KB${took}`);
-    setText($("notes"), [...told, lacks[index]].filter(Boolean).join("; "));
-    $("notes").className = lacks[index] ? "problem" : "quiet"; // an aircraft may be missing, whatever was changed by hand since
+    const lack = ui.lackOf(index);
+    setText($("notes"), [...told, lack].filter(Boolean).join("; "));
+    $("notes").className = lack ? "problem" : "quiet"; // an aircraft may be missing, whatever was changed by hand since
     const fault = shownViews().filter(isAnswered).map((view) => view.fault).find(Boolean);
     const kept = shownViews().filter((view) => view.refusal).map((view) => `a configuration is refused, and ${view.name} is shown in its place`);
     setText($("fault"), [state.untaken, ...kept, fault].filter(Boolean).join("; "));
   }
 
-  // ---- all moments, over time
-
-  /** Asks for every moment under the first view's configuration, one after the other, in a worker of its own. */
-  async function survey() {
-    const job = ++state.job;
-    const { moments, survey: desk } = state;
-    const { bytes } = state.views[0].config;
-    const notes = [];
-    let painted = performance.now();
-    Object.assign(state, { notes, ids: [...new Set(moments.flatMap((moment) => moment.traffic.map((one) => one.id)))] });
-    desk.forget();
-    for (const moment of moments) {
-      const answer = await desk.ask({ config: { bytes }, moment });
-      if (job !== state.job || !answer) return;
-      if (answer.text === undefined) break;
-      notes.push(daa.noteOf(moment, daa.readReport(answer.text)));
-      if (performance.now() - painted < 250) continue;
-      paintStrip();
-      painted = performance.now(); // after it: a long drawing leaves as much time to decide
-    }
-    paintStrip();
-    document.body.dataset.surveyed = String(notes.length);
-  }
-
-  function paintStrip() {
-    const size = sizeOf($("strip"));
-    const { moments, notes, ids, index, views } = state;
-    if (size.width < 100 || !moments.length) return;
-    const { step } = views[0].config.grids.track;
-    daa.drawStrip($("strip"), size, { moments, notes, ids, index, step });
-  }
-
-  $("strip").addEventListener("click", (event) => {
-    goTo(daa.momentAt($("strip"), event.clientX - $("strip").getBoundingClientRect().left, state.moments));
-  });
-
-  // ---- moments
-
-  /** What a moment lacks in words, or nothing. */
-  const lackOf = (index) => state.lacks[index] ?? "";
-
-  function go(index) {
-    state.index = index;
-    restore();
-  }
-
-  function restore() {
-    state.current = copy(state.moments[state.index]);
-    state.edited = false;
-    touched();
-  }
-
-  function edited() {
-    pause();
-    state.edited = true;
-    touched();
-  }
+  // ---- what is chosen
 
   /** The parts of a key: what is moved, and of which aircraft; of the ownship where none is called. */
   const partsOf = (key) => /^([^:]*):?(.*)$/s.exec(key).slice(1);
@@ -320,59 +265,6 @@
     state.chosen = key;
     changed();
   }
-
-  /** Plays at the recording's own times, as many times as fast as is chosen. */
-  function play() {
-    if (state.playing) {
-      pause();
-      return;
-    }
-    if (state.index === state.moments.length - 1) goTo(0);
-    beginPlaying();
-    tellPlaying();
-  }
-
-  function beginPlaying() {
-    state.playing = { since: performance.now(), from: state.moments[state.index].time, frame: requestAnimationFrame(tick) };
-  }
-
-  function tick() {
-    const { moments, playing } = state;
-    if (!playing) return;
-    const time = playing.from + ((performance.now() - playing.since) / 1000) * Number($("speed").value);
-    let { index } = state;
-    while (index + 1 < moments.length && moments[index + 1].time <= time) index += 1;
-    if (index !== state.index) go(index);
-    if (index === moments.length - 1) pause();
-    else playing.frame = requestAnimationFrame(tick);
-  }
-
-  function pause() {
-    if (!state.playing) return;
-    cancelAnimationFrame(state.playing.frame);
-    state.playing = null;
-    tellPlaying();
-  }
-
-  function tellPlaying() {
-    $("play").textContent = state.playing ? "❚❚" : "▶";
-    $("play").setAttribute("aria-label", state.playing ? "Pause" : "Play");
-    changed();
-  }
-
-  /** Goes to another moment by hand; where there is none on that side, what was changed by hand stays. */
-  function goTo(index) {
-    pause();
-    const to = clamp(index, 0, state.moments.length - 1);
-    if (to !== state.index) go(to);
-  }
-
-  $("play").addEventListener("click", play);
-  $("back").addEventListener("click", () => goTo(state.index - 1));
-  $("forward").addEventListener("click", () => goTo(state.index + 1));
-  $("slider").addEventListener("input", ({ target }) => goTo(Number(target.value)));
-  $("restore").addEventListener("click", restore);
-  $("speed").addEventListener("change", () => { if (state.playing) { cancelAnimationFrame(state.playing.frame); beginPlaying(); } });
 
   // ---- views
 
@@ -389,7 +281,7 @@
     if (figure && what) changed();
   }
 
-  /** The least range of the list in which most of the traffic lies, at the first moment and in all. */
+  /** The least range of the list in which most of the traffic lies, at the first moment and in all of some. */
   function fitting(moments) {
     const farOf = ({ own, traffic }) => traffic.map((one) => distance(own, one));
     const mostOf = (far) => (far.length ? far.sort((a, b) => a - b)[Math.ceil(far.length * 0.85) - 1] : 0);
@@ -397,6 +289,6 @@
     return leastRange(most * 1.12);
   }
 
-  Object.assign(ui, { $, LIMITS, OWN_FIELDS, FIELDS, state, within, shownViews, setText, setHtml, download, changed, saidOf, faultOf, edited,
-    choose, partsOf, aircraftOf, lookOf, restore, play, goTo, act, RANGES_NM, fill, modelOf, survey, go, pause, fitting, lackOf });
+  Object.assign(ui, { $, LIMITS, OWN_FIELDS, FIELDS, state, within, copy, shownViews, setText, setHtml, fill, download, changed, touched, saidOf,
+    faultOf, choose, partsOf, aircraftOf, lookOf, modelOf, act, RANGES_NM, fitting });
 })();

@@ -30,7 +30,7 @@ else:
     HOW = "chromium, chromedriver or selenium is missing (Debian: apt-get install chromium chromium-driver python3-selenium)"
     HAS_BROWSER = bool(webdriver and shutil.which("chromium") and shutil.which("chromedriver"))
 FIGURE = "figure[data-view='{}'] "
-LONG = 300  # seconds that nothing here takes, whatever else the machine does
+LONG = 90  # seconds that nothing here takes, whatever else the machine does
 
 # Waits until what is shown is the answer to the states that are shown, and two frames more.
 SETTLE = """
@@ -175,10 +175,10 @@ class Browser:
 
     def step_to(self, place):
         """Puts the slider on a moment by its keys."""
-        at = int(self.one("#slider").get_property("value"))
+        at = self.js("return daa.page.index")
         key = Keys.ARROW_RIGHT if place > at else Keys.ARROW_LEFT
         for _ in range(abs(place - at)):
-            self.keys("#slider", key)
+            self.keys("#axis", key)
 
     def downloaded(self, ending):
         end = time.monotonic() + LONG

@@ -1,7 +1,7 @@
 /* node in_node.cjs PAGE < JSON [[word, ..], ..]: runs the page's scripts that need no browser on each task, and writes the JSON
  * list of the answers. Tasks: [replay, TOML, states], [faults, TOML], [read, TOML], [report, text], [config, struct],
  * [recording, text, ownship, oldest, name of its file], [room, TOML, states], [named, TOML, states], [strip, levels, times], [trap, TOML, states],
- * [display, TOML, states, report, look], [over_time, TOML, states]; texts are bytes in base64. */
+ * [display, TOML, states, report, look], [over_time, TOML, states, decided, TOML, lacking]; texts are bytes in base64. */
 "use strict";
 const fs = require("fs");
 const path = require("path");
@@ -9,7 +9,7 @@ const vm = require("vm");
 
 const page = process.argv[2];
 const run = (name) => vm.runInThisContext(fs.readFileSync(path.join(page, `${name}.js`), "utf8"));
-["engine.wasm", "core", "toml", "columns", "reading", "plausible", "recording"].forEach(run);
+["engine.wasm", "core", "toml", "columns", "reading", "plausible", "recording", "moments", "pieces"].forEach(run);
 const bytesOf = (text) => new Uint8Array(Buffer.from(text, "base64"));
 
 const DRAWING = ["labels", "art", "places", "compass", "tapes", "words", "aircraft", "handles", "draw", "strip"];
@@ -26,6 +26,24 @@ function runDrawing() {
     createElementNS: () => made[made.push(element()) - 1] };
   DRAWING.forEach(run);
   return { svg: element(), made };
+}
+
+/** A strip over a canvas that keeps the boxes that are filled: `draw` gives those of one drawing. */
+function runStrip() {
+  Object.assign(daa, { clamp: (value, low, high) => Math.min(Math.max(value, low), high), wrap: (degrees) => ((degrees % 360) + 360) % 360 });
+  run("strip");
+  const calls = [];
+  const context = new Proxy({}, { get: (kept, name) => kept[name] ?? ((...words) => calls.push([name, kept.fillStyle, ...words])),
+    set: (kept, name, value) => { kept[name] = value; return true; } });
+  const strip = new daa.Strip({ getContext: () => context });
+  const paints = { unknown: "unknown", clear: "clear", own: "own", open: "open", ink: "ink", faint: "faint", line: "line", bad: "bad",
+    levels: ["", "level1", "level2", "level3", "level4"], key: "" };
+  const draw = (model) => {
+    const before = calls.length;
+    strip.draw({ width: 1000, height: 150 }, 1, model, paints, String);
+    return calls.slice(before).filter(([name]) => name === "fillRect").map(([, ...fill]) => fill);
+  };
+  return { strip, calls, draw };
 }
 
 const TASKS = {
@@ -102,23 +120,17 @@ const TASKS = {
     }));
   },
 
-  /** How many boxes of each level the strip has, of moments a second apart where no times are given: in each an aircraft and all tracks
-   *  have the level; where it is 0, the track of 90 degrees is open. Then come the boxes of open tracks, and from and to which second
-   *  each column stands. */
+  /** The boxes of the strip, of 1000 times 150 points, of moments a second apart where no times are given: in each an aircraft and all tracks
+   *  have the level; where it is 0, the track of 90 degrees is open. Then come from and to which second each column stands. */
   strip(engine, levels, times) {
-    Object.assign(daa, { clamp: (value, low, high) => Math.min(Math.max(value, low), high), wrap: (degrees) => (degrees + 360) % 360,
-      paint: String, escape: String });
-    run("strip");
-    const moments = levels.map((_, i) => ({ time: times ? times[i] : i, own: { trk: 0 } }));
-    const notes = moments.map((moment, i) => daa.noteOf(moment, { aircraft: [{ id: "A", level: levels[i] }], resolve: { track: levels[i] ? {} : { upper: 90 } },
-      bands: { track: [{ from: 0, upto: 270, level: levels[i] }] } }));
-    const svg = { setAttribute() {}, querySelector: () => svg };
-    daa.drawStrip(svg, { width: 1000, height: 150 }, { moments, notes, ids: ["A"], index: 0, step: 90 });
-    const found = [...svg.innerHTML.matchAll(/<path d="([^"]*)"[^>]* data-level="(\d)"/g)];
-    const open = /<path d="([^"]*)" fill="var\(--open\)"/.exec(svg.innerHTML)[1];
-    const [, known] = /<path d="([^"]*)" fill="var\(--l0-fill\)"/.exec(svg.innerHTML);
-    const columns = [...known.matchAll(/M(\S+) \S+h(\S+)v/g)].map(([, x, wide]) => [Number(x), Number(x) + Number(wide) - 0.5].map(svg.daaG.time));
-    return [Object.fromEntries(found.map(([, boxes, level]) => [level, boxes.split("M").length - 1])), open.split("M").length - 1, columns];
+    const { draw, strip } = runStrip();
+    const notes = levels.map((level, i) => daa.noteOf({ time: times ? times[i] : i, own: { trk: 0 } }, { aircraft: [{ id: "A", level }],
+      resolve: { track: level ? {} : { upper: 90 } }, bands: { track: [{ from: 0, upto: 270, level }] } }));
+    const most = new Map(levels.some(Boolean) ? [["A", levels.reduce((most, level) => Math.max(most, level))]] : []);
+    const fills = draw({ times: Float64Array.from(notes, ({ time }) => time), notes, others: null, most, ids: ["A"], lacks: () => false, window: null, trk: 0,
+      step: 90 });
+    const columns = fills.filter(([paint]) => paint === "clear").map(([, x, , wide]) => [x, x + wide].map(strip.g.time));
+    return [fills.filter(([paint]) => paint !== "faint"), columns];
   },
 
   /** A display of a moment, of 1600 times 800 points, with a report: where its compass and tapes are, the text of each layer, each handle,
@@ -141,28 +153,26 @@ const TASKS = {
       back: Object.fromEntries(made.map((it) => [it.attributes["data-key"], meant(it)])) };
   },
 
-  /** The strip of an encounter, of 1000 times 150 points: where it has what, its text, its text where all aircraft have level 1, and
-   *  that where so many moments are decided, with how this one is told; the marks of the moments, and how all of it is told. */
-  over_time(engine, toml, states, decided = 0) {
-    const { svg } = runDrawing();
-    const config = engine.read(bytesOf(toml));
+  /** The strip of an encounter, of 1000 times 150 points, of whose moments so many are decided (all where none are named), with what is drawn where
+   *  the rest is decided then: where it has what, its boxes, its texts, the boxes of the second drawing, and how it is told. Under a second
+   *  configuration it has those of the differences too. */
+  over_time(engine, toml, states, decided = null, other = null, lacking = []) {
+    const { draw, strip, calls } = runStrip();
+    const notesUnder = (text) => moments.map((moment) => daa.noteOf(moment, daa.readReport(engine.report(engine.read(bytesOf(text)), moment))));
     const moments = engine.readStates(bytesOf(states)).map((it) => it.moment);
-    const notes = moments.map((moment) => daa.noteOf(moment, daa.readReport(engine.report(config, moment))));
-    const others = notes.map((note) => ({ ...note, levels: new Map([...note.levels].map(([id]) => [id, 1])) }));
-    const ids = [...notes[0].levels.keys()];
-    const texts = [notes, others, notes.slice(0, decided)].map((some) => {
-      daa.drawStrip(svg, { width: 1000, height: 150 }, { moments, notes: some, ids, index: 0, step: config.grids.track.step });
-      return svg.innerHTML;
-    });
-    const part = svg.attributes["aria-label"];
-    const draw = (index) => daa.drawStrip(svg, { width: 1000, height: 150 }, { moments, notes, ids, index, step: config.grids.track.step });
-    draw(0);
-    notes.forEach((note) => { note.levels.values = null; }); // for another moment of the same ones no level is looked at again
-    const now = moments.map((_, index) => {
-      draw(index);
-      return svg.parts[".now"].attributes.d;
-    });
-    return { g: svg.daaG, texts, part, now, label: svg.attributes["aria-label"] };
+    const notes = notesUnder(toml);
+    const known = notes.slice(0, decided ?? notes.length);
+    const most = new Map();
+    const note = (some) => some.forEach(({ levels }) => levels.forEach(([id, level]) => most.set(id, Math.max(level, most.get(id) || 0))));
+    note(notes);
+    const model = { times: Float64Array.from(moments, ({ time }) => time), notes: known, others: other && notesUnder(other), most,
+      ids: moments[0].traffic.map(({ id }) => id), lacks: (index) => lacking.includes(index), window: null, trk: moments[0].own.trk,
+      step: engine.read(bytesOf(toml)).grids.track.step };
+    const first = draw(model);
+    const texts = calls.filter(([name]) => name === "fillText").map(([, , words, x, y]) => [words, x, y]);
+    const told = daa.toldOfStrip(notes.length, known.length, new Map(known.flatMap((it) => it.levels)));
+    known.push(...notes.slice(known.length));
+    return { g: strip.g, first, texts, then: draw(model), told };
   },
 
   /** Calls the engine with places out of its memory, and then on a moment: what the first call throws, and the report. */

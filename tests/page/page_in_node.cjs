@@ -40,8 +40,17 @@ class Element {
     });
   }
 
+  /** A canvas keeps its calls: each with the paint that it was made with. */
+  getContext() {
+    this.calls ??= [];
+    this.context ??= new Proxy({}, { get: (kept, name) => kept[name] ?? ((...words) => this.calls.push([name, kept.fillStyle, ...words])),
+      set: (kept, name, value) => { kept[name] = value; return true; } });
+    return this.context;
+  }
+
+  get parentElement() { return new Element("axis"); }
   get tBodies() { return [this.querySelector("tbody")]; }
-  getBoundingClientRect() { return this.name === "strip" ? { left: 0, width: 1000, height: 150 } : { left: 0, width: 1600, height: 800 }; }
+  getBoundingClientRect() { return ["strip", "axis"].includes(this.name) ? { left: 0, width: 1000, height: 150 } : { left: 0, width: 1600, height: 800 }; }
   getScreenCTM() { return { inverse: () => null }; }
   closest() { return this; }
   matches() { return false; }
@@ -88,6 +97,9 @@ try {
 
 for (const [, name] of textOf("index.html").matchAll(/<script src="([^"]+)">/g)) vm.runInThisContext(textOf(name), name);
 
+daa.stripPaints = () => ({ unknown: "unknown", clear: "clear", own: "own", open: "open", ink: "ink", faint: "faint", line: "line", bad: "bad",
+  levels: ["", "level1", "level2", "level3", "level4"], key: "" });
+
 const $ = (id) => document.getElementById(id);
 const fire = (element, event, values = {}) => {
   const given = { target: element, preventDefault() {}, ...values };
@@ -121,8 +133,10 @@ async function press(key, pressed, shiftKey = false) {
 async function drag(key, right, down) {
   const [x, y] = placeOf(key);
   fire(display(), "pointerdown", { target: handle(key), clientX: x, clientY: y, pointerId: 1, button: 0, isPrimary: true });
-  fire(display(), "pointermove", { clientX: x + right, clientY: y + down, pointerId: 1, buttons: 1 });
-  await settle();
+  for (const part of [0.5, 1]) {
+    fire(display(), "pointermove", { clientX: x + right * part, clientY: y + down * part, pointerId: 1, buttons: 1 });
+    await settle();
+  }
   const held = placeOf(key);
   fire(display(), "pointerup", { pointerId: 1 });
   await settle();

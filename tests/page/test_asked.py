@@ -166,45 +166,58 @@ class Asked(unittest.TestCase):
             return [$("fault").textContent, $("report").innerHTML.includes("data-line")];""")
         self.assertEqual(told, ["The engine stopped (RangeError: too deep).", False])
 
-    def test_the_strip_ends_at_a_moment_that_stopped_the_engine(self):
-        times = on_page("""
-            const { survey } = page, ask = survey.ask.bind(survey);
-            survey.ask = (question) => (question.moment.time === 30 ? Promise.resolve({ stopped: "The engine stopped." }) : ask(question));
+    def test_a_moment_that_stopped_the_engine_stays_unknown_over_time(self):
+        """It alone: the others are decided. So does each of a part for which there is no engine."""
+        notes, none = on_page("""
+            const [survey] = page.surveys, [desk] = survey.desks, { engine } = desk, report = engine.report.bind(engine);
+            engine.report = (config, moment) => { if (moment.time === 30) throw new daa.Stopped("The engine stopped."); return report(config, moment); };
             await daa.ui.survey();
-            return page.notes.map(({ time }) => time);""")
-        self.assertEqual(times, [0, 10, 20])
+            const notes = survey.notes.map((note) => note && note.time);
+            desk.ask = async () => ({ stopped: "The engine can't be opened." });
+            await daa.ui.survey();
+            return [notes, survey.notes];""")
+        self.assertEqual(notes, [0, 10, 20, None, *range(40, 190, 10)])
+        self.assertEqual(none, [None] * 19)
 
     def test_a_slow_strip_leaves_time_to_decide(self):
-        """Where drawing it takes longer than it waits between two drawings: it is drawn after the first moment, now and then, and at the end."""
+        """Where drawing it takes long it is drawn now and then, and at the end."""
         drawn = on_page("""
-            const { survey } = page, ask = survey.ask.bind(survey), { drawStrip } = daa;
+            const { draw } = daa.Strip.prototype;
             let drawn = 0;
-            const busy = () => { for (const end = performance.now() + 260; performance.now() < end;); };
             await settle();
-            daa.drawStrip = (...words) => { drawn += 1; busy(); return drawStrip(...words); };
-            survey.ask = (question) => { if (question.moment.time === 0) busy(); return ask(question); };
+            daa.Strip.prototype.draw = function (...words) {
+              drawn += 1;
+              for (const end = performance.now() + 260; performance.now() < end;);
+              return draw.apply(this, words);
+            };
             await daa.ui.survey();
             return drawn;""")
-        self.assertIn(drawn, range(2, 6))  # (where the drawing's own time counts, after each of 19)
+        self.assertIn(drawn, range(1, 6))
 
-    def test_the_strip_is_that_of_the_configuration(self):
-        """Under another one all moments are asked for anew."""
+    def test_what_is_known_over_time_is_of_the_configuration(self):
+        """Under another one all moments are asked for anew, and the strip is drawn anew; under the second one only where both are shown."""
         config = text_of(THREE_LEVELS).replace("alert = 55", "alert = 20").replace("alert = 25", "alert = 5")
-        levels, drawn, right = on_page("""
-            const surveyed = async () => { for (let frames = 0; frames < 2000 && page.notes.length < page.moments.length; frames++) await frame(); };
-            await surveyed();
+        levels, others, drawn = on_page("""
+            const [survey, second] = page.surveys;
+            const surveyed = async (one) => { for (let frames = 0; frames < 5000 && one.decided < page.moments.length; frames++) await frame(); };
+            await surveyed(survey);
             $("toml").value = given[0];
             await fire($("toml"), "input");
             await settle();
-            await surveyed();
+            await surveyed(survey);
+            const others = [second.decided];
+            $("compare").checked = true;
+            await fire($("compare"), "change", { target: { checked: true } });
+            await surveyed(second);
+            others.push(second.decided);
+            await surveyed(survey);
             await settle();
-            const { moments, notes, ids } = page, svg = document.createElementNS("", "svg");
-            daa.drawStrip(svg, { width: 1000, height: 150 }, { moments, notes, ids, index: 0, step: 5 });
-            return [notes.map((note) => Object.fromEntries(note.levels)), $("strip").innerHTML, svg.innerHTML];""", config)
+            const { calls } = $("strip"), from = calls.findLastIndex(([name]) => name === "clearRect");
+            return [survey.notes.map((note) => Object.fromEntries(note.levels)), others, calls.slice(from).filter(([name, paint]) => name === "fillRect" && paint === "clear").length];""", config)
         with tempfile.NamedTemporaryFile("w", suffix=".toml") as file:
             file.write(config)
             file.flush()
-            wanted = [levels_of(moment) for moment in moments_of(replayed(file.name, bytes_of(ENCOUNTER)))]
-        self.assertNotEqual(wanted, [levels_of(moment) for moment in moments_of(replayed(THREE_LEVELS, bytes_of(ENCOUNTER)))])
-        self.assertEqual(levels, wanted)
-        self.assertEqual(drawn, right)
+            loud = lambda moment: {name: level for name, level in levels_of(moment).items() if level}
+            wanted = [loud(moment) for moment in moments_of(replayed(file.name, bytes_of(ENCOUNTER)))]
+        self.assertNotEqual(wanted, [loud(moment) for moment in moments_of(replayed(THREE_LEVELS, bytes_of(ENCOUNTER)))])
+        self.assertEqual((levels, others, drawn), (wanted, [0, 19], 19))

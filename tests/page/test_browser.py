@@ -103,7 +103,7 @@ class Shown(PageTest):
         """States, places, lines, symbols' levels, ring, tapes, answers, table and sentence, at each step of the slider."""
         moments = moments_of(replayed(THREE_LEVELS, bytes_of(ENCOUNTER)))
         recorded = moments_in(bytes_of(ENCOUNTER))
-        self.assertEqual(int(self.page.one("#slider").get_attribute("max")) + 1, len(moments))
+        self.assertEqual(self.page.js("return daa.page.moments.length"), len(moments))
         compared = 0
         for place, moment in enumerate(moments):
             self.page.step_to(place)
@@ -181,22 +181,53 @@ class Shown(PageTest):
             self.check_moment(moment)
 
     def test_the_strip_over_time(self):
-        """The greatest level of each moment stands in the strip, and a click goes to its moment."""
+        """At each moment the points in AMBER's row have the colour of its level and of no other one; a click goes to a moment, and a drag along."""
         self.page.wait("document.body.dataset.surveyed === '19'")
         moments = moments_of(replayed(THREE_LEVELS, bytes_of(ENCOUNTER)))
-        levels = self.page.js("return daa.page.notes.map((note) => [...note.levels])")
-        self.assertEqual([dict(pairs) for pairs in levels], [levels_of(moment) for moment in moments])
-        drawn = self.page.js("return [...document.querySelectorAll('#strip [data-level]')].map((it) => [Number(it.dataset.level), it.getAttribute('d').split('M').length - 1])")
-        cells = sum(level > 0 for moment in moments for level in levels_of(moment).values())
-        self.assertGreaterEqual(sum(count for _, count in drawn), cells)
-        x = self.page.js("const box = document.querySelector('#strip').getBoundingClientRect(); return [box.x + daa.page && 0, box.width, box.x, box.y]")
-        first, last, wide = 0, 190, x[1] - 88
-        at = x[2] + 78 + (75 - first) / (last - first) * wide
+        levels = self.page.js("return daa.page.surveys[0].notes.map(({ levels }) => levels)")
+        self.assertEqual([dict(pairs) for pairs in levels], [{name: level for name, level in levels_of(moment).items() if level} for moment in moments])
+        seen = self.page.js("""
+            const { axis: g } = daa.page, canvas = document.querySelector("#strip"), context = canvas.getContext("2d"), scale = canvas.width / g.width;
+            const probe = document.body.appendChild(document.createElement("i"));
+            const colour = (level) => { probe.style.color = `var(--l${level}-fill)`; return getComputedStyle(probe).color.match(/[0-9]+/g).slice(0, 3).join(); };
+            const fills = [0, 1, 2, 3, 4].map(colour);
+            return daa.page.surveys[0].notes.map(({ time }) => {
+              const { data } = context.getImageData(Math.round(g.x(time + 5) * scale) - 6, Math.round((g.rowOf(0) - 2) * scale), 12, 1);
+              const found = Array.from({ length: 12 }, (_, i) => [...data.slice(4 * i, 4 * i + 3)].join());
+              return fills.flatMap((fill, level) => (found.includes(fill) ? [level] : []));
+            });""")
+        self.assertEqual(seen, [[levels_of(moment)["AMBER"]] for moment in moments])
+        box = self.page.js("const { x, y } = document.querySelector('#axis').getBoundingClientRect(); return [x, y, daa.page.axis.x(75), daa.page.axis.x(125)]")
         actions = ActionChains(self.page.driver)
-        actions.w3c_actions.pointer_action.move_to_location(round(at), round(x[3] + 20))
-        actions.click().perform()
+        actions.w3c_actions.pointer_action.move_to_location(round(box[0] + box[2]), round(box[1] + 20))
+        actions.click_and_hold().perform()
         self.page.settle()
         self.check_moment(moments[7])
+        ActionChains(self.page.driver).move_by_offset(round(box[3] - box[2]), 0).release().perform()
+        self.page.settle()
+        self.check_moment(moments[12])
+
+    def test_a_long_file_is_read_by_a_worker(self):
+        """Of 1.3 MB: its first moment is shown while the rest is read; at the end all are there, and decided as the program does."""
+        states = "".join(f"moment {second}\nown 0 {60 * second % 90000} 10000 0 3600 0\n" + "".join(
+            f"traffic A{i} {3000 * i + 500} {60 * second % 90000 + 4000 - 11 * second % 8000} 10000 0 1800 0\n" for i in range(8)) + "end\n" for second in range(4000))
+        self.assertGreater(len(states), 1000000)
+        begun = self.page.driver.execute_async_script("""
+            const done = arguments[0], { load } = daa.ui, look = () => (daa.page.name === "long.states"
+              ? done([daa.page.index, Boolean(daa.page.reading), daa.page.moments.length < 4000]) : setTimeout(look, 1));
+            document.querySelector("#file").addEventListener("change", () => look(), { once: true });
+            const transfer = new DataTransfer();
+            transfer.items.add(new File([arguments[1]], "long.states"));
+            const file = document.querySelector("#file");
+            file.files = transfer.files;
+            file.dispatchEvent(new Event("change"));""".replace("const done = arguments[0]", "const done = arguments[1]").replace("[arguments[1]]", "[arguments[0]]"), states)
+        self.assertEqual(begun, [0, True, True])
+        self.page.wait("!daa.page.reading && document.body.dataset.surveyed === '4000'", "all is read and decided")
+        self.page.js("daa.ui.goTo(3456)")
+        self.page.settle()
+        self.check_shown()
+        moment = moments_of(replayed(THREE_LEVELS, self.page.states().encode()))[0]
+        self.assertEqual(dict(self.page.js("return daa.page.surveys[0].notes[3456].levels")), {name: level for name, level in levels_of(moment).items() if level})
 
     def test_refused_lines_are_told(self):
         """With the moment after which they stand."""
@@ -340,7 +371,7 @@ class Obeyed(PageTest):
         """At a button, a list, a box to tick and a slider each key but those that it takes itself; in a field none."""
         self.page.click("#configuration > summary")
         before = self.page.js(self.LOOK)
-        for selector, has_space in (("#play", False), ("#speed", False), ("#compare", False), ("#report", False), ("#slider", True), (".handle[data-key='p:AMBER']", True)):
+        for selector, has_space in (("#play", False), ("#speed", False), ("#compare", False), ("#report", False), ("#axis", True), (".handle[data-key='p:AMBER']", True)):
             with self.subTest(selector):
                 self.page.js("document.querySelector(arguments[0]).focus()", selector)
                 self.page.press(".", "-")
@@ -535,7 +566,7 @@ class Loaded(PageTest):
                 self.page.select("#own", own)
             states = tool("from_daa", path, *(["--own", own] if own else []))
             moments = moments_of(replayed(THREE_LEVELS, states))
-            self.assertEqual(int(self.page.one("#slider").get_attribute("max")) + 1, len(moments))
+            self.assertEqual(self.page.js("return daa.page.moments.length"), len(moments))
             self.page.step_to(4)
             self.check_moment(moments[4])
         self.assertIn("Intruder2 is written Intrude2", self.page.text("#notes"))
@@ -753,7 +784,7 @@ class Layout(PageTest):
         wide, tall, inner_wide, inner_tall = self.page.js("const it = document.documentElement; return [it.scrollWidth, it.scrollHeight, innerWidth, innerHeight]")
         self.assertLessEqual(wide, inner_wide)
         self.assertLessEqual(tall, inner_tall)
-        for selector in ("header", "#displays", "#time", "#slider", "#strip", "#restore", "figcaption [data-do=png]", "#panel", "#summary", "#aircraft tbody tr:nth-child(2)"):
+        for selector in ("header", "#displays", "#time", "#axis", "#strip", "#restore", "figcaption [data-do=png]", "#panel", "#summary", "#aircraft tbody tr:nth-child(2)"):
             shown = [it for it in self.page.driver.find_elements(By.CSS_SELECTOR, selector) if it.is_displayed()]
             self.assertTrue(shown, selector)
             for box in (it.rect for it in shown):
@@ -948,7 +979,7 @@ class Everyone(PageTest):
             if at["tag"] == "BODY":
                 break
             reached.append(at["key"] or at["id"] or at["tag"])
-        for name in ("example", "file", "compare", "link", "theme", "p:AMBER", "v:AMBER", "p:", "v:", "track", "gs", "vs", "alt", "play", "speed", "slider", "report", "add", "copy"):
+        for name in ("example", "file", "compare", "link", "theme", "p:AMBER", "v:AMBER", "p:", "v:", "track", "gs", "vs", "alt", "play", "speed", "axis", "report", "add", "copy"):
             self.assertIn(name, reached)
         self.page.js("document.activeElement.blur()")
         moments = moments_of(replayed(THREE_LEVELS, bytes_of(ENCOUNTER)))
@@ -963,7 +994,7 @@ class Everyone(PageTest):
         self.assertEqual(self.page.js("return daa.page.views[0].look.range"), before)
 
     def test_the_focus_is_seen(self):
-        self.page.js("arguments[0].focus()", self.page.one("#slider"))
+        self.page.js("arguments[0].focus()", self.page.one("#axis"))
         self.page.press(Keys.SHIFT, Keys.TAB)
         self.assertNotEqual(self.page.js("return getComputedStyle(document.activeElement).outlineStyle"), "none")
         self.page.press(Keys.ESCAPE)

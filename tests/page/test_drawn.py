@@ -6,7 +6,7 @@ import re
 import tempfile
 import unittest
 
-from nodes import HOW, NODE, TURNED, boxes_of, in_node, numbers_in, on_page, xml_of
+from nodes import HOW, NODE, TURNED, in_node, numbers_in, on_page, xml_of
 from shared import (ENCOUNTER, RECOVERY, THREE_LEVELS, Page, bytes_of, candidates_of, levels_of, moments_in, moments_of, places_of,
                    replayed, text_of, values_of)
 
@@ -316,76 +316,92 @@ class Drawn(Display):
         self.assertEqual([text for text, *_ in self.texts("legend")], ["clear", "level 1", "level 2, corrective", "level 3", "nearest open", "recovery"])
         self.assertEqual([it.get("fill") for it in self.layers["legend"].iter("rect")], ["var(--l0-fill)", "url(#level1)", "url(#level2)", "url(#level3)"])
 
-    def test_the_strip_over_time(self):
-        """At each moment the level of each aircraft in its row, the bands at each track, and the ownship's track."""
-        shown = in_node([["over_time", bytes_of(THREE_LEVELS), bytes_of(ENCOUNTER)]])[0]
-        g, strip = shown["g"], xml_of(shown["texts"][0])
-        names = [text.text for text in strip.iter("text") if text.get("x") == "4"]
-        self.assertEqual(names, ["AMBER"])
-        boxes = [(int(it.get("data-level")), *box) for it in strip.iter("path") if it.get("data-level") for box in boxes_of(it)]
-        own = next(boxes_of(it) for it in strip.iter("path") if it.get("fill") == "var(--own)")
+
+@unittest.skipUnless(NODE, HOW)
+class Strip(unittest.TestCase):
+    """The strip over time, of 1000 times 150 points: 912 are of times."""
+
+    # Of the encounter four moments 10 seconds apart, the last of which comes 160 seconds after the one before.
+    GAP = "".join(text for text, moment in moments_in(bytes_of(ENCOUNTER)) if moment.time in (0, 10, 20, 180)).encode()
+
+    def over_time(self, states=bytes_of(ENCOUNTER), *more):
+        return in_node([["over_time", bytes_of(THREE_LEVELS), states, *more]])[0]
+
+    @staticmethod
+    def x(time):
+        return 78 + time / 190 * 912
+
+    def boxes(self, fills, paint):
+        return [fill[1:] for fill in fills if fill[0] == paint]
+
+    def test_levels_bands_and_tracks(self):
+        """At each moment the level of each aircraft in its row, the bands at each track, and the ownship's track and the open ones."""
+        shown = self.over_time()
+        g, fills = shown["g"], shown["first"]
+        self.assertEqual([words for words, x, _ in shown["texts"] if x == 4], ["AMBER"])
+        levels_at = [(int(paint[5:]), *box) for paint, *box in fills if paint.startswith("level")]
         y = lambda track: g["top"] + g["tall"] - (track - g["foot"]) % 360 / 360 * g["tall"]
         moments = moments_of(replayed(THREE_LEVELS, bytes_of(ENCOUNTER)))
+        own = self.boxes(fills, "own")
         for moment, (_, state), (_, at, _, _) in zip(moments, moments_in(bytes_of(ENCOUNTER)), own, strict=True):
-            x = 78 + (state.time + 5) / 190 * (1000 - 88)
-            levels = lambda at: [level for level, left, top, wide, tall in boxes if left <= x <= left + wide and top <= at <= top + tall]
+            x = self.x(state.time + 5)
+            levels = lambda at: [level for level, left, top, wide, tall in levels_at if left <= x <= left + wide and top <= at <= top + tall]
             level = levels_of(moment)["AMBER"]
-            self.assertEqual(levels(13.5), [level] if level else [], moment)
-            self.assertEqual(levels(14 - 11 * level / 4 - 1), [], moment)
+            self.assertEqual(levels(20.5), [level] if level else [], moment)
+            self.assertEqual(levels(21 - 11 * level / 4 - 1), [], moment)
             self.assertEqual({track: levels(y(track)) for track in candidates_of(moment, "track")},
                              {track: [level] if level else [] for track, level in candidates_of(moment, "track").items()})
             self.assertAlmostEqual(at + 1, y(state.own.trk), delta=0.1)
-        opened = next(boxes_of(it) for it in strip.iter("path") if it.get("fill") == "var(--open)")
-        self.assertEqual([round(top + 2, 1) for _, top, _, _ in opened], [round(y(track), 1) for moment in moments for track in values_of(moment, "resolve", "track")])
+        self.assertEqual([round(top + 2, 1) for _, top, _, _ in self.boxes(fills, "open")],
+                         [round(y(track), 1) for moment in moments for track in values_of(moment, "resolve", "track")])
 
-    def test_the_strip_leaves_a_gap_free(self):
-        """Of moments 10 seconds apart, the last of which comes 160 seconds after the one before: that one is drawn for 40."""
-        states = "".join(text for text, moment in moments_in(bytes_of(ENCOUNTER)) if moment.time in (0, 10, 20, 180))
-        strip = xml_of(in_node([["over_time", bytes_of(THREE_LEVELS), states.encode()]])[0]["texts"][0])
-        boxes = [box for it in strip.iter("path") if it.get("data-level") for box in boxes_of(it)]
-        x = lambda time: 78 + time / 190 * (1000 - 88)
-        ends = {round(left + wide, 1) for left, _, wide, _ in boxes}
-        self.assertEqual(ends, {round(x(time), 1) for time in (10, 20, 60, 190)})
+    def test_a_gap_is_left_free(self):
+        """The moment before it is drawn for 40 seconds. Between two columns there is no seam."""
+        clear = self.boxes(self.over_time(self.GAP)["first"], "clear")
+        self.assertEqual([(left, left + wide) for left, _, wide, _ in clear], [(round(self.x(begin)), round(self.x(end))) for begin, end in ((0, 10), (10, 20), (20, 60), (180, 190))])
 
-    def test_the_strip_marks_the_moment(self):
-        """From each to the next, and before a gap four times as long as from one to the next."""
-        states = "".join(text for text, moment in moments_in(bytes_of(ENCOUNTER)) if moment.time in (0, 10, 20, 180))
-        shown = in_node([["over_time", bytes_of(THREE_LEVELS), states.encode()]])[0]
-        x = lambda time: 78 + time / 190 * (1000 - 88)
-        for mark, (begin, end) in zip(shown["now"], ((0, 10), (10, 20), (20, 60), (180, 190)), strict=True):
-            left, top, wide, tall = numbers_in(mark)[:4]
-            self.assertTrue(abs(left - x(begin)) < 1 and abs(left + wide - x(end)) < 1 and (top, tall) == (1, 133), mark)
-        self.assertEqual(shown["label"], "Alert levels and track bands over time: 4 moments, the greatest alert level is 3")
-
-    def test_the_strip_tells_no_level_of_moments_that_are_not_decided(self):
-        """Of the first two of 19 moments the greatest level is 2; it comes to 3 later."""
-        for decided, told in ((0, "0 of 19 moments are decided"), (2, "2 of 19 moments are decided, the greatest alert level of these is 2"),
-                              (19, "19 moments, the greatest alert level is 3")):
-            shown = in_node([["over_time", bytes_of(THREE_LEVELS), bytes_of(ENCOUNTER), decided]])[0]
-            self.assertEqual(shown["part"], f"Alert levels and track bands over time: {told}")
-
-    def test_a_strip_of_other_levels_is_drawn_anew(self):
-        one, other, _ = in_node([["over_time", bytes_of(THREE_LEVELS), bytes_of(ENCOUNTER)]])[0]["texts"]
-        self.assertNotEqual(one, other)
-
-    def test_the_strip_shows_nothing_clear_that_is_not_decided(self):
-        """Of 19 moments the first 8 are decided; and where no moment is, after one 160 seconds before the next, nothing is clear either."""
-        gap = "".join(text for text, moment in moments_in(bytes_of(ENCOUNTER)) if moment.time in (0, 10, 20, 180)).encode()
-        for states, decided, place, wanted in ((bytes_of(ENCOUNTER), 0, 0, [(0, 190)]), (bytes_of(ENCOUNTER), 8, 2, [(0, 80)]),
-                                               (bytes_of(ENCOUNTER), 0, 2, []), (gap, 0, 0, [(0, 60), (180, 190)])):
-            strip = xml_of(in_node([["over_time", bytes_of(THREE_LEVELS), states, decided]])[0]["texts"][place])
-            found = {it.get("fill"): boxes_of(it) for it in strip.iter("path") if it.get("fill") in ("var(--unknown)", "var(--l0-fill)")}
-            x = lambda time: 78 + time / 190 * (1000 - 88)
-            whole, = found["var(--unknown)"]
-            self.assertEqual((whole[0], whole[2], whole[1] + whole[3]), (78, 912, 134))
+    def test_nothing_is_clear_that_is_not_decided(self):
+        """The ground is that of what has no answer; on it stand the columns of what is decided, and those alone that are new when more is."""
+        for states, decided, wanted in ((bytes_of(ENCOUNTER), None, [(0, 190)]), (bytes_of(ENCOUNTER), 8, [(0, 80)]), (bytes_of(ENCOUNTER), 0, []), (self.GAP, None, [(0, 60), (180, 190)])):
+            shown = self.over_time(states, decided)
+            (left, top, wide, tall), = self.boxes(shown["first"], "unknown")
+            self.assertEqual((left, wide, top + tall), (78, 912, 132))
             runs = []
-            for left, top, wide, tall in found["var(--l0-fill)"]:
-                self.assertEqual((top, tall), (whole[1], whole[3]))
-                if runs and abs(left - runs[-1][1]) < 1:
+            for left, at, wide, high in self.boxes(shown["first"], "clear"):
+                self.assertEqual((at, high), (top, tall))
+                if runs and left == runs[-1][1]:
                     runs[-1][1] = left + wide
                 else:
                     runs.append([left, left + wide])
-            self.assertEqual([[round(end) for end in run] for run in runs], [[round(x(end) + place / 2) for place, end in enumerate(run)] for run in wanted])
+            self.assertEqual(runs, [[round(self.x(end)) for end in run] for run in wanted])
+            self.assertEqual(len(self.boxes(shown["then"], "clear")), 0 if decided is None else 19 - decided)
+            self.assertEqual(self.boxes(shown["then"], "unknown"), [])
+
+    def test_no_level_is_told_of_moments_that_are_not_decided(self):
+        """Of the first two of 19 moments the greatest level is 2; it comes to 3 later."""
+        for decided, told in ((0, "0 of 19 moments are decided"), (2, "2 of 19 moments are decided, the greatest alert level of these is 2"),
+                              (19, "19 moments, the greatest alert level is 3")):
+            self.assertEqual(self.over_time(bytes_of(ENCOUNTER), decided)["told"], told)
+
+    def test_where_two_configurations_differ_is_marked(self):
+        """In a row of its own: at each moment at which the reports alert or answer otherwise, and at no other one."""
+        other = bytes_of(THREE_LEVELS).replace(b"alert = 55", b"alert = 30").replace(b"alert = 25", b"alert = 10")
+        with tempfile.NamedTemporaryFile(suffix=".toml") as file:
+            file.write(other)
+            file.flush()
+            reports = [[re.findall("(?m)^(?:alert|resolve) (.*)$", moment) for moment in moments_of(replayed(config, bytes_of(ENCOUNTER)))] for config in (THREE_LEVELS, file.name)]
+        level = lambda line: re.sub(r"^(\w+ \d) (\d+|-)$", r"\1", line)  # of an alert without its second
+        wanted = [place for place, pair in enumerate(zip(*reports)) if [level(line) for line in pair[0]] != [level(line) for line in pair[1]]]
+        self.assertTrue(1 < len(wanted) < 19)
+        shown = self.over_time(bytes_of(ENCOUNTER), None, other)
+        self.assertIn("differs", [words for words, x, _ in shown["texts"] if x == 4])
+        marks = [left for left, _, wide, _ in self.boxes(shown["first"], "ink")]
+        self.assertEqual(marks, [round(self.x(10 * place)) for place in wanted])
+
+    def test_incomplete_moments_are_hatched_at_the_top(self):
+        hatches = self.boxes(self.over_time(bytes_of(ENCOUNTER), None, None, [3])["first"], "bad")
+        self.assertEqual({(top, tall) for _, top, _, tall in hatches}, {(0, 5)})
+        self.assertEqual((min(left for left, *_ in hatches), len(hatches)), (round(self.x(30)), 12))
 
 
 @unittest.skipUnless(NODE, HOW)

@@ -240,8 +240,7 @@ class Loaded(unittest.TestCase):
     LACKING = text_of(ENCOUNTER).replace("moment 20\n", "moment 20\ntraffic TOOLONGID 0 0 0 0 0 0\nnothing\n")
     NOTES = """const notes = async (index) => {
       if (index !== undefined) {
-        $("slider").value = index;
-        await fire($("slider"), "input");
+        daa.ui.goTo(Number(index));
       }
       await settle();
       return [$("notes").textContent, $("notes").className];
@@ -337,8 +336,7 @@ class Loaded(unittest.TestCase):
             const told = [];
             for (const [name, text] of given) {
               await open([name, text]);
-              $("slider").value = "1";
-              await fire($("slider"), "input");
+              daa.ui.goTo(Number("1"));
               await settle();
               told.push($("fault").textContent);
             }

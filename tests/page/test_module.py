@@ -56,32 +56,38 @@ class Module(unittest.TestCase):
         found = in_node([["named", bytes_of(RECOVERY), bytes_of(os.path.join(EXAMPLES, "closed.states"))]])[0]
         self.assertEqual(found, [[name, name] for name in ("x", "y", "alt", "trk", "gs", "vs", "x", "y", "alt", "vx", "vy", "vs", "age")])
 
+    def strip(self, levels, times=None):
+        """How often each paint of a level stands in the strip, how many open tracks are marked, and the columns."""
+        fills, columns = in_node([["strip", levels, times]])[0]
+        count = lambda paint: sum(fill[0] == paint for fill in fills)
+        return {paint: count(paint) for paint in ("level1", "level2", "level3", "level4") if count(paint)}, count("open"), columns
+
     def test_a_column_of_the_strip_has_the_greatest_level(self):
-        """Of 601 moments two share a column, and the last has one of its own: 5 boxes of tracks, one of them in two parts; 2 of it."""
+        """Of 601 moments two share a column, and the last has one of its own: each has a box, and its tracks in two parts."""
         for levels in ([3, 0] * 300 + [3], [0, 3] * 300 + [3], [3, 2] * 300 + [3]):
-            self.assertEqual(in_node([["strip", levels]])[0][:2], [{"3": 300 * (1 + 5) + 1 + 2}, 0])
+            self.assertEqual(self.strip(levels)[:2], ({"level3": 301 * (1 + 2)}, 0))
 
     def test_a_column_of_the_strip_has_as_open_what_is_open_in_all(self):
         """Of 602 moments two share a column; in the first column both are open, in the second and the third one is."""
-        self.assertEqual(in_node([["strip", [0, 0, 0, 3, 3, 0] + [3] * 596]])[0][1], 1)
+        self.assertEqual(self.strip([0, 0, 0, 3, 3, 0] + [3] * 596)[1], 1)
 
     def test_200000_moments_have_a_strip(self):
-        """Of 334 moments a column, the first of which alone has a level: a box, and its tracks, one of them in two parts."""
-        self.assertEqual(in_node([["strip", [3] + [0] * 199999]])[0][:2], [{"3": 1 + 5}, 200000 // 334])
+        """Of 334 moments a column, the first of which alone has a level: a box, and its tracks in two parts."""
+        self.assertEqual(self.strip([3] + [0] * 199999)[:2], ({"level3": 1 + 2}, 200000 // 334))
 
     def test_a_column_of_the_strip_covers_no_gap(self):
         """Of 601 moments two share a column, but not the two with 9700 seconds between them."""
-        *_, columns = in_node([["strip", [0] * 601, [*range(301), *range(10000, 10300)]]])[0]
+        *_, columns = self.strip([0] * 601, [*range(301), *range(10000, 10300)])
         self.assertEqual(len(columns), 301)
         before, after = columns[150:152]
-        self.assertTrue(before[0] < 301 and before[1] < 310 and after[0] > 9999, (before, after))
+        self.assertTrue(before[0] < 306 and before[1] < 312 and after[0] > 9990, (before, after))
 
     def test_a_gap_that_cannot_be_seen_ends_no_column(self):
         """Of 6000 moments, in pairs a second apart and 11 seconds from pair to pair, ten share a column of 912 / 600 points."""
-        *_, columns = in_node([["strip", [0] * 6000, [11 * pair + second for pair in range(3000) for second in (0, 1)]]])[0]
+        *_, columns = self.strip([0] * 6000, [11 * pair + second for pair in range(3000) for second in (0, 1)])
         self.assertEqual(len(columns), 600)
 
     def test_the_last_column_of_the_strip_is_as_long_as_the_median_step(self):
         """Of moments at 0, 1, 11, 21 and 31 seconds: to 41, and not to 32."""
-        *_, columns = in_node([["strip", [0] * 5, [0, 1, 11, 21, 31]]])[0]
+        *_, columns = self.strip([0] * 5, [0, 1, 11, 21, 31])
         self.assertEqual([round(end) for end in columns[-1]], [31, 41])

@@ -16,10 +16,9 @@ class Used(unittest.TestCase):
     def test_the_table_the_clock_and_the_lines_of_the_report(self):
         """8.544 NM at 20.6 degrees, and 1.237 NM at 256.0. Each line of a level is marked with its number, and no other line is."""
         first, fifth = on_page("""
-            const read = () => [$("aircraft").tBodies[0].innerHTML, $("report").innerHTML, $("clock").textContent, $("slider").getAttribute("aria-valuetext")];
+            const read = () => [$("aircraft").tBodies[0].innerHTML, $("report").innerHTML, $("clock").textContent, $("axis").getAttribute("aria-valuetext")];
             const first = read();
-            $("slider").value = "5";
-            await fire($("slider"), "input");
+            daa.ui.goTo(Number("5"));
             await settle();
             return [first, read()];""")
         for _, report, *_ in (first, fifth):
@@ -43,8 +42,7 @@ class Used(unittest.TestCase):
             await fire($("example"), "change");
             const found = [];
             for (const value of given) {
-              $("slider").value = value;
-              await fire($("slider"), "input");
+              daa.ui.goTo(Number(value));
               await settle();
               found.push($("report").innerHTML);
             }
@@ -82,15 +80,14 @@ class Used(unittest.TestCase):
         told = on_page("""
             $("example").value = "encounter, with recoveries";
             await fire($("example"), "change");
-            $("slider").value = "6";
-            await fire($("slider"), "input");
+            daa.ui.goTo(Number("6"));
             await settle();
             return $("summary").textContent;""")
         self.assertEqual(told, "Alerts: AMBER level 3 now. Clear again: track 35° after 11 s; vertical speed 4600 ft/min after 11 s; "
                          "altitude 10500 ft after 14 s. Nothing open: ground speed.")
 
     def test_the_sentence_of_a_flight_that_may_be_kept(self):
-        told = on_page('$("slider").value = "18"; await fire($("slider"), "input"); await settle(); return $("summary").textContent;')
+        told = on_page('daa.ui.goTo(Number("18")); await settle(); return $("summary").textContent;')
         self.assertEqual(told, "No alert. The present flight may be kept.")
 
     def test_the_sentence_names_each_side(self):
@@ -175,8 +172,7 @@ class Used(unittest.TestCase):
             const told = () => [...display().daa.handles.values()].map((it) => [it.innerHTML, `${it.getAttribute("aria-label")}: ${it.getAttribute("aria-valuetext")}`]);
             const found = [told()];
             for (const value of ["1", "7"]) {
-              $("slider").value = value;
-              await fire($("slider"), "input");
+              daa.ui.goTo(Number(value));
               await settle();
               found.push(told());
             }
@@ -278,7 +274,7 @@ class Used(unittest.TestCase):
               await fire($("state"), "input", { target: input });
               await settle();
               found.push(input.value);
-              document.activeElement = $("slider");
+              document.activeElement = $("axis");
               await fire($("state"), "change", { target: input });
               await frame();
               await settle();
@@ -327,8 +323,7 @@ class Used(unittest.TestCase):
               }
             };
             await change(key(","), () => fire($("back"), "click"));
-            $("slider").value = "18";
-            await fire($("slider"), "input");
+            daa.ui.goTo(Number("18"));
             await settle();
             await change(key("."), () => fire($("forward"), "click"));
             await open(["one.states", given[0]]);
@@ -539,10 +534,9 @@ class Used(unittest.TestCase):
             await open(["order.states", given[0]]);
             const found = [];
             for (const focused of [null, "p:LOUD", "p:QUIET", "track"]) {
-              document.activeElement = focused ? handle(focused) : $("slider");
+              document.activeElement = focused ? handle(focused) : $("axis");
               for (const value of ["1", "2", "0"]) {
-                $("slider").value = value;
-                await fire($("slider"), "input");
+                daa.ui.goTo(Number(value));
                 await settle();
                 const group = display().querySelector("[data-layer=handles]");
                 found.push(group.children.map((it) => it.dataset.key).filter((key) => key.startsWith("p:") && key.length > 2));
@@ -564,17 +558,6 @@ class Used(unittest.TestCase):
         named = re.findall(r'<button id="(back|play|forward)" title="([^"]*)" aria-label="([^"]*)"', text_of(os.path.join(Page.folder, "index.html")))
         self.assertEqual(named, [("back", "Moment before (,)", "Moment before"), ("play", "Play or pause (space)", "Play"),
                                  ("forward", "Moment after (.)", "Moment after")])
-
-    def test_a_click_on_the_strip_goes_to_its_moment(self):
-        """And a finger that begins to scroll there does not."""
-        found = on_page("""
-            const found = [];
-            for (const event of ["pointerdown", "click"]) {
-              await fire($("strip"), event, { clientX: $("strip").daaG.x(75) });
-              found.push(page.index);
-            }
-            return found;""")
-        self.assertEqual(found, [0, 7])
 
     def test_as_recorded_can_be_pressed_where_something_was_changed(self):
         found = on_page("""
@@ -628,8 +611,7 @@ class Used(unittest.TestCase):
 
     def test_the_trail_has_the_moments_before(self):
         found = on_page("""
-            $("slider").value = "3";
-            await fire($("slider"), "input");
+            daa.ui.goTo(Number("3"));
             return daa.ui.modelOf(page.views[0]).trail.map(({ x, y, own }) => [x, y, own]);""")
         before = [moment for _, moment in moments_in(bytes_of(ENCOUNTER))[:3]]
         self.assertEqual(found, [[one.x, one.y, one is moment.own] for moment in before for one in (moment.own, *moment.traffic)])

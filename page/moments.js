@@ -1,0 +1,168 @@
+/* The moments of a recording, packed into blocks of whole numbers, so that 100,000 moments of 64 aircraft have room (2 KB each) and go
+ * from a worker to the page at once; and what is kept of the answers to them, for the strip over time. No page is needed. */
+"use strict";
+function daaMoments(root) {
+  const OWN = ["x", "y", "alt", "trk", "gs", "vs"];
+  const TRAFFIC = ["x", "y", "alt", "vx", "vy", "vs", "age"];
+  const BLOCK = 64; // moments
+
+  /** Packs moments one after the other; `take` gives those that were added as a block, and begins the next one. */
+  class Packer {
+    constructor() { this.begin(); }
+
+    begin() {
+      Object.assign(this, { times: [], starts: [0], numbers: [], names: [], places: new Map(), comments: [], faults: [] });
+    }
+
+    get isFull() { return this.times.length >= BLOCK; }
+    get isEmpty() { return this.times.length === 0; }
+
+    /** Adds a moment, and in words what was refused before it. */
+    add({ time, own, traffic, comments = [] }, fault = "") {
+      this.numbers.push(...OWN.map((field) => own[field]));
+      for (const one of traffic) this.numbers.push(this.placeOf(one.id), ...TRAFFIC.map((field) => one[field]));
+      this.times.push(time);
+      this.starts.push(this.numbers.length);
+      this.comments.push(comments);
+      this.faults.push(fault);
+    }
+
+    placeOf(name) {
+      if (!this.places.has(name)) this.places.set(name, this.names.push(name) - 1);
+      return this.places.get(name);
+    }
+
+    take() {
+      const { names, comments, faults } = this;
+      const block = { times: Uint32Array.from(this.times), starts: Uint32Array.from(this.starts), numbers: Int32Array.from(this.numbers), names,
+        comments, faults };
+      this.begin();
+      return block;
+    }
+  }
+
+  /** A moment of a block: a new one each time. */
+  function momentIn({ times, starts, numbers, names, comments }, place) {
+    const some = (at, fields) => Object.fromEntries(fields.map((field, i) => [field, numbers[at + i]]));
+    const traffic = [];
+    for (let at = starts[place] + OWN.length; at < starts[place + 1]; at += 1 + TRAFFIC.length) {
+      traffic.push({ id: names[numbers[at]], ...some(at + 1, TRAFFIC) });
+    }
+    return { time: times[place], own: some(starts[place], OWN), traffic, comments: [...comments[place]] };
+  }
+
+  /** A part of a block, as a block of its own. */
+  function partOf({ times, starts, numbers, names, comments, faults }, first, count) {
+    const [from, upto] = [starts[first], starts[first + count]];
+    return { times: times.slice(first, first + count), starts: starts.slice(first, first + count + 1).map((at) => at - from),
+      numbers: numbers.slice(from, upto), names, comments: comments.slice(first, first + count), faults: faults.slice(first, first + count) };
+  }
+
+  /** The moments of a recording, which may grow. */
+  class Moments {
+    constructor() {
+      Object.assign(this, { blocks: [], firsts: [], length: 0, ids: new Set() });
+    }
+
+    /** Those of a list, and in words what was refused before each. */
+    static of(list, faults = []) {
+      const made = new Moments();
+      const packer = new Packer();
+      list.forEach((moment, index) => {
+        packer.add(moment, faults[index]);
+        if (packer.isFull) made.append(packer.take());
+      });
+      if (!packer.isEmpty) made.append(packer.take());
+      return made;
+    }
+
+    append(block) {
+      this.firsts.push(this.length);
+      this.blocks.push(block);
+      this.length += block.times.length;
+      for (const name of block.names) this.ids.add(name);
+    }
+
+    /** The block of a moment, and its place there. */
+    find(index) {
+      let [low, high] = [0, this.firsts.length - 1];
+      while (low < high) {
+        const middle = Math.ceil((low + high) / 2);
+        if (this.firsts[middle] <= index) low = middle;
+        else high = middle - 1;
+      }
+      return [this.blocks[low], index - this.firsts[low]];
+    }
+
+    at(index) { return momentIn(...this.find(index)); }
+
+    time(index) {
+      const [block, place] = this.find(index);
+      return block.times[place];
+    }
+
+    comments(index) {
+      const [block, place] = this.find(index);
+      return block.comments[place];
+    }
+
+    /** In words what was refused before a moment. */
+    fault(index) {
+      const [block, place] = this.find(index);
+      return block.faults[place];
+    }
+
+    /** All times: those are looked through where each index is asked for. */
+    times() {
+      const all = new Float64Array(this.length);
+      this.blocks.forEach((block, i) => all.set(block.times, this.firsts[i]));
+      return all;
+    }
+
+    /** The last moment that is no later than a time, or the first one. */
+    indexAt(time) {
+      let [low, high] = [0, this.length - 1];
+      while (low < high) {
+        const middle = Math.ceil((low + high) / 2);
+        if (this.time(middle) <= time) low = middle;
+        else high = middle - 1;
+      }
+      return low;
+    }
+
+    /** At most so many moments from one on, as a block: what a worker is asked about. */
+    part(first, count) {
+      const [block, place] = this.find(first);
+      return partOf(block, place, Math.min(count, block.times.length - place));
+    }
+
+    *[Symbol.iterator]() {
+      for (let index = 0; index < this.length; index++) yield this.at(index);
+    }
+  }
+
+  /** What is kept of the report of a moment: who alerts, and at which level; the bands of tracks; the ownship's track and the open ones; and all
+   *  answers, by which two configurations are compared. */
+  function noteOf(moment, said) {
+    const answers = Object.entries(said.resolve).map(([kind, { lower, upper }]) => `${kind} ${lower} ${upper}`).join(", ");
+    return { time: moment.time, levels: said.aircraft.filter((one) => one.level).map((one) => [one.id, one.level]),
+      bands: said.bands.track.map(({ from, upto, level }) => [from, upto, level]), trk: moment.own.trk,
+      open: Object.values(said.resolve.track ?? {}).filter((to) => typeof to === "number"), answers };
+  }
+
+  /** The notes of all moments of a block; null where the engine gave no report. */
+  function notesOf(engine, config, block) {
+    return Array.from(block.times, (_, place) => {
+      const moment = momentIn(block, place);
+      try {
+        return noteOf(moment, root.daa.readReport(engine.report(config, moment)));
+      } catch (problem) {
+        if (problem instanceof root.daa.Refused || problem instanceof root.daa.Stopped || problem instanceof RangeError) return null;
+        throw problem;
+      }
+    });
+  }
+
+  Object.assign(root.daa, { Packer, Moments, momentIn, noteOf, notesOf });
+}
+daaMoments(globalThis);

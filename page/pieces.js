@@ -1,0 +1,113 @@
+/* How state lines and recordings become blocks of moments: at once, or piece by piece in a worker, so that a long recording is shown from its
+ * first moment on and never stops the page. No page is needed. */
+"use strict";
+function daaPieces(root) {
+  const { Packer, StateLines } = root.daa;
+  const MOST_NOTES = 5; // so many of the things that a moment lacks are told one by one
+
+  /** What a moment lacks in words: each thing, or of many the first few, and how many more. */
+  function wordsOfLack(things, count, rest) {
+    if (count <= MOST_NOTES + 1) return things.join("; ");
+    return `${things.slice(0, MOST_NOTES).join("; ")}; ${count - MOST_NOTES} more ${rest}`;
+  }
+
+  /** State lines that come in pieces. */
+  class StatesReading {
+    constructor(engine) {
+      Object.assign(this, { lines: new StateLines(engine), packer: new Packer(), refused: [], before: 0, count: 0, first: null });
+    }
+
+    /** The blocks of moments of a piece. */
+    *take(bytes, isLast) {
+      const { packer } = this;
+      for (const event of this.lines.take(bytes, isLast)) {
+        if (event.moment) {
+          packer.add(event.moment, wordsOfLack(this.refused, this.before, "were refused before this moment"));
+          Object.assign(this, { refused: [], before: 0 });
+          if (packer.isFull) yield packer.take();
+        } else this.refuse(event);
+      }
+      if (isLast && !packer.isEmpty) yield packer.take();
+    }
+
+    refuse(event) {
+      this.count += 1;
+      this.before += 1;
+      this.first ??= event;
+      if (this.refused.length <= MOST_NOTES) this.refused.push(`line ${event.refused} was refused with code ${event.code}`);
+    }
+
+    /** What is told at the end: of a file without a moment why it has none. */
+    end(name) {
+      const { count, first, lines } = this;
+      const why = first ? `; line ${first.refused} was refused with code ${first.code}` : "";
+      return { told: count ? [`${name}: ${count} ${count === 1 ? "line was" : "lines were"} refused`] : [], clock: lines.clock, alone: "",
+        none: `${name} has no whole moment${why}` };
+    }
+  }
+
+  /** A recording of some files, each of a name and a text. */
+  class RecordingReading {
+    constructor(files, choice) {
+      this.recording = root.daa.openRecording(files, choice);
+    }
+
+    *blocks() {
+      const packer = new Packer();
+      for (const moment of this.recording.moments()) {
+        packer.add(moment);
+        if (packer.isFull) yield packer.take();
+      }
+      if (!packer.isEmpty) yield packer.take();
+    }
+
+    end(name) {
+      const { names, own, faults, notes, alone, count } = this.recording.end();
+      const none = count ? "" : `${name}: no moment is left; ${[...faults, ...notes].join("; ")}`;
+      return { told: notes, faults, names, own, alone, clock: this.recording.clock, none };
+    }
+  }
+
+  /** Reads files, and gives each block with the share of them that is read; its promise is of what is told at the end. `breathe` is waited for now
+   *  and then. */
+  async function readFiles(engine, files, choice, give, breathe) {
+    const name = files.map((file) => file.name).join(", ");
+    if (choice.isRecording) {
+      const texts = await Promise.all(files.map(async (file) => ({ name: file.name, text: await file.text() })));
+      const reading = new RecordingReading(texts, choice);
+      for (const block of reading.blocks()) {
+        give(block, null);
+        await breathe();
+      }
+      return reading.end(name);
+    }
+    const [file] = files;
+    const reading = new StatesReading(engine);
+    const pieces = file.stream().getReader();
+    for (let read = 0; ;) {
+      const { done, value } = await pieces.read();
+      if (!done) read += value.length;
+      for (const block of reading.take(done ? new Uint8Array(0) : value, done)) {
+        give(block, read / file.size);
+        await breathe();
+      }
+      if (done) return reading.end(name);
+    }
+  }
+
+  Object.assign(root.daa, { StatesReading, RecordingReading, readFiles, wordsOfLack });
+}
+daaPieces(globalThis);
+
+/** What runs in the worker that reads files. */
+function daaReader(scope) {
+  scope.onmessage = async ({ data: { module, files, choice } }) => {
+    const give = (block, share) => scope.postMessage({ block, share }, [block.times.buffer, block.starts.buffer, block.numbers.buffer]);
+    try {
+      const engine = await daa.Engine.open(module);
+      scope.postMessage({ end: await daa.readFiles(engine, files, choice, give, () => null) });
+    } catch (problem) {
+      scope.postMessage({ failed: problem instanceof daa.NoRecording ? problem.message : `it can't be read (${problem.message})` });
+    }
+  };
+}

@@ -1,0 +1,118 @@
+/* All moments under a configuration, asked for one part after the other, in workers of their own: what is known of them is kept for the strip over
+ * time, for the next alert, and for where two configurations differ. */
+"use strict";
+(function () {
+  const { ui } = daa;
+  const { state } = ui;
+  const WORKERS = Math.max(1, Math.min(2, (globalThis.navigator?.hardwareConcurrency ?? 2) - 1));
+  const SHORT = 60; // ms: a part that is answered sooner is followed by a greater one ..
+  const LONG = 200; // .. and one that takes longer by a smaller one
+  const MOST_PART = 256; // moments
+  const OFTEN = 200; // ms: between two drawings of what is new
+
+  class Survey {
+    constructor(place, module) {
+      Object.assign(this, { place, module, desks: [], job: 0, notes: [], most: new Map(), decided: 0, next: 0 });
+    }
+
+    /** Asks for every moment anew, under the configuration that the view has now. */
+    begin() {
+      this.job += 1;
+      Object.assign(this, { notes: [], most: new Map(), decided: 0, next: 0 });
+      while (this.desks.length < WORKERS) this.desks.push(new daa.Desk(this.module));
+      for (const desk of this.desks) desk.forget();
+      return Promise.all(this.desks.map((desk) => this.askAll(desk)));
+    }
+
+    /** Asks nothing more. */
+    end() {
+      this.job += 1;
+      for (const desk of this.desks) desk.forget();
+      Object.assign(this, { notes: [], most: new Map(), decided: 0, next: 0 });
+    }
+
+    async askAll(desk) {
+      const { job } = this;
+      const { bytes } = state.views[this.place].config;
+      for (let count = 1; ;) {
+        const { moments } = state;
+        if (this.next >= moments.length) {
+          if (!state.reading) return;
+          await ui.grown();
+          if (job !== this.job) return;
+          continue;
+        }
+        const first = this.next;
+        const part = moments.part(first, count);
+        this.next += part.times.length;
+        const answer = await desk.ask({ config: { bytes }, part });
+        if (job !== this.job || !answer) return;
+        this.take(first, part.times.length, answer.notes ?? []);
+        count = answer.took < SHORT ? Math.min(2 * count, MOST_PART) : answer.took > LONG ? Math.max(count >> 1, 1) : count;
+      }
+    }
+
+    /** Keeps the notes of some moments; null where there is no answer, which stays unknown. */
+    take(first, count, notes) {
+      for (let i = 0; i < count; i++) {
+        const note = notes[i] ?? null;
+        this.notes[first + i] = note;
+        for (const [id, level] of note ? note.levels : []) if (level > (this.most.get(id) || 0)) this.most.set(id, level);
+      }
+      this.decided += count;
+      if (this.decided < state.moments.length || state.reading) soon();
+      else {
+        ui.paintTime();
+        ui.paintBar();
+        if (this.place === 0) document.body.dataset.surveyed = String(this.decided);
+      }
+    }
+  }
+
+  // What is new is drawn now and then; after each drawing as much time is left as it took, and more.
+  let waits = false;
+  function soon() {
+    if (waits) return;
+    waits = true;
+    setTimeout(() => {
+      waits = false;
+      if (!state.current) return;
+      ui.paintTime();
+      ui.paintBar();
+    }, OFTEN);
+  }
+
+  /** Asks for all moments under the first configuration; and under the second one where both are shown. */
+  function survey() {
+    document.body.dataset.surveyed = "";
+    const [first, second] = state.surveys;
+    const all = [first.begin(), ...(state.compare ? [second.begin()] : [])];
+    if (!state.compare) second.end();
+    return Promise.all(all);
+  }
+
+  /** The next moment after, or before, the present one that holds; its index, or -1. */
+  function search(by, holds) {
+    for (let index = state.index + by; index >= 0 && index < state.moments.length; index += by) if (holds(index)) return index;
+    return -1;
+  }
+
+  const greatest = (index) => {
+    const note = state.surveys[0].notes[index];
+    return note ? Math.max(0, ...note.levels.map(([, level]) => level)) : 0;
+  };
+
+  /** Where an alert begins or becomes greater. */
+  const nextAlert = (by) => search(by, (index) => greatest(index) > (index ? greatest(index - 1) : 0));
+
+  /** Whether both configurations are known to differ at a moment. */
+  function isOther(index) {
+    const [one, other] = state.surveys.map(({ notes }) => notes[index]);
+    return Boolean(one && other) && daa.differs(one, other);
+  }
+
+  /** Where the two configurations begin to differ. */
+  const nextDifference = (by) => search(by, (index) => isOther(index) && !(index && isOther(index - 1)));
+
+  Object.assign(ui, { Survey, survey, soon, nextAlert, nextDifference, isOther });
+})();
