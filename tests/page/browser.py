@@ -1,4 +1,4 @@
-"""The page in a browser, Chromium or Firefox: one for all tests, driven by real events, and what it shows."""
+"""The page in a browser, Chromium or Firefox: one for all tests of a module, driven by real events, and what it shows."""
 import base64
 import json
 import os
@@ -177,8 +177,8 @@ class Browser:
         """Puts the slider on a moment by its keys."""
         at = self.js("return daa.page.index")
         key = Keys.ARROW_RIGHT if place > at else Keys.ARROW_LEFT
-        for _ in range(abs(place - at)):
-            self.keys("#axis", key)
+        if place != at:
+            self.keys("#axis", key * abs(place - at))
 
     def downloaded(self, ending):
         end = time.monotonic() + LONG

@@ -1,4 +1,4 @@
-"""Wrong pages: each is the page with one bug, and the test that is named must fail on it."""
+"""Wrong pages: each is the page with one bug, and the test that is named must fail on it. They are tried in parts, test_mutants_1 and so on."""
 import importlib
 import io
 import os
@@ -6,38 +6,40 @@ import shutil
 import tempfile
 import unittest
 
-import test_browser
+import page_test
 from browser import HAS_BROWSER, HOW
-from test_browser import PageTest
+from page_test import PageTest
 from shared import Page, text_of
+
+PARTS = 4  # so many modules try them, which may run side by side
 
 # The bug, the file, the text that is there once, what stands in its place, and the test.
 MUTANTS = [
     ("bands of level 3 are drawn as 2", "compass.js", "upto: band.upto + step / 2, level: band.level }));",
-     "upto: band.upto + step / 2, level: Math.min(band.level, 2) }));", "test_browser.Shown.test_each_moment_of_the_encounter"),
+     "upto: band.upto + step / 2, level: Math.min(band.level, 2) }));", "test_shown.Shown.test_each_moment_of_the_encounter"),
     ("symbols show no level", "draw.js", 'set("data-level", level);', 'set("data-level", level && 1);',
-     "test_browser.Shown.test_each_moment_of_the_encounter"),
+     "test_shown.Shown.test_each_moment_of_the_encounter"),
     ("two speeds are swapped", "core.js", '"alt", "vx", "vy", "vs", "age"]', '"alt", "vy", "vx", "vs", "age"]',
-     "test_browser.Shown.test_each_moment_of_the_encounter"),
+     "test_shown.Shown.test_each_moment_of_the_encounter"),
     ("the answers on both sides are swapped", "words.js", "const { lower, upper } = said.resolve[kind];",
-     "const { lower: upper, upper: lower } = said.resolve[kind];", "test_browser.Shown.test_each_moment_of_the_encounter"),
+     "const { lower: upper, upper: lower } = said.resolve[kind];", "test_shown.Shown.test_each_moment_of_the_encounter"),
     ("a level has its colour alone, and no pattern", "art.js", "(level ? `url(#level${level})`", "(level ? `var(--l${level}-fill)`",
-     "test_browser.Shown.test_a_level_is_told_by_colour_by_pattern_and_by_number"),
+     "test_shown.Shown.test_a_level_is_told_by_colour_by_pattern_and_by_number"),
     ("two models are swapped", "core.js", '"tcpa", "tau", "tep"]', '"tcpa", "tep", "tau"]',
-     "test_browser.Configured.test_a_levels_model_counts_at_once"),
+     "test_configured.Configured.test_a_levels_model_counts_at_once"),
     ("each kind shows the last time of speeds", "words.js", "const last = said.last[kind];", "const last = said.last.gs;",
-     "test_browser.Shown.test_last_times_are_shown"),
+     "test_shown.Shown.test_last_times_are_shown"),
     ("the key of last times stands elsewhere among the numbers", "core.js", '...AFTER_RECOVERY, "count"', '"count", ...AFTER_RECOVERY',
-     "test_browser.Configured.test_last_times_count_at_once"),
+     "test_configured.Configured.test_last_times_count_at_once"),
     ("ages are left out", "core.js", "view.setInt32(at + ID_SIZE + 4 * i, one[name], true)",
-     'view.setInt32(at + ID_SIZE + 4 * i, name === "age" ? 0 : one[name], true)', "test_browser.Moved.test_an_old_report_is_flown_on"),
+     'view.setInt32(at + ID_SIZE + 4 * i, name === "age" ? 0 : one[name], true)', "test_moved.Moved.test_an_old_report_is_flown_on"),
     ("a drag moves east alone", "hands.js", 'one.y = within(to.y - ((one.vy || 0) * age) / 36, "y");', "",
-     "test_browser.Moved.test_an_aircraft_is_dragged"),
-    ("what is taken back stays changed", "time.js", "else state.edits.delete(index);", "", "test_browser.Moved.test_an_aircraft_is_dragged"),
+     "test_moved.Moved.test_an_aircraft_is_dragged"),
+    ("what is taken back stays changed", "time.js", "else state.edits.delete(index);", "", "test_moved.Moved.test_an_aircraft_is_dragged"),
     ("a fault of a number has another code", "toml.js", "add(5, `${where}${key} = ", "add(6, `${where}${key} = ",
-     "test_browser.Configured.test_a_fault_has_its_code_its_key_and_its_line"),
+     "test_configured.Configured.test_a_fault_has_its_code_its_key_and_its_line"),
     ("a link loses the second configuration", "page.js", "place) => configure(place, String(toml)", "place) => configure(0, String(toml)",
-     "test_browser.Loaded.test_a_link_holds_the_whole_moment"),
+     "test_opened.Opened.test_a_link_holds_the_whole_moment"),
     ("a link holds an edited text that is refused", "page.js", "({ name, taken }) => ({ name, toml: taken })", "({ name, toml }) => ({ name, toml })",
      "test_loaded.Loaded.test_a_link_holds_the_configuration_that_counts"),
     ("a refused configuration gives its name", "page.js", "    view.refusal = null;\n", "    Object.assign(view, { name, refusal: null });\n",
@@ -45,11 +47,11 @@ MUTANTS = [
     ("keys call two aircraft by one name", "places.js", "(one.id && traffic.find(({ id }) => id === one.id) === one ?", "(one.id ?",
      "test_used.Used.test_a_name_is_written_past_that_of_another_aircraft"),
     ("late reports of a recording count as new", "recording.js", "const age = Math.min(wholeSecond(late), MOST_AGE);", "const age = 0;",
-     "test_browser.Loaded.test_a_recording_seen_from_each_of_its_aircraft"),
+     "test_opened.Opened.test_a_recording_seen_from_each_of_its_aircraft"),
     ("playing has a pace of its own", "time.js", '* Number($("speed").value);', "* 20;",
-     "test_browser.Timed.test_playing_keeps_the_recordings_own_times"),
+     "test_timed.Timed.test_playing_keeps_the_recordings_own_times"),
     ("old bands stay while a long moment is decided", "state.js", "(isAnswered(view) ? view.said : null)", "view.said",
-     "test_browser.Timed.test_no_old_band_is_shown_while_a_moment_is_decided"),
+     "test_timed.Timed.test_no_old_band_is_shown_while_a_moment_is_decided"),
     ("what is not decided yet is clear in the strip", "strip.js", "this.fill(paints.unknown,", "this.fill(paints.clear,",
      "test_drawn.Strip.test_nothing_is_clear_that_is_not_decided"),
     ("a column is drawn before it is decided", "strip.js", "      if (!note) return null;\n", "      if (!note) continue;\n",
@@ -67,7 +69,7 @@ MUTANTS = [
     ("the clock's hours are minutes", "time.js", "two((time % DAY) / 3600)", "two((time % DAY) / 60)", "test_time.Time.test_the_clock"),
     ("a line between two pieces is lost", "core.js", "this.rest = bytes.slice(Math.min(start, bytes.length)).slice(0, LONGEST_LINE);", "this.rest = new Uint8Array(0);",
      "test_time.Time.test_a_long_file_is_read_in_pieces_by_the_page_itself_where_there_is_no_worker"),
-    ("a long file is shown at its end", "load.js", "if (!isBegun) begin(", "if (share === null) begin(", "test_browser.Shown.test_a_long_file_is_read_by_a_worker"),
+    ("a long file is shown at its end", "load.js", "if (!isBegun) begin(", "if (share === null) begin(", "test_shown.Shown.test_a_long_file_is_read_by_a_worker"),
     ("an edit hides what the moment lacks", "state.js", "[...told, lack]", '[...told, state.edited ? "" : lack]',
      "test_loaded.Loaded.test_what_a_moment_lacks_is_told_whatever_is_changed_by_hand"),
     ("a link loses what its moment lacks", "page.js", " lacks, configs,", " configs,", "test_loaded.Loaded.test_a_link_tells_what_its_moment_lacks"),
@@ -94,21 +96,21 @@ MUTANTS = [
     ("a stopped worker answers what was asked later", "desk.js", "if (!this.busy || this.busy.number !== number) return;", "if (!this.busy) return;",
      "test_asked.Asked.test_a_stopped_worker_answers_no_later_question"),
     ("the page itself decides a long moment", "desk.js", "const worker = new Worker(address);", 'throw new Error("none");',
-     "test_browser.Timed.test_a_long_moment_leaves_the_page_alive"),
+     "test_timed.Timed.test_a_long_moment_leaves_the_page_alive"),
     ("after a trap the instance is not made anew", "core.js", "        this.renew();\n        throw", "        throw",
-     "test_browser.Broken.test_after_a_trap_the_instance_is_made_anew"),
+     "test_timed.Broken.test_after_a_trap_the_instance_is_made_anew"),
     ("labels keep out of nothing's way", "labels.js", "return this.boxes.reduce((sum, other) => sum + overlap(box, other), 0);", "return 0;",
-     "test_browser.Layout.test_twenty_aircraft"),
+     "test_layout.Layout.test_twenty_aircraft"),
     ("labels stand on the ring", "labels.js", "> this.disc.radius);", "> this.disc.radius + 60);",
-     "test_browser.Layout.test_twenty_aircraft"),
+     "test_layout.Layout.test_twenty_aircraft"),
     ("two displays push the panel out of the window", "style.css", '"displays displays" minmax(0, 1fr)', '"displays displays" 80vh',
-     "test_browser.Layout.test_two_displays"),
+     "test_layout.Layout.test_two_displays"),
     ("a long answer is cut", "art.js", "Math.min(font, (font * room) / widthOf(words, font))", "font",
-     "test_browser.Layout.test_the_encounter"),
+     "test_layout.Layout.test_the_encounter"),
     ("paper is as dark as the screen", "style.css", "  :root, :root[data-theme] { color-scheme: light; }\n", "",
-     "test_browser.Everyone.test_on_paper"),
+     "test_everyone.Everyone.test_on_paper"),
     ("a handle has no name for a screen reader", "draw.js", 'set("aria-label", label);', "",
-     "test_browser.Everyone.test_by_screen_reader"),
+     "test_everyone.Everyone.test_by_screen_reader"),
     ("a last time of 0 vanishes", "words.js", """else if (last !== undefined) more.push(["last", `a turn""", """else if (last) more.push(["last", `a turn""",
      "test_drawn.Ends.test_the_most_urgent_last_time_is_shown"),
     ("two aircraft on both sides of the 180th meridian are far from each other", "recording.js", "modulo(other[1] - one[1] + 180, 360) - 180",
@@ -142,16 +144,16 @@ MUTANTS = [
     ("the ownship is drawn over what alerts", "handles.js", "...ownHandles(view, model), ...made(rest.filter(isLoud)),", "...made(rest.filter(isLoud)), ...ownHandles(view, model),",
      "test_sight.Sight.test_what_alerts_is_in_the_range_and_over_the_ownship"),
     ("keys mean nothing at a list", "hands.js", 'const TYPES = "textarea,', 'const TYPES = "select, textarea,',
-     "test_browser.Obeyed.test_keys_count_wherever_the_focus_is_but_where_letters_are_typed"),
+     "test_moved.Obeyed.test_keys_count_wherever_the_focus_is_but_where_letters_are_typed"),
     ("a button's plus is farther", "state.js", '${button("wide", "−", "Greater range")}<span data-is="range"></span>${button("near", "+", "Smaller range")}',
-     '${button("near", "−", "Smaller range")}<span data-is="range"></span>${button("wide", "+", "Greater range")}', "test_browser.Obeyed.test_plus_means_one_thing"),
+     '${button("near", "−", "Smaller range")}<span data-is="range"></span>${button("wide", "+", "Greater range")}', "test_moved.Obeyed.test_plus_means_one_thing"),
     ("a wheel goes by events", "hands.js", "const NOTCH = 80;", "const NOTCH = 1;", "test_used.Used.test_a_wheel_that_turns_sideways_keeps_the_range"),
-    ("the tabulator goes to each of 64 aircraft", "draw.js", 'isReached ? "0" : "-1"', '"0"', "test_browser.Obeyed.test_play_is_reached_in_a_few_steps_with_64_aircraft"),
+    ("the tabulator goes to each of 64 aircraft", "draw.js", 'isReached ? "0" : "-1"', '"0"', "test_moved.Obeyed.test_play_is_reached_in_a_few_steps_with_64_aircraft"),
     ("a removed aircraft takes the focus with it", "hands.js", 'if (event.key === "Delete") focusOn(figure, "p:");', "",
-     "test_browser.Obeyed.test_a_removed_aircraft_leaves_the_focus_somewhere"),
-    ("a slider is told beyond its greatest value", "handles.js", "least: 0, most: 566", "least: 0, most: 5", "test_browser.Obeyed.test_sliders_say_true_numbers"),
+     "test_moved.Obeyed.test_a_removed_aircraft_leaves_the_focus_somewhere"),
+    ("a slider is told beyond its greatest value", "handles.js", "least: 0, most: 566", "least: 0, most: 5", "test_moved.Obeyed.test_sliders_say_true_numbers"),
     ("forced colours show nothing chosen", "style.css", "@media (forced-colors: active) {", "@media (forced-colors: none) {",
-     "test_browser.Obeyed.test_forced_colours_show_what_is_chosen"),
+     "test_moved.Obeyed.test_forced_colours_show_what_is_chosen"),
     ("a file names a network", "index.html", '<script src="page.js">', '<script src="https://example.org/page.js">',
      "test_files.Files.test_no_file_names_a_network_address"),
 ]
@@ -163,22 +165,31 @@ def outcome(test):
     return unittest.TextTestRunner(stream=io.StringIO(), verbosity=0).run(suite)
 
 
+def of_part(part):
+    """The wrong pages of a part, 1 to PARTS: every fourth, so that those of one test are spread."""
+    return MUTANTS[part - 1::PARTS]
+
+
 @unittest.skipUnless(HAS_BROWSER, HOW)
-class Mutants(unittest.TestCase):
+class WrongPages(unittest.TestCase):
+    """Each wrong page of a part fails. A module of a part has a class of it that names the part."""
+
+    part = None
+
     def setUp(self):
         """One browser for all of them."""
-        test_browser.setUpModule()
+        page_test.setUpModule()
         self.held, PageTest.own = PageTest.own, None
 
     def tearDown(self):
         PageTest.own = self.held
-        test_browser.tearDownModule()
+        page_test.tearDownModule()
 
-    def test_each_wrong_page_fails(self):
+    def check_each(self):
         """The named test fails on the wrong page, and not for want of what it needs; on the page itself it passes elsewhere."""
         right = Page.folder
         self.addCleanup(setattr, Page, "folder", right)
-        for bug, file, old, new, test in MUTANTS:
+        for bug, file, old, new, test in of_part(self.part):
             with self.subTest(bug), tempfile.TemporaryDirectory() as folder:
                 Page.folder = os.path.join(folder, "page")
                 shutil.copytree(right, Page.folder)
@@ -190,7 +201,7 @@ class Mutants(unittest.TestCase):
                 self.assertEqual((result.testsRun, len(result.skipped)), (1, 0))
                 self.assertTrue(result.failures or result.errors, f"{test} passes on a page in which {bug}")
 
-    def test_each_named_test_is_there(self):
-        for *_, test in MUTANTS:
-            module, case, name = test.split(".")
-            self.assertTrue(hasattr(getattr(importlib.import_module(module), case), name), test)
+
+def is_there(test):
+    module, case, name = test.split(".")
+    return hasattr(getattr(importlib.import_module(module), case, None), name)
