@@ -17,11 +17,11 @@ function daaWorker(scope) {
 
 function daaAnswer(root) {
   /** The answer to a question, in plain values: of a moment the report, what was refused, or that the engine stopped; of a part of a recording its
-   *  notes. */
-  root.daa.answerOf = (engine, { config, moment, part }) => {
+   *  notes, packed. */
+  root.daa.answerOf = (engine, { config, moment, part, first }) => {
     const before = performance.now();
     try {
-      if (part) return { notes: root.daa.notesOf(engine, config, part), took: performance.now() - before };
+      if (part) return { notes: root.daa.notesOf(engine, config, part, first), took: performance.now() - before };
       return { text: engine.report(config, moment), took: performance.now() - before };
     } catch (problem) {
       if (problem instanceof daa.Refused) return { code: problem.code, fault: problem.fault };

@@ -4,7 +4,7 @@
   const { ui } = daa;
   const { StatesReading, RecordingReading, Moments, NoRecording, clamp, bytesOf } = daa;
   const { $, state, fill, changed, fitting, go, pause } = ui;
-  const LARGE = 1000000; // bytes: what is longer is read in a worker
+  const LARGE = 50000; // bytes: what is longer is read in a worker, since reading it here would take more than a tenth of a second
   const HEAD = 65536; // bytes in which the kind of a file is seen
   const COLUMNS = `self.daa.columns = ${JSON.stringify(daa.columns)};`; // which is no function, for a worker
   const PATIENCE = 30; // ms that the page itself reads before it lets others come, where there is no worker

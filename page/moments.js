@@ -150,9 +150,83 @@ function daaMoments(root) {
       open: Object.values(said.resolve.track ?? {}).filter((to) => typeof to === "number"), answers };
   }
 
-  /** The notes of all moments of a block; null where the engine gave no report. */
-  function notesOf(engine, config, block) {
-    return Array.from(block.times, (_, place) => {
+  const NO_TRACK = -1; // in place of an open track
+
+  /** Notes as numbers, and names and answers once each: so 100,000 notes of 64 aircraft that alert take 30 MB, and go to the page at once. A note that
+   *  is null, since the engine gave no report, has no number of an answer. */
+  function packNotes(notes, first = 0) {
+    const [names, answers] = [new Map(), new Map()];
+    const placeIn = (places, word) => {
+      if (!places.has(word)) places.set(word, places.size);
+      return places.get(word);
+    };
+    const [heads, levels, bands, ends] = [[], [], [], [0, 0]];
+    for (const note of notes) {
+      if (note) {
+        const [one = NO_TRACK, other = NO_TRACK] = note.open;
+        heads.push(note.time, note.trk, one, other, placeIn(answers, note.answers));
+        for (const [id, level] of note.levels) levels.push(8 * placeIn(names, id) + level);
+        for (const run of note.bands) bands.push(...run);
+      } else heads.push(0, 0, NO_TRACK, NO_TRACK, -1);
+      ends.push(levels.length, bands.length);
+    }
+    return { first, names: [...names.keys()], answers: [...answers.keys()], heads: Float64Array.from(heads), levels: Uint32Array.from(levels),
+      bands: Int16Array.from(bands), ends: Uint32Array.from(ends) };
+  }
+
+  const HEAD = 5; // numbers of a note: time, track, the open tracks, the place of its answers
+
+  /** The notes of a recording: of each moment its note, null where the engine gave none, or undefined where it was not asked yet. */
+  class Notes {
+    constructor() { this.packs = []; }
+
+    /** Those of a list. */
+    static of(notes) {
+      const made = new Notes();
+      made.put(packNotes(notes));
+      return made;
+    }
+
+    put(pack) {
+      const count = pack.ends.length / 2 - 1;
+      for (let place = 0; place < count; place++) this.packs[pack.first + place] = pack;
+    }
+
+    get length() { return this.packs.length; }
+
+    has(index) {
+      const pack = this.packs[index];
+      return pack !== undefined && pack.heads[HEAD * (index - pack.first) + 4] >= 0;
+    }
+
+    at(index) {
+      const pack = this.packs[index];
+      if (!pack) return undefined;
+      if (!this.has(index)) return null;
+      const { names, answers, heads, levels, bands, ends, first } = pack;
+      const place = index - first;
+      const [time, trk, one, other, said] = heads.subarray(HEAD * place, HEAD * (place + 1));
+      const made = { time, levels: [], bands: [], trk, open: [one, other].filter((to) => to !== NO_TRACK), answers: answers[said] };
+      for (let at = ends[2 * place]; at < ends[2 * place + 2]; at++) made.levels.push([names[levels[at] >> 3], levels[at] & 7]);
+      for (let at = ends[2 * place + 1]; at < ends[2 * place + 3]; at += 3) made.bands.push([bands[at], bands[at + 1], bands[at + 2]]);
+      return made;
+    }
+
+    /** The greatest level of a moment, 0 also where it is not known. */
+    greatest(index) {
+      if (!this.has(index)) return 0;
+      const { levels, ends, first } = this.packs[index];
+      let most = 0;
+      for (let at = ends[2 * (index - first)]; at < ends[2 * (index - first) + 2]; at++) most = Math.max(most, levels[at] & 7);
+      return most;
+    }
+
+    map(act) { return Array.from(this.packs, (_, index) => act(this.at(index), index)); }
+  }
+
+  /** The notes of all moments of a block, packed; null where the engine gave no report. `first` is the place of the first one in the recording. */
+  function notesOf(engine, config, block, first) {
+    return packNotes(Array.from(block.times, (_, place) => {
       const moment = momentIn(block, place);
       try {
         return noteOf(moment, root.daa.readReport(engine.report(config, moment)));
@@ -160,9 +234,9 @@ function daaMoments(root) {
         if (problem instanceof root.daa.Refused || problem instanceof root.daa.Stopped || problem instanceof RangeError) return null;
         throw problem;
       }
-    });
+    }), first);
   }
 
-  Object.assign(root.daa, { Packer, Moments, momentIn, noteOf, notesOf });
+  Object.assign(root.daa, { Packer, Moments, momentIn, noteOf, notesOf, packNotes, Notes });
 }
 daaMoments(globalThis);

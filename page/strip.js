@@ -53,16 +53,12 @@
 
   /** What a column shows, or null where one of its moments is not decided. */
   function sumOf({ first, last }, notes, others, step) {
-    const sum = { levels: new Map(), bands: [], trk: 0, open: [], isOther: false };
-    for (let index = first; index <= last; index++) {
-      const note = notes[index];
-      if (!note) return null;
-      for (const [id, level] of note.levels) sum.levels.set(id, Math.max(level, sum.levels.get(id) || 0));
-      sum.isOther ||= Boolean(others && others[index]) && differs(note, others[index]);
-    }
-    const some = notes.slice(first, last + 1);
+    for (let index = first; index <= last; index++) if (!notes.has(index)) return null;
+    const some = Array.from({ length: last - first + 1 }, (_, i) => notes.at(first + i));
+    const sum = { levels: new Map(), bands: [], trk: some[0].trk, open: [], isOther: false };
+    for (const note of some) for (const [id, level] of note.levels) sum.levels.set(id, Math.max(level, sum.levels.get(id) || 0));
+    sum.isOther = Boolean(others) && some.some((note, i) => others.has(first + i) && differs(note, others.at(first + i)));
     sum.bands = some.length === 1 ? some[0].bands : greatest(some, step);
-    sum.trk = some[0].trk;
     sum.open = some[0].open.filter((to) => some.every((other) => other.open.includes(to)));
     return sum;
   }
@@ -108,21 +104,26 @@
 
   class Strip {
     constructor(canvas) {
-      Object.assign(this, { canvas, context: canvas.getContext("2d"), key: "", columns: [] });
+      Object.assign(this, { canvas, context: canvas.getContext("2d"), key: "", columns: [], isCut: false });
     }
 
     /** Draws what is known of the moments, and only what is new where all else is as it was. `paints` are the colours and patterns; `telling` writes
      *  a time. A model has: times, notes, others (of a second configuration, or null), most (the greatest level of each that alerts), ids, lacks
-     *  (whether a moment is incomplete), the window of time or null, the first track, and the step of tracks. */
-    draw(size, scale, model, paints, telling) {
+     *  (whether a moment is incomplete), the window of time or null, the first track, and the step of tracks. After so many ms as there is
+     *  patience for it is cut (`isCut`), and the next call goes on. */
+    draw(size, scale, model, paints, telling, patience = Infinity) {
       const g = geometryOf(size, model);
       const key = [size.width, size.height, scale, g.from, g.upto, model.times.length, g.ids, g.hidden, model.step, paints.key].join(" ");
       if (key !== this.key || model.notes !== this.notes || model.others !== this.others) {
         Object.assign(this, { key, g, scale, notes: model.notes, others: model.others, columns: columnsOf(g, model.times) });
         this.begin(size, scale, paints, telling);
       }
+      const end = performance.now() + patience;
+      this.isCut = false;
       for (const column of this.columns) {
         if (column.isPainted) continue;
+        this.isCut = performance.now() > end;
+        if (this.isCut) break;
         const sum = sumOf(column, model.notes, model.others, model.step);
         if (!sum) continue;
         column.isPainted = true;

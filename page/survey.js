@@ -12,13 +12,13 @@
 
   class Survey {
     constructor(place, module) {
-      Object.assign(this, { place, module, desks: [], job: 0, notes: [], most: new Map(), decided: 0, next: 0 });
+      Object.assign(this, { place, module, desks: [], job: 0, notes: new daa.Notes(), most: new Map(), decided: 0, next: 0 });
     }
 
     /** Asks for every moment anew, under the configuration that the view has now. */
     begin() {
       this.job += 1;
-      Object.assign(this, { notes: [], most: new Map(), decided: 0, next: 0 });
+      Object.assign(this, { notes: new daa.Notes(), most: new Map(), decided: 0, next: 0 });
       while (this.desks.length < WORKERS) this.desks.push(new daa.Desk(this.module));
       for (const desk of this.desks) desk.forget();
       return Promise.all(this.desks.map((desk) => this.askAll(desk)));
@@ -28,7 +28,7 @@
     end() {
       this.job += 1;
       for (const desk of this.desks) desk.forget();
-      Object.assign(this, { notes: [], most: new Map(), decided: 0, next: 0 });
+      Object.assign(this, { notes: new daa.Notes(), most: new Map(), decided: 0, next: 0 });
     }
 
     async askAll(desk) {
@@ -45,26 +45,27 @@
         const first = this.next;
         const part = moments.part(first, count);
         this.next += part.times.length;
-        const answer = await desk.ask({ config: { bytes }, part });
+        const answer = await desk.ask({ config: { bytes }, part, first });
         if (job !== this.job || !answer) return;
-        this.take(first, part.times.length, answer.notes ?? []);
+        this.take(part.times.length, answer.notes ?? daa.packNotes(new Array(part.times.length).fill(null), first));
         count = answer.took < SHORT ? Math.min(2 * count, MOST_PART) : answer.took > LONG ? Math.max(count >> 1, 1) : count;
       }
     }
 
-    /** Keeps the notes of some moments; null where there is no answer, which stays unknown. */
-    take(first, count, notes) {
-      for (let i = 0; i < count; i++) {
-        const note = notes[i] ?? null;
-        this.notes[first + i] = note;
-        for (const [id, level] of note ? note.levels : []) if (level > (this.most.get(id) || 0)) this.most.set(id, level);
+    /** Keeps the notes of some moments, packed. */
+    take(count, pack) {
+      this.notes.put(pack);
+      for (const each of pack.levels) {
+        const [id, level] = [pack.names[each >> 3], each & 7];
+        if (level > (this.most.get(id) || 0)) this.most.set(id, level);
       }
       this.decided += count;
       if (this.decided < state.moments.length || state.reading) soon();
       else {
         ui.paintTime();
         ui.paintBar();
-        if (this.place === 0) document.body.dataset.surveyed = String(this.decided);
+        const { job } = this;
+        ui.onceDrawn(() => { if (this.place === 0 && job === this.job) document.body.dataset.surveyed = String(this.decided); });
       }
     }
   }
@@ -97,17 +98,14 @@
     return -1;
   }
 
-  const greatest = (index) => {
-    const note = state.surveys[0].notes[index];
-    return note ? Math.max(0, ...note.levels.map(([, level]) => level)) : 0;
-  };
+  const greatest = (index) => state.surveys[0].notes.greatest(index);
 
   /** Where an alert begins or becomes greater. */
   const nextAlert = (by) => search(by, (index) => greatest(index) > (index ? greatest(index - 1) : 0));
 
   /** Whether both configurations are known to differ at a moment. */
   function isOther(index) {
-    const [one, other] = state.surveys.map(({ notes }) => notes[index]);
+    const [one, other] = state.surveys.map(({ notes }) => notes.at(index));
     return Boolean(one && other) && daa.differs(one, other);
   }
 

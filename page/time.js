@@ -10,6 +10,8 @@
   const ZOOM = 2;
   const LEAST_WINDOW = 8; // seconds that the axis shows at least
   const DAY = 86400;
+  const PATIENCE = 15; // ms that the strip is drawn at a stretch
+  const [LEAST_SHOWN, GROWTH] = [64, 1.5]; // moments that the axis shows of a recording that is read, and by how much that grows
 
   // ---- the moments, as they were recorded and as they were changed by hand
 
@@ -173,6 +175,8 @@
 
   let strip = null;
   let [times, timesOf] = [null, null];
+  let goesOn = false; // where drawing was cut
+  const waiting = [];
 
   function paintTime() {
     if (!state.current || !state.moments.length) return;
@@ -185,13 +189,32 @@
       times = Object.assign(moments.times(), { of: moments });
       timesOf = `${moments.blocks.length} ${moments.length}`;
     }
+    const shown = times.subarray(0, shownOf(times.length));
     seePresent();
     const size = { width: Math.round(width), height: Math.round(height) };
-    const model = { times, notes: first.notes, others: state.compare ? second.notes : null, most: mostOf(), ids: moments.ids, lacks,
+    const model = { times: shown, notes: first.notes, others: state.compare ? second.notes : null, most: mostOf(), ids: moments.ids, lacks,
       window: state.window, trk: moments.at(0).own.trk, step: views[0].config.grids.track.step };
     const paints = daa.stripPaints(strip.context, state.paper);
     paints.key += ` ${$("clock-form").value}`;
-    paintMarks(strip.draw(size, state.paper ? 2 : globalThis.devicePixelRatio || 1, model, paints, tickOf), size);
+    const scale = state.paper ? 2 : globalThis.devicePixelRatio || 1;
+    paintMarks(strip.draw(size, scale, model, paints, tickOf, state.paper ? Infinity : PATIENCE), size);
+    if (strip.isCut && !goesOn) {
+      goesOn = true;
+      setTimeout(() => {
+        goesOn = false;
+        paintTime();
+      });
+    } else if (!strip.isCut) for (const act of waiting.splice(0)) act();
+  }
+
+  /** Acts once all that is known is drawn. */
+  const onceDrawn = (act) => { if (goesOn) waiting.push(act); else act(); };
+
+  /** How many moments the axis shows of a recording that is still read: it grows by steps, since each time all is drawn anew. */
+  function shownOf(count) {
+    let shown = LEAST_SHOWN;
+    while (state.reading && shown * GROWTH <= count) shown = Math.floor(shown * GROWTH);
+    return state.reading ? Math.min(shown, count) : count;
   }
 
   /** The greatest level of each that alerts under a configuration that is shown. */
@@ -282,6 +305,6 @@
   $("clock-form").addEventListener("change", changed);
   $("speed").addEventListener("change", () => { if (state.playing) { cancelAnimationFrame(state.playing.frame); beginPlaying(); } });
 
-  Object.assign(ui, { lackOf, go, goTo, edited, restore, undoLast, redoLast, play, pause, paintTime, paintBar, alertAfter, alertBefore,
+  Object.assign(ui, { lackOf, go, goTo, edited, restore, undoLast, redoLast, play, pause, paintTime, onceDrawn, shownOf, paintBar, alertAfter, alertBefore,
     differenceAfter, differenceBefore, zoom, setWindow });
 })();

@@ -127,7 +127,7 @@ const TASKS = {
     const notes = levels.map((level, i) => daa.noteOf({ time: times ? times[i] : i, own: { trk: 0 } }, { aircraft: [{ id: "A", level }],
       resolve: { track: level ? {} : { upper: 90 } }, bands: { track: [{ from: 0, upto: 270, level }] } }));
     const most = new Map(levels.some(Boolean) ? [["A", levels.reduce((most, level) => Math.max(most, level))]] : []);
-    const fills = draw({ times: Float64Array.from(notes, ({ time }) => time), notes, others: null, most, ids: ["A"], lacks: () => false, window: null, trk: 0,
+    const fills = draw({ times: Float64Array.from(notes, ({ time }) => time), notes: daa.Notes.of(notes), others: null, most, ids: ["A"], lacks: () => false, window: null, trk: 0,
       step: 90 });
     const columns = fills.filter(([paint]) => paint === "clear").map(([, x, , wide]) => [x, x + wide].map(strip.g.time));
     return [fills.filter(([paint]) => paint !== "faint"), columns];
@@ -161,17 +161,18 @@ const TASKS = {
     const notesUnder = (text) => moments.map((moment) => daa.noteOf(moment, daa.readReport(engine.report(engine.read(bytesOf(text)), moment))));
     const moments = engine.readStates(bytesOf(states)).map((it) => it.moment);
     const notes = notesUnder(toml);
-    const known = notes.slice(0, decided ?? notes.length);
+    const decidedFirst = notes.slice(0, decided ?? notes.length);
+    const known = daa.Notes.of(decidedFirst);
     const most = new Map();
     const note = (some) => some.forEach(({ levels }) => levels.forEach(([id, level]) => most.set(id, Math.max(level, most.get(id) || 0))));
     note(notes);
-    const model = { times: Float64Array.from(moments, ({ time }) => time), notes: known, others: other && notesUnder(other), most,
+    const model = { times: Float64Array.from(moments, ({ time }) => time), notes: known, others: other && daa.Notes.of(notesUnder(other)), most,
       ids: moments[0].traffic.map(({ id }) => id), lacks: (index) => lacking.includes(index), window: null, trk: moments[0].own.trk,
       step: engine.read(bytesOf(toml)).grids.track.step };
     const first = draw(model);
     const texts = calls.filter(([name]) => name === "fillText").map(([, , words, x, y]) => [words, x, y]);
-    const told = daa.toldOfStrip(notes.length, known.length, new Map(known.flatMap((it) => it.levels)));
-    known.push(...notes.slice(known.length));
+    const told = daa.toldOfStrip(notes.length, known.length, new Map(decidedFirst.flatMap((it) => it.levels)));
+    known.put(daa.packNotes(notes.slice(known.length), known.length));
     return { g: strip.g, first, texts, then: draw(model), told };
   },
 

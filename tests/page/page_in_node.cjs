@@ -1,7 +1,7 @@
 /* node page_in_node.cjs PAGE < SCRIPT: runs all scripts of the page, in the order of its index.html, over stand-ins for the parts of
  * a browser, then the script, and writes the JSON of what it returns. A stand-in keeps what is put into it and who listens; nothing
  * is laid out. A script has: page, the page's state; $, an element by its id; screen, where the page listens to the window; the
- * display and its caption; handle, one by its key; fire, which calls an element's listeners; frame and settle, which wait for a frame
+ * display and its caption; handle, one by its key, and placeOf, where it is; fire, which calls an element's listeners; frame and settle, which wait for a frame
  * and until what is shown is the answer; press, a key at a handle; drag, a handle by an offset; saved, what was downloaded. */
 "use strict";
 const fs = require("fs");
@@ -146,7 +146,7 @@ async function drag(key, right, down) {
 (async () => {
   await until(() => document.body.dataset.ready === "yes", "the page is ready");
   await settle();
-  const given = { page: daa.page, $, screen: parts, caption: figures[0].querySelector("figcaption"), display, fire, frame, settle, handle, press, drag, saved };
+  const given = { page: daa.page, $, screen: parts, caption: figures[0].querySelector("figcaption"), display, fire, frame, settle, handle, placeOf, press, drag, saved };
   const script = new Function(...Object.keys(given), `return (async () => { ${fs.readFileSync(0, "utf8")} })();`);
   const answer = await script(...Object.values(given));
   process.stdout.write(JSON.stringify(answer ?? null), () => process.exit(0));

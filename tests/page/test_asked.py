@@ -175,7 +175,7 @@ class Asked(unittest.TestCase):
             const notes = survey.notes.map((note) => note && note.time);
             desk.ask = async () => ({ stopped: "The engine can't be opened." });
             await daa.ui.survey();
-            return [notes, survey.notes];""")
+            return [notes, survey.notes.map((note) => note)];""")
         self.assertEqual(notes, [0, 10, 20, None, *range(40, 190, 10)])
         self.assertEqual(none, [None] * 19)
 

@@ -135,7 +135,7 @@ class Shown(PageTest):
         self.page.settle()
         self.check_shown()
         moment = moments_of(replayed(THREE_LEVELS, self.page.states().encode()))[0]
-        self.assertEqual(dict(self.page.js("return daa.page.surveys[0].notes[3456].levels")), {name: level for name, level in levels_of(moment).items() if level})
+        self.assertEqual(dict(self.page.js("return daa.page.surveys[0].notes.at(3456).levels")), {name: level for name, level in levels_of(moment).items() if level})
 
     def test_refused_lines_are_told(self):
         """With the moment after which they stand."""

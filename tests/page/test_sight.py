@@ -72,3 +72,58 @@ class Sight(unittest.TestCase):
         self.assertEqual([pair for pair in loud if pair[0] > pair[1]], [])
         near = [away for level, _, away, _ in found if level >= 2]
         self.assertLess(sum(away < 20 for away in near), len(near) / 10)
+
+
+ANSWERS = """
+const wide = (words, font) => 0.6 * words.length * font; // as the stand-in for a browser measures letters
+const answers = () => [...display().daa.layers.ring.matchAll(/<text x="([-.0-9]+)" y="([-.0-9]+)" class="(?:open|recover) mid halo" font-size="([.0-9]+)">([^<]+)</g)]
+  .map(([, x, y, font, words]) => ({ x: x - wide(words, font) / 2, y: y - 0.8 * font, wide: wide(words, font), tall: Number(font) }));
+const label = (key) => {
+  const [atX, atY] = placeOf(key);
+  return [...handle(key).innerHTML.matchAll(/<text x="([-.0-9]+)" y="([-.0-9]+)" class="halo ?(end|mid|)" font-size="([.0-9]+)"[^>]*>([^<]+)</g)]
+    .map(([, x, y, anchor, font, words]) => ({ x: atX + Number(x) - wide(words, font) * { end: 1, mid: 0.5, "": 0 }[anchor], y: atY + Number(y) - 0.8 * font,
+      wide: wide(words, font), tall: Number(font) }));
+};
+const overlap = (a, b) => Math.max(0, Math.min(a.x + a.wide, b.x + b.wide) - Math.max(a.x, b.x)) * Math.max(0, Math.min(a.y + a.tall, b.y + b.tall) - Math.max(a.y, b.y));
+"""
+
+
+@unittest.skipUnless(NODE, HOW)
+class Answers(unittest.TestCase):
+    """No label covers an answer of the ring."""
+
+    STATES = "moment 0\nown 0 0 10000 0 3600 0\ntraffic LOUD 0 8000 10000 0 -3600 0\ntraffic FREE 0 0 30000 0 0 0\nend\n"
+
+    def test_a_label_beside_an_answer_stands_elsewhere(self):
+        """Of an aircraft that is moved round each answer: its label is always there, and never on the answer."""
+        told = on_page(OPEN + ANSWERS + """
+            await open(["near.states", given[0]]);
+            daa.ui.choose("p:FREE");
+            await settle();
+            const [free] = page.current.traffic.slice(1), first = answers(), told = [];
+            for (const { x, y, wide, tall } of first) for (const [right, down] of [[-40, 0], [40, 0], [-36, 14], [36, -14], [0, 34], [0, -30], [-60, 5], [20, 20]]) {
+              const { x: east, y: north } = daa.unplan({ ...page.views[0].drawn, ...daa.ui.lookOf(page.views[0]) }, { x: x + wide / 2 + right, y: y + tall / 2 + down });
+              Object.assign(free, { x: Math.round(east), y: Math.round(north) });
+              daa.ui.touched();
+              await settle();
+              const rows = label("p:FREE");
+              told.push([rows.length, Math.max(...rows.flatMap((row) => answers().map((box) => overlap(row, box))))]);
+            }
+            return [first.length, told];""", self.STATES)
+        count, moved = told
+        self.assertEqual(count, 2)
+        self.assertEqual([(rows > 0, covered < 5) for rows, covered in moved], [(True, True)] * 16, moved)
+
+    def test_an_answer_costs_more_than_other_texts(self):
+        """Where there is no free place, a label stands rather on five other texts than on an answer."""
+        spot, answer = on_page(OPEN + """
+            await open(["near.states", given[0]]);
+            const { art } = daa, view = { ...page.views[0].drawn, ...daa.ui.lookOf(page.views[0]) }, [answer] = art.answerBoxes(view, daa.ui.modelOf(page.views[0]));
+            const { centre, radius } = view.g, left = centre.x - radius, top = centre.y - radius, all = 2 * radius;
+            const round = [[left, top, all, answer.y - top], [left, answer.y + answer.tall, all, all], [left, answer.y, answer.x - left, answer.tall],
+              [answer.x + answer.wide, answer.y, all, answer.tall]].map(([x, y, wide, tall]) => ({ x, y, wide, tall }));
+            const labels = new daa.Labels({ ...centre, radius }, [answer, ...Array.from({ length: 5 }, () => round).flat()], []);
+            return [labels.place({ x: answer.x + answer.wide / 2, y: answer.y + answer.tall / 2 }, 30, 14, 4, true), answer];""", self.STATES)
+        covered = max(0, min(spot["x"] + spot["wide"], answer["x"] + answer["wide"]) - max(spot["x"], answer["x"])) \
+            * max(0, min(spot["y"] + spot["tall"], answer["y"] + answer["tall"]) - max(spot["y"], answer["y"]))
+        self.assertLess(covered, 30 * 14 / 4)

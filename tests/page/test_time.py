@@ -131,6 +131,49 @@ class Time(unittest.TestCase):
         self.assertTrue(low_near <= 390 <= high_near and abs(high_near - low_near - 100) < 2, found)
         self.assertIsNone(whole)
 
+    def test_the_axis_of_a_recording_that_is_read_grows_by_steps(self):
+        """Each time all of it is drawn anew: of 100,000 moments 19 times. Once it is read all are there."""
+        shown, whole = on_page("""
+            const { shownOf } = daa.ui, shown = [];
+            page.reading = { stop() {} };
+            for (let count = 1; count <= 100000; count++) shown.push(shownOf(count));
+            page.reading = null;
+            return [[...new Set(shown)], shownOf(777)];""")
+        self.assertEqual(whole, 777)
+        steps = [count for count in shown if count >= 64]
+        self.assertEqual(len(steps), 19)
+        self.assertEqual(shown[:64], list(range(1, 65)))
+        self.assertGreater(steps[-1], 50000)
+
+    def test_a_long_strip_is_drawn_in_parts(self):
+        """At a stretch no longer than there is patience; what comes of it is what is drawn at once, and that all is decided is told after it."""
+        parts, same, told = on_page(OPEN + """
+            const { draw } = daa.Strip.prototype, cuts = [];
+            daa.Strip.prototype.draw = function (...words) {
+              const before = this.canvas.calls.length, now = performance.now;
+              let tick = 0;
+              performance.now = () => (tick += 4);
+              const answer = draw.apply(this, words);
+              performance.now = now;
+              cuts.push([this.isCut, this.canvas.calls.slice(before).filter(([name, paint]) => name === "fillRect" && paint === "clear").length, document.body.dataset.surveyed]);
+              return answer;
+            };
+            await open(["many.states", given[0]]);
+            while (document.body.dataset.surveyed !== "400") await frame();
+            daa.Strip.prototype.draw = draw;
+            const { calls } = $("strip"), clears = (some) => some.filter(([name, paint]) => name === "fillRect" && paint === "clear").map(([, , ...box]) => String(box));
+            const cut = clears(calls.slice(calls.findLastIndex(([name]) => name === "clearRect"))).sort();
+            page.paper = true;
+            daa.ui.paintTime();
+            page.paper = false;
+            daa.ui.paintTime();
+            for (let frames = 0; frames < 50; frames++) await frame();
+            const whole = clears(calls.slice(calls.findLastIndex(([name]) => name === "clearRect"))).sort();
+            return [cuts.map(([isCut, count]) => [isCut, count]), String(cut) === String(whole), cuts.filter(([isCut]) => isCut).every(([, , surveyed]) => surveyed === "")];""", MANY)
+        self.assertTrue(any(is_cut for is_cut, _ in parts), parts)
+        self.assertLessEqual(max(count for _, count in parts), 4)
+        self.assertTrue(same and told)
+
     def test_a_long_file_is_read_in_pieces_by_the_page_itself_where_there_is_no_worker(self):
         """Its moments are those of the file, whatever the pieces; the first is shown before the last is read; what is opened after it ends it."""
         text = "nothing\n" + MANY
