@@ -178,7 +178,7 @@ function daaMoments(root) {
 
   /** The notes of a recording: of each moment its note, null where the engine gave none, or undefined where it was not asked yet. */
   class Notes {
-    constructor() { this.packs = []; }
+    constructor() { Object.assign(this, { packs: [], gone: 0 }); }
 
     /** Those of a list. */
     static of(notes) {
@@ -187,24 +187,35 @@ function daaMoments(root) {
       return made;
     }
 
+    /** Keeps packed notes, whose first one is that of the moment `first`. */
     put(pack) {
       const count = pack.ends.length / 2 - 1;
       for (let place = 0; place < count; place++) this.packs[pack.first + place] = pack;
+      pack.first += this.gone;
+    }
+
+    /** The notes of the first moments go, and those after them are the first from then on. */
+    drop(count) {
+      this.packs = this.packs.slice(count);
+      this.gone += count;
     }
 
     get length() { return this.packs.length; }
 
-    has(index) {
+    /** The notes that one is packed with, and its place there; the place is -1 where there is none. */
+    find(index) {
       const pack = this.packs[index];
-      return pack !== undefined && pack.heads[HEAD * (index - pack.first) + 4] >= 0;
+      const place = pack ? index + this.gone - pack.first : -1;
+      return [pack, pack && pack.heads[HEAD * place + 4] >= 0 ? place : -1];
     }
 
+    has(index) { return this.find(index)[1] >= 0; }
+
     at(index) {
-      const pack = this.packs[index];
+      const [pack, place] = this.find(index);
       if (!pack) return undefined;
-      if (!this.has(index)) return null;
-      const { names, answers, heads, levels, bands, ends, first } = pack;
-      const place = index - first;
+      if (place < 0) return null;
+      const { names, answers, heads, levels, bands, ends } = pack;
       const [time, trk, one, other, said] = heads.subarray(HEAD * place, HEAD * (place + 1));
       const made = { time, levels: [], bands: [], trk, open: [one, other].filter((to) => to !== NO_TRACK), answers: answers[said] };
       for (let at = ends[2 * place]; at < ends[2 * place + 2]; at++) made.levels.push([names[levels[at] >> 3], levels[at] & 7]);
@@ -214,10 +225,10 @@ function daaMoments(root) {
 
     /** The greatest level of a moment, 0 also where it is not known. */
     greatest(index) {
-      if (!this.has(index)) return 0;
-      const { levels, ends, first } = this.packs[index];
+      const [pack, place] = this.find(index);
+      if (place < 0) return 0;
       let most = 0;
-      for (let at = ends[2 * (index - first)]; at < ends[2 * (index - first) + 2]; at++) most = Math.max(most, levels[at] & 7);
+      for (let at = pack.ends[2 * place]; at < pack.ends[2 * place + 2]; at++) most = Math.max(most, pack.levels[at] & 7);
       return most;
     }
 

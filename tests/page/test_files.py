@@ -110,8 +110,8 @@ class Files(unittest.TestCase):
                 self.assertLessEqual(len(longest), 150, f"{name}: {longest[:80]}")
 
     def test_the_folder_is_small(self):
-        """The page is mailed and kept whole: all files together are below 400 KB."""
-        self.assertLess(sum(len(text.encode()) for text in files().values()), 400000)
+        """The page is mailed and kept whole: all files together are below 600 KB."""
+        self.assertLess(sum(len(text.encode()) for text in files().values()), 600000)
 
 
 class Readme(unittest.TestCase):
