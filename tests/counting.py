@@ -14,15 +14,20 @@ import unittest
 # Debian's package of each command that some tests call.
 PACKAGES = {"cc": "gcc", "c++": "g++", "cargo": "cargo", "node": "nodejs", "chromium": "chromium", "chromedriver": "chromium-driver",
             "aarch64-linux-gnu-gcc": "gcc-aarch64-linux-gnu", "qemu-aarch64": "qemu-user", "parallel": "parallel", "jq": "jq",
-            "pkg-config": "pkg-config", "cmake": "cmake", "make": "make", "dpkg-deb": "dpkg", "man": "man-db"}
+            "pkg-config": "pkg-config", "cmake": "cmake", "make": "make", "dpkg-deb": "dpkg", "man": "man-db",
+            "munged": "munge", "slurmctld": "slurmctld", "slurmd": "slurmd", "sbatch": "slurm-client"}
+MODULES = {"selenium": "python3-selenium", "distributed": "python3-distributed"}  # Debian's package of each module
+DAEMONS = ("munged", "slurmctld", "slurmd")  # which lie in folders of the administrator
+PLACES = "/usr/sbin:/sbin"
 DEBIAN_PYTHON = "/usr/bin/python3"  # the one for which Debian's packages of Python are
 
 
 def is_there(command):
     """Whether a command is there and runs: a stand-in of rustup may have none behind it, and another program is named parallel, too."""
-    if not shutil.which(command):
-        return False
-    asked = subprocess.run([command, "--version"], stdin=subprocess.DEVNULL, capture_output=True)
+    path = shutil.which(command, path=PLACES if command in DAEMONS else None)
+    if not path or command == "sbatch":  # (which tells no version where there is no cluster)
+        return bool(path)
+    asked = subprocess.run([path, "-V" if command.startswith("slurm") else "--version"], stdin=subprocess.DEVNULL, capture_output=True)
     return asked.returncode == 0 and (command != "parallel" or asked.stdout.startswith(b"GNU parallel"))
 
 
@@ -33,14 +38,20 @@ def need(*commands):
             raise unittest.SkipTest(f"there is no {command} (Debian: {PACKAGES[command]})")
 
 
+def need_module(name):
+    """The same for a module of Debian's Python."""
+    if not has_module(name):
+        raise unittest.SkipTest(f"there is no module {name} of {DEBIAN_PYTHON} (Debian: {MODULES[name]})")
+
+
 def missing_packages():
     """Debian's packages that tests call and that are not here."""
     missing = [package for command, package in PACKAGES.items() if not is_there(command)]
-    return missing if has_selenium() else [*missing, "python3-selenium"]
+    return missing + [package for name, package in MODULES.items() if not has_module(name)]
 
 
-def has_selenium():
-    return os.access(DEBIAN_PYTHON, os.X_OK) and subprocess.run([DEBIAN_PYTHON, "-c", "import selenium"], capture_output=True).returncode == 0
+def has_module(name):
+    return os.access(DEBIAN_PYTHON, os.X_OK) and subprocess.run([DEBIAN_PYTHON, "-c", f"import {name}"], capture_output=True).returncode == 0
 
 
 class Result(unittest.TextTestResult):

@@ -107,8 +107,7 @@ class Words(unittest.TestCase):
         self.assertEqual({*LEVEL, *RECOVERY, *TOP_KEYS, *GRIDS} - named, set())
 
     def test_the_reference_is_short(self):
-        self.assertLessEqual(read("tools/reference").count("\n") + read("tools/headings.py").count("\n"), 350)
-        self.assertLessEqual(read("tools/reference").count("\n"), 320)
+        self.assertLessEqual(sum(read(f"tools/{name}").count("\n") for name in ("reference", "headings.py", "well_clear.py")), 350)
 
     def test_no_document_names_what_is_gone(self):
         for name in ["README.md", *glob.glob("docs/*.md", root_dir=TOP)]:

@@ -14,6 +14,8 @@ from common import CONFIG, ENCOUNTER, TOP, ToolTest, module, replayed
 from daidalus_files import MODEL_KEYS, MODELS, Config, Level, Moment, Own, Reader, Traffic, config_of, examine_config, own_line, traffic_line
 from headings import SINES, sine, velocity
 
+import well_clear
+
 reference, moments = module("tools/reference"), module("tools/moments")
 
 
@@ -276,7 +278,7 @@ def drawn_leg(draw, model):
 
 def meets_at_one_time(leg, volume):
     """Of a leg that meets the volume, whether it violates at the time of the vertical part nearest to the closest approach."""
-    (first, last), (east, north, _), (v_east, v_north, _) = reference.heights_near(leg, volume), leg.place, leg.velocity
+    (first, last), (east, north, _), (v_east, v_north, _) = well_clear.heights_near(leg, volume), leg.place, leg.velocity
     speed = v_east * v_east + v_north * v_north
     closest = Fraction(-(east * v_east + north * v_north), speed) if speed else first
     time = min(max(closest, first), last)

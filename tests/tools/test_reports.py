@@ -30,7 +30,7 @@ def tools_for_users():
 
 
 KEEP = "resolve gs down keep up keep\nresolve vs down keep up keep\nresolve alt down keep up keep\n"
-TOOLS = ("agree", "check", "compare", "draw", "encounters", "from_daa", "from_parameters", "from_sbs", "geojson", "moments", "reference", "steady", "summary",
+TOOLS = ("agree", "check", "compare", "draw", "encounters", "from_daa", "from_parameters", "from_sbs", "geojson", "moments", "reference", "steady", "study", "summary",
          "table", "volume")
 # A line, and one that may not follow it, since its moment has such a line already.
 TWICE = (("alert A 2 43", "now A 1"), ("alert A 2 43", "alert A 2 43"), ("recover track 12 40", "resolve gs down keep up keep"),

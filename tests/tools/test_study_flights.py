@@ -1,0 +1,440 @@
+"""tools/study: what is flown and measured, the pilot model, sensors; and that a fault of the guidance shows in the statistics."""
+import os
+import random
+import subprocess
+import unittest
+from unittest import mock
+
+from common import TOP, ToolTest, module, program
+from daidalus_files import MODELS, Level
+from headings import velocity
+from studies import flight, measures, rows
+from studies.drawing import Draw, Stratum, generator_of
+from studies.encounters import Aircraft, Encounter, Event, Way
+from studies.flying import Flying, World
+from studies.guidance import Guidance, change
+from studies.pilot import Following, Pilot
+from studies.ratios import ratios_of
+from studies.sensors import Sensed, Sensors, bell
+from studies.study_file import read_study
+from studies.tracing import Traced
+
+reference = module("tools/reference")
+STUDY, RECOVERY = os.path.join(TOP, "examples", "study.toml"), os.path.join(TOP, "examples", "recovery.toml")
+SECONDS, TENTHS = World("seconds"), World("tenths")
+STRAIGHT = {"own_flights": (1, 0, 0, 0, 0), "intruder_flights": (1, 0, 0, 0, 0), "intruders": (1,)}
+
+
+def study_with(pilot=None, sensors=None, world=None, config=None, **draw):
+    found = read_study(STUDY, config)
+    found.pilot, found.sensors, found.world = pilot or found.pilot, sensors or found.sensors, world or found.world
+    found.draw = Draw(**draw) if draw else found.draw
+    return found
+
+
+class Losses(unittest.TestCase):
+    def test_on_random_legs_as_the_reference_says(self):
+        """Of each model about a third of the legs near the border are lost, and in every way of being near."""
+        draw = random.Random(1)
+        for key in MODELS:
+            level = Level(660, 450, 35, 20, 1, 1, **{key: 1} if key else {})
+            volume, hits = measures.volume_of(level, 1), 0
+            for _ in range(6000):
+                speed = draw.choice((300, 3000, 6000))
+                velocity = draw.randint(-speed, speed), draw.randint(-speed, speed), draw.choice((0, draw.randint(-3000, 3000)))
+                ahead, up = draw.choice((0, 0, draw.randint(0, 40))), draw.randint(-30000, 30000)
+                place = *(draw.randint(-25000, 25000) - ahead * it for it in velocity[:2]), up - draw.choice((0, draw.randint(0, 25))) * velocity[2]
+                got = measures.lost(place, velocity, volume)
+                self.assertEqual(got, reference.meets(reference.Leg(0, 1, place, velocity), volume), (key, place, velocity))
+                hits += got
+            self.assertTrue(1000 < hits < 4500, hits)
+
+    def test_near_collisions(self):
+        """500 feet are 2962.2 units, 100 feet 6000; the closest approach is within the leg, at its begin or where heights are near."""
+        for place, velocity, hit in (((2962, 0, 6000), (0, 0, 0), True), ((2963, 0, 0), (0, 0, 0), False), ((0, 0, 6001), (0, 0, 0), False),
+                                     ((0, 0, 6001), (0, 0, -1), True), ((-3000, 2962, 0), (6000, 0, 0), True), ((-3000, 2963, 0), (6000, 0, 0), False),
+                                     ((-9000, 0, 0), (6000, 0, 0), False), ((-8000, 0, 0), (6000, 0, 0), True), ((0, 0, 9000), (6000, 0, -3000), False),
+                                     ((0, 0, 7000), (6000, 0, -3000), True)):
+            self.assertEqual(measures.collides(place, velocity, 1), hit, (place, velocity))
+            if velocity == (0, 0, 0):
+                self.assertEqual(measures.collides(tuple(10 * it for it in place), velocity, 10), hit)
+
+    def test_severity(self):
+        volume = measures.volume_of(Level(660, 450, 35, 0, 1, 1), 1)
+        self.assertEqual(measures.severity((0, 0, 0), (100, 0, 0), volume), 1)
+        self.assertEqual(measures.severity((23760, 0, 0), (0, 0, 0), volume), 0)
+        self.assertAlmostEqual(measures.severity((11880, 0, 0), (0, 0, 0), volume), 1 - (7 / 16) ** 0.5)  # halves: 1/4 + 3/4 * 1/4
+        self.assertEqual(measures.severity((0, 0, 27000), (100, 0, 0), volume), 0)
+
+    def test_the_volume_of_ten_legs_a_second_is_the_same_volume(self):
+        one, ten = (measures.volume_of(Level(660, 450, 35, 0, 1, 1), steps) for steps in (1, 10))
+        for place, v, lost in (((23760, 0, 27000), (0, 0, 0), (True, True)), ((23761, 0, 0), (0, 0, 0), (False, False)), ((0, 0, 27001), (0, 0, 0), (False, False)),
+                               ((100000, 0, 0), (-3000, 0, 0), (True, True)), ((112000, 0, 0), (-3000, 0, 0), (True, False)), ((114000, 0, 0), (-3000, 0, 0), (False, False))):
+            found = measures.lost(place, v, one), measures.lost(tuple(10 * it for it in place), v, ten)
+            self.assertEqual(found, lost, (place, v))  # the leg of one of ten is the first tenth of the other's
+
+
+class Moments(ToolTest):
+    def test_judge_takes_what_the_pilot_followed(self):
+        """Of encounters with one and with two intruders, without and with errors of the sensors; and a wrong byte is told."""
+        errors = Sensors(seed=3, place=20, height=30, speed=15, climb=60, lost=100, late=(0, 3), whole_degrees=True)
+        for number, sensors in ((0, None), (1, None), (7, errors)):
+            study = study_with(sensors=sensors)
+            traced = Traced(study.draw.encounter(7, number), study, True)
+            self.assertGreater(traced.run.advices, 0)
+            self.assertEqual("format 2\n" in traced.text(), sensors is not None)
+            states, said = self.write("in.states", traced.text()), [traced.report(), traced.report().replace(b"resolve track left", b"resolve track leff", 1)]
+            for report, written in zip(said, (b"same\n", b"differs ")):
+                ran = subprocess.run([program(), "judge", "--config", RECOVERY, "--states", states], input=report, capture_output=True, timeout=60)
+                self.assertTrue(ran.stdout.startswith(written), ran.stdout)
+
+    def test_a_loss_is_where_the_programs_report_has_a_violated_level(self):
+        """But for the rounding of places: the report's moments are the beginnings of the seconds on which losses are looked for."""
+        study, lost = study_with(), 0
+        for number in (0, 2, 4, 9):
+            traced = Traced(study.draw.encounter(7, number), study, False)
+            levels = [max(int(line.split()[2]) for line in report.decode().splitlines() if line.startswith("now ")) for report in traced.reports]
+            first = next((second for second, level in enumerate(levels) if level >= 2), None)
+            self.assertEqual(first is None, traced.run.loss is None)
+            if first is not None:
+                lost += 1
+                self.assertTrue(0 <= first - traced.run.loss <= 1, (number, first, traced.run.loss))
+        self.assertEqual(lost, 3)
+
+
+class Flights(unittest.TestCase):
+    def test_without_an_alert_the_guided_flight_is_the_other_one(self):
+        study, quiet, told = study_with(intruders=(1,)), 0, 0
+        for number in (3, 4, 5, 9, 18, 19):
+            encounter = study.draw.encounter(7, number)
+            bare, guided = (flight.fly(encounter, study, it) for it in (False, True))
+            if 2 in bare.alerts:
+                told += 1
+                self.assertGreaterEqual(guided.first_advice, guided.alerts[2] + study.pilot.warned[0])  # no advice before an alert
+                self.assertEqual(guided.alerts[2], bare.alerts[2])
+            else:
+                quiet += 1
+                self.assertEqual((guided.advices, guided.off, guided.first_advice), (0, 0, None))
+                self.assertEqual((guided.loss, guided.nearest, guided.severity, guided.nmac), (bare.loss, bare.nearest, bare.severity, bare.nmac))
+        self.assertGreaterEqual(min(quiet, told), 2)
+
+    def test_a_perfect_pilot_loses_nothing_to_straight_traffic(self):
+        """Who turns at once, looks each second and goes back late. Without guidance each of these is lost, on the second that the
+        first alert told."""
+        study = study_with(Pilot(reaction=(0, 0), warned=(0, 0), update=(1, 1), clear=10), **STRAIGHT)
+        numbers = [number for number in range(24) if number % 10 < 5]
+        found = [rows.row_of(study.draw.encounter(11, number), study) for number in numbers]
+        lost = [it for it in found if it["loss"] is not None]
+        self.assertGreaterEqual(len(lost), 10)
+        self.assertEqual({it["loss"] - it["alert"] for it in lost} - {54}, set())
+        self.assertEqual([it for it in found if it["g_loss"] is not None], [])
+        self.assertEqual({it["steady"] for it in found}, {1})
+
+    def test_an_answer_that_is_flown_keeps_what_it_promises(self):
+        """Each answer of each kind, flown as the engine says from what it was told, meets no level that closes within its lookahead;
+        what lies between it and the present value does."""
+        study = study_with(intruders=(1,))
+        guidance, config = study.guidance, study.guidance.config
+        closing = [(measures.volume_of(it, 1), it.lookahead) for it in study_levels(config)]
+        kept = broken = 0
+        for number in (0, 3, 13, 14):
+            for own, traffic in alerted_moments(study, number):
+                guidance.see(0, own, traffic)
+                for kind in ("track", "gs", "vs", "alt"):
+                    answer = guidance.answer(kind)
+                    for value in (() if answer == "keep" else [it for it in answer if it is not None]):
+                        self.assertFalse(is_broken(own, traffic, kind, value, guidance, closing), (own, traffic, kind, value))
+                        kept += 1
+                        nearer = nearer_candidate(config, kind, own, value)
+                        if nearer is not None:
+                            self.assertTrue(is_broken(own, traffic, kind, nearer, guidance, closing), (own, traffic, kind, nearer))
+                            broken += 1
+        self.assertGreater(kept, 20)
+        self.assertGreater(broken, 15)
+
+    def test_a_turn_in_both_worlds(self):
+        """3 degrees a second from the first second's end on, or from its first tenth's end on."""
+        it = Aircraft("own", 0, 0, 5000, 358, 1000, 0, [Event(2, "track", 8, 3)], planned=True)
+        for world, tracks in ((SECONDS, [3580, 3580, 3580, 10, 40, 70, 80, 80]), (TENTHS, [3580, 3580, 3580, 10, 40, 70, 80, 80])):
+            flying, seen = Flying(it, world), []
+            for second in range(8):
+                seen.append(flying.trk)
+                for _ in range(world.steps):
+                    flying.go(flying.velocity(), flying.plan(second))
+            self.assertEqual(seen, tracks)
+        self.assertEqual(Flying(it, TENTHS, off=5).velocity(), (round(1000 * -0.0261769), round(1000 * 0.9996573), 0))  # 358.5 degrees
+
+    def test_ways_are_flown_and_left_at_an_advice(self):
+        """By ways the places are those that the ways say, and the plan wants their track and speeds."""
+        it = Aircraft("own", ways=[Way(0, 0, 0, 1000), Way(10, 0, 500, 1100), Way(20, 500, 500, 1100)])
+        flying = Flying(it, SECONDS)
+        self.assertEqual((flying.trk, flying.gs, flying.vs), (0, 1800, 600))
+        self.assertEqual(flying.plan(12), {"track": (90, 3), "gs": (1800, 20), "vs": (0, 300)})
+        for second in range(25):
+            flying.go(flying.velocity(), flying.plan(second))
+        self.assertEqual(flying.place, (25 * 1800 - 18000, 18000, 66000))  # straight on after the last one
+        flying.leave_ways()
+        flying.go(flying.velocity(), {"track": (93, 3), "gs": (1800, 20), "vs": (0, 300)})
+        self.assertEqual(flying.trk, 930)
+
+    def test_an_altitude_is_flown_at_its_rate_and_held(self):
+        flying = Flying(Aircraft("own", 0, 0, 5000, 0, 1000, 600, planned=True), SECONDS)
+        flying.level = 5050, 1500
+        climbs = []
+        for second in range(4):
+            climbs.append(flying.velocity()[2])
+            flying.go(flying.velocity(), flying.plan(second))
+        self.assertEqual(climbs, [1500, 1500, 0, 0])
+
+    def test_what_the_engine_refuses_ends_the_flight(self):
+        """The ownship descends through 2000 feet below sea level."""
+        own = Aircraft("own", 0, 0, -1900, 0, 1000, -6000, planned=True)
+        found = rows.row_of(Encounter(0, 10, 1, "all", own, [Aircraft("A", 9000, 0, 0, 0, 1000, 0, planned=True)]), study_with())
+        self.assertEqual((found["refused"], found["cause"]), (2, "refused"))
+
+
+def study_levels(config):
+    return [Level(*(getattr(it, name) for name in Level._fields)) for it in config.levels[config.resolve - 1:]]
+
+
+def alerted_moments(study, number):
+    """What the engine is told on every seventh second with a corrective alert, before any loss."""
+    found = []
+
+    def note(second, own, traffic):
+        alerts = study.guidance.alerts()
+        if second % 7 == 0 and max(it.level for it in alerts) >= 2 > max(it.now for it in alerts):
+            found.append((own, traffic))
+
+    flight.fly(study.draw.encounter(7, number), study, False, note)
+    return found[:4]
+
+
+def is_broken(own, traffic, kind, value, guidance, closing):
+    """Whether an answer, flown from there, meets a level that closes within its lookahead; the aircraft flies straight on."""
+    it = traffic[0]
+    flying, place = Flying(Aircraft("own", *own, planned=True), SECONDS), [it.x * 36, it.y * 36, it.alt * 60]
+    flying.level = (value, guidance.rate(kind)) if kind == "alt" else None
+    targets = {"track": (own.trk, 3), "gs": (own.gs, 20), "vs": (own.vs, 500), kind: (value, guidance.rate(kind))}
+    for second in range(max(seconds for _, seconds in closing)):
+        mine = flying.velocity()
+        relative = tuple(a - b for a, b in zip(flying.place, place)), tuple(a - b for a, b in zip(mine, (it.vx, it.vy, it.vs)))
+        if any(second < seconds and measures.lost(*relative, volume) for volume, seconds in closing):
+            return True
+        flying.go(mine, targets)
+        place = [at + speed for at, speed in zip(place, (it.vx, it.vy, it.vs))]
+    return False
+
+
+def nearer_candidate(config, kind, own, value):
+    """The candidate next to a value on the present value's side, or None where that is not beyond the present one."""
+    now = {"track": own.trk, "gs": own.gs, "vs": own.vs, "alt": own.alt}[kind]
+    step = config.track_step if kind == "track" else getattr(config, kind).step
+    off = change(kind, now, value)
+    nearer = value - step * (1 if off > 0 else -1)
+    nearer = nearer % 360 if kind == "track" else nearer
+    return nearer if change(kind, now, nearer) * off > 0 else None
+
+
+class Answers:
+    """In place of a guidance: alerts and answers by the second."""
+
+    def __init__(self, answers, is_open=True, recovery=None):
+        self.answers, self.open, self.found, self.second, self.own = answers, is_open, recovery, 0, None
+        self.config = Guidance(RECOVERY).config
+
+    def answer(self, kind):
+        return self.answers[kind] if isinstance(self.answers, dict) else self.answers
+
+    def is_open(self, kind, value):
+        return self.open if isinstance(self.open, bool) else value in self.open
+
+    def recovery(self, kind):
+        return self.found
+
+    def present(self, kind):
+        return {"track": 0, "gs": 1000, "vs": 0, "alt": 5000}[kind]
+
+    rate, grids = Guidance.rate, Guidance.grids
+
+
+PLAN = {"track": (0, 3), "gs": (1000, 20), "vs": (0, 300)}
+
+
+class Pilots(unittest.TestCase):
+    def flown(self, guidance, levels, **pilot):
+        """The targets of a pilot of fixed times, second by second, and the run."""
+        run = flight.Run()
+        words = {"reaction": (4, 4), "warned": (2, 2), "update": (3, 3), "clear": 2, **pilot}
+        following = Following(guidance, Pilot(**words), 0, run)
+        return [following.step(second, PLAN, level) for second, level in enumerate(levels)], run
+
+    def tracks(self, *words, **pilot):
+        found, run = self.flown(*words, **pilot)
+        return [targets["track"][0] for targets, _ in found], run
+
+    def test_reaction_warning_and_the_way_back(self):
+        """An alert at second 1 is answered at 5, a warning at 3; and where it is over before, by nothing."""
+        self.assertEqual(self.tracks(Answers((None, 40)), [0, 2, 2, 2, 2, 2, 2, 0, 0, 0])[0], [0] * 5 + [40] * 3 + [0] * 2)
+        self.assertEqual(self.tracks(Answers((None, 40)), [0, 3, 3, 3, 3])[0], [0] * 3 + [40] * 2)
+        tracks, run = self.tracks(Answers((None, 40)), [0, 2, 2, 2, 0, 0, 0])
+        self.assertEqual((tracks, run.advices, run.first_advice), ([0] * 7, 0, None))
+
+    def test_the_way_back_waits_until_it_is_open(self):
+        """Without the alert, and for `clear` seconds in a row; who does not heed bands looks at the alert alone."""
+        levels = [2] * 5 + [0] * 6
+        self.assertEqual(self.tracks(Answers((None, 40), is_open=[40]), levels)[0], [0] * 4 + [40] * 7)
+        self.assertEqual(self.tracks(Answers((None, 40), is_open=[40]), levels, heed_back=False)[0], [0] * 4 + [40] * 2 + [0] * 5)
+        self.assertEqual(self.tracks(Answers((None, 40)), [2] * 5 + [0, 2, 0, 2, 0, 0])[0], [0] * 4 + [40] * 6 + [0])
+
+    def test_the_nearer_side_and_then_the_same_side(self):
+        """Of two as near the right one; a closed target is left for the same side's answer at the next look."""
+        self.assertEqual(self.tracks(Answers((330, 40)), [2] * 5)[0][4], 330)
+        self.assertEqual(self.tracks(Answers((320, 40)), [2] * 5)[0][4], 40)
+        guidance = Answers((320, 40), is_open=[320])
+        found, run = [], flight.Run()
+        following = Following(guidance, Pilot(reaction=(0, 0), update=(3, 3)), 0, run)
+        for second in range(6):
+            guidance.answers = (320, 40) if second < 3 else (350, 60)
+            found.append(following.step(second, PLAN, 2)[0]["track"][0])
+        self.assertEqual((found, run.advices, run.reversals), ([40] * 3 + [60] * 3, 2, 0))
+
+    def test_a_reversal_is_counted(self):
+        guidance, run = Answers((320, 40), is_open=[]), flight.Run()
+        following = Following(guidance, Pilot(reaction=(0, 0), update=(1, 1)), 0, run)
+        following.step(0, PLAN, 2)
+        guidance.answers = (320, None)
+        self.assertEqual(following.step(1, PLAN, 2)[0]["track"][0], 320)
+        self.assertEqual((run.advices, run.reversals), (2, 1))
+        guidance.answers = "keep"
+        self.assertEqual(following.step(2, PLAN, 2)[0]["track"][0], 0)  # the present flight is open again: it is held
+
+    def test_a_margin_is_flown_where_it_is_open(self):
+        self.assertEqual(self.tracks(Answers((None, 40)), [2] * 5, margin={"track": 10})[0][4], 50)
+        self.assertEqual(self.tracks(Answers((355, None)), [2] * 5, margin={"track": 10})[0][4], 345)
+        self.assertEqual(self.tracks(Answers((None, 40), is_open=[40]), [2] * 5, margin={"track": 10})[0][4], 40)
+        found, _ = self.flown(Answers({"vs": (None, 4990)}), [2] * 5, kinds=("vs",), margin={"vs": 100})
+        self.assertEqual(found[4][0]["vs"], (5000, 500))  # no farther than the greatest candidate
+
+    def test_several_kinds_and_an_altitude(self):
+        """The first kind that has an answer, and then the one that is flown already."""
+        answers = {"track": (None, None), "vs": (-500, 900), "alt": (4500, None)}
+        found, run = self.flown(Answers(answers), [2] * 5, kinds=("track", "vs"))
+        self.assertEqual((found[4][0]["vs"], run.nones), ((-500, 500), 0))
+        found, _ = self.flown(Answers(answers), [2] * 5, kinds=("alt",))
+        self.assertEqual(found[4], (PLAN, (4500, 2000)))
+
+    def test_recoveries(self):
+        """Where no kind has an answer the soonest recovery is flown; it may be kept until there is an answer."""
+        for keep, second in ((False, 200), (True, 100)):
+            guidance, run, found = Answers((None, None), is_open=[], recovery=(9, 100)), flight.Run(), []
+            following = Following(guidance, Pilot(reaction=(0, 0), update=(1, 1), keep_recovery=keep), 0, run)
+            for guidance.found in ((9, 100), (5, 200)):
+                found.append(following.step(len(found), PLAN, 2)[0]["track"][0])
+            self.assertEqual((found, run.nones), ([100, second], 2))
+        tracks, run = self.tracks(Answers((None, None)), [2] * 7)
+        self.assertEqual((tracks, run.advices, run.nones), ([0] * 7, 0, 3))
+
+    def test_a_manoeuvre_of_the_plan_waits_for_its_way(self):
+        plan, run = {**PLAN, "track": (90, 3)}, flight.Run()
+        for opened, wanted in ((True, 90), (False, 0)):
+            following = Following(Answers("keep", is_open=opened), Pilot(heed_plan=True), 0, run)
+            self.assertEqual([following.step(0, it, 0)[0]["track"][0] for it in (PLAN, plan)], [0, wanted])
+
+    def test_each_encounter_draws_its_own_times(self):
+        found = {(it.reaction, it.warned, it.update) for number in range(40) for it in [Following(Answers("keep"), Pilot(), number, None)]}
+        self.assertGreater(len(found), 20)
+        self.assertTrue(all(5 <= reaction <= 12 and 2 <= warned <= 5 and 4 <= update <= 8 for reaction, warned, update in found))
+
+
+class Sensing(unittest.TestCase):
+    def told(self, seconds=60, **errors):
+        study = study_with(sensors=Sensors(**errors), **STRAIGHT)
+        return Traced(study.draw.encounter(5, 0), study, False).told[:seconds]
+
+    def test_without_errors_all_is_the_truth(self):
+        """An aircraft that flies straight is where its velocity leads, but for rounding, and has the age 0."""
+        told = self.told()
+        for (_, (before,)), (own, (after,)) in zip(told, told[1:]):
+            self.assertLessEqual(abs(after.x - before.x - (before.vx - own_velocity(own)[0]) / 36), 1)
+            self.assertEqual((after.age, after[4:7]), (0, before[4:7]))
+
+    def test_noise_has_its_deviation_and_its_seed(self):
+        draw = random.Random(2)
+        drawn = [bell(type("Draw", (), {"pick": staticmethod(draw.randint)}), 100) for _ in range(3000)]
+        self.assertAlmostEqual(sum(drawn) / 3000, 0, delta=6)
+        self.assertAlmostEqual((sum(it * it for it in drawn) / 3000) ** 0.5, 100, delta=5)
+        true, one, same, other = (self.told(place=40, seed=seed) if seed else self.told() for seed in (0, 1, 1, 2))
+        self.assertEqual(one, same)
+        self.assertNotEqual(one, other)
+        off = [a.x - b.x for (_, (a,)), (_, (b,)) in zip(one, true)]
+        self.assertTrue(25 < (sum(it * it for it in off) / 60) ** 0.5 < 55, off)
+        kept = self.told(place=40, every=20, seed=1)
+        off = [a.x - b.x for (_, (a,)), (_, (b,)) in zip(kept, true)]
+        self.assertEqual(len(set(off)), 3)
+
+    def test_late_and_lost_reports_have_their_age(self):
+        """What is flown on from an old report of a straight flight is where the aircraft is, but for rounding."""
+        true = self.told()
+        for errors in ({"late": (3, 3)}, {"lost": 300, "gap": 4, "seed": 4}):
+            ages = set()
+            for (_, (real,)), (_, found) in list(zip(true, self.told(**errors)))[8:]:
+                for it in found:
+                    ages.add(it.age)
+                    self.assertLessEqual(abs(it.x + it.age * it.vx / 36 - real.x), 1.01)
+                    self.assertLessEqual(abs(it.y + it.age * it.vy / 36 - real.y), 1.01)
+            self.assertTrue(ages == {3} if "late" in errors else {0, 1, 2, 3} <= ages, ages)
+
+    def test_a_report_that_is_too_old_is_left_out(self):
+        found = self.told(lost=500, gap=20, oldest=3, seed=4)
+        self.assertEqual({len(traffic) for _, traffic in found}, {0, 1})
+        self.assertLessEqual(max(it.age for _, traffic in found for it in traffic), 3)
+
+    def test_whole_degrees(self):
+        """Velocities then lie on a whole degree's ray of the table."""
+        study = study_with(sensors=Sensors(whole_degrees=True), world=TENTHS)
+        it, = study.draw.encounter(7, 4).others
+        it.events = [Event(0, "track", (it.trk + 90) % 360, 1)]
+        flying, sensed = Flying(it, TENTHS), Sensed(study.sensors, generator_of(1, 1, 9))
+        sensed.noise = [0] * 6
+        for _ in range(15):
+            flying.go(flying.velocity(), flying.plan(0))
+        self.assertEqual(flying.trk % 10, 5)
+        seen = sensed.seen_velocity(flying.velocity())
+        self.assertIn(seen[:2], [velocity(gs, trk) for gs in range(it.gs - 1, it.gs + 2) for trk in range(360)])
+        self.assertNotEqual(seen, flying.velocity())
+
+    def test_the_ownship_is_told_off_its_track(self):
+        study = study_with(sensors=Sensors(own_track=5), world=TENTHS, **STRAIGHT)
+        encounter = study.draw.encounter(5, 0)
+        own = Flying(encounter.own, TENTHS, 5)
+        traced = Traced(encounter, study, False)
+        self.assertEqual(traced.told[0][0].trk, encounter.own.trk)
+        self.assertEqual(own.velocity(), TENTHS.velocity(encounter.own.gs, encounter.own.trk * 10 + 5) + (encounter.own.vs,))
+
+
+def own_velocity(own):
+    return SECONDS.velocity(own.gs, own.trk * 10)
+
+
+class Faults(unittest.TestCase):
+    def test_answers_on_the_wrong_side_are_noticed(self):
+        """Each answer is mirrored at the present track. The loss ratio then lies above the interval of the right answers."""
+        near = {**STRAIGHT, "strata": (Stratum("near", 300, 200, 1),)}
+        right, wrong = study_with(**near), study_with(**near)
+        answer = wrong.guidance.answer
+
+        def mirrored(kind):
+            found, now = answer(kind), wrong.guidance.present(kind)
+            return found if found == "keep" else tuple(None if it is None else (2 * now - it) % 360 for it in reversed(found))
+
+        with mock.patch.object(wrong.guidance, "answer", mirrored):
+            found = [[rows.row_of(study.draw.encounter(11, number), study) for number in range(16)] for study in (right, wrong)]
+        self.assertEqual([it["loss"] for it in found[0]], [it["loss"] for it in found[1]])
+        good, bad = (ratios_of(it)[0] for it in found)
+        self.assertGreater(bad.low, good.high)
+        self.assertGreater(bad.value, 0.2)
+
+
+if __name__ == "__main__":
+    unittest.main()
