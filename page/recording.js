@@ -74,7 +74,8 @@ function daaRecording(root) {
   class Maker {
     constructor(ownName, onEarth, oldest, names) {
       Object.assign(this, { ownName, onEarth, oldest, offset: offsetOn(onEarth), ids: identifiers(names), leftOut: new Map(), far: 0,
-        latest: new Map(), incomplete: new Map(), steps: [], lacking: new Map(), made: [], last: -1, pending: null, start: null, silence: "" });
+        latest: new Map(), incomplete: new Map(), steps: [], lacking: new Map(), gaps: new Map(), ownGaps: [], made: [], last: -1, pending: null, start: null,
+        silence: "" });
     }
 
     /** The moments that were made since they were taken last. */
@@ -102,9 +103,15 @@ function daaRecording(root) {
     takeTraffic(row) {
       if (row.lack) this.incomplete.set(row.name, row);
       else {
+        if (this.latest.has(row.name)) this.noteGap(row.name, row.time - this.latest.get(row.name).time);
         this.latest.set(row.name, row);
         this.incomplete.delete(row.name);
       }
+    }
+
+    /** Notes how long an aircraft was not heard. */
+    noteGap(name, seconds) {
+      if (seconds > (this.gaps.get(name) ?? 0)) this.gaps.set(name, seconds);
     }
 
     flush() {
@@ -147,7 +154,9 @@ function daaRecording(root) {
         else low = middle + 1;
       }
       this.steps.splice(low, 0, step);
-      return step > 2 * usual ? `no report of the ownship between ${last} and ${time} s` : "";
+      if (step <= 2 * usual) return "";
+      this.ownGaps.push([step, last, time]);
+      return `no report of the ownship between ${last} and ${time} s`;
     }
 
     /** The ownship's numbers, and the angle by which the plane is turned, so that rounding its track costs nothing. */
@@ -191,6 +200,7 @@ function daaRecording(root) {
         if (late > this.oldest + ROUNDING) {
           this.leaveOut("aircraft", `whose report is older than ${this.oldest} s, in a moment`);
           lacking.push([far, name, this.lackOf(row, ownRow.time)]);
+          this.noteGap(name, late);
         } else there.push([far, row, way]);
       }
       const isCrowded = there.length > daa.MOST_AIRCRAFT;
@@ -361,9 +371,17 @@ function daaRecording(root) {
       wholeNames: () => maker.wholeNames(labels) };
   }
 
-  /** In how many moments each aircraft is lacking, and when. */
-  const lackingOf = (maker) => [...maker.lacking].map(([name, [from, upTo, count]]) => (
-    `${maker.idOf(name)} is lacking in ${many(count, "moment")}, from ${from} to ${upTo} s: what is not known there is not clear`));
+  /** Where no moment is, in how many moments each aircraft is lacking, when, and for how long nothing was heard. */
+  function lackingOf(maker) {
+    const [longest] = [...maker.ownGaps].sort((one, other) => other[0] - one[0] || other[1] - one[1]);
+    const several = maker.ownGaps.length > 1 ? `: the longest of ${maker.ownGaps.length} gaps` : "";
+    const ofOwn = longest ? [`no moment for ${longest[0]} s, from ${longest[1]} to ${longest[2]} s${several}, because no report of the ownship came`] : [];
+    return [...ofOwn, ...[...maker.lacking].map(([name, [from, upTo, count]]) => {
+      const gap = maker.gaps.get(name) ?? 0;
+      const silent = gap > maker.oldest ? ` (its longest gap between reports is ${wholeSecond(gap)} s)` : "";
+      return `${maker.idOf(name)} is lacking in ${many(count, "moment")}, from ${from} to ${upTo} s${silent}: what is not known there is not clear`;
+    })];
+  }
 
   /** The state lines of a whole recording, as tools/from_daa makes them, and what is told at its end. */
   function fromRecording(files, choice) {

@@ -1,6 +1,7 @@
 """The comments that tools read: what a recording lacks, where and when it was made, written by tools/from_daa and read by the reader
 of state lines."""
 import math
+import re
 import unittest
 
 from common import ToolTest
@@ -62,7 +63,7 @@ class Written(ToolTest):
         wanted = {11: "no report for 11 s, 3.9 NM away", 12: "no report for 12 s, 3.8 NM away", 13: "no report for 13 s, 3.7 NM away",
                   14: "no report for 14 s, 3.6 NM away"}
         self.assertEqual({moment.time: moment.lacks for moment in reader.events if moment.lacks}, {time: [("A", why)] for time, why in wanted.items()})
-        self.assertIn("from_daa: A is lacking in 4 moments, from 11 to 14 s: what is not known there is not clear\n", said)
+        self.assertIn("from_daa: A is lacking in 4 moments, from 11 to 14 s (its longest gap between reports is 15 s): what is not known there is not clear\n", said)
         reader, said, _ = self.made(PLANE + "".join(rows), "--oldest", "20")
         self.assertEqual([moment.time for moment in reader.events if moment.lacks], [])
         self.assertNotIn("lacking", said)
@@ -84,11 +85,16 @@ class Written(ToolTest):
                          + [("*", "3 more")])
 
     def test_an_ownship_that_is_silent_for_a_while(self):
-        """The recording's step is a second, or ten."""
+        """The recording's step is a second, or ten. The longest silence is told."""
+        gaps = {1: [(3, "5 to 8 s")], 10: [(21, "40 to 61 s")]}
         for step, times, wanted in ((1, (0, 1, 2, 3, 5, 8, 9), {8: "between 5 and 8 s"}), (10, (0, 10, 20, 40, 61, 70), {61: "between 40 and 61 s"})):
-            reader, _, _ = self.made(PLANE + "".join(f"own,{time},0,0,{1000},0,100,0\n" for time in times))
+            reader, said, _ = self.made(PLANE + "".join(f"own,{time},0,0,{1000},0,100,0\n" for time in times))
+            self.assertEqual(re.findall("no moment for .*", said), [f"no moment for {gap} s, from {between}, because no report of the ownship came"
+                                                                    for gap, between in gaps[step]])
             self.assertEqual({moment.time: moment.silence for moment in reader.events if moment.silence},
                              {time: f"no report of the ownship {why}" for time, why in wanted.items()}, step)
+        _, said, _ = self.made(PLANE + "".join(f"own,{time},0,0,1000,0,100,0\n" for time in (0, 1, 2, 3, 9, 10, 14)))
+        self.assertIn("from_daa: no moment for 6 s, from 3 to 9 s: the longest of 2 gaps, because no report of the ownship came\n", said)
         reader, _, _ = self.made(PLANE + "".join(f"own,{time},0,0,{70000 * (time == 1)},0,100,0\n" for time in range(3)))
         self.assertEqual([moment.silence for moment in reader.events], ["", "the ownship is out of range"])
 

@@ -33,20 +33,20 @@ class Run(ToolTest):
         return ran.returncode, re.sub(r"\d+ s\b", "N s", ran.stdout).splitlines()
 
     def test_all_parts_are_run_and_counted(self):
-        self.part("tests/front", "echo said; echo 3 passed, 0 failed")
+        self.part("tests/live_feed", "echo said; echo 3 passed, 0 failed")
         self.part("tests/page/run", "echo $1; echo 4 passed, 0 failed")
         self.part("tests/page/test_one.py", "")
         self.part("tests/page/test_two.py", "")
         status, said = self.ended()
         self.assertEqual(status, 0)
-        self.assertEqual(sorted(said[:-2]), [*(f"tests/{part}: {count} passed, 0 failed (N s)" for part, count in (("front", 3), ("page/run test_one", 4), ("page/run test_two", 4)))])
+        self.assertEqual(sorted(said[:-2]), [*(f"tests/{part}: {count} passed, 0 failed (N s)" for part, count in (("live_feed", 3), ("page/run test_one", 4), ("page/run test_two", 4)))])
         self.assertEqual(said[-2:], ["all of it took N s", "11 passed, 0 failed"])
         self.assertEqual(self.ended("two")[1][-1], "4 passed, 0 failed")
-        self.assertEqual(self.ended("--list"), (0, ["tests/front", "tests/page/run test_one", "tests/page/run test_two"]))
+        self.assertEqual(self.ended("--list"), (0, ["tests/live_feed", "tests/page/run test_one", "tests/page/run test_two"]))
         self.assertEqual(self.ended("nowhere")[0], 1)
 
     def test_a_part_that_fails_is_shown_and_fails_all(self):
-        self.part("tests/front", "echo why; echo 3 passed, 2 failed; exit 1")
+        self.part("tests/live_feed", "echo why; echo 3 passed, 2 failed; exit 1")
         self.part("tests/made", "echo quiet; echo 1 passed, 0 failed")
         status, said = self.ended()
         self.assertEqual((status, said[-1]), (1, "4 passed, 2 failed"))
@@ -54,13 +54,13 @@ class Run(ToolTest):
         self.assertNotIn("quiet", said)
         for script, last in (("echo 3 passed, 0 failed; exit 1", "4 passed, 1 failed"), ("echo broken", "1 passed, 1 failed"), ("", "1 passed, 1 failed"),
                              ("echo 0 passed, 0 failed", "1 passed, 1 failed"), ("echo 3 passed, 0 failed; kill -9 $$", "4 passed, 1 failed")):
-            self.part("tests/front", script)
+            self.part("tests/live_feed", script)
             status, said = self.ended()
             self.assertEqual((status, said[-1]), (1, last), script)
-            self.assertTrue(any(line.startswith("tests/front: FAILED: it ended with status ") for line in said), said)
+            self.assertTrue(any(line.startswith("tests/live_feed: FAILED: it ended with status ") for line in said), said)
 
     def test_what_is_left_out_is_summed_up_by_its_cause(self):
-        for part in ("tests/front", "tests/made"):
+        for part in ("tests/live_feed", "tests/made"):
             self.part(part, "echo 'left out: 2 tests: there is no jq (Debian: jq)'; echo 'left out: 1 test: of another cause'; echo 3 passed, 0 failed")
         status, said = self.ended()
         self.assertEqual(status, 0)
@@ -68,12 +68,12 @@ class Run(ToolTest):
 
     def test_parts_go_side_by_side(self):
         """Each of two waits until the other has begun; one after the other both would wait in vain."""
-        for mine, other in (("front", "made"), ("made", "front")):
+        for mine, other in (("trust", "made"), ("made", "trust")):
             self.part(f"tests/{mine}", f": >begun.{mine}; for _ in $(seq 500); do [ -e begun.{other} ] && echo 1 passed, 0 failed && exit; sleep 0.02; done")
         self.assertEqual(self.ended("--jobs", "2")[1][-1], "2 passed, 0 failed")
 
     def test_the_parts_are_told_which_builds_are_tested(self):
-        self.part("tests/front", 'echo "$DAIDALUS_BUILT $DAIDALUS_PROGRAM"; echo 0 passed, 1 failed; exit 1')
+        self.part("tests/live_feed", 'echo "$DAIDALUS_BUILT $DAIDALUS_PROGRAM"; echo 0 passed, 1 failed; exit 1')
         self.assertIn(f"{self.folder} /bin/true", self.ended()[1])
 
     def test_the_parts_are_those_that_are_there(self):
@@ -81,7 +81,7 @@ class Run(ToolTest):
         found = {it.split()[0] for it in run.parts()}
         scripts = {f"tests/{it.name}" for it in os.scandir(f"{TOP}/tests") if it.is_file() and os.access(it.path, os.X_OK)}
         self.assertEqual({it for it in found if it.count("/") == 1}, scripts - {"tests/run", "tests/toolchain", "tests/page_module"})
-        for folder in ("tests/page", "tests/tools"):
+        for folder in ("tests/front", "tests/page", "tests/tools"):
             modules = {it.name.removesuffix(".py") for it in os.scandir(f"{TOP}/{folder}") if it.name.startswith("test_")}
             self.assertEqual({it.split()[1] for it in run.parts() if it.startswith(folder)}, modules)
         self.assertLessEqual(set(run.LONGEST), set(run.parts()))

@@ -116,6 +116,7 @@ class Maker:
         self.latest, self.incomplete, self.used, self.unused = {}, {}, set(), {}
         self.pending, self.start, self.last, self.silence = None, None, -1, ""
         self.steps, self.lacking, self.far, self.count, self.most = [], {}, 0, 0, 0
+        self.gaps, self.own_gaps = {}, []
 
     def leave_out(self, what, why, count=1):
         self.left_out[what, why] = self.left_out.get((what, why), 0) + count
@@ -142,8 +143,14 @@ class Maker:
         else:
             if held:
                 self.forget(row.name)
+                self.note_gap(row.name, row.time - held.time)
             self.latest[row.name] = row
             self.incomplete.pop(row.name, None)
+
+    def note_gap(self, name, seconds):
+        """Notes how long an aircraft was not heard."""
+        if seconds > self.gaps.get(name, 0):
+            self.gaps[name] = seconds
 
     def forget(self, name):
         """The report of an aircraft is not the latest any more: notes whether no moment had it."""
@@ -184,7 +191,10 @@ class Maker:
         step = second - last
         usual = self.steps[len(self.steps) // 2] if self.steps else step
         bisect.insort(self.steps, step)
-        return f"no report of the ownship between {last} and {second} s" if step > 2 * usual else ""
+        if step <= 2 * usual:
+            return ""
+        self.own_gaps.append((step, last, second))
+        return f"no report of the ownship between {last} and {second} s"
 
     # Numbers.
 
@@ -245,6 +255,7 @@ class Maker:
             if late > self.oldest + ROUNDING:
                 self.leave_out("aircraft", f"whose report is older than {self.oldest:g} s, in a moment")
                 lacking.append((far, row.name, self.lack_of(row, own_row.time)))
+                self.note_gap(row.name, late)
             else:
                 there.append((far, row, east, north))
         if len(there) > MOST_AIRCRAFT:
@@ -304,9 +315,15 @@ class Maker:
         self.latest = {}
 
     def told_lacking(self):
-        """Whom moments lack, and when."""
+        """Where no moment is, whom moments lack, when, and for how long nothing was heard."""
+        if self.own_gaps:
+            longest, last, second = max(self.own_gaps)
+            several = f": the longest of {len(self.own_gaps)} gaps" if len(self.own_gaps) > 1 else ""
+            yield f"no moment for {longest} s, from {last} to {second} s{several}, because no report of the ownship came"
         for name, (first, last, count) in self.lacking.items():
-            yield (f"{self.ids[name]} is lacking in {count} moment{'s' * (count != 1)}, from {first} to {last} s: what is not known there is not clear")
+            gap = self.gaps.get(name, 0)
+            silent = f" (its longest gap between reports is {whole_second(gap)} s)" if gap > self.oldest else ""
+            yield (f"{self.ids[name]} is lacking in {count} moment{'s' * (count != 1)}, from {first} to {last} s{silent}: what is not known there is not clear")
 
     def told(self):
         """What was changed and left out."""
