@@ -1,8 +1,11 @@
-"""tools/from_sbs over loopback: moments each second of what a decoder says, and what is told where nothing is known."""
+"""tools/from_sbs over recordings and over loopback: moments each second of what a decoder says, and what is told where nothing is known."""
 import contextlib
 import datetime
+import json
 import math
 import os
+import random
+import re
 import socket
 import subprocess
 import sys
@@ -10,17 +13,21 @@ import threading
 import time
 import unittest
 
-from common import TOP, ToolTest
+from common import CONFIG, TOP, ToolTest, replayed
 from daidalus_files import Moment, Reader
+
+import feeds
 
 BEGIN = time.time()
 
 
-def lines_of(address, lat, lon, alt=3000, gs=360, trk=0, vs=0):
-    """A position and a velocity, as a decoder writes them."""
-    stamp = datetime.datetime.now(datetime.timezone.utc).strftime("%Y/%m/%d,%H:%M:%S.%f")[:-3]
+def lines_of(address, lat, lon, alt=3000, gs=360, trk=0, vs=0, at=None, parts="43"):
+    """A velocity and a position, as a decoder writes them, at a time of a recording or now."""
+    when = datetime.datetime.now(datetime.timezone.utc) if at is None else datetime.datetime.fromtimestamp(at, datetime.timezone.utc)
+    stamp = when.strftime("%Y/%m/%d,%H:%M:%S.%f")[:-3]
     head = f"1,1,{address},1,{stamp},{stamp}"
-    return f"MSG,4,{head},,,{gs},{trk},,,{vs},,0,0,0,0\r\nMSG,3,{head},,{alt},,,{lat:.6f},{lon:.6f},,,0,0,0,0\r\n"
+    lines = {"4": f"MSG,4,{head},,,{gs},{trk},,,{vs},,0,0,0,0\r\n", "3": f"MSG,3,{head},,{alt},,,{lat:.6f},{lon:.6f},,,0,0,0,0\r\n"}
+    return "".join(lines[part] for part in parts)
 
 
 class Server:
@@ -117,13 +124,205 @@ class FromSbs(ToolTest):
         self.assertEqual([aircraft.id for aircraft in moments[-1].traffic], [f"4B{number:04X}" for number in range(1, 65)])
         self.assertTrue(all(math.isclose(moments[-1].traffic[at].y, 100 * (at + 1), abs_tol=1) for at in range(64)))
 
+    def test_lines_that_waited_are_as_old_as_they_are(self):
+        """From the third second on each line is written five seconds before it comes."""
+        def said(second):
+            late = 0 if second < begin + 3 else 5
+            return lines_of("4B0001", 47, 8, gs=0) + lines_of("4B0002", 48, 8, gs=0, at=time.time() - late)
+        begin = time.time() - BEGIN
+        server = Server(said)
+        self.addCleanup(server.close)
+        out, told = self.opened(server, "--own", "4B0001", "--seconds", "9").communicate(timeout=60)
+        ages = [moment.traffic[0].age for moment in Reader().read(out.encode()) if isinstance(moment, Moment) and moment.traffic]
+        self.assertEqual(ages[0], 0, told)
+        self.assertIn(ages[-1], (4, 5, 6), told)
+
+    def test_gpsd_and_the_own_transponder(self):
+        """The ownship by GPS at 4000 ft above the ellipsoid, 150 ft more than by its barometer; its own transponder is heard as well."""
+        def gps(second):
+            tpv = {"class": "TPV", "mode": 3, "lat": 47, "lon": 8, "altHAE": 4000 * 0.3048, "altMSL": 3900 * 0.3048, "speed": 0.0, "climb": 0.0}
+            return f'{{"class":"VERSION"}}\n[1]\n{{"class":"TPV","mode":NaN}}\n{json.dumps(tpv)}\n'
+        decoder = Server(lambda second: lines_of("4B0001", 47, 8, alt=3850, gs=0) + lines_of("4B0002", 47.1, 8, gs=0))
+        gpsd = Server(gps)
+        for server in (decoder, gpsd):
+            self.addCleanup(server.close)
+        runs = [self.opened(decoder, "--gpsd", f"127.0.0.1:{gpsd.port}", "--above", "150", "--seconds", "8", *words) for words in ((), ("--own", "4B0001"))]
+        said = [run.communicate(timeout=60) for run in runs]
+        last = [[event for event in Reader().read(out.encode()) if isinstance(event, Moment)][-1] for out, _ in said]
+        self.assertEqual([moment.own.alt for moment in last], [3850, 3850])
+        self.assertEqual([[it.id for it in moment.traffic] for moment in last], [["4B0001", "4B0002"], ["4B0002"]])
+        self.assertEqual([told.count("4B0001 flies where the ownship does: its own transponder? --own 4B0001 takes it out") for _, told in said], [1, 0])
+        self.assertIn("heights are those of GPS above the ellipsoid, less 150 ft", said[0][1])
+        self.assertIn("# heights barometric, the ownship's by GPS less 150 ft\n", said[0][0])
+
+    def test_aircraft_json_has_what_the_lines_leave_out(self):
+        """The first text tells nothing, since it may be old. B is in the texts alone, C has no vertical speed there; and texts that are none."""
+        path, stop = os.path.join(self.folder, "aircraft.json"), threading.Event()
+        texts = ['{"now":NaN}', "[" * 5000, '{"now":1,"aircraft":[{"hex":"4B0009","lat":1e999,"lon":2}]}', "\0", '{"now":1e400,"aircraft":[]}']
+
+        def write():
+            number = 0
+            while not stop.wait(0.3):
+                number += 1
+                now = time.time() + 5000  # the clock of another machine
+                aircraft = [{"hex": "4b0002", "lat": 47.1, "lon": 8, "seen_pos": 1.0, "altitude": 5000, "speed": 0, "track": 0, "vert_rate": 0},
+                            {"hex": "4b0003", "lat": 47.2, "lon": 8, "seen_pos": 0.1, "altitude": 5000, "speed": 0, "track": 0},
+                            {"hex": "4b0004", "lat": 47.1, "lon": 8, "seen_pos": -900, "altitude": 5000, "speed": 0, "track": 0, "vert_rate": 0},
+                            {"hex": "x y", "lat": 47.1, "lon": 8, "altitude": 5000, "speed": 0, "track": 0, "vert_rate": 0}, 7, {"hex": ["4B0005"]}]
+                text = texts[number % 5] if number % 2 else json.dumps({"now": now, "aircraft": aircraft})
+                with open(path + ".new", "w", encoding="latin-1") as file:
+                    file.write(text)
+                os.replace(path + ".new", path)
+
+        threading.Thread(target=write, daemon=True).start()
+        self.addCleanup(stop.set)
+        server = Server(lambda second: lines_of("4B0001", 47, 8, gs=0))
+        self.addCleanup(server.close)
+        out, told = self.opened(server, "--own", "4B0001", "--json", path, "--seconds", "6").communicate(timeout=60)
+        last = [event for event in Reader().read(out.encode()) if isinstance(event, Moment)][-1]
+        self.assertEqual([(it.id, it.y, it.alt) for it in last.traffic], [("4B0002", 6000, 5000)], told)
+        self.assertIn(last.traffic[0].age, (1, 2))
+        self.assertEqual(last.lacks, [("4B0003", "no vertical speed, 12.0 NM away")])
+
     def test_words_that_are_not_taken(self):
-        for words, part in (((), "HOST:PORT"), (("x",), "one of --own and --at"), (("--own", "4B0001", "x"), "x has not the form HOST:PORT"),
+        for words, part in ((("--own", "4B0001"), "HOST:PORT, a file, or --json"), (("x",), "one of --own, --at and --gpsd"),
+                            (("--own", "4B0001", "x"), "x has not the form HOST:PORT"),
+                            (("--gpsd", "x:1", "x:1"), "--gpsd and --above go together"), (("--own", "4B0001", "--json", "http://192.0.2.1/a", "x:1"), "no address by http of this"),
+                            (("--own", "4B0001", "--as-now", "x:1"), "--as-now plays a recording"), (("--own", "4B0001", "--at", "1,2,3", "x:1"), "one of --own"),
                             (("--own", "4B", "x:1"), "4B is no address"), (("--at", "1,2", "x:1"), "1,2 has not the form LAT,LON,FEET"),
                             (("--at", "1,2,3", "--oldest", "61", "x:1"), "--oldest is from 0 to 60"), (("--at", "91,2,3", "x:1"), "91,2,3 is no place")):
             status, out, told = self.tool("from_sbs", *words)
             self.assertEqual((status, out), (2, ""))
             self.assertIn(part, told)
+
+
+T = 1764590400  # a whole second of 2025
+
+
+class Recorded(ToolTest):
+    """Recordings of lines, whose own times are the clock."""
+
+    def moments(self, text, *words, own="4B0001"):
+        """What is made of a recording: its moments by their seconds from T on, all that is written, and what is told."""
+        status, out, told = self.tool("from_sbs", "--own", own, *words, self.write("heard.sbs", text.encode("latin-1")))
+        self.assertEqual(status, 0, told)
+        events = Reader().read(out.encode())
+        self.assertTrue(all(isinstance(event, Moment) for event in events), out)
+        return {event.time - T: event for event in events}, out, told
+
+    def test_ages(self):
+        """The ownship flies north at 360 knots; B stands still 30 NM ahead and is heard at 2.25 and at 3.5 s: its age counts from there."""
+        own = [(second, lines_of("4B0001", 47 + second / 600, 8, at=T + second)) for second in range(20)]
+        b = [(second, lines_of("4B0002", 47.5, 8, gs=0, at=T + second)) for second in (2.25, 3.5)]
+        found, out, told = self.moments("".join(text for _, text in sorted(own + b)))
+        self.assertEqual(sorted(found), list(range(1, 20)))
+        self.assertEqual([len(found[second].traffic) for second in (1, 2, 3, 4)], [0, 0, 1, 1])
+        for second in range(3, 14):
+            [aircraft] = found[second].traffic
+            self.assertEqual(aircraft.age, math.floor(second - (2.25 if second == 3 else 3.5)), second)
+            self.assertAlmostEqual(aircraft.y - found[second].own.y, 30000 - 100 * second, delta=1)
+        self.assertEqual([found[second].lacks for second in (13, 14, 19)],
+                         [[], [("4B0002", "no report for 10 s, 28.6 NM away")], [("4B0002", "no report for 15 s, 28.1 NM away")]])
+        self.assertEqual([len(found[second].traffic) for second in (14, 19)], [0, 0])
+        self.assertEqual(out.split("\n")[:4], ["format 2", "# clock utc", "# ownship 4B0001", "# heights barometric"])
+        self.assertIn("from_sbs: heights are barometric\n", told)
+
+    def test_the_ownship_is_lost(self):
+        """It is heard until 5 s and from 14.5 s on; its velocity alone is not heard from 20 s on."""
+        heard = [*range(6), 14.5, *range(15, 30)]
+        text = "".join(lines_of("4B0002", 47.1, 8, gs=0, at=T + second)
+                       + lines_of("4B0001", 47, 8, at=T + second, parts="43" if second < 20 else "3") * (second in heard) for second in [*range(15), 14.5, *range(15, 30)])
+        found, out, _ = self.moments(text)
+        self.assertEqual(sorted(found), [*range(1, 9), *range(15, 23)])
+        why = re.findall("^# no moment: (.*)$", out, re.M)
+        self.assertEqual(why, [f"no report of the ownship for {age} s" for age in range(4, 10)]
+                         + ["of the ownship no velocity within 3 s"] * 5 + ["of the ownship no velocity within 5 s"] * 2)
+
+    def test_more_than_64_those_that_matter(self):
+        """Of 66 that stand between 6 and 13 NM away the farthest is left out, for one that comes head-on from 30 NM stays, and so does one
+        that goes away at 3 NM. The ownship stands, too."""
+        def all_of(second):
+            standing = "".join(lines_of(f"4C{number:04X}", 47 + (6 + number / 10) / 60, 8, gs=0, at=T + second) for number in range(63))
+            return (standing + lines_of("4B0001", 47, 8, gs=0, at=T + second) + lines_of("4D0001", 47.5, 8, gs=450, trk=180, at=T + second)
+                    + lines_of("4D0002", 46.95, 8, gs=450, trk=180, at=T + second) + lines_of("4D0003", 46.5, 8, gs=450, trk=180, at=T + second))
+        found, _, _ = self.moments(all_of(0) + all_of(0.5) + lines_of("4B0001", 47, 8, gs=0, at=T + 1.5))
+        names = {aircraft.id for aircraft in found[1].traffic}
+        self.assertEqual(len(names), 64)
+        self.assertLessEqual({"4D0001", "4D0002", "4C0000", "4C003D"}, names)
+        self.assertEqual([name for name, _ in found[1].lacks], ["4C003E", "4D0003"])
+        self.assertTrue(all(why.startswith("more than 64 aircraft, ") for _, why in found[1].lacks))
+
+    def test_the_own_address_is_no_traffic_and_small_letters_are_none(self):
+        text = "".join(lines_of("4b0001", 47, 8, at=T + second) + lines_of("~4B0002", 47.1, 8, at=T + second) + lines_of("4B0002", 47.2, 8, at=T + second) for second in range(4))
+        found, _, _ = self.moments(text)
+        self.assertEqual([aircraft.id for aircraft in found[3].traffic], ["T4B0002", "4B0002"])
+
+    def test_hostile_lines(self):
+        """Whatever a line says, the tool ends well, and the program refuses none of what it writes."""
+        drawn = random.Random(5)
+        odd = ["nan", "inf", "-inf", "1e308", "1e5", "1_0", "9" * 400, "-", "+", "", " ", "0x10", "91", "-181", "\0", "\xe9", "a" * 300, "\ttraffic", "end", "-0", "1.", ".5", "#"]
+        lines = []
+        for second in range(40):
+            for address in ("4B0001", "4B0002", "4B0003"):
+                for line in lines_of(address, 47 + int(address[-1]) / 100, 8, at=T + second).split("\r\n")[:2]:
+                    cells = line.split(",")
+                    lines.append(line)
+                    cells[drawn.choice([0, 1, 4, 6, 7, 8, 9, 10, 11, 12, 13, 14, 15, 16, 21])] = drawn.choice(odd)
+                    lines.append(",".join(cells))
+                    lines.append(drawn.choice(["", "," * 21, "MSG," * 100, "x" * 70000, "\xff" * 30, line[:drawn.randrange(len(line))], line + line, "moment 5", "end", "format 1", "MSG"]))
+            far = ([-5000, 70000, 10000], [0, 5000, 300], [0, 360, 720, -90], [47, -90, 90, 46.9], [8, 180, -180, 7.9], [0, 30000, -99999])
+            alt, gs, trk, lat, lon, vs = map(drawn.choice, far)
+            lines.append(lines_of(f"{drawn.randrange(1 << 24):06X}", lat, lon, alt, gs, trk, vs, at=T + second).rstrip())
+        found, out, _ = self.moments("\n".join(lines))
+        self.assertGreater(len(found), 20)
+        status, report = replayed(CONFIG, out.encode())
+        self.assertEqual((status, report.count(b"\ndone "), report.count(b"refused ")), (0, len(found), 0))
+        self.assertLess(max(map(len, out.split("\n"))), 256)
+
+    def test_what_the_decoder_rounds_is_counted(self):
+        """Whole knots and degrees: half of each, at 360 knots hypot(0.5, 360 sin 0.5 degrees)."""
+        _, _, told = self.moments("".join(lines_of("4B0001", 47, 8, at=T + second) for second in range(4)))
+        self.assertIn("a velocity may be 3.2 knots off, which moves an aircraft 0.053 NM in a minute", told)
+        _, _, told = self.moments("".join(lines_of("4B0001", 47, 8, gs=360.5, at=T + second) for second in range(4)))
+        self.assertNotIn("knots off", told)
+
+    def test_a_recording_is_played_as_if_it_were_heard_now(self):
+        text = "".join(lines_of("4B0001", 47, 8, at=T + second) for second in range(9))
+        begun = time.time()
+        status, out, told = self.tool("from_sbs", "--own", "4B0001", "--as-now", "--seconds", "3", self.write("heard.sbs", text))
+        took = time.time() - begun
+        times = [moment.time for moment in Reader().read(out.encode())]
+        self.assertEqual((status, len(times)), (0, 3), told)
+        self.assertTrue(begun < times[0] < begun + 3 and times[2] - times[0] == 2 and 2 < took < 8, (begun, times, took))
+
+    def test_the_example(self):
+        """A moment at each second between the first and the last line; 4B1005 alerts, at last at level 3. Whoever is on the ground is in none."""
+        with open(os.path.join(TOP, "examples", "receiver.sbs"), encoding="ascii") as file:
+            text = file.read()
+        stamps = [feeds.stamps_of(line)[0] for line in text.splitlines()]
+        found, out, _ = self.moments(text)
+        self.assertEqual([second + T for second in found], list(range(math.floor(min(stamps)) + 1, math.floor(max(stamps)) + 1)))
+        self.assertNotIn("4BF001", out)
+        self.assertEqual([len(it.traffic) for it in found.values()][-1], 4)
+        _, report = replayed(CONFIG, out.encode())
+        self.assertEqual(set(re.findall(rb"^alert 4B1005 ([1-4]) ", report, re.M)), {b"1", b"2", b"3"})
+
+    def test_a_recording_without_the_ownship(self):
+        status, out, told = self.tool("from_sbs", "--own", "4B0001", self.write("heard.sbs", lines_of("4B0002", 47, 8, at=T) + lines_of("4B0002", 47, 8, at=T + 3)))
+        self.assertEqual(status, 3)
+        self.assertIn("no moment is left: the ownship 4B0001 is not heard", told)
+        self.assertEqual(self.tool("from_sbs", "--own", "4B0001", self.write("empty.sbs", ""))[0], 3)
+
+
+class Lateness(unittest.TestCase):
+    def test_the_least_difference_counts_as_none(self):
+        late = feeds.Lateness()
+        self.assertEqual([round(late.of(stamp, now), 2) for stamp, now in ((100, 5100), (101, 5101.5), (102, 5102), (103, 5110))], [0, 0.5, 0, 7])
+
+    def test_two_clocks_may_drift(self):
+        """After a day at 20 parts of a million the other clock is 1.7 s off: that is no lateness."""
+        late = feeds.Lateness()
+        self.assertLess(max(late.of(second * (1 - 2e-5), 1e6 + second) for second in range(0, 86400, 60)), 0.01)
 
 
 if __name__ == "__main__":

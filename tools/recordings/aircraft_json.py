@@ -2,10 +2,10 @@
 import json
 import math
 
-from .rows import BadRow, Row
+from .rows import GREATEST, BadRow, Row
 
 KEYS = {"alt_baro": ("alt_baro", "altitude"), "alt_geom": ("alt_geom",), "speed": ("gs", "speed"), "track": ("track",),
-        "climb": ("baro_rate", "vert_rate", "geom_rate"), "lat": ("lat",), "lon": ("lon",)}
+        "climb": ("baro_rate", "vert_rate", "geom_rate"), "lat": ("lat",), "lon": ("lon",), "late": ("seen_pos", "seen")}
 MOST_NOW = 1e11  # a time that is greater is in milliseconds
 
 
@@ -16,15 +16,16 @@ class AircraftJson:
 
     def __init__(self, altitude=None):
         self.altitude = "alt_geom" if altitude == "geom" else "alt_baro"
-        self.labels, self.grounded, self.is_barometric, self.first_name = {}, 0, altitude != "geom", None
+        self.labels, self.grounded, self.is_barometric, self.first_name, self.now = {}, 0, altitude != "geom", None, None
         self.told = f"aircraft.json: altitudes ({self.altitude}) in ft, speeds in knots and ft/min; a position is seen_pos seconds older than `now`"
 
     def rows(self, text):
         """The rows of a text, each with why it is not whole; and for an aircraft that can't be read the cause."""
         held = json.loads(text)
-        if not isinstance(held, dict) or not isinstance(held.get("now"), (int, float)):
+        if not isinstance(held, dict) or not isinstance(held.get("now"), (int, float)) or not abs(held["now"]) <= GREATEST:
             raise BadRow("no aircraft.json: it has no time `now`")
         now = held["now"] / 1000 if held["now"] > MOST_NOW else held["now"]
+        self.now = now  # of the last text, in seconds
         listed = held.get("aircraft", held.get("ac"))
         if not isinstance(listed, list):
             raise BadRow("no aircraft.json: it has no list `aircraft`")
@@ -42,8 +43,7 @@ class AircraftJson:
             self.grounded += 1
             return None
         self.first_name = self.first_name or address
-        late = one.get("seen_pos", one.get("seen", 0))
-        time = now - (late if isinstance(late, (int, float)) else 0)
+        time = now - (value.of("late") or 0)
         alt, speed, track, climb = (value.of(key) for key in (self.altitude, "speed", "track", "climb"))
         for number, words in ((alt, "altitude"), (speed, "velocity"), (track, "velocity"), (climb, "vertical speed")):
             if number is None:
@@ -59,6 +59,6 @@ class Values:
         self.one = one
 
     def of(self, what):
-        """The first of the keys that has a number, or None."""
+        """The first of the keys that has a number, or None; one that is farther from 0 than any in the world is none."""
         there = (self.one.get(key) for key in KEYS[what])
-        return next((float(value) for value in there if isinstance(value, (int, float)) and not isinstance(value, bool) and math.isfinite(value)), None)
+        return next((float(value) for value in there if isinstance(value, (int, float)) and not isinstance(value, bool) and abs(value) <= GREATEST), None)

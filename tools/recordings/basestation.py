@@ -3,7 +3,7 @@ different lines, which are joined by its address."""
 import math
 import re
 
-from .rows import BadRow, Row
+from .rows import GREATEST, BadRow, Row
 from .times import iso_time, number_of
 
 IS_LINE = re.compile(r"(MSG|STA|ID|AIR|SEL|CLK),")
@@ -59,7 +59,7 @@ class BaseStation:
         if cells[10]:
             self.labels[address] = cells[10]
         heard = self.heard.setdefault(address, Heard())
-        alt, speed, track, lat, lon, climb = (number_of(cells[at]) for at in range(11, 17))
+        alt, speed, track, lat, lon, climb = (sound_number(cells[at]) for at in range(11, 17))
         if alt is not None:
             heard.alt = now, alt
         if speed is not None and track is not None:
@@ -69,6 +69,12 @@ class BaseStation:
         if lat is None or lon is None or abs(lat) > 90 or abs(lon) > 180:
             return None
         return joined(heard, address, now, (lat, lon))
+
+
+def sound_number(cell):
+    """A number, or None; one that is farther from 0 than any in the world is none."""
+    found = number_of(cell)
+    return None if found is None or abs(found) > GREATEST else found
 
 
 def joined(heard, address, now, place):

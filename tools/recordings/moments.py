@@ -13,6 +13,7 @@ from .plane import closest, offset, on_ellipsoid, rotated
 LAST_SECOND = FIELDS["moment"][0].high
 FARTHEST_OWN = 100  # NM: an ownship that is farther from where it began is put at 0 0
 ROUNDING = 1e-6  # s: what the rounding of a time's unit may cost
+CLOSE = 5  # NM: an aircraft that is nearer counts as if its closest approach were now
 NEAR = 40  # NM: an aircraft that is left out and was nearer, flown straight on, is told in its moment
 FORGOTTEN = 300  # s: after so long an old report says nothing any more about where an aircraft is
 MOST_LACKS = 20  # aircraft that a moment lacks and that are named one by one
@@ -93,6 +94,21 @@ class Losses:
                    f"vertical speed {self.climb:.1f} ft/min, distance at the closest approach {self.closest:.4f} NM")
 
 
+def by_distance(far, row, way, own_row):
+    """How much an aircraft matters: the nearer, the more."""
+    return far
+
+
+def by_approach(far, row, way, own_row):
+    """How much an aircraft matters: the sooner its closest approach the more, and then the nearer. One that is close counts as if that were
+    now, and one whose distance grows as if it never came."""
+    hours = (own_row.time - row.time) / 3600
+    east, north = row.east - own_row.east, row.north - own_row.north
+    closing = -((way[0] + row.east * hours) * east + (way[1] + row.north * hours) * north)
+    approach = 0 if far < CLOSE else closing / (east * east + north * north) if closing > 0 else math.inf
+    return approach, far
+
+
 class OwnFrame:
     """A moment's ownship: its report, its numbers, and how the plane is turned round it."""
 
@@ -108,10 +124,10 @@ class OwnFrame:
 
 
 class Maker:
-    """Makes moments of the reports that it takes."""
+    """Makes moments of the reports that it takes. `rank` orders aircraft where there are more than a moment may have: the least stay."""
 
-    def __init__(self, own_name, on_earth, oldest, names=()):
-        self.own_name, self.on_earth, self.oldest = own_name, on_earth, oldest
+    def __init__(self, own_name, on_earth, oldest, names=(), rank=by_distance):
+        self.own_name, self.on_earth, self.oldest, self.rank = own_name, on_earth, oldest, rank
         self.ids, self.losses, self.left_out = Identifiers(names), Losses(), {}
         self.latest, self.incomplete, self.used, self.unused = {}, {}, set(), {}
         self.pending, self.start, self.last, self.silence = None, None, -1, ""
@@ -239,8 +255,8 @@ class Maker:
             losses.note_plane(math.hypot(*way), own_row.place, row.place)
 
     def traffic_at(self, frame, second):
-        """The nearest aircraft, as many as there may be, in the order in which the recording first has them; and the comments that
-        name those that the moment lacks, the nearest one first."""
+        """The aircraft, of more than there may be the first ones by the rank, in the order in which the recording first has them; and the
+        comments that name those that the moment lacks, the nearest one first."""
         own_row, there, lacking = frame.row, [], []
         now, own_place, on_earth = own_row.time, own_row.place, self.on_earth
         for row in list(self.latest.values()):
@@ -259,7 +275,7 @@ class Maker:
             else:
                 there.append((far, row, east, north))
         if len(there) > MOST_AIRCRAFT:
-            there.sort(key=lambda one: one[0])
+            there.sort(key=lambda one: self.rank(one[0], one[1], one[2:], own_row))
         found = self.found_of(there, frame, lacking)
         lacking += self.incomplete_at(own_row)
         return [found[name] for name in self.latest if name in found] if len(there) > MOST_AIRCRAFT else list(found.values()), self.comments(lacking, second)
