@@ -93,6 +93,12 @@ function daaCore(root) {
     return comments.map((text) => /^#[ \t]+lacks[ \t]+(\S+)[ \t]*(.*)$/.exec(text)).filter(Boolean).map(([, id, why]) => ({ id, why }));
   }
 
+  /** Why there is no moment, by a comment `# no moment: WHY`; nothing where a line is none. */
+  function silenceIn(line) {
+    const found = isComment(line) && /^#[ \t]+no[ \t]+moment:[ \t]*(.*)$/.exec(new TextDecoder().decode(line).trim());
+    return found ? found[1] || "no cause is told" : "";
+  }
+
   const compiled = new WeakMap(); // by the bytes of a module, which several engines of a page have in common
 
   class Engine {
@@ -257,7 +263,7 @@ function daaCore(root) {
   class StateLines {
     constructor(engine) {
       const { bytes, places } = engine;
-      Object.assign(this, { engine, number: 0, comments: [], rest: new Uint8Array(0), clock: "" });
+      Object.assign(this, { engine, number: 0, comments: [], rest: new Uint8Array(0), clock: "", silence: "" });
       bytes.fill(0, places.lines, places.lines + SIZES.lines);
     }
 
@@ -281,11 +287,16 @@ function daaCore(root) {
       this.number += 1;
       const wasOpen = engine.lineNumber("opened");
       const code = engine.takeLine(line);
-      if (code === ENDED) yield { moment: { ...engine.takenMoment(), comments: this.comments } };
+      if (code === ENDED) {
+        yield { moment: { ...engine.takenMoment(), comments: this.comments }, silence: this.silence };
+        this.silence = "";
+      }
       else if (code) yield { refused: this.number, code };
       if (!wasOpen || code === ENDED) this.comments = [];
       else this.comments.push(...commentIn(line));
-      if (!wasOpen) this.clock ||= clockIn(line);
+      if (wasOpen) return;
+      this.clock ||= clockIn(line);
+      this.silence ||= silenceIn(line);
     }
   }
 

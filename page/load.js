@@ -20,7 +20,7 @@
   /** Shows moments from the first one on. */
   function begin(moments, name, more) {
     pause();
-    Object.assign(state, { moments, name, told: [], alone: "", index: 0, chosen: "p:", unfolded: false, untaken: "", edits: new Map(), undone: [],
+    Object.assign(state, { moments, name, told: [], alone: "", silence: "", index: 0, chosen: "p:", unfolded: false, untaken: "", edits: new Map(), undone: [],
       redone: [], window: null, ...more });
     const some = Array.from({ length: Math.min(moments.length, 1000) }, (_, index) => moments.at(index));
     for (const view of state.views) if (view.look.auto) view.look.range = fitting(some);
@@ -29,8 +29,8 @@
   }
 
   /** Takes what is known of a recording once it is read. */
-  function finish({ told, alone, clock, names, own }, more = "") {
-    Object.assign(state, { told, alone: [alone, more].filter(Boolean).join("; ") });
+  function finish({ told, alone, clock, names, own, silence = "" }, more = "") {
+    Object.assign(state, { silence, told, alone: [alone, more].filter(Boolean).join("; ") });
     $("clock-form").value = clock || "s";
     $("own-label").hidden = $("oldest-label").hidden = !names;
     if (!names) return;
@@ -257,5 +257,5 @@
     takeFiles(event.dataTransfer.files);
   });
 
-  Object.assign(ui, { tell, loadStates, takeExample, grown, stopReading });
+  Object.assign(ui, { tell, begin, finish, loadStates, takeExample, grown, stopReading });
 })();

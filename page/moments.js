@@ -11,20 +11,21 @@ function daaMoments(root) {
     constructor() { this.begin(); }
 
     begin() {
-      Object.assign(this, { times: [], starts: [0], numbers: [], names: [], places: new Map(), comments: [], faults: [] });
+      Object.assign(this, { times: [], starts: [0], numbers: [], names: [], places: new Map(), comments: [], faults: [], silences: [] });
     }
 
     get isFull() { return this.times.length >= BLOCK; }
     get isEmpty() { return this.times.length === 0; }
 
-    /** Adds a moment, and in words what was refused before it. */
-    add({ time, own, traffic, comments = [] }, fault = "") {
+    /** Adds a moment, and in words what was refused before it. `silence` is why there is none between it and the one before. */
+    add({ time, own, traffic, comments = [], silence: since = "" }, fault = "", silence = since) {
       this.numbers.push(...OWN.map((field) => own[field]));
       for (const one of traffic) this.numbers.push(this.placeOf(one.id), ...TRAFFIC.map((field) => one[field]));
       this.times.push(time);
       this.starts.push(this.numbers.length);
       this.comments.push(comments);
       this.faults.push(fault);
+      this.silences.push(silence);
     }
 
     placeOf(name) {
@@ -33,9 +34,9 @@ function daaMoments(root) {
     }
 
     take() {
-      const { names, comments, faults } = this;
+      const { names, comments, faults, silences } = this;
       const block = { times: Uint32Array.from(this.times), starts: Uint32Array.from(this.starts), numbers: Int32Array.from(this.numbers), names,
-        comments, faults };
+        comments, faults, silences };
       this.begin();
       return block;
     }
@@ -52,10 +53,11 @@ function daaMoments(root) {
   }
 
   /** A part of a block, as a block of its own. */
-  function partOf({ times, starts, numbers, names, comments, faults }, first, count) {
+  function partOf({ times, starts, numbers, names, comments, faults, silences }, first, count) {
     const [from, upto] = [starts[first], starts[first + count]];
     return { times: times.slice(first, first + count), starts: starts.slice(first, first + count + 1).map((at) => at - from),
-      numbers: numbers.slice(from, upto), names, comments: comments.slice(first, first + count), faults: faults.slice(first, first + count) };
+      numbers: numbers.slice(from, upto), names, comments: comments.slice(first, first + count), faults: faults.slice(first, first + count),
+      silences: silences.slice(first, first + count) };
   }
 
   /** The moments of a recording, which may grow. */
@@ -110,6 +112,22 @@ function daaMoments(root) {
     fault(index) {
       const [block, place] = this.find(index);
       return block.faults[place];
+    }
+
+    /** Why there is no moment between one and the one before, or nothing. */
+    silence(index) {
+      const [block, place] = this.find(index);
+      return block.silences[place];
+    }
+
+    /** The first moments go, as many as a live source has too many: those of whole blocks. */
+    drop(count) {
+      let [blocks, gone] = [0, 0];
+      while (blocks < this.blocks.length && gone + this.blocks[blocks].times.length <= count) gone += this.blocks[blocks++].times.length;
+      this.blocks.splice(0, blocks);
+      this.firsts = this.firsts.slice(blocks).map((first) => first - gone);
+      this.length -= gone;
+      this.ids = new Set(this.blocks.flatMap(({ names }) => names));
     }
 
     /** All times: those are looked through where each index is asked for. */

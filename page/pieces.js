@@ -22,7 +22,7 @@ function daaPieces(root) {
       const { packer } = this;
       for (const event of this.lines.take(bytes, isLast)) {
         if (event.moment) {
-          packer.add(event.moment, wordsOfLack(this.refused, this.before, "were refused before this moment"));
+          packer.add(event.moment, wordsOfLack(this.refused, this.before, "were refused before this moment"), event.silence);
           Object.assign(this, { refused: [], before: 0 });
           if (packer.isFull) yield packer.take();
         } else this.refuse(event);
@@ -41,7 +41,7 @@ function daaPieces(root) {
     end(name) {
       const { count, first, lines } = this;
       const why = first ? `; line ${first.refused} was refused with code ${first.code}` : "";
-      return { told: count ? [`${name}: ${count} ${count === 1 ? "line was" : "lines were"} refused`] : [], clock: lines.clock, alone: "",
+      return { told: count ? [`${name}: ${count} ${count === 1 ? "line was" : "lines were"} refused`] : [], clock: lines.clock, alone: "", silence: lines.silence,
         none: `${name} has no whole moment${why}` };
     }
   }

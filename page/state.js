@@ -23,6 +23,8 @@
 
   const state = { engine: null, surveys: [], views: [], name: "", told: [], untaken: "", alone: "", recording: null, times: [],
     moments: null, reading: null, share: null, // the recording: what of it is read, and the worker that reads more
+    silence: "", // why there is no moment after the last one
+    stale: "", // why no answer may be shown: of a live feed, that the last moment is not the present one any more
     index: 0, current: null, edited: false, edits: new Map(), undone: [], redone: [], window: null, axis: null, playing: null,
     version: 0, chosen: "p:", held: null, compare: false, paper: false, unfolded: false, linesOpen: false };
   daa.page = state;
@@ -101,6 +103,13 @@
     });
   }
 
+  /** Takes the answer to the present moment under a view's configuration, where it is known already. */
+  function giveAnswer(view, answer) {
+    view.asked = stampOf(view);
+    view.answered = view.asked;
+    takeAnswer(view, answer);
+  }
+
   function takeAnswer(view, answer) {
     view.said = answer.text === undefined ? null : daa.readReport(answer.text);
     view.fault = answer.text !== undefined ? "" : answer.stopped || sentenceOf(answer);
@@ -152,6 +161,7 @@
     ui.paintSummary();
     ui.paintTime();
     document.body.dataset.settled = shownViews().every(isAnswered) ? "yes" : "no";
+    if (ui.painted) ui.painted();
   }
 
   /** How large a picture is drawn: as large as its place, and on paper in a shape of its own. */
@@ -189,8 +199,8 @@
     svg.setAttribute("aria-label", `Display under ${view.name}: ${told}`);
   }
 
-  const saidOf = (view) => (isAnswered(view) ? view.said : null);
-  const faultOf = (view) => (isAnswered(view) ? view.fault : "a long moment: it is being decided …");
+  const saidOf = (view) => (isAnswered(view) && !state.stale ? view.said : null);
+  const faultOf = (view) => state.stale || (isAnswered(view) ? view.fault : "a long moment: it is being decided …");
 
   function lookOf(view) {
     const { own } = state.current;
@@ -201,7 +211,7 @@
 
   function modelOf(view) {
     const { time, own, traffic } = state.current;
-    return { time, own, traffic, config: view.config, configs: shownViews().map((it) => it.config), said: saidOf(view),
+    return { time, clock: ui.clockOf(time), own, traffic, config: view.config, configs: shownViews().map((it) => it.config), said: saidOf(view),
       fault: saidOf(view) ? "" : faultOf(view), name: view.name, trail: trail(),
       note: state.edited ? "changed by hand" : state.name, lacks: Boolean(ui.lackOf(state.index)) };
   }
@@ -244,7 +254,7 @@
     const took = !times.length ? "" : median < 1 ? ` · ${Math.round(median * 1000)} µs a moment` : ` · ${median.toFixed(1)} ms a moment`;
     setText($("engine"), `engine ${Math.round(state.engine.size / 1024)} KB${took}`);
     const lack = ui.lackOf(index);
-    setText($("notes"), [...told, lack].filter(Boolean).join("; "));
+    setText($("notes"), [...told, lack, ui.silenceOf(index)].filter(Boolean).join("; "));
     $("notes").className = lack ? "problem" : "quiet"; // an aircraft may be missing, whatever was changed by hand since
     const fault = shownViews().filter(isAnswered).map((view) => view.fault).find(Boolean);
     const kept = shownViews().filter((view) => view.refusal).map((view) => `a configuration is refused, and ${view.name} is shown in its place`);
@@ -290,5 +300,5 @@
   }
 
   Object.assign(ui, { $, LIMITS, OWN_FIELDS, FIELDS, state, within, copy, shownViews, setText, setHtml, fill, download, changed, touched, saidOf,
-    faultOf, choose, partsOf, aircraftOf, lookOf, modelOf, act, RANGES_NM, fitting });
+    faultOf, giveAnswer, choose, partsOf, aircraftOf, lookOf, modelOf, act, RANGES_NM, fitting });
 })();

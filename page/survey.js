@@ -31,6 +31,32 @@
       Object.assign(this, { notes: new daa.Notes(), most: new Map(), decided: 0, next: 0 });
     }
 
+    /** Asks for moments that have come since, as of a live source. */
+    more() {
+      if (this.desks.length) this.askAll(this.desks[0]);
+    }
+
+    /** Keeps the note of the next moment, which was decided otherwise. */
+    give(index, note) {
+      this.next = index + 1;
+      this.take(1, daa.packNotes([note], index));
+    }
+
+    /** The first moments are no more; where some are being asked for, all are asked for anew. */
+    drop(count) {
+      if (this.decided < this.next) {
+        this.begin();
+        return;
+      }
+      this.notes.drop(count);
+      Object.assign(this, { next: this.next - count, decided: this.decided - count, most: new Map() });
+      for (let index = 0; index < this.notes.length; index++) this.noteMost(this.notes.at(index)?.levels ?? []);
+    }
+
+    noteMost(levels) {
+      for (const [id, level] of levels) if (level > (this.most.get(id) || 0)) this.most.set(id, level);
+    }
+
     async askAll(desk) {
       const { job } = this;
       const { bytes } = state.views[this.place].config;
@@ -55,10 +81,7 @@
     /** Keeps the notes of some moments, packed. */
     take(count, pack) {
       this.notes.put(pack);
-      for (const each of pack.levels) {
-        const [id, level] = [pack.names[each >> 3], each & 7];
-        if (level > (this.most.get(id) || 0)) this.most.set(id, level);
-      }
+      this.noteMost(Array.from(pack.levels, (each) => [pack.names[each >> 3], each & 7]));
       this.decided += count;
       if (this.decided < state.moments.length || state.reading) soon();
       else {

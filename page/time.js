@@ -25,6 +25,15 @@
   const lacks = (index) => Boolean(state.alone || state.moments.fault(index))
     || state.moments.comments(index).some((text) => daa.lacksOf({ comments: [text] }).length > 0);
 
+  /** Why nothing is known before a moment, or after it, in words; or nothing. */
+  function silenceOf(index) {
+    const { moments } = state;
+    if (index >= moments.length) return "";
+    const [before, after] = [moments.silence(index), index + 1 < moments.length ? moments.silence(index + 1) : state.silence];
+    const upto = index + 1 < moments.length ? ` until ${clockOf(moments.time(index + 1))}` : "";
+    return [before && `no moment before this one: ${before}`, after && `no moment after this one${upto}: ${after}`].filter(Boolean).join("; ");
+  }
+
   function go(index) {
     const edit = state.edits.get(index);
     Object.assign(state, { index, current: edit ? copy(edit) : state.moments.at(index), edited: Boolean(edit) });
@@ -305,6 +314,6 @@
   $("clock-form").addEventListener("change", changed);
   $("speed").addEventListener("change", () => { if (state.playing) { cancelAnimationFrame(state.playing.frame); beginPlaying(); } });
 
-  Object.assign(ui, { lackOf, go, goTo, edited, restore, undoLast, redoLast, play, pause, paintTime, onceDrawn, shownOf, paintBar, alertAfter, alertBefore,
-    differenceAfter, differenceBefore, zoom, setWindow });
+  Object.assign(ui, { lackOf, silenceOf, clockOf, go, goTo, edited, restore, undoLast, redoLast, play, pause, paintTime, onceDrawn, shownOf,
+    paintBar, alertAfter, alertBefore, differenceAfter, differenceBefore, zoom, setWindow });
 })();

@@ -56,9 +56,10 @@
     const ahead = `${view.range} NM · ${view.trackUp ? "track up" : "north up"} · ${vectorSeconds(view)} s ahead`;
     const isWide = g.width > 560;
     const half = (g.width - (isWide ? widthOf(ahead, g.font) : 0)) / 2 - 8; // left and right of what stands in the middle
-    const note = 16 + widthOf(`${model.time} s`, g.font + 4);
+    const when = model.clock ?? `${model.time} s`;
+    const note = 16 + widthOf(when, g.font + 4);
     const [style, words] = model.lacks ? ["none", `incomplete · ${model.note}`] : ["small", model.note];
-    let out = text(10, g.line * 1.05, `${model.time} s`, `class="value" font-size="${g.font + 3}"`)
+    let out = text(10, g.line * 1.05, when, `class="value" font-size="${g.font + 3}"`)
       + text(note, g.line * 1.05, cut(words, g.font, half - note), `class="${style}" ${size}`)
       + text(g.width - 10, g.line * 1.05, cut(model.name, g.font, half - 10), `class="end" ${size}`);
     if (isWide) out += text(g.width / 2, g.line * 1.05, ahead, `class="small mid" ${size}`);

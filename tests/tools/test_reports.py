@@ -20,6 +20,8 @@ compare = module("tools/compare")
 # What is in tools/ and makes a part of the repository: no page for users names it.
 MAKERS = {"build", "install", "package", "page_module", "prove"}
 IN_NODE = {"replay"}
+# It writes nothing on standard output, and ends with its input.
+SERVERS = {"show_live"}
 # For makers of flight software: it reads an archive, and has statuses of its own.
 OF_ARCHIVES = {"stack"}
 
@@ -30,7 +32,7 @@ def tools_for_users():
 
 
 KEEP = "resolve gs down keep up keep\nresolve vs down keep up keep\nresolve alt down keep up keep\n"
-TOOLS = ("agree", "check", "compare", "draw", "encounters", "from_daa", "from_parameters", "from_sbs", "geojson", "moments", "reference", "steady", "study", "summary",
+TOOLS = ("agree", "check", "compare", "draw", "encounters", "from_daa", "from_parameters", "from_sbs", "geojson", "judge_session", "moments", "reference", "steady", "study", "summary",
          "table", "volume")
 # A line, and one that may not follow it, since its moment has such a line already.
 TWICE = (("alert A 2 43", "now A 1"), ("alert A 2 43", "alert A 2 43"), ("recover track 12 40", "resolve gs down keep up keep"),
@@ -472,7 +474,7 @@ class Pipes(unittest.TestCase):
             self.assertLessEqual(max(map(len, out.stdout.splitlines())), 128, tool)
 
     def test_the_list_of_tools_is_whole(self):
-        self.assertEqual(tools_for_users(), {*TOOLS, *IN_NODE, *OF_ARCHIVES})
+        self.assertEqual(tools_for_users(), {*TOOLS, *IN_NODE, *SERVERS, *OF_ARCHIVES})
 
     def test_the_program_is_there(self):
         self.assertTrue(os.access(program(), os.X_OK))
