@@ -20,8 +20,8 @@
   /** Shows moments from the first one on. */
   function begin(moments, name, more) {
     pause();
-    Object.assign(state, { moments, name, told: [], alone: "", silence: "", index: 0, chosen: "p:", unfolded: false, untaken: "", edits: new Map(), undone: [],
-      redone: [], window: null, ...more });
+    Object.assign(state, { moments, name, told: [], alone: "", silence: "", index: 0, chosen: "p:", unfolded: false, untaken: "",
+      edits: new Map(), undone: [], redone: [], window: null, ...more });
     const some = Array.from({ length: Math.min(moments.length, 1000) }, (_, index) => moments.at(index));
     for (const view of state.views) if (view.look.auto) view.look.range = fitting(some);
     ui.survey();
