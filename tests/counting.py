@@ -15,7 +15,8 @@ import unittest
 PACKAGES = {"cc": "gcc", "c++": "g++", "cargo": "cargo", "node": "nodejs", "chromium": "chromium", "chromedriver": "chromium-driver",
             "aarch64-linux-gnu-gcc": "gcc-aarch64-linux-gnu", "qemu-aarch64": "qemu-user", "parallel": "parallel", "jq": "jq",
             "pkg-config": "pkg-config", "cmake": "cmake", "make": "make", "dpkg-deb": "dpkg", "man": "man-db",
-            "munged": "munge", "slurmctld": "slurmctld", "slurmd": "slurmd", "sbatch": "slurm-client"}
+            "munged": "munge", "slurmctld": "slurmctld", "slurmd": "slurmd", "sbatch": "slurm-client",
+            "dump1090-mutability": "dump1090-mutability"}
 MODULES = {"selenium": "python3-selenium", "distributed": "python3-distributed"}  # Debian's package of each module
 DAEMONS = ("munged", "slurmctld", "slurmd")  # which lie in folders of the administrator
 PLACES = "/usr/sbin:/sbin"
@@ -25,7 +26,7 @@ DEBIAN_PYTHON = "/usr/bin/python3"  # the one for which Debian's packages of Pyt
 def is_there(command):
     """Whether a command is there and runs: a stand-in of rustup may have none behind it, and another program is named parallel, too."""
     path = shutil.which(command, path=PLACES if command in DAEMONS else None)
-    if not path or command == "sbatch":  # (which tells no version where there is no cluster)
+    if not path or command in ("sbatch", "dump1090-mutability"):  # (sbatch tells no version where there is no cluster, the other none at all)
         return bool(path)
     asked = subprocess.run([path, "-V" if command.startswith("slurm") else "--version"], stdin=subprocess.DEVNULL, capture_output=True)
     return asked.returncode == 0 and (command != "parallel" or asked.stdout.startswith(b"GNU parallel"))

@@ -229,11 +229,13 @@ class Browser:
 
 
 class Chromium(Browser):
+    logs = ("browser",)
+
     def start(self):
         options = webdriver.ChromeOptions()
         for word in ("--headless=new", "--no-sandbox", "--disable-gpu", "--hide-scrollbars", "--force-color-profile=srgb", f"--user-data-dir={self.folder}/profile"):
             options.add_argument(word)
-        options.set_capability("goog:loggingPrefs", {"browser": "ALL"})
+        options.set_capability("goog:loggingPrefs", dict.fromkeys(self.logs, "ALL"))
         driver = webdriver.Chrome(options=options)
         driver.execute_cdp_cmd("Browser.setDownloadBehavior", {"behavior": "allow", "downloadPath": self.downloads})
         return driver
