@@ -1,7 +1,7 @@
 /* Aircraft on the plan: their symbols and labels. */
 "use strict";
 (function (root) {
-  const { n, text, widthOf, edge, ink, plan, flown, vectorSeconds, within, heightTag, calledIn, isNow, isOld, UNKNOWN, rangeWords,
+  const { n, text, explained, widthOf, edge, ink, plan, flown, vectorSeconds, within, heightTag, calledIn, isNow, isOld, UNKNOWN, rangeWords,
     answerBoxes } = daa.art;
 
   /** The symbol of a level: an open diamond, a full diamond, a disc, a square, a square with a cross; without an answer a ring with ?.
@@ -87,7 +87,8 @@
     }
     label.words.forEach((words, row) => {
       const style = row === label.told && alert.level ? `style="fill:${edge(alert.level)};font-weight:bold"` : row === 0 ? 'font-weight="bold"' : "";
-      out += text(x, label.y - shown.y + label.line * (row + 0.8), words, `class="halo ${anchor}" font-size="${g.font}" ${style}`);
+      const drawn = text(x, label.y - shown.y + label.line * (row + 0.8), words, `class="halo ${anchor}" font-size="${g.font}" ${style}`);
+      out += row === 0 ? drawn : explained(row === label.told ? "alert" : "height", drawn);
     });
     return out;
   }

@@ -78,17 +78,21 @@ circle.focus{stroke-dasharray:50 50;stroke-dashoffset:25}
 
   const diamond = (x, y) => `<path d="M${n(x)} ${n(y - 8)}l7 8l-7 8l-7 -8z" fill="var(--ground)" stroke="var(--recover)" stroke-width="2.5"/>`;
 
-  const shownValue = (kind, value) => (kind === "gs" ? String(Math.round(value) / 10) : String(Math.round(value)));
-  const unitOf = (kind) => (kind === "track" ? "°" : ` ${TAPES[kind].unit}`);
-  const shownWords = (kind, value) => `${shownValue(kind, value)}${unitOf(kind)}`;
+  /** An angle as all are written: three digits. */
+  const angleOf = (degrees) => `${String(wrap(Math.round(degrees))).padStart(3, "0")}°`;
+  /** A number as all are written: with a minus as long as a plus. */
+  const numberOf = (value) => String(value).replace("-", "−");
+
+  const shownValue = (kind, value) => numberOf(kind === "gs" ? Math.round(value) / 10 : Math.round(value));
+  const shownWords = (kind, value) => (kind === "track" ? angleOf(value) : `${shownValue(kind, value)} ${TAPES[kind].unit}`);
 
   const wordsOfBand = (kind, from, upto, level) => {
-    const words = (value) => shownWords(kind, kind === "track" ? wrap(value) : value);
+    const words = (value) => shownWords(kind, value);
     return `${words(from)} to ${words(upto)}: ${level ? "level " + level : "clear"}`;
   };
 
   Object.assign(daa.art, { n, escape, radians, wrap, clamp, text, widthOf, fitted, cut, paint, edge, ink, badge, diamond, TAPES,
-    TAPE_KINDS, shownValue, shownWords, wordsOfBand });
-  Object.assign(root.daa, { wrap, clamp, escape, patterns, STYLE, TAPES, SIDES, MODELS, VIEW_HEIGHTS, shownValue, shownWords,
+    TAPE_KINDS, angleOf, numberOf, shownValue, shownWords, wordsOfBand });
+  Object.assign(root.daa, { wrap, clamp, escape, patterns, STYLE, TAPES, SIDES, MODELS, VIEW_HEIGHTS, angleOf, numberOf, shownValue, shownWords,
     paint });
 })(globalThis);

@@ -1,7 +1,7 @@
 /* The compass: its rose with the rings of the range, the ring with the bands of tracks, their answers, and where the aircraft were. */
 "use strict";
 (function (root) {
-  const { n, text, radians, wrap, widthOf, paint, edge, badge, diamond, wordsOfBand, at, plan } = daa.art;
+  const { n, text, radians, wrap, widthOf, paint, edge, badge, diamond, angleOf, wordsOfBand, at, plan } = daa.art;
 
   function sector(view, from, upto, inner, outer) {
     const turn = upto - from;
@@ -118,13 +118,14 @@
       const [a, b] = [at(view, to - spread, g.radius - f * 1.2), at(view, to + spread, g.radius - f * 1.2)];
       const label = at(view, to, g.radius - f * 2.1);
       out += `<path d="M${n(tip.x)} ${n(tip.y)}L${n(a.x)} ${n(a.y)}L${n(b.x)} ${n(b.y)}Z" fill="var(--open)" stroke="var(--ground)"/>`
-        + text(label.x, label.y + f * 0.36, `${to}°`, `class="open mid halo" font-size="${f}"`);
+        + text(label.x, label.y + f * 0.36, angleOf(to), `class="open mid halo" font-size="${f}"`);
     }
     const back = said.recover.track;
     if (back && back !== "none") {
       const p = at(view, back.value, g.radius - f * 0.8);
       const label = at(view, back.value, g.radius - f * 2.4);
-      out += diamond(p.x, p.y) + text(label.x, label.y + f * 0.36, `${back.value}° ${back.after} s`, `class="recover mid halo" font-size="${f}"`);
+      const words = `${angleOf(back.value)} ${back.after} s`;
+      out += diamond(p.x, p.y) + text(label.x, label.y + f * 0.36, words, `class="recover mid halo" font-size="${f}"`);
     }
     return out;
   }

@@ -2,7 +2,7 @@
 "use strict";
 (function (root) {
   const { n, text, fitted, edge, at, plan, flown, vectorSeconds, within, wordsOfHeight, nameOf, symbol, OWN_SHAPE, ownSize, isOld, sighted,
-    labelled, drawLabel, scaleOf, TAPES, TAPE_KINDS, shownValue } = daa.art;
+    labelled, drawLabel, scaleOf, TAPES, TAPE_KINDS, numberOf, shownValue } = daa.art;
 
   // Between which values a screen reader is told a number to lie: those of state lines.
   const LIMITS = { gs: [0, 10000], vs: [-10000, 10000], alt: [-2000, 60000] };
@@ -39,7 +39,7 @@
     if (off || end !== tip) return null;
     const speed = n(Math.hypot(one.vx, one.vy) / 10);
     return { key: `v:${called}`, x: tip.x, y: tip.y, label: `velocity of ${nameOf(one)}`, number: speed, ...FROM_0.speed, isReached,
-      value: `east ${n(one.vx / 10)}, north ${n(one.vy / 10)} knots`, inside: knob(strokeOf(alert.level)) };
+      value: `east ${numberOf(n(one.vx / 10))}, north ${numberOf(n(one.vy / 10))} knots`, inside: knob(strokeOf(alert.level)) };
   }
 
   function aircraftHandle(view, it) {
@@ -73,7 +73,7 @@
       made.push({ key: "v:", x: tip.x, y: tip.y, label: "velocity of the ownship", number: speed, ...FROM_0.speed,
         value: `track ${own.trk}, ${speed} knots`, inside: knob("var(--own)") });
     }
-    const place = `east ${n(own.x / 1000)}, north ${n(own.y / 1000)} NM`;
+    const place = `east ${numberOf(n(own.x / 1000))}, north ${numberOf(n(own.y / 1000))} NM`;
     made.push({ key: "p:", x: p.x, y: p.y, label: "ownship", number: 0, ...FROM_0.miles, value: place,
       inside: `${focusRing(23)}<path d="M0 0L${n(end.x - p.x)} ${n(end.y - p.y)}" stroke="var(--own)" stroke-width="2"/>`
         + `<g transform="rotate(${n(own.trk - view.up)}) scale(${n(ownSize(view, config))})">${OWN_SHAPE}</g>${grip(17)}` });

@@ -29,7 +29,9 @@
   }
 
   /** Takes what is known of a recording once it is read. */
-  function finish({ told, alone, clock, names, own, silence = "" }, more = "") {
+  function finish({ told, alone, clock, names, own, silence = "", taken = [] }, more = "") {
+    $("taken").hidden = !taken.length;
+    ui.setHtml($("taken-lines"), taken.map((words) => `<li>${daa.escape(words)}</li>`).join(""));
     Object.assign(state, { silence, told, alone: [alone, more].filter(Boolean).join("; ") });
     $("clock-form").value = clock || "s";
     $("own-label").hidden = $("oldest-label").hidden = !names;

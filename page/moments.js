@@ -170,8 +170,8 @@ function daaMoments(root) {
 
   const NO_TRACK = -1; // in place of an open track
 
-  /** Notes as numbers, and names and answers once each: so 100,000 notes of 64 aircraft that alert take 30 MB, and go to the page at once. A note that
-   *  is null, since the engine gave no report, has no number of an answer. */
+  /** Notes as numbers, and names and answers once each, so that they take little room and go to the page at once. A note that is null, since
+   *  the engine gave no report, has no number of an answer. */
   function packNotes(notes, first = 0) {
     const [names, answers] = [new Map(), new Map()];
     const placeIn = (places, word) => {

@@ -2,7 +2,7 @@
 "use strict";
 (function () {
   const { ui } = daa;
-  const { KINDS, SIDES, clamp, wrap, flown, escape, shownWords, calledIn, isNow, isOld } = daa;
+  const { KINDS, SIDES, clamp, wrap, flown, escape, angleOf, numberOf, shownWords, calledIn, isNow, isOld } = daa;
   const { $, LIMITS, OWN_FIELDS, FIELDS, state, within, shownViews, setText, setHtml, download, changed, saidOf, faultOf, edited, choose,
     aircraftOf, lackOf } = ui;
   const MOST_QUIET = 5; // so many aircraft without an alert are listed before they are folded
@@ -62,9 +62,9 @@
     const quiet = rows.filter(isQuiet);
     const folds = quiet.length > MOST_QUIET;
     const shown = folds && !state.unfolded ? rows.filter((row) => !isQuiet(row) || row.one === chosen) : rows;
-    const climb = own.vs ? ` · ${own.vs} ft/min` : "";
+    const climb = own.vs ? ` · ${numberOf(own.vs)} ft/min` : "";
     const first = `<tr class="own ${chosen ? "" : "chosen"}">${choiceHtml("ownship", !chosen)}`
-      + `<td colspan="4">${own.trk}° · ${own.gs / 10} kt · ${own.alt} ft${climb}</td></tr>`;
+      + `<td colspan="4">${angleOf(own.trk)} · ${own.gs / 10} kt · ${numberOf(own.alt)} ft${climb}</td></tr>`;
     setText($("differs"), wordsOfDifference(said, state.compare ? saidOf(state.views[1]) : null));
     const focused = document.activeElement.dataset.choose;
     const isNew = setHtml($("aircraft").tBodies[0], first + shown.map((row) => rowHtml(row, chosen)).join(""));

@@ -64,7 +64,7 @@ function daaPieces(root) {
     end(name) {
       const { names, own, faults, notes, alone, count } = this.recording.end();
       const none = count ? "" : `${name}: no moment is left; ${[...faults, ...notes].join("; ")}`;
-      return { told: notes, faults, names, own, alone, clock: this.recording.clock, none };
+      return { told: notes, faults, names, own, alone, clock: this.recording.clock, none, taken: count ? this.recording.wasTaken() : [] };
     }
   }
 

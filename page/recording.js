@@ -74,8 +74,8 @@ function daaRecording(root) {
   class Maker {
     constructor(ownName, onEarth, oldest, names) {
       Object.assign(this, { ownName, onEarth, oldest, offset: offsetOn(onEarth), ids: identifiers(names), leftOut: new Map(), far: 0,
-        latest: new Map(), incomplete: new Map(), steps: [], lacking: new Map(), gaps: new Map(), ownGaps: [], made: [], last: -1, pending: null, start: null,
-        silence: "" });
+        latest: new Map(), incomplete: new Map(), steps: [], lacking: new Map(), gaps: new Map(), ownGaps: [], made: [],
+        last: -1, pending: null, start: null, silence: "" });
     }
 
     /** The moments that were made since they were taken last. */
@@ -340,7 +340,8 @@ function daaRecording(root) {
 
   /** A recording, seen from an aircraft of it (the first where none is named): `moments` gives them one after the other, and `end`, once all are
    *  taken, its names; what is wrong (`faults`); whom moments lack and when (`lacking`); which columns and units were taken (`taken`); what else is
-   *  to be told (`notes`); and why no traffic is known in any moment, or nothing (`alone`). Several files are one recording, of which each may have
+   *  to be told (`notes`); and why no traffic is known in any moment, or nothing (`alone`). `wasTaken` says shortly what was
+   *  taken. Several files are one recording, of which each may have
    *  a header of its own. No report is older than `oldest` seconds. */
   function openRecording(files, { own: ownName = null, oldest = OLDEST } = {}) {
     const { rows, sources, labels, faults, taken, notes } = readFiles(files);
@@ -351,9 +352,10 @@ function daaRecording(root) {
     faults.push(...toldFalls(rows, own), ...toldHeights(sources), ...daa.implausible(rows, own, onEarth, offsetOn(onEarth)));
     if (files.length > 1) notes.unshift(`${files.length} files are one recording: ${files.map(({ name }) => name).join(", ")}`);
     const maker = new Maker(own, onEarth, oldest, names);
-    let [count, isAlone] = [0, true];
+    let [count, isAlone, most] = [0, true, 0];
     const noted = (moment) => {
       count += 1;
+      most = Math.max(most, moment.traffic.length);
       isAlone &&= !moment.traffic.length && !moment.comments.some((text) => text.startsWith("# lacks"));
       return moment;
     };
@@ -367,7 +369,17 @@ function daaRecording(root) {
     }
     const end = () => ({ count, names, own, faults, lacking: lackingOf(maker), taken, notes: [...notes, ...notesOf(maker, own)],
       alone: count && isAlone ? whyAlone(rows, own) : "" });
-    return { moments, end, clock: clockOf(sources), head: [...clockComment(sources), `# ownship ${shortened(own)}`],
+    const wasTaken = () => {
+      const named = labels.get(own) ? `${own} (${labels.get(own)})` : own;
+      const isFirst = own === sources[0].form.firstName;
+      const how = isFirst ? "the first aircraft of the recording" : "the first that is called so";
+      const why = own === ownName ? "as chosen" : `${how}; Ownship takes another one`;
+      const reports = sources.reduce((sum, source) => sum + source.count, 0);
+      const [lat, lon] = maker.start ? maker.start.place : [];
+      return [`the ownship is ${named}, ${why}`, ...taken, `${many(count, "moment")} of up to ${most} aircraft, from ${many(reports, "report")}`,
+        ...(onEarth && maker.start ? [`0 0 of the plane is at ${lat.toFixed(6)} ${lon.toFixed(6)}`] : []), ...lackingOf(maker).slice(0, MOST_LACKS)];
+    };
+    return { moments, end, wasTaken, clock: clockOf(sources), head: [...clockComment(sources), `# ownship ${shortened(own)}`],
       wholeNames: () => maker.wholeNames(labels) };
   }
 
@@ -375,7 +387,8 @@ function daaRecording(root) {
   function lackingOf(maker) {
     const [longest] = [...maker.ownGaps].sort((one, other) => other[0] - one[0] || other[1] - one[1]);
     const several = maker.ownGaps.length > 1 ? `: the longest of ${maker.ownGaps.length} gaps` : "";
-    const ofOwn = longest ? [`no moment for ${longest[0]} s, from ${longest[1]} to ${longest[2]} s${several}, because no report of the ownship came`] : [];
+    const when = longest ? `from ${longest[1]} to ${longest[2]} s${several}` : "";
+    const ofOwn = longest ? [`no moment for ${longest[0]} s, ${when}, because no report of the ownship came`] : [];
     return [...ofOwn, ...[...maker.lacking].map(([name, [from, upTo, count]]) => {
       const gap = maker.gaps.get(name) ?? 0;
       const silent = gap > maker.oldest ? ` (its longest gap between reports is ${wholeSecond(gap)} s)` : "";

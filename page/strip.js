@@ -148,7 +148,7 @@
         this.fill(paints.line, MARGIN.left, g.rowOf(row), wide, 1);
       });
       for (const share of [0, 2, 4]) {
-        const words = `${share === 2 ? "track " : ""}${String(wrap(g.foot + share * 90)).padStart(3, "0")}°`;
+        const words = `${share === 2 ? "track " : ""}${daa.angleOf(g.foot + share * 90)}`;
         this.write(words, MARGIN.left - 6, g.top + g.tall * (1 - share / 4) + [0, 4, 8][share / 2], paints.faint, "right");
       }
       this.writeTimes(paints, telling);

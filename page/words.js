@@ -1,7 +1,7 @@
 /* What a display says in words: the answers under compass and tapes, its head, and its legend. */
 "use strict";
 (function (root) {
-  const { n, text, widthOf, fitted, cut, paint, edge, diamond, TAPE_KINDS, shownValue, shownWords, vectorSeconds } = daa.art;
+  const { n, text, explained, widthOf, fitted, cut, paint, edge, diamond, TAPE_KINDS, angleOf, shownValue, shownWords, vectorSeconds } = daa.art;
 
   const styleOf = (to) => (typeof to === "number" ? "open" : to === "none" ? "none" : "small");
 
@@ -12,19 +12,22 @@
 
   /** A line of answers: what it is of is told by data, so that it can be read back. */
   function answerLine(g, x, y, kind, what, words, style, anchor = "", room = g.width) {
-    return text(x, y, words, `class="${style} ${anchor}" font-size="${n(fitted(words, g.font, room))}" data-kind="${kind}" data-what="${what}"`);
+    const size = n(fitted(words, g.font, room));
+    const drawn = text(x, y, words, `class="${style} ${anchor}" font-size="${size}" data-kind="${kind}" data-what="${what}"`);
+    return explained({ recover: "recovery", last: "last" }[what] ?? { open: "open", none: "none" }[style] ?? "keep", drawn);
   }
 
   function answersOfTrack(view, { said }) {
     const { g } = view;
     const { lower, upper } = said.resolve.track;
-    const shown = (to) => (typeof to === "number" ? `${to}°` : to);
+    const shown = (to) => (typeof to === "number" ? angleOf(to) : to);
     const [x, y, gap] = [g.centre.x, g.answers + g.line, g.font * 0.8];
     let out = answerLine(g, x - gap, y, "track", "lower", `◄ left ${shown(lower)}`, styleOf(lower), "end")
       + answerLine(g, x + gap, y, "track", "upper", `► right ${shown(upper)}`, styleOf(upper));
     const more = [];
     const back = said.recover.track;
-    if (back) more.push(["recover", back === "none" ? "◆ no recovery" : `◆ turn to ${back.value}°, clear after ${back.after} s`, "recover"]);
+    const turnTo = ({ value, after }) => `◆ turn to ${angleOf(value)}, clear after ${after} s`;
+    if (back) more.push(["recover", back === "none" ? "◆ no recovery" : turnTo(back), "recover"]);
     const last = said.last.track;
     if (last === "none") more.push(["last", "a turn comes too late", "none"]);
     else if (last !== undefined) more.push(["last", `a turn may wait ${last} s`, "last"]);
@@ -81,9 +84,10 @@
   /** The legend's rows, each a list of items with their widths. */
   function legendOf(config, font, width) {
     const items = [{ level: 0, words: "clear" }];
-    config.levels.forEach((_, l) => items.push({ level: l + 1, words: `level ${l + 1}${l + 1 === config.resolve ? ", corrective" : ""}` }));
-    items.push({ open: true, words: "nearest open" });
-    if (config.recovery) items.push({ recover: true, words: "recovery" });
+    config.levels.forEach((_, l) => items.push(l + 1 === config.resolve
+      ? { level: l + 1, words: `level ${l + 1}, corrective`, means: "corrective" } : { level: l + 1, words: `level ${l + 1}` }));
+    items.push({ open: true, words: "nearest open", means: "open" });
+    if (config.recovery) items.push({ recover: true, words: "recovery", means: "recovery" });
     const rows = [[]];
     let left = 0;
     for (const item of items) {
@@ -108,7 +112,8 @@
         if (item.open) out += `<path d="M${n(x + 8)} ${n(y - 4.5)}l12 -6.5v13z" fill="var(--open)"/>`;
         else if (item.recover) out += diamond(x + 14, y - 4.5);
         else out += `<rect x="${n(x)}" y="${n(y - 11)}" width="24" height="13" fill="${paint(item.level)}" stroke="${edge(item.level)}"/>`;
-        out += text(x + 29, y, item.words, `class="small" font-size="${g.font - 1}"`);
+        const words = text(x + 29, y, item.words, `class="small" font-size="${g.font - 1}"`);
+        out += item.means ? explained(item.means, words) : words;
         x += item.wide;
       }
     });

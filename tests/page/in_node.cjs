@@ -12,7 +12,7 @@ const run = (name) => vm.runInThisContext(fs.readFileSync(path.join(page, `${nam
 ["engine.wasm", "core", "toml", "columns", "reading", "plausible", "recording", "moments", "pieces"].forEach(run);
 const bytesOf = (text) => new Uint8Array(Buffer.from(text, "base64"));
 
-const DRAWING = ["labels", "art", "places", "compass", "tapes", "words", "aircraft", "handles", "draw", "strip"];
+const DRAWING = ["labels", "art", "meanings", "places", "compass", "tapes", "words", "aircraft", "handles", "draw", "strip"];
 
 /** Runs the scripts that draw, over what they need of a document: elements that keep what is put into them, and letters of one width. */
 function runDrawing() {
@@ -24,13 +24,15 @@ function runDrawing() {
   const made = [];
   globalThis.document = { createElement: () => ({ getContext: () => ({ measureText: (words) => ({ width: 60 * words.length }) }) }),
     createElementNS: () => made[made.push(element()) - 1] };
+  globalThis.addEventListener ??= () => {};
   DRAWING.forEach(run);
   return { svg: element(), made };
 }
 
 /** A strip over a canvas that keeps the boxes that are filled: `draw` gives those of one drawing. */
 function runStrip() {
-  Object.assign(daa, { clamp: (value, low, high) => Math.min(Math.max(value, low), high), wrap: (degrees) => ((degrees % 360) + 360) % 360 });
+  Object.assign(daa, { clamp: (value, low, high) => Math.min(Math.max(value, low), high), wrap: (degrees) => ((degrees % 360) + 360) % 360,
+    angleOf: (degrees) => `${String(((degrees % 360) + 360) % 360).padStart(3, "0")}°` });
   run("strip");
   const calls = [];
   const context = new Proxy({}, { get: (kept, name) => kept[name] ?? ((...words) => calls.push([name, kept.fillStyle, ...words])),

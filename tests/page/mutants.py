@@ -162,6 +162,13 @@ MUTANTS = [
     ("a strip that was cut is left", "time.js", "if (strip.isCut && !goesOn) {", "if (false) {", "test_time.Time.test_a_long_strip_is_drawn_in_parts"),
     ("the axis is drawn anew with each piece that is read", "time.js", "while (state.reading && shown * GROWTH <= count)", "while (state.reading && shown < count)",
      "test_time.Time.test_the_axis_of_a_recording_that_is_read_grows_by_steps"),
+    ("an answer that is none is explained as open", "words.js", '{ open: "open", none: "none" }[style]', '{ open: "open", none: "open" }[style]',
+     "test_first.Words.test_each_answer_is_explained_where_it_stands"),
+    ("an angle has as many digits as it needs", "art.js", '.padStart(3, "0")}°`', "}°`", "test_first.Words.test_all_angles_have_three_digits_and_all_numbers_one_minus"),
+    ("a minus is a hyphen", "art.js", 'String(value).replace("-", "−")', "String(value)", "test_first.Words.test_all_angles_have_three_digits_and_all_numbers_one_minus"),
+    ("nobody is told what was taken", "load.js", '$("taken").hidden = !taken.length;', '$("taken").hidden = true;',
+     "test_first.Taken.test_what_was_taken_of_a_recording_is_told_in_the_words_of_the_tool"),
+    ("a click on a word explains nothing", "meanings.js", "explain(pressed.word, pressed);", "", "test_everyone.Everyone.test_a_word_is_explained_where_it_is_clicked"),
     ("a file names a network", "index.html", '<script src="page.js">', '<script src="https://example.org/page.js">',
      "test_files.Files.test_no_file_names_a_network_address"),
 ]

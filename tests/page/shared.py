@@ -97,7 +97,9 @@ def words_of(kind, value):
     """A value as the display writes it."""
     if value in ("keep", "none"):
         return value
-    return f"{int(value) / 10:g} kt" if kind == "gs" else f"{value}{UNITS[kind]}"
+    if kind == "track":
+        return f"{int(value) % 360:03}°"
+    return (f"{int(value) / 10:g} kt" if kind == "gs" else f"{value}{UNITS[kind]}").replace("-", "−")
 
 
 def bands_of(moment, kind):
@@ -129,7 +131,7 @@ def answers_of(moment):
         found[kind, "lower"], found[kind, "upper"] = (f"{mark} {words_of(kind, value)}" for mark, value in zip(marks, (lower, upper)))
     for kind, after, value in re.findall(r"(?m)^recover (\w+) (\S+) ?(\S*)", moment):
         if kind == "track":
-            words = "◆ no recovery" if after == "none" else f"◆ turn to {value}°, clear after {after} s"
+            words = "◆ no recovery" if after == "none" else f"◆ turn to {words_of(kind, value)}, clear after {after} s"
         else:
             words = "◆ none" if after == "none" else f"◆ {words_of(kind, value).split(' ')[0]}, {after} s"
         found[kind, "recover"] = words

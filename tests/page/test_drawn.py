@@ -82,7 +82,7 @@ class Display(unittest.TestCase):
         their words; between two bands nothing is left free."""
         for kind, title in (("gs", "GS kt"), ("vs", "VS ft/min"), ("alt", "ALT ft")):
             tape, each = self.g["tapes"][kind], 10 if kind == "gs" else 1
-            labels = [(int(text) * each, y + 0.36) for text, x, y in self.texts("tapes", "small", "end") if abs(x - tape["x"] + 9) < 1]
+            labels = [(int(text.replace("−", "-")) * each, y + 0.36) for text, x, y in self.texts("tapes", "small", "end") if abs(x - tape["x"] + 9) < 1]
             (low, at_low), (high, at_high) = labels[0], labels[-1]
             self.assertTrue(low < high and at_low > at_high, labels)
             y = lambda value: at_low + (value - low) / (high - low) * (at_high - at_low)
@@ -106,7 +106,7 @@ class Display(unittest.TestCase):
             for found, value in zip(marks, answers + recovery, strict=True):
                 self.assertAlmostEqual(found, y(value), delta=1)
             words = [text for text, x, _ in [*self.texts("tapes", "open"), *self.texts("tapes", "recover")] if abs(x - right - 17) < 1]
-            self.assertEqual([int(text) * each for text in words], answers + recovery)
+            self.assertEqual([int(text.replace("−", "-")) * each for text in words], answers + recovery)
 
     def check_places(self, moment):
         turn, compared = math.radians(self.up), 0
@@ -204,7 +204,7 @@ class Drawn(Display):
         self.show(RECOVERY, TURNED, replayed(RECOVERY, TURNED))
         told = {key: it["aria-valuetext"] for key, it in self.handles.items()}
         self.assertEqual({key: told[key] for key in ("v:A", "v:B", "v:", "p:", "track", "gs", "vs", "alt")}, {
-            "v:A": "east -90, north -140 knots", "v:B": "east 120, north 30 knots", "v:": "track 40, 300 knots", "p:": "east 0.5, north -0.7 NM",
+            "v:A": "east −90, north −140 knots", "v:B": "east 120, north 30 knots", "v:": "track 40, 300 knots", "p:": "east 0.5, north −0.7 NM",
             "track": "40 degrees", "gs": "300 kt", "vs": "300 ft/min", "alt": "10000 ft"})
         self.assertRegex(told["p:B"], "^3.4 NM away, 12 hundred feet below, sinking, ")
         numbers = {key: float(self.handles[key]["aria-valuenow"]) for key in ("v:B", "v:", "p:B", "track", "gs", "vs", "alt")}

@@ -3,7 +3,7 @@ import contextlib
 import re
 import zlib
 
-from browser import Keys
+from browser import ActionChains, Keys
 from page_test import FOUR_LEVELS, PageTest, crowd, setUpModule, tearDownModule  # noqa: F401 (unittest calls the last two)
 from shared import ENCOUNTER, THREE_LEVELS, bytes_of, moments_of, replayed
 
@@ -101,7 +101,32 @@ class Everyone(PageTest):
         self.assertEqual(self.page.one("#clock").get_attribute("aria-live"), "off")
         self.assertEqual(self.page.one("#summary").get_attribute("aria-live"), "polite")
         self.assertIn("AMBER level 2 in 43 s", self.page.text("#summary"))
-        self.assertIn("track right to 10°", self.page.text("#summary"))
+        self.assertIn("track right to 010°", self.page.text("#summary"))
+
+    def test_a_word_is_explained_where_it_is_clicked(self):
+        """By a box in the window, beside it, until something else is clicked or Escape is pressed; a label's too, whose aircraft stays where it is."""
+        before = self.page.states()
+        box = self.page.one("#meaning")
+        for selector, begin in (("[data-layer=answers] [data-kind=track][data-what=upper]", "Open: "), ("[data-layer=answers] [data-kind=track][data-what=lower]", "None: "),
+                                ("[data-layer=legend] [data-word=corrective] text", "Corrective: "), (".handle[data-key='p:AMBER'] [data-word=height] text", "Height above (+)")):
+            x, y = self.page.js("const { x, y, width, height } = document.querySelector(arguments[0]).getBoundingClientRect(); return [x + width / 2, y + height / 2]",
+                                "figure[data-view='0'] " + selector)
+            actions = ActionChains(self.page.driver)
+            actions.w3c_actions.pointer_action.move_to_location(round(x), round(y))
+            actions.click().perform()
+            self.page.settle()
+            self.assertTrue(box.is_displayed() and box.text.startswith(begin), (selector, box.text))
+            left, top, right, bottom, wide, tall = self.page.js("""const { left, top, right, bottom } = arguments[0].getBoundingClientRect();
+                return [left, top, right, bottom, innerWidth, innerHeight]""", box)
+            self.assertTrue(0 <= left and 0 <= top and right <= wide and bottom <= tall)
+        self.page.press(Keys.ESCAPE)
+        self.assertFalse(box.is_displayed())
+        self.assertEqual(self.page.states(), before)
+
+    def test_one_line_says_what_this_is(self):
+        line = self.page.one("#what")
+        self.assertTrue(line.is_displayed())
+        self.assertIn("Drag an aircraft", line.text)
 
     def test_the_skip_link_keeps_the_pages_link(self):
         self.page.link(is_refused=True)

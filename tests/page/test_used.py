@@ -25,7 +25,7 @@ class Used(unittest.TestCase):
             for it in [*xml_of(report).iter("b"), *(chip for html, *_ in (first, fifth) for chip in xml_of(html).iter("span"))]:
                 self.assertEqual(it.get("class").split()[-1:], [f"l{it.text}"] if it.text else [])
         rows = [["".join(cell.itertext()) for cell in row] for row in xml_of(first[0])]
-        self.assertEqual(rows, [["ownship", "0° · 360 kt · 10000 ft"], ["AMBER", "2 43\u00a0s", "8.54", "021", "0"], ["BRAVO", "0", "1.24", "256", "+600"]])
+        self.assertEqual(rows, [["ownship", "000° · 360 kt · 10000 ft"], ["AMBER", "2 43\u00a0s", "8.54", "021", "0"], ["BRAVO", "0", "1.24", "256", "+600"]])
         self.assertEqual(["".join(row[1].itertext()) for row in xml_of(fifth[0])][1:], ["3 now", "0"])
         self.assertEqual([it.get("aria-pressed") for it in xml_of(first[0]).iter("button")], ["true", "false", "false"])
         self.assertEqual((first[2:], fifth[2:]), (["0 s · 1 of 19", "0 seconds, moment 1 of 19"], ["50 s · 6 of 19", "50 seconds, moment 6 of 19"]))
@@ -83,7 +83,7 @@ class Used(unittest.TestCase):
             daa.ui.goTo(Number("6"));
             await settle();
             return $("summary").textContent;""")
-        self.assertEqual(told, "Alerts: AMBER level 3 now. Clear again: track 35° after 11 s; vertical speed 4600 ft/min after 11 s; "
+        self.assertEqual(told, "Alerts: AMBER level 3 now. Clear again: track 035° after 11 s; vertical speed 4600 ft/min after 11 s; "
                          "altitude 10500 ft after 14 s. Nothing open: ground speed.")
 
     def test_the_sentence_of_a_flight_that_may_be_kept(self):
@@ -100,8 +100,8 @@ class Used(unittest.TestCase):
               found.push($("summary").textContent);
             }
             return found;""", text, text.replace("AMBER 3000 8000 10000 -1350", "AMBER -3000 8000 10000 1350").replace("BRAVO -1200", "BRAVO 1200"))
-        for told, side in zip(found, ("right to 10°", "left to 350°")):
-            self.assertEqual(told, f"Alerts: AMBER level 2 in 43 s. Open: track {side}; ground speed down to 260 kt; vertical speed down to -700 ft/min "
+        for told, side in zip(found, ("right to 010°", "left to 350°")):
+            self.assertEqual(told, f"Alerts: AMBER level 2 in 43 s. Open: track {side}; ground speed down to 260 kt; vertical speed down to −700 ft/min "
                              "or up to 700 ft/min; altitude down to 9500 ft or up to 10500 ft.")
 
     def test_the_sentence_of_many_alerts_counts_the_rest(self):

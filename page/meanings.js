@@ -1,0 +1,53 @@
+/* What the words on a display mean, told where they stand: as a title, and after a click or a tap in a box beside it. */
+"use strict";
+(function (root) {
+  const { escape } = daa;
+  const SHOWN = 9000; // ms: so long an explanation stays
+
+  const MEANINGS = {
+    open: "Open: the nearest value on this side that is clear of the corrective level, and of every level above it, within the lookahead.",
+    keep: "Keep: the present value is clear of the corrective level, so nothing has to change. It is said of the aircraft that are known.",
+    none: "None: no value on this side is open.",
+    corrective: "Corrective: the level that the answers are clear of; a value that leads to it, or to a level above it, is not open.",
+    recovery: "Recovery: nothing is open; this value is the one that is clear again soonest, after so many seconds.",
+    last: "May wait: for so many seconds the present flight may be kept, and a manoeuvre of this kind then still finds an open value.",
+    height: "Height above (+) or below (−) the ownship, in hundreds of feet; an arrow where the aircraft climbs or sinks by 100 ft/min or more.",
+    alert: "L and a number: the alert level of this aircraft, and in how many seconds its volume is violated.",
+  };
+
+  /** Marks what is drawn as a word that is explained. */
+  const explained = (word, drawn) => `<g data-word="${word}"><title>${escape(MEANINGS[word])}</title>${drawn}</g>`;
+
+  /** Shows what a word means, near a point of the window. */
+  let late = null;
+  function explain(word, { x, y }) {
+    const box = document.getElementById("meaning");
+    box.textContent = MEANINGS[word];
+    box.hidden = false;
+    const { width, height } = box.getBoundingClientRect();
+    box.style.left = `${Math.max(4, Math.min(x + 12, innerWidth - width - 8))}px`;
+    box.style.top = `${Math.max(4, y + 16 + height > innerHeight ? y - height - 12 : y + 16)}px`;
+    clearTimeout(late);
+    late = setTimeout(hide, SHOWN);
+  }
+
+  function hide() {
+    document.getElementById("meaning").hidden = true;
+  }
+
+  // What is held by the pointer takes its clicks, so where it went down counts, and that it went nowhere.
+  let pressed = null;
+  addEventListener("pointerdown", ({ target, clientX: x, clientY: y }) => {
+    hide();
+    const word = target.closest?.("[data-word]")?.getAttribute("data-word");
+    pressed = word ? { word, x, y } : null;
+  }, true);
+  addEventListener("pointerup", ({ clientX, clientY }) => {
+    if (pressed && Math.hypot(clientX - pressed.x, clientY - pressed.y) <= 3) explain(pressed.word, pressed);
+    pressed = null;
+  }, true);
+  addEventListener("keydown", ({ key }) => { if (key === "Escape") hide(); }, true);
+
+  daa.art.explained = explained;
+  Object.assign(root.daa, { MEANINGS });
+})(globalThis);
