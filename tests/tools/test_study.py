@@ -74,7 +74,7 @@ class Words(Studies):
     def test_words_that_are_not_taken(self):
         for words in ([], ["fly"], ["run", STUDY, "--shard", "3/3"], ["run", STUDY, "--shard", "1"], ["run", STUDY, "--from", "-1"], ["sum"]):
             self.assertEqual(self.tool("study", *words)[:2], (2, ""), words)
-        self.refused(2, "encounters have the numbers 0 to 33554431", "run", STUDY, "--from", "33554431", "--count", "2")
+        self.refused(2, "encounters have the numbers 0 to 8388607", "run", STUDY, "--from", "8388607", "--count", "2")
         self.refused(7, "none.toml", "run", "none.toml")
         self.refused(3, "config 4", "run", STUDY, "--config", self.write("c.toml", "resolve = 2"))
 

@@ -9,7 +9,7 @@ from common import TOP, ToolTest, module, program
 from daidalus_files import MODELS, Level
 from headings import velocity
 from studies import flight, measures, rows
-from studies.drawing import Draw, Stratum, generator_of
+from studies.drawing import Draw, Stratum
 from studies.encounters import Aircraft, Encounter, Event, Way
 from studies.flying import Flying, World
 from studies.guidance import Guidance, change
@@ -185,6 +185,15 @@ class Flights(unittest.TestCase):
             climbs.append(flying.velocity()[2])
             flying.go(flying.velocity(), flying.plan(second))
         self.assertEqual(climbs, [1500, 1500, 0, 0])
+
+    def test_steady_flights(self):
+        """A change counts from a minute before the alert, or else before the loss, up to the loss."""
+        for alerts, loss, changes, steady in (({2: 100}, 150, [39, 151], True), ({2: 100}, 150, [40], False), ({2: 100}, 150, [150], False), ({2: 100}, None, [151], False),
+                                              ({}, 150, [89], True), ({1: 9}, 150, [90], False), ({}, None, [5], True)):
+            self.assertEqual(flight.Run(loss=loss, alerts=alerts, changes=changes).is_steady(2), steady, (alerts, loss, changes))
+        study, it = study_with(), Aircraft("A", 20000, 0, 5000, 270, 1000, 0, [Event(5, "track", 300, 3)], planned=True)
+        run = flight.fly(Encounter(0, 20, 1, "all", Aircraft("own", 0, 0, 5000, 0, 1000, 0, planned=True), [it]), study, False)
+        self.assertEqual(run.changes, list(range(6, 16)))  # 30 degrees by 3 a second, from the end of second 5 on
 
     def test_what_the_engine_refuses_ends_the_flight(self):
         """The ownship descends through 2000 feet below sea level."""
@@ -373,6 +382,19 @@ class Sensing(unittest.TestCase):
         off = [a.x - b.x for (_, (a,)), (_, (b,)) in zip(kept, true)]
         self.assertEqual(len(set(off)), 3)
 
+    def test_each_error_is_drawn_by_itself(self):
+        """Gaps and delays change nothing of the noise; and each has a seed of its own."""
+        noise = lambda **more: [it.x for _, traffic in self.told(place=40, seed=1, **more) for it in traffic if it.age == 0]
+        alone, beside = noise(), self.told(place=40, seed=1, lost=300, gap=1)
+        kept = [(second, it.x) for second, (_, traffic) in enumerate(beside) for it in traffic if it.age == 0]
+        self.assertTrue(20 < len(kept) < 60)
+        self.assertEqual([x for _, x in kept], [alone[second] for second, _ in kept])
+        self.assertEqual(noise(noise_seed=1, late_seed=5), alone)
+        self.assertNotEqual(noise(noise_seed=2), alone)
+        ages = lambda **more: [it.age for _, traffic in self.told(lost=300, **more) for it in traffic]
+        self.assertNotEqual(ages(seed=1), ages(seed=1, lost_seed=2))
+        self.assertEqual(ages(seed=1), ages(seed=1, noise_seed=2))
+
     def test_late_and_lost_reports_have_their_age(self):
         """What is flown on from an old report of a straight flight is where the aircraft is, but for rounding."""
         true = self.told()
@@ -395,7 +417,7 @@ class Sensing(unittest.TestCase):
         study = study_with(sensors=Sensors(whole_degrees=True), world=TENTHS)
         it, = study.draw.encounter(7, 4).others
         it.events = [Event(0, "track", (it.trk + 90) % 360, 1)]
-        flying, sensed = Flying(it, TENTHS), Sensed(study.sensors, generator_of(1, 1, 9))
+        flying, sensed = Flying(it, TENTHS), Sensed(study.sensors, 1, 0)
         sensed.noise = [0] * 6
         for _ in range(15):
             flying.go(flying.velocity(), flying.plan(0))

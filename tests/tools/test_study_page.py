@@ -66,9 +66,10 @@ class Pages(Studies):
         self.assertNotIn("script", tags.found)
         for picture in re.findall(r"(?s)<svg.*?</svg>", text):
             ElementTree.fromstring(picture)
-        for line in list(ratios.table_of([("one & a half", made), ("two", made)]))[2:]:
-            for cell in (it.strip() for it in line.strip("|").split("|")):
-                self.assertIn(f"<td>{page.escape(cell)}</td>", text)
+        lines = list(ratios.table_of([("one & a half", made), ("two", made)]))
+        for line in (lines[0], *lines[2:]):
+            cells = [it.strip() for it in line.strip("|").split("|")]
+            self.assertIn("<tr>" + "".join(f"<td>{page.escape(it)}</td>" for it in cells) + "</tr>", text)
         self.assertEqual(len(tags.links), 3)  # encounter 7 is lost: its alert, its manoeuvre and its loss, in the section with a study
         self.assertEqual(text, page.page_of([("one & a half", made), ("two", made)], [study, None], "page/index.html"))
 

@@ -10,15 +10,15 @@ from .encounters import Aircraft, Encounter, Event
 from .flying import flown
 from .whole import FOOT, MIL, rounded
 
-# What the numbers of a seed are drawn for: encounters, pilots, sensors (from here on one for each aircraft).
-OF_ENCOUNTERS, OF_PILOTS, OF_SENSORS = 0, 1, 3
-MOST_NUMBER = 2**25 - 1
+# What the numbers of a seed are drawn for: encounters, pilots, and from OF_SENSORS on each error of each aircraft.
+OF_ENCOUNTERS, OF_PILOTS, OF_SENSORS = 0, 4, 8
+MOST_NUMBER = 2**23 - 1
 FLIGHTS = ("straight", "climb", "turn", "level", "gs")
 
 
 def generator_of(seed, number, purpose):
     """The generator of an encounter's number, for a purpose."""
-    return Generator.of_seed(seed + number * WORD_32 + purpose * 2**57)
+    return Generator.of_seed(seed + number * WORD_32 + purpose * 2**55)
 
 
 @dataclass(frozen=True)

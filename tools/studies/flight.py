@@ -8,6 +8,7 @@ from .pilot import Following
 from .sensors import Seen
 
 GRAZE = 2  # a loss within so many 0.001 NM, and a foot, of the border is a graze
+MINUTE = 60
 EVEN = 2  # by so many units a second the velocity of a straight flight between two ways may change, since places are rounded
 
 
@@ -27,7 +28,7 @@ class Run:
     first_advice: int = None
     off: int = 0            # the square of the greatest distance from the plan's flight
     back: int = None        # the second of the last return to the plan; where well clear was lost, of the last before that
-    steady: bool = True     # from the first alert of `resolve` up to the loss all flights by plan go straight on
+    changes: list = field(default_factory=list)  # the seconds on which the velocity of a flight by plan was not that of the second before
     refused: int = None     # the second on which the engine refused what it was told
     log: list = field(default_factory=list)
 
@@ -35,6 +36,12 @@ class Run:
         """The pilot returns to the plan."""
         if self.loss is None or self.back is None:
             self.back = second
+
+    def is_steady(self, resolve):
+        """Whether from a minute before the first alert of a level up to the loss all flights by plan went straight on; without an alert
+        from a minute before the loss."""
+        begin = self.alerts.get(resolve, self.loss)
+        return begin is None or not any(begin - MINUTE <= it and (self.loss is None or it <= self.loss) for it in self.changes)
 
 
 class Losses:
@@ -98,8 +105,8 @@ def fly(encounter, study, guided, trace=None):
                 was_advised = True
                 own.leave_ways()
         now = [part for it in (bare if guided else own, *others) for part in it.velocity()]
-        if guidance.config.resolve in run.alerts and run.loss is None and run.alerts[guidance.config.resolve] < second:
-            run.steady = run.steady and all(abs(a - b) <= EVEN for a, b in zip(before, now))
+        if before and any(abs(a - b) > EVEN for a, b in zip(before, now)):
+            run.changes.append(second)
         before = now
         if trace:
             trace(second, *told)

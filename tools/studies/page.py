@@ -145,8 +145,8 @@ def links_of(row, study, display):
 def page_of(named, studies, display):
     """The page of rows by their names; `studies` are theirs, or None."""
     found = [ratios_of(rows) for _, rows in named]
-    rows = [line.strip("| ").split(" | ") for line in table_of(named)]
-    table = "\n".join("<tr>" + "".join(f"<td>{escape(cell.strip())}</td>" for cell in cells) + "</tr>" for cells in rows[:1] + rows[2:])
+    rows = [line.removeprefix("| ").removesuffix(" |").split(" | ") for line in table_of(named)]
+    table = "\n".join("<tr>" + "".join(f"<td>{escape(cell.strip())}</td>" for cell in cells) + "</tr>" for cells in (rows[0], *rows[2:]))
     return "\n".join(["<!doctype html>", '<html lang="en"><head><meta charset="utf-8">', '<meta name="viewport" content="width=device-width">',
                       f"<title>Study</title><style>{STYLE}</style></head><body>", "<h1>Encounters without and with guidance</h1>",
                       '<p class="note">Ratios are weighted; intervals are of 95 %, by drawing encounters anew within their strata. '

@@ -35,7 +35,7 @@ def row_of(encounter, study):
                 f"{head}nearest": isqrt(run.nearest[0] // run.nearest[1]) // unit if run.nearest else None,
                 f"{head}alert": run.alerts.get(resolve), f"{head}warning": run.alerts.get(top)}
     row |= {"g_graze": int(guided.grazes), "advice": guided.first_advice, "advices": guided.advices, "reversals": guided.reversals,
-            "nones": guided.nones, "off": isqrt(guided.off) // unit, "back": guided.back, "steady": int(guided.steady),
+            "nones": guided.nones, "off": isqrt(guided.off) // unit, "back": guided.back, "steady": int(guided.is_steady(resolve)),
             "refused": guided.refused if guided.refused is not None else bare.refused}
     return {**row, "cause": cause_of(row)}
 

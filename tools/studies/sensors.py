@@ -8,16 +8,22 @@ from .drawing import OF_SENSORS, generator_of
 from .guidance import Own, Traffic
 from .whole import FOOT, MIL, direction, rounded
 
+ERRORS = ("noise", "lost", "late")
+
 
 @dataclass(frozen=True)
 class Sensors:
-    """Errors of what is told of other aircraft. Deviations are standard ones, in the units of state lines; a noise is drawn anew
+    """Errors of what is told of other aircraft, of which noise, gaps and delays are drawn apart, each from its own seed, or where that
+    is None from `seed`: so none changes what another one draws. Deviations are standard ones, in the units of state lines; a noise is drawn anew
     after every `every` seconds. Of 1000 reports `lost` begin a gap of 1 to `gap` seconds; a report comes `late` seconds after its
     time, one number for each aircraft. In both cases the engine is told the report's age; one older than `oldest` is left out.
     whole_degrees: velocities come from a track in whole degrees and a ground speed. own_track: by how many tenths of a degree
     the ownship flies to the right of the track that the engine is told."""
 
     seed: int = 0
+    noise_seed: int = None
+    lost_seed: int = None
+    late_seed: int = None
     place: int = 0
     height: int = 0
     speed: int = 0
@@ -43,20 +49,22 @@ def bell(draw, deviation):
 class Sensed:
     """What is told of one other aircraft, second by second."""
 
-    def __init__(self, sensors, draw):
-        self.sensors, self.draw, self.late, self.silent = sensors, draw, draw.pick(*sensors.late), 0
+    def __init__(self, sensors, number, place):
+        drawn = lambda kind, seed: generator_of(sensors.seed if seed is None else seed, number, OF_SENSORS + len(ERRORS) * place + ERRORS.index(kind))
+        self.of_noise, self.of_gaps = drawn("noise", sensors.noise_seed), drawn("lost", sensors.lost_seed)
+        self.sensors, self.late, self.silent = sensors, drawn("late", sensors.late_seed).pick(*sensors.late), 0
         self.history, self.noise = [], None
 
     def report(self, second, place, v):
         """The newest report of this second: the true place then, the noise on it, the velocity with noise, and its age; or None if
         all are too old."""
-        sensors, draw = self.sensors, self.draw
+        sensors = self.sensors
         if self.noise is None or second % sensors.every == 0:
-            self.noise = [bell(draw, it) for it in (sensors.place, sensors.place, sensors.height, sensors.speed, sensors.speed, sensors.climb)]
+            self.noise = [bell(self.of_noise, it) for it in (sensors.place, sensors.place, sensors.height, sensors.speed, sensors.speed, sensors.climb)]
         if self.silent:
             self.silent -= 1
-        elif sensors.lost and draw.pick(1, 1000) <= sensors.lost:
-            self.silent = draw.pick(1, sensors.gap) - 1
+        elif sensors.lost and self.of_gaps.pick(1, 1000) <= sensors.lost:
+            self.silent = self.of_gaps.pick(1, sensors.gap) - 1
         else:
             self.history.append((second, place, self.noise[:3], self.seen_velocity(v)))
         ready = [it for it in self.history if it[0] + self.late <= second]
@@ -81,7 +89,7 @@ class Seen:
     def __init__(self, sensors, number, others, world):
         self.sensors, self.world, self.each = sensors, world, None
         if sensors.has_errors:
-            self.each = [Sensed(sensors, generator_of(sensors.seed, number, OF_SENSORS + place)) for place in range(len(others))]
+            self.each = [Sensed(sensors, number, place) for place in range(len(others))]
 
     def look(self, second, own, others):
         """The ownship and the aircraft that it is told of at this second."""

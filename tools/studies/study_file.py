@@ -142,6 +142,7 @@ def pilot_of(table, seed):
 
 def sensors_of(table, seed):
     words = {**table.numbers(SENSORS, Sensors()), "whole_degrees": table.take("whole_degrees", bool, False), "seed": table.number("seed", 0, 2**32 - 1, seed)}
+    words |= {key: table.number(key, 0, 2**32 - 1, None) for key in ("noise_seed", "lost_seed", "late_seed") if key in table.left}
     table.end(names_of(Sensors))
     return Sensors(**words)
 
