@@ -1,11 +1,12 @@
 """tools/study: its files and words, shards, rows and their sums. What is flown and measured is in test_study_flights."""
 import csv
 import os
+import random
 import re
 import unittest
 
 from common import TOP, ToolTest
-from studies import encounters, rows, waypoints
+from studies import drawing, encounters, rows, waypoints
 from studies.drawing import Draw, Stratum
 from studies.ratios import Ratio, quantiles, ratios_of, shown
 from studies.study_file import read_study
@@ -171,6 +172,29 @@ class Draws(unittest.TestCase):
         draw = Draw(strata=(Stratum("a", 1, 1, 3), Stratum("b", 2, 3, 2)))
         self.assertEqual([draw.cells(0), draw.cells(1)], [9, 35 - 9])
         self.assertEqual([weight * it.parts for weight, it in zip(draw.weights(), draw.strata)], [9 * 6, 26 * 6])
+
+    def test_miss_distances_are_those_of_the_stratum(self):
+        """None of those within the stratum before, and both signs of both."""
+        draw, source = Draw(strata=(Stratum("a", 5, 5, 1), Stratum("b", 9, 7, 1))), random.Random(3)
+        numbers = type("Numbers", (), {"pick": staticmethod(source.randint)})
+        found = {draw.miss(numbers, 1) for _ in range(3000)}
+        self.assertEqual(found, {(x, y) for x in range(-9, 10) for y in range(-7, 8) if abs(x) > 5 or abs(y) > 5})
+
+    def test_an_aircraft_is_put_where_it_passes_so_far_away(self):
+        """Across its way relative to the ownship, to the left of it where positive, so that this is the least distance; and above."""
+        for trk, across, up in ((90, 500, 300), (170, -500, -300), (300, 80, 0)):
+            own, it = (encounters.Aircraft(name, trk=track, gs=gs, planned=True) for name, track, gs in (("own", 20, 1000), ("A", trk, 2000)))
+            self.assertTrue(drawing.put(it, own, 100, across, up))
+            mine, its = (drawing.flown(one, 200)[0] for one in (own, it))
+            distances = [((a[0] - b[0]) ** 2 + (a[1] - b[1]) ** 2) ** 0.5 / 36 for a, b in zip(mine, its)]
+            self.assertAlmostEqual(min(distances), abs(across), delta=1)
+            self.assertEqual(distances.index(min(distances)), 100)
+            self.assertEqual((its[100][2] - mine[100][2]) // 60, up)
+            before, off = ([its[second][k] - mine[second][k] for k in range(2)] for second in (99, 100))
+            way = [after - it for it, after in zip(before, off)]
+            self.assertEqual(way[0] * off[1] - way[1] * off[0] > 0, across > 0)
+        alike = encounters.Aircraft("B", trk=20, gs=1100, planned=True)
+        self.assertFalse(drawing.put(alike, own, 100, 0, 0))
 
     def test_encounters_are_of_their_stratum(self):
         """By their least distance within 100 ft of height and by heights, where nobody manoeuvres: 82 and 100 of the first stratum."""

@@ -12,7 +12,7 @@ from studies import flight, measures, rows
 from studies.drawing import Draw, Stratum
 from studies.encounters import Aircraft, Encounter, Event, Way
 from studies.flying import Flying, World
-from studies.guidance import Guidance, change
+from studies.guidance import Guidance, Own, change
 from studies.pilot import Following, Pilot
 from studies.ratios import ratios_of
 from studies.sensors import Sensed, Sensors, bell
@@ -164,6 +164,16 @@ class Flights(unittest.TestCase):
             self.assertEqual(seen, tracks)
         self.assertEqual(Flying(it, TENTHS, off=5).velocity(), (round(1000 * -0.0261769), round(1000 * 0.9996573), 0))  # 358.5 degrees
 
+    def test_changes_of_a_second_are_whole_in_both_worlds(self):
+        """Also those that ten legs do not divide; half a turn goes to the right."""
+        it = Aircraft("own", 0, 0, 5000, 10, 1000, 0, [Event(0, "gs", 1500, 7), Event(0, "vs", -900, 301), Event(0, "track", 190, 13)], planned=True)
+        for world in (SECONDS, TENTHS):
+            flying = Flying(it, world)
+            for second in range(2):
+                for _ in range(world.steps):
+                    flying.go(flying.velocity(), flying.plan(second))
+            self.assertEqual((flying.gs, flying.vs, flying.trk), (1014, -602, 360))
+
     def test_ways_are_flown_and_left_at_an_advice(self):
         """By ways the places are those that the ways say, and the plan wants their track and speeds."""
         it = Aircraft("own", ways=[Way(0, 0, 0, 1000), Way(10, 0, 500, 1100), Way(20, 500, 500, 1100)])
@@ -186,6 +196,34 @@ class Flights(unittest.TestCase):
             flying.go(flying.velocity(), flying.plan(second))
         self.assertEqual(climbs, [1500, 1500, 0, 0])
 
+    def test_the_plans_own_rates_hold_until_the_first_manoeuvre(self):
+        """Then those of the configuration: here the plan gets faster by half a knot a second when the alert comes, and then by two."""
+        own = Aircraft("own", 0, 0, 5000, 0, 1500, 0, [Event(2, "gs", 2500, 5)], planned=True)
+        other, speeds = Aircraft("A", 0, 8000, 5000, 180, 1500, 0, planned=True), []
+        run = flight.fly(Encounter(0, 40, 1, "all", own, [other]), study_with(Pilot(reaction=(9, 9), warned=(9, 9))), True, lambda second, own, _: speeds.append(own.gs))
+        self.assertEqual(run.first_advice, run.alerts[2] + 9)
+        self.assertTrue(5 < run.first_advice < 30)
+        steps = [b - a for a, b in zip(speeds, speeds[1:])]
+        self.assertEqual(steps, [0] * 2 + [5] * (run.first_advice - 1) + [20] * (38 - run.first_advice))
+
+    def test_a_graze(self):
+        """Both fly north beside each other: 0.658 NM apart it is a graze, 0.657 NM apart it is none; and 449 and 448 feet."""
+        for x, up, grazes in ((658, 0, False), (659, 0, True), (660, 0, True), (0, 449, False), (0, 450, True)):
+            own, other = Aircraft("own", 0, 0, 5000, 0, 1000, 0, planned=True), Aircraft("A", x, 0, 5000 + up, 0, 1000, 0, planned=True)
+            run = flight.fly(Encounter(0, 3, 1, "all", own, [other]), study_with(), False)
+            self.assertEqual((run.loss, run.grazes), (0, grazes), (x, up))
+
+    def test_a_value_between_two_candidates_is_open_where_both_are(self):
+        """And the present one by itself; over north the last candidate of track is beside the first."""
+        guidance = Guidance(RECOVERY)
+        guidance.own, first = flight_own(), {kind: it[0] for kind, it in guidance.lists.items()}
+        for closed, opened, shut in (((first["track"] + 2,), [("track", 5), ("track", 12), ("track", 17)][:1], [("track", 10), ("track", 7), ("track", 12)]),
+                                     ((first["track"] + 71, first["track"]), [("track", 6), ("track", 350)], [("track", 358), ("track", 352), ("track", 2)]),
+                                     ((0,), [("track", 5), ("gs", 900)], [("track", 33), ("gs", 1050), ("vs", 7)]),
+                                     ((first["vs"],), [("vs", -4900), ("gs", 500)], [("vs", -5000), ("vs", -4950), ("vs", -6000)])):
+            guidance.board = [2 if place in closed else 0 for place in range(400)]
+            self.assertEqual([it for it in opened + shut if guidance.is_open(*it)], opened, closed)
+
     def test_steady_flights(self):
         """A change counts from a minute before the alert, or else before the loss, up to the loss."""
         for alerts, loss, changes, steady in (({2: 100}, 150, [39, 151], True), ({2: 100}, 150, [40], False), ({2: 100}, 150, [150], False), ({2: 100}, None, [151], False),
@@ -200,6 +238,10 @@ class Flights(unittest.TestCase):
         own = Aircraft("own", 0, 0, -1900, 0, 1000, -6000, planned=True)
         found = rows.row_of(Encounter(0, 10, 1, "all", own, [Aircraft("A", 9000, 0, 0, 0, 1000, 0, planned=True)]), study_with())
         self.assertEqual((found["refused"], found["cause"]), (2, "refused"))
+
+
+def flight_own():
+    return Own(0, 0, 5000, 33, 1050, 7)
 
 
 def study_levels(config):

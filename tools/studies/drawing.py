@@ -93,7 +93,7 @@ class Draw:
         return it
 
     def miss(self, draw, at):
-        """The miss distances of a stratum: across, to the right of the relative way where positive, and up."""
+        """The miss distances of a stratum: across, to the left of the intruder's way relative to the ownship where positive, and up."""
         outer, inner = self.strata[at], self.strata[at - 1] if at else None
         while True:
             across, up = draw.pick(-outer.across, outer.across), draw.pick(-outer.up, outer.up)

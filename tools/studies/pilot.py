@@ -1,6 +1,8 @@
 """The pilot model: how the guidance is followed, and when it no longer is."""
 from dataclasses import dataclass, field
 
+from daidalus_files import SIDES
+
 from .drawing import OF_PILOTS, generator_of
 from .guidance import FULL_TURN, change
 
@@ -89,7 +91,7 @@ class Following:
         if (kind, value, side) != (self.kind, self.target, self.side):
             run.advices += 1
             run.reversals += kind == self.kind and side != self.side and run.loss is None
-            run.log.append(f"{second} {kind} {'right' if side else 'left'} {value}" if kind == "track" else f"{second} {kind} {'up' if side else 'down'} {value}")
+            run.log.append(f"{second} {kind} {SIDES[kind][side]} {value}")
         if run.first_advice is None:
             run.first_advice = second
         self.kind, self.target, self.side = kind, value, side

@@ -21,6 +21,7 @@ DRAW = {"seconds": (60, MOST_SECONDS), "own_gs": (300, 10000), "intruder_gs": (3
 PAIRS = ("reaction", "warned", "update", "late", "own_gs", "intruder_gs", "closest", "altitudes")
 TOP_KEYS = ("config", "well_clear", "world", "seed", "count", "encounters", "pilot", "sensors", "draw")
 MOST_COUNT = MOST_NUMBER + 1
+KINDS = {int: "whole number", str: "text", bool: "true or false", list: "list", dict: "table"}
 
 
 @dataclass
@@ -79,7 +80,7 @@ class Table:
     def take(self, key, kind, default):
         value = self.left.pop(key, default)
         if type(value) is not kind and value is not default:
-            self.fail(f"{self.where(key)} = {value!r} is no {'whole number' if kind is int else {str: 'text', bool: 'true or false', list: 'list', dict: 'table'}[kind]}")
+            self.fail(f"{self.where(key)} = {value!r} is no {KINDS[kind]}")
         return value
 
     def number(self, key, least, most, default):
