@@ -4,9 +4,9 @@
  * A view says how to look: its range, what is up, what is chosen. A model says what there is: states, configuration, report. */
 "use strict";
 (function (root) {
-  const { n, escape, TAPE_KINDS, geometryOf, rose, ring, trails, tape, answers, legend, head, handles } = daa.art;
+  const { n, escape, TAPE_KINDS, geometryOf, rose, ring, trails, paths, tape, answers, legend, head, handles } = daa.art;
 
-  const LAYERS = ["rose", "ring", "trails", "tapes", "answers", "legend", "head", "handles"];
+  const LAYERS = ["rose", "ring", "trails", "paths", "tapes", "answers", "legend", "head", "handles"];
 
   /** Draws a display: an svg element, whose layers are written anew only where they change. */
   function draw(svg, look, model, { width, height }) {
@@ -26,6 +26,7 @@
     layer("rose", rose(view));
     layer("ring", ring(view, model));
     layer("trails", trails(view, model));
+    layer("paths", paths(view, model));
     layer("tapes", TAPE_KINDS.map((kind) => tape(view, model, kind)).join(""));
     layer("answers", answers(view, model));
     layer("legend", legend(view, model));

@@ -122,8 +122,8 @@
     if (!told.includes(FROM_A_LINK)) state.told = [FROM_A_LINK, ...told];
     state.hash = hash;
     held.configs.forEach(({ name, toml }, place) => configure(place, String(toml), String(name)));
-    held.look.forEach(({ auto, trackUp, range, heights }, place) => Object.assign(state.views[place].look, {
-      auto: Boolean(auto), trackUp: Boolean(trackUp), range: RANGES_NM.includes(range) ? range : 12,
+    held.look.forEach(({ auto, trackUp, paths, range, heights }, place) => Object.assign(state.views[place].look, {
+      auto: Boolean(auto), trackUp: Boolean(trackUp), paths: Boolean(paths), range: RANGES_NM.includes(range) ? range : 12,
       heights: VIEW_HEIGHTS.includes(heights) ? heights : 3000 }));
     state.compare = Boolean(held.compare);
     $("compare").checked = state.compare;
@@ -231,7 +231,7 @@
     }
     const shared = `<style>${daa.STYLE}</style><defs>${daa.patterns()}</defs>`;
     document.body.insertAdjacentHTML("beforeend", `<svg width="0" height="0" aria-hidden="true" style="position:absolute">${shared}</svg>`);
-    const look = () => ({ auto: true, trackUp: false, range: 12, heights: 3000 });
+    const look = () => ({ auto: true, trackUp: false, paths: false, range: 12, heights: 3000 });
     const [configs, encounters] = [Object.keys(daa.examples.configs), Object.keys(daa.examples.encounters)];
     state.views = [0, 1].map(() => ({ look: look(), desk: new Desk(module), edition: 0 }));
     state.surveys = [0, 1].map((place) => new ui.Survey(place, module));

@@ -165,6 +165,23 @@
 
   $("copy").addEventListener("click", ({ target }) => give(daa.stateLines([state.current]), target, `moment-${state.current.time}.states`));
 
+  // ---- from the side
+
+  const SIDE = { width: 320, height: 190 };
+  const MOST_APPROACHES = 4;
+
+  /** How all come closest, if they fly straight on: from the side, and of the first few in words. */
+  function paintProfile() {
+    if (!$("profile").open) return;
+    const model = ui.modelOf(state.views[0]);
+    $("side").setAttribute("viewBox", `0 0 ${SIDE.width} ${SIDE.height}`);
+    setHtml($("side"), daa.side(model, state.chosen, SIDE));
+    const some = daa.ranked(model, state.chosen).slice(0, MOST_APPROACHES);
+    setHtml($("approaches"), some.map((it) => `<li>${escape(daa.nameOf(it.one))}: closest ${daa.wordsOfClosest(it.closest)}</li>`).join(""));
+  }
+
+  $("profile").addEventListener("toggle", changed);
+
   // ---- the report
 
   /** The level that a report line tells, or null. */
@@ -252,5 +269,5 @@
   /** What keys call the aircraft, in the order of the table. */
   const aircraftInOrder = () => rowsOf(saidOf(state.views[0])).map(({ one }) => calledIn(state.current.traffic, one));
 
-  Object.assign(ui, { remove, aircraftInOrder, chip, paintTable, paintForm, paintReport, paintSummary });
+  Object.assign(ui, { remove, aircraftInOrder, chip, paintProfile, paintTable, paintForm, paintReport, paintSummary });
 })();

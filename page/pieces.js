@@ -41,7 +41,8 @@ function daaPieces(root) {
     end(name) {
       const { count, first, lines } = this;
       const why = first ? `; line ${first.refused} was refused with code ${first.code}` : "";
-      return { told: count ? [`${name}: ${count} ${count === 1 ? "line was" : "lines were"} refused`] : [], clock: lines.clock, alone: "", silence: lines.silence,
+      const told = count ? [`${name}: ${count} ${count === 1 ? "line was" : "lines were"} refused`] : [];
+      return { told, clock: lines.clock, alone: "", silence: lines.silence,
         none: `${name} has no whole moment${why}` };
     }
   }

@@ -159,6 +159,7 @@
     ui.paintForm();
     ui.paintReport();
     ui.paintSummary();
+    ui.paintProfile();
     ui.paintTime();
     document.body.dataset.settled = shownViews().every(isAnswered) ? "yes" : "no";
     if (ui.painted) ui.painted();
@@ -231,6 +232,8 @@
     if (!caption.children.length) {
       const button = (what, words, name) => `<button data-do="${what}" aria-label="${name}" title="${name}">${words}</button>`;
       caption.innerHTML = `<button data-do="up" aria-pressed="false">Track up</button>
+        <button data-do="paths" aria-pressed="false" title="Ways to the closest approach, if all fly straight on: of what alerts, and of the
+          chosen aircraft">Paths</button>
         <button data-do="auto" aria-pressed="true" title="The range follows what alerts">Auto</button>
         ${button("wide", "−", "Greater range")}<span data-is="range"></span>${button("near", "+", "Smaller range")}
         ${button("fit", "Fit", "The range that all aircraft fit in (0)")}
@@ -239,6 +242,7 @@
       ui.makeToolbar(caption);
     }
     caption.querySelector("[data-do=up]").setAttribute("aria-pressed", String(view.look.trackUp));
+    caption.querySelector("[data-do=paths]").setAttribute("aria-pressed", String(view.look.paths));
     caption.querySelector("[data-do=auto]").setAttribute("aria-pressed", String(view.look.auto));
     const range = caption.querySelector("[data-is=range]");
     const isOther = range.textContent !== "" && range.textContent !== `${view.look.range} NM`;
@@ -283,6 +287,7 @@
     const { look } = view;
     if (what === "up") look.trackUp = !look.trackUp;
     if (what === "auto") look.auto = !look.auto;
+    if (what === "paths") look.paths = !look.paths;
     if (["near", "wide", "fit"].includes(what)) look.auto = false; // a range that is chosen is fixed
     if (what === "near" || what === "wide") look.range = step(RANGES_NM, look.range, what === "wide" ? 1 : -1);
     if (what === "fit") look.range = leastRange(farthest(state.current) * ROOM);

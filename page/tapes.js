@@ -34,7 +34,7 @@
       out += `<path d="M${n(t.x - 6)} ${n(y)}h6" stroke="var(--faint)"/>`
         + text(t.x - 9, y + g.font * 0.36, shownValue(kind, v), `class="small end" font-size="${g.font - 1}"`);
     }
-    return out + (model.said ? answersOnTape(view, model, kind, s) : "");
+    return out + (kind === "alt" ? daa.art.aloft(view, model, s) : "") + (model.said ? answersOnTape(view, model, kind, s) : "");
   }
 
   function bandOnTape(view, model, kind, band, s) {

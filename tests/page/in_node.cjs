@@ -12,7 +12,7 @@ const run = (name) => vm.runInThisContext(fs.readFileSync(path.join(page, `${nam
 ["engine.wasm", "core", "toml", "columns", "reading", "plausible", "recording", "moments", "pieces"].forEach(run);
 const bytesOf = (text) => new Uint8Array(Buffer.from(text, "base64"));
 
-const DRAWING = ["labels", "art", "meanings", "places", "compass", "tapes", "words", "aircraft", "handles", "draw", "strip"];
+const DRAWING = ["labels", "art", "meanings", "places", "profile", "compass", "tapes", "words", "aircraft", "handles", "draw", "strip"];
 
 /** Runs the scripts that draw, over what they need of a document: elements that keep what is put into them, and letters of one width. */
 function runDrawing() {

@@ -26,18 +26,18 @@ class Loaded(unittest.TestCase):
         """Of both configurations and of the recording, and how it is looked at; other ones were taken meanwhile."""
         before, meanwhile, after = on_page("""
             const names = () => [...page.views.map(({ name }) => name), page.name, { ...page.views[0].look }];
-            Object.assign(page.views[0].look, { auto: false, trackUp: true, range: 24, heights: 6000 });
+            Object.assign(page.views[0].look, { auto: false, trackUp: true, paths: true, range: 24, heights: 6000 });
             const before = names();
             await fire($("link"), "click");
             $("example").value = "all closed, with recoveries";
             await fire($("example"), "change");
             const meanwhile = names();
-            Object.assign(page.views[0].look, { auto: true, trackUp: false, range: 6, heights: 1500 });
+            Object.assign(page.views[0].look, { auto: true, trackUp: false, paths: false, range: 6, heights: 1500 });
             page.hash = "";
             await fire(screen, "hashchange");
             await settle();
             return [before, meanwhile, names()];""")
-        held = ["three_levels", "recovery", "encounter.states", {"auto": False, "trackUp": True, "range": 24, "heights": 6000}]
+        held = ["three_levels", "recovery", "encounter.states", {"auto": False, "trackUp": True, "paths": True, "range": 24, "heights": 6000}]
         self.assertEqual((before, meanwhile[0], after), (held, "recovery", held))
 
     def test_a_copied_link_leaves_the_recording(self):
