@@ -17,6 +17,10 @@ PARTS = 4  # so many modules try them, which may run side by side
 MUTANTS = [
     ("bands of level 3 are drawn as 2", "compass.js", "upto: band.upto + step / 2, level: band.level }));",
      "upto: band.upto + step / 2, level: Math.min(band.level, 2) }));", "test_shown.Shown.test_each_moment_of_the_encounter"),
+    ("why there is no moment is told of the wrong one", "time.js", "moments.silence(index), index + 1", "moments.silence(0), index + 1",
+     "test_silence.Silence.test_why_there_is_no_moment"),
+    ("that a gap has a cause makes a moment incomplete", "time.js", "return [state.moments.fault(index), state.alone,", "return [state.moments.fault(index), silenceOf(index), state.alone,",
+     "test_silence.Silence.test_why_there_is_no_moment"),
     ("symbols show no level", "draw.js", 'set("data-level", level);', 'set("data-level", level && 1);',
      "test_shown.Shown.test_each_moment_of_the_encounter"),
     ("two speeds are swapped", "core.js", '"alt", "vx", "vy", "vs", "age"]', '"alt", "vy", "vx", "vs", "age"]',

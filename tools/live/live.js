@@ -239,8 +239,9 @@
 
   /** What the server says first, at each connection. */
   function hear({ session, toml, name, head, compares }) {
-    live.isOpen = true;
-    if (live.session && live.session !== session) { // the server was started anew: with it the configuration may be another one
+    live.isOpen = !live.session || live.session === session;
+    if (!live.isOpen) { // the server was started anew: with it the configuration may be another one
+      live.why = "The server was started anew.";
       location.reload();
       return;
     }
