@@ -14,6 +14,9 @@ import counting
 class Some(unittest.TestCase):
     def test_passes(self): pass
     def test_lacks(self): counting.need("jq")
+    def test_lacks_a_module(self):
+        counting.DEBIAN_PYTHON = "/nowhere/python3"
+        counting.need_module("distributed")
     def test_lacks_in_part(self):
         for _ in range(2):
             with self.subTest(): counting.need("parallel")
@@ -32,7 +35,8 @@ class Counting(ToolTest):
         ran = subprocess.run([sys.executable, "-B", script, *words], env={"PATH": self.folder, **more}, stdout=subprocess.PIPE, stderr=subprocess.STDOUT, text=True)
         return ran.returncode, re.findall(r"(?m)^(?:left out: |FAILED: |\d+ passed).*", ran.stdout)
 
-    LEFT_OUT = ["left out: 1 test: there is no jq (Debian: jq)", "left out: 2 tests: there is no parallel (Debian: parallel)"]
+    LEFT_OUT = ["left out: 1 test: there is no jq (Debian: jq)",
+                "left out: 1 test: there is no module distributed of /nowhere/python3 (Debian: python3-distributed)", "left out: 2 tests: there is no parallel (Debian: parallel)"]
 
     def test_what_is_left_out_is_told_before_the_last_line(self):
         self.assertEqual(self.ended(), (0, [*self.LEFT_OUT, "2 passed, 0 failed"]))
@@ -41,7 +45,7 @@ class Counting(ToolTest):
 
     def test_where_ci_is_true_it_fails(self):
         said = "FAILED: where CI is true, what is left out counts as failed"
-        self.assertEqual(self.ended(CI="true"), (1, [*self.LEFT_OUT, said, "2 passed, 3 failed"]))
+        self.assertEqual(self.ended(CI="true"), (1, [*self.LEFT_OUT, said, "2 passed, 4 failed"]))
         self.assertEqual(self.ended("passes", CI="true"), (0, ["1 passed, 0 failed"]))
         self.assertEqual(self.ended(CI="no")[0], 0)
 
