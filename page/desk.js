@@ -18,9 +18,10 @@ function daaWorker(scope) {
 function daaAnswer(root) {
   /** The answer to a question, in plain values: of a moment the report, what was refused, or that the engine stopped; of a part of a recording its
    *  notes, packed. */
-  root.daa.answerOf = (engine, { config, moment, part, first }) => {
+  root.daa.answerOf = (engine, { config, moment, part, first, isWhole }) => {
     const before = performance.now();
     try {
+      if (part && isWhole) return { texts: root.daa.reportsOf(engine, config, part) };
       if (part) return { notes: root.daa.notesOf(engine, config, part, first), took: performance.now() - before };
       return { text: engine.report(config, moment), took: performance.now() - before };
     } catch (problem) {
@@ -96,6 +97,12 @@ daaAnswer(globalThis);
       this.busy = null;
       tell(answer);
       this.next();
+    }
+
+    /** No question is asked any more. */
+    end() {
+      if (this.worker) this.worker.terminate();
+      this.ready = false;
     }
 
     /** Nobody waits for what was asked: the rest is not asked, and a worker that is long at one question is stopped. */

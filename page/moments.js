@@ -266,6 +266,9 @@ function daaMoments(root) {
     }), first);
   }
 
-  Object.assign(root.daa, { Packer, Moments, momentIn, noteOf, notesOf, packNotes, Notes });
+  /** The reports of all moments of a block. Throws Refused or Stopped. */
+  const reportsOf = (engine, config, block) => Array.from(block.times, (_, place) => engine.report(config, momentIn(block, place)));
+
+  Object.assign(root.daa, { Packer, Moments, momentIn, noteOf, notesOf, reportsOf, packNotes, Notes });
 }
 daaMoments(globalThis);

@@ -268,7 +268,12 @@ function daaRecording(root) {
   function stateLines(some, head = [], wholeNames = new Map()) {
     const moments = [...some];
     const form = moments.some(({ traffic }) => traffic.some((one) => one.age)) ? 2 : 1;
-    const lines = [...(form === 2 ? ["format 2"] : []), ...head];
+    return linesIn(form, moments, [...(form === 2 ? ["format 2"] : []), ...head], wholeNames);
+  }
+
+  /** The state lines of moments in a format, after the lines of a head. */
+  function linesIn(form, moments, head = [], wholeNames = new Map()) {
+    const lines = [...head];
     const untold = new Map(wholeNames);
     for (const { time, own, traffic, silence, comments = [] } of moments) {
       const named = untold.size ? [...traffic.map(({ id }) => id), ...comments.map((line) => line.split(" ")[2])] : [];
@@ -421,6 +426,6 @@ function daaRecording(root) {
     return notes;
   }
 
-  Object.assign(root.daa, { openRecording, fromRecording, stateLines, OLDEST, MOST_AGE });
+  Object.assign(root.daa, { openRecording, fromRecording, stateLines, linesIn, OLDEST, MOST_AGE });
 }
 daaRecording(globalThis);

@@ -160,6 +160,7 @@
     ui.paintReport();
     ui.paintSummary();
     ui.paintProfile();
+    ui.prepareSheet();
     ui.paintTime();
     document.body.dataset.settled = shownViews().every(isAnswered) ? "yes" : "no";
     if (ui.painted) ui.painted();

@@ -71,7 +71,7 @@
       const y = s.y(value);
       const beyond = value > s.high ? " ▲" : value < s.low ? " ▼" : "";
       const words = t.labels ? shownValue(kind, value) + beyond : beyond.trim();
-      return mark(right + 2, y) + text(right + 17, y + g.font * 0.36, words, `class="${style} halo" font-size="${g.font}"`);
+      return mark(right + 2, y) + text(right + 15, y + g.font * 0.36, words, `class="${style} halo" font-size="${g.font}"`);
     };
     const triangle = (x, y) => `<path d="M${n(x)} ${n(y)}l12 -6.5v13z" fill="var(--open)" stroke="var(--ground)"/>`;
     let out = "";

@@ -180,6 +180,11 @@ MUTANTS = [
      "test_profile.Profile.test_aircraft_stand_beside_the_altitude_tape_at_their_heights"),
     ("from the side the volume is as wide as dthr wherever one passes", "profile.js", "dthr * dthr - first.closest.passing ** 2", "dthr * dthr",
      "test_profile.Profile.test_the_side_shows_heights_over_the_distance_to_the_closest_approach"),
+    ("a saved report is of the recording without what was changed", "sheet.js", "Moments.of(Array.from({ length: count }, (_, i) => shownAt(first + i)))",
+     "Moments.of(Array.from({ length: count }, (_, i) => moments.at(first + i)))", "test_kept.Whole.test_states_and_report_of_the_whole_recording"),
+    ("a saved recording loses why there is no moment", "sheet.js", "moment.silence = state.moments.silence(first + i);", "", "test_kept.Whole.test_comments_stay"),
+    ("the sheet has the digest of a name", "sheet.js", "SHA-256 ${digestIn(taken)}</li>", "SHA-256 ${digestIn(name)}</li>", "test_kept.Sheet.test_a_sheet_can_be_made_again"),
+    ("the sheet is not printed", "style.css", "#sheet { display: block; font-size", "#sheet { font-size", "test_everyone.Everyone.test_on_paper"),
     ("a file names a network", "index.html", '<script src="page.js">', '<script src="https://example.org/page.js">',
      "test_files.Files.test_no_file_names_a_network_address"),
 ]

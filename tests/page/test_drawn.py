@@ -105,7 +105,7 @@ class Display(unittest.TestCase):
             marks += [at + 8 for x, at in self.marks("tapes", "stroke", "recover") if abs(x - right - 10) < 1]
             for found, value in zip(marks, answers + recovery, strict=True):
                 self.assertAlmostEqual(found, y(value), delta=1)
-            words = [text for text, x, _ in [*self.texts("tapes", "open"), *self.texts("tapes", "recover")] if abs(x - right - 17) < 1]
+            words = [text for text, x, _ in [*self.texts("tapes", "open"), *self.texts("tapes", "recover")] if abs(x - right - 15) < 1]
             self.assertEqual([int(text.replace("−", "-")) * each for text in words], answers + recovery)
 
     def check_places(self, moment):
@@ -307,7 +307,7 @@ class Drawn(Display):
         report = moments_of(replayed(THREE_LEVELS, bytes_of(ENCOUNTER)))[0]
         self.show(THREE_LEVELS, text.encode(), report.replace("resolve alt down 9500 up 10500", "resolve alt down 5000 up 15000"))
         tape = self.g["tapes"]["alt"]
-        found = [(text, round(y)) for text, x, y in self.texts("tapes", "open") if abs(x - tape["x"] - tape["band"] - 17) < 1]
+        found = [(text, round(y)) for text, x, y in self.texts("tapes", "open") if abs(x - tape["x"] - tape["band"] - 15) < 1]
         self.assertEqual(found, [("5000 ▼", round(tape["bottom"])), ("15000 ▲", round(tape["top"]))])
 
     def test_head_and_legend(self):
@@ -441,7 +441,7 @@ class Ends(Display):
         self.show(THREE_LEVELS, self.STATES, changed)
         tape = self.g["tapes"]["gs"]
         right = tape["x"] + tape["band"]
-        self.assertEqual([text for text, x, _ in self.texts("tapes", "open") if abs(x - right - 17) < 1], ["50", "700"])
+        self.assertEqual([text for text, x, _ in self.texts("tapes", "open") if abs(x - right - 15) < 1], ["50", "700"])
         marks = [y for x, y in self.marks("tapes", "fill", "open") if abs(x - right - 2) < 1]
         self.assertEqual([round(y) for y in marks], [round(tape["bottom"]), round(tape["top"])])
 

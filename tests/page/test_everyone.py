@@ -21,13 +21,21 @@ return pairs;
 """
 
 
-def pages_of(paper):
-    """How many pages a file of PDF has, also where its objects are packed."""
+MANY = "moment 0\nown 0 0 10000 0 3600 0\n" + "".join(f"traffic T{i} {1000 + 300 * i} {4000 + 200 * i} 30000 0 -3600 0\n" for i in range(64)) + "end\n"
+
+
+def texts_of(paper):
+    """What a file of PDF holds, also where it is packed."""
     texts = [paper]
     for packed in re.findall(rb"stream\r?\n(.*?)endstream", paper, re.S):
         with contextlib.suppress(zlib.error):
             texts.append(zlib.decompressobj().decompress(packed))
-    return sum(len(re.findall(rb"/Type\s*/Page\b", text)) for text in texts)
+    return texts
+
+
+def pages_of(paper):
+    """How many pages a file of PDF has."""
+    return sum(len(re.findall(rb"/Type\s*/Page\b", text)) for text in texts_of(paper))
 
 
 class Everyone(PageTest):
@@ -141,7 +149,7 @@ class Everyone(PageTest):
         self.assertRegex(self.page.text("#rest"), "^[0-9]+ more without an alert$")
 
     def test_on_paper(self):
-        """On paper the ground is white, whatever the screen's, patterns stay, controls are gone, and all stands on one sheet."""
+        """On paper the ground is white, whatever the screen's, patterns stay, controls are gone; what makes the sheet again is there."""
         self.page.step_to(3)
         self.page.media("print", "dark")
         self.assertEqual(self.page.js("return getComputedStyle(document.body).backgroundColor"), "rgb(255, 255, 255)")
@@ -154,7 +162,21 @@ class Everyone(PageTest):
         self.page.js("dispatchEvent(new Event('beforeprint'))")
         self.page.shot("paper")
         self.page.js("dispatchEvent(new Event('afterprint'))")
-        self.assertEqual(pages_of(self.page.paper()), 1)
+        self.assertTrue(self.page.one("#sheet").is_displayed())
+        self.assertIn(self.page.states(), self.page.text("#sheet"))
+        self.check_pages(self.page.paper(), 2)
+
+    def check_pages(self, paper, most):
+        """There are no more pages than so many, and text stands on each."""
+        written = sum(len(re.findall(rb"\bT[jJ]\b", text)) > 3 for text in texts_of(paper))
+        self.assertTrue(1 <= pages_of(paper) <= min(most, written), (pages_of(paper), written))
+
+    def test_no_page_of_a_long_sheet_is_empty(self):
+        """Of 64 aircraft, whose state lines go on over the pages."""
+        self.page.open_files(self.page.file("many.states", MANY))
+        self.page.js("dispatchEvent(new Event('beforeprint'))")
+        self.page.media("print", "light")
+        self.check_pages(self.page.paper(), 4)
 
     def test_nothing_is_asked_of_a_network(self):
         """All that was loaded is of the page's own folder, and the browser refuses to fetch."""

@@ -26,7 +26,14 @@ def examples_text():
              "files": {name: text_of(os.path.join(EXAMPLES, name)) for name in files},
              "encounters": {name: {"config": config, "states": states} for name, (config, states) in ENCOUNTERS.items()}}
     return ('"use strict";\n// Made by tests/page/run --write of the files of examples/.\nglobalThis.daa = globalThis.daa || {};\n'
+            f"daa.version = {json.dumps(version())};\n"
             f"daa.examples = {json.dumps(words, indent=1)};\n")
+
+
+def version():
+    """The version of the repository, which the archive for C and the program tell."""
+    number = int(re.search(r"#define DAA_VERSION (\d+)", text_of(os.path.join(TOP, "crates", "daa_c", "include", "daidalus.h")))[1])
+    return f"{number // 10000}.{number // 100 % 100}.{number % 100}"
 
 
 def columns_text():
