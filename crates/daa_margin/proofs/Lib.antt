@@ -2,3 +2,10 @@ pub mod Roots
 pub mod Sums
 pub mod Truth
 pub mod Growth
+pub mod Cones
+pub mod MomentSizes
+pub mod Levels
+pub mod Within
+pub mod Rooms
+pub mod Decided
+pub mod Comparisons

@@ -1,8 +1,9 @@
 -- Each number has one root above, and the root grows with the number.
-use Rattle.std.proofs.Common.{[], ◌∷◌, ◌≡◌, ℕ, zero, suc, arith, ℤ, pos, negsuc, ◌+ℤ◌, ◌*ℤ◌, ◌-ℤ◌, ◌≤ℤ◌, ◌<ℤ◌}
+use Rattle.std.proofs.Common.{[], ◌∷◌, ◌≡◌, sym, subst, ℕ, zero, suc, ◌+◌, ◌*◌, ◌<◌, ◌≤◌, unsigned_abs, arith, ℤ, pos, negsuc, ◌+ℤ◌, ◌*ℤ◌, ◌-ℤ◌, ◌≤ℤ◌, ◌<ℤ◌}
 use Rattle.std.proofs.lemmas.Int.{ints, by_lt_z}
 use Rattle.daa_fixed.proofs.Ring.{ring, #, lit, ◌⊕◌, ◌⊗◌}
-use Rattle.daa_fixed.proofs.Integers.{mul_le_mul, le_trans_ℤ, clash}
+use Rattle.daa_fixed.proofs.Integers.{mul_le_mul, le_trans_ℤ, clash, root_within}
+use Rattle.std.specs.Int.{IsIsqrt}
 use Rattle.daa_margin.specs.MayViolate.{IsRootAbove}
 
 -- a number with its root above
@@ -80,3 +81,41 @@ is_root k r above below r1 = record {
 
 pub zero_root : IsRootAbove (pos 0) (pos 0)
 zero_root = record { from = omega (arith, ints); above = omega (arith, ints); least = λ x x0 h. x0 }
+
+-- ---- what `isqrt` answers is the root, or one less
+pub record IsRootBelow (z r : ℤ) : Type 0 where
+  pub from : pos 0 ≤ℤ r
+  pub low : (r *ℤ r) ≤ℤ z
+  pub high : z ≤ℤ ((r +ℤ pos 1) *ℤ (r +ℤ pos 1))
+
+pub isqrt_is : (z r : ℤ) → pos 0 ≤ℤ z → IsIsqrt z r → IsRootBelow z r
+isqrt_is z r z0 h = of h.0 h.1 h.2 h.3
+  where
+    below : (m : ℕ) → m ≤ unsigned_abs z → pos m ≤ℤ z
+    below m k = omega (arith, ints, z0)
+
+    above : (m : ℕ) → unsigned_abs z < m → z ≤ℤ pos m
+    above m k = omega (arith, ints, z0)
+
+    of : (n : ℕ) → r ≡ pos n → n * n ≤ unsigned_abs z → unsigned_abs z < (n + 1) * (n + 1) → IsRootBelow z r
+    of n e low high = subst (λ (y : ℤ). IsRootBelow z y) (sym e) (record {
+      from = omega (arith, ints);
+      low = below (n * n) low;
+      high = above ((n + 1) * (n + 1)) high;
+    })
+
+pub root_exact : (z r : ℤ) → IsRootBelow z r → z ≤ℤ (r *ℤ r) → IsRootAbove z r
+root_exact z r h above = record { from = h.from; above = above; least = λ x x0 k. root_within r x x0 (le_trans_ℤ (r *ℤ r) z (x *ℤ x) h.low k) }
+
+pub root_next : (z r : ℤ) → IsRootBelow z r → (r *ℤ r) <ℤ z → IsRootAbove z (r +ℤ pos 1)
+root_next z r h short = record {
+  from = omega (arith, ints, h.from);
+  above = h.high;
+  least = λ x x0 k. after (greater r x x0 (farther (x *ℤ x) k));
+}
+  where
+    farther : (y : ℤ) → z ≤ℤ y → (r *ℤ r) <ℤ y
+    farther y k = omega (arith, ints, short)
+
+    after : {x : ℤ} → r <ℤ x → (r +ℤ pos 1) ≤ℤ x
+    after l = omega (arith, ints)

@@ -6,6 +6,13 @@ use Rattle.daa_fixed.specs.declared.Leg.{Leg}
 use Rattle.daa_margin.specs.declared.ErrorBounds.{ErrorBounds}
 use Rattle.daa_taumod.specs.Volume.{place_at, height_at}
 
+-- bounds as large as the fields' comments say
+pub record AreErrorBoundsInRange (bounds : ErrorBounds) : Type 0 where
+  pub place : bounds.place ≤ 8000000
+  pub speed : bounds.speed ≤ 30000
+  pub height : bounds.height ≤ 6000000
+  pub climb : bounds.climb ≤ 20000
+
 -- no bound of the first is greater than that of the second
 pub record AreNoWider (narrow wide : ErrorBounds) : Type 0 where
   pub place : narrow.place ≤ wide.place

@@ -1,3 +1,4 @@
 pub mod ErrorBounds
 pub mod MayViolate
 pub mod Examples
+pub mod Inside

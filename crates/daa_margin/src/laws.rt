@@ -1,6 +1,6 @@
 //! Laws of the volume where errors have bounds.
 
-ghost use Rattle.std.specs.Prelude.{ℤ, pos, ◌≤ℤ◌};
+ghost use Rattle.std.specs.Prelude.{ℤ, pos, ◌≤ℤ◌, ◌⊎◌};
 ghost use Rattle.daa_fixed.specs.declared.Leg.{Leg};
 ghost use Rattle.daa_taumod.specs.declared.Volume.{Volume};
 ghost use Rattle.daa_taumod.specs.Volume.{Violates};
@@ -29,4 +29,11 @@ pub fn may_violate_grows_with_the_volume()
     ensures { (leg : Leg) (inner outer : Volume) (bounds : ErrorBounds) (n d : ℤ) →
         pos 0 ≤ℤ n → pos 1 ≤ℤ d → IsVolumeWithin inner outer →
         MayViolate leg inner bounds n d → MayViolate leg outer bounds n d }
+{}
+
+/// Whether the volume may be violated at a time can be decided, of any leg and at any time.
+pub fn may_violate_is_decidable()
+    ensures { (leg : Leg) (volume : Volume) (bounds : ErrorBounds) (n d : ℤ) →
+        pos 0 ≤ℤ n → pos 1 ≤ℤ d →
+        MayViolate leg volume bounds n d ⊎ ¬ MayViolate leg volume bounds n d }
 {}
