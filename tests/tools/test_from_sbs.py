@@ -1,6 +1,7 @@
 """tools/from_sbs over recordings and over loopback: moments each second of what a decoder says, and what is told where nothing is known."""
 import contextlib
 import datetime
+import http.server
 import json
 import math
 import os
@@ -184,6 +185,39 @@ class FromSbs(ToolTest):
         self.assertIn(last.traffic[0].age, (1, 2))
         self.assertEqual(last.lacks, [("4B0003", "no vertical speed, 12.0 NM away")])
 
+    def test_a_decoder_that_says_nothing(self):
+        """It is there, and heard at first; after five seconds of silence each moment says that it lacks something."""
+        begin = time.time()
+        server = Server(lambda second: lines_of("4B0002", 47.1, 8) if time.time() < begin + 2 else "")
+        self.addCleanup(server.close)
+        out, told = self.opened(server, "--at", "47,8,3000", "--seconds", "10").communicate(timeout=60)
+        last = [event for event in Reader().read(out.encode()) if isinstance(event, Moment)][-1]
+        self.assertRegex(str(last.lacks), r"^\[\('\*', 'the decoder says nothing for [6-9] s'\)\]$", told)
+
+    def test_aircraft_json_by_http_alone(self):
+        """The ownship is in it; when it is not written any more, there is no moment."""
+        begin = time.time()
+
+        class Answers(http.server.BaseHTTPRequestHandler):
+            def do_GET(self):
+                now = min(time.time(), begin + 4)
+                body = json.dumps({"now": now, "aircraft": [{"hex": "4b0001", "lat": 47, "lon": 8, "seen_pos": 0, "alt_baro": 5000, "gs": 0.0, "track": 0, "baro_rate": 0}]}).encode()
+                self.send_response(200)
+                self.end_headers()
+                self.wfile.write(body)
+
+            def log_message(self, *words):
+                pass
+
+        server = http.server.ThreadingHTTPServer(("127.0.0.1", 0), Answers)
+        threading.Thread(target=server.serve_forever, daemon=True).start()
+        self.addCleanup(server.shutdown)
+        run = subprocess.run([sys.executable, "-B", os.path.join(TOP, "tools", "from_sbs"), "--own", "4B0001", "--json", f"http://127.0.0.1:{server.server_port}/a.json", "--seconds", "12"],
+                             capture_output=True, text=True, timeout=60)
+        found = [event for event in Reader().read(run.stdout.encode()) if isinstance(event, Moment)]
+        self.assertTrue(found and found[-1].own.alt == 5000 and found[-1].time <= begin + 8, run.stdout + run.stderr)
+        self.assertTrue(run.stdout.endswith("# no moment: the decoder is gone\n"), run.stdout)
+
     def test_words_that_are_not_taken(self):
         for words, part in ((("--own", "4B0001"), "HOST:PORT, a file, or --json"), (("x",), "one of --own, --at and --gpsd"),
                             (("--own", "4B0001", "x"), "x has not the form HOST:PORT"),
@@ -251,6 +285,26 @@ class Recorded(ToolTest):
         self.assertLessEqual({"4D0001", "4D0002", "4C0000", "4C003D"}, names)
         self.assertEqual([name for name, _ in found[1].lacks], ["4C003E", "4D0003"])
         self.assertTrue(all(why.startswith("more than 64 aircraft, ") for _, why in found[1].lacks))
+
+    def test_an_ownship_on_the_ground(self):
+        """From 5 s on."""
+        text = "".join(lines_of("4B0001", 47, 8, at=T + second).replace("0,0,0,0\r", "0,0,0,-1\r" if second >= 5 else "0,0,0,0\r") for second in range(12))
+        found, out, _ = self.moments(text)
+        self.assertEqual((sorted(found), out.count("# no moment: the ownship is on the ground\n")), ([1, 2, 3, 4, 5], 6))
+
+    def test_a_long_way(self):
+        """The plane's middle goes with the ownship once that is more than 100 NM away; another aircraft stays where it is beside it."""
+        text = "".join(lines_of("4B0001", lat, 8, gs=0, at=T + second) + lines_of("4B0002", lat + 0.1, 8, gs=0, at=T + second)
+                       for second, lat in enumerate((47, 47, 48.5, 49.5, 49.5)))
+        found, _, _ = self.moments(text)
+        self.assertEqual([(found[second].own.y, found[second].traffic[0].y) for second in (1, 2, 3, 4)], [(0, 6000), (0, 6000), (90000, 96000), (0, 6000)])
+
+    def test_addresses_without_end(self):
+        """Of 4100 that are heard within a second those beyond the first 4000 are not kept, and are counted."""
+        text = lines_of("4B0001", 47, 8, at=T) + "".join(lines_of(f"{number:06X}", 47.5, 8, at=T) for number in range(4100)) + lines_of("4B0001", 47, 8, at=T + 2)
+        found, _, told = self.moments(text)
+        self.assertEqual(len(found[1].traffic), 64)
+        self.assertRegex(told, r" [12]\d\d of too many addresses\n")
 
     def test_the_own_address_is_no_traffic_and_small_letters_are_none(self):
         text = "".join(lines_of("4b0001", 47, 8, at=T + second) + lines_of("~4B0002", 47.1, 8, at=T + second) + lines_of("4B0002", 47.2, 8, at=T + second) for second in range(4))

@@ -166,6 +166,7 @@ class Shown(LiveTest):
         status, out, _ = self.judged(live.folder)
         self.assertEqual(status, 0, out)
         status, report = replayed(CONFIG, live.log("001.states"))
+        self.assertEqual((live.log("001.states").count(b"x" * 256 + b"\n"), max(map(len, live.log("001.states").split(b"\n")))), (1, 256))
         done, refused = report.count(b"\ndone "), report.count(b"refused ")
         self.assertTrue(status == 1 and done >= 6 and refused > 4, report)
         self.assertIn(f"{done} moments judged, {refused} lines refused\n", out)
