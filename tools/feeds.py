@@ -19,6 +19,7 @@ from recordings.times import iso_time
 AFTER = 1  # s until a source that is gone is asked again
 LONGEST_LINE = 512  # bytes
 TOO_LATE = 60  # s: a source whose lines are so late is asked anew
+LEAST_STEP = 1  # s by which the machine's clock must be ahead to count as put forward
 DRIFT = 1e-4  # seconds in a second by which two clocks may drift apart
 OFTEN = 0.25  # s from one look at a text to the next
 LARGEST_TEXT = 1 << 22
@@ -27,13 +28,17 @@ FOOT = 0.3048
 
 
 class Clock:
-    """Seconds since 1970 that never step back."""
+    """Seconds since 1970 that never step back. They step forward with the machine's clock, as after it was suspended."""
 
     def __init__(self):
         self.base = time.time() - time.monotonic()
 
     def now(self):
-        return self.base + time.monotonic()
+        found = self.base + time.monotonic()
+        if time.time() - found > LEAST_STEP:
+            self.base = time.time() - time.monotonic()
+            found = self.base + time.monotonic()
+        return found
 
 
 class Lateness:

@@ -1,4 +1,5 @@
 """tools/from_sbs over recordings and over loopback: moments each second of what a decoder says, and what is told where nothing is known."""
+import argparse
 import contextlib
 import datetime
 import http.server
@@ -13,12 +14,14 @@ import sys
 import threading
 import time
 import unittest
+import unittest.mock
 
-from common import CONFIG, TOP, ToolTest, replayed
+from common import CONFIG, TOP, ToolTest, module, replayed
 from daidalus_files import Moment, Reader
 
 import feeds
 
+from_sbs = module("tools/from_sbs")
 BEGIN = time.time()
 
 
@@ -194,6 +197,16 @@ class FromSbs(ToolTest):
         last = [event for event in Reader().read(out.encode()) if isinstance(event, Moment)][-1]
         self.assertRegex(str(last.lacks), r"^\[\('\*', 'the decoder says nothing for [6-9] s'\)\]$", told)
 
+    def test_the_last_word_of_a_decoder_that_ended(self):
+        """An aircraft.json that is not written any more tells nothing, whatever is in it."""
+        aircraft = {"hex": "4b0002", "lat": 47.1, "lon": 8, "seen_pos": 0.0, "altitude": 5000, "speed": 0, "track": 0, "vert_rate": 0}
+        path = self.write("aircraft.json", json.dumps({"now": time.time(), "aircraft": [aircraft]}))
+        server = Server(lambda second: lines_of("4B0001", 47, 8, gs=0))
+        self.addCleanup(server.close)
+        out, told = self.opened(server, "--own", "4B0001", "--json", path, "--seconds", "4").communicate(timeout=60)
+        found = [event for event in Reader().read(out.encode()) if isinstance(event, Moment)]
+        self.assertTrue(found and not any(moment.traffic for moment in found), out + told)
+
     def test_aircraft_json_by_http_alone(self):
         """The ownship is in it; when it is not written any more, there is no moment."""
         begin = time.time()
@@ -273,10 +286,10 @@ class Recorded(ToolTest):
                          + ["of the ownship no velocity within 3 s"] * 5 + ["of the ownship no velocity within 5 s"] * 2)
 
     def test_more_than_64_those_that_matter(self):
-        """Of 66 that stand between 6 and 13 NM away the farthest is left out, for one that comes head-on from 30 NM stays, and so does one
-        that goes away at 3 NM. The ownship stands, too."""
+        """Of 63 that come slowly from 6 to 13 NM the farthest is left out, for one that comes fast from 30 NM stays, and so does one that goes
+        away at 3 NM; one that goes away at 30 NM does not. The ownship stands."""
         def all_of(second):
-            standing = "".join(lines_of(f"4C{number:04X}", 47 + (6 + number / 10) / 60, 8, gs=0, at=T + second) for number in range(63))
+            standing = "".join(lines_of(f"4C{number:04X}", 47 + (6 + number / 10) / 60, 8, gs=60, trk=180, at=T + second) for number in range(63))
             return (standing + lines_of("4B0001", 47, 8, gs=0, at=T + second) + lines_of("4D0001", 47.5, 8, gs=450, trk=180, at=T + second)
                     + lines_of("4D0002", 46.95, 8, gs=450, trk=180, at=T + second) + lines_of("4D0003", 46.5, 8, gs=450, trk=180, at=T + second))
         found, _, _ = self.moments(all_of(0) + all_of(0.5) + lines_of("4B0001", 47, 8, gs=0, at=T + 1.5))
@@ -295,9 +308,10 @@ class Recorded(ToolTest):
     def test_a_long_way(self):
         """The plane's middle goes with the ownship once that is more than 100 NM away; another aircraft stays where it is beside it."""
         text = "".join(lines_of("4B0001", lat, 8, gs=0, at=T + second) + lines_of("4B0002", lat + 0.1, 8, gs=0, at=T + second)
-                       for second, lat in enumerate((47, 47, 48.5, 49.5, 49.5)))
+                       for second, lat in enumerate((47, 47, 48.5, 49.5, 49.5, 49.6, 49.6)))
         found, _, _ = self.moments(text)
-        self.assertEqual([(found[second].own.y, found[second].traffic[0].y) for second in (1, 2, 3, 4)], [(0, 6000), (0, 6000), (90000, 96000), (0, 6000)])
+        self.assertEqual([(found[second].own.y, found[second].traffic[0].y) for second in range(1, 7)],
+                         [(0, 6000), (0, 6000), (90000, 96000), (0, 6000), (0, 6000), (6000, 12000)])
 
     def test_addresses_without_end(self):
         """Of 4100 that are heard within a second those beyond the first 4000 are not kept, and are counted."""
@@ -366,6 +380,44 @@ class Recorded(ToolTest):
         self.assertEqual(status, 3)
         self.assertIn("no moment is left: the ownship 4B0001 is not heard", told)
         self.assertEqual(self.tool("from_sbs", "--own", "4B0001", self.write("empty.sbs", ""))[0], 3)
+
+
+class Kept(unittest.TestCase):
+    """What is kept of what was heard, and reports of the second that has begun."""
+
+    def setUp(self):
+        self.sky = from_sbs.Sky(argparse.Namespace(own="4B0001", at=None, gpsd=None, oldest=10))
+
+    def hear(self, second, *addresses, lat=47.1):
+        for address in addresses:
+            for line in lines_of(address, 47 if address == "4B0001" else lat, 8, gs=0 if address == "4B0001" else 360, at=T).split("\r\n")[:2]:
+                self.sky.take_line(line, T + second)
+
+    def test_a_report_of_the_second_that_has_begun(self):
+        """It is flown back to its beginning: 0.04 NM in 0.4 s at 360 knots."""
+        self.hear(0.4, "4B0001", "4B0002")
+        self.assertIn("traffic 4B0002 0 5960 3000 0 3600 0 0", self.sky.lines_at(T, True))
+
+    def test_what_was_heard_long_ago_is_forgotten(self):
+        """After a day with a new aircraft each minute only those of the last minutes are kept."""
+        for minute in range(1440):
+            self.hear(60 * minute, "4B0001", f"{minute + 1:06X}")
+            self.sky.lines_at(T + 60 * minute + 1, True)
+        maker, heard = self.sky.maker, self.sky.heard
+        self.assertLess(max(map(len, (heard.heard, heard.labels, maker.latest, maker.incomplete, maker.used, maker.ids))), 10)
+        self.assertLess(max(map(len, (maker.unused, maker.lacking, maker.steps))), 5001)
+
+
+class Clock(unittest.TestCase):
+    def test_it_steps_forward_and_never_back(self):
+        """The machine's clock runs, is put back by an hour, runs, and is put forward by a minute more than it was."""
+        with unittest.mock.patch("feeds.time") as machine:
+            machine.time.return_value, machine.monotonic.return_value = 5000, 10
+            clock, found = feeds.Clock(), []
+            for seconds, since in ((5001, 11), (1402, 12), (1403, 13), (5064, 14), (5065, 15)):
+                machine.time.return_value, machine.monotonic.return_value = seconds, since
+                found.append(clock.now())
+        self.assertEqual(found, [5001, 5002, 5003, 5064, 5065])
 
 
 class Lateness(unittest.TestCase):

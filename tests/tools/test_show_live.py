@@ -256,6 +256,12 @@ class Judged(LiveTest):
         states = b"format 2\n" + moment(1) + b"nonsense\n" * 8000 + moment(2)
         self.assertEqual(self.judged(self.session(states))[:2], (0, f"{self.folder}/session/001.states: 2 moments judged, 8000 lines refused\n"))
 
+    def test_each_moment_comes_twice(self):
+        """The second time it is refused, with its five lines, for what came before it: where no piece may begin."""
+        states = b"format 2\n" + b"".join(moment(second) * 2 for second in range(1, 601))
+        self.assertGreater(len(states), 2 * 65536)
+        self.assertEqual(self.judged(self.session(states))[:2], (0, f"{self.folder}/session/001.states: 600 moments judged, 3000 lines refused\n"))
+
     def test_no_log(self):
         self.assertEqual(self.judged(self.folder)[0], 3)
 
