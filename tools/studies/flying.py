@@ -1,9 +1,7 @@
 """How the aircraft of an encounter fly: the truth of which a study measures losses."""
-from math import isqrt
-
 from headings import velocity
 
-from .whole import FOOT, MIL, NINE_DIGITS, direction, rounded, sine, toward, turned
+from .whole import FOOT, MIL, NINE_DIGITS, direction, root, rounded, sine, toward, turned
 
 WORLDS = {"seconds": 1, "tenths": 10}
 PLAN_RATES = {"track": 3, "gs": 20, "vs": 300}  # of the kinds that no event names
@@ -51,9 +49,7 @@ class Flying:
         """Track and speeds of the present leg between two ways."""
         self.leg = tuple(b - a for a, b in zip(self.place, self.place_at(self.step + 1)))
         east, north, self.vs = self.leg
-        square = east * east + north * north
-        gs = isqrt(square)
-        self.trk, self.gs = direction(east, north), gs + (square - gs * gs > gs)
+        self.trk, self.gs = direction(east, north), root(east * east + north * north)
         if self.world.steps == 1:
             self.trk = rounded(self.trk, 10) * 10 % 3600
 
@@ -67,7 +63,7 @@ class Flying:
             east, north, climb = (b - a for a, b in zip(*(self.place_at(self.world.steps * it) for it in (second, second + 1))))
             east, north, climb = (rounded(it, self.world.steps) for it in (east, north, climb))
             return {"track": (rounded(direction(east, north), 10) % 360, PLAN_RATES["track"]),
-                    "gs": (isqrt(east * east + north * north), PLAN_RATES["gs"]), "vs": (climb, PLAN_RATES["vs"])}
+                    "gs": (root(east * east + north * north), PLAN_RATES["gs"]), "vs": (climb, PLAN_RATES["vs"])}
         found = {"track": (self.it.trk, PLAN_RATES["track"]), "gs": (self.it.gs, PLAN_RATES["gs"]), "vs": (self.it.vs, PLAN_RATES["vs"])}
         for event in self.it.events:
             if event.second <= second:

@@ -6,19 +6,19 @@ from headings import velocity as table_velocity
 
 from .drawing import OF_SENSORS, generator_of
 from .guidance import Own, Traffic
-from .whole import FOOT, MIL, direction, rounded
+from .whole import FOOT, MIL, direction, root, rounded
 
 ERRORS = ("noise", "lost", "late")
 
 
 @dataclass(frozen=True)
 class Sensors:
-    """Errors of what is told of other aircraft, of which noise, gaps and delays are drawn apart, each from its own seed, or where that
-    is None from `seed`: so none changes what another one draws. Deviations are standard ones, in the units of state lines; a noise is drawn anew
-    after every `every` seconds. Of 1000 reports `lost` begin a gap of 1 to `gap` seconds; a report comes `late` seconds after its
-    time, one number for each aircraft. In both cases the engine is told the report's age; one older than `oldest` is left out.
-    whole_degrees: velocities come from a track in whole degrees and a ground speed. own_track: by how many tenths of a degree
-    the ownship flies to the right of the track that the engine is told."""
+    """Errors of what is told of other aircraft. Noise, gaps and delays are drawn apart, each from its own seed, or where that is None
+    from `seed`: so none changes what another one draws. Deviations are standard ones, in the units of state lines; a noise is
+    drawn anew after every `every` seconds. Of 1000 reports `lost` begin a gap of 1 to `gap` seconds; a report comes `late`
+    seconds after its time, one number for each aircraft. In both cases the engine is told the report's age; one older than
+    `oldest` is left out. whole_degrees: velocities come from a track in whole degrees and a ground speed. own_track: by how
+    many tenths of a degree the ownship flies to the right of the track that the engine is told."""
 
     seed: int = 0
     noise_seed: int = None
@@ -77,9 +77,7 @@ class Sensed:
     def seen_velocity(self, v):
         east, north, up = v
         if self.sensors.whole_degrees:
-            square = east * east + north * north
-            gs = round(square ** 0.5)
-            east, north = table_velocity(gs, rounded(direction(east, north), 10) % 360)
+            east, north = table_velocity(root(east * east + north * north), rounded(direction(east, north), 10) % 360)
         return east + self.noise[3], north + self.noise[4], up + self.noise[5]
 
 

@@ -1,4 +1,6 @@
 """Whole numbers that a study needs: rounding, and directions in tenths of a degree with sines of nine digits."""
+from math import isqrt
+
 MIL, FOOT = 36, 60  # units in 0.001 nautical mile and in a foot; a speed is in units per second
 TURN = 3600  # a full turn in tenths of a degree
 NINE_DIGITS = 10**9
@@ -7,6 +9,12 @@ NINE_DIGITS = 10**9
 def rounded(number, size):
     """The quotient, rounded to the nearest, a half upward."""
     return (2 * number + size) // (2 * size)
+
+
+def root(square):
+    """The square root of a whole number, rounded to the nearest."""
+    found = isqrt(square)
+    return found + (square - found * found > found)
 
 
 def toward(now, target, most):
