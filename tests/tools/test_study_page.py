@@ -143,6 +143,11 @@ class Document(Studies):
         for name, *_ in ratios.RATIOS:
             self.assertIn(name.partition(":")[0], text)
 
+    def test_the_table_of_the_example_has_the_rows_of_a_table(self):
+        """It is too large to be made here; its first encounters are those of the small table, which is made."""
+        table = re.search(r"(?m)^## An example\n[\s\S]*?((?:^\|.*\|\n)+)", read(DOCUMENT))[1].splitlines()
+        self.assertEqual([it.split("|")[1].strip() for it in table[2:]], [name for name, _ in ratios.lines_of([{**ROW, "encounter": 0}])])
+
     def test_the_defaults_are_told(self):
         """The table of keys has the default of each number and range."""
         text, plain = read(DOCUMENT), {**vars(Pilot()), **vars(Sensors()), **vars(Draw())}
