@@ -1,6 +1,5 @@
 -- Tests of a flight whose legs are kept.
-use Rattle.std.proofs.Common.{◌≡◌, ◌↔◌, ⊎_elim, ℕ, ◌+◌, ◌<◌, ◌≤◌, Bool, List, ap, sym, subst, ◌∙◌, arith}
-use Rattle.std.proofs.lemmas.Bool.{cases_lt}
+use Rattle.std.proofs.Common.{◌≡◌, ◌↔◌, ℕ, ◌+◌, ◌<◌, ◌≤◌, Bool, List, ap, sym, subst, ◌∙◌, arith}
 use Rattle.std.specs.Prelude.{IsTrue, slice_index_or}
 use Rattle.daa_fixed.specs.declared.Leg.{Leg}
 use Rattle.daa_fixed.specs.declared.Solid.{Solid}
@@ -66,23 +65,3 @@ module _ (settings : Settings) (own : Own) (candidate : Candidate) (aircraft : T
       let run = subst (λ (l : OwnLeg). IsRunOf own (rates_of settings) candidate k (record { place = l.place; velocity = l.velocity; secs = secs })) (sym e) there in
       let o = seconds run in
       subst (λ (n : ℕ). IsTrue hit ↔ MeetsBetween settings own candidate aircraft volume k n) s ((λ t. o.0 (tests.0 t)), (λ v. tests.1 (o.1 v)))
-
-  -- none of the legs from the first on before k violates
-  abbrev pub AreFreeBetween : (first k : ℕ) → Type 0
-  AreFreeBetween first k = (j : ℕ) → first ≤ j → j < k → ¬ ViolatesOn settings own candidate aircraft volume j
-
-  pub free_more : (first k : ℕ) → ¬ ViolatesOn settings own candidate aircraft volume k → AreFreeBetween first k → AreFreeBetween first (k + 1)
-  free_more first k none h j from lt v = ⊎_elim
-      (λ before. h j from before v)
-      (λ ge. none (subst (λ (i : ℕ). ViolatesOn settings own candidate aircraft volume i) (omega (arith, ge, lt)) v))
-      (cases_lt j k)
-
-  pub free_all : (first upto k : ℕ) → upto ≤ k → AreFreeBetween first k → MeetsBetween settings own candidate aircraft volume first upto → ⊥
-  free_all first upto k le h m = h m.leg m.not_before (omega (arith, le, m.before)) m.violates
-
-  -- what is met from a leg on where none before it violates
-  pub free_rest : (first upto k : ℕ) → first ≤ k → AreFreeBetween first k → MeetsBetween settings own candidate aircraft volume k upto ↔ MeetsBetween settings own candidate aircraft volume first upto
-  free_rest first upto k le h = (
-    (λ m. record { leg = m.leg; not_before = omega (arith, le, m.not_before); before = m.before; violates = m.violates }),
-    (λ m. record { leg = m.leg; not_before = ⊎_elim (λ lt. absurd (h m.leg m.not_before lt m.violates)) (λ ge. ge) (cases_lt m.leg k); before = m.before; violates = m.violates }),
-  )

@@ -2,8 +2,8 @@
 //! seconds. Nothing here takes memory.
 #![tactic(auto)]
 
-mod kept;
+mod straight;
 mod walk;
 
-pub use kept::meets_along;
+pub use straight::meets_on_run;
 pub use walk::meets_between;

@@ -4,51 +4,12 @@ use Rattle.std.specs.Prelude.{slice_get, int_lt}
 use Rattle.std.proofs.lemmas.Int.{ints}
 use Rattle.std.proofs.lemmas.Bool.{cases_lt}
 use Rattle.std.proofs.lemmas.Option.{same_Some, slice_get_within}
-use Rattle.daa_config.specs.declared.candidate.Candidate.{Candidate}
 use Rattle.daa_config.specs.declared.kind.Kind.{Kind}
 use Rattle.daa_config.specs.Candidates.{values_of, candidate_to}
 use Rattle.daa_recovery.specs.OutlookState.{OutlookState}
 use Rattle.daa_recovery.specs.Recovery.{Recovers, RecoversAt, IsFound}
 use Rattle.daa_recovery.specs.Inside.Search.{placed, bound_of, bound_for, IsBeforeHorizon, IsFirstFound, IsFoundBelow, IsLeastAt, IsLeastTime}
 use Rattle.daa_recovery.specs.declared.recovery.Recovery.{Recovery}
-use Rattle.daa_recovery.proofs.LaterSeconds.{lasts}
-
-module _ (p : OutlookState) (candidate : Candidate) where
-  -- ---- the least time of a candidate
-
-  -- what does not recover at a time recovers at none before
-  pub not_before : (m : ℕ) → ¬ Recovers p candidate m → (k : ℕ) → k ≤ m → ¬ Recovers p candidate k
-  not_before m none k le r = none (lasts p candidate k m le r)
-
-  -- it recovers at high, and at none from 1 up to low
-  pub record IsHalved (time low high : ℕ) : Type 0 where
-    pub ordered : low < high
-    pub most : high ≤ time
-    pub recovers : Recovers p candidate high
-    pub none : (m : ℕ) → 1 ≤ m → m ≤ low → ¬ Recovers p candidate m
-
-  pub halved_first : (time : ℕ) → 1 ≤ time → Recovers p candidate time → IsHalved time 0 time
-  halved_first time one r = record { ordered = one; most = omega arith; recovers = r; none = λ m one le. absurd (omega (arith, one, le)) }
-
-  pub halved_high : (time low middle high : ℕ) → low < middle → middle < high → Recovers p candidate middle → IsHalved time low high → IsHalved time low middle
-  halved_high time low middle high a b r h = record { ordered = a; most = omega (arith, b, h.most); recovers = r; none = h.none }
-
-  pub halved_low : (time low middle high : ℕ) → low < middle → middle < high → ¬ Recovers p candidate middle → IsHalved time low high → IsHalved time middle high
-  halved_low time low middle high a b none h = record { ordered = b; most = h.most; recovers = h.recovers; none = λ m one le. not_before middle none m le }
-
-  pub halved_all : (time low high : ℕ) → high ≤ low + 1 → IsHalved time low high → IsLeastAt p candidate (time + 1) high
-  halved_all time low high e h = record {
-    some = omega (arith, h.ordered);
-    below = omega (arith, h.most);
-    recovers = h.recovers;
-    none_sooner = λ m one lt. h.none m one (omega (arith, e, lt));
-  }
-
-  pub none_below : (bound : ℕ) → bound < 2 → IsLeastTime p candidate bound None
-  none_below bound h m one lt = absurd (omega (arith, h, one, lt))
-
-  pub none_at : (bound : ℕ) → ¬ Recovers p candidate bound → IsLeastTime p candidate (bound + 1) None
-  none_at bound none m one lt = not_before bound none m (omega (arith, lt))
 
 -- ---- value by value
 

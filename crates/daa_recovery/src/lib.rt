@@ -2,11 +2,14 @@
 //! Nothing here takes memory.
 #![tactic(auto)]
 
-mod course;
 mod laws;
+mod needs;
 mod order;
 mod outlook;
 mod recovery;
+mod rest;
+mod side;
+mod walk;
 
 pub use laws::{
     has_one_recovery, recovering_lasts, the_cylinder_is_what_is_near,

@@ -1,26 +1,23 @@
 //! A configuration with a moment and the cylinder: which candidates recover, and when.
 
-ghost use Rattle.std.specs.Prelude.{◌≡◌, ◌↔◌, ◌<◌, ◌≤◌, ◌+◌, ℕ, int_lt, IsTrue};
-ghost use Rattle.std.specs.Prelude.{Some, None, length, slice_get};
+ghost use Rattle.std.specs.Prelude.{◌≡◌, ◌<◌, ◌+◌, ℤ, int_lt};
+ghost use Rattle.std.specs.Prelude.{Some, length, slice_get};
 ghost use Rattle.daa_config.specs.Candidates.{values_of, candidate_to as to_value};
 ghost use Rattle.daa_config.specs.Settings.{IsAccepted, IsCandidateInRange};
-ghost use Rattle.daa_taumod.specs.Volume.{IsVolumeInRange};
-ghost use Rattle.daa_legs.specs.Meeting.{MeetsWithin};
-ghost use Rattle.daa_legs.specs.Runs.{MeetsBetween};
+ghost use Rattle.daa_legs.specs.Branch.{lead_of};
 ghost use Rattle.daa_state.specs.InRange.{IsPictureInRange, IsTrafficInRange};
 ghost use Rattle.daa_state.specs.Picture.{aircraft_of};
 ghost use Rattle.daa_recovery.specs.OutlookState.{IsHorizon};
-ghost use Rattle.daa_recovery.specs.Inside.OutlookState.{IsOutlook};
-ghost use Rattle.daa_recovery.specs.Recovery.{IsClosedFrom, IsClear, Recovers, IsFound};
-ghost use Rattle.daa_recovery.specs.Inside.Search.{IsCourse, IsFoundBelow, placed};
+ghost use Rattle.daa_recovery.specs.Recovery.{IsFound};
+ghost use Rattle.daa_recovery.specs.Inside.Search.{IsFoundBelow, placed};
 ghost use Rattle.daa_recovery.specs.Inside.Search.{IsBeforeHorizon, bound_for, IsLeastTime};
+ghost use Rattle.daa_recovery.specs.Inside.Sides.{IsSide, AreSides};
 
-use crate::course::Course;
 use crate::order::place;
 use crate::recovery::Recovery;
+use crate::side::{PLACES, Side, Sides, lead_to};
 use daa_config::{Candidate, Config, Kind};
 use daa_legs::{Trunk, branch_of};
-use daa_meet::meets_along;
 use daa_resolve::present;
 use daa_state::{Picture, Traffic};
 use daa_taumod::Volume;
@@ -30,10 +27,10 @@ use std::marker::Model;
 /// seconds ahead it looks. Contracts see it as an `OutlookState`.
 #[derive(Drop)]
 pub(crate) struct Outlook<'a> {
-    config: &'a Config,
-    picture: &'a Picture,
-    cylinder: &'a Volume,
-    horizon: u32,
+    pub(crate) config: &'a Config,
+    pub(crate) picture: &'a Picture,
+    pub(crate) cylinder: &'a Volume,
+    pub(crate) horizon: u32,
 }
 
 impl<'a> Model for Outlook<'a> {
@@ -84,23 +81,62 @@ impl<'a> Outlook<'a> {
     pub(crate) fn least(&self, kind: Kind) -> Option<Recovery>
         ensures { IsFound self.now kind result }
     {
+        let mut sides = self.sides_of(kind);
         let mut found = None;
         for index in 0..self.config.count(kind) {
-            found = self.try_value(kind, index, found);
+            found = self.try_value(kind, index, found, &mut sides);
         }
         found
     }
 
+    /// Both sides of a kind, of which no leg was walked so far.
+    fn sides_of(&self, kind: Kind) -> Sides
+        ensures { AreSides self.now kind result }
+    {
+        Sides {
+            upper: self.side_of(kind, true),
+            lower: self.side_of(kind, false),
+        }
+    }
+
+    /// A side of a kind, of which no leg was walked so far.
+    fn side_of(&self, kind: Kind, upper: bool) -> Side
+        ensures side { IsSide self.now result }
+        ensures lead { (z : ℤ) → result.lead
+            ≡ lead_of self.now.picture.own (to_value kind z) upper }
+    {
+        let own = &self.picture.own;
+        let lead = lead_to(own, kind, upper);
+        let mut legs = Trunk::new();
+        legs.fill(own, self.config, lead, self.horizon);
+        Side {
+            lead,
+            legs,
+            walked: 0,
+            struck: false,
+            lasts: [0; PLACES],
+        }
+    }
+
     /// The best of the candidates of a kind up to the one at an index; `found` is the best of the
     /// candidates before it.
-    fn try_value(&self, kind: Kind, index: u32, found: Option<Recovery>) -> Option<Recovery>
+    fn try_value(
+        &self,
+        kind: Kind,
+        index: u32,
+        found: Option<Recovery>,
+        sides: &mut Sides,
+    ) -> Option<Recovery>
         requires index { index < length (values_of kind self.now.settings) }
         requires found { IsFoundBelow self.now kind index found }
-        ensures { IsFoundBelow self.now kind (index + 1) result }
+        requires sides { AreSides self.now kind sides.old }
+        ensures found { IsFoundBelow self.now kind (index + 1) result }
+        ensures sides { AreSides self.now kind sides.new }
     {
         let value = self.config.value(kind, index);
         let candidate = candidate_going_to(kind, &value);
-        match self.sooner_time(candidate, self.bound(kind, &found, &value)) {
+        let bound = self.bound(kind, &found, &value);
+        match self.sooner_time(kind, candidate, bound, sides) {
             Some(after) => Some(Recovery { after, value }),
             None => found,
         }
@@ -131,140 +167,32 @@ impl<'a> Outlook<'a> {
     }
 
     /// The least time below a bound at which the candidate recovers, if there is one.
-    fn sooner_time(&self, candidate: Candidate, bound: u32) -> Option<u32>
-        requires { IsCandidateInRange candidate }
-        ensures { IsLeastTime self.now candidate bound result }
+    fn sooner_time(
+        &self,
+        kind: Kind,
+        candidate: Candidate,
+        bound: u32,
+        sides: &mut Sides,
+    ) -> Option<u32>
+        requires candidate { IsCandidateInRange candidate }
+        requires kind { (z : ℤ) × (candidate ≡ to_value kind z) }
+        requires sides { AreSides self.now kind sides.old }
+        ensures time { IsLeastTime self.now candidate bound result }
+        ensures sides { AreSides self.now kind sides.new }
     {
         if bound < 2 {
             return None;
         }
-        let course = self.course_of(candidate);
-        if !self.recovers(&course, bound - 1) {
-            return None;
+        let branch = branch_of(&self.picture.own, &self.config.rates(), candidate);
+        if branch.upper {
+            self.time_along(&mut sides.upper, candidate, &branch, bound)
+        } else {
+            self.time_along(&mut sides.lower, candidate, &branch, bound)
         }
-        Some(self.earliest_time(&course, bound - 1))
-    }
-
-    /// The candidate's flight as far as the horizon.
-    fn course_of(&self, candidate: Candidate) -> Course
-        requires { IsCandidateInRange candidate }
-        ensures course { IsCourse self.now result }
-        ensures candidate { result.candidate ≡ candidate }
-    {
-        let own = &self.picture.own;
-        let mut legs = Trunk::new();
-        legs.fill(own, self.config, candidate, self.horizon);
-        let branch = branch_of(own, &self.config.rates(), candidate);
-        Course {
-            candidate,
-            legs,
-            settles: branch.settles,
-        }
-    }
-
-    /// The least time up to one at which the candidate recovers.
-    fn earliest_time(&self, course: &Course, time: u32) -> u32
-        requires course { IsCourse self.now course.now }
-        requires some { 1 ≤ time }
-        requires recovers { Recovers self.now course.now.candidate time }
-        ensures { IsLeastTime self.now course.now.candidate (time + 1) (Some result) }
-    {
-        let mut low = 0;
-        let mut high = time;
-        while high - low > 1 {
-            let middle = low + (high - low) / 2;
-            if self.recovers(course, middle) {
-                high = middle;
-            } else {
-                low = middle;
-            }
-        }
-        high
-    }
-
-    /// Whether the candidate recovers at second `m`: each aircraft is clear of it.
-    fn recovers(&self, course: &Course, m: u32) -> bool
-        requires { IsCourse self.now course.now }
-        ensures { IsTrue result ↔ Recovers self.now course.now.candidate m }
-    {
-        for place in 0..self.picture.traffic.len() as u32 {
-            if !self.is_clear(course, m, self.aircraft(place)) {
-                return false;
-            }
-        }
-        true
-    }
-
-    /// Whether the candidate keeps clear of an aircraft: it violates no level that closes from
-    /// second `m` on within the level's lookahead, and is not in the cylinder before the horizon.
-    fn is_clear(&self, course: &Course, m: u32, aircraft: &Traffic) -> bool
-        requires course { IsCourse self.now course.now }
-        requires aircraft { IsTrafficInRange aircraft.now }
-        ensures { IsTrue result ↔ IsClear self.now course.now.candidate m aircraft.now }
-    {
-        !self.is_closed_from(course, m, aircraft) && !self.is_in_cylinder(course, aircraft)
-    }
-
-    /// Whether the candidate comes into the cylinder round the aircraft before the horizon.
-    fn is_in_cylinder(&self, course: &Course, aircraft: &Traffic) -> bool
-        requires course { IsCourse self.now course.now }
-        requires aircraft { IsTrafficInRange aircraft.now }
-        ensures { IsTrue result
-            ↔ MeetsWithin self.now.settings self.now.picture.own course.now.candidate aircraft.now
-            self.now.cylinder self.now.horizon }
-    {
-        self.meets(course, aircraft, self.cylinder, 0, self.horizon)
-    }
-
-    /// Whether the candidate violates a level that closes, from second `m` on and within the
-    /// level's lookahead.
-    fn is_closed_from(&self, course: &Course, m: u32, aircraft: &Traffic) -> bool
-        requires course { IsCourse self.now course.now }
-        requires aircraft { IsTrafficInRange aircraft.now }
-        ensures { IsTrue result ↔ IsClosedFrom self.now course.now.candidate m aircraft.now }
-    {
-        for l in self.config.resolve()..self.config.levels() + 1 {
-            let level = self.config.level(l);
-            if self.meets(course, aircraft, &level.volume, m, level.lookahead) {
-                return true;
-            }
-        }
-        false
-    }
-
-    /// Whether the candidate violates a volume round the aircraft on one of the legs from `first`
-    /// on, before `upto`.
-    fn meets(
-        &self,
-        course: &Course,
-        aircraft: &Traffic,
-        volume: &Volume,
-        first: u32,
-        upto: u32,
-    ) -> bool
-        requires course { IsCourse self.now course.now }
-        requires aircraft { IsTrafficInRange aircraft.now }
-        requires volume { IsVolumeInRange volume.now }
-        requires ahead { upto ≤ self.now.horizon }
-        ensures { IsTrue result
-            ↔ MeetsBetween self.now.settings self.now.picture.own course.now.candidate
-            aircraft.now volume.now first upto }
-    {
-        meets_along(
-            self.config,
-            &self.picture.own,
-            course.candidate,
-            &course.legs,
-            course.settles,
-            aircraft,
-            volume,
-            first,
-            upto,
-        )
     }
 
     /// The aircraft at a place of the moment's list.
-    fn aircraft(&self, place: u32) -> &Traffic
+    pub(crate) fn aircraft(&self, place: u32) -> &Traffic
         requires { place < length (aircraft_of self.now.picture) }
         ensures listed { slice_get (aircraft_of self.now.picture) place ≡ Some result.now }
         ensures in_range { IsTrafficInRange result.now }

@@ -2,20 +2,10 @@
 use Rattle.std.specs.Prelude.{ℕ, ℤ, ◌≤◌, ◌<◌, ◌+◌, ◌≤ℤ◌, int_lt, if◌then◌else◌, Option, Some, None}
 use Rattle.daa_config.specs.declared.candidate.Candidate.{Candidate}
 use Rattle.daa_config.specs.declared.kind.Kind.{Kind}
-use Rattle.daa_config.specs.Settings.{IsCandidateInRange, rates_of}
-use Rattle.daa_legs.specs.Branch.{FliesOn}
-use Rattle.daa_legs.specs.Trunk.{AreLegsOf}
 use Rattle.daa_recovery.specs.OutlookState.{OutlookState}
 use Rattle.daa_recovery.specs.Order.{place_of}
 use Rattle.daa_recovery.specs.Recovery.{Recovers, RecoversAt}
 use Rattle.daa_recovery.specs.declared.recovery.Recovery.{Recovery}
-use Rattle.daa_recovery.specs.declared.course.Course.{Course}
-
--- its legs up to the horizon are kept, and from leg `settles` on it keeps one velocity
-pub record IsCourse (p : OutlookState) (course : Course) : Type 0 where
-  pub in_range : IsCandidateInRange course.candidate
-  pub legs : AreLegsOf p.picture.own (rates_of p.settings) course.candidate p.horizon course.legs
-  pub straight : FliesOn p.picture.own (rates_of p.settings) course.candidate course.settles
 
 -- the time below which no value so far recovers
 abbrev pub bound_of : OutlookState → Option Recovery → ℕ

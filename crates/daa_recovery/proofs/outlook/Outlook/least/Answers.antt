@@ -12,4 +12,4 @@ returns c = found_all c.args.self.now c.args.kind c.loop-index.index c.loop-inde
       c.count-index-end.ensures.value,
       ap (λ (p : OutlookState). length (values_of c.args.kind p.settings)) c.self.view_is,
     ))
-    c.loop-index.invariant
+    c.loop-index.invariant.found

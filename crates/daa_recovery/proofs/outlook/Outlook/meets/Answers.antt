@@ -1,31 +1,41 @@
-use Rattle.std.proofs.Common.{◌↔◌, sym, subst, arith}
-use Rattle.std.specs.Prelude.{IsTrue}
-use Rattle.daa_config.specs.Settings.{rates_of}
-use Rattle.daa_legs.specs.Branch.{FliesOn}
-use Rattle.daa_legs.specs.Trunk.{AreLegsOf}
-use Rattle.daa_legs.specs.Runs.{MeetsBetween}
-use Rattle.daa_meet.proofs.Keeping.{fewer_legs}
-use Rattle.daa_recovery.specs.OutlookState.{OutlookState}
-use Rattle.daa_recovery.specs.Inside.OutlookState.{IsOutlook}
-use Rattle.daa_recovery.proofs.Horizons.{horizon_short}
+use Rattle.std.proofs.Common.{◌≡◌, ◌-◌, ◌+◌, ◌<◌, ◌∙◌, ℕ, arith}
+use Rattle.daa_recovery.proofs.StraightRests.{rest_place, rest_short, rest_small, rest_slow, rest_run-in_range, run_tested}
 use Rattle.daa_recovery.proofs.outlook.Outlook.meets.Goals as goal
 
-pub meets_along-requires-clause-upto : goal.meets_along-requires-clause-upto
-meets_along-requires-clause-upto c =
-    let p = subst (λ (p : OutlookState). IsOutlook p) c.self.view_is c.self.invariant in
-    let short = horizon_short _ _ p.accepted p.horizon in omega (arith, short, c.requires.ahead)
+pub returns-then-first-upto : goal.returns-then-first-upto
+returns-then-first-upto c = ((λ t. absurd (cc t)), (λ m. absurd (omega (arith, c.if-first-upto.true, m.not_before, m.before))))
 
-pub meets_along-requires-clause-legs : goal.meets_along-requires-clause-legs
-meets_along-requires-clause-legs c =
-    let legs = fewer_legs c.args.self.now.picture.own (rates_of c.args.self.now.settings) c.args.course.now.candidate
-    c.args.self.now.horizon c.args.upto c.args.course.now.legs c.requires.ahead c.requires.course.legs in
-    subst (λ (p : OutlookState). AreLegsOf p.picture.own (rates_of p.settings) c.args.course.now.candidate c.args.upto c.args.course.now.legs) (sym c.self.view_is) legs
+pub place_at-requires-clause-place : goal.place_at-requires-clause-place
+place_at-requires-clause-place c = rest_small c.args.self.now c.args.candidate c.args.rest.now c.requires.rest
 
-pub meets_along-requires-clause-straight : goal.meets_along-requires-clause-straight
-meets_along-requires-clause-straight c =
-    subst (λ (p : OutlookState). FliesOn p.picture.own (rates_of p.settings) c.args.course.now.candidate c.args.course.now.settles) (sym c.self.view_is) c.requires.course.straight
+pub place_at-requires-clause-velocity : goal.place_at-requires-clause-velocity
+place_at-requires-clause-velocity c = rest_slow c.args.self.now c.args.candidate c.args.rest.now c.requires.rest
+
+pub place_at-requires-clause-k : goal.place_at-requires-clause-k
+place_at-requires-clause-k c =
+    let short = rest_short c.args.self.now c.args.candidate c.args.rest.now c.requires.rest in (c.requires.first, omega (arith, c.if-first-upto.false, c.requires.upto, short))
+
+pub meets_on_run-requires-clause-run : goal.meets_on_run-requires-clause-run
+meets_on_run-requires-clause-run c =
+    let short = rest_short c.args.self.now c.args.candidate c.args.rest.now c.requires.rest in
+    rest_run-in_range c.args.self.now c.args.candidate c.args.rest.now c.requires.rest c.args.first (c.args.upto - c.args.first) c.place_at.result
+    (omega (arith, c.if-first-upto.false, c.requires.upto, short)) (omega (arith, c.if-first-upto.false))
+    (c.place_at.ensures ∙ rest_place c.args.self.now c.args.candidate c.args.rest.now c.requires.rest c.args.first c.requires.first)
+
+pub meets_on_run-requires-clause-k : goal.meets_on_run-requires-clause-k
+meets_on_run-requires-clause-k c =
+    let short = rest_short c.args.self.now c.args.candidate c.args.rest.now c.requires.rest in omega (arith, c.if-first-upto.false, c.requires.upto, short)
+
+pub meets_on_run-requires-clause-short : goal.meets_on_run-requires-clause-short
+meets_on_run-requires-clause-short c =
+    let short = rest_short c.args.self.now c.args.candidate c.args.rest.now c.requires.rest in omega (arith, c.requires.upto, short)
+
+whole : (k upto : ℕ) → k < upto → k + (upto - k) ≡ upto
+whole k upto h = omega (arith, h)
 
 pub returns : goal.returns
 returns c =
-    subst (λ (p : OutlookState). IsTrue c.meets_along.result ↔ MeetsBetween p.settings p.picture.own c.args.course.now.candidate c.args.aircraft.now c.args.volume.now c.args.first c.args.upto)
-    c.self.view_is c.meets_along.ensures
+    run_tested c.args.self.now c.args.candidate c.args.rest.now c.requires.rest c.args.aircraft.now c.args.volume.now c.args.first (c.args.upto - c.args.first) c.args.upto c.place_at.result
+    c.meets_on_run.result c.requires.first (whole c.args.first c.args.upto (omega (arith, c.if-first-upto.false)))
+    (c.place_at.ensures ∙ rest_place c.args.self.now c.args.candidate c.args.rest.now c.requires.rest c.args.first c.requires.first)
+    (c.meets_on_run.ensures c.args.self.now.settings c.args.self.now.picture.own c.args.candidate)

@@ -13,8 +13,8 @@ renamed : (p : OutlookState) (c d : Candidate) (b e : ℕ) (t u : Option ℕ) �
 renamed p c d b e t u f g h x =
     subst (IsLeastTime p d e) h (subst (λ (n : ℕ). IsLeastTime p d n t) g (subst (λ (k : Candidate). IsLeastTime p k b t) f x))
 
-pub returns-in-Some : goal.returns-in-Some
-returns-in-Some c =
+pub returns-in-Some-clause-found : goal.returns-in-Some-clause-found
+returns-in-Some-clause-found c =
     let v : ℤ = c.value-value.result in
     let f : FitsSigned w32 v = search rules in
     let back : to_z w32 (of_z w32 v) ≡ v = to_z-of_z w32 v f in
@@ -22,12 +22,12 @@ returns-in-Some c =
     let there = subst (λ (q : OutlookState). slice_get (values_of c.args.kind q.settings) c.args.index ≡ Some v) c.self.view_is c.value-value.ensures.value in
     let t = renamed p _ (candidate_to c.args.kind v) _ (bound_for p c.args.kind c.args.found v) _ (Some c.in-Some.after)
     (c.candidate_going_to-candidate.ensures ∙ ap (candidate_to c.args.kind) back)
-    (c.bound.ensures ∙ ap (bound_for p c.args.kind c.args.found) back) c.in-Some.is c.sooner_time.ensures in
+    (c.bound-bound.ensures ∙ ap (bound_for p c.args.kind c.args.found) back) c.in-Some.is c.sooner_time.ensures.time in
     subst (λ (z : ℤ). IsFoundBelow p c.args.kind (c.args.index + 1) (Some (record { after = c.in-Some.after; value = z }))) (sym back)
     (found_sooner p c.args.kind c.args.index v there c.args.found c.in-Some.after c.requires.found t)
 
-pub returns-in-None : goal.returns-in-None
-returns-in-None c =
+pub returns-in-None-clause-found : goal.returns-in-None-clause-found
+returns-in-None-clause-found c =
     let v : ℤ = c.value-value.result in
     let f : FitsSigned w32 v = search rules in
     let back : to_z w32 (of_z w32 v) ≡ v = to_z-of_z w32 v f in
@@ -35,8 +35,8 @@ returns-in-None c =
     let there = subst (λ (q : OutlookState). slice_get (values_of c.args.kind q.settings) c.args.index ≡ Some v) c.self.view_is c.value-value.ensures.value in
     let t = renamed p _ (candidate_to c.args.kind v) _ (bound_for p c.args.kind c.args.found v) _ None
     (c.candidate_going_to-candidate.ensures ∙ ap (candidate_to c.args.kind) back)
-    (c.bound.ensures ∙ ap (bound_for p c.args.kind c.args.found) back) c.in-None.is c.sooner_time.ensures in
+    (c.bound-bound.ensures ∙ ap (bound_for p c.args.kind c.args.found) back) c.in-None.is c.sooner_time.ensures.time in
     found_kept p c.args.kind c.args.index v there c.args.found c.requires.found t
 
-pub bound-requires : goal.bound-requires
-bound-requires c = before_horizon c.args.self.now c.args.kind c.args.index c.args.found c.requires.found.first
+pub bound-bound-requires : goal.bound-bound-requires
+bound-bound-requires c = before_horizon c.args.self.now c.args.kind c.args.index c.args.found c.requires.found.first
