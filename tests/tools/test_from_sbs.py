@@ -198,9 +198,16 @@ class FromSbs(ToolTest):
         self.assertRegex(str(last.lacks), r"^\[\('\*', 'the decoder says nothing for [6-9] s'\)\]$", told)
 
     def test_the_last_word_of_a_decoder_that_ended(self):
-        """An aircraft.json that is not written any more tells nothing, whatever is in it."""
+        """An aircraft.json whose time stands tells nothing, whatever is in it, also where it is written again and again."""
         aircraft = {"hex": "4b0002", "lat": 47.1, "lon": 8, "seen_pos": 0.0, "altitude": 5000, "speed": 0, "track": 0, "vert_rate": 0}
-        path = self.write("aircraft.json", json.dumps({"now": time.time(), "aircraft": [aircraft]}))
+        path, stop = self.write("aircraft.json", json.dumps({"now": time.time(), "aircraft": [aircraft]})), threading.Event()
+        self.addCleanup(stop.set)
+
+        def touch():
+            while not stop.wait(0.3):
+                os.utime(path)
+
+        threading.Thread(target=touch, daemon=True).start()
         server = Server(lambda second: lines_of("4B0001", 47, 8, gs=0))
         self.addCleanup(server.close)
         out, told = self.opened(server, "--own", "4B0001", "--json", path, "--seconds", "4").communicate(timeout=60)
@@ -399,13 +406,29 @@ class Kept(unittest.TestCase):
         self.assertIn("traffic 4B0002 0 5960 3000 0 3600 0 0", self.sky.lines_at(T, True))
 
     def test_what_was_heard_long_ago_is_forgotten(self):
-        """After a day with a new aircraft each minute only those of the last minutes are kept."""
+        """After a day with a new aircraft each minute only those of the last minutes are kept, and of what is told at the end so many as may be."""
+        self.addCleanup(setattr, from_sbs, "SMALL_STEP", from_sbs.SMALL_STEP)
+        from_sbs.SMALL_STEP = 100
         for minute in range(1440):
             self.hear(60 * minute, "4B0001", f"{minute + 1:06X}")
             self.sky.lines_at(T + 60 * minute + 1, True)
         maker, heard = self.sky.maker, self.sky.heard
         self.assertLess(max(map(len, (heard.heard, heard.labels, maker.latest, maker.incomplete, maker.used, maker.ids))), 10)
-        self.assertLess(max(map(len, (maker.unused, maker.lacking, maker.steps))), 5001)
+        self.assertLessEqual(max(map(len, (maker.unused, maker.lacking, maker.steps))), 101)
+
+    def test_a_line_without_an_end_is_not_kept(self):
+        one, other = socket.socketpair()
+        lines = feeds.Lines("x:1", print)
+        lines.there = one
+        one.setblocking(False)
+        for _ in range(50):
+            other.sendall(b"x" * 10000)
+            self.assertEqual(lines.lines(0), [])
+            self.assertLessEqual(len(lines.rest), 512 + 10000)
+        other.sendall(b"\nMSG\n")
+        self.assertEqual(lines.lines(0), ["MSG"])
+        one.close()
+        other.close()
 
 
 class Clock(unittest.TestCase):
