@@ -1,4 +1,4 @@
-"""docs/TOOLS.md: each of its commands is run, in the order of the page, in a folder of its own, and writes what is shown.
+"""docs/TOOLS.md and docs/LIVE.md: each of their commands is run, in the page's order, in a folder of its own, and writes what is shown.
 
 An indented block is a command, unless the paragraph before it ends in `prints`: then it is what the command before writes,
 its first lines where that paragraph speaks of first lines, and else the whole. The status is 0, or N where the paragraph
@@ -14,7 +14,7 @@ from common import TOP, ToolTest, program
 import counting  # (in a folder that common names)
 from test_reports import tools_for_users
 
-PAGE = os.path.join(TOP, "docs", "TOOLS.md")
+PAGE, LIVE = (os.path.join(TOP, "docs", name) for name in ("TOOLS.md", "LIVE.md"))
 INSTALLED = ("parallel", "jq")  # not part of every system
 LINKED = ("tools", "examples")
 
@@ -58,8 +58,10 @@ class Page(ToolTest):
         os.chmod(script, 0o755)
 
     def run_block(self, block):
+        """Runs a command; a recording that is played as if it were heard now for five seconds alone, and a server on any port."""
+        block = block.replace(" --as-now ", " --as-now --seconds 5 ").replace("tools/show_live ", "tools/show_live --port 0 ")
         run = subprocess.run(["bash", "-c", "set -e -o pipefail\n" + block], cwd=self.folder, stdin=subprocess.DEVNULL, capture_output=True,
-                             text=True, timeout=300, env={**os.environ, "PYTHONDONTWRITEBYTECODE": "1"})
+                             text=True, timeout=300, env={**os.environ, "PYTHONDONTWRITEBYTECODE": "1", "DAIDALUS_PROGRAM": program()})
         return run.returncode, run.stdout, run.stderr
 
     def test_each_command_writes_what_is_shown(self):
@@ -76,6 +78,16 @@ class Page(ToolTest):
                     self.assertEqual(wrote[:len(output)] if is_beginning else wrote, output)
         self.assertGreaterEqual(len(commands), 18)
         self.assertGreaterEqual(shown, 5)
+
+    def test_the_commands_of_a_live_session(self):
+        """A recorded session is shown and logged, and its log is judged."""
+        with open(LIVE, encoding="utf-8") as file:
+            commands = commands_of(file.read())
+        self.assertEqual(len(commands), 2)
+        for block, *_ in commands:
+            ended, wrote, said = self.run_block(block)
+            self.assertEqual(ended, 0, said)
+        self.assertRegex(wrote, r"^logs/.*/001.states: [4-6] moments judged\n$")
 
     def test_each_tool_is_named(self):
         with open(PAGE, encoding="utf-8") as file:
