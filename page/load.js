@@ -21,7 +21,7 @@
   function begin(moments, name, more) {
     pause();
     Object.assign(state, { moments, name, told: [], alone: "", silence: "", index: 0, chosen: "p:", unfolded: false, untaken: "",
-      edits: new Map(), undone: [], redone: [], window: null, ...more });
+      flown: null, lesson: null, edits: new Map(), undone: [], redone: [], window: null, ...more });
     const some = Array.from({ length: Math.min(moments.length, 1000) }, (_, index) => moments.at(index));
     for (const view of state.views) if (view.look.auto) view.look.range = fitting(some);
     ui.survey();
@@ -187,9 +187,14 @@
   let opened = 0; // how often something was opened: what is read late gives way to what was opened after it
 
   function takeExample(name) {
-    const { config, states } = daa.examples.encounters[name];
     opened += 1;
     stopReading();
+    if (daa.lessons[name]) {
+      ui.takeLesson(name);
+      ui.showConfig();
+      return;
+    }
+    const { config, states } = daa.examples.encounters[name];
     ui.configure(0, daa.examples.configs[config], config);
     load([{ name: states, bytes: bytesOf(daa.examples.files[states]) }]);
     ui.showConfig();

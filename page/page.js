@@ -236,7 +236,7 @@
     state.views = [0, 1].map(() => ({ look: look(), desk: new Desk(module), edition: 0 }));
     state.surveys = [0, 1].map((place) => new ui.Survey(place, module));
     state.module = module;
-    fill($("example"), encounters);
+    fill($("example"), [...encounters, ...Object.keys(daa.lessons)]);
     $("example").insertAdjacentHTML("beforeend", '<option value="" hidden>own files</option>');
     fill($("preset"), configs);
     $("preset").insertAdjacentHTML("beforeend", '<option value="" hidden>own text</option>');

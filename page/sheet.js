@@ -59,7 +59,11 @@
   }
 
   /** The name of a file of the whole recording. */
-  const fileOf = (ending) => `${state.name.replace(/\.[^.]*$/, "") || "recording"}${state.edits.size ? "-changed" : ""}.${ending}`;
+  function fileOf(ending) {
+    const [name] = (state.flown?.recorded.name ?? state.name).split(/\.[^.]*$/);
+    const base = name.replace(/[^\w.-]+/g, "-") || "recording";
+    return `${base}${state.flown ? "-flown" : ""}${state.edits.size ? "-changed" : ""}.${ending}`;
+  }
 
   let isSaving = false;
   async function save(button, make, ending) {
@@ -122,5 +126,5 @@
   }
 
   addEventListener("beforeprint", paintSheet);
-  Object.assign(ui, { prepareSheet });
+  Object.assign(ui, { prepareSheet, shownAt });
 })();

@@ -25,6 +25,7 @@
     moments: null, reading: null, share: null, // the recording: what of it is read, and the worker that reads more
     silence: "", // why there is no moment after the last one
     stale: "", // why no answer may be shown: of a live feed, that the last moment is not the present one any more
+    flown: null, lesson: null, // what is flown in place of what was recorded; what is taught
     index: 0, current: null, edited: false, edits: new Map(), undone: [], redone: [], window: null, axis: null, playing: null,
     version: 0, chosen: "p:", held: null, compare: false, paper: false, unfolded: false, linesOpen: false };
   daa.page = state;
@@ -161,6 +162,7 @@
     ui.paintSummary();
     ui.paintProfile();
     ui.prepareSheet();
+    ui.paintWhatIf();
     ui.paintTime();
     document.body.dataset.settled = shownViews().every(isAnswered) ? "yes" : "no";
     if (ui.painted) ui.painted();

@@ -33,6 +33,26 @@ class Opened(PageTest):
         self.page.select("#own", "B 2")
         self.assertEqual(self.page.js("return [document.querySelector('#own').value, daa.page.current.own.alt]"), ["B  2", 2000])
 
+    def test_a_lesson_is_flown_and_left(self):
+        """By its list and buttons; the display is the program's report of the flown moment, and the outcome stands in the panel."""
+        self.page.select("#example", "lesson: crossing")
+        self.assertTrue(self.page.one("#lesson-question").is_displayed())
+        self.check_shown()
+        self.page.wait("document.body.dataset.surveyed === '121'")
+        self.page.click("#fly")
+        self.page.step_to(26)
+        self.check_shown()
+        self.assertIn("own ", self.page.states())
+        self.assertNotIn(" 10000 0 3000 0\n", self.page.states().split("traffic")[0])
+        self.page.wait("document.body.dataset.surveyed === '121'")
+        self.page.settle()
+        rows = self.page.js("return [...document.querySelectorAll('#outcome tbody tr')].map((it) => [...it.cells].map((cell) => cell.textContent))")
+        self.assertEqual([[row[0], row[1], row[5]] for row in rows], [["as recorded", "0.00", "3"], ["flown", "0.75", "3"]])
+        self.page.shot("whatif")
+        self.page.click("#unfly")
+        self.assertEqual(self.page.js("return [daa.page.name, daa.page.index]"), ["lesson: crossing", 20])
+        self.assertFalse(self.page.one("#outcome").is_displayed())
+
     def test_a_file_that_is_none(self):
         self.page.open_files(self.page.file("none.states", "nothing\n"))
         self.assertIn("none.states has no whole moment; line 1 was refused with code 2", self.page.text("#fault"))
