@@ -14,12 +14,11 @@ import unittest
 import browser
 import counting
 from common import CONFIG, TOP, program
-from live_server import wait_for
-from test_shown import LOOK
+from live_server import child_of, wait_for
+from test_shown import LOOK, OLD
 
 HERE = os.path.dirname(os.path.realpath(__file__))
 PYTHON = [sys.executable, "-B"]
-OLD = 3.7  # s: older than the present, and a little more that looking takes
 
 
 def free_port():
@@ -71,8 +70,7 @@ class Chain:
 
     def program(self):
         """The number of the program's process beside the server."""
-        asked = subprocess.run(["ps", "-o", "pid=", "--ppid", str(self.runs["server"].pid)], capture_output=True, text=True)
-        return int(asked.stdout.split()[0])
+        return child_of(self.runs["server"].pid)
 
     def close(self):
         self.is_over = True

@@ -1,7 +1,6 @@
 """The page as tools/show_live serves it, in Chromium: what it shows of moments of the present and of others, and wrong pages, each of
 which a test must refuse. The server is the tool's own, in this process; moments and reports are those of the tests."""
 import contextlib
-import io
 import json
 import socket
 import subprocess
@@ -12,11 +11,11 @@ import unittest
 import browser
 import counting
 from common import CONFIG, module, program
-import live_server
 from live_server import LINES, wait_for
 
 server = module("tools/show_live")
 LIVE = "live.js"
+OLD = 4.5  # s: older than the present, and what looking takes on a busy machine
 # What the page shows now: what its banner says, of which moment, and what is seen of bands, answers and report.
 LOOK = """
 const s = daa.page, banner = document.getElementById("live"), bands = document.querySelectorAll("figure[data-view='0'] svg [data-layer] path[data-level], figure[data-view='0'] svg [data-level]").length;
@@ -141,7 +140,7 @@ class LivePage(unittest.TestCase):
     def assert_nothing_old(self, seen):
         """No band, answer, alert or line of a report is shown as the present one of a moment that is older than three seconds, and a little more
         that looking takes."""
-        if seen["is"] != "past" and seen["time"] and seen["now"] - seen["time"] > 3.7:
+        if seen["is"] != "past" and seen["time"] and seen["now"] - seen["time"] > OLD:
             self.assertEqual((seen["said"], seen["lines"], seen["chips"], seen["answers"]), (False, 0, 0, 0), seen)
 
 
@@ -249,6 +248,26 @@ class Shown(LivePage):
         self.await_banner("live", "the program's report was the same ")
         self.assertTrue(self.await_banner("live", "NO REPORT OF THE PROGRAM since ")["said"])
 
+    def test_side_by_side(self):
+        """Both displays follow, and all moments are decided under both configurations."""
+        self.feed()
+        self.await_banner("live")
+        self.browser.js("document.getElementById('compare').click()")
+        length = self.look()["length"]
+        wait_for(lambda: self.look()["length"] >= length + 3, "more moments come")
+        wait_for(lambda: self.browser.js("return daa.page.surveys.every((it) => it.decided === daa.page.moments.length) && daa.page.views.every((it) => daa.ui.saidOf(it))"),
+                 "all are decided")
+        self.assertEqual(self.await_banner("live")["is"], "live")
+
+    def test_a_changed_configuration(self):
+        """The page goes on under the one that is typed, and says that the program has another."""
+        self.feed()
+        self.await_banner("live", "the same 2 times")
+        self.browser.js("""const it = document.getElementById("toml"); it.value = it.value.replace("alert = 25", "alert = 20"); it.dispatchEvent(new Event("input", { bubbles: true }));""")
+        seen = self.await_banner("live", "the configuration was changed here")
+        wait_for(lambda: self.look()["time"] > seen["time"] + 1 and self.look()["said"], "moments go on")
+        self.assertEqual(self.browser.js("return daa.live.differing"), 0)
+
     def test_slower_than_they_come(self):
         """While one moment is decided three come: the last of them is the next one shown."""
         self.open((LIVE, "const answer = await desk.ask(", "await new Promise((done) => setTimeout(done, 1000));\n    const answer = await desk.ask("))
@@ -282,37 +301,6 @@ def red_share(picture):
         image.src = "data:image/png;base64," + arguments[0];"""
     LivePage.browser.driver.get("about:blank")
     return LivePage.browser.driver.execute_async_script(script, picture)
-
-
-# A wrong page: the bug, the file, the text that is there once, what stands in its place, and the test that must fail.
-WRONG = (("no curtain", "live.css", "@keyframes down-0 { 0%, 99.9% { opacity: 0 } 100% { opacity: 1 } }\n@keyframes down-1 { 0%, 99.9% { opacity: 0 } 100% { opacity: 1 } }", "",
-          "test_a_page_that_stands_still"),
-         ("what is stale is ignored", LIVE, "follows && !isPresent()", "false", "test_the_feed_stops"),
-         ("bands of a stale moment stay", LIVE, "      state.stale = stale;\n", "", "test_the_feed_stops"),
-         ("an old moment is taken as present", LIVE, "ageOf(live.last) <= OLDEST &&", "", "test_moments_of_another_time"),
-         ("a moment that comes again is taken", LIVE, " && block.times[0] > live.heard", "", "test_a_connection_that_was_lost"),
-         ("a clock that is wrong is believed", LIVE, " && ageOf(live.last) >= -AHEAD", "", "test_a_clock_that_is_wrong"),
-         ("the comparison is left out", LIVE, "if (both.page === both.program) live.agreed", "if (true) live.agreed", "test_the_program_differs"),
-         ("a silent program is not told", LIVE, "if (live.last - live.compared <= OLDEST)", "if (live.compared)", "test_the_program_is_silent"),
-         ("a tab that comes back shows its old picture", LIVE, 'document.body.dataset.unseen = "yes";', "", "test_a_tab_that_was_hidden"),
-         ("all moments are kept", LIVE, "  function drop() {\n", "  function drop() {\n    return;\n", "test_memory_does_not_grow"),
-         ("a new moment takes away the one that is looked at", LIVE, "if (follows) {\n      ui.go", "if (true) {\n      ui.go", "test_looking_back"))
-
-
-class Wrong(unittest.TestCase):
-    """Wrong pages: each is the page with one bug, and the test that is named must fail on it, soon."""
-
-    def test_each_wrong_page_fails(self):
-        LivePage.setUpClass()
-        self.addCleanup(setattr, live_server, "LONG", live_server.LONG)
-        self.addCleanup(setattr, LivePage, "changes", ())
-        live_server.LONG = 15
-        for bug, file, old, new, name in WRONG:
-            with self.subTest(bug):
-                LivePage.changes = ((file, old, new),)
-                ran = unittest.TextTestRunner(stream=io.StringIO(), verbosity=0).run(unittest.TestSuite([Shown(name)]))
-                self.assertEqual((ran.testsRun, len(ran.skipped)), (1, 0))
-                self.assertTrue(ran.failures or ran.errors, f"{name} passes on a page in which: {bug}")
 
 
 if __name__ == "__main__":

@@ -29,6 +29,19 @@ def wait_for(act, what):
     return found
 
 
+def child_of(number):
+    """The process that a process has started."""
+    for name in filter(str.isdigit, os.listdir("/proc")):
+        try:
+            with open(f"/proc/{name}/stat", encoding="utf-8", errors="replace") as file:
+                parent = int(file.read().rpartition(")")[2].split()[1])
+        except OSError:
+            continue  # it has ended meanwhile
+        if parent == number:
+            return int(name)
+    raise AssertionError(f"{number} has started no process")
+
+
 class Live:
     """A server under way."""
 

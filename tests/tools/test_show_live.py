@@ -3,13 +3,12 @@ import os
 import re
 import signal
 import socket
-import subprocess
 import time
 
 import unittest
 
 from common import CONFIG, TOP, ToolTest, program, replayed
-from live_server import LINES, Listener, Live, moment, wait_for
+from live_server import LINES, Listener, Live, child_of, moment, wait_for
 
 
 def asked(port, text, wait=0.4):
@@ -213,11 +212,6 @@ class Shown(LiveTest):
         status, out, _ = self.judged(live.folder)
         self.assertEqual(status, 1, out)
         self.assertIn("0 moments judged, NOT THE SAME: between the lines 1 and 11 of the states; the rest is not judged\n", out)
-
-
-def child_of(number):
-    """The process that a process has started."""
-    return int(subprocess.run(["ps", "-o", "pid=", "--ppid", str(number)], capture_output=True, text=True).stdout.split()[0])
 
 
 class Judged(LiveTest):
