@@ -66,7 +66,7 @@ module _ (a b c : ℤ) where
       tt
 
   -- the value at n/d is at most 0, and that at m/e is above
-  loses : (m e n d : ℤ) → pos 1 ≤ℤ d → value n d ≤ℤ pos 0 → pos 0 <ℤ value m e → (value n d *ℤ (e *ℤ e) -ℤ value m e *ℤ (d *ℤ d)) <ℤ pos 0
+  pub loses : (m e n d : ℤ) → pos 1 ≤ℤ d → value n d ≤ℤ pos 0 → pos 0 <ℤ value m e → (value n d *ℤ (e *ℤ e) -ℤ value m e *ℤ (d *ℤ d)) <ℤ pos 0
   loses m e n d d1 low high = fewer _ _
       (mul_nonneg _ _ (turned _ low) (square_nonneg e)) (mul_pos _ _ high (mul_pos d d (omega (arith, ints, d1)) (omega (arith, ints, d1))))
       (let V = # 0 in let E = # 1 in ring (value n d ∷ e ∷ []) (⊝ V ⊗ (E ⊗ E)) (⊝ (V ⊗ (E ⊗ E))) tt)
@@ -151,6 +151,60 @@ module _ (a b c : ℤ) where
             ring (a ∷ b ∷ c ∷ []) (lit (pos 0) ⊖ (A ⊗ ⊝ B ⊗ ⊝ B ⊕ lit (pos 2) ⊗ B ⊗ ⊝ B ⊗ A ⊕ C ⊗ A ⊗ A)) (A ⊗ (B ⊗ B ⊖ A ⊗ C)) tt)
             (mul_nonneg a _ (less _ _ bends) t.reaches);
       }
+
+  -- a time between the two at which the value is at most 0 and does not grow
+  pub record HasNearing (p q n d : ℤ) : Type 0 where
+    pub num : ℤ
+    pub den : ℤ
+    pub fraction : pos 1 ≤ℤ den
+    pub from : (p *ℤ den) ≤ℤ (num *ℤ q)
+    pub upto : (num *ℤ d) ≤ℤ (n *ℤ den)
+    pub low : value num den ≤ℤ pos 0
+    pub slows : slope num den ≤ℤ pos 0
+
+  module _ (p q n d : ℤ) (q1 : pos 1 ≤ℤ q) (d1 : pos 1 ≤ℤ d) (order : (p *ℤ d) ≤ℤ (n *ℤ q)) (high : pos 0 <ℤ value p q) (low : value n d ≤ℤ pos 0) where
+    at_vertex : pos 0 <ℤ slope n d → pos 0 <ℤ a → HasNearing p q n d
+    at_vertex up a1 = record {
+      num = neg_ℤ b;
+      den = a;
+      fraction = omega (arith, ints, a1);
+      from = by_rest _ _ _
+          (let A = # 0 in let B = # 1 in let P = # 2 in let Q = # 3 in ring (a ∷ b ∷ p ∷ q ∷ []) (⊝ B ⊗ Q ⊖ P ⊗ A) (⊝ (Q ⊗ B ⊕ P ⊗ A)) tt)
+          (turned _ (less _ _ (falls_first _ a (n *ℤ q -ℤ p *ℤ d) d (slope p q) (gain p q n d) (less _ _ a1) (rest _ _ order) (omega (arith, ints, d1)) (loses p q n d d1 low high))));
+      upto = by_rest _ _ _
+          (let A = # 0 in let B = # 1 in let N = # 2 in let D = # 3 in ring (a ∷ b ∷ n ∷ d ∷ []) (N ⊗ A ⊖ ⊝ B ⊗ D) (D ⊗ B ⊕ N ⊗ A) tt)
+          (less _ _ up);
+      low = by_rest _ _ _
+          (let A = # 0 in let B = # 1 in let C = # 2 in
+          ring (a ∷ b ∷ c ∷ []) (lit (pos 0) ⊖ (A ⊗ ⊝ B ⊗ ⊝ B ⊕ lit (pos 2) ⊗ B ⊗ ⊝ B ⊗ A ⊕ C ⊗ A ⊗ A)) (A ⊗ (B ⊗ B ⊖ A ⊗ C)) tt)
+          (mul_nonneg a _ (less _ _ a1) (reaching (less _ _ a1)));
+      slows = by_rest _ _ _
+          (let A = # 0 in let B = # 1 in ring (a ∷ b ∷ []) (lit (pos 0) ⊖ (A ⊗ B ⊕ ⊝ B ⊗ A)) (lit (pos 0)) tt)
+          (omega (arith, ints));
+    }
+      where
+        reaching : pos 0 ≤ℤ a → pos 0 ≤ℤ (b *ℤ b -ℤ a *ℤ c)
+        reaching a0 = cancel_le (d *ℤ d) _ (mul_pos d d (omega (arith, ints, d1)) (omega (arith, ints, d1)))
+            (subst (λ (z : ℤ). pos 0 ≤ℤ z)
+            (let A = # 0 in let B = # 1 in let C = # 2 in let N = # 3 in let D = # 4 in
+            ring (a ∷ b ∷ c ∷ n ∷ d ∷ [])
+            ((D ⊗ B ⊕ N ⊗ A) ⊗ (D ⊗ B ⊕ N ⊗ A) ⊕ A ⊗ ⊝ (A ⊗ N ⊗ N ⊕ lit (pos 2) ⊗ B ⊗ N ⊗ D ⊕ C ⊗ D ⊗ D))
+            ((D ⊗ D) ⊗ (B ⊗ B ⊖ A ⊗ C))
+            tt)
+            (sum_nonneg _ _ (square_nonneg (slope n d)) (mul_nonneg a _ a0 (turned _ low))))
+
+    pub nearing : HasNearing p q n d
+    nearing = by_lt_z (pos 0) (slope n d)
+        (λ up. by_lt_z (pos 0) a (at_vertex up)
+        (λ flat. absurd (clash (pos 0) (slope n d) (less _ _ up)
+        (below (slope n d) (rises_last _ a (n *ℤ q -ℤ p *ℤ d) q (neg_ℤ (slope n d)) (back n d p q) flat (rest _ _ order) (omega (arith, ints, q1)) (gains p q n d d1 low high))))))
+        (λ slow. record { num = n; den = d; fraction = d1; from = order; upto = self _; low = low; slows = slow })
+      where
+        below : (x : ℤ) → pos 0 <ℤ neg_ℤ x → x <ℤ pos 0
+        below x h = omega (arith, ints)
+
+        self : (z : ℤ) → z ≤ℤ z
+        self z = omega (arith, ints)
 
 -- ---- of a leg
 module _ (leg : Leg) (volume : Volume) (bounds : ErrorBounds) where

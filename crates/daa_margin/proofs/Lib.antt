@@ -9,3 +9,6 @@ pub mod Within
 pub mod Rooms
 pub mod Decided
 pub mod Comparisons
+pub mod Stretches
+pub mod Lines
+pub mod Deciding

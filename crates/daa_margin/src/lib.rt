@@ -20,18 +20,22 @@ pub struct ErrorBounds {
 mod examples;
 mod heights;
 mod laws;
+mod meeting;
 mod moment;
 mod near;
 mod root;
 mod soon;
 mod violation;
+mod windows;
 
 pub use examples::worked_examples;
 pub use laws::{
     may_violate_grows_with_the_bounds, may_violate_grows_with_the_volume, may_violate_is_decidable,
     no_true_violation_is_missed,
 };
+pub use meeting::is_met;
 pub use violation::may_violate;
+pub use windows::window;
 
 #[cfg(test)]
 mod tests;

@@ -236,3 +236,109 @@ fn errors_of_height_and_vertical_speed_count(rt: HostRuntime) -> Result<(), Fail
     assert!(rt; !may_violate(&BELOW, &level_in_25, &less_climbing, &NOW));
     Ok(())
 }
+
+// Near from half a second on, by 1000 units of error.
+#[test]
+fn a_fraction_of_a_leg_decides(rt: HostRuntime) -> Result<(), Fail> {
+    let enough = ErrorBounds {
+        place: 1000,
+        ..EXACT
+    };
+    let less = ErrorBounds {
+        place: 999,
+        ..EXACT
+    };
+    assert!(rt; is_met(&BESIDE, &CYLINDER, &enough));
+    assert!(rt; !is_met(&BESIDE, &CYLINDER, &less));
+    Ok(())
+}
+
+// The height is within 27000 units at the beginning alone, and the distance within 23760 from a
+// second on. An error of 1000 a second in the vertical speed makes both possible then.
+#[test]
+fn parts_at_different_times_do_not_meet(rt: HostRuntime) -> Result<(), Fail> {
+    let leg = Leg {
+        place: Solid {
+            flat: Flat {
+                east: 0,
+                north: -27360,
+            },
+            up: 27000,
+        },
+        velocity: Solid {
+            flat: Flat {
+                east: 0,
+                north: 3600,
+            },
+            up: 1000,
+        },
+        secs: 2,
+    };
+    let enough = ErrorBounds {
+        climb: 1000,
+        ..EXACT
+    };
+    let less = ErrorBounds {
+        climb: 999,
+        ..EXACT
+    };
+    assert!(rt; !is_met(&leg, &CYLINDER, &EXACT));
+    assert!(rt; is_met(&leg, &CYLINDER, &enough));
+    assert!(rt; !is_met(&leg, &CYLINDER, &less));
+    Ok(())
+}
+
+// The height is within 27000 units at the beginning alone, where modified tau is 16 seconds at
+// 64800 units.
+#[test]
+fn the_last_time_of_the_window_decides(rt: HostRuntime) -> Result<(), Fail> {
+    let leg = Leg {
+        place: Solid {
+            flat: Flat {
+                east: 0,
+                north: -65800,
+            },
+            up: 27000,
+        },
+        velocity: Solid {
+            flat: Flat {
+                east: 0,
+                north: 3600,
+            },
+            up: 1000,
+        },
+        secs: 2,
+    };
+    let soon = Volume {
+        dthr: 21600,
+        tthr: 16,
+        ..CYLINDER
+    };
+    let enough = ErrorBounds {
+        place: 1000,
+        ..EXACT
+    };
+    let less = ErrorBounds {
+        place: 999,
+        ..EXACT
+    };
+    assert!(rt; is_met(&leg, &soon, &enough));
+    assert!(rt; !is_met(&leg, &soon, &less));
+    Ok(())
+}
+
+// 30000 units below and rising by 1000 a second: within 28000 at the end of two seconds.
+#[test]
+fn a_window_may_be_one_time(rt: HostRuntime) -> Result<(), Fail> {
+    let enough = ErrorBounds {
+        height: 1000,
+        ..EXACT
+    };
+    let less = ErrorBounds {
+        height: 999,
+        ..EXACT
+    };
+    assert!(rt; window(&BELOW, &CYLINDER, &enough).is_some());
+    assert!(rt; window(&BELOW, &CYLINDER, &less).is_none());
+    Ok(())
+}
