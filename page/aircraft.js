@@ -1,3 +1,4 @@
+// @ts-check
 /* Aircraft on the plan: their symbols and labels. */
 "use strict";
 (function (root) {

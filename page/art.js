@@ -1,3 +1,4 @@
+// @ts-check
 /* What all drawings share: numbers, letters, colours, patterns, and how values are written. A level is told by colour, by pattern and
  * by number. */
 "use strict";

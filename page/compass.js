@@ -1,3 +1,4 @@
+// @ts-check
 /* The compass: its rose with the rings of the range, the ring with the bands of tracks, their answers, and where the aircraft were. */
 "use strict";
 (function (root) {

@@ -1,3 +1,4 @@
+// @ts-check
 /* The engine in WebAssembly, and the readers of its structs and of its report. No page is needed: a worker and Node run it.
  *
  * All that is said of a moment is said by the engine's report: nothing of it is computed here. Numbers are those of the
@@ -31,6 +32,7 @@ function daaCore(root) {
   const LINES = ["format", "ended", "last", "opened", "time", "owned"];
 
   const MOST_AIRCRAFT = 64;
+  const LITTLE_ENDIAN = true; // as the module has its numbers
   const SIZES = { config: 8 * CONFIG.length, own: 4 * OWN.length, traffic: ID_SIZE + 4 * TRAFFIC.length, fault: 24 };
   SIZES.lines = 4 * LINES.length + SIZES.own + 8 + MOST_AIRCRAFT * SIZES.traffic;
   const LONGEST_CONFIG = 65536;
@@ -102,6 +104,15 @@ function daaCore(root) {
   const compiled = new WeakMap(); // by the bytes of a module, which several engines of a page have in common
 
   class Engine {
+    /** @type {WebAssembly.Module} */ module;
+    /** @type {number} */ size;
+    /** @type {TextDecoder} */ decoder;
+    /** @type {any} */ calls;
+    /** @type {boolean} */ is64;
+    /** @type {Record<string, number>} */ places;
+    /** @type {DataView} */ view;
+    /** @type {Uint8Array} */ bytes;
+
     /** An engine over the bytes of a module. */
     static async open(bytes) {
       if (!compiled.has(bytes)) compiled.set(bytes, WebAssembly.compile(bytes));
@@ -117,7 +128,7 @@ function daaCore(root) {
 
     /** Makes the instance, at first and after a trap: the module is then as it fell, and would refuse every later call. */
     renew() {
-      const { exports } = new WebAssembly.Instance(this.module, {});
+      const { exports } = /** @type {any} */ (new WebAssembly.Instance(this.module, {}));
       const base = exports.__heap_base.value;
       let at = Math.ceil(Number(base) / 64) * 64;
       const room = (bytes) => {
@@ -185,7 +196,7 @@ function daaCore(root) {
     structOf(numbers) {
       const bytes = new Uint8Array(SIZES.config);
       const view = new DataView(bytes.buffer);
-      CONFIG.forEach((name, i) => view.setBigInt64(8 * i, numbers[name] ?? 0n, true));
+      CONFIG.forEach((name, i) => view.setBigInt64(8 * i, numbers[name] ?? 0n, LITTLE_ENDIAN));
       return bytes;
     }
 
@@ -193,7 +204,7 @@ function daaCore(root) {
 
     /** The ended moments and the refused lines of state lines, of bytes, in their order. */
     readStates(bytes) {
-      return [...new StateLines(this).take(bytes, true)];
+      return [...new StateLines(this).take(bytes, { isLast: true })];
     }
 
     takeLine(line) {
@@ -203,7 +214,7 @@ function daaCore(root) {
     }
 
     lineNumber(name) {
-      return this.view.getUint32(this.places.lines + 4 * LINES.indexOf(name), true);
+      return this.view.getUint32(this.places.lines + 4 * LINES.indexOf(name), LITTLE_ENDIAN);
     }
 
     /** The moment that a line has just ended. */
@@ -211,8 +222,8 @@ function daaCore(root) {
       const { view, bytes, decoder } = this;
       const ownAt = this.places.lines + 4 * LINES.length;
       const countAt = ownAt + SIZES.own;
-      const some = (at, names) => Object.fromEntries(names.map((name, i) => [name, view.getInt32(at + 4 * i, true)]));
-      const traffic = Array.from({ length: Number(view.getBigUint64(countAt, true)) }, (_, place) => {
+      const some = (at, names) => Object.fromEntries(names.map((name, i) => [name, view.getInt32(at + 4 * i, LITTLE_ENDIAN)]));
+      const traffic = Array.from({ length: Number(view.getBigUint64(countAt, LITTLE_ENDIAN)) }, (_, place) => {
         const at = countAt + 8 + SIZES.traffic * place;
         const id = decoder.decode(bytes.subarray(at, at + ID_SIZE)).replace(/\0.*$/, "");
         return { id, ...some(at + ID_SIZE, TRAFFIC) };
@@ -232,17 +243,17 @@ function daaCore(root) {
       const code = this.call("daa_report", w(places.config), time | 0, w(places.own), w(places.traffic), w(traffic.length),
         w(places.report), w(LONGEST_REPORT), w(places.length));
       if (code) throw new Refused(code, { fault: this.fault(traffic.length) });
-      const length = Number(view.getBigUint64(places.length, true));
+      const length = Number(view.getBigUint64(places.length, LITTLE_ENDIAN));
       return this.decoder.decode(this.bytes.subarray(places.report, places.report + length));
     }
 
     putMoment(own, traffic) {
       const { places, view, bytes } = this;
-      OWN.forEach((name, i) => view.setInt32(places.own + 4 * i, own[name], true));
+      OWN.forEach((name, i) => view.setInt32(places.own + 4 * i, own[name], LITTLE_ENDIAN));
       traffic.forEach((one, place) => {
         const at = places.traffic + SIZES.traffic * place;
         for (let i = 0; i < ID_SIZE; i++) bytes[at + i] = i < one.id.length ? Math.min(one.id.charCodeAt(i), 255) : 0;
-        TRAFFIC.forEach((name, i) => view.setInt32(at + ID_SIZE + 4 * i, one[name], true));
+        TRAFFIC.forEach((name, i) => view.setInt32(at + ID_SIZE + 4 * i, one[name], LITTLE_ENDIAN));
       });
     }
 
@@ -252,15 +263,22 @@ function daaCore(root) {
       const w = (number) => this.word(number);
       const at = places.fault;
       this.call("daa_fault", w(places.own), w(places.traffic), w(count), w(at));
-      const number = (place) => view.getInt32(at + 4 * place, true);
+      const number = (place) => view.getInt32(at + 4 * place, LITTLE_ENDIAN);
       return { code: number(0), field: FIELDS[number(1)], least: number(2), greatest: number(3),
-        place: Number(view.getBigUint64(at + 16, true)) };
+        place: Number(view.getBigUint64(at + 16, LITTLE_ENDIAN)) };
     }
   }
 
   /** State lines that come in pieces. What a line says, or why it is refused, is the engine's answer; here the text is only cut at its line
    *  feeds, and comments are read. An engine reads one text at a time. */
   class StateLines {
+    /** @type {Engine} */ engine;
+    /** @type {number} */ number;
+    /** @type {string[]} */ comments;
+    /** @type {Uint8Array} */ rest;
+    /** @type {string} */ clock;
+    /** @type {string} */ silence;
+
     constructor(engine) {
       const { bytes, places } = engine;
       Object.assign(this, { engine, number: 0, comments: [], rest: new Uint8Array(0), clock: "", silence: "" });
@@ -268,7 +286,7 @@ function daaCore(root) {
     }
 
     /** The events of a piece: `moment`, or the number of a line that is `refused` and its code. */
-    *take(piece, isLast) {
+    *take(piece, { isLast = false } = {}) {
       const bytes = this.rest.length ? joined(this.rest, piece) : piece;
       let start = 0;
       while (start < bytes.length) {
@@ -302,9 +320,17 @@ function daaCore(root) {
 
   /** The numbers of a configuration, as its struct has them. */
   class Config {
+    /** @type {Uint8Array} */ bytes;
+    /** @type {number} */ resolve;
+    /** @type {Grids} */ grids;
+    /** @type {object | null} */ recovery;
+    /** @type {boolean} */ lastTimes;
+    /** @type {object[]} */ levels;
+
     constructor(bytes) {
       const view = new DataView(bytes.buffer, bytes.byteOffset);
-      const all = Object.fromEntries(CONFIG.map((name, i) => [name, Number(view.getBigInt64(8 * i, true))]));
+      const all = Object.fromEntries(CONFIG.map((name, i) => [name, Number(view.getBigInt64(8 * i, LITTLE_ENDIAN))]));
+      /** @type {(name: string, keys: string[]) => any} */
       const some = (name, keys) => Object.fromEntries(keys.map((key) => [key, all[`${name}.${key}`]]));
       this.bytes = bytes;
       this.resolve = all.resolve;

@@ -1,3 +1,4 @@
+// @ts-check
 /* The desk: where questions to the engine are answered, in a worker of the browser, so that a long moment never stops the page.
  *
  * A page that was opened as a file may not load a worker from another file; so the worker's script is put together from the
@@ -38,6 +39,14 @@ daaAnswer(globalThis);
 
   /** Answers questions one after the other. `ask` gives a promise of the answer; null where `forget` came before it. */
   class Desk {
+    /** @type {Uint8Array} */ module;
+    /** @type {any[]} */ waiting;
+    /** @type {number} */ number;
+    /** @type {Worker | null} */ worker;
+    /** @type {any} */ busy;
+    /** @type {boolean} */ ready;
+    /** @type {any} */ engine;
+
     constructor(module) {
       this.module = module;
       this.waiting = [];

@@ -1,3 +1,4 @@
+// @ts-check
 /* A display as SVG: the plan view in a compass rose with the bands of tracks, and tapes of ground speed, altitude and vertical
  * speed. What is drawn are the lines of a report, and the states.
  *

@@ -1,3 +1,4 @@
+// @ts-check
 /* A candidate's flight, second by second, as the definitions have it, and a recording in which the ownship flies one from some moment on, while the
  * traffic goes on as recorded. No page is needed. */
 "use strict";
@@ -38,6 +39,13 @@ function daaFlight(root) {
 
   /** The ownship after so many seconds of a candidate's flight, as state lines have it; `at` must be asked for seconds that don't fall. */
   class Flight {
+    /** @type {Own} */ own;
+    /** @type {Grids} */ grids;
+    /** @type {string | null} */ kind;
+    /** @type {number} */ value;
+    /** @type {number} */ second;
+    /** @type {number[]} */ place;
+
     constructor(own, grids, kind, value) {
       Object.assign(this, { own, grids, kind, value, second: 0, place: [MIL * own.x, MIL * own.y, FOOT * own.alt] });
     }
@@ -66,7 +74,12 @@ function daaFlight(root) {
   };
 
   /** Moments from one on, in which the ownship flies a candidate from there and the traffic goes on as it was. The plane is that of the first
-   *  one. They end where the ownship is out of range. */
+   *  one. They end where the ownship is out of range.
+   *  @param {Moment[]} moments
+   *  @param {Grids} grids
+   *  @param {string | null} kind
+   *  @param {number} value
+   *  @returns {Moment[]} */
   function flown(moments, grids, kind, value) {
     const [first] = moments;
     const flight = new Flight(first.own, grids, kind, value);

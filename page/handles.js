@@ -1,3 +1,4 @@
+// @ts-check
 /* What can be taken hold of on a display: each with its key, where it is, what it shows and how it is told. */
 "use strict";
 (function (root) {
@@ -96,12 +97,13 @@
     const { x, band, left } = g.tapes[kind];
     const scale = scaleOf(view, model, kind);
     const shown = shownValue(kind, model.own[kind]);
+    const told = (value) => value / TAPES[kind].scale; // to a screen reader, as a number
     const f = g.font;
     const wide = Math.min(x - left - 2, f * 4.5);
     const line = (stroke, width) => `<path d="M0 0h${band}" stroke="${stroke}" stroke-width="${width}"/>`;
     const box = `M2 0L${n(-f * 0.7)} ${n(-f * 0.85)}H${n(-wide)}V${n(f * 0.85)}H${n(-f * 0.7)}Z`;
-    return { key: kind, x, y: scale.y(model.own[kind]), label: `${TAPES[kind].name} of the ownship`, number: shown,
-      least: shownValue(kind, LIMITS[kind][0]), most: shownValue(kind, LIMITS[kind][1]), value: `${shown} ${TAPES[kind].unit}`,
+    return { key: kind, x, y: scale.y(model.own[kind]), label: `${TAPES[kind].name} of the ownship`,
+      number: told(model.own[kind]), least: told(LIMITS[kind][0]), most: told(LIMITS[kind][1]), value: `${shown} ${TAPES[kind].unit}`,
       inside: `<path d="${box}" fill="var(--ground)" stroke="var(--own)" stroke-width="2"/>`
         + text(-f * 0.75, f * 0.37, shown, `class="value end" font-size="${n(fitted(shown, f, wide - f * 0.75 - 3))}" style="fill:var(--own)"`)
         + line("var(--ground)", 5) + line("var(--own)", 2.5)

@@ -1,3 +1,4 @@
+// @ts-check
 /* What can be moved by hand: by the pointer, and by the keys. */
 "use strict";
 (function () {
@@ -103,7 +104,7 @@
   for (const figure of document.querySelectorAll("figure")) {
     const svg = figure.querySelector("svg");
     const view = () => state.views[Number(figure.dataset.view)];
-    figure.querySelector("figcaption").addEventListener("click", ({ target }) => act(target.dataset.do, view(), figure));
+    figure.querySelector("figcaption").addEventListener("click", (/** @type {any} */ { target }) => act(target.dataset.do, view()));
     svg.addEventListener("pointerdown", (event) => hold(svg, event));
     svg.addEventListener("touchstart", (event) => { // a finger scrolls the page, but not where it holds something
       if (event.cancelable && event.target.closest(".handle")) event.preventDefault();
@@ -122,12 +123,12 @@
       moveTo(key, { x: point.x + off.x, y: point.y + off.y }, view());
       edited();
     });
-    for (const end of ["pointerup", "pointercancel"]) svg.addEventListener(end, (event) => { if (isHolding(event)) drop(); });
+    for (const end of ["pointerup", "pointercancel"]) svg.addEventListener(end, (/** @type {any} */ event) => { if (isHolding(event)) drop(); });
     svg.addEventListener("wheel", (event) => {
       if (event.ctrlKey || scrolls()) return; // the browser's own: the page grows or shrinks, or scrolls
       event.preventDefault();
       const ranges = rangesRolled(event);
-      for (let step = 0; step < Math.abs(ranges); step++) act(ranges > 0 ? "wide" : "near", view(), figure);
+      for (let step = 0; step < Math.abs(ranges); step++) act(ranges > 0 ? "wide" : "near", view());
     }, { passive: false });
     svg.addEventListener("keydown", (event) => {
       const handle = event.target.closest(".handle");
@@ -142,7 +143,7 @@
       edited();
       if (event.key === "Delete") focusOn(figure, "p:"); // what had the focus is no more
     });
-    svg.addEventListener("focusin", ({ target }) => { if (target.matches(".handle")) choose(target.dataset.key); });
+    svg.addEventListener("focusin", (/** @type {any} */ { target }) => { if (target.matches(".handle")) choose(target.dataset.key); });
   }
 
   // ---- and by the keys
@@ -212,7 +213,7 @@
     if (event.ctrlKey || event.metaKey || event.altKey) return;
     const isLetter = /^[a-z]$/i.test(event.key);
     if (event.key !== "Escape" && event.target.closest(event.key === " " ? PRESSED : isLetter ? CHOOSES : TYPES)) return;
-    const range = (what) => () => shownViews().forEach((view) => act(what, view, true));
+    const range = (what) => () => shownViews().forEach((view) => act(what, view));
     const does = { " ": play, ",": () => goTo(state.index - 1), ".": () => goTo(state.index + 1), Escape: giveUp,
       "+": range("near"), "-": range("wide"), 0: range("fit"), n: alertAfter, N: alertBefore, d: differenceAfter, D: differenceBefore }[event.key];
     if (!does) return;

@@ -1,3 +1,4 @@
+// @ts-check
 /* Where the labels of aircraft stand: within the ring, out of the way of symbols, velocity lines and each other. Of the places
  * round a symbol, near ones and farther ones, each label takes the one that costs least; a label that must be there, and has
  * no free place there, takes the cheapest one of all within the ring. No page is needed. */
@@ -40,6 +41,10 @@
   }
 
   class Labels {
+    /** @type {{x: number, y: number, radius: number}} */ disc;
+    /** @type {Box[]} */ boxes;
+    /** @type {{x1: number, y1: number, x2: number, y2: number}[]} */ lines;
+
     /** Over a disc; boxes and lines are what is drawn there already. */
     constructor(disc, boxes, lines) {
       Object.assign(this, { disc, boxes, lines });

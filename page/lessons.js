@@ -1,3 +1,4 @@
+// @ts-check
 /* A small library of encounters for teaching: each with a question, what the answers mean, and what happens when one is followed. The flights are
  * straight, but for what `turns` says. No page is needed. */
 "use strict";

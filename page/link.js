@@ -1,3 +1,4 @@
+// @ts-check
 /* A link that holds a whole moment: what follows # is packed text of JSON, so that a case can be sent to a colleague. */
 "use strict";
 (function (root) {

@@ -1,3 +1,4 @@
+// @ts-check
 /* What is opened: state lines, recordings, configurations and examples. What is short is read at once, what is long by a worker, piece by piece. */
 "use strict";
 (function () {
@@ -49,7 +50,7 @@
   function loadStates(bytes, name, told = [], more = "") {
     const reading = new StatesReading(state.engine);
     const moments = new Moments();
-    for (const block of reading.take(bytes, true)) moments.append(block);
+    for (const block of reading.take(bytes, { isLast: true })) moments.append(block);
     const end = reading.end(name);
     if (!moments.length) {
       tell(end.none);
@@ -125,7 +126,7 @@
   }
 
   /** Reads long files, piece by piece: they are shown from the first moment on. */
-  function readLarge(files, isRecording, own = null) {
+  function readLarge(files, { isRecording, own = null }) {
     const name = files.map((file) => file.name).join(", ");
     const moments = new Moments();
     let isBegun = false;
@@ -231,7 +232,7 @@
     const isRecording = ({ bytes }) => daa.isRecording(new TextDecoder().decode(bytes));
     const recordings = flights.filter(isRecording);
     const taken = recordings.length ? recordings : flights.slice(0, 1);
-    readLarge(taken.map(({ file }) => file), recordings.length > 0);
+    readLarge(taken.map(({ file }) => file), { isRecording: recordings.length > 0 });
     tell(notShown(flights.filter((it) => !taken.includes(it))).join("; "));
     return true;
   }
@@ -239,7 +240,7 @@
   /** The recording anew, from another aircraft or with reports of another age. */
   function readAgain(own) {
     const { files, isLarge: isLong } = state.recording;
-    if (isLong) readLarge(files, true, own);
+    if (isLong) readLarge(files, { isRecording: true, own });
     else loadRecording(files, own);
   }
 

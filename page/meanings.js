@@ -1,3 +1,4 @@
+// @ts-check
 /* What the words on a display mean, told where they stand: as a title, and after a click or a tap in a box beside it. */
 "use strict";
 (function (root) {
@@ -41,12 +42,12 @@
     hide();
     const word = target.closest?.("[data-word]")?.getAttribute("data-word");
     pressed = word ? { word, x, y } : null;
-  }, true);
+  }, { capture: true });
   addEventListener("pointerup", ({ clientX, clientY }) => {
     if (pressed && Math.hypot(clientX - pressed.x, clientY - pressed.y) <= 3) explain(pressed.word, pressed);
     pressed = null;
-  }, true);
-  addEventListener("keydown", ({ key }) => { if (key === "Escape") hide(); }, true);
+  }, { capture: true });
+  addEventListener("keydown", ({ key }) => { if (key === "Escape") hide(); }, { capture: true });
 
   daa.art.explained = explained;
   Object.assign(root.daa, { MEANINGS });

@@ -1,3 +1,4 @@
+// @ts-check
 /* The moments of a recording, packed into blocks of whole numbers, so that 100,000 moments of 64 aircraft have room (2 KB each) and go
  * from a worker to the page at once; and what is kept of the answers to them, for the strip over time. No page is needed. */
 "use strict";
@@ -8,6 +9,15 @@ function daaMoments(root) {
 
   /** Packs moments one after the other; `take` gives those that were added as a block, and begins the next one. */
   class Packer {
+    /** @type {number[]} */ times;
+    /** @type {number[]} */ starts;
+    /** @type {number[]} */ numbers;
+    /** @type {string[]} */ names;
+    /** @type {Map<string, number>} */ places;
+    /** @type {string[][]} */ comments;
+    /** @type {string[]} */ faults;
+    /** @type {string[]} */ silences;
+
     constructor() { this.begin(); }
 
     begin() {
@@ -42,8 +52,12 @@ function daaMoments(root) {
     }
   }
 
-  /** A moment of a block: a new one each time. */
+  /** A moment of a block: a new one each time.
+   *  @param {Block} block
+   *  @param {number} place
+   *  @returns {Moment} */
   function momentIn({ times, starts, numbers, names, comments }, place) {
+    /** @type {(at: number, fields: string[]) => any} */
     const some = (at, fields) => Object.fromEntries(fields.map((field, i) => [field, numbers[at + i]]));
     const traffic = [];
     for (let at = starts[place] + OWN.length; at < starts[place + 1]; at += 1 + TRAFFIC.length) {
@@ -62,6 +76,11 @@ function daaMoments(root) {
 
   /** The moments of a recording, which may grow. */
   class Moments {
+    /** @type {Block[]} */ blocks;
+    /** @type {number[]} */ firsts;
+    /** @type {number} */ length;
+    /** @type {Set<string>} */ ids;
+
     constructor() {
       Object.assign(this, { blocks: [], firsts: [], length: 0, ids: new Set() });
     }
@@ -85,7 +104,9 @@ function daaMoments(root) {
       for (const name of block.names) this.ids.add(name);
     }
 
-    /** The block of a moment, and its place there. */
+    /** The block of a moment, and its place there.
+     *  @param {number} index
+     *  @returns {[Block, number]} */
     find(index) {
       let [low, high] = [0, this.firsts.length - 1];
       while (low < high) {
@@ -171,7 +192,9 @@ function daaMoments(root) {
   const NO_TRACK = -1; // in place of an open track
 
   /** Notes as numbers, and names and answers once each, so that they take little room and go to the page at once. A note that is null, since
-   *  the engine gave no report, has no number of an answer. */
+   *  the engine gave no report, has no number of an answer.
+   *  @param {(Note | null)[]} notes
+   *  @returns {NotePack} */
   function packNotes(notes, first = 0) {
     const [names, answers] = [new Map(), new Map()];
     const placeIn = (places, word) => {
@@ -196,6 +219,9 @@ function daaMoments(root) {
 
   /** The notes of a recording: of each moment its note, null where the engine gave none, or undefined where it was not asked yet. */
   class Notes {
+    /** @type {NotePack[]} */ packs;
+    /** @type {number} */ gone;
+
     constructor() { Object.assign(this, { packs: [], gone: 0 }); }
 
     /** Those of a list. */
@@ -220,7 +246,9 @@ function daaMoments(root) {
 
     get length() { return this.packs.length; }
 
-    /** The notes that one is packed with, and its place there; the place is -1 where there is none. */
+    /** The notes that one is packed with, and its place there; the place is -1 where there is none.
+     *  @param {number} index
+     *  @returns {[NotePack | undefined, number]} */
     find(index) {
       const pack = this.packs[index];
       const place = pack ? index + this.gone - pack.first : -1;

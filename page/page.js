@@ -1,3 +1,4 @@
+// @ts-check
 /* What is loaded and saved: configurations, state lines, recordings, links and pictures; and the start. */
 "use strict";
 (function () {
@@ -180,7 +181,7 @@
     for (const it of svg.querySelectorAll(".focus, .grip")) it.remove();
     for (const it of svg.querySelectorAll("[tabindex]")) it.removeAttribute("tabindex");
     svg.insertAdjacentHTML("afterbegin", `<style>${daa.STYLE}</style><defs>${daa.patterns()}</defs>`);
-    Object.entries(PICTURE).forEach((pair) => svg.setAttribute(...pair));
+    Object.entries(PICTURE).forEach(([name, size]) => svg.setAttribute(name, String(size)));
     return withColours(new XMLSerializer().serializeToString(svg));
   }
 

@@ -1,3 +1,4 @@
+// @ts-check
 /* The panel: the aircraft and their numbers, the lines of the report, and the report in a sentence. */
 "use strict";
 (function () {
@@ -66,7 +67,7 @@
     const first = `<tr class="own ${chosen ? "" : "chosen"}">${choiceHtml("ownship", !chosen)}`
       + `<td colspan="4">${angleOf(own.trk)} · ${own.gs / 10} kt · ${numberOf(own.alt)} ft${climb}</td></tr>`;
     setText($("differs"), wordsOfDifference(said, state.compare ? saidOf(state.views[1]) : null));
-    const focused = document.activeElement.dataset.choose;
+    const focused = /** @type {any} */ (document.activeElement).dataset.choose;
     const isNew = setHtml($("aircraft").tBodies[0], first + shown.map((row) => rowHtml(row, chosen)).join(""));
     const again = isNew && focused !== undefined && document.querySelector(`[data-choose="${CSS.escape(focused)}"]`);
     if (again) again.focus();
@@ -224,7 +225,7 @@
     if (setHtml($("report"), parts.join("")) && focused >= 0) $("report").querySelectorAll("summary")[focused]?.focus();
   }
 
-  $("report").addEventListener("toggle", ({ target }) => { state.linesOpen = target.open; }, true);
+  $("report").addEventListener("toggle", ({ target }) => { state.linesOpen = target.open; }, { capture: true });
 
   // ---- the report in a sentence
 

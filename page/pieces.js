@@ -1,3 +1,4 @@
+// @ts-check
 /* How state lines and recordings become blocks of moments: at once, or piece by piece in a worker, so that a long recording is shown from its
  * first moment on and never stops the page. No page is needed. */
 "use strict";
@@ -13,14 +14,21 @@ function daaPieces(root) {
 
   /** State lines that come in pieces. */
   class StatesReading {
+    /** @type {any} */ lines;
+    /** @type {any} */ packer;
+    /** @type {string[]} */ refused;
+    /** @type {number} */ before;
+    /** @type {number} */ count;
+    /** @type {any} */ first;
+
     constructor(engine) {
       Object.assign(this, { lines: new StateLines(engine), packer: new Packer(), refused: [], before: 0, count: 0, first: null });
     }
 
     /** The blocks of moments of a piece. */
-    *take(bytes, isLast) {
+    *take(bytes, { isLast = false } = {}) {
       const { packer } = this;
-      for (const event of this.lines.take(bytes, isLast)) {
+      for (const event of this.lines.take(bytes, { isLast })) {
         if (event.moment) {
           packer.add(event.moment, wordsOfLack(this.refused, this.before, "were refused before this moment"), event.silence);
           Object.assign(this, { refused: [], before: 0 });
@@ -88,7 +96,7 @@ function daaPieces(root) {
     for (let read = 0; ;) {
       const { done, value } = await pieces.read();
       if (!done) read += value.length;
-      for (const block of reading.take(done ? new Uint8Array(0) : value, done)) {
+      for (const block of reading.take(done ? new Uint8Array(0) : value, { isLast: done })) {
         give(block, read / file.size);
         await breathe();
       }

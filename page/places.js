@@ -1,3 +1,4 @@
+// @ts-check
 /* Where things are: the parts of a display of some size, which is found anew for each size, so that letters keep theirs; and places
  * on the plan and on the compass. */
 "use strict";

@@ -1,3 +1,4 @@
+// @ts-check
 /* What cannot be right in a recording: places against speeds, tracks and climbs, and aircraft that are no others. It says what
  * tools/recordings/plausible.py says, which is an advice and decides nothing. */
 "use strict";

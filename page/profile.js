@@ -1,3 +1,4 @@
+// @ts-check
 /* Where aircraft will be if all fly straight on: predicted paths to the closest approach on the plan, the aircraft on the altitude tape, and from
  * the side their heights over the distance to it. These are the states flown on, and no answer of the engine. */
 "use strict";
@@ -11,7 +12,10 @@
   const heightOf = (state, seconds) => state.alt + (state.vs * seconds) / 60;
 
   /** When two that fly straight on are closest, from now on (s); how far apart then, in NM and in ft above the ownship; how far that is along the
-   *  way of one past the other (NM, now); and how fast that way is (NM a second). Distances count in the horizontal plane. */
+   *  way of one past the other (NM, now); and how fast that way is (NM a second). Distances count in the horizontal plane.
+   *  @param {Own} own
+   *  @param {Aircraft} one
+   *  @returns {Approach} */
   function closest(own, one) {
     const age = one.age || 0;
     const here = flown(one, age);

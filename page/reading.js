@@ -1,3 +1,4 @@
+// @ts-check
 /* The rows of a recording, one report of an aircraft each: NASA's column format (.daa), a CSV with a header line, BaseStation lines,
  * aircraft.json. It does what the modules of tools/recordings do, which describe the forms; columns.js has the names of columns and
  * the units. No page is needed. */
@@ -140,6 +141,12 @@ function daaReading(root) {
 
   /** The times of one file, by the cells that were read before. */
   class Times {
+    /** @type {Set<string>} */ forms;
+    /** @type {any} */ worth;
+    /** @type {number | null} */ first;
+    /** @type {Map<string, number>} */ last;
+    /** @type {number} */ midnights;
+
     constructor(worth) {
       Object.assign(this, { worth, scale: null, forms: new Set(), last: new Map(), first: null, midnights: 0, isUtc: false });
     }
@@ -383,6 +390,12 @@ function daaReading(root) {
 
   /** A table: its header, and its rows line by line. */
   class Table {
+    /** @type {string} */ owner;
+    /** @type {any} */ times;
+    /** @type {string | null} */ firstName;
+    /** @type {Map<string, string>} */ labels;
+    /** @type {number} */ grounded;
+
     constructor(line, under, number, owner) {
       this.header = new Header(line, under, number);
       const { header } = this;
@@ -479,6 +492,11 @@ function daaReading(root) {
 
   /** BaseStation lines: position, velocity and call sign of an aircraft come in different ones, which are joined by its address. */
   class BaseStation {
+    /** @type {Map<string, any>} */ heard;
+    /** @type {Map<string, string>} */ labels;
+    /** @type {number} */ grounded;
+    /** @type {string | null} */ firstName;
+
     constructor() {
       Object.assign(this, { onEarth: true, isBarometric: true, heard: new Map(), labels: new Map(), grounded: 0, firstName: null });
       this.told = "BaseStation lines: altitudes in ft, barometric, speeds in knots and ft/min, of which most receivers send whole knots, "
@@ -492,7 +510,8 @@ function daaReading(root) {
       if (!/^~?[0-9A-Fa-f]{6}$/.test(cells[4])) bad("no address of six hexadecimal digits");
       const time = isoTime(`${cells[6]} ${cells[7]}`);
       if (time === null) bad("no date and time in the fields 7 and 8");
-      const [address, now] = [cells[4].toUpperCase(), time[0]];
+      const address = cells[4].toUpperCase();
+      const now = Number(time[0]);
       this.firstName ??= address;
       if (["1", "-1"].includes(cells[21])) {
         if (cells[14]) this.grounded += 1;
@@ -507,7 +526,7 @@ function daaReading(root) {
       if (climb !== null) heard.climb = [now, climb];
       if (lat === null || lon === null || Math.abs(lat) > 90 || Math.abs(lon) > 180) return [];
       const held = (what, words) => {
-        const [when, value] = heard[what] || bad(`no ${words}`);
+        const [when, value] = /** @type {[number, any]} */ (heard[what] || bad(`no ${words}`));
         return now - when <= HELD ? value : bad(`no ${words} within ${HELD} s`);
       };
       return [wholeOrLacking(address, now, [lat, lon], () => {
@@ -526,6 +545,10 @@ function daaReading(root) {
 
   /** aircraft.json, which dump1090 and readsb write each second: one such text, or one a line. */
   class AircraftJson {
+    /** @type {Map<string, string>} */ labels;
+    /** @type {number} */ grounded;
+    /** @type {string | null} */ firstName;
+
     constructor() {
       Object.assign(this, { onEarth: true, isBarometric: true, labels: new Map(), grounded: 0, firstName: null });
       this.told = "aircraft.json: altitudes (alt_baro) in ft, speeds in knots and ft/min; a position is seen_pos seconds older than `now`";
@@ -570,6 +593,16 @@ function daaReading(root) {
 
   /** A recording that is taken line by line; the form is found by its first line. */
   class Source {
+    /** @type {number} */ number;
+    /** @type {number} */ settings;
+    /** @type {number} */ repeated;
+    /** @type {Map<string, any>} */ faults;
+    /** @type {number} */ count;
+    /** @type {any} */ form;
+    /** @type {string[] | null} */ text;
+    /** @type {string | null} */ headerLine;
+    /** @type {string} */ path;
+
     constructor(path) {
       Object.assign(this, { path, number: 0, settings: 0, headerLine: null, repeated: 0, form: null, text: null, faults: new Map(), count: 0 });
       this.owner = path.replace(/^.*[\\/]/, "").replace(/(?<=.)\.[^.]*$/, "");

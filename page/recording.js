@@ -1,3 +1,4 @@
+// @ts-check
 /* Recordings made into state lines: what tools/from_daa does, which describes it. reading.js reads the rows; each report of the ownship
  * is a moment, with the latest report of every other aircraft until then. No page is needed. */
 "use strict";
@@ -72,6 +73,25 @@ function daaRecording(root) {
 
   /** Makes moments of the reports that it takes, in the order of their times. */
   class Maker {
+    /** @type {string} */ ownName;
+    /** @type {boolean} */ onEarth;
+    /** @type {number} */ oldest;
+    /** @type {(one: number[], other: number[]) => number[]} */ offset;
+    /** @type {Map<string, string>} */ ids;
+    /** @type {Map<string, any[]>} */ leftOut;
+    /** @type {number} */ far;
+    /** @type {Map<string, Row>} */ latest;
+    /** @type {Map<string, Row>} */ incomplete;
+    /** @type {number[]} */ steps;
+    /** @type {Map<string, number[]>} */ lacking;
+    /** @type {Map<string, number>} */ gaps;
+    /** @type {number[][]} */ ownGaps;
+    /** @type {Moment[]} */ made;
+    /** @type {number} */ last;
+    /** @type {Row | null} */ pending;
+    /** @type {Row | null} */ start;
+    /** @type {string} */ silence;
+
     constructor(ownName, onEarth, oldest, names) {
       Object.assign(this, { ownName, onEarth, oldest, offset: offsetOn(onEarth), ids: identifiers(names), leftOut: new Map(), far: 0,
         latest: new Map(), incomplete: new Map(), steps: [], lacking: new Map(), gaps: new Map(), ownGaps: [], made: [],
@@ -255,7 +275,8 @@ function daaRecording(root) {
     wholeNames(labels) {
       const wordsOf = (name, short) => [name, labels.get(name) ?? ""].filter((word) => word && word !== short).join(" ");
       const others = [...this.ids].filter(([name]) => name !== this.ownName);
-      return new Map(others.map(([name, short]) => [short, wordsOf(name, short)]).filter(([, words]) => words));
+      const named = others.map(([name, short]) => /** @type {[string, string]} */ ([short, wordsOf(name, short)]));
+      return new Map(named.filter(([, words]) => words));
     }
   }
 

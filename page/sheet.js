@@ -1,3 +1,4 @@
+// @ts-check
 /* What is kept of the whole: the states and the report of a recording as files, and the sheet that is printed with all that is needed to make it
  * again. */
 "use strict";

@@ -1,3 +1,4 @@
+// @ts-check
 /* The state of the page, and how it comes to what is shown.
  *
  * One state. Whoever changes the moment or a configuration calls `touched`, whoever changes a view alone `changed`. Then
@@ -6,6 +7,7 @@
 "use strict";
 (function () {
   const { VIEW_HEIGHTS, clamp, flown, escape, draw, calledIn, nameOf } = daa;
+  /** @type {Record<string, any>} */
   const ui = (daa.ui = {}); // what the page's scripts share
   const $ = (id) => document.getElementById(id);
   const RANGES_NM = [0.3, 0.6, 0.9, 1.5, 3, 6, 9, 12, 18, 24, 36, 48, 96, 192]; // so that their thirds are short numbers
@@ -123,6 +125,7 @@
     const isOwn = fault.code === 16;
     const who = isOwn ? "the ownship" : nameOf(state.current.traffic[fault.place]);
     if (!fault.field) return `${cause}: ${who}`;
+    /** @type {any} */
     const [, name, unit, scale] = (isOwn ? OWN_FIELDS : FIELDS).find(([field]) => field === fault.field);
     return `${name} of ${who} is not within ${fault.least / scale} and ${fault.greatest / scale}${unit === "°" ? "" : " "}${unit}`;
   }
@@ -285,7 +288,7 @@
 
   // ---- views
 
-  function act(what, view, figure) {
+  function act(what, view) {
     const step = (list, value, by) => list[clamp(list.indexOf(value) + by, 0, list.length - 1)];
     const { look } = view;
     if (what === "up") look.trackUp = !look.trackUp;
@@ -296,7 +299,7 @@
     if (what === "fit") look.range = leastRange(farthest(state.current) * ROOM);
     if (what === "low" || what === "high") look.heights = step(VIEW_HEIGHTS, look.heights, what === "high" ? 1 : -1);
     if (what === "svg" || what === "png") ui.save(view, what);
-    if (figure && what) changed();
+    if (what) changed();
   }
 
   /** The least range of the list in which most of the traffic lies, at the first moment and in all of some. */

@@ -1,3 +1,4 @@
+// @ts-check
 /* The strip over time, on a canvas: of each aircraft that alerts its level as bars, and the bands of tracks with the ownship's track and the
  * open ones. A column that stands for several moments shows the greatest level of each, and as open what is open in all of them; none stands
  * for a gap between two moments. Each column is painted once, as soon as all its moments are decided. */
@@ -103,6 +104,16 @@
   }
 
   class Strip {
+    /** @type {HTMLCanvasElement} */ canvas;
+    /** @type {CanvasRenderingContext2D} */ context;
+    /** @type {string} */ key;
+    /** @type {any[]} */ columns;
+    /** @type {boolean} */ isCut;
+    /** @type {any} */ g;
+    /** @type {any} */ notes;
+    /** @type {any} */ others;
+    /** @type {number} */ scale;
+
     constructor(canvas) {
       Object.assign(this, { canvas, context: canvas.getContext("2d"), key: "", columns: [], isCut: false });
     }
@@ -245,6 +256,7 @@
       return getComputedStyle(probe).color;
     };
     const names = { unknown: "unknown", clear: "l0-fill", own: "own", open: "open", ink: "ink", faint: "faint", line: "line", bad: "bad" };
+    /** @type {Record<string, any>} */
     const made = Object.fromEntries(Object.entries(names).map(([name, variable]) => [name, colour(variable)]));
     made.levels = [0, 1, 2, 3, 4].map((level) => level && patternOf(context, level, colour(`l${level}-fill`), colour(`l${level}-mark`)));
     made.key = `${made.clear} ${made.ink}`;

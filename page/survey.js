@@ -1,3 +1,4 @@
+// @ts-check
 /* All moments under a configuration, asked for one part after the other, in workers of their own: what is known of them is kept for the strip over
  * time, for the next alert, and for where two configurations differ. */
 "use strict";
@@ -11,6 +12,15 @@
   const OFTEN = 200; // ms: between two drawings of what is new
 
   class Survey {
+    /** @type {number} */ place;
+    /** @type {Uint8Array} */ module;
+    /** @type {any[]} */ desks;
+    /** @type {number} */ job;
+    /** @type {any} */ notes;
+    /** @type {Map<string, number>} */ most;
+    /** @type {number} */ decided;
+    /** @type {number} */ next;
+
     constructor(place, module) {
       Object.assign(this, { place, module, desks: [], job: 0, notes: new daa.Notes(), most: new Map(), decided: 0, next: 0 });
     }

@@ -1,3 +1,4 @@
+// @ts-check
 /* The tapes of ground speed, altitude and vertical speed, with their bands and answers. */
 "use strict";
 (function (root) {

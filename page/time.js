@@ -1,3 +1,4 @@
+// @ts-check
 /* Time in the hand: which moment is shown, what was changed by hand of it, playing, and the axis, which is slider and strip in one. */
 "use strict";
 (function () {

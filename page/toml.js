@@ -1,3 +1,4 @@
+// @ts-check
 /* Configurations: a reader of TOML 1.1, what is wrong with a document, and its numbers.
  *
  * The engine's module has no allocator, so the text is read here, and the codes 2 to 5 are found here. The codes 6 to 8 are
@@ -31,6 +32,9 @@ function daaToml(root) {
 
   /** A table, on which line each key stands, and how the table came to be: by a header, on the way to one, by a dotted key, as a value. */
   class Table extends Map {
+    /** @type {Map<string, number>} */ lines;
+    /** @type {any} */ origin;
+
     constructor(origin, line) {
       super();
       Object.assign(this, { origin, line, lines: new Map() });
@@ -153,7 +157,7 @@ function daaToml(root) {
       const parts = [];
       for (;;) {
         if (parts.length === MOST_NESTED) this.fail(`a key of more than ${MOST_NESTED} parts`);
-        if (this.nextIs('"') || this.nextIs("'")) parts.push(this.stringBody(this.text[this.at], false));
+        if (this.nextIs('"') || this.nextIs("'")) parts.push(this.stringBody(this.text[this.at]));
         else parts.push(this.skip(BARE_KEY) || this.fail("no key where one is wanted"));
         this.skip(SPACE);
         if (!this.take(".")) return parts;
@@ -167,7 +171,7 @@ function daaToml(root) {
         return this.take("[") ? this.array(depth + 1) : this.inlineTable(depth + 1);
       }
       for (const delimiter of ['"', "'"]) {
-        if (this.nextIs(delimiter)) return this.stringBody(delimiter, this.nextIs(delimiter.repeat(3)));
+        if (this.nextIs(delimiter)) return this.stringBody(delimiter, { multi: this.nextIs(delimiter.repeat(3)) });
       }
       return this.scalar(this.skip(WORD) || this.fail("no value where one is wanted"));
     }
@@ -200,7 +204,7 @@ function daaToml(root) {
       else if (!this.nextIs(closing)) this.need(closing);
     }
 
-    stringBody(delimiter, multi) {
+    stringBody(delimiter, { multi = false } = {}) {
       this.at += multi ? 3 : 1;
       if (multi) this.skip(LINE_END);
       let pieces = "";
@@ -373,7 +377,7 @@ function daaToml(root) {
       const table = document.get(name);
       const [low, high, each] = table instanceof Table ? ["min", "max", "step"].map((key) => table.get(key)) : [];
       if (![low, high, each].every(isNumber) || each < 1n) continue;
-      const count = (high - low) / each + 1n;
+      const count = /** @type {any} */ ((high - low) / each) + 1n;
       if (low > high) add(6, `${name}.min = ${low} is above ${name}.max = ${high}`, table.lines.get("min"));
       else if (count > MOST_VALUES) add(8, `${name} has ${count} candidates, and ${MOST_VALUES} are the most`, table.lines.get("step"));
     }

@@ -1,3 +1,4 @@
+// @ts-check
 /* What if an answer is flown from here: the ownship's flight is replaced by the candidate's, the traffic goes on as recorded, and what comes of it
  * stands beside what was recorded. The flown recording is shown, saved and judged as any other. */
 "use strict";

@@ -1,3 +1,4 @@
+// @ts-check
 /* What a display says in words: the answers under compass and tapes, its head, and its legend. */
 "use strict";
 (function (root) {
@@ -83,6 +84,7 @@
 
   /** The legend's rows, each a list of items with their widths. */
   function legendOf(config, font, width) {
+    /** @type {{ level?: number, open?: boolean, recover?: boolean, words: string, means?: string, wide?: number }[]} */
     const items = [{ level: 0, words: "clear" }];
     config.levels.forEach((_, l) => items.push(l + 1 === config.resolve
       ? { level: l + 1, words: `level ${l + 1}, corrective`, means: "corrective" } : { level: l + 1, words: `level ${l + 1}` }));

@@ -14,7 +14,7 @@ import unittest
 # Debian's package of each command that some tests call.
 PACKAGES = {"cc": "gcc", "c++": "g++", "cargo": "cargo", "node": "nodejs", "chromium": "chromium", "chromedriver": "chromium-driver",
             "aarch64-linux-gnu-gcc": "gcc-aarch64-linux-gnu", "qemu-aarch64": "qemu-user", "parallel": "parallel", "jq": "jq",
-            "pkg-config": "pkg-config", "cmake": "cmake", "make": "make", "dpkg-deb": "dpkg", "man": "man-db",
+            "pkg-config": "pkg-config", "cmake": "cmake", "make": "make", "tsc": "node-typescript", "dpkg-deb": "dpkg", "man": "man-db",
             "munged": "munge", "slurmctld": "slurmctld", "slurmd": "slurmd", "sbatch": "slurm-client",
             "dump1090-mutability": "dump1090-mutability"}
 MODULES = {"selenium": "python3-selenium", "distributed": "python3-distributed"}  # Debian's package of each module

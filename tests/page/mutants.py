@@ -195,6 +195,11 @@ MUTANTS = [
     ("the plane of a later moment is that of the first one", "flight.js", "if (turn === back && !back) return one;", "return one;",
      "test_whatif.Flown.test_in_a_turned_plane_the_present_flight_is_as_recorded"),
     ("a lesson offers another answer than it tells of", "whatif.js", "(said && followed(said)) ||", "", "test_whatif.Lessons.test_each_lesson_says_what_is_so"),
+    ("a field of a class is misspelt", "flight.js", "for (; this.second < seconds; this.second++)", "for (; this.secand < seconds; this.second++)",
+     "test_types.Types.test_each_script_is_checked"),
+    ("a name is taken for an age", "profile.js", "const age = one.age || 0;", "const age = one.nage || 0;", "test_types.Types.test_each_script_is_checked"),
+    ("a slider's least value is written with a minus", "handles.js", "least: told(LIMITS[kind][0]),", "least: shownValue(kind, LIMITS[kind][0]),",
+     "test_moved.Obeyed.test_sliders_say_true_numbers"),
     ("a file names a network", "index.html", '<script src="page.js">', '<script src="https://example.org/page.js">',
      "test_files.Files.test_no_file_names_a_network_address"),
 ]
