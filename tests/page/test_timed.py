@@ -16,8 +16,8 @@ class Timed(PageTest):
     CLOCK = """
         const clock = { now: 0, frames: [] };
         performance.now = () => clock.now;
-        requestAnimationFrame = (frame) => clock.frames.push(frame);
-        cancelAnimationFrame = () => {};
+        window.requestAnimationFrame = (frame) => clock.frames.push(frame);
+        window.cancelAnimationFrame = () => {};
         const step = (ms) => {
           clock.now += ms;
           for (const frame of clock.frames.splice(0)) frame(clock.now);
