@@ -13,7 +13,7 @@ class Answers(Checkout):
 
     def test_what_help_says_of_options_is_what_the_formats_say(self):
         said = self.call("--help")[1].decode()
-        options = re.findall(r"^\| `--(\w+)` \| (\d+) to (\d+); (\d+) where it is left out \|", text_of("docs/FORMATS.md"), re.M)
+        options = re.findall(r"^\| `--(\w+)` \| (\d+) to (\d+); (\d+) if it is left out \|", text_of("docs/FORMATS.md"), re.M)
         self.assertEqual([name for name, *_ in options], ["workers", "ahead"])
         for name, low, high, default in options:
             self.assertRegex(said, rf"(?m)^--{name} .*, {low} to {high} \({default}\)$")
