@@ -135,6 +135,44 @@ static struct daa_config config_in(const char *name) {
     return config;
 }
 
+/* The level of each candidate's value is that of the candidate, and some aircraft meets it at that level. */
+static void ask_of_values(const struct daa_config *config, const struct daa_lines *moment, const struct daa_board *board) {
+    static uint8_t levels[DAA_MOST_CANDIDATES];
+    size_t count;
+    must(daa_levels(config, moment->time, board, levels, sizeof levels, &count), "daa_levels");
+    for (uint32_t index = 0; index < count; index++) {
+        struct daa_candidate_answer to;
+        uint32_t level;
+        uint64_t places = 0;
+        must(daa_candidate(config, index, &to), "daa_candidate");
+        must(daa_value_level(config, &moment->own, moment->traffic, moment->count, to.kind, to.value, &level), "daa_value_level");
+        if (level) must(daa_closers(config, &moment->own, moment->traffic, moment->count, to.kind, to.value, level, level, &places), "daa_closers");
+        if (level != levels[index] || !places != !level) exit(1);
+    }
+}
+
+/* One of one, not held: an alert is shown as it is. The preferred side is taken if it has a value. */
+static void show_at_once(const struct daa_config *config, const struct daa_lines *moment, const struct daa_board *board) {
+    const struct daa_steady_rule rule = {1, 1, 0};
+    for (uint64_t place = 0; place < moment->count; place++) {
+        struct daa_steady_state state = {{0}, {0}, 0, 0};
+        struct daa_alert_answer alert;
+        uint32_t shown;
+        must(daa_alert(config, &moment->own, &moment->traffic[place], &alert), "daa_alert");
+        must(daa_steady(&rule, moment->time, (int32_t)alert.level, &state, &shown), "daa_steady");
+        if (shown != alert.level) exit(1);
+    }
+    for (int32_t kind = DAA_TRACK; kind <= DAA_HEIGHT; kind++) {
+        struct daa_side_state state = {0, 0, 0};
+        struct daa_resolution_answer lower, upper;
+        int32_t shown;
+        must(daa_resolution(config, moment->time, &moment->own, board, kind, DAA_LOWER, &lower), "daa_resolution");
+        must(daa_resolution(config, moment->time, &moment->own, board, kind, DAA_UPPER, &upper), "daa_resolution");
+        must(daa_steady_side(10, moment->time, lower.what, upper.what, DAA_UPPER, &state, &shown), "daa_steady_side");
+        if (shown != (upper.what == 1 ? DAA_UPPER : lower.what == 1 ? DAA_LOWER : -1)) exit(1);
+    }
+}
+
 /* A state that is flown for no time stays as it is. */
 static void fly_nowhere(const struct daa_lines *moment) {
     struct daa_traffic traffic;
@@ -168,6 +206,8 @@ int main(int words, char **word) {
     printf("fault %d %d %d %d %d\n", (int)fault.code, (int)fault.field, (int)fault.least, (int)fault.greatest, (int)fault.place);
     fly_nowhere(&moment);
     decide_in_halves(&config, &moment, &board);
+    ask_of_values(&config, &moment, &board);
+    show_at_once(&config, &moment, &board);
     print_candidates(&config, moment.time, &board);
     printf("moment %u\n", (unsigned)moment.time);
     print_alerts(&config, &moment);

@@ -103,6 +103,24 @@ class Moment {
         return to;
     }
 
+    // The places of the aircraft that the flight to a value of a kind meets at some level from least up to greatest. The value may
+    // be any that the kind can have.
+    std::vector<std::size_t> closers(int32_t kind, int32_t value, uint32_t least, uint32_t greatest) const {
+        uint64_t places = 0;
+        check("daa_closers", daa_closers(config_.numbers(), &own_, aircraft(), traffic_.size(), kind, value, least, greatest, &places));
+        std::vector<std::size_t> found;
+        for (std::size_t place = 0; place < traffic_.size(); place++)
+            if (places >> place & 1) found.push_back(place);
+        return found;
+    }
+
+    // The level of the flight to a value of a kind, any that the kind can have.
+    uint32_t value_level(int32_t kind, int32_t value) const {
+        uint32_t level;
+        check("daa_value_level", daa_value_level(config_.numbers(), &own_, aircraft(), traffic_.size(), kind, value, &level));
+        return level;
+    }
+
     // The moment's text, as the program writes it.
     std::string report() const {
         std::string text(DAA_MOST_TEXT, '\0');
@@ -138,6 +156,40 @@ inline daa_own fly(const daa_own &reported, uint64_t at, uint64_t now, uint32_t 
     check("daa_fly_own", daa_fly_own(&reported, at, now, most, &flown));
     return flown;
 }
+
+// What is shown of one aircraft's alerts from moment to moment.
+class Steady {
+  public:
+    Steady(uint32_t m, uint32_t n, uint32_t hold) : rule_{m, n, hold} {}
+
+    // The level to be shown in a moment in which the aircraft's alert has this level, or DAA_ABSENT. Times rise.
+    uint32_t take(uint32_t time, int32_t level) {
+        uint32_t shown;
+        check("daa_steady", daa_steady(&rule_, time, level, &state_, &shown));
+        return shown;
+    }
+
+  private:
+    daa_steady_rule rule_;
+    daa_steady_state state_ = {};
+};
+
+// The side of one kind's answer that is shown from moment to moment.
+class SteadySide {
+  public:
+    explicit SteadySide(uint32_t seconds) : seconds_(seconds) {}
+
+    // The side whose value is to be shown in a moment with these answers, or -1. Times rise.
+    int32_t take(uint32_t time, const daa_resolution_answer &lower, const daa_resolution_answer &upper, int32_t preferred) {
+        int32_t shown;
+        check("daa_steady_side", daa_steady_side(seconds_, time, lower.what, upper.what, preferred, &state_, &shown));
+        return shown;
+    }
+
+  private:
+    uint32_t seconds_;
+    daa_side_state state_ = {};
+};
 
 } // namespace daidalus
 

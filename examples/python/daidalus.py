@@ -175,6 +175,10 @@ SENTENCES = {
     30: "the board was changed, or copied while it was filled in",
     31: "the report is too old",
     32: "the report is of a time more than a second ahead",
+    33: "m is not 1 to n, or n is above 16",
+    34: "the level is none of an alert, or the levels are none of the configuration",
+    35: "the time is not after that of the moment before",
+    36: "no flight of the kind goes to the value",
 }
 FIELDS = ("", "x", "y", "alt", "trk", "gs", "vs", "vx", "vy", "age")
 
@@ -228,6 +232,9 @@ class C:
     Resolution = struct(("what value", c_int32))
     Recovery = struct(("found", c_int32), ("after", c_uint32), ("value", c_int32))
     Last = struct(("found", c_int32), ("after", c_uint32))
+    SteadyRule = struct(("m n hold", c_uint32))
+    Steady = struct(("recent", c_uint8 * 16), ("ends", c_uint64 * 4), ("gone next", c_uint64))
+    Side = struct(("side", c_uint32), ("until next", c_uint64))
 
 
 def c_config(config):
@@ -326,6 +333,14 @@ class Engine:
         self.ask("daa_fly_own", byref(reported), c_uint64(at), c_uint64(now), c_uint32(held(most, c_uint32)), byref(flown))
         return Own(*OWN.unpack_from(flown))
 
+    def steady(self, m: int = 2, n: int = 4, hold: int = 5) -> "Steady":
+        """What is shown of an aircraft's alerts: a level once m of the last n moments had it, and for `hold` seconds after."""
+        return Steady(self, m, n, hold)
+
+    def steady_side(self, seconds: int) -> "SteadySide":
+        """The side of a kind's answer that is shown: it stays for so many seconds, unless it has no answer."""
+        return SteadySide(self, seconds)
+
     def loop(self, config: Config) -> "Moment":
         """A moment for a loop: decide it again and again. Its structs are made once."""
         return Moment(self, config)
@@ -336,6 +351,33 @@ class Engine:
         moment = Moment(self, config)
         moment.decide(time, own, traffic)
         return moment
+
+
+class Steady:
+    """What is shown of one aircraft's alerts from moment to moment."""
+
+    def __init__(self, engine, m, n, hold):
+        self.engine, self.rule, self.state, self.shown = engine, C.SteadyRule(m, n, hold), C.Steady(), c_uint32()
+
+    def take(self, time: int, level: Optional[int]) -> int:
+        """The level to be shown in a moment in which the aircraft's alert has this level, or None if the moment has not the
+        aircraft. Times rise. Refused where the rule, the level or the time is wrong; then nothing has changed."""
+        level = -1 if level is None else level if 0 <= level else 2**31 - 1
+        self.engine.ask("daa_steady", byref(self.rule), c_uint32(time_of(time)), level, byref(self.state), byref(self.shown))
+        return self.shown.value
+
+
+class SteadySide:
+    """The side of one kind's answer that is shown from moment to moment."""
+
+    def __init__(self, engine, seconds):
+        self.engine, self.seconds, self.state, self.shown = engine, c_uint32(time_of(seconds)), C.Side(), c_int32()
+
+    def take(self, time: int, lower: Resolution, upper: Resolution, preferred: Side) -> Optional[Side]:
+        """The side whose value is to be shown in a moment with these answers, or None. Times rise."""
+        lower, upper = (0 if it.keep else 2 if it.value is None else 1 for it in (lower, upper))
+        self.engine.ask("daa_steady_side", self.seconds, c_uint32(time_of(time)), lower, upper, preferred, byref(self.state), byref(self.shown))
+        return None if self.shown.value < 0 else Side(self.shown.value)
 
 
 def time_of(time):
@@ -433,6 +475,20 @@ class Moment:
         to = C.Last()
         self.engine.ask("daa_last", self.config, *self.picture, kind, byref(to))
         return to.after if to.found else None
+
+    def closers(self, kind: Kind, value: int, least: int, greatest: int) -> List[int]:
+        """The places of the aircraft that the flight to a value of a kind meets at some level from least up to greatest. The value
+        may be any that the kind can have, also one that the configuration does not list."""
+        places = c_uint64()
+        self.engine.ask("daa_closers", self.config, *self.picture, kind, value, c_uint32(held(least, c_uint32)), c_uint32(held(greatest, c_uint32)),
+                        byref(places))
+        return [place for place in range(MOST_AIRCRAFT) if places.value >> place & 1]
+
+    def value_level(self, kind: Kind, value: int) -> int:
+        """The level of the flight to a value of a kind, any that the kind can have: the greatest at which it meets some aircraft, or 0."""
+        level = c_uint32()
+        self.engine.ask("daa_value_level", self.config, *self.picture, kind, value, byref(level))
+        return level.value
 
     def report(self, time: int) -> bytes:
         """The moment's text, as the program writes it. The time is in seconds, 0 to 4294967295."""

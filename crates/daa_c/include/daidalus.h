@@ -88,7 +88,11 @@ enum {
     DAA_OTHER_TIME = 29,         /* the board is of another time */
     DAA_DAMAGED_BOARD = 30,      /* the board has not the sum of its masks: it was changed, or copied while it was filled in */
     DAA_TOO_OLD = 31,            /* the report is older than the caller allows, or 61 seconds old */
-    DAA_AHEAD = 32               /* the report is of a time more than a second ahead */
+    DAA_AHEAD = 32,              /* the report is of a time more than a second ahead */
+    DAA_BAD_RULE = 33,           /* m is not 1 to n, or n is above 16 */
+    DAA_BAD_LEVEL = 34,          /* the level is none of an alert, or the levels are none of the configuration */
+    DAA_NOT_LATER = 35,          /* the time is not after that of the moment before */
+    DAA_BAD_VALUE = 36           /* no flight of the kind goes to the value */
 };
 
 /* What a candidate changes. DAA_HOLD is the present flight, which is of no kind. */
@@ -245,6 +249,28 @@ struct daa_last_answer {
     uint32_t after;
 };
 
+/* When an alert is shown: a level counts if at least m of the last n moments with the aircraft had it or a greater one, and is
+ * shown then and for hold seconds after. m is 1 to n, n at most 16, hold any number. */
+struct daa_steady_rule {
+    uint32_t m, n, hold;
+};
+
+/* What is kept of an aircraft from one moment to the next. All zeros: nothing. recent: the levels of its last moments, the latest
+ * first. ends[l - 1]: the first second at which level l is no longer shown. gone: the first second at which the aircraft is
+ * forgotten where it is absent. next: the first second that is taken. */
+struct daa_steady_state {
+    uint8_t recent[16];
+    uint64_t ends[4];
+    uint64_t gone, next;
+};
+
+/* What is kept of a kind's side from one moment to the next. All zeros: nothing. side: 0 for none, else 1 more than its number
+ * (enum daa_side). until: the first second at which another side may take its place. next: the first second that is taken. */
+struct daa_side_state {
+    uint32_t side;
+    uint64_t until, next;
+};
+
 /* State lines, as docs/FORMATS.md has them, so far. All zeros: none, and the lines that come are in format 1.
  * format: 2 if they are in format 2, else they are in format 1. last: the time of the last ended moment, if ended is not 0.
  * opened: not 0 while a moment is open. Then time is its time in seconds, own its ownship if owned is not 0, and the first
@@ -295,6 +321,10 @@ static inline const char *daa_text(int32_t answer) {
     case DAA_DAMAGED_BOARD: return "the board was changed, or copied while it was filled in";
     case DAA_TOO_OLD: return "the report is too old";
     case DAA_AHEAD: return "the report is of a time more than a second ahead";
+    case DAA_BAD_RULE: return "m is not 1 to n, or n is above 16";
+    case DAA_BAD_LEVEL: return "the level is none of an alert, or the levels are none of the configuration";
+    case DAA_NOT_LATER: return "the time is not after that of the moment before";
+    case DAA_BAD_VALUE: return "no flight of the kind goes to the value";
     default: return "the answer is none of daidalus.h";
     }
 }
@@ -404,6 +434,49 @@ int32_t daa_last(const struct daa_config *config, const struct daa_own *own, con
 DAA_MUST_USE
 int32_t daa_report(const struct daa_config *config, uint32_t time, const struct daa_own *own, const struct daa_traffic *traffic,
                    size_t count, uint8_t *text, size_t room, size_t *length);
+
+/* ---- flights to any value */
+
+/* Fills in the set of the aircraft, bit p (1 << p) for traffic[p], that the flight to a value of a kind meets at some level from
+ * least up to greatest, each 1 to the configuration's count of levels: within that level's lookahead it violates the level's
+ * volume round the aircraft. From resolve up to count these are the aircraft that close it. The value may be any that the kind
+ * can have, and need not be a candidate of the configuration: a track of 0 to 359 degrees, a ground speed of 0 to 10000, a
+ * vertical speed of -10000 to 10000, an altitude of -2000 to 60000. DAA_HOLD with the value 0 is the present flight. After the
+ * states' codes it answers DAA_BAD_VALUE, also where the kind is none, and DAA_BAD_LEVEL. */
+DAA_MUST_USE
+int32_t daa_closers(const struct daa_config *config, const struct daa_own *own, const struct daa_traffic *traffic, size_t count,
+                    int32_t kind, int32_t value, uint32_t least, uint32_t greatest, uint64_t *places);
+
+/* Fills in the level of the flight to a value of a kind, as above any that the kind can have: the greatest at which it meets some
+ * aircraft, or 0. Of a candidate it is the level that daa_levels fills in. */
+DAA_MUST_USE
+int32_t daa_value_level(const struct daa_config *config, const struct daa_own *own, const struct daa_traffic *traffic, size_t count,
+                        int32_t kind, int32_t value, uint32_t *level);
+
+/* ---- from one moment to the next */
+
+/* The level of a moment that has not the aircraft. */
+enum { DAA_ABSENT = -1 };
+
+/* Takes the alert level of an aircraft in a moment (level of struct daa_alert_answer, 0 to 4), or DAA_ABSENT if the moment has not
+ * the aircraft, and fills in the level to be shown: the greatest that is shown by the rule, or 0. state is the caller's, one for
+ * each aircraft, all zeros at first; call it once in each moment. time is the moment's second: times rise, and to begin anew the
+ * caller sets state to zeros. An aircraft that is absent keeps its levels, which are shown as long as they would be; once more
+ * than hold seconds have passed since the last moment that had it, it is forgotten, and begins anew if it comes back.
+ * DAA_BAD_RULE, else DAA_BAD_LEVEL, else DAA_NOT_LATER; then state is unchanged too. */
+DAA_MUST_USE
+int32_t daa_steady(const struct daa_steady_rule *rule, uint32_t time, int32_t level, struct daa_steady_state *state,
+                   uint32_t *shown);
+
+/* Takes what the answers on the two sides of a kind are in a moment (lower and upper: `what` of each struct daa_resolution_answer),
+ * and which side is preferred (enum daa_side), and fills in the side whose value is to be shown, or -1. A side that was taken stays
+ * for so many seconds, unless its answer is 2, that there is none. After these seconds, or where no side was taken, it is the
+ * preferred one if that has a value, else the other one if that has. While the present flight may be kept no side is shown, and the
+ * one that was taken stays for its seconds. state and time are as above. DAA_BAD_SIDE, else DAA_NOT_LATER; then
+ * state is unchanged too. */
+DAA_MUST_USE
+int32_t daa_steady_side(uint32_t seconds, uint32_t time, int32_t lower, int32_t upper, int32_t preferred,
+                        struct daa_side_state *state, int32_t *shown);
 
 #ifdef __cplusplus
 }

@@ -2,7 +2,9 @@
 //! function of daa_numbers.
 #![tactic(auto)]
 
+mod closing;
 mod configuration;
 mod moments;
 mod states;
+mod steadying;
 mod version;

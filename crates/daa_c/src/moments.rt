@@ -7,7 +7,8 @@ ghost use Rattle.daa_numbers.specs.Asked.{HasMoreValues, HasNoKind, IsResolution
 ghost use Rattle.daa_numbers.specs.Asked.{HasSideBut, AsksForNone, AsksForNoLast};
 ghost use Rattle.daa_numbers.specs.Asked.{IsLastUnder, IsRecoveryUnder, IsReported, HasLongerText};
 ghost use Rattle.daa_numbers.specs.Boards.{IsNoBoard, IsDamaged, IsOfOtherTime, IsOfOtherOwn};
-ghost use Rattle.daa_numbers.specs.Boards.{IsJoinedTo};
+ghost use Rattle.daa_numbers.specs.Boards.{IsJoinedTo, IsOneDamaged};
+ghost use Rattle.daa_numbers.specs.Boards.{AreOfTwoTimes, AreOfTwoOwns};
 ghost use Rattle.daa_numbers.specs.Codes.{answer_of};
 ghost use Rattle.daa_numbers.specs.Numbers.{settings_by};
 ghost use Rattle.daa_numbers.specs.Refusal.{refusal_of_two, IsCodeOf, refusal_of};
@@ -65,11 +66,9 @@ pub extern "C" fn daa_join(config: &DaaConfig, more: &DaaBoard, board: &mut DaaB
     ensures kept { result ≢ pos 0 → board.new ≡ board.old }
     ensures bad_board { result ≡ pos 27
         → IsNoBoard config.now more.now ⊎ IsNoBoard config.now board.old }
-    ensures damaged { result ≡ pos 30
-        → IsDamaged config.now more.now ⊎ IsDamaged config.now board.old }
-    ensures other_time { result ≡ pos 29 → IsOfOtherTime config.now board.old.time more.now }
-    ensures other_own { result ≡ pos 28
-        → IsOfOtherOwn config.now board.old.time board.old.own more.now }
+    ensures damaged { result ≡ pos 30 → IsOneDamaged config.now more.now board.old }
+    ensures other_time { result ≡ pos 29 → AreOfTwoTimes config.now more.now board.old }
+    ensures other_own { result ≡ pos 28 → AreOfTwoOwns config.now more.now board.old }
     ensures refused { result ≢ pos 0 → result ≢ pos 27 → result ≢ pos 28 → result ≢ pos 29
         → result ≢ pos 30 → answer_of (settings_by config.now) ≡ result }
 {

@@ -1,6 +1,6 @@
 //! Calls on states alone.
 
-ghost use Rattle.std.specs.Prelude.{◌≡◌, ◌≤◌, pos, ◌≢◌, negsuc, true, false};
+ghost use Rattle.std.specs.Prelude.{◌≡◌, ◌≤◌, pos, ◌≢◌, negsuc, true, false, None};
 ghost use Rattle.daa_numbers.specs.Faults.{IsFaultOf};
 ghost use Rattle.daa_numbers.specs.Flown.{IsAhead, IsTooOld, IsFlown, IsOwnFlown, IsSoundBut};
 ghost use Rattle.daa_numbers.specs.Lines.{IsLineTaken, IsLineRefused, KeepsMoment};
@@ -44,6 +44,7 @@ pub extern "C" fn daa_fly(
     most: u32,
     out: &mut DaaTraffic,
 ) -> i32
+    ensures sound { result ≡ pos 0 → traffic_refusal (record traffic.now { age = 0 }) ≡ None }
     ensures flown { result ≡ pos 0 → IsFlown at now most traffic.now out.new }
     ensures kept { result ≢ pos 0 → out.new ≡ out.old }
     ensures too_old { result ≡ pos 31
@@ -61,6 +62,7 @@ pub extern "C" fn daa_fly(
 /// second ahead is flown back. Returns 0, or the code of why nothing was filled in.
 #[unsafe(no_mangle)]
 pub extern "C" fn daa_fly_own(own: &Own, at: u64, now: u64, most: u32, out: &mut Own) -> i32
+    ensures sound { result ≡ pos 0 → own_refusal own.now ≡ None }
     ensures flown { result ≡ pos 0 → IsOwnFlown at now most own.now out.new }
     ensures kept { result ≢ pos 0 → out.new ≡ out.old }
     ensures too_old { result ≡ pos 31

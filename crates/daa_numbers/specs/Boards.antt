@@ -1,5 +1,5 @@
 -- Boards that are marked with the configuration and the moment that they were decided of.
-use Rattle.std.specs.Prelude.{◌≡◌, ◌≢◌, ◌≤◌, ◌+◌, ◌-◌, ◌*◌, ◌%◌, ◌^◌, ◌∷◌, ◌++◌, [], ℕ, ℤ, zero, suc, pos, nat_lt, List, length, slice_index, slice_get, take, bit_or, Option, Some, None, Ok, if◌then◌else◌}
+use Rattle.std.specs.Prelude.{◌≡◌, ◌≢◌, ◌⊎◌, ◌≤◌, ◌+◌, ◌-◌, ◌*◌, ◌%◌, ◌^◌, ◌∷◌, ◌++◌, [], ℕ, ℤ, zero, suc, pos, nat_lt, List, length, slice_index, slice_get, take, bit_or, Option, Some, None, Ok, if◌then◌else◌}
 use Rattle.std.specs.List.{fold}
 use Rattle.daa_config.specs.Candidates.{candidates_of}
 use Rattle.daa_config.specs.Settings.{Settings}
@@ -113,6 +113,31 @@ pub record IsOfOtherOwn (config : DaaConfig) (time : ℕ) (own : Own) (board : D
   pub other : board.own ≢ own
 
 -- ---- boards joined
+
+-- the configuration is accepted, and both boards are marked with it, but one has not the sum of its masks
+pub record IsOneDamaged (config : DaaConfig) (one other : DaaBoard) : Type 0 where
+  pub settings : Settings
+  pub accepted : settings_by config ≡ Ok settings
+  pub marked_one : IsMarked config settings one
+  pub marked_other : IsMarked config settings other
+  pub damaged : (one.sum ≢ board_sum settings one.masks) ⊎ (other.sum ≢ board_sum settings other.masks)
+
+-- the configuration is accepted, and both boards are whole, but of two times
+pub record AreOfTwoTimes (config : DaaConfig) (one other : DaaBoard) : Type 0 where
+  pub settings : Settings
+  pub accepted : settings_by config ≡ Ok settings
+  pub whole_one : IsWhole config settings one
+  pub whole_other : IsWhole config settings other
+  pub two : one.time ≢ other.time
+
+-- the configuration is accepted, and both boards are whole and of one time, but of two ownships
+pub record AreOfTwoOwns (config : DaaConfig) (one other : DaaBoard) : Type 0 where
+  pub settings : Settings
+  pub accepted : settings_by config ≡ Ok settings
+  pub whole_one : IsWhole config settings one
+  pub whole_other : IsWhole config settings other
+  pub one_time : one.time ≡ other.time
+  pub two : one.own ≢ other.own
 
 -- each joined mask has the bits of both
 abbrev pub AreJoined : (one other joined : List ℕ) → Type 0

@@ -10,3 +10,4 @@ pub mod Lines
 pub mod Boards
 pub mod Both
 pub mod Flown
+pub mod Closing

@@ -33,6 +33,10 @@ pub(crate) const DAMAGED_BOARD: i32 = 30;
 pub(crate) const TOO_OLD: i32 = 31;
 /// The report is of a time more than a second ahead.
 pub(crate) const AHEAD: i32 = 32;
+/// The levels are none of the configuration.
+pub(crate) const BAD_LEVEL: i32 = 34;
+/// No flight of the kind goes to the value.
+pub(crate) const BAD_VALUE: i32 = 36;
 
 /// The code of a configuration's fault: 1 to 8, or that there is no memory.
 pub(crate) fn fault_code(fault: ConfigFault) -> i32

@@ -2,7 +2,7 @@
 //! moment.
 
 ghost use Rattle.std.specs.Prelude.{◌≡◌, ◌≢◌, ◌<◌, ◌≤◌, ℤ, pos, neg_ℤ, ◌<ℤ◌, ◌+ℤ◌, ◌*ℤ◌, ◌*◌};
-ghost use Rattle.std.specs.Prelude.{IfOk, IfErr};
+ghost use Rattle.std.specs.Prelude.{IfOk, IfErr, None};
 ghost use Rattle.daa_fixed.specs.Size.{IsFrom, IsWithin};
 ghost use Rattle.daa_state.specs.InRange.{IsOwnInRange, IsTrafficInRange};
 ghost use Rattle.daa_numbers.specs.Flown.{nearest, place_after, altitude_after, flown_traffic};
@@ -150,6 +150,7 @@ fn ageless(traffic: &DaaTraffic) -> DaaTraffic
 /// what is left. A report of up to a second ahead is flown back. The age of the report itself is
 /// not read. Returns 0, or the code of why nothing was filled in.
 pub fn fly(traffic: &DaaTraffic, at: u64, now: u64, most: u32, out: &mut DaaTraffic) -> i32
+    ensures sound { result ≡ pos 0 → traffic_refusal (record traffic.now { age = 0 }) ≡ None }
     ensures flown { result ≡ pos 0 → IsFlown at now most traffic.now out.new }
     ensures kept { result ≢ pos 0 → out.new ≡ out.old }
     ensures too_old { result ≡ pos 31
@@ -176,6 +177,7 @@ pub fn fly(traffic: &DaaTraffic, at: u64, now: u64, most: u32, out: &mut DaaTraf
 /// flown straight on over all of its age, since the engine takes it as it is. A report of up to a
 /// second ahead is flown back. Returns 0, or the code of why nothing was filled in.
 pub fn fly_own(own: &Own, at: u64, now: u64, most: u32, out: &mut Own) -> i32
+    ensures sound { result ≡ pos 0 → own_refusal own.now ≡ None }
     ensures flown { result ≡ pos 0 → IsOwnFlown at now most own.now out.new }
     ensures kept { result ≢ pos 0 → out.new ≡ out.old }
     ensures too_old { result ≡ pos 31

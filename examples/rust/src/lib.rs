@@ -15,6 +15,7 @@
 mod raw;
 
 use std::fmt;
+use std::ops::RangeInclusive;
 
 const MOST_TEXT: usize = 130176;
 const MOST_CANDIDATES: usize = 1897;
@@ -167,6 +168,10 @@ fn sentence(code: i32) -> &'static str {
         30 => "the board was changed, or copied while it was filled in",
         31 => "the report is too old",
         32 => "the report is of a time more than a second ahead",
+        33 => "m is not 1 to n, or n is above 16",
+        34 => "the level is none of an alert, or the levels are none of the configuration",
+        35 => "the time is not after that of the moment before",
+        36 => "no flight of the kind goes to the value",
         _ => "the engine refused the call",
     }
 }
@@ -382,6 +387,29 @@ impl Moment {
         Ok((to.found != 0).then_some(to.after))
     }
 
+    /// The places of the aircraft that the flight to a value of a kind meets at some of these levels. The value may be any that the
+    /// kind can have, also one that the configuration does not list.
+    pub fn closers(&self, kind: Kind, value: i32, levels: RangeInclusive<u32>) -> Result<Vec<usize>, Refused> {
+        let (traffic, mut places) = (&self.traffic, 0);
+        let (least, greatest) = levels.into_inner();
+        // SAFETY: as above.
+        done(unsafe {
+            let (traffic, count) = (traffic.as_ptr(), traffic.len());
+            raw::daa_closers(&self.config, &self.own, traffic, count, kind as i32, value, least, greatest, &mut places)
+        })?;
+        Ok((0..64).filter(|place| places >> place & 1 == 1).collect())
+    }
+
+    /// The level of the flight to a value of a kind, any that the kind can have: the greatest at which it meets some aircraft, or 0.
+    pub fn value_level(&self, kind: Kind, value: i32) -> Result<u32, Refused> {
+        let (traffic, mut level) = (&self.traffic, 0);
+        // SAFETY: as above.
+        done(unsafe {
+            raw::daa_value_level(&self.config, &self.own, traffic.as_ptr(), traffic.len(), kind as i32, value, &mut level)
+        })?;
+        Ok(level)
+    }
+
     /// The moment's text, as the program writes it.
     pub fn report(&self, time: u32) -> Result<String, Refused> {
         let (traffic, mut text, mut length) = (&self.traffic, vec![0; MOST_TEXT], 0);
@@ -392,5 +420,64 @@ impl Moment {
         })?;
         text.truncate(length);
         Ok(String::from_utf8_lossy(&text).into_owned())
+    }
+}
+
+/// What is shown of one aircraft's alerts from moment to moment: a level counts if at least m of the last n moments with the
+/// aircraft had it or a greater one, and is shown then and for `hold` seconds after.
+pub struct Steady {
+    rule: raw::SteadyRule,
+    state: raw::SteadyState,
+}
+
+impl Steady {
+    /// Nothing is kept yet. `m` is 1 to `n`, and `n` at most 16.
+    pub fn new(m: u32, n: u32, hold: u32) -> Steady {
+        check_version();
+        Steady { rule: raw::SteadyRule { m, n, hold }, state: raw::SteadyState::default() }
+    }
+
+    /// The level to be shown in a moment in which the aircraft's alert has this level, or `None` if the moment has not the
+    /// aircraft. Times rise. Where the rule, the level or the time is refused nothing has changed.
+    pub fn take(&mut self, time: u32, level: Option<u32>) -> Result<u32, Refused> {
+        let mut shown = 0;
+        let level = level.map_or(-1, |level| i32::try_from(level).unwrap_or(i32::MAX));
+        // SAFETY: nothing else borrows the state.
+        done(unsafe { raw::daa_steady(&self.rule, time, level, &mut self.state, &mut shown) })?;
+        Ok(shown)
+    }
+}
+
+/// The side of one kind's answer that is shown from moment to moment: one that was taken stays for some seconds, unless its answer
+/// is [`Resolution::Nothing`].
+pub struct SteadySide {
+    seconds: u32,
+    state: raw::SideState,
+}
+
+impl SteadySide {
+    /// Nothing is kept yet.
+    pub fn new(seconds: u32) -> SteadySide {
+        check_version();
+        SteadySide { seconds, state: raw::SideState::default() }
+    }
+
+    /// The side whose value is to be shown in a moment with these answers, or `None`. Times rise.
+    pub fn take(&mut self, time: u32, lower: Resolution, upper: Resolution, preferred: Side) -> Result<Option<Side>, Refused> {
+        let what = |answer| match answer {
+            Resolution::Keep => 0,
+            Resolution::To(_) => 1,
+            Resolution::Nothing => 2,
+        };
+        let (lower, upper, mut shown) = (what(lower), what(upper), 0);
+        // SAFETY: nothing else borrows the state.
+        done(unsafe {
+            raw::daa_steady_side(self.seconds, time, lower, upper, preferred as i32, &mut self.state, &mut shown)
+        })?;
+        Ok(match shown {
+            0 => Some(Side::Lower),
+            1 => Some(Side::Upper),
+            _ => None,
+        })
     }
 }

@@ -84,6 +84,31 @@ pub struct Last {
     pub after: u32,
 }
 
+#[repr(C)]
+#[derive(Clone, Copy)]
+pub struct SteadyRule {
+    pub m: u32,
+    pub n: u32,
+    pub hold: u32,
+}
+
+#[repr(C)]
+#[derive(Clone, Copy, Default)]
+pub struct SteadyState {
+    pub recent: [u8; 16],
+    pub ends: [u64; 4],
+    pub gone: u64,
+    pub next: u64,
+}
+
+#[repr(C)]
+#[derive(Clone, Copy, Default)]
+pub struct SideState {
+    pub side: u32,
+    pub until: u64,
+    pub next: u64,
+}
+
 #[rustfmt::skip]
 extern "C" {
     pub fn daa_version() -> i32;
@@ -101,4 +126,8 @@ extern "C" {
     pub fn daa_recovery(config: *const Config, own: *const Own, traffic: *const Traffic, count: usize, kind: i32, out: *mut Recovery) -> i32;
     pub fn daa_last(config: *const Config, own: *const Own, traffic: *const Traffic, count: usize, kind: i32, out: *mut Last) -> i32;
     pub fn daa_report(config: *const Config, time: u32, own: *const Own, traffic: *const Traffic, count: usize, text: *mut u8, room: usize, length: *mut usize) -> i32;
+    pub fn daa_closers(config: *const Config, own: *const Own, traffic: *const Traffic, count: usize, kind: i32, value: i32, least: u32, greatest: u32, places: *mut u64) -> i32;
+    pub fn daa_value_level(config: *const Config, own: *const Own, traffic: *const Traffic, count: usize, kind: i32, value: i32, level: *mut u32) -> i32;
+    pub fn daa_steady(rule: *const SteadyRule, time: u32, level: i32, state: *mut SteadyState, shown: *mut u32) -> i32;
+    pub fn daa_steady_side(seconds: u32, time: u32, lower: i32, upper: i32, preferred: i32, state: *mut SideState, shown: *mut i32) -> i32;
 }

@@ -4,7 +4,7 @@ use Rattle.daa_numbers.specs.Asked.{HasNoKind}
 use Rattle.daa_numbers.specs.Refusal.{IsCodeOf}
 use Rattle.daa_numbers.specs.declared.refusal.Refusal.{Refusal}
 
--- the code is none of room that is too short, a kind, a side, what is not asked for, or a board
+-- the code is none of room that is too short, a kind, a side, what is not asked for, a board, a time, a level or a flight
 pub record IsOfStates (code : ℤ) : Type 0 where
   pub long : code ≢ pos 19
   pub kind : code ≢ pos 23
@@ -16,6 +16,8 @@ pub record IsOfStates (code : ℤ) : Type 0 where
   pub damage : code ≢ pos 30
   pub old : code ≢ pos 31
   pub ahead : code ≢ pos 32
+  pub level : code ≢ pos 34
+  pub flight : code ≢ pos 36
 
 -- the code is that of a refusal, which is there, and no other code
 pub record IsRefused (refusal : Option Refusal) (code : ℤ) : Type 0 where
