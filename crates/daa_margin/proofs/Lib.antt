@@ -12,3 +12,4 @@ pub mod Comparisons
 pub mod Stretches
 pub mod Lines
 pub mod Deciding
+pub mod Later

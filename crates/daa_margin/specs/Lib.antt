@@ -1,4 +1,5 @@
 pub mod ErrorBounds
 pub mod MayViolate
+pub mod Later
 pub mod Examples
 pub mod Inside

@@ -1,12 +1,14 @@
 //! Laws of the volume where errors have bounds.
 
-ghost use Rattle.std.specs.Prelude.{ℤ, pos, ◌≤ℤ◌, ◌⊎◌};
+ghost use Rattle.std.specs.Prelude.{ℕ, ℤ, pos, ◌≤◌, ◌≤ℤ◌, ◌+ℤ◌, ◌*ℤ◌, ◌⊎◌, ◌↔◌};
 ghost use Rattle.daa_fixed.specs.declared.Leg.{Leg};
+ghost use Rattle.daa_fixed.specs.Time.{HoldsSometime};
 ghost use Rattle.daa_taumod.specs.declared.Volume.{Volume};
 ghost use Rattle.daa_taumod.specs.Volume.{Violates};
 ghost use Rattle.daa_margin.specs.declared.ErrorBounds.{ErrorBounds};
 ghost use Rattle.daa_margin.specs.ErrorBounds.{AreNoWider, IsWithinErrors};
 ghost use Rattle.daa_margin.specs.MayViolate.{IsVolumeWithin, MayViolate};
+ghost use Rattle.daa_margin.specs.Later.{second_of, bounds_after, MayViolateOnSomeSecond};
 
 /// No true violation is missed: where the truth violates the volume, by any of the four models, and
 /// is within the bounds of what is reported at that time, what is reported may violate it.
@@ -36,4 +38,16 @@ pub fn may_violate_is_decidable()
     ensures { (leg : Leg) (volume : Volume) (bounds : ErrorBounds) (n d : ℤ) →
         pos 0 ≤ℤ n → pos 1 ≤ℤ d →
         MayViolate leg volume bounds n d ⊎ ¬ MayViolate leg volume bounds n d }
+{}
+
+/// A leg says what its seconds say: k seconds later, with the bounds that have grown until then,
+/// the volume may be violated exactly where it may be k seconds later on the leg. So a leg that is
+/// decided at once is met exactly if one of its seconds is, each decided alone.
+pub fn a_leg_is_its_seconds()
+    ensures at_each_time { (leg : Leg) (volume : Volume) (bounds : ErrorBounds) (k : ℕ) (n d : ℤ) →
+        MayViolate (second_of leg k) volume (bounds_after bounds k) n d
+        ↔ MayViolate leg volume bounds (n +ℤ pos k *ℤ d) d }
+    ensures at_some_time { (leg : Leg) (volume : Volume) (bounds : ErrorBounds) → 1 ≤ leg.secs →
+        HoldsSometime leg.secs (MayViolate leg volume bounds)
+        ↔ MayViolateOnSomeSecond leg volume bounds }
 {}

@@ -30,8 +30,8 @@ mod windows;
 
 pub use examples::worked_examples;
 pub use laws::{
-    may_violate_grows_with_the_bounds, may_violate_grows_with_the_volume, may_violate_is_decidable,
-    no_true_violation_is_missed,
+    a_leg_is_its_seconds, may_violate_grows_with_the_bounds, may_violate_grows_with_the_volume,
+    may_violate_is_decidable, no_true_violation_is_missed,
 };
 pub use meeting::is_met;
 pub use violation::may_violate;
