@@ -1,6 +1,7 @@
 """How the real program ends, and what the script says of it; and the program where no thread can be started."""
 import os
 import re
+import resource
 import subprocess
 import tempfile
 import unittest
@@ -83,6 +84,15 @@ class Ends(unittest.TestCase):
             said = f"the configuration {config} is refused with code 6: tools/check {config} says why"
             self.assert_end(words, 3, b"config 6\n", said, "Configuration")
 
+    def test_3_where_the_text_nests_as_deep_as_its_reader_goes_and_the_stack_is_small(self):
+        """A header and a key of 80 parts, and 80 inline tables, each under a key of 80 parts: reading them takes 1.55 MB of stack."""
+        key = ".".join(["a"] * 80)
+        config = self.write("deep.toml", f"[{key}]\n{key} = {f'{{{key} = ' * 80}1{'}' * 80}\n".encode())
+        said = f"the configuration {config} is refused with code 3: tools/check {config} says why"
+        for words in (["replay", "--config", config], ["exercise", "--config", config, "--seed", "1", "--moments", "1"]):
+            self.assert_end(words, 3, b"config 3\n", said, "Configuration",
+                            preexec_fn=lambda: resource.setrlimit(resource.RLIMIT_STACK, (1 << 20, 1 << 20)))
+
     def test_4_where_reading_fails(self):
         """A folder can be opened and not read."""
         folder = os.open(self.folder, os.O_RDONLY)
@@ -120,3 +130,10 @@ class NoThread(unittest.TestCase):
                 self.assertTrue(plain.stdout)
                 self.assertEqual((alone.returncode, alone.stdout, alone.stderr), (0, plain.stdout, b""))
                 self.assertTrue(was_refused(folder))
+
+    def test_a_configuration_is_read(self):
+        words = [builds.program(), "replay", "--config", os.path.join(TOP, "examples/three_levels.toml"), "--workers", "1"]
+        with tempfile.TemporaryDirectory() as folder:
+            ran = subprocess.run(words, input=b"end\n", env=refusing_threads(folder), capture_output=True, timeout=LONG)
+            self.assertEqual((ran.returncode, ran.stdout, ran.stderr), (1, b"refused 1 7\n", b""))
+            self.assertTrue(was_refused(folder))

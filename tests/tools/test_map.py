@@ -38,6 +38,13 @@ def described():
     return {name: below for name, below in crates().items() if not (name.endswith("_tests") and name[:-6] in crates())}
 
 
+@functools.cache
+def tested():
+    """The crates of tests, each with the crates whose tests it holds."""
+    of_tests = [name for name in crates() if name not in described()]
+    return {name: re.findall(r"\bdaa_\w+", read(f"crates/{name}/src/lib.rt").splitlines()[0]) for name in of_tests}
+
+
 def readmes():
     return [f"crates/{name}/README.md" for name in described()]
 
@@ -67,17 +74,18 @@ class Map(unittest.TestCase):
             self.assertTrue(read(f"crates/{name}/README.md").startswith(f"# {name}\n"), name)
         self.assertEqual(sorted(crates()), sorted(os.listdir(os.path.join(TOP, "crates"))))
 
-    def test_crates_of_tests_hold_all_tests_of_a_crate_and_nothing_else(self):
-        of_tests = set(crates()) - set(described())
-        self.assertGreater(len(of_tests), 5)
-        for name in of_tests:
-            of = name.removesuffix("_tests")
-            text = f"//! Tests of {of}.\n#![tactic(auto)]\n\n#[cfg(test)]\nmod tests;\n"
-            self.assertEqual(read(f"crates/{name}/src/lib.rt"), text)
-            self.assertIn(of, crates()[name])
-            self.assertFalse(os.path.exists(os.path.join(TOP, "crates", of, "proofs", "tests")), of)
-            for path in glob.glob(os.path.join(TOP, "crates", of, "src", "**", "*.rt"), recursive=True):
-                self.assertNotIn("#[test]", read(path), path)
+    def test_crates_of_tests_hold_all_tests_of_their_crates_and_nothing_else(self):
+        found = tested()
+        self.assertGreater(len(found), 5)
+        for name, those in found.items():
+            self.assertEqual(those[-1], name.removesuffix("_tests"))
+            listed = " and ".join(filter(None, [", ".join(those[:-1]), those[-1]]))
+            self.assertEqual(read(f"crates/{name}/src/lib.rt"), f"//! Tests of {listed}.\n#![tactic(auto)]\n\n#[cfg(test)]\nmod tests;\n")
+            for of in those:
+                self.assertIn(of, crates()[name])
+                self.assertFalse(os.path.exists(os.path.join(TOP, "crates", of, "proofs", "tests")), of)
+                for path in glob.glob(os.path.join(TOP, "crates", of, "src", "**", "*.rt"), recursive=True):
+                    self.assertNotIn("#[test]", read(path), path)
 
     def test_each_crate_stands_on_rows_above_its_own(self):
         above = set()
@@ -148,7 +156,7 @@ class Map(unittest.TestCase):
         said = re.search(r"^- Threads start in (.*?) alone\.", read("docs/ARCHITECTURE.md"), re.M)[1]
         found = set()
         for path in glob.glob(os.path.join(TOP, "crates", "*", "src", "*.rt")):
-            if os.path.basename(path) != "tests.rt" and re.search(r"\b(for_each_mut|for_each_chunk_mut|join_mut|spawn|scope)\b\(", read(path)):
+            if os.path.basename(path) != "tests.rt" and re.search(r"\b(for_each_mut|for_each_chunk_mut|join_mut|spawn|spawn_with|scope)\b\(", read(path)):
                 found.add((path.split(os.sep)[-3], os.path.basename(path)))
         self.assertEqual({(crate, file) for file, crate in re.findall(r"`(\w+\.rt)` of (\w+)", said)}, found)
 
@@ -211,7 +219,7 @@ class WrongBodies(unittest.TestCase):
     def is_there(self, name, row):
         """It is a test of a crate that the row names, or a test of the gate."""
         for named in re.findall(r"\bdaa_\w+", row):
-            files = [path for it in (named, f"{named}_tests")
+            files = [path for it in (named, *(name for name, those in tested().items() if named in those))
                      for path in glob.glob(os.path.join(TOP, "crates", it, "src", "**", "*.rt"), recursive=True)]
             if any(re.search(rf"#\[test\]\s+fn {re.escape(name)}\(", read(path)) for path in files):
                 return True

@@ -14,6 +14,3 @@ pub use board::{BOARD_MASKS, Board};
 pub use kind_bands::runs;
 pub use laws::{board_shows_what_is_covered, has_one_list_of_bands, worked_examples};
 pub use walk::Runs;
-
-#[cfg(test)]
-mod tests;

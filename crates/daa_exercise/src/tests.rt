@@ -1,10 +1,11 @@
-//! Exercises whose draws and summary another program found from the definitions.
+//! Draws that another program found from the definitions, the gate, and a sink that fails.
+//! Summaries are in `tests/cases`.
 
 ghost use Rattle.std.specs.Prelude.{◌<◌, ◌≤◌};
 
 use super::*;
 use crate::sequence::{Sequence, empty_picture};
-use daa_config::examples::{ONE_LEVEL, THREE_LEVELS};
+use daa_config::examples::ONE_LEVEL;
 use daa_config::read;
 use daa_engine::Engine;
 use daa_outside::{Gate, Meeting, MemSink, Open};
@@ -17,28 +18,6 @@ use std::sync::atomic::AtomicU64;
 use std::sync::atomic::Ordering::SeqCst;
 use std::test::Fail;
 use std::thread::Threads;
-
-/// Three levels, twenty moments.
-const TWENTY: &str = "exercise 7 20
-aircraft 69
-alert 68 0 0 1
-track 1290 17 0 133
-gs 1254 0 0 66
-vs 1893 3 2 122
-alt 1919 0 0 101
-done
-";
-
-/// Three levels, a hundred moments.
-const HUNDRED: &str = "exercise 7 100
-aircraft 396
-alert 386 1 1 8
-track 6420 113 12 655
-gs 5964 66 1 569
-vs 9094 92 12 902
-alt 9175 7 0 918
-done
-";
 
 /// One level, three moments.
 const THREE: &str = "exercise 1 3
@@ -70,41 +49,6 @@ fn sink(alloc: Global, room: usize, pieces: &[usize], fails: &[u64]) -> Result<M
         pieces.to_vec(alloc)?,
         fails.to_vec(alloc)?,
     ))
-}
-
-/// The exercise of the seed has this summary.
-fn expect_summary<R: Abort + Threads + Sync + AllocGlobal>(
-    rt: &R,
-    text: &str,
-    seed: u32,
-    moments: u32,
-    summary: &str,
-) -> Result<(), Fail>
-    requires few { moments ≤ 10000 }
-{
-    let mut engine = engine_of(rt, text)?;
-    let mut out = sink(rt.alloc(), 512, &[], &[])?;
-    let said = exercise(&mut engine, rt, rt.alloc(), seed, moments, &mut out, &Open);
-    assert_eq!(rt; said, Ok(()));
-    assert_eq!(rt; out.taken(), summary.as_bytes());
-    Ok(())
-}
-
-#[test]
-fn twenty_moments_of_three_levels(rt: HostRuntime) -> Result<(), Fail> {
-    expect_summary(&rt, THREE_LEVELS, 7, 20, TWENTY)
-}
-
-/// A third of a second as the gate builds it, but minutes under `rt try`, which wants `--seconds
-/// 400` here.
-#[test]
-fn a_hundred_moments_of_three_levels(rt: HostRuntime) -> Result<(), Fail> {
-    expect_summary(&rt, THREE_LEVELS, 7, 100, HUNDRED)
-}
-
-#[test]
-fn three_moments_of_one_level(rt: HostRuntime) -> Result<(), Fail> {
-    expect_summary(&rt, ONE_LEVEL, 1, 3, THREE)
 }
 
 /// The numbers that the first moment of a seed draws, in their order.

@@ -10,6 +10,3 @@ mod sheet;
 pub use found::Found;
 pub use matching::Matching;
 pub use sheet::{NoMemory, Sheet};
-
-#[cfg(test)]
-mod tests;

@@ -14,6 +14,8 @@ use daa_judge::Sheet;
 use daa_outside::{FetchFault, Shelf};
 use daa_words::{Order, Task, WordsFault, read_words};
 use std::alloc::Global;
+use std::snapshot::Snapshot;
+use std::thread::{Builder, Promise, Threads};
 
 /// What a run is to do.
 #[derive(Drop)]
@@ -80,8 +82,39 @@ fn cause_of_fetch(fault: FetchFault, long: Unready) -> Unready
     }
 }
 
+/// How many bytes of stack a text is read with: its tree may be so deep that it takes half of them.
+const READING_STACK: usize = 4 << 20;
+
+/// The text that a thread reads.
+#[derive(Drop)]
+struct ReadingOf(Snapshot<Vec<u8>>);
+
+impl Promise<Result<Config, Unready>> for ReadingOf {
+    ghost kept_by = { λ reading result. ReadsAs reading.0.value.items result };
+}
+
+/// The configuration of the text, read in a thread that has stack enough for any text; or in this
+/// thread, if none can be started.
+fn read_apart<R: Threads>(rt: &R, alloc: Global, text: Vec<u8>) -> Result<Config, Unready>
+    ensures { ReadsAs text.items result }
+{
+    let promise = ReadingOf(Snapshot::of(&text));
+    let reading = Builder::new()
+        .stack_size(READING_STACK)
+        .spawn_with(rt, promise, move || read_text(alloc, text.as_slice()));
+    match reading {
+        Ok(thread) => thread.join(rt),
+        Err(refused) => (refused.value)(),
+    }
+}
+
 /// The configuration that the shelf holds under the name.
-fn fetch<F: Shelf>(alloc: Global, shelf: &mut F, name: &str) -> Result<Config, Unready>
+fn fetch<R: Threads, F: Shelf>(
+    rt: &R,
+    alloc: Global,
+    shelf: &mut F,
+    name: &str,
+) -> Result<Config, Unready>
     ensures fetched { FetchesAs (F.texts shelf.old) name.now result }
     ensures risen { result ≡ Err Unready.ShelfFault
         → HasRisen (F.faults shelf.old) (F.faults shelf.new) }
@@ -90,13 +123,14 @@ fn fetch<F: Shelf>(alloc: Global, shelf: &mut F, name: &str) -> Result<Config, U
     ensures kept { F.texts shelf.new ≡ F.texts shelf.old }
 {
     match shelf.fetch(alloc, name) {
-        Ok(text) => read_text(alloc, text.as_slice()),
+        Ok(text) => read_apart(rt, alloc, text),
         Err(fault) => Err(cause_of_fetch(fault, cause_of(ConfigFault::TooLong))),
     }
 }
 
 /// The engine of the configuration that the shelf holds under the name, with `workers` workers.
-fn fetch_engine<F: Shelf>(
+fn fetch_engine<R: Threads, F: Shelf>(
+    rt: &R,
     alloc: Global,
     shelf: &mut F,
     name: &str,
@@ -111,7 +145,7 @@ fn fetch_engine<F: Shelf>(
     ensures no_fault { result ≢ Err Unready.ShelfFault → F.faults shelf.new ≡ F.faults shelf.old }
     ensures kept { F.texts shelf.new ≡ F.texts shelf.old }
 {
-    match fetch(alloc, shelf, name) {
+    match fetch(rt, alloc, shelf, name) {
         Ok(config) => match Engine::new(alloc, config, workers) {
             Ok(engine) => Ok(engine),
             Err(NoMemory) => Err(Unready::NoMemory),
@@ -161,7 +195,12 @@ fn prepare<F: Shelf>(alloc: Global, shelf: &mut F, task: &Task<'_>) -> Result<Wo
 
 /// The engine of the configuration that the shelf holds under the order's name, with the order's
 /// workers, and the work of its task.
-fn make_ready<F: Shelf>(alloc: Global, order: &Order<'_>, shelf: &mut F) -> Result<Ready, Unready>
+fn make_ready<R: Threads, F: Shelf>(
+    rt: &R,
+    alloc: Global,
+    order: &Order<'_>,
+    shelf: &mut F,
+) -> Result<Ready, Unready>
     requires { IsInRange (meaning order.now) }
     ensures made { MakesReady (F.texts shelf.old) (meaning order.now) result }
     ensures in_range { IfOk result (λ ready. WorkIsInRange ready.work) }
@@ -172,7 +211,7 @@ fn make_ready<F: Shelf>(alloc: Global, order: &Order<'_>, shelf: &mut F) -> Resu
     ensures no_fault { result ≢ Err Unready.ShelfFault → F.faults shelf.new ≡ F.faults shelf.old }
     ensures kept { F.texts shelf.new ≡ F.texts shelf.old }
 {
-    let engine = fetch_engine(alloc, shelf, order.config, order.workers)?;
+    let engine = fetch_engine(rt, alloc, shelf, order.config, order.workers)?;
     match prepare(alloc, shelf, &order.task) {
         Ok(work) => Ok(Ready { engine, work }),
         Err(why) => Err(why),
@@ -181,7 +220,8 @@ fn make_ready<F: Shelf>(alloc: Global, order: &Order<'_>, shelf: &mut F) -> Resu
 
 /// The work that the words ask for, and the engine of the configuration that they and the shelf
 /// give.
-pub(crate) fn open<F: Shelf>(
+pub(crate) fn open<R: Threads, F: Shelf>(
+    rt: &R,
     alloc: Global,
     words: &[String],
     shelf: &mut F,
@@ -195,7 +235,7 @@ pub(crate) fn open<F: Shelf>(
     ensures kept { F.texts shelf.new ≡ F.texts shelf.old }
 {
     match read_words(alloc, words) {
-        Ok(order) => make_ready(alloc, &order, shelf),
+        Ok(order) => make_ready(rt, alloc, &order, shelf),
         Err(WordsFault::NotTaken) => Err(Unready::NotTaken),
         Err(WordsFault::NoMemory) => Err(Unready::NoMemory),
     }

@@ -17,12 +17,13 @@ use daa_exercise::exercise;
 use daa_outside::{Gate, Shelf, Sink, Source};
 use std::alloc::Global;
 use std::thread::Threads;
+use std::time::Clock;
 
 /// The most bytes that a run reads.
 const MOST_BYTES: u64 = 1 << 40;
 
 /// Runs what the words ask for.
-fn run_words<R: Threads + Sync, F: Shelf, S: Source + Send, K: Sink + Send, G: Gate>(
+fn run_words<R: Threads + Clock + Sync, F: Shelf, S: Source + Send, K: Sink + Send, G: Gate>(
     context: &Context<'_, R, G>,
     words: &[String],
     shelf: &mut F,
@@ -40,7 +41,7 @@ fn run_words<R: Threads + Sync, F: Shelf, S: Source + Send, K: Sink + Send, G: G
         (stream_state (S.left source.new) (S.faults source.new))
         (stream_state (K.taken sink.new) (K.faults sink.new))) }
 {
-    match open(context.alloc, words, shelf) {
+    match open(context.rt, context.alloc, words, shelf) {
         Ok(ready) => run_work(context, ready, source, sink, most),
         Err(why) => write_reason(why, sink),
     }
@@ -68,7 +69,7 @@ fn run_words<R: Threads + Sync, F: Shelf, S: Source + Send, K: Sink + Send, G: G
 /// - 9 if the states have more than 65536 bytes; `states long` is written.
 ///
 /// A run ends for lack of memory, with status 6, only before the source is read.
-pub fn run_within<R: Threads + Sync, F: Shelf, S: Source + Send, K: Sink + Send, G: Gate>(
+pub fn run_within<R: Threads + Clock + Sync, F: Shelf, S: Source + Send, K: Sink + Send, G: Gate>(
     rt: &R,
     alloc: Global,
     words: &[String],
@@ -94,7 +95,7 @@ pub fn run_within<R: Threads + Sync, F: Shelf, S: Source + Send, K: Sink + Send,
 
 /// Carries out the task that the command words ask for, as [`run_within`] does, and reads at most
 /// 2^40 bytes.
-pub fn run<R: Threads + Sync, F: Shelf, S: Source + Send, K: Sink + Send, G: Gate>(
+pub fn run<R: Threads + Clock + Sync, F: Shelf, S: Source + Send, K: Sink + Send, G: Gate>(
     rt: &R,
     alloc: Global,
     words: &[String],
@@ -115,7 +116,7 @@ pub fn run<R: Threads + Sync, F: Shelf, S: Source + Send, K: Sink + Send, G: Gat
 }
 
 /// Runs a replay or a comparison, which reads at most `most` bytes, or an exercise.
-pub(crate) fn run_work<R: Threads + Sync, S: Source + Send, K: Sink + Send, G: Gate>(
+pub(crate) fn run_work<R: Threads + Clock + Sync, S: Source + Send, K: Sink + Send, G: Gate>(
     context: &Context<'_, R, G>,
     ready: Ready,
     source: &mut S,

@@ -19,6 +19,7 @@ use daa_outside::{Gate, Sink, Source};
 use daa_report::SinkFault;
 use std::alloc::Global;
 use std::thread::Threads;
+use std::time::Clock;
 
 /// The most bytes that one read asks for with several workers, and with one.
 const MOST_READ: usize = 1 << 20;
@@ -120,7 +121,7 @@ fn take_piece<R: Threads + Sync, K: Sink, G: Gate>(
 }
 
 /// Reads for the taker: in turn if `places` is 0, else ahead of it while `places` pieces may wait.
-fn read_for<R: Threads + Sync, S: Source + Send, T: Taker + Send, G>(
+fn read_for<R: Threads + Clock + Sync, S: Source + Send, T: Taker + Send, G>(
     context: &Context<'_, R, G>,
     source: &mut S,
     places: u32,
@@ -143,7 +144,7 @@ fn read_for<R: Threads + Sync, S: Source + Send, T: Taker + Send, G>(
 }
 
 /// Reads at most `most` bytes, and reports them as they are taken.
-fn write_all<R: Threads + Sync, S: Source + Send, K: Sink + Send, G: Gate>(
+fn write_all<R: Threads + Clock + Sync, S: Source + Send, K: Sink + Send, G: Gate>(
     context: &Context<'_, R, G>,
     engine: &mut Engine,
     source: &mut S,
@@ -203,7 +204,7 @@ fn write_end<R: Threads + Sync, K: Sink, G: Gate>(
 
 /// Writes the report of the source's bytes as `run_replay` does, with the lanes of the workers, if
 /// there are any.
-fn replay_with<R: Threads + Sync, S: Source + Send, K: Sink + Send, G: Gate>(
+fn replay_with<R: Threads + Clock + Sync, S: Source + Send, K: Sink + Send, G: Gate>(
     context: &Context<'_, R, G>,
     engine: &mut Engine,
     source: &mut S,
@@ -260,7 +261,7 @@ fn buffer_in(alloc: Global, workers: u32) -> Vec<u8> {
 
 /// Writes the report of the source's bytes, at most `most` of them, under this configuration. It
 /// reads in turn if `places` is 0, and else ahead while `places` pieces may wait.
-pub(crate) fn run_replay<R: Threads + Sync, S: Source + Send, K: Sink + Send, G: Gate>(
+pub(crate) fn run_replay<R: Threads + Clock + Sync, S: Source + Send, K: Sink + Send, G: Gate>(
     context: &Context<'_, R, G>,
     engine: &mut Engine,
     source: &mut S,

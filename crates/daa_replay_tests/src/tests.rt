@@ -1,15 +1,11 @@
-//! Inputs with the text and the status that they give.
+//! Runs over a source, a sink, a shelf or a gate that no program has: it fails, it waits, or it
+//! counts who passes. What a run writes for an input is in `tests/cases`.
 
 mod ahead;
 mod batch;
-mod exercise;
 mod faults;
 mod judge;
 mod judge_batch;
-mod lines;
-mod moments;
-mod opening;
-mod recoveries;
 mod workers;
 
 use daa_config::examples::ONE_LEVEL;
@@ -60,24 +56,32 @@ const PLAIN: Outside<'static> = Outside {
     most: 1 << 40,
 };
 
-/// A run of these words; all else is as in `PLAIN`.
-fn asking<'a>(words: &'a [&'a str]) -> Outside<'a> {
-    Outside { words, ..PLAIN }
-}
+/// The bands and answers of a moment under one level, where every candidate is covered.
+const COVERED: &str = "track 0 270 1
+gs 3600 3600 1
+vs 0 0 1
+alt 1000 1000 1
+resolve track left none right none
+resolve gs down none up none
+resolve vs down none up none
+resolve alt down none up none
+";
 
-/// A replay under this configuration; all else is as in `PLAIN`.
-fn under(config: &str) -> Outside<'_> {
-    Outside { config, ..PLAIN }
-}
+/// An input, the pieces in which it is read, which call of the shelf, of the source and of the sink
+/// fails, how many bytes may be read, the status and the text.
+type Row = (
+    &'static [u8],
+    &'static [usize],
+    [u64; 3],
+    u64,
+    u8,
+    &'static [u8],
+);
 
-/// A replay whose source gives such pieces and fails at these reads; all else is as in `PLAIN`.
-fn reading<'a>(read_pieces: &'a [usize], read_fails: &'a [u64]) -> Outside<'a> {
-    Outside {
-        read_pieces,
-        read_fails,
-        ..PLAIN
-    }
-}
+/// The number of a call that is not made, and a limit that is not reached.
+const NEVER: u64 = 999;
+
+const ALL: u64 = 1 << 40;
 
 /// Pieces of one byte, and of seven, for inputs of at most 72 bytes and texts of at most 72 pieces.
 const ONES: [usize; 72] = [1; 72];
@@ -101,35 +105,6 @@ resolve vs down none up none
 resolve alt down none up none
 done 0
 ";
-
-/// The bands and answers under one level where every candidate is clear, and where none is.
-const CLEAR: &str = "track 0 270 0
-gs 3600 3600 0
-vs 0 0 0
-alt 1000 1000 0
-resolve track left keep right keep
-resolve gs down keep up keep
-resolve vs down keep up keep
-resolve alt down keep up keep
-";
-
-const COVERED: &str = "track 0 270 1
-gs 3600 3600 1
-vs 0 0 1
-alt 1000 1000 1
-resolve track left none right none
-resolve gs down none up none
-resolve vs down none up none
-resolve alt down none up none
-";
-
-/// A text with the lines of `CLEAR` for a line `clear`, and those of `COVERED` for a line
-/// `covered`.
-fn whole<R: AllocGlobal>(rt: &R, text: &str) -> Result<String, AllocError> {
-    let alloc = rt.alloc();
-    let clear = text.replace(alloc, "clear\n", CLEAR)?;
-    clear.replace(alloc, "covered\n", COVERED)
-}
 
 /// The words as strings.
 fn strings<R: AllocGlobal>(rt: &R, words: &[&str]) -> Result<Vec<String>, AllocError> {
@@ -180,7 +155,7 @@ fn sink_of<R: AllocGlobal>(
 
 /// The status of a run over these objects that reads at most so many bytes. Like [`status_of`], it
 /// promises nothing of them.
-fn status_within<R: Threads + Sync + AllocGlobal>(
+fn status_within<R: Threads + Clock + Sync + AllocGlobal>(
     rt: &R,
     words: &[&str],
     shelf: &mut MemShelf,
@@ -205,7 +180,7 @@ fn status_within<R: Threads + Sync + AllocGlobal>(
 }
 
 /// The status of a run over this shelf and this input, and what the sink took.
-fn status_over<R: Threads + Sync + AllocGlobal>(
+fn status_over<R: Threads + Clock + Sync + AllocGlobal>(
     rt: &R,
     shelf: &mut MemShelf,
     input: &[u8],
@@ -225,7 +200,7 @@ fn status_over<R: Threads + Sync + AllocGlobal>(
 }
 
 /// The status of a run over this input, and what the sink took.
-fn status_and_text<R: Threads + Sync + AllocGlobal>(
+fn status_and_text<R: Threads + Clock + Sync + AllocGlobal>(
     rt: &R,
     input: &[u8],
     outside: Outside<'_>,
@@ -252,7 +227,7 @@ fn with_room_for<'a>(outside: Outside<'a>, status: u8, text: &[u8]) -> Outside<'
 }
 
 /// A run over this input ends with this status and this text, for which the sink has just room.
-fn gives<R: Abort + Threads + Sync + AllocGlobal>(
+fn gives<R: Abort + Threads + Clock + Sync + AllocGlobal>(
     rt: &R,
     input: &[u8],
     outside: Outside<'_>,
@@ -264,9 +239,35 @@ fn gives<R: Abort + Threads + Sync + AllocGlobal>(
     Ok(())
 }
 
+/// A run of these words under one level, whose objects behave as the row says.
+fn behaving<'a>(words: &'a [&'a str], row: &'a Row) -> Outside<'a> {
+    let (_, read_pieces, fails, most, _, _) = row;
+    Outside {
+        words,
+        read_pieces,
+        fetch_fails: &fails[..1],
+        read_fails: &fails[1..2],
+        write_fails: &fails[2..],
+        most: *most,
+        ..PLAIN
+    }
+}
+
+/// Each row's run of these words ends as the row says.
+fn gives_each<R: Abort + Threads + Clock + Sync + AllocGlobal>(
+    rt: &R,
+    words: &[&str],
+    rows: &[Row],
+) -> Result<(), Fail> {
+    for row in rows {
+        gives(rt, row.0, behaving(words, row), row.4, row.5)?;
+    }
+    Ok(())
+}
+
 /// The sink of a run over this input has room for so many bytes of the text alone, and the run ends
 /// with a fault of the sink.
-fn gives_front<R: Abort + Threads + Sync + AllocGlobal>(
+fn gives_front<R: Abort + Threads + Clock + Sync + AllocGlobal>(
     rt: &R,
     input: &[u8],
     outside: Outside<'_>,
@@ -287,7 +288,7 @@ fn status_of<R, F: Shelf, S: Source + Send, K: Sink + Send, G: Gate>(
     gate: &G,
 ) -> Result<u8, AllocError>
 where
-    R: Threads + Sync + AllocGlobal,
+    R: Threads + Clock + Sync + AllocGlobal,
 {
     let words = strings(rt, words)?;
     Ok(run(rt, rt.alloc(), words.as_slice(), shelf, source, sink, gate))
@@ -305,7 +306,7 @@ fn whole_sink<R: AllocGlobal>(rt: &R, room: usize) -> Result<MemSink, AllocError
 
 /// The status of a run of these words over this shelf and this input, whose workers pass this gate,
 /// and what the sink took, which has so much room.
-fn status_at<R: Threads + Sync + AllocGlobal, G: Gate>(
+fn status_at<R: Threads + Clock + Sync + AllocGlobal, G: Gate>(
     rt: &R,
     words: &[&str],
     shelf: &mut MemShelf,
@@ -320,7 +321,7 @@ fn status_at<R: Threads + Sync + AllocGlobal, G: Gate>(
 }
 
 /// The same over a shelf with one level.
-fn replayed_at<R: Threads + Sync + AllocGlobal, G: Gate>(
+fn replayed_at<R: Threads + Clock + Sync + AllocGlobal, G: Gate>(
     rt: &R,
     words: &[&str],
     input: &[u8],
@@ -333,7 +334,7 @@ fn replayed_at<R: Threads + Sync + AllocGlobal, G: Gate>(
 
 /// Whether two workers of a run of these words over this shelf and this input come to the gate. The
 /// run ends with this status and this text.
-fn have_met<R: Abort + Threads + Sync + AllocGlobal, C: Clock + Sync + Drop>(
+fn have_met<R: Abort + Threads + Clock + Sync + AllocGlobal, C: Clock + Sync + Drop>(
     rt: &R,
     clock: C,
     words: &[&str],
@@ -350,7 +351,7 @@ fn have_met<R: Abort + Threads + Sync + AllocGlobal, C: Clock + Sync + Drop>(
 
 /// Two workers of such a run wait at a gate until both have come. As a thread may not be had, the
 /// meeting is tried five times.
-fn expect_meeting<R: Abort + Threads + Sync + AllocGlobal, C: Clock + Sync + Copy + Drop>(
+fn expect_meeting<R: Abort + Threads + Clock + Sync + AllocGlobal, C: Clock + Sync + Copy + Drop>(
     rt: &R,
     clock: C,
     words: &[&str],

@@ -11,6 +11,3 @@ mod side;
 pub use laws::{board_answers_for_what_is_covered, has_one_answer, worked_examples};
 pub use resolution::nearest;
 pub use side::{Side, present};
-
-#[cfg(test)]
-mod tests;

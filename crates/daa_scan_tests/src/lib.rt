@@ -1,4 +1,4 @@
-//! Tests of daa_scan.
+//! Tests of daa_legs and daa_scan.
 #![tactic(auto)]
 
 #[cfg(test)]

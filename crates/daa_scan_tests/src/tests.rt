@@ -6,6 +6,7 @@ ghost use Rattle.daa_config.specs.Candidates.{candidates_of};
 ghost use Rattle.daa_state.specs.InRange.{IsPictureInRange};
 ghost use Rattle.daa_state.specs.Picture.{aircraft_of};
 
+mod flights;
 mod reaching;
 mod words;
 

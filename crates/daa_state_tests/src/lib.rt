@@ -1,4 +1,4 @@
-//! Tests of daa_state.
+//! Tests of daa_config, daa_lines and daa_state.
 #![tactic(auto)]
 
 #[cfg(test)]

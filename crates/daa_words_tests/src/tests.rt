@@ -1,4 +1,4 @@
-//! Words and whether they are taken.
+//! What words ask for. Words that are not taken are in `tests/cases`.
 
 use daa_words::{Order, Task, WordsFault, daidalus, read_words};
 use std::alloc::{AllocError, Global};
@@ -80,40 +80,28 @@ fn words_that_ask_for_a_replay(rt: HostRuntime) -> Result<(), Fail> {
     Ok(())
 }
 
-/// The words of an exercise after `--config f`, and what they ask for: workers, seed and moments.
-static EXERCISES: [(&[&str], u32, u32, u32); 9] = [
-    (&["--seed", "7", "--moments", "100"], 4, 7, 100),
-    (&["--moments", "100", "--seed", "7"], 4, 7, 100),
-    (&["--seed=0", "--moments=1"], 4, 0, 1),
-    (
-        &["--seed=4294967295", "--moments=10000"],
-        4,
-        4294967295,
-        10000,
-    ),
-    (&["--seed=-0", "--moments=+1"], 4, 0, 1),
-    (&["--seed=+4", "--moments=004"], 4, 4, 4),
-    (&["--seed=000", "--moments=0000010000"], 4, 0, 10000),
-    (&["--seed=1", "--moments=2", "--workers=3"], 3, 1, 2),
-    (&["--workers", "16", "--seed=1", "--moments=2"], 16, 1, 2),
-];
-
 #[test]
 fn words_that_ask_for_an_exercise(rt: HostRuntime) -> Result<(), Fail> {
-    for (options, workers, seed, moments) in &EXERCISES {
-        let mut words = words_of(rt.alloc(), &["daidalus", "exercise", "--config", "f"])?;
-        for option in *options {
-            words.push(String::from_str(rt.alloc(), option)?)?;
-        }
-        let order = read_words(rt.alloc(), words.as_slice()).map_err(|_| "not taken")?;
-        let task = Task::Exercise {
-            seed: *seed,
-            moments: *moments,
-        };
-        assert!(rt; order.config == "f");
-        assert_eq!(rt; order.task, task);
-        assert_eq!(rt; order.workers, *workers);
-    }
+    let words = words_of(
+        rt.alloc(),
+        &[
+            "daidalus",
+            "exercise",
+            "--config",
+            "f",
+            "--seed=1",
+            "--moments=2",
+            "--workers=3",
+        ],
+    )?;
+    let order = read_words(rt.alloc(), words.as_slice()).map_err(|_| "not taken")?;
+    let task = Task::Exercise {
+        seed: 1,
+        moments: 2,
+    };
+    assert!(rt; order.config == "f");
+    assert_eq!(rt; order.task, task);
+    assert_eq!(rt; order.workers, 3);
     Ok(())
 }
 
@@ -130,111 +118,10 @@ fn words_that_ask_for_a_comparison(rt: HostRuntime) -> Result<(), Fail> {
     Ok(())
 }
 
-static NOT_TAKEN: [&[&str]; 25] = [
-    &[],
-    &["daidalus"],
-    &["replay", "--config", "f"],
-    &["daidalus", "help"],
-    &["daidalus", "help", "replay"],
-    &["daidalus", "help", "exercise"],
-    &["daidalus", "--help"],
-    &["daidalus", "-h"],
-    &["daidalus", "--version"],
-    &["daidalus", "-V"],
-    &["daidalus", "replay", "-h"],
-    &["daidalus", "exercise", "--help"],
-    &["daidalus", "replay", "--config", "f", "--help"],
-    &["daidalus", "replay"],
-    &["daidalus", "exercise"],
-    &["daidalus", "--config", "f"],
-    &["daidalus", "--config", "f", "replay"],
-    &["daidalus", "replay", "--conf", "f"],
-    &["daidalus", "replay", "-c", "f"],
-    &["daidalus", "Replay", "--config", "f"],
-    &["daidalus", "judge", "--config", "f"],
-    &["daidalus", "replay", "--config"],
-    &["daidalus", "replay", "--config", "--"],
-    &["daidalus", "replay", "--config", "f", "--config", "f"],
-    &["daidalus", "replay", "--workers", "4"],
-];
-
+/// Not even the program's name.
 #[test]
-fn words_that_are_not_taken(rt: HostRuntime) -> Result<(), Fail> {
-    for row in &NOT_TAKEN {
-        let words = words_of(rt.alloc(), row)?;
-        match read_words(rt.alloc(), words.as_slice()) {
-            Ok(Order { config, .. }) => assert!(rt; false, "taken with {config}"),
-            Err(fault) => assert_eq!(rt; fault, WordsFault::NotTaken),
-        }
-    }
-    Ok(())
-}
-
-/// Words that are not taken after `replay --config f`.
-static NO_REPLAY: [&[&str]; 16] = [
-    &["g"],
-    &["--", "g"],
-    &["--workers"],
-    &["--workers="],
-    &["--workers", "0"],
-    &["--workers=17"],
-    &["--workers=-1"],
-    &["--workers=4x"],
-    &["--workers= 4"],
-    &["--workers=4.0"],
-    &["--workers=4", "--workers=4"],
-    &["--worker=4"],
-    &["--ahead=1025"],
-    &["--ahead"],
-    &["--seed", "1"],
-    &["--moments", "1"],
-];
-
-#[test]
-fn words_that_ask_for_no_replay(rt: HostRuntime) -> Result<(), Fail> {
-    for options in &NO_REPLAY {
-        let mut words = words_of(rt.alloc(), &["daidalus", "replay", "--config", "f"])?;
-        for option in *options {
-            words.push(String::from_str(rt.alloc(), option)?)?;
-        }
-        match read_words(rt.alloc(), words.as_slice()) {
-            Ok(Order { workers, .. }) => assert!(rt; false, "taken with {workers} workers"),
-            Err(fault) => assert_eq!(rt; fault, WordsFault::NotTaken),
-        }
-    }
-    Ok(())
-}
-
-/// Words that are not taken after `exercise --config f`.
-static NO_EXERCISE: [&[&str]; 13] = [
-    &[],
-    &["--seed=1"],
-    &["--moments=1"],
-    &["--workers=1"],
-    &["--seed=1", "--moments=0"],
-    &["--seed=1", "--moments=10001"],
-    &["--seed=1", "--moments=-0"],
-    &["--seed=4294967296", "--moments=1"],
-    &["--seed=-1", "--moments=1"],
-    &["--seed=99999999999999999999", "--moments=1"],
-    &["--seed=x", "--moments=1"],
-    &["--seed=1", "--moments=1", "--seed=1"],
-    &["--seed=1", "--moments=1", "--workers=17"],
-];
-
-#[test]
-fn words_that_ask_for_no_exercise(rt: HostRuntime) -> Result<(), Fail> {
-    for options in &NO_EXERCISE {
-        let mut words = words_of(rt.alloc(), &["daidalus", "exercise", "--config", "f"])?;
-        for option in *options {
-            words.push(String::from_str(rt.alloc(), option)?)?;
-        }
-        match read_words(rt.alloc(), words.as_slice()) {
-            Ok(Order { workers, .. }) => assert!(rt; false, "taken with {workers} workers"),
-            Err(fault) => assert_eq!(rt; fault, WordsFault::NotTaken),
-        }
-    }
-    Ok(())
+fn no_words_are_not_taken(rt: HostRuntime) {
+    assert!(rt; matches!(read_words(rt.alloc(), &[]), Err(WordsFault::NotTaken)));
 }
 
 #[test]

@@ -1,9 +1,9 @@
-//! Several workers: what they find, and how often they pass the gate.
+//! Several workers: whether they work side by side, and how often they pass the gate.
 
 use crate::tests::{NORTH, engine_of_workers, picture_in};
 use daa_config::examples::{ONE_LEVEL, THREE_LEVELS};
 use daa_engine::{Engine, Tickets};
-use daa_outside::{Gate, Meeting, Open};
+use daa_outside::{Gate, Meeting};
 use std::process::Abort;
 use std::sync::atomic::AtomicU64;
 use std::sync::atomic::Ordering::SeqCst;
@@ -141,31 +141,6 @@ static EXAMPLE_MOMENT: [&str; 4] = [
     "traffic FAR 190000 0 9000 0 0 0 0",
     "traffic B -6500 3000 9300 2100 300 300 12",
 ];
-
-/// Whether both have the same board.
-fn have_one_board(one: &Engine, other: &Engine) -> bool {
-    (0..2048).all(|index| one.board().mask(index) == other.board().mask(index))
-}
-
-/// An engine of so many workers that has decided the example.
-fn decided_by<R: Abort + Threads + Sync + AllocGlobal>(
-    rt: &R,
-    workers: u32,
-) -> Result<Engine, Fail> {
-    let mut engine = engine_of_workers(rt, THREE_LEVELS, &[], workers)?;
-    decides(rt, &mut engine, &EXAMPLE_MOMENT, &Open)?;
-    Ok(engine)
-}
-
-#[test]
-fn any_number_of_workers_gives_one_board(rt: HostRuntime) -> Result<(), Fail> {
-    let one = decided_by(&rt, 1)?;
-    for workers in [2, 3, 16] {
-        let engine = decided_by(&rt, workers)?;
-        assert!(rt; have_one_board(&engine, &one), "with {workers}");
-    }
-    Ok(())
-}
 
 /// Draws so many numbers, and says whether each was the next one.
 fn draws_in_turn(tickets: &Tickets, count: usize) -> bool {

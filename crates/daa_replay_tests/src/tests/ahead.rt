@@ -1,8 +1,8 @@
-//! Reading ahead of the report changes no byte and no status.
+//! Reading ahead of the report keeps each fault and each limit in its place.
 
 use super::{
-    ONE, ONE_LEVEL, ONE_TEXT, ONES, Outside, PLAIN, REPLAY, SEVENS, asking, expect, gives,
-    shelf_with, source_of, status_of, whole_sink,
+    NEVER, ONE, ONE_LEVEL, ONE_TEXT, ONES, REPLAY, Row, SEVENS, expect, gives_each, shelf_with,
+    source_of, status_of, whole_sink,
 };
 use daa_ahead::examples::HoldingSource;
 use daa_outside::{Failed, Gate, Meeting, MemSink, Open, Sink};
@@ -13,102 +13,44 @@ use std::thread::Threads;
 use std::time::Clock;
 
 /// The words that ask for a replay by turns, and for reading ahead by one piece and by four.
-pub(super) static READINGS: [&[&str]; 3] = [
+static READINGS: [&[&str]; 3] = [
     REPLAY,
     &["daidalus", "replay", "--config", "c", "--ahead", "1"],
     &["daidalus", "replay", "--config", "c", "--ahead", "4"],
 ];
 
-/// The greatest number of pieces ahead.
-static FARTHEST: &[&str] = &["daidalus", "replay", "--config", "c", "--ahead", "1024"];
-
 /// Pieces of nine bytes.
-static NINES: [usize; 8] = [9; 8];
+const NINES: [usize; 8] = [9; 8];
 
 /// `ONE` with three lines more.
-static LONGER: &[u8] = b"moment 0\nown 0 0 1000 0 3600 0\ntraffic A 0 0 1000 0 3600 0\nend\n\n\n\n";
+const LONGER: &[u8] = b"moment 0\nown 0 0 1000 0 3600 0\ntraffic A 0 0 1000 0 3600 0\nend\n\n\n\n";
 
-/// Pieces, the most bytes that are read, the status and the text of a replay of `ONE`.
-static LIMITS: [(&[usize], u64, u8, &[u8]); 5] = [
-    (&[], 1 << 40, 0, ONE_TEXT),
-    (&ONES, 62, 8, b""),
-    (&ONES, 63, 0, ONE_TEXT),
-    (&SEVENS, 62, 8, b""),
-    (&SEVENS, 63, 0, ONE_TEXT),
-];
+/// How much of the report is written before what is behind the lines of aircraft.
+const FRONT: &[u8] = b"moment 0\nnow A 1\nalert A 1 0\n";
 
-#[test]
-fn reading_ahead_changes_nothing(rt: HostRuntime) -> Result<(), Fail> {
-    for words in &READINGS {
-        for (read_pieces, most, status, text) in &LIMITS {
-            let outside = Outside {
-                words,
-                read_pieces,
-                most: *most,
-                ..PLAIN
-            };
-            gives(&rt, ONE, outside, *status, text)?;
-        }
-    }
-    Ok(())
-}
-
-#[test]
-fn reading_ahead_keeps_the_limit_and_goes_far(rt: HostRuntime) -> Result<(), Fail> {
-    for words in &READINGS {
-        let limited = Outside {
-            words,
-            most: 4,
-            ..PLAIN
-        };
-        gives(&rt, b"\n\n\n\n\n", limited, 8, b"")?;
-    }
-    gives(&rt, ONE, asking(FARTHEST), 0, ONE_TEXT)
-}
-
-/// With pieces of nine bytes: a read and a write that fail, the most bytes that are read, the
-/// status, and what the sink took.
-static FAULTS: [(u64, u64, u64, u8, &[u8]); 7] = [
-    (7, 0, 63, 5, b""),
-    (99, 0, 63, 5, b""),
-    (6, 0, 63, 4, b""),
-    (1, 99, 63, 4, b""),
-    (99, 1, 63, 5, b"moment 0\nnow A 1\nalert A 1 0\n"),
-    (7, 99, 63, 4, ONE_TEXT),
+/// Limits, faults, and both.
+static ROWS: [Row; 13] = [
+    (ONE, &[], [NEVER; 3], 63, 0, ONE_TEXT),
+    (ONE, &ONES, [NEVER; 3], 62, 8, b""),
+    (ONE, &ONES, [NEVER; 3], 63, 0, ONE_TEXT),
+    (ONE, &SEVENS, [NEVER; 3], 62, 8, b""),
+    (ONE, &SEVENS, [NEVER; 3], 63, 0, ONE_TEXT),
+    (b"\n\n\n\n\n", &[], [NEVER; 3], 4, 8, b""),
+    (ONE, &NINES, [NEVER, 7, 0], 63, 5, b""),
+    (ONE, &NINES, [NEVER, 6, 0], 63, 4, b""),
+    (ONE, &NINES, [NEVER, 1, NEVER], 63, 4, b""),
+    (ONE, &NINES, [NEVER, NEVER, 1], 63, 5, FRONT),
+    (ONE, &NINES, [NEVER, 7, NEVER], 63, 4, ONE_TEXT),
     // the end is met once, and not asked for again
-    (8, 99, 63, 0, ONE_TEXT),
+    (ONE, &NINES, [NEVER, 8, NEVER], 63, 0, ONE_TEXT),
+    // the sink fails before the limit, though bytes past it are read ahead
+    (LONGER, &NINES, [NEVER, NEVER, 0], 64, 5, b""),
 ];
 
 #[test]
-fn a_fault_is_met_in_its_place(rt: HostRuntime) -> Result<(), Fail> {
+fn reading_ahead_keeps_faults_and_limits_in_their_places(rt: HostRuntime) -> Result<(), Fail> {
     for words in &READINGS {
-        for (read_fails, write_fails, most, status, text) in &FAULTS {
-            let outside = Outside {
-                words,
-                read_pieces: &NINES,
-                read_fails: &[*read_fails],
-                write_fails: &[*write_fails],
-                most: *most,
-                ..PLAIN
-            };
-            gives(&rt, ONE, outside, *status, text)?;
-        }
-    }
-    Ok(())
-}
-
-/// Though bytes past the limit are read ahead.
-#[test]
-fn a_fault_of_the_sink_comes_before_the_limit(rt: HostRuntime) -> Result<(), Fail> {
-    for words in &READINGS {
-        let limited = Outside {
-            words,
-            read_pieces: &NINES,
-            write_fails: &[0],
-            most: 64,
-            ..PLAIN
-        };
-        gives(&rt, LONGER, limited, 5, b"")?;
+        gives_each(&rt, words, &ROWS)?;
     }
     Ok(())
 }
@@ -142,7 +84,7 @@ impl<G: Gate> Sink for HoldingSink<'_, G> {
 
 /// The status of a replay that reads four pieces ahead, and what its sink took. The eighth read and
 /// the first write wait at the gate.
-fn status_held<R: Threads + Sync + AllocGlobal, G: Gate>(
+fn status_held<R: Threads + Clock + Sync + AllocGlobal, G: Gate>(
     rt: &R,
     gate: &G,
 ) -> Result<(u8, Vec<u8>), AllocError> {
@@ -163,7 +105,7 @@ fn status_held<R: Threads + Sync + AllocGlobal, G: Gate>(
 }
 
 /// Whether a replay that reads four pieces ahead reads on while it writes the report of a moment.
-fn reads_on<R: Abort + Threads + Sync + AllocGlobal, C: Clock + Sync + Drop>(
+fn reads_on<R: Abort + Threads + Clock + Sync + AllocGlobal, C: Clock + Sync + Drop>(
     rt: &R,
     clock: C,
 ) -> Result<bool, Fail> {

@@ -1,49 +1,68 @@
-//! Limits and faults of the source and the sink.
+//! Limits and faults of the shelf, the source and the sink.
 
-use super::{ONE, ONE_TEXT, ONES, Outside, PLAIN, gives, gives_front, reading};
+use super::{
+    ALL, NEVER, ONE, ONE_TEXT, ONES, Outside, PLAIN, REPLAY, Row, gives, gives_each, gives_front,
+    shelf_with, status_of,
+};
+use daa_config::examples::ONE_LEVEL;
+use daa_outside::{MemSource, Open, Void};
 use std::process::Abort;
 use std::test::Fail;
 use std::thread::Threads;
+use std::time::Clock;
+
+/// Limits, and faults of each object alone.
+static ROWS: [Row; 10] = [
+    (b"\n\n\n\n", &[], [NEVER; 3], 4, 0, b""),
+    (b"\n\n\n\n\n", &[], [NEVER; 3], 4, 8, b""),
+    (ONE, &[], [NEVER; 3], 62, 8, b""),
+    (ONE, &[], [NEVER; 3], 63, 0, ONE_TEXT),
+    (ONE, &ONES, [NEVER, 63, NEVER], ALL, 4, ONE_TEXT),
+    // the end is met once, and not asked for again
+    (ONE, &ONES, [NEVER, 64, NEVER], ALL, 0, ONE_TEXT),
+    (ONE, &[], [0, NEVER, NEVER], ALL, 7, b""),
+    (ONE, &[], [1, NEVER, NEVER], ALL, 0, ONE_TEXT),
+    // an input that gives nothing writes nothing, not even a piece of no bytes
+    (b"", &[], [NEVER, NEVER, 0], ALL, 0, b""),
+    // the first write is that of the aircraft's lines
+    (
+        ONE,
+        &[],
+        [NEVER, NEVER, 1],
+        ALL,
+        5,
+        b"moment 0\nnow A 1\nalert A 1 0\n",
+    ),
+];
 
 #[test]
-fn the_limit_counts_bytes(rt: HostRuntime) -> Result<(), Fail> {
-    for (input, most, status, text) in [
-        (b"\n\n\n\n".as_slice(), 4, 0, b"".as_slice()),
-        (b"\n\n\n\n\n", 4, 8, b""),
-        (ONE, 62, 8, b""),
-        (ONE, 63, 0, ONE_TEXT),
-    ] {
-        gives(&rt, input, Outside { most, ..PLAIN }, status, text)?;
-    }
-    Ok(())
+fn each_limit_and_each_fault_has_its_status(rt: HostRuntime) -> Result<(), Fail> {
+    gives_each(&rt, REPLAY, &ROWS)
 }
 
 /// A replay that reads single bytes, and whose read of this number fails before the input's end.
-fn reads_bytes<R: Abort + Threads + Sync + AllocGlobal>(rt: &R, fails: u64) -> Result<(), Fail> {
-    gives(rt, ONE, reading(&ONES, &[fails]), 4, b"")
+fn reads_bytes<R: Abort + Threads + Clock + Sync + AllocGlobal>(
+    rt: &R,
+    fails: u64,
+) -> Result<(), Fail> {
+    let outside = Outside {
+        read_pieces: &ONES,
+        read_fails: &[fails],
+        ..PLAIN
+    };
+    gives(rt, ONE, outside, 4, b"")
 }
-
-/// Pieces and a read that fails, the status and the text. The end of the input is met once, and
-/// not asked for again.
-static READS: [(&[usize], &[u64], u8, &[u8]); 3] = [
-    (&ONES, &[63], 4, ONE_TEXT),
-    (&ONES, &[64], 0, ONE_TEXT),
-    (&[9, 9], &[1], 4, b""),
-];
 
 #[test]
 fn a_read_that_fails_ends_the_run(rt: HostRuntime) -> Result<(), Fail> {
     for fails in 0..63 {
         reads_bytes(&rt, fails)?;
     }
-    for (read_pieces, read_fails, status, text) in &READS {
-        gives(&rt, ONE, reading(read_pieces, read_fails), *status, text)?;
-    }
     Ok(())
 }
 
 /// A replay whose sink takes single bytes, and fails after so many of them.
-fn writes_until<R: Abort + Threads + Sync + AllocGlobal>(
+fn writes_until<R: Abort + Threads + Clock + Sync + AllocGlobal>(
     rt: &R,
     fails: u64,
     taken: usize,
@@ -65,28 +84,73 @@ fn a_write_that_fails_ends_the_run(rt: HostRuntime) -> Result<(), Fail> {
     gives_front(&rt, ONE, PLAIN, ONE_TEXT, 212)
 }
 
+/// What is written where the words are not taken.
+const USAGE: &[u8] =
+    b"usage: daidalus replay --config FILE [--workers N] [--ahead N] | exercise --config FILE --seed N --moments M [--workers N] | judge --config FILE --states FILE [--workers N]\n";
+
+const THREE_MOMENTS: [&str; 8] = [
+    "daidalus",
+    "exercise",
+    "--config",
+    "c",
+    "--seed",
+    "1",
+    "--moments",
+    "3",
+];
+
+/// The summary of three moments under one level, which another program found from the definitions.
+const THREE: &[u8] = b"exercise 1 3
+aircraft 7
+alert 6 1
+track 8 4
+gs 2 1
+vs 2 1
+alt 2 1
+done
+";
+
+/// Words, a configuration, the whole text of a run without faults, and how much of it a sink takes.
+static FRONTS: [(&[&str], &str, &[u8], usize); 6] = [
+    (&["daidalus"], ONE_LEVEL, USAGE, 0),
+    (&["daidalus"], ONE_LEVEL, USAGE, 20),
+    (REPLAY, "", b"config 4\n", 5),
+    (&THREE_MOMENTS, ONE_LEVEL, THREE, 0),
+    (&THREE_MOMENTS, ONE_LEVEL, THREE, 1),
+    (&THREE_MOMENTS, ONE_LEVEL, THREE, 70),
+];
+
+/// Of the usage line, of a refused configuration's line and of a summary.
 #[test]
-fn nothing_is_written_needlessly(rt: HostRuntime) -> Result<(), Fail> {
-    // an input that gives nothing writes nothing, not even a piece of no bytes
-    gives(&rt, b"", PLAIN, 0, b"")?;
-    // the first write is that of the aircraft's lines
-    let second = Outside {
-        write_fails: &[1],
-        ..PLAIN
-    };
-    gives(&rt, ONE, second, 5, b"moment 0\nnow A 1\nalert A 1 0\n")
+fn a_sink_that_fails_has_taken_a_beginning(rt: HostRuntime) -> Result<(), Fail> {
+    for (words, config, text, room) in &FRONTS {
+        let outside = Outside {
+            words,
+            config,
+            ..PLAIN
+        };
+        gives_front(&rt, ONE, outside, text, *room)?;
+    }
+    Ok(())
 }
 
+/// The source is not read, so that one that would fail does not matter; and a shelf that fails ends
+/// it before.
 #[test]
-fn the_first_fault_ends_the_run(rt: HostRuntime) -> Result<(), Fail> {
-    // seven reads of nine bytes bring the whole input, and so the text, before the eighth
-    let nines = [9; 8];
-    for (read_fails, write_fails, status) in [([7u64], [0u64], 5u8), ([6], [0], 4), ([1], [0], 4)] {
-        let outside = Outside {
-            write_fails: &write_fails,
-            ..reading(&nines, &read_fails)
-        };
-        gives(&rt, ONE, outside, status, b"")?;
+fn an_exercise_reads_nothing(rt: HostRuntime) -> Result<(), Fail> {
+    let alloc = rt.alloc();
+    for (fetch_fails, ends) in [(1, 0), (0, 7)] {
+        let mut shelf = shelf_with(&rt, ONE_LEVEL, &[fetch_fails])?;
+        let mut source = MemSource::new(Vec::new(alloc), Vec::new(alloc), [0].to_vec(alloc)?);
+        let status = status_of(
+            &rt,
+            &THREE_MOMENTS,
+            &mut shelf,
+            &mut source,
+            &mut Void,
+            &Open,
+        )?;
+        assert!(rt; status == ends);
     }
     Ok(())
 }

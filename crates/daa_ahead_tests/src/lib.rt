@@ -1,5 +1,0 @@
-//! Tests of daa_ahead.
-#![tactic(auto)]
-
-#[cfg(test)]
-mod tests;

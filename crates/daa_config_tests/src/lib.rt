@@ -1,5 +1,0 @@
-//! Tests of daa_config.
-#![tactic(auto)]
-
-#[cfg(test)]
-mod tests;

@@ -1,5 +1,0 @@
-//! Tests of daa_legs.
-#![tactic(auto)]
-
-#[cfg(test)]
-mod tests;

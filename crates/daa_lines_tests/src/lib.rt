@@ -1,5 +1,0 @@
-//! Tests of daa_lines.
-#![tactic(auto)]
-
-#[cfg(test)]
-mod tests;

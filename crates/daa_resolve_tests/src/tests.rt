@@ -1,0 +1,4 @@
+//! Boards and the answers that they give.
+
+mod bands;
+mod nearest;
