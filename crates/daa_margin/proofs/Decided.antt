@@ -17,13 +17,13 @@ use Rattle.daa_margin.proofs.Roots.{root_above}
 use Rattle.daa_margin.proofs.Rooms.{soon_is}
 use Rattle.daa_margin.proofs.Within.{in_order, within_next, as_between, level_is}
 
-le_decided : (x y : ℤ) → IsDecidable (x ≤ℤ y)
+pub le_decided : (x y : ℤ) → IsDecidable (x ≤ℤ y)
 le_decided x y = by_lt_z y x (λ l. inr (λ k. clash x y k l)) inl
 
-lt_decided : (x y : ℤ) → IsDecidable (x <ℤ y)
+pub lt_decided : (x y : ℤ) → IsDecidable (x <ℤ y)
 lt_decided x y = by_lt_z x y inl (λ k. inr (λ l. clash y x k l))
 
-either_decided : {A B : Type 0} → IsDecidable A → IsDecidable B → IsDecidable (A ⊎ B)
+pub either_decided : {A B : Type 0} → IsDecidable A → IsDecidable B → IsDecidable (A ⊎ B)
 either_decided (inl a) d = inl (inl a)
 either_decided (inr n) (inl b) = inl (inr b)
 either_decided (inr n) (inr m) = inr (⊎_elim n m)
@@ -48,7 +48,7 @@ module _ (leg : Leg) (volume : Volume) (bounds : ErrorBounds) (n d : ℤ) (n0 : 
       let reach = root_above (square_within leg volume bounds speed.root) in
       as_decided (soon_is leg volume bounds n d speed.root reach.root speed.is reach.is) (le_decided _ _)
 
-  soon_by_decided : (model : Model) → IsDecidable (MayBeSoonBy leg volume bounds model n d)
+  pub soon_by_decided : (model : Model) → IsDecidable (MayBeSoonBy leg volume bounds model n d)
   soon_by_decided Tau = soon_decided
   soon_by_decided Tcpa = soon_decided
   soon_by_decided Taumod = soon_decided

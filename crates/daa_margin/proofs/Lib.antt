@@ -13,3 +13,4 @@ pub mod Stretches
 pub mod Lines
 pub mod Deciding
 pub mod Later
+pub mod Sometimes

@@ -2,11 +2,12 @@
 
 ghost use Rattle.std.specs.Prelude.{ℕ, ℤ, pos, ◌≤◌, ◌≤ℤ◌, ◌+ℤ◌, ◌*ℤ◌, ◌⊎◌, ◌↔◌};
 ghost use Rattle.daa_fixed.specs.declared.Leg.{Leg};
+ghost use Rattle.daa_fixed.specs.Leg.{IsLegInRange};
 ghost use Rattle.daa_fixed.specs.Time.{HoldsSometime};
 ghost use Rattle.daa_taumod.specs.declared.Volume.{Volume};
-ghost use Rattle.daa_taumod.specs.Volume.{Violates};
+ghost use Rattle.daa_taumod.specs.Volume.{IsVolumeInRange, Violates};
 ghost use Rattle.daa_margin.specs.declared.ErrorBounds.{ErrorBounds};
-ghost use Rattle.daa_margin.specs.ErrorBounds.{AreNoWider, IsWithinErrors};
+ghost use Rattle.daa_margin.specs.ErrorBounds.{AreErrorBoundsInRange, AreNoWider, IsWithinErrors};
 ghost use Rattle.daa_margin.specs.MayViolate.{IsVolumeWithin, MayViolate};
 ghost use Rattle.daa_margin.specs.Later.{second_of, bounds_after, MayViolateOnSomeSecond};
 
@@ -38,6 +39,14 @@ pub fn may_violate_is_decidable()
     ensures { (leg : Leg) (volume : Volume) (bounds : ErrorBounds) (n d : ℤ) →
         pos 0 ≤ℤ n → pos 1 ≤ℤ d →
         MayViolate leg volume bounds n d ⊎ ¬ MayViolate leg volume bounds n d }
+{}
+
+/// Whether it may be violated at some time of a leg can be decided too, of what is in range.
+pub fn may_violate_sometime_is_decidable()
+    ensures { (leg : Leg) (volume : Volume) (bounds : ErrorBounds) →
+        IsLegInRange leg → IsVolumeInRange volume → AreErrorBoundsInRange bounds →
+        HoldsSometime leg.secs (MayViolate leg volume bounds)
+        ⊎ ¬ HoldsSometime leg.secs (MayViolate leg volume bounds) }
 {}
 
 /// A leg says what its seconds say: k seconds later, with the bounds that have grown until then,

@@ -31,7 +31,7 @@ mod windows;
 pub use examples::worked_examples;
 pub use laws::{
     a_leg_is_its_seconds, may_violate_grows_with_the_bounds, may_violate_grows_with_the_volume,
-    may_violate_is_decidable, no_true_violation_is_missed,
+    may_violate_is_decidable, may_violate_sometime_is_decidable, no_true_violation_is_missed,
 };
 pub use meeting::is_met;
 pub use violation::may_violate;
