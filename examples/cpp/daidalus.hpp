@@ -191,6 +191,20 @@ class SteadySide {
     daa_side_state state_ = {};
 };
 
+/// An ownship in the plane round it, and that plane's turn.
+inline daa_course plane(const daa_place &own) {
+    daa_course course;
+    check("daa_plane_own", daa_plane_own(&own, &course));
+    return course;
+}
+
+/// An aircraft in the plane round an ownship.
+inline daa_seen plane(const daa_place &own, const daa_place &aircraft) {
+    daa_seen seen;
+    check("daa_plane", daa_plane(&own, &aircraft, &seen));
+    return seen;
+}
+
 } // namespace daidalus
 
 #endif

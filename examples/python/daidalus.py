@@ -119,7 +119,31 @@ class Traffic:
     age: int = 0
 
 
+@dataclass(frozen=True)
+class Place:
+    """An aircraft on the globe: latitude and longitude in ten-millionths of a degree, velocity east and north in 0.1 kt."""
+    lat: int
+    lon: int
+    vx: int
+    vy: int
+
+
 # --- what the engine answers
+
+class Course(NamedTuple):
+    """An ownship in the plane round it; turn: by how much the plane is turned to the right of true north, in 0.0001 degree."""
+    trk: int
+    gs: int
+    turn: int
+
+
+class Seen(NamedTuple):
+    """An aircraft in the plane round an ownship, which is at 0 0."""
+    x: int
+    y: int
+    vx: int
+    vy: int
+
 
 class Alert(NamedTuple):
     """now: the level violated now. level: the one that alerts, 0 if none; first: its first second, None if none."""
@@ -179,6 +203,7 @@ SENTENCES = {
     34: "the level is none of an alert, or the levels are none of the configuration",
     35: "the time is not after that of the moment before",
     36: "no flight of the kind goes to the value",
+    37: "the aircraft is more than 100 nautical miles away",
 }
 FIELDS = ("", "x", "y", "alt", "trk", "gs", "vs", "vx", "vy", "age")
 
@@ -235,6 +260,9 @@ class C:
     SteadyRule = struct(("m n hold", c_uint32))
     Steady = struct(("recent", c_uint8 * 16), ("ends", c_uint64 * 4), ("gone next", c_uint64))
     Side = struct(("side", c_uint32), ("until next", c_uint64))
+    Place = struct(("lat lon vx vy", c_int32))
+    Course = struct(("trk gs turn", c_int32))
+    Seen = struct(("x y vx vy", c_int32))
 
 
 def c_config(config):
@@ -258,6 +286,10 @@ def config_of(numbers):
 # states as C lays them out, packed at once
 OWN, TRAFFIC, BAND = Packing("=6i"), Packing("=8s6iI"), Packing("=2iI")
 MOST_BANDS = c_size_t(MOST_VALUES)
+
+
+def c_place(place):
+    return C.Place(*(held(it, c_int32) for it in (place.lat, place.lon, place.vx, place.vy)))
 
 
 @lru_cache(maxsize=4096)
@@ -340,6 +372,19 @@ class Engine:
     def steady_side(self, seconds: int) -> "SteadySide":
         """The side of a kind's answer that is shown: it stays for so many seconds, unless it has no answer."""
         return SteadySide(self, seconds)
+
+    def plane_own(self, own: Place) -> Course:
+        """The track and the ground speed of an ownship in the plane round it, and that plane's turn."""
+        found = C.Course()
+        self.ask("daa_plane_own", byref(c_place(own)), byref(found))
+        return Course(found.trk, found.gs, found.turn)
+
+    def plane(self, own: Place, aircraft: Place) -> Seen:
+        """An aircraft in the plane round an ownship, which is turned so that the ownship's track is a whole degree. Refused where it
+        is more than 100 NM away."""
+        found = C.Seen()
+        self.ask("daa_plane", byref(c_place(own)), byref(c_place(aircraft)), byref(found))
+        return Seen(found.x, found.y, found.vx, found.vy)
 
     def loop(self, config: Config) -> "Moment":
         """A moment for a loop: decide it again and again. Its structs are made once."""

@@ -12,7 +12,7 @@ SIZES = {"uint8_t": 1, "int32_t": 4, "uint32_t": 4, "int64_t": 8, "uint64_t": 8}
 # fields that C has in place of a struct of Rust, and those that it names otherwise
 FLAT = {("DaaConfig", "numbers"), ("DaaConfig", "cylinder"), ("DaaBoard", "masks")}
 RENAMED = {("DaaConfig", "levels"): "level", ("Board", "masks"): "mask"}
-STRUCTS = {"Grid": "daa_grid", "LevelNumbers": "daa_level", "Own": "daa_own", "DaaSteady": "daa_steady_state",
+STRUCTS = {"Grid": "daa_grid", "LevelNumbers": "daa_level", "Own": "daa_own", "Place": "daa_place", "Course": "daa_course", "Seen": "daa_seen", "DaaSteady": "daa_steady_state",
            "DaaSteadyRule": "daa_steady_rule", "DaaSide": "daa_side_state",
            **{f"Daa{name.capitalize()}": f"daa_{name}_answer" for name in ("alert", "fault", "candidate", "resolution", "recovery", "last")}}
 
@@ -38,7 +38,7 @@ def parts(text):
 def rust_structs():
     """The fields of each struct that C shares, in their order."""
     found = {}
-    for crate in ("daa_config", "daa_state", "daa_bands", "daa_steady", "daa_numbers"):
+    for crate in ("daa_config", "daa_state", "daa_bands", "daa_plane", "daa_steady", "daa_numbers"):
         for name, body in re.findall(r"#\[repr\(C\)\]\n(?:#[^\n]*\n)?pub struct (\w+) \{(.*?)\n\}", text_of(crate), re.S):
             found[name] = parts(body)
     return found

@@ -92,7 +92,8 @@ enum {
     DAA_BAD_RULE = 33,           /* m is not 1 to n, or n is above 16 */
     DAA_BAD_LEVEL = 34,          /* the level is none of an alert, or the levels are none of the configuration */
     DAA_NOT_LATER = 35,          /* the time is not after that of the moment before */
-    DAA_BAD_VALUE = 36           /* no flight of the kind goes to the value */
+    DAA_BAD_VALUE = 36,          /* no flight of the kind goes to the value */
+    DAA_TOO_FAR = 37             /* the aircraft is more than 100 NM away */
 };
 
 /* What a candidate changes. DAA_HOLD is the present flight, which is of no kind. */
@@ -283,6 +284,25 @@ struct daa_lines {
     struct daa_traffic traffic[64];
 };
 
+/* An aircraft on the globe, by WGS 84: latitude north and longitude east in ten-millionths of a degree (lat -800000000 to
+ * 800000000, lon -1800000000 to 1800000000), and its velocity over ground, vx east and vy north, in 0.1 kt (-10000 to 10000;
+ * of an ownship at most 10000 in all). */
+struct daa_place {
+    int32_t lat, lon, vx, vy;
+};
+
+/* An ownship in the plane round it, where it is at 0 0. trk, gs: as in struct daa_own. turn: by how much the plane's north is
+ * turned to the right of true north, in 0.0001 degree (at most half a degree and a little, to either side), so that the track
+ * is a whole degree. A track of the plane (in a band, a resolution, a recovery) is a true track once the turn is added. */
+struct daa_course {
+    int32_t trk, gs, turn;
+};
+
+/* An aircraft in that plane: x, y, vx and vy as in struct daa_traffic. */
+struct daa_seen {
+    int32_t x, y, vx, vy;
+};
+
 /* What daa_line returns where the line ended the moment. */
 enum { DAA_MOMENT_ENDED = -1 };
 
@@ -325,6 +345,7 @@ static inline const char *daa_text(int32_t answer) {
     case DAA_BAD_LEVEL: return "the level is none of an alert, or the levels are none of the configuration";
     case DAA_NOT_LATER: return "the time is not after that of the moment before";
     case DAA_BAD_VALUE: return "no flight of the kind goes to the value";
+    case DAA_TOO_FAR: return "the aircraft is more than 100 nautical miles away";
     default: return "the answer is none of daidalus.h";
     }
 }
@@ -376,6 +397,19 @@ int32_t daa_fly(const struct daa_traffic *traffic, uint64_t at, uint64_t now, ui
  * its age, since the engine takes an ownship as it is. The answers are those of daa_fly, with DAA_BAD_OWN. */
 DAA_MUST_USE
 int32_t daa_fly_own(const struct daa_own *own, uint64_t at, uint64_t now, uint32_t most, struct daa_own *out);
+
+/* Fills in the track and the ground speed of an ownship in the plane round it, and by how much that plane is turned. An ownship
+ * that stands still has track 0 and no turn. DAA_BAD_OWN if a number is out of its range. */
+DAA_MUST_USE
+int32_t daa_plane_own(const struct daa_place *own, struct daa_course *out);
+
+/* Fills in an aircraft in the plane round an ownship. The plane's distances and directions from the ownship are those of the
+ * ellipsoid, off by at most 0.001 NM with the rounding (tested, not proved); the aircraft's velocity is turned by how much the two
+ * meridians converge. DAA_BAD_OWN, DAA_BAD_TRAFFIC if a number is out of its range, also a speed on an axis of the plane;
+ * DAA_TOO_FAR if the aircraft is more than 100 NM away. All aircraft of a moment are put into the plane of one ownship's report;
+ * then daa_fly and daa_fly_own fly them to one time. */
+DAA_MUST_USE
+int32_t daa_plane(const struct daa_place *own, const struct daa_place *aircraft, struct daa_seen *out);
 
 /* ---- a moment */
 

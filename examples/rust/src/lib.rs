@@ -172,6 +172,7 @@ fn sentence(code: i32) -> &'static str {
         34 => "the level is none of an alert, or the levels are none of the configuration",
         35 => "the time is not after that of the moment before",
         36 => "no flight of the kind goes to the value",
+        37 => "the aircraft is more than 100 nautical miles away",
         _ => "the engine refused the call",
     }
 }
@@ -268,6 +269,54 @@ impl Own {
         let mut out = *self;
         // SAFETY: as above.
         done(unsafe { raw::daa_fly_own(self, at, now, most, &mut out) })?;
+        Ok(out)
+    }
+}
+
+/// An aircraft on the globe: latitude and longitude in ten-millionths of a degree, velocity east and north in 0.1 kt.
+#[repr(C)]
+#[derive(Clone, Copy, Debug, Default, PartialEq, Eq)]
+pub struct Place {
+    pub lat: i32,
+    pub lon: i32,
+    pub vx: i32,
+    pub vy: i32,
+}
+
+/// An ownship in the plane round it. `turn`: by how much the plane is turned to the right of true north, in 0.0001 degree.
+#[repr(C)]
+#[derive(Clone, Copy, Debug, Default, PartialEq, Eq)]
+pub struct Course {
+    pub trk: i32,
+    pub gs: i32,
+    pub turn: i32,
+}
+
+/// An aircraft in the plane round an ownship, which is at 0 0.
+#[repr(C)]
+#[derive(Clone, Copy, Debug, Default, PartialEq, Eq)]
+pub struct Seen {
+    pub x: i32,
+    pub y: i32,
+    pub vx: i32,
+    pub vy: i32,
+}
+
+impl Place {
+    /// The track and the ground speed of this ownship in the plane round it, and that plane's turn.
+    pub fn course(&self) -> Result<Course, Refused> {
+        let mut out = Course::default();
+        // SAFETY: as above.
+        done(unsafe { raw::daa_plane_own(self, &mut out) })?;
+        Ok(out)
+    }
+
+    /// An aircraft in the plane round this ownship, turned so that the ownship's track is a whole degree. Refused where it is more
+    /// than 100 NM away.
+    pub fn see(&self, aircraft: &Place) -> Result<Seen, Refused> {
+        let mut out = Seen::default();
+        // SAFETY: as above.
+        done(unsafe { raw::daa_plane(self, aircraft, &mut out) })?;
         Ok(out)
     }
 }

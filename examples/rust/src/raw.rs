@@ -1,5 +1,5 @@
 //! The declarations of crates/daa_c/include/daidalus.h, whose comments tell units and ranges.
-use crate::{Grid, Level, Own};
+use crate::{Course, Grid, Level, Own, Place, Seen};
 
 /// The version of that header: the structs of an archive of another version may be others.
 pub const VERSION: i32 = 30000;
@@ -117,6 +117,8 @@ extern "C" {
     pub fn daa_fault(own: *const Own, traffic: *const Traffic, count: usize, out: *mut Fault) -> i32;
     pub fn daa_fly(traffic: *const Traffic, at: u64, now: u64, most: u32, out: *mut Traffic) -> i32;
     pub fn daa_fly_own(own: *const Own, at: u64, now: u64, most: u32, out: *mut Own) -> i32;
+    pub fn daa_plane_own(own: *const Place, out: *mut Course) -> i32;
+    pub fn daa_plane(own: *const Place, aircraft: *const Place, out: *mut Seen) -> i32;
     pub fn daa_alert(config: *const Config, own: *const Own, traffic: *const Traffic, out: *mut Alert) -> i32;
     pub fn daa_decide(config: *const Config, time: u32, own: *const Own, traffic: *const Traffic, count: usize, board: *mut Board) -> i32;
     pub fn daa_join(config: *const Config, more: *const Board, board: *mut Board) -> i32;

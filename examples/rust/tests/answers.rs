@@ -1,6 +1,6 @@
 //! What the calls that the example does not make answer: a configuration from numbers, recoveries, last times, and levels.
 //! The answers are those that docs/GUIDE.md shows.
-use daidalus::{Config, Grid, Kind, Level, Moment, Own, Recovery, Refused, Traffic};
+use daidalus::{Config, Course, Grid, Kind, Level, Moment, Own, Place, Recovery, Refused, Seen, Traffic};
 
 const CLOSED: &str = include_str!("../../closed.states");
 const ENCOUNTER: &str = include_str!("../../encounter.states");
@@ -129,4 +129,15 @@ fn states_are_flown_to_one_instant() {
     assert_eq!(amber.fly(1000, 3500, 60999).unwrap(), Traffic { x: 50, y: -50, alt: 10005, age: 2, ..amber.clone() });
     assert_eq!(amber.fly(1000, 500, 60999).unwrap(), Traffic { x: -50, y: 50, alt: 9995, age: 0, ..amber.clone() });
     assert_eq!(amber.fly(1001, 0, 60999).unwrap_err().code, 32);
+}
+
+#[test]
+fn places_go_into_the_plane() {
+    let own = Place { lat: 520000000, lon: 40000000, vx: 1234, vy: 3456 };
+    let aircraft = Place { lat: 522500000, lon: 43500000, vx: -2800, vy: 1500 };
+    assert_eq!(own.course().unwrap(), Course { trk: 20, gs: 3670, turn: -3504 });
+    assert_eq!(own.see(&aircraft).unwrap(), Seen { x: 12998, y: 14972, vx: -2798, vy: 1504 });
+    assert_eq!(own.see(&Place::default()).unwrap_err().code, 37);
+    assert_eq!(Place { lat: 800000001, ..own }.course().unwrap_err().code, 16);
+    assert_eq!(own.see(&Place { vx: 10001, ..aircraft }).unwrap_err().code, 17);
 }
