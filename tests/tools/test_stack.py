@@ -47,9 +47,9 @@ class Table(unittest.TestCase):
 class Frames(ToolTest):
     """Functions whose frames are known, since they are written by hand."""
 
-    def bound(self, text, name="daa_top"):
+    def bound(self, text, name="daa_top", compiler="cc"):
         self.write("code.s", text)
-        built = subprocess.run(["cc", "-c", "code.s", "-o", "code.o"], cwd=self.folder, capture_output=True, text=True)
+        built = subprocess.run([compiler, "-c", "code.s", "-o", "code.o"], cwd=self.folder, capture_output=True, text=True)
         self.assertEqual(built.returncode, 0, built.stderr)
         subprocess.run(["ar", "rcs", "code.a", "code.o"], cwd=self.folder, check=True)
         return stack.Code(os.path.join(self.folder, "code.a")).depth(name)[0]
@@ -70,6 +70,14 @@ class Frames(ToolTest):
     def test_the_steps_of_a_probe_do_not_count_beside_their_limit(self):
         top = self.function("daa_top", "mov %rsp, %r11", "sub $0x27c00, %r11", "1: sub $0xc00, %rsp", "movq $0, (%rsp)", "cmp %r11, %rsp", "jne 1b", "sub $0x108, %rsp", "ret")
         self.assertEqual(self.bound(top), 8 + 0x27c00 + 0x108)
+
+    def test_on_64_bit_arm_the_limit_is_of_the_stack(self):
+        """The register of a probe's limit may be one of numbers too."""
+        counting.need("aarch64-linux-gnu-gcc")
+        lines = ("sub sp, sp, #0x70", "sub x9, x9, #2", "add sp, sp, #0x70", "ret")
+        self.assertEqual(self.bound(self.function("daa_top", *lines), compiler="aarch64-linux-gnu-gcc"), 0x70)
+        lines = ("sub x9, sp, #6, lsl #12", "sub x9, x9, #0x80", "1: sub sp, sp, #1, lsl #12", "cmp sp, x9", "b.gt 1b", "sub sp, sp, #0x10", "ret")
+        self.assertEqual(self.bound(self.function("daa_top", *lines), compiler="aarch64-linux-gnu-gcc"), (6 << 12) + 0x80 + 0x10)
 
     def test_where_a_function_calls_itself_or_what_a_pointer_names_there_is_no_bound(self):
         self.assertIsNone(self.bound(self.function("daa_top", "call other@PLT", "ret") + self.function("other", "call daa_top@PLT", "ret")))
