@@ -19,6 +19,8 @@ PACKAGES = {"cc": "gcc", "c++": "g++", "cargo": "cargo", "node": "nodejs", "chro
             "dump1090-mutability": "dump1090-mutability"}
 MODULES = {"selenium": "python3-selenium", "distributed": "python3-distributed"}  # Debian's package of each module
 DAEMONS = ("munged", "slurmctld", "slurmd")  # which lie in folders of the administrator
+# What a compiler's package only recommends: the C library of the other processor.
+HEADERS = {"/usr/aarch64-linux-gnu/include/stdio.h": "libc6-dev-arm64-cross"}
 PLACES = "/usr/sbin:/sbin"
 DEBIAN_PYTHON = "/usr/bin/python3"  # the one for which Debian's packages of Python are
 
@@ -37,6 +39,10 @@ def need(*commands):
     for command in commands:
         if not is_there(command):
             raise unittest.SkipTest(f"there is no {command} (Debian: {PACKAGES[command]})")
+        if command == "aarch64-linux-gnu-gcc":
+            for path, package in HEADERS.items():
+                if not os.path.exists(path):
+                    raise unittest.SkipTest(f"there is no {path} (Debian: {package})")
 
 
 def need_module(name):
@@ -48,6 +54,7 @@ def need_module(name):
 def missing_packages():
     """Debian's packages that tests call and that are not here."""
     missing = [package for command, package in PACKAGES.items() if not is_there(command)]
+    missing += [package for path, package in HEADERS.items() if not os.path.exists(path)]
     return missing + [package for name, package in MODULES.items() if not has_module(name)]
 
 

@@ -182,6 +182,16 @@ static void fly_nowhere(const struct daa_lines *moment) {
     if (memcmp(&own, &moment->own, sizeof own) || memcmp(&traffic, &moment->traffic[0], sizeof traffic)) exit(1);
 }
 
+/* An ownship that flies north needs no turn of the plane, and is seen from itself at 0 0. */
+static void see_itself(void) {
+    const struct daa_place place = {.lat = 520000000, .lon = 40000000, .vx = 0, .vy = 3600};
+    struct daa_course course;
+    struct daa_seen seen;
+    must(daa_plane_own(&place, &course), "daa_plane_own");
+    must(daa_plane(&place, &place, &seen), "daa_plane");
+    if (course.trk || course.gs != 3600 || course.turn || seen.x || seen.y || seen.vx || seen.vy != 3600) exit(1);
+}
+
 /* The board of half the aircraft, to which that of the others is joined. */
 static void decide_in_halves(const struct daa_config *config, const struct daa_lines *moment, struct daa_board *board) {
     static struct daa_board more;
@@ -205,6 +215,7 @@ int main(int words, char **word) {
     must(daa_fault(&moment.own, moment.traffic, moment.count, &fault), "daa_fault");
     printf("fault %d %d %d %d %d\n", (int)fault.code, (int)fault.field, (int)fault.least, (int)fault.greatest, (int)fault.place);
     fly_nowhere(&moment);
+    see_itself();
     decide_in_halves(&config, &moment, &board);
     ask_of_values(&config, &moment, &board);
     show_at_once(&config, &moment, &board);

@@ -254,10 +254,10 @@ fn behaving<'a>(words: &'a [&'a str], row: &'a Row) -> Outside<'a> {
 }
 
 /// Each row's run of these words ends as the row says.
-fn gives_each<R: Abort + Threads + Clock + Sync + AllocGlobal>(
+fn gives_each<'a, R: Abort + Threads + Clock + Sync + AllocGlobal>(
     rt: &R,
-    words: &[&str],
-    rows: &[Row],
+    words: &'a [&'a str],
+    rows: &'a [Row],
 ) -> Result<(), Fail> {
     for row in rows {
         gives(rt, row.0, behaving(words, row), row.4, row.5)?;
