@@ -4,7 +4,6 @@
 "use strict";
 function daaRecording(root) {
   const { readText, round, many } = root.daa.reading;
-  const { ONE, nearest, isPlace, seenFrom } = root.daa.ellipsoid;
   const { NoRecording } = root.daa;
   const EARTH = Math.PI / 180;
   const RANGES = { x: 200000, y: 200000, vx: 10000, vy: 10000, vs: 10000 }; // on both sides of 0
@@ -57,10 +56,7 @@ function daaRecording(root) {
 
   // ---- the plane
 
-  /** A place on the globe, and a velocity, as the ellipsoid's plane takes them. */
-  const onGlobe = ([lat, lon], east, north) => ({ lat: round(ONE * lat), lon: round(ONE * lon), vx: round(10 * east), vy: round(10 * north) });
-
-  /** How far a second place is east and north of a first one, in NM: on the globe roughly, where a degree is 60 miles. */
+  /** How far a second place is east and north of a first one, in NM. */
   function offsetOn(onEarth) {
     if (!onEarth) return (one, other) => [other[0] - one[0], other[1] - one[1]];
     return (one, other) => {
@@ -159,7 +155,7 @@ function daaRecording(root) {
         return;
       }
       const silence = this.silence || this.silenceBetween(last, time);
-      const { traffic, comments } = this.trafficAt(row, found, time);
+      const { traffic, comments } = this.trafficAt(row, found.own, found.angle, time);
       if (this.onEarth) comments.push(`# origin ${fixed(row.place[0], 7)} ${fixed(row.place[1], 7)} ${fixed(found.angle / EARTH, 4)}`);
       this.made.push({ time, own: found.own, traffic, silence, comments });
       Object.assign(this, { silence: "", last: time });
@@ -183,62 +179,35 @@ function daaRecording(root) {
       return `no report of the ownship between ${last} and ${time} s`;
     }
 
-    /** The ownship's numbers, where it is on the globe, and by how much the plane is turned (0.0001 degree, and an angle), so that rounding
-     *  its track costs nothing. */
+    /** The ownship's numbers, and the angle by which the plane is turned, so that rounding its track costs nothing. */
     ownOf(row) {
       const moving = row.east || row.north;
       const track = modulo(moving ? Math.atan2(row.east, row.north) * (180 / Math.PI) : row.track, 360);
       const whole = round(track);
-      const turn = round(10000 * (track - whole));
-      const place = this.onEarth ? onGlobe(row.place, 0, 0) : null;
-      if (place && !isPlace(place)) return null;
-      const at = this.ownPlace(row, place);
-      const own = { x: at ? at[0] : 0, y: at ? at[1] : 0, alt: round(row.alt), trk: whole % 360,
+      const [east, north] = this.offset(this.start.place, row.place);
+      const isNear = Math.max(Math.abs(east), Math.abs(north)) <= FARTHEST_OWN;
+      const own = { x: isNear ? round(1000 * east) : 0, y: isNear ? round(1000 * north) : 0, alt: round(row.alt), trk: whole % 360,
         gs: round(10 * Math.hypot(row.east, row.north)), vs: round(row.vs) };
       if (!isWithin(own, ["vs"]) || own.gs > FASTEST) return null;
-      this.far += Number(!at);
-      return { own, place, turn, angle: (place ? turn / 10000 : track - whole) * EARTH };
-    }
-
-    /** Where the ownship is in the plane round where it began, or null where that is too far away. */
-    ownPlace(row, place) {
-      if (place) {
-        const seen = seenFrom(onGlobe(this.start.place, 0, 0), place, 0);
-        return seen && [seen.x, seen.y];
-      }
-      const [east, north] = this.offset(this.start.place, row.place);
-      return Math.max(Math.abs(east), Math.abs(north)) <= FARTHEST_OWN ? [round(1000 * east), round(1000 * north)] : null;
+      this.far += Number(!isNear);
+      return { own, angle: (track - whole) * EARTH };
     }
 
     /** An aircraft's numbers, or null where they are out of range: its latest report, flown straight on by the fraction of a second. */
-    trafficOf(row, ownRow, { own, place, turn, angle }, way) {
+    trafficOf(row, ownRow, own, angle, [east, north]) {
       const late = ownRow.time - row.time;
       const age = Math.min(wholeSecond(late), MOST_AGE);
       const part = late - age;
-      const seen = place ? this.seenOnGlobe(row, place, turn, part) : this.seenOnPlane(row, way, angle, part);
-      if (!seen) return null;
-      const made = { id: this.idOf(row.name), x: own.x + seen.x, y: own.y + seen.y,
-        alt: round(row.alt + (row.vs * part) / 60), vx: seen.vx, vy: seen.vy, vs: round(row.vs), age };
-      return isWithin(made, ["x", "y", "vx", "vy", "vs"]) ? made : null;
-    }
-
-    /** Place and velocity of an aircraft of a recording in a plane. */
-    seenOnPlane(row, [east, north], angle, part) {
       const place = rotated(east + (row.east * part) / 3600, north + (row.north * part) / 3600, angle);
       const speed = rotated(row.east, row.north, angle);
-      return { x: round(1000 * place[0]), y: round(1000 * place[1]), vx: round(10 * speed[0]), vy: round(10 * speed[1]) };
-    }
-
-    /** The same of a recording on the globe, by the numbers of daa_plane and daa_fly; or null. */
-    seenOnGlobe(row, own, turn, part) {
-      const seen = seenFrom(own, onGlobe(row.place, row.east, row.north), turn);
-      const ms = round(1000 * part);
-      return seen && { ...seen, x: seen.x + nearest(seen.vx * ms, 36000), y: seen.y + nearest(seen.vy * ms, 36000) };
+      const made = { id: this.idOf(row.name), x: own.x + round(1000 * place[0]), y: own.y + round(1000 * place[1]),
+        alt: round(row.alt + (row.vs * part) / 60), vx: round(10 * speed[0]), vy: round(10 * speed[1]), vs: round(row.vs), age };
+      return isWithin(made, ["x", "y", "vx", "vy", "vs"]) ? made : null;
     }
 
     /** The nearest aircraft, as many as there may be, in the order in which the recording first has them; the comments on those that the
      *  moment lacks. */
-    trafficAt(ownRow, frame, time) {
+    trafficAt(ownRow, own, angle, time) {
       const [there, lacking, found] = [[], [], new Map()];
       for (const [name, row] of [...this.latest]) {
         const late = ownRow.time - row.time;
@@ -257,7 +226,7 @@ function daaRecording(root) {
       const isCrowded = there.length > daa.MOST_AIRCRAFT;
       if (isCrowded) there.sort(([one], [other]) => one - other);
       for (const [far, row, way] of there) {
-        const made = found.size < daa.MOST_AIRCRAFT ? this.trafficOf(row, ownRow, frame, way) : null;
+        const made = found.size < daa.MOST_AIRCRAFT ? this.trafficOf(row, ownRow, own, angle, way) : null;
         if (made) found.set(row.name, made);
         else {
           this.leaveOut("aircraft", "out of range, or more than there may be, in a moment");

@@ -87,15 +87,17 @@ class ProgramInPython(unittest.TestCase):
             self.assertEqual(status, 1)
             self.assertIn("missing", said)
 
+
 class Sentences(unittest.TestCase):
     """Each code of the header that is no 0 is told by its own words, in Python and, where Rust has a sentence for it, there too."""
 
     WORDS = {"CONFIG_TOO_LONG": "65536 bytes", "CONFIG_NOT_TOML": "TOML", "CONFIG_UNKNOWN_KEY": "not known", "CONFIG_MISSING_KEY": "lacks",
              "CONFIG_NOT_NUMBER": "whole number", "CONFIG_OUT_OF_RANGE": "divide 360", "CONFIG_LEVELS": "resolve", "CONFIG_TOO_MANY": "512 candidates",
              "BAD_OWN": "the ownship", "BAD_TRAFFIC": "an aircraft is out", "TOO_MANY": "64 aircraft", "SHORT": "too short", "NO_MEMORY": "memory",
-             "BAD_ID": "an identifier is not", "SAME_ID": "two aircraft", "BAD_KIND": "the kind", "BAD_SIDE": "side", "BAD_INDEX": "index",
+             "BAD_ID": "an identifier is not", "SAME_ID": "two aircraft", "BAD_KIND": "the kind is none", "BAD_SIDE": "side", "BAD_INDEX": "index",
              "NOT_ASKED": "ask", "BAD_BOARD": "not decided", "OTHER_OWN": "another ownship", "OTHER_TIME": "another time",
-             "DAMAGED_BOARD": "was changed", "TOO_OLD": "too old", "AHEAD": "second ahead"}
+             "DAMAGED_BOARD": "was changed", "TOO_OLD": "too old", "AHEAD": "second ahead",
+             "BAD_RULE": "above 16", "BAD_LEVEL": "levels are none", "NOT_LATER": "moment before", "BAD_VALUE": "no flight", "TOO_FAR": "100 nautical"}
 
     def test_in_python_and_in_rust(self):
         text = pathlib.Path(TOP, "crates/daa_c/include/daidalus.h").read_text(encoding="utf-8")

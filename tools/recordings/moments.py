@@ -6,10 +6,9 @@ import math
 import re
 
 from daidalus_files import (AGE, ALT, FIELDS, GS, MOST_AIRCRAFT, VS, VX, Own, Traffic, X, fixed, lacks_line, origin_line)
-import ellipsoid
 from headings import velocity
 
-from .plane import closest, offset, rotated
+from .plane import closest, offset, on_ellipsoid, rotated
 
 LAST_SECOND = FIELDS["moment"][0].high
 FARTHEST_OWN = 100  # NM: an ownship that is farther from where it began is put at 0 0
@@ -19,6 +18,9 @@ NEAR = 40  # NM: an aircraft that is left out and was nearer, flown straight on,
 FORGOTTEN = 300  # s: after so long an old report says nothing any more about where an aircraft is
 MOST_LACKS = 20  # aircraft that a moment lacks and that are named one by one
 MEASURED = 8  # aircraft of a moment, the nearest ones, of which it is measured what rounding costs
+# By how much of itself a distance in the plane may be off below this latitude: since a minute is no mile everywhere, and with the
+# distance's square since meridians run together.
+MOST_OFF, MOST_BENT, HIGH = 0.01, 1e-6, 80
 
 
 def whole_second(time):
@@ -28,12 +30,6 @@ def whole_second(time):
 
 def fits(value, field):
     return field.low <= value <= field.high
-
-
-def on_globe(row):
-    """A report's place and velocity as the plane takes them."""
-    lat, lon = row.place
-    return ellipsoid.Place(round(lat * ellipsoid.ONE), round(lon * ellipsoid.ONE), round(10 * row.east), round(10 * row.north))
 
 
 class Identifiers(dict):
@@ -64,10 +60,11 @@ class Identifiers(dict):
 
 
 class Losses:
-    """The greatest of each thing that rounding costs between the ownship and an aircraft: NM, ft, knots, ft/min, NM."""
+    """The greatest of each thing that rounding costs between the ownship and an aircraft: NM, ft, knots, ft/min, NM; and how far the
+    plane's distances are off from those on the ellipsoid, in NM."""
 
     def __init__(self):
-        self.place = self.height = self.speed = self.climb = self.closest = 0.0
+        self.place = self.height = self.speed = self.climb = self.closest = self.plane = 0.0
         self.count, self.is_in_part = 0, False
 
     def note(self, east, north, seen_east, seen_north, v_east, v_north, seen_v_east, seen_v_north):
@@ -84,6 +81,11 @@ class Losses:
     def note_vertical(self, height, climb):
         self.height = max(self.height, abs(height))
         self.climb = max(self.climb, abs(climb))
+
+    def note_plane(self, far, own_place, place):
+        """Notes how far a distance in the plane is off, unless it can't be the greatest."""
+        if far * (MOST_OFF + far * far * MOST_BENT) > self.plane or abs(own_place[0]) > HIGH:
+            self.plane = max(self.plane, abs(far - on_ellipsoid(own_place, place)))
 
     def told(self):
         if self.count:
@@ -108,10 +110,10 @@ def by_approach(far, row, way, own_row):
 
 
 class OwnFrame:
-    """A moment's ownship: its report, its numbers, where it is on the globe, and how the plane is turned round it (0.0001 degree)."""
+    """A moment's ownship: its report, its numbers, and how the plane is turned round it."""
 
-    def __init__(self, row, own, place, turn, angle):
-        self.row, self.own, self.place, self.turn, self.angle = row, own, place, turn, angle
+    def __init__(self, row, own, angle):
+        self.row, self.own, self.angle = row, own, angle
         self.cos, self.sin = math.cos(angle), math.sin(angle)
         self.speed = self.turned(row.east, row.north)
         self.seen_speed = [part / 10 for part in velocity(own.gs, own.trk)]
@@ -216,74 +218,41 @@ class Maker:
         """The ownship's numbers and the plane round it, or None where they are out of range."""
         track = (math.degrees(math.atan2(row.east, row.north)) if row.east or row.north else row.track) % 360
         whole = round(track)
-        turn = round(10000 * (track - whole))
-        place = on_globe(row)._replace(vx=0, vy=0) if self.on_earth else None
-        if place and not ellipsoid.is_place(place):
-            return None
-        x, y, is_far = self.own_place(row, place)
+        east, north = offset(self.start.place, row.place, self.on_earth)
+        is_far = max(abs(east), abs(north)) > FARTHEST_OWN
+        x, y = (0, 0) if is_far else (round(1000 * east), round(1000 * north))
         own = Own(x, y, round(row.alt), whole % 360, round(10 * math.hypot(row.east, row.north)), round(row.vs))
         if not (fits(own.alt, ALT) and fits(own.gs, GS) and fits(own.vs, VS)):
             return None
         self.far += is_far
-        return OwnFrame(row, own, place, turn, math.radians(turn / 10000 if place else track - whole))
-
-    def own_place(self, row, place):
-        """Where the ownship is in the plane round where it began, and whether it is too far away for that: then at 0 0."""
-        if place:
-            seen = ellipsoid.seen_from(on_globe(self.start)._replace(vx=0, vy=0), place, 0)
-            return (seen.x, seen.y, False) if seen else (0, 0, True)
-        east, north = offset(self.start.place, row.place, False)
-        is_far = max(abs(east), abs(north)) > FARTHEST_OWN
-        return (0, 0, True) if is_far else (round(1000 * east), round(1000 * north), False)
+        return OwnFrame(row, own, math.radians(track - whole))
 
     def traffic_of(self, row, frame, east, north, is_measured):
         """An aircraft's numbers, or None where they are out of range; notes what is lost where that is measured."""
-        own, own_row = frame.own, frame.row
+        own, own_row, cosine, sine = frame.own, frame.row, frame.cos, frame.sin
         late = own_row.time - row.time
         age = min(max(whole_second(late), 0), AGE.high)
         hours = (late - age) / 3600
-        found = self.on_ellipsoid(row, frame, late - age) if frame.place else self.on_plane(row, frame, east, north, hours)
-        if not found:
-            return None
-        (x, y), (vx, vy), exact = found
+        far_east, far_north = east + row.east * hours, north + row.north * hours
+        place_x, place_y = far_east * cosine - far_north * sine, far_east * sine + far_north * cosine
+        speed_x, speed_y = row.east * cosine - row.north * sine, row.east * sine + row.north * cosine
         height = row.alt + row.vs * hours * 60
-        alt, vs = round(height), round(row.vs)
+        x, y, alt, vx, vy, vs = round(1000 * place_x), round(1000 * place_y), round(height), round(10 * speed_x), round(10 * speed_y), round(row.vs)
         if not (X.low <= own.x + x <= X.high and X.low <= own.y + y <= X.high and ALT.low <= alt <= ALT.high and VX.low <= vx <= VX.high
                 and VX.low <= vy <= VX.high and VS.low <= vs <= VS.high):
             return None
         if is_measured:
-            self.measure(frame, exact(), (x, y), (vx, vy), alt - height - own.alt + own_row.alt, vs - own.vs - row.vs + own_row.vs)
+            self.measure(row, frame, (east, north), (place_x, place_y), (x, y), (speed_x, speed_y), (vx, vy), alt - height, vs)
         return Traffic(self.ids[row.name], own.x + x, own.y + y, alt, vx, vy, vs, age)
 
-    @staticmethod
-    def on_plane(row, frame, east, north, hours):
-        """Place and velocity of an aircraft of a recording in a plane: as they are written, and exactly."""
-        place, speed = frame.turned(east + row.east * hours, north + row.north * hours), frame.turned(row.east, row.north)
-        return [round(1000 * it) for it in place], [round(10 * it) for it in speed], lambda: (place, speed)
-
-    @staticmethod
-    def on_ellipsoid(row, frame, seconds):
-        """The same of a recording on the globe, by the numbers of daa_plane and daa_fly; or None."""
-        aircraft = on_globe(row)
-        way = ellipsoid.way_between(frame.place, aircraft)
-        seen = way and ellipsoid.seen_along(way, frame.turn, aircraft)
-        if not seen:
-            return None
-        ms = round(1000 * seconds)
-
-        def exact():
-            convergence = math.radians(way[2] / ellipsoid.ONE)
-            east, north = rotated(way[0] / 100000, way[1] / 100000, frame.angle + convergence / 2)
-            speed = rotated(row.east, row.north, frame.angle + convergence)
-            return (east + speed[0] * seconds / 3600, north + speed[1] * seconds / 3600), speed
-        return [place + ellipsoid.nearest(speed * ms, 36000) for place, speed in ((seen.x, seen.vx), (seen.y, seen.vy))], (seen.vx, seen.vy), exact
-
-    def measure(self, frame, exact, seen_place, seen_speed, height, climb):
+    def measure(self, row, frame, way, place, seen_place, speed, seen_speed, rounded_up, vs):
         """Notes what rounding costs between the ownship and an aircraft."""
-        (place, speed), own_speed, seen_own = exact, frame.speed, frame.seen_speed
-        self.losses.note(*place, seen_place[0] / 1000, seen_place[1] / 1000, speed[0] - own_speed[0], speed[1] - own_speed[1],
-                         seen_speed[0] / 10 - seen_own[0], seen_speed[1] / 10 - seen_own[1])
-        self.losses.note_vertical(height, climb)
+        losses, own, own_row, own_speed, seen_own = self.losses, frame.own, frame.row, frame.speed, frame.seen_speed
+        losses.note(*place, seen_place[0] / 1000, seen_place[1] / 1000, speed[0] - own_speed[0], speed[1] - own_speed[1],
+                    seen_speed[0] / 10 - seen_own[0], seen_speed[1] / 10 - seen_own[1])
+        losses.note_vertical(rounded_up - own.alt + own_row.alt, vs - own.vs - row.vs + own_row.vs)
+        if self.on_earth:
+            losses.note_plane(math.hypot(*way), own_row.place, row.place)
 
     def traffic_at(self, frame, second):
         """The aircraft, of more than there may be the first ones by the rank, in the order in which the recording first has them; and the
@@ -382,3 +351,5 @@ class Maker:
         if self.far:
             yield f"{self.far} moment{'s' * (self.far != 1)} with the ownship at 0 0, more than {FARTHEST_OWN} NM from where it began"
         yield from self.losses.told()
+        if self.losses.plane:
+            yield f"the plane against the ellipsoid WGS 84: distances differ by at most {self.losses.plane:.4f} NM"
