@@ -1,6 +1,7 @@
 //! Whether modified tau may be at most `tthr`.
 
-ghost use Rattle.std.specs.Prelude.{◌≡◌, ◌↔◌, ◌≤ℤ◌, ◌*ℤ◌, ◌+ℤ◌, ◌^◌, ◌≤◌, ◌<◌, IsTrue, pos, unsigned_abs};
+ghost use Rattle.std.specs.Prelude.{◌≡◌, ◌↔◌, ◌≤ℤ◌, ◌*ℤ◌, ◌+ℤ◌, ◌^◌, ◌≤◌, ◌<◌};
+ghost use Rattle.std.specs.Prelude.{IsTrue, pos, unsigned_abs};
 ghost use Rattle.daa_fixed.specs.Flat.{IsShort, dot_of, square_of};
 ghost use Rattle.daa_fixed.specs.Leg.{IsLegInRange};
 ghost use Rattle.daa_fixed.specs.declared.Leg.{Leg};
